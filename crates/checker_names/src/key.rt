@@ -1,10 +1,50 @@
 //! Keys of names: two names are the same where their keys are.
 
-ghost use Rattle.std.specs.Prelude.{◌≡◌, ◌≤◌, ◌⊎◌, length};
+ghost use Rattle.std.specs.Prelude.{◌≡◌, ◌≤◌, ◌⊎◌, ℕ, List, [], ◌∷◌, length, nat_eq};
+ghost use Rattle.std.proofs.Common.{ap};
+ghost use Rattle.std.specs.Cmp.{partial_equiv_from_equiv};
+ghost use Rattle.std.specs.Cmp.Lexicographic.{bytes_decides, nat_list_eq_equiv, pointwise};
 ghost use Rattle.checker_names.specs.Names as spec;
 
+use std::hash::{Hash, Hasher};
+use std::marker::Model;
+
 /// A name in lower case, with zeros after it. A name has at most 32 bytes.
-pub type Key = [u8; 32];
+#[derive(Drop)]
+pub struct Key {
+    bytes: [u8; 32],
+}
+
+impl Model for Key {
+    ghost Value = { List ℕ };
+
+    ghost view = { λ k. k.bytes };
+}
+
+impl PartialEq for Key {
+    ghost eq = { pointwise nat_eq };
+
+    ghost laws = { partial_equiv_from_equiv nat_list_eq_equiv };
+
+    fn eq(&self, other: &Key) -> bool {
+        self.bytes == other.bytes
+    }
+}
+
+impl Eq for Key {
+    ghost laws = { nat_list_eq_equiv };
+}
+
+// The bytes are one write: an array writes each of its bytes, and their number, by itself.
+impl Hash for Key {
+    ghost hash_input = { λ key. key ∷ [] };
+
+    ghost respects_eq = { λ a b same. ap (λ key. key ∷ []) ((bytes_decides a b).0 same) };
+
+    fn hash<H: Hasher>(&self, state: &mut H) {
+        state.write(&self.bytes);
+    }
+}
 
 fn lower_case(byte: u8) -> u8
     ensures { result ≡ spec.lower_case byte }
@@ -34,5 +74,5 @@ pub fn key_of(name: &[u8]) -> Key
     for i in 0..held(name) {
         key[i] = lower_case(name[i]);
     }
-    key
+    Key { bytes: key }
 }

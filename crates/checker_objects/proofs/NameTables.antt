@@ -14,6 +14,7 @@ use Rattle.checker_names.specs.Noted.{noted}
 use Rattle.checker_names.specs.Scope.{either, local_binding}
 use Rattle.checker_names.proofs.Noted.{noted_none, noted_two}
 use Rattle.checker_names.specs.Names.{twice, repeated_breaches}
+use Rattle.checker_objects.specs.Objects.{again}
 
 -- The number of a local
 
@@ -134,22 +135,29 @@ table_next t u names i d lt h is key =
     (in_either t (map name_tree (take i names)) (name_tree (slice_index_or names i d)) i key _ refl h n)
 
 -- the rules that one more name breaks
+pub few_next : (m o : Option Breach) (names : List Name) (i : ℕ) (d : Name) → i < length names
+    → o ≡ noted m (again (map name_tree (take i names)) (name_tree (slice_index_or names i d)))
+    → noted o (repeated_breaches (map name_tree (take (i + 1) names)) (map name_tree (drop (i + 1) names)))
+    ≡ noted m (repeated_breaches (map name_tree (take i names)) (map name_tree (drop i names)))
+few_next m o names i d lt a =
+    let j : i + 1 ≡ suc i = omega arith in
+    let x : NameTree = name_tree (slice_index_or names i d) in
+    let before : List NameTree = map name_tree (take i names) in
+    let rest : List Breach = repeated_breaches (before ++ x ∷ []) (map name_tree (drop (suc i) names)) in
+    rw (j, take_more names i d lt, left names i d lt) (noted_two m o (noted o rest) (again before x) rest a refl)
+
+-- the same, by the table of those before
 pub repeated_next : (m o : Option Breach) (t : Table) (names : List Name) (i : ℕ) (d : Name) → i < length names
     → ((k : List ℕ) → in_table t k ≡ local_binding (local_from 0 (map name_tree (take i names)) k))
     → o ≡ noted m (twice t (name_tree (slice_index_or names i d)))
     → noted o (repeated_breaches (map name_tree (take (i + 1) names)) (map name_tree (drop (i + 1) names)))
     ≡ noted m (repeated_breaches (map name_tree (take i names)) (map name_tree (drop i names)))
 repeated_next m o t names i d lt h a =
-    let j : i + 1 ≡ suc i = omega arith in
     let x : NameTree = name_tree (slice_index_or names i d) in
     let before : List NameTree = map name_tree (take i names) in
     let e : is_some (in_table t (key_of x.text)) ≡ has_name before x = ap is_some (h (key_of x.text))
     ∙ some_binding (local_from 0 before (key_of x.text)) ∙ sym (has_number 0 before x) in
-    let a2 : o ≡ noted m (cond (has_name before x) (at x.position 22) []) = a
-    ∙ ap (λ (s : Bool). noted m (cond s (at x.position 22) [])) e in
-    let rest : List Breach = repeated_breaches (before ++ x ∷ []) (map name_tree (drop (suc i) names)) in
-    rw (j, take_more names i d lt, left names i d lt)
-    (noted_two m o (noted o rest) (cond (has_name before x) (at x.position 22) []) rest a2 refl)
+    few_next m o names i d lt (a ∙ ap (λ (s : Bool). noted m (cond s (at x.position 22) [])) e)
 
 pub repeated_end : (m : Option Breach) (names : List Name) (i : ℕ) (before : List NameTree) → length names ≤ i
     → noted m (repeated_breaches before (map name_tree (drop i names))) ≡ m

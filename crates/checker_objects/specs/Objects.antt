@@ -2,7 +2,7 @@
 use Rattle.std.specs.Prelude.{◌==◌, ◌+◌, ◌-◌, ◌%◌, ℕ, zero, suc, nat_le, nat_lt, Bool, false, if◌then◌else◌, List, []}
 use Rattle.std.specs.Prelude.{◌∷◌, ◌++◌, map, length, take, slice_get, Option, Some, None}
 use Rattle.std.specs.List.{flat_map}
-use Rattle.syntax_lexer.specs.FaultNumbers.{too_many, unknown_name, wrong_kind}
+use Rattle.syntax_lexer.specs.FaultNumbers.{defined_twice, too_many, unknown_name, wrong_kind}
 use Rattle.syntax_lexer.specs.declared.token.Position.{Position}
 use Rattle.syntax_trees.specs.Tree.{NameTree}
 use Rattle.syntax_directives.specs.Tree.{ValueTree, TextTree, PropertyTree, ObjectTree, DirectiveTree, global, constant}
@@ -14,7 +14,7 @@ use Rattle.checker_names.specs.declared.binding.Binding.{Binding}
 use Rattle.checker_names.specs.declared.binding.Binding.TheVariants as bindings
 use Rattle.checker_names.specs.declared.breach.Breach.{Breach}
 use Rattle.checker_names.specs.Breaches.{at}
-use Rattle.checker_names.specs.Names.{Table, File, key_of, in_table, literal_value, repeated_breaches}
+use Rattle.checker_names.specs.Names.{Table, File, has_name, key_of, in_table, literal_value, repeated_breaches}
 use Rattle.checker_values.specs.Literals.{literal_breaches}
 use Rattle.checker_values.specs.Expressions.{attribute_breaches, property_breaches, attribute_of_binding}
 use Rattle.checker_values.specs.Expressions.{property_of_binding}
@@ -58,6 +58,10 @@ object_breaches whole o =
     short_breaches o.short
     ++ (repeated_breaches [] (map property_name o.properties)
     ++ (flat_map (provided_breaches whole) o.properties ++ flat_map (given_breaches whole) o.attributes))
+
+-- E22 at a name that stands among those before it
+abbrev pub again : List NameTree → NameTree → List Breach
+again before name = if has_name before name then at name.position defined_twice else []
 
 -- Where an object stands
 --

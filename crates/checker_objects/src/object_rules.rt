@@ -8,20 +8,23 @@ ghost use Rattle.syntax_directives.specs.Tree.{value_tree, text_tree, property_t
 ghost use Rattle.meaning.specs.Resolved.{property_of, object_of};
 ghost use Rattle.checker_names.specs.Noted.{noted};
 ghost use Rattle.checker_names.specs.Scope.{file_in};
-ghost use Rattle.checker_names.specs.Names.{repeated_breaches};
+ghost use Rattle.checker_names.specs.Names.{has_name, repeated_breaches};
 ghost use Rattle.checker_objects.specs.Objects as spec;
 
 use crate::defined_twice::twice;
-use checker_names::{Binding, Breach, File, Table, define, find, note, or_zero};
+use checker_names::{Binding, Breach, File, Table, define, find, key_of, note, or_zero};
 use checker_values::{attribute, literal, property};
 use indexmap::IndexMap;
 use meaning::limits::MOST_PROPERTY_WORDS;
 use meaning::{CheckedObject, name_words};
 use std::alloc::{AllocError, Global};
 use syntax::{ArrayValue, Object, Property, Text};
-use syntax_lexer::TOO_MANY;
+use syntax_lexer::{DEFINED_TWICE, TOO_MANY};
 use syntax_trees::Name;
 use zcore::layout::{DEFAULT_COUNT, LONGEST_SHORT_NAME};
+
+/// The most names that are compared with one another: to make a table of them takes longer.
+const FEW_NAMES: usize = 8;
 
 #[tactic(auto, using(checker_names::proofs::Noted::noted_none))]
 fn short_rule(short: &Option<Text<'_>>, least: &mut Option<Breach>)
@@ -212,8 +215,45 @@ fn names_of<'a>(written: &[Property<'a>], alloc: Global) -> Result<Vec<Name<'a>>
     Ok(names)
 }
 
-// Two of one name.
-fn repeated(names: &[Name<'_>], alloc: Global, least: &mut Option<Breach>) -> Result<(), AllocError>
+// Whether a name stands among others.
+fn stands_among(name: Name<'_>, others: &[Name<'_>]) -> bool
+    ensures { result ≡ has_name (map name_tree others.now) (name_tree name.entry) }
+{
+    let key = key_of(name.text);
+    for other in others {
+        if key_of(other.text) == key {
+            return true;
+        }
+    }
+    false
+}
+
+// A name that stands among those before it.
+#[tactic(auto, using(checker_names::proofs::Noted::noted_none))]
+fn again(name: Name<'_>, before: &[Name<'_>], least: &mut Option<Breach>)
+    ensures { least.new ≡ noted least.old
+        (spec.again (map name_tree before.now) (name_tree name.entry)) }
+{
+    if stands_among(name, before) {
+        note(least, DEFINED_TWICE, name.position);
+    }
+}
+
+// Two of one name, where each is compared with all before it: quick for few names.
+fn repeated_few(names: &[Name<'_>], least: &mut Option<Breach>)
+    ensures { least.new ≡ noted least.old (repeated_breaches [] (map name_tree names.now)) }
+{
+    for number in 0..names.len() {
+        again(names[number], &names[..number], least);
+    }
+}
+
+// Two of one name, where each is looked up in a table of those before it: quick for many names.
+fn repeated_many(
+    names: &[Name<'_>],
+    alloc: Global,
+    least: &mut Option<Breach>,
+) -> Result<(), AllocError>
     ensures { OnOk result (least.new ≡ noted least.old
         (repeated_breaches [] (map name_tree names.now))) }
 {
@@ -223,6 +263,18 @@ fn repeated(names: &[Name<'_>], alloc: Global, least: &mut Option<Breach>) -> Re
         twice(name, &table, least);
         define(name, &mut table, Binding::Local(number))?;
     }
+    Ok(())
+}
+
+// Two of one name.
+fn repeated(names: &[Name<'_>], alloc: Global, least: &mut Option<Breach>) -> Result<(), AllocError>
+    ensures { OnOk result (least.new ≡ noted least.old
+        (repeated_breaches [] (map name_tree names.now))) }
+{
+    if names.len() > FEW_NAMES {
+        return repeated_many(names, alloc, least);
+    }
+    repeated_few(names, least);
     Ok(())
 }
 

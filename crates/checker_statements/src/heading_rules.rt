@@ -20,8 +20,8 @@ use syntax_lexer::{EXPRESSION_TOO_LARGE, Position};
 use syntax_statement_parts::Heading;
 use syntax_trees::Expression;
 
-// Whether a part needs at most so many temporaries.
-fn fits_in(part: &Option<Box<Expression<'_>>>, room: u8) -> bool
+/// Whether a part of a `for` needs at most so many temporaries.
+pub fn fits_in(part: &Option<Box<Expression<'_>>>, room: u8) -> bool
     ensures { result ≡ part_fits (part_tree part.now) room }
 {
     match part {
@@ -30,8 +30,8 @@ fn fits_in(part: &Option<Box<Expression<'_>>>, room: u8) -> bool
     }
 }
 
-// How many are left for the parts behind it.
-fn left_behind(part: &Option<Box<Expression<'_>>>, room: u8) -> u8
+/// How many are left for the parts behind it.
+pub fn left_behind(part: &Option<Box<Expression<'_>>>, room: u8) -> u8
     ensures { result ≡ room_behind (part_tree part.now) room }
 {
     match part {
@@ -119,7 +119,7 @@ fn parts(
 /// # Errors
 ///
 /// `AllocError` where memory is refused.
-pub fn heading(
+pub fn resolved_heading(
     given: &Heading<'_>,
     alloc: Global,
     scope: &Scope<'_>,

@@ -8,4 +8,5 @@ mod loop_rules;
 mod simple_rules;
 mod statement_rules;
 
+pub use heading_rules::{fits_in, left_behind};
 pub use statement_rules::all_statements;

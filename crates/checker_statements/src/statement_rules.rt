@@ -12,7 +12,7 @@ ghost use Rattle.checker_statements.specs.Walk.{IsAction, GivesAction};
 ghost use Rattle.checker_statements.specs.StatementWalk.{AreActions, IsCase, AreCases, IsOther};
 
 use crate::case_rules::ranges;
-use crate::heading_rules::heading;
+use crate::heading_rules::resolved_heading;
 use crate::loop_rules::loop_variable;
 use crate::simple_rules::{boxed_whole, simple, whole};
 use checker_names::{Breach, Scope};
@@ -240,7 +240,7 @@ fn for_loop<'a>(
         (trees.for_loop position (heading_tree given.now).before (heading_tree given.now).test
         (heading_tree given.now).behind (statement_tree body.now.value)) }
 {
-    let Ok((before, test, behind)) = heading(given, alloc, scope, position, least) else {
+    let Ok((before, test, behind)) = resolved_heading(given, alloc, scope, position, least) else {
         return Err(AllocError);
     };
     let Ok(body) = boxed(body, alloc, scope, IN_LOOP, least) else {

@@ -5,6 +5,7 @@ ghost use Rattle.std.specs.List.{filter, list_all};
 ghost use Rattle.zcore.specs.declared.instruction.Operation.TheVariants.{Print};
 ghost use Rattle.ztext.specs.Alphabets.{is_printable};
 ghost use Rattle.ztext.specs.Abbreviations.{encoded_with};
+ghost use Rattle.ztext.specs.Text.{encoded};
 ghost use Rattle.meaning.specs.Meaning as meaning;
 ghost use Rattle.code_values.specs.Items as source_items;
 ghost use Rattle.code_values.specs.Code.{as_operand};
@@ -20,7 +21,7 @@ use code_encoding::{
 };
 use meaning::Cause;
 use std::alloc::{AllocError, Global};
-use zcore::{Abbreviations, Operand, Operation, TextFault};
+use zcore::{Abbreviations, Operand, Operation, TextFault, encode_text};
 
 /// A character between the quotes of a text: `^` is a new line, `~` a double quote.
 fn character_of(byte: u8) -> u8
@@ -54,7 +55,20 @@ fn characters(alloc: Global, text: &[u8]) -> Result<Vec<u8>, AllocError>
     Ok(characters)
 }
 
-/// The Z-text of printable characters, with these abbreviations.
+/// The Z-text of printable characters, without abbreviations.
+fn plain_text(alloc: Global, characters: &[u8]) -> Result<Vec<u8>, AllocError>
+    requires { list_all is_printable characters.now ≡ true }
+    ensures { IfOk result (λ v. v.items ≡ encoded characters.now) }
+{
+    match encode_text(alloc, characters) {
+        Ok(text) => Ok(text),
+        Err(TextFault::Memory) => Err(AllocError),
+        Err(_) => unreachable!(),
+    }
+}
+
+/// The Z-text of printable characters, with these abbreviations. Where there are none, none is
+/// looked for at each character.
 fn z_text(
     alloc: Global,
     abbreviations: &Abbreviations,
@@ -63,6 +77,9 @@ fn z_text(
     requires { list_all is_printable characters.now ≡ true }
     ensures { IfOk result (λ v. v.items ≡ encoded_with abbreviations.now characters.now) }
 {
+    if abbreviations.texts().is_empty() {
+        return plain_text(alloc, characters);
+    }
     match abbreviations.encode(alloc, characters) {
         Ok(text) => Ok(text),
         Err(TextFault::Character) => unreachable!(),

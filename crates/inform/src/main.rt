@@ -1,27 +1,25 @@
 //! Compiles a source file to a story file, and explains faults.
 #![tactic(auto)]
 
-mod name;
 mod output;
+mod refusals;
 mod source;
 mod words;
 
-use crate::name::Name;
 use crate::output::{is_one_file, write_whole};
+use crate::refusals::{refused, show};
 use crate::source::read_source;
 use crate::words::{Asked, Words, command, words_of};
+use clap::{ArgMatches, Error};
 use explanations::Program;
+use one_line::OneLine;
 use std::fmt::Display;
 use std::fs::File;
 use std::process::ExitCode;
 use std::{env, io};
-use story_diagnosis::{Diagnosis, Shown, diagnose};
-use story_figures::measure;
-use syntax_lexer::SourceFault;
+use story_diagnosis::diagnose;
+use story_figures::{Figures, measure};
 use zcore::Version;
-
-/// The exit status where the source is refused.
-const REFUSED: u8 = 1;
 
 /// The exit status where the words of the command line or the files cannot be used.
 const MISUSED: u8 = 2;
@@ -39,19 +37,27 @@ fn main(rt: HostRuntime) -> ExitCode {
         return misused(&rt, "cannot read the command line");
     };
     match command.try_get_matches_from(given.as_slice()) {
-        Ok(matches) => match words_of(&matches) {
-            Some(Asked::Compile(words)) => build(&rt, words),
-            Some(Asked::Explain(name)) => explain(&rt, name),
-            Some(Asked::Sizes(source, version)) => show_sizes(&rt, source, version),
-            None => misused(&rt, "the version after -v is 5 or 8"),
-        },
-        Err(error) => {
-            let status = if error.use_stderr() { MISUSED } else { 0 };
-            match error.print(&rt) {
-                Ok(()) => ExitCode::from(status),
-                Err(_) => ExitCode::from(MISUSED),
-            }
-        }
+        Ok(matches) => answer(&rt, &matches),
+        Err(error) => unread(&rt, error),
+    }
+}
+
+/// Does what the words of the command line ask for.
+fn answer(rt: &HostRuntime, matches: &ArgMatches<'_>) -> ExitCode {
+    match words_of(matches) {
+        Some(Asked::Compile(words)) => build(rt, words),
+        Some(Asked::Explain(name)) => explain(rt, name),
+        Some(Asked::Sizes(source, version)) => show_sizes(rt, source, version),
+        None => misused(rt, "the version after -v is 5 or 8"),
+    }
+}
+
+/// Prints what is said of words that are refused, or the help or the version that they ask for.
+fn unread(rt: &HostRuntime, error: Error) -> ExitCode {
+    let status = if error.use_stderr() { MISUSED } else { 0 };
+    match error.print(rt) {
+        Ok(()) => ExitCode::from(status),
+        Err(_) => ExitCode::from(MISUSED),
     }
 }
 
@@ -68,7 +74,7 @@ fn explain(rt: &HostRuntime, name: Option<&str>) -> ExitCode {
         Some(name) => match Program::Inform.explanations().find(name) {
             Some(explanation) => rt.print(explanation),
             None => {
-                let name = Name(name);
+                let name = OneLine(name);
                 return misused(
                     rt,
                     format_args!("no fault is named {name}: --explain lists all"),
@@ -90,7 +96,7 @@ fn source_in(rt: &HostRuntime, name: &str) -> io::Result<Option<Vec<u8>>> {
 /// The bytes of the source of a name, or else the status with which the program ends, which has said
 /// why.
 fn source_of(rt: &HostRuntime, source: &str) -> Result<Vec<u8>, ExitCode> {
-    let name = Name(source);
+    let name = OneLine(source);
     match source_in(rt, source) {
         Ok(Some(source)) => Ok(source),
         Ok(None) => Err(misused(
@@ -101,23 +107,21 @@ fn source_of(rt: &HostRuntime, source: &str) -> Result<Vec<u8>, ExitCode> {
     }
 }
 
-/// Says on standard error why a source is refused.
-fn refused(rt: &HostRuntime, fault: SourceFault) -> ExitCode {
-    let _ = eprintln!(rt; "{fault}");
-    ExitCode::from(REFUSED)
-}
-
 /// Prints what the source takes, also where it is refused as too large.
 fn show_sizes(rt: &HostRuntime, source: &str, version: Version) -> ExitCode {
     let source = match source_of(rt, source) {
         Ok(source) => source,
         Err(status) => return status,
     };
-    let figures = match measure(rt.alloc(), &source, version) {
-        Ok(figures) => figures,
-        Err(fault) => return refused(rt, fault),
-    };
-    if rt.print(&figures).is_err() {
+    match measure(rt.alloc(), &source, version) {
+        Ok(figures) => print_figures(rt, &figures),
+        Err(fault) => refused(rt, fault),
+    }
+}
+
+/// Prints figures, and says why the source is refused where it is too large.
+fn print_figures(rt: &HostRuntime, figures: &Figures<'_>) -> ExitCode {
+    if rt.print(figures).is_err() {
         return misused(rt, "cannot write standard output");
     }
     match figures.story {
@@ -137,29 +141,14 @@ fn build(rt: &HostRuntime, words: Words<'_>) -> ExitCode {
             Some(name) => put(rt, words.source, name, story.bytes()),
             None => ExitCode::SUCCESS,
         },
-        Err(diagnosis) => refuse(rt, words, &source, diagnosis),
+        Err(diagnosis) if words.show => show(rt, words.source, &source, words.version, diagnosis),
+        Err(diagnosis) => refused(rt, diagnosis.fault),
     }
-}
-
-/// Says on standard error why the source is refused, and shows where, if that is asked for.
-fn refuse(rt: &HostRuntime, words: Words<'_>, source: &[u8], diagnosis: Diagnosis) -> ExitCode {
-    let fault = diagnosis.fault;
-    let status = refused(rt, fault);
-    if words.show {
-        let shown = Shown {
-            source,
-            name: Name(words.source),
-            sentence: fault.rule(),
-            diagnosis,
-        };
-        let _ = eprint!(rt; "{shown}");
-    }
-    status
 }
 
 /// Writes the bytes of a story, unless its file is the source.
 fn put(rt: &HostRuntime, source: &str, file: &str, story: &[u8]) -> ExitCode {
-    let name = Name(file);
+    let name = OneLine(file);
     if is_one_file(rt, source, file) {
         return misused(rt, format_args!("cannot write {name}: it is the source"));
     }

@@ -41,51 +41,79 @@ pub struct Words<'a> {
     pub show: bool,
 }
 
-/// The program's command line.
-pub fn command<'a>(alloc: Global) -> Result<Command<'a>, AllocError> {
-    let version = Arg::new(alloc, "version_number")
+/// The version of the story file.
+fn version_argument<'a>(alloc: Global) -> Arg<'a> {
+    Arg::new(alloc, "version_number")
         .short('v')
         .value_name("VERSION")
         .help("The version of the story file, 5 or 8 [default: 5]")
         .action(ArgAction::Set)
-        .value_parser(value_parser!(u32));
-    let explain = Arg::new(alloc, "explain")
+        .value_parser(value_parser!(u32))
+}
+
+/// The fault that is to be explained, beside which nothing else is asked for.
+fn explain_argument<'a>(alloc: Global) -> Arg<'a> {
+    Arg::new(alloc, "explain")
         .long("explain")
         .value_name("NAME")
         .help("Explain the fault of this name, as E23, or list all faults; nothing is compiled")
         .num_args(0..=1)
         .exclusive(true)
-        .action(ArgAction::Set);
-    let show = Arg::new(alloc, "show")
+        .action(ArgAction::Set)
+}
+
+/// Whether a fault's place is shown.
+fn show_argument<'a>(alloc: Global) -> Arg<'a> {
+    Arg::new(alloc, "show")
         .long("show")
         .help("Show where and why a source is refused; without STORY only check it")
-        .action(ArgAction::SetTrue);
-    let sizes = Arg::new(alloc, "sizes")
+        .action(ArgAction::SetTrue)
+}
+
+/// Whether the figures of the source are printed, and no story is written.
+fn sizes_argument<'a>(alloc: Global) -> Result<Arg<'a>, AllocError> {
+    Arg::new(alloc, "sizes")
         .long("sizes")
         .help("Print what the source takes, of what there may be; no story is written")
         .action(ArgAction::SetTrue)
-        .conflicts_with("story")?;
-    let source = Arg::new(alloc, "source")
+        .conflicts_with("story")
+}
+
+/// The source file's name.
+fn source_argument<'a>(alloc: Global) -> Arg<'a> {
+    Arg::new(alloc, "source")
         .value_name("SOURCE")
         .help("A source file")
         .required(true)
-        .action(ArgAction::Set);
+        .action(ArgAction::Set)
+}
+
+/// The story file's name, which is needed unless only the place of a fault or figures are wanted.
+fn story_argument<'a>(alloc: Global) -> Result<Arg<'a>, AllocError> {
     let story = Arg::new(alloc, "story")
         .value_name("STORY")
         .help("The story file to write")
         .required_unless_present("show")?
-        .required_unless_present("sizes")?
-        .action(ArgAction::Set);
+        .required_unless_present("sizes")?;
+    Ok(story.action(ArgAction::Set))
+}
+
+/// The program's command line.
+///
+/// # Errors
+///
+/// Memory was refused.
+pub fn command<'a>(alloc: Global) -> Result<Command<'a>, AllocError> {
     Command::new(alloc, "inform")
         .version("1.0.0")
         .about("Compiles a source file to a Z-machine story file")
         .after_help(MORE)
-        .arg(version)?
-        .arg(explain)?
-        .arg(show)?
-        .arg(sizes)?
-        .arg(source)?
-        .arg(story)
+        .arg(version_argument(alloc))?
+        .arg(explain_argument(alloc))?
+        .arg(show_argument(alloc))?
+        .arg(sizes_argument(alloc)?)?
+        .arg(source_argument(alloc))?
+        .arg(story_argument(alloc)?)
 }
 
 /// What the words of a command line that passed `command` ask for; `None` where they name another

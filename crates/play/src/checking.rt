@@ -1,7 +1,7 @@
 //! What is in story files, without running them.
 
-use crate::name::Name;
 use crate::{broken, refuse, story_in};
+use one_line::OneLine;
 use session::{LoadFault, RunFault};
 use std::io;
 use std::process::ExitCode;
@@ -25,7 +25,7 @@ pub fn check(rt: &HostRuntime, files: &[&str]) -> ExitCode {
 /// Says what is in a file.
 fn check_alone(rt: &HostRuntime, file: &str) -> ExitCode {
     let Ok(story) = story_in(rt, file) else {
-        return refuse(rt, format_args!("cannot read {}", Name(file)));
+        return refuse(rt, format_args!("cannot read {}", OneLine(file)));
     };
     let Ok(survey) = Survey::read(rt.alloc(), story.as_slice()) else {
         return refuse(rt, LoadFault::Memory);
@@ -53,7 +53,7 @@ fn check_each(rt: &HostRuntime, files: &[&str]) -> ExitCode {
 
 /// Says of a file in a line whether it plays, and answers its status.
 fn check_in_line(rt: &HostRuntime, file: &str) -> io::Result<u8> {
-    let name = Name(file);
+    let name = OneLine(file);
     let Ok(story) = story_in(rt, file) else {
         println!(rt; "{name}: cannot be read")?;
         return Ok(REFUSED);

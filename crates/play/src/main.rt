@@ -3,7 +3,6 @@
 
 mod checking;
 mod filling;
-mod name;
 mod reading;
 mod standing;
 mod words;
@@ -11,11 +10,11 @@ mod words;
 ghost use Rattle.play.specs.Range.{IsInRange};
 
 use crate::checking::check;
-use crate::name::Name;
 use crate::reading::read_story;
 use crate::standing::Standing;
 use crate::words::{Asked, Words, words_of};
 use explanations::Program;
+use one_line::OneLine;
 use session::{RunFault, Session, run, status};
 use std::fmt::Display;
 use std::fs::File;
@@ -67,7 +66,7 @@ fn explain(rt: &HostRuntime, name: Option<&str>) -> ExitCode {
         Some(name) => match Program::Play.explanations().find(name) {
             Some(explanation) => rt.print(explanation),
             None => {
-                let name = Name(name);
+                let name = OneLine(name);
                 let _ = eprintln!(rt; "play: no answer is named {name}: --explain lists all");
                 return ExitCode::from(UNKNOWN);
             }
@@ -97,7 +96,7 @@ fn play(rt: &HostRuntime, words: Words<'_>) -> ExitCode
     requires { IsInRange words }
 {
     let Ok(story) = story_in(rt, words.story) else {
-        return refuse(rt, format_args!("cannot read {}", Name(words.story)));
+        return refuse(rt, format_args!("cannot read {}", OneLine(words.story)));
     };
     let mut session = match Session::open_with(rt.alloc(), story, words.fuel, words.keep) {
         Ok(session) => session,

@@ -3,7 +3,7 @@
 use explanations::Program;
 use session::{Place, Session};
 use std::fmt;
-use survey::Opcode;
+use survey_opcodes::Opcode;
 use zcore::Fault;
 
 /// Where a story stands. `Display` writes it in words, a fault as `M7: division by zero at 0F31`.

@@ -13,7 +13,8 @@ use Rattle.zcore.specs.Turn.{StateOfPlay}
 use Rattle.machine_frames.specs.Contents.{Contents, bound_of}
 use Rattle.machine_frames.specs.States.{play_of}
 use Rattle.session.specs.declared.turns.Turn.{Turn}
-use Rattle.session.specs.Session.{Session, largest_record, without_oldest}
+use Rattle.session.specs.Session.{Session, largest_record}
+use Rattle.session.specs.Stepped.{without_oldest}
 use Rattle.session.specs.Times.{all_cells}
 use Rattle.session.specs.Inside.{records_of, with_cells, places_of, view_of, Swaps, IsReady, IsBetweenTurns}
 use Rattle.session.proofs.Moves.{cells_undo, cells_redo, cells_older, present_cells, length-back, length-forward}

@@ -11,7 +11,7 @@ use Rattle.session.specs.Game.{Game, telling_of, text_on, place_on}
 use Rattle.session.specs.Standing.{Standing, longest_line, undo_of, redo_of, taken, is_typable, is_typable_byte}
 use Rattle.session.specs.Transcript.{answer_of, Answer, answer, note, answer_undo, answer_redo, answer_line}
 use Rattle.session.specs.Heard.{Heard, Broke, Hears}
-use Rattle.session.specs.Wrote.{Wrote, WroteSome}
+use Rattle.session.specs.Wrote.{WroteText, WroteSome}
 
 pub heard_ok : (game : Game) (w w' : Option (List ℕ)) (s : Standing) (P : Standing → Type 0) (line : List ℕ)
     (refused : Bool) (a : Answer)
@@ -44,7 +44,7 @@ heard_err game w w' s P line refused a e f p = record {
 
 pub heard_one : {A : Type 0} (game : Game) (w w' : Option (List ℕ)) (s : Standing) (P : Standing → Type 0)
     (line : List ℕ) (refused : Bool) (a : Answer) (r : Result (Unit {0}) A)
-    → answer game s (record { line = line; refused = refused }) ≡ a → P a.standing → Wrote w w' a.reply r
+    → answer game s (record { line = line; refused = refused }) ≡ a → P a.standing → WroteText w w' a.reply r
     → Hears game w w' s P (line ∷ []) r
 heard_one game w w' s P line refused a (Ok done) e f p = heard_ok game w w' s P line refused a e f p
 heard_one game w w' s P line refused a (Err x) e f p = heard_err game w w' s P line refused a e f p

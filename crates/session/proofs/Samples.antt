@@ -4,9 +4,10 @@ use Rattle.std.specs.Prelude.{codes, replicate}
 use Rattle.zcore.specs.declared.place.Place.TheVariants as places
 use Rattle.zcore.specs.Turn.{StateOfPlay, Whole}
 use Rattle.session.specs.Standing.{nothing, is_typable, undo_of, redo_of, taken, reached}
-use Rattle.session.specs.Session.{Session, stepped_back, stepped_forward, with_turn, bounded, latest_text}
+use Rattle.session.specs.Session.{Session}
+use Rattle.session.specs.Stepped.{stepped_back, stepped_forward, with_turn, bounded, latest_text}
 use Rattle.session.specs.Times.{all_cells}
-use Rattle.session.specs.Session.{latest_size}
+use Rattle.session.specs.Stepped.{latest_size}
 
 abbrev a : List ℕ
 a = codes "a"

@@ -10,8 +10,9 @@ use Rattle.zcore.specs.declared.place.Place.{Place}
 use Rattle.zcore.specs.declared.place.Place.TheVariants as places
 use Rattle.zcore.specs.Turn.{StateOfPlay, Whole, plays, last_text, last_place}
 use Rattle.session.specs.Standing.{Standing, undo_of, undo_from, redo_of, redo_from, reached}
-use Rattle.session.specs.Session.{Session, largest_record, stepped_back, stepped_forward, without_oldest, bounded}
-use Rattle.session.specs.Session.{bounded_by, latest_text, text_before, latest_size, size_before}
+use Rattle.session.specs.Session.{Session, largest_record}
+use Rattle.session.specs.Stepped.{stepped_back, stepped_forward, without_oldest, bounded}
+use Rattle.session.specs.Stepped.{bounded_by, latest_text, text_before, latest_size, size_before}
 use Rattle.session.specs.Sessions.{all_lines, IsSession}
 use Rattle.session.proofs.Plays.{plays_front, last_text_at, last_place_at}
 

@@ -5,26 +5,26 @@ use Rattle.std.proofs.Math.Seq.{take-length}
 use Rattle.std.proofs.lemmas.List.{length-drop}
 use Rattle.std.specs.Io.KnownBytes.{Appends}
 use Rattle.std.proofs.KnownBytes.{Appends-trans}
-use Rattle.session.specs.Wrote.{Written, WroteSome, Wrote}
+use Rattle.session.specs.Wrote.{WrittenSoFar, WroteSome, WroteText}
 
-pub written_more : {a b c : Option (List ℕ)} {text rest : List ℕ} (n : ℕ) → Written a b text rest
-    → Appends b c (take n rest) → Written a c text (drop n rest)
+pub written_more : {a b c : Option (List ℕ)} {text rest : List ℕ} (n : ℕ) → WrittenSoFar a b text rest
+    → Appends b c (take n rest) → WrittenSoFar a c text (drop n rest)
 written_more {a} {b} {c} {text} {rest} n h p = record {
   part = h.part ++ take n rest;
   whole = append_assoc h.part (take n rest) (drop n rest) ∙ ap (λ x. h.part ++ x) (take-append-drop n rest) ∙ h.whole;
   wrote = Appends-trans a b c h.part (take n rest) h.wrote p;
 }
 
-pub written_on : {a b c : Option (List ℕ)} {text rest : List ℕ} (n : ℕ) → Written a b text rest
-    → Appends b c (take n rest) → Written a c text (take (length rest - n) (drop n rest))
+pub written_on : {a b c : Option (List ℕ)} {text rest : List ℕ} (n : ℕ) → WrittenSoFar a b text rest
+    → Appends b c (take n rest) → WrittenSoFar a c text (take (length rest - n) (drop n rest))
 written_on {a} {b} {c} {text} {rest} n h p =
     let e : take (length rest - n) (drop n rest)
     ≡ drop n rest = ap (λ k. take k (drop n rest)) (sym (length-drop n rest)) ∙ take-length (drop n rest) in
-    subst (Written a c text) (sym e) (written_more n h p)
+    subst (WrittenSoFar a c text) (sym e) (written_more n h p)
 
 -- two texts, one after the other
 pub wrote_both : {A : Type 0} (a b c : Option (List ℕ)) (s t : List ℕ) (r : Result (Unit {0}) A) → Appends a b s
-    → Wrote b c t r → Wrote a c (s ++ t) r
+    → WroteText b c t r → WroteText a c (s ++ t) r
 wrote_both a b c s t (Ok done) p q = Appends-trans a b c s t p q
 wrote_both a b c s t (Err e) p q = record {
   part = s ++ q.part;

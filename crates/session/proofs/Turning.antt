@@ -21,7 +21,8 @@ use Rattle.machine_frames.specs.States.{play_of, IsStoreOf}
 use Rattle.machine_frames.proofs.Steps.{store_after}
 use Rattle.machine.specs.Ended.{TurnEnds}
 use Rattle.session.specs.declared.turns.Turn.{Turn}
-use Rattle.session.specs.Session.{Session, largest_record, with_turn}
+use Rattle.session.specs.Session.{Session, largest_record}
+use Rattle.session.specs.Stepped.{with_turn}
 use Rattle.session.specs.Times.{all_cells}
 use Rattle.session.specs.Inside.{records_of, with_cells, places_of, view_of, IsReady, IsBetweenTurns}
 use Rattle.session.specs.Turned.{Turned}

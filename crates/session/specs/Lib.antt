@@ -3,6 +3,7 @@ pub mod Session
 pub mod Times
 pub mod Inside
 pub mod Sessions
+pub mod Stepped
 pub mod Turned
 pub mod Replies
 pub mod Game

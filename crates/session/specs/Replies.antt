@@ -19,20 +19,20 @@ pub record IsOpened (story : List ℕ) (fuel : ℕ) (keep : Option ℕ) (v : Ses
   pub session : IsSession story fuel keep nothing v
 
 -- a session at its beginning, or a story that is not loaded, or memory that was refused later
-abbrev pub Opens : List ℕ → ℕ → Option ℕ → Result Session OpenFault → Type 0
-Opens story fuel keep (Ok session) = IsOpened story fuel keep session
-Opens story fuel keep (Err (faults.Load fault)) = Loads story (Err fault)
-Opens story fuel keep (Err faults.Memory) = (header : Header) × Reads story (Ok header)
+abbrev pub OpensSession : List ℕ → ℕ → Option ℕ → Result Session OpenFault → Type 0
+OpensSession story fuel keep (Ok session) = IsOpened story fuel keep session
+OpensSession story fuel keep (Err (faults.Load fault)) = Loads story (Err fault)
+OpensSession story fuel keep (Err faults.Memory) = (header : Header) × Reads story (Ok header)
 
 -- what a reply says of a line, and the text that it lends
-abbrev pub Says : List ℕ → ℕ → Standing → List ℕ → Reply → Type 0
-Says story fuel s line (replies.Taken text) =
+abbrev pub RepliesWith : List ℕ → ℕ → Standing → List ℕ → Reply → Type 0
+RepliesWith story fuel s line (replies.Taken text) =
     (is_typable line ≡ true) × (is_waiting (place_after story fuel s.done) ≡ true)
     × (text.now ≡ text_after story fuel (s.done ++ line ∷ []))
-Says story fuel s line replies.Refused = is_typable line ≡ false
-Says story fuel s line replies.Over =
+RepliesWith story fuel s line replies.Refused = is_typable line ≡ false
+RepliesWith story fuel s line replies.Over =
     (is_typable line ≡ true) × (is_waiting (place_after story fuel s.done) ≡ false)
-Says story fuel s line replies.NoMemory =
+RepliesWith story fuel s line replies.NoMemory =
     (is_typable line ≡ true) × (is_waiting (place_after story fuel s.done) ≡ true)
 
 -- what the session is after a reply: as it was, but for a line that was taken

@@ -4,8 +4,8 @@ use Rattle.std.specs.List.{All}
 use Rattle.zcore.specs.Header.{static_base_of}
 use Rattle.zcore.specs.declared.place.Place.{Place}
 use Rattle.zcore.specs.Turn.{Whole, plays, last_text, last_place}
-use Rattle.session.specs.Standing.{Standing, redo_of, reached}
-use Rattle.session.specs.Session.{Session, largest_record, stepped_forward}
+use Rattle.session.specs.Standing.{Standing, reached}
+use Rattle.session.specs.Session.{Session, largest_record}
 
 -- what the story prints last on these lines: its opening where there are none, else the turn of the last
 abbrev pub text_after : List ℕ → ℕ → List (List ℕ) → List ℕ
@@ -45,16 +45,3 @@ pub record IsSession (story : List ℕ) (units : ℕ) (most : Option ℕ) (s : S
 abbrev pub InEach : Session → (List ℕ → ℕ → Option ℕ → Standing → Type 0) → Type 0
 InEach v P =
     (story : List ℕ) (fuel : ℕ) (keep : Option ℕ) (s : Standing) → IsSession story fuel keep s v → P story fuel keep s
-
--- what the record of the latest kept turn can hold: nothing where none is kept
-abbrev pub IsSize : List ℕ → Standing → ℕ → Type 0
-IsSize story s size = (s.kept ≡ 0 → size ≡ 0) × (size ≤ largest_record (static_base_of story))
-
--- what stands goes over into what `f` makes of it
-abbrev pub Moves : (Standing → Standing) → Session → Session → Type 0
-Moves f old new = InEach old (λ story fuel keep s. IsSession story fuel keep (f s) new)
-
--- the turn after the present is done again, where there is one, and nothing else changes
-pub record Redone (old new : Session) : Type 0 where
-  pub stepped : new ≡ stepped_forward old
-  pub stands : Moves redo_of old new

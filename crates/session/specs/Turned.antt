@@ -1,7 +1,8 @@
 -- What a turn makes of a session.
 use Rattle.std.specs.Prelude.{◌≡◌, ◌≤◌, ℕ, List, slice_index_or, Some}
 use Rattle.zcore.specs.Turn.{StateOfPlay, Whole, turn_on}
-use Rattle.session.specs.Session.{Session, largest_record, with_turn}
+use Rattle.session.specs.Session.{Session, largest_record}
+use Rattle.session.specs.Stepped.{with_turn}
 
 -- the turn of a line from the present state stands behind it
 pub record Turned (line : List ℕ) (old new : Session) : Type 0 where

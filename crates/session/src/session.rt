@@ -7,11 +7,13 @@ ghost use Rattle.std.specs.Io.BufRead.{Rests};
 ghost use Rattle.zcore.specs.declared.place.Place.TheVariants as places;
 ghost use Rattle.zcore.specs.Turn.{StateOfPlay};
 ghost use Rattle.session.specs.Standing.{undo_of, redo_of};
-ghost use Rattle.session.specs.Session.{largest_record, latest_text, latest_size};
-ghost use Rattle.session.specs.Session.{stepped_back, bounded, without_oldest};
+ghost use Rattle.session.specs.Session.{largest_record};
+ghost use Rattle.session.specs.Stepped.{latest_text, latest_size};
+ghost use Rattle.session.specs.Stepped.{stepped_back, bounded, without_oldest};
 ghost use Rattle.session.specs.Turned.{Turned};
-ghost use Rattle.session.specs.Sessions.{InEach, IsSize, Moves, Redone, place_after, text_after};
-ghost use Rattle.session.specs.Replies.{After, Opens, Says};
+ghost use Rattle.session.specs.Sessions.{InEach, place_after, text_after};
+ghost use Rattle.session.specs.Stepped.{IsSize, Moves, Redone};
+ghost use Rattle.session.specs.Replies.{After, OpensSession, RepliesWith};
 ghost use Rattle.session.specs.contracts.session.Session.{the_row};
 
 use crate::fault::OpenFault;
@@ -81,7 +83,7 @@ impl Session {
     ///
     /// Those of `open_with`.
     pub fn open(alloc: Global, story: Vec<u8>, fuel: u32) -> Result<Session, OpenFault>
-        ensures { Opens story.items fuel None result }
+        ensures { OpensSession story.items fuel None result }
     {
         Session::open_with(alloc, story, fuel, None)
     }
@@ -99,7 +101,7 @@ impl Session {
         fuel: u32,
         keep: Option<u32>,
     ) -> Result<Session, OpenFault>
-        ensures { Opens story.items fuel keep result }
+        ensures { OpensSession story.items fuel keep result }
     {
         let (machine, store) = match Machine::load(alloc, story) {
             Ok(loaded) => loaded,
@@ -230,7 +232,7 @@ impl Session {
     /// given takes memory.
     pub fn reply(&mut self, line: &[u8]) -> Reply<'_>
         ensures* rests { sem 𝓛 (Rests the_row self.entry (After line.now result self.old)) }
-        ensures says { InEach self.old (λ story fuel keep s. Says story fuel s line.now result) }
+        ensures says { InEach self.old (λ story fuel keep s. RepliesWith story fuel s line.now result) }
     {
         if !is_typable(line) {
             return Reply::Refused;

@@ -1,13 +1,13 @@
 //! Writing a text whole.
 
-ghost use Rattle.session.specs.Wrote.{Wrote};
+ghost use Rattle.session.specs.Wrote.{WroteText};
 
 use crate::fault::WriteFailed;
 use std::io::Write;
 
 /// Writes all of a text. A write that takes no byte is a failure like another.
 pub(crate) fn put<W: Write>(writer: &mut W, text: &[u8]) -> Result<(), WriteFailed>
-    ensures { Wrote (W.contents writer.old) (W.contents writer.new) text.now result }
+    ensures { WroteText (W.contents writer.old) (W.contents writer.new) text.now result }
 {
     let mut rest = text;
     while !rest.is_empty() {
@@ -22,7 +22,7 @@ pub(crate) fn put<W: Write>(writer: &mut W, text: &[u8]) -> Result<(), WriteFail
 
 /// Writes all of a text and flushes.
 pub(crate) fn tell<W: Write>(writer: &mut W, text: &[u8]) -> Result<(), WriteFailed>
-    ensures { Wrote (W.contents writer.old) (W.contents writer.new) text.now result }
+    ensures { WroteText (W.contents writer.old) (W.contents writer.new) text.now result }
 {
     put(writer, text)?;
     match writer.flush() {

@@ -1,6 +1,6 @@
 //! Why a source is refused, and where.
 
-ghost use Rattle.std.specs.Prelude.{◌≡◌};
+ghost use Rattle.std.specs.Prelude.{◌≡◌, IfSome, Some};
 ghost use Rattle.source_places.specs.Lines.{IsLocatedIn};
 
 use crate::place::{Place, place_of};
@@ -21,6 +21,7 @@ pub struct Diagnosis {
 pub fn located(source: &[u8], placed: PlacedFault) -> Diagnosis
     ensures fault { result.fault ≡ placed.fault }
     ensures place { IsLocatedIn source.now result }
+    ensures begins { IfSome result.place (λ p. placed.offset ≡ Some p.offset) }
 {
     Diagnosis {
         fault: placed.fault,

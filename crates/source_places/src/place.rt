@@ -1,6 +1,6 @@
 //! The place of a fault in its source.
 
-ghost use Rattle.std.specs.Prelude.{◌≤◌, IfSome, length};
+ghost use Rattle.std.specs.Prelude.{◌≡◌, ◌≤◌, IfSome, Some, length};
 ghost use Rattle.source_places.specs.Lines.{IsPlaceIn};
 
 use crate::lines::{column_behind, from, front, line_behind, line_length};
@@ -63,7 +63,8 @@ fn span(number: u8, line: &[u8]) -> usize
 
 /// The place of a fault, if it has one.
 pub fn place_of(source: &[u8], placed: PlacedFault) -> Option<Place>
-    ensures { IfSome result (IsPlaceIn source.now placed.fault.line) }
+    ensures place { IfSome result (IsPlaceIn source.now placed.fault.line) }
+    ensures begins { IfSome result (λ p. placed.offset ≡ Some p.offset) }
 {
     let offset = placed.offset?;
     if offset > source.len() {
@@ -75,7 +76,8 @@ pub fn place_of(source: &[u8], placed: PlacedFault) -> Option<Place>
 // The place at an offset, which is in the line of the fault, and has a byte or is the end.
 fn place_at(source: &[u8], offset: usize, fault: SourceFault) -> Option<Place>
     requires { offset ≤ length source.now }
-    ensures { IfSome result (IsPlaceIn source.now fault.line) }
+    ensures place { IfSome result (IsPlaceIn source.now fault.line) }
+    ensures begins { IfSome result (λ p. p.offset ≡ offset) }
 {
     let before = front(source, offset);
     let rest = from(source, offset);

@@ -18,7 +18,7 @@ use Rattle.syntax_lexer.specs.FaultNumbers.{no_memory}
 use Rattle.syntax_lexer.specs.Printable.{PrintableTokens}
 use Rattle.syntax.specs.Tree.{ProgramTree}
 use Rattle.syntax.specs.Grammar.{IsProgram, program_nesting}
-use Rattle.syntax.specs.Nesting.{DeepProgram}
+use Rattle.syntax.specs.Places.{IsFirstUnfit, IsFirstDeep}
 use Rattle.syntax.specs.Laws.{PrintableTrees}
 use Rattle.meaning.specs.Accepted.{IsAccepted}
 use Rattle.meaning.specs.Printable.{HasPrintableTexts}
@@ -53,7 +53,7 @@ answered version source (Err e) f h refused =
 
 -- Trees
 
-same_lexemes : (ts : List Token) → lexemes_of (source_tokens ts) ≡ lexemes ts
+pub same_lexemes : (ts : List Token) → lexemes_of (source_tokens ts) ≡ lexemes ts
 same_lexemes [] = refl
 same_lexemes (t ∷ ts) = ap (λ ls. (lexemes (t ∷ [])) ++ ls) (same_lexemes ts)
 
@@ -71,19 +71,18 @@ module _ (source : List ℕ) (ts : List Token) (lexed : Lexes 0 1 source (Ok (so
   -- what is not parsed
   pub unparsed : (version : Version) (f : SourceFault)
       → (f.number ≡ 10 → ((p : ProgramTree) → IsProgram (lexemes ts) p → ⊥))
-      → (f.number ≡ 5 → (DeepProgram 101 (lexemes ts) × ((p : ProgramTree) → IsProgram (lexemes ts) p
-      → 100 < program_nesting p)))
+      → (f.number ≡ 10 → IsFirstUnfit (lexemes ts) (λ place. place.line ≡ f.line))
+      → (f.number ≡ 5 → ((p : ProgramTree) → IsProgram (lexemes ts) p → 100 < program_nesting p))
+      → (f.number ≡ 5 → IsFirstDeep 100 (lexemes ts) (λ place. place.line ≡ f.line))
       → (f.number ≡ 5) ⊎ (f.number ≡ 10) ⊎ (f ≡ no_memory)
       → Refuses version source f
-  unparsed version f grammar deep number = elim number [
-    | inl five ↦
-        let here = deep five in
-        spec.too_deep (source_tokens ts) lexed (subst (DeepProgram 101) (sym (same_lexemes ts)) here.0)
-        (λ p parsed. here.1 p (program_of_tokens p parsed)) five
+  unparsed version f grammar place deep deep_place number = elim number [
+    | inl five ↦ spec.too_deep (source_tokens ts) lexed (λ p parsed. deep five p (program_of_tokens p parsed))
+        (subst (λ ls. IsFirstDeep 100 ls (λ place. place.line ≡ f.line)) (sym (same_lexemes ts)) (deep_place five)) five
     | inr others ↦ elim others [
       | inl ten ↦ spec.not_in_grammar (source_tokens ts) lexed
           (λ p parsed. grammar ten p (program_of_tokens p parsed))
-          ten
+          (subst (λ ls. IsFirstUnfit ls (λ place. place.line ≡ f.line)) (sym (same_lexemes ts)) (place ten)) ten
       | inr refused ↦ spec.no_memory refused
     ]
   ]

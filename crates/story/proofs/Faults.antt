@@ -15,14 +15,14 @@ use Rattle.checker.specs.Programs.{IsCheckedOf, resolve_program, routine_trees, 
 use Rattle.meaning.specs.Sizes.{first_heavy, size_fault}
 use Rattle.meaning.specs.CheckedSizes.{checked_size_fault}
 use Rattle.meaning.specs.CheckedSizes as checked
-use Rattle.story.specs.Refused.{name_place_of, tree_size_fault, weight_of}
+use Rattle.story.specs.Refused.{tree_name_place, tree_size_fault, tree_weight}
 
 -- the first heavy routine of a checked program is that of its tree
 abbrev checked_heavy : List CheckedRoutine → Option Position
 checked_heavy cs = first_heavy checked.weight_of checked.name_place_of cs
 
 abbrev tree_heavy : List RoutineTree → Option Position
-tree_heavy rs = first_heavy weight_of name_place_of rs
+tree_heavy rs = first_heavy tree_weight tree_name_place rs
 
 heavy_same : (rs : List RoutineTree) (cs : List CheckedRoutine) → map title_of cs ≡ map title rs
     → checked_heavy cs ≡ tree_heavy rs

@@ -8,3 +8,5 @@ pub mod Sizes
 pub mod Faults
 mod Numbered
 pub mod Compiling
+pub mod Unfit
+pub mod TooDeep

@@ -1,4 +1,5 @@
 pub mod Refused
 pub mod Playable
 pub mod Compiled
+pub mod FaultPlaces
 pub mod Laws

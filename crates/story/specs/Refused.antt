@@ -1,5 +1,5 @@
 -- Which sources have a tree, and why a source is refused.
-use Rattle.std.specs.Prelude.{◌≡◌, ◌≤◌, ◌<◌, ◌+◌, ℕ, List, [], ◌∷◌, map, Option, Some, Ok, Err}
+use Rattle.std.specs.Prelude.{◌≡◌, ◌≤◌, ◌<◌, ℕ, List, [], map, Option, Some, Ok, Err}
 use Rattle.zcore.specs.declared.header.Version.{Version}
 use Rattle.syntax_lexer.specs.declared.fault.SourceFault.{SourceFault}
 use Rattle.syntax_lexer.specs.declared.token.Position.{Position}
@@ -9,7 +9,7 @@ use Rattle.syntax_lexer.specs.Tokens.{SourceToken, Lexes}
 use Rattle.syntax_directives.specs.Tree.{RoutineTree}
 use Rattle.syntax.specs.Tree.{ProgramTree}
 use Rattle.syntax.specs.Grammar.{IsProgram, program_nesting}
-use Rattle.syntax.specs.Nesting.{DeepProgram}
+use Rattle.syntax.specs.Places.{IsFirstUnfit, IsFirstDeep}
 use Rattle.meaning.specs.Places.{routines_place}
 use Rattle.meaning.specs.Sizes.{first_heavy, size_fault}
 use Rattle.checker_names.specs.declared.breach.Breach.{Breach}
@@ -33,16 +33,16 @@ pub record IsTreeOf (source : List ℕ) (p : ProgramTree) : Type 0 where
 
 -- Sizes
 
-abbrev pub weight_of : RoutineTree → ℕ
-weight_of r = r.weight
+abbrev pub tree_weight : RoutineTree → ℕ
+tree_weight r = r.weight
 
-abbrev pub name_place_of : RoutineTree → Position
-name_place_of r = r.name.position
+abbrev pub tree_name_place : RoutineTree → Position
+tree_name_place r = r.name.position
 
 abbrev pub tree_size_fault : Version → ProgramTree → Option SourceFault
 tree_size_fault version p =
     size_fault version (routines_place (resolve_program p)) p.weight
-    (first_heavy weight_of name_place_of (routine_trees p.directives))
+    (first_heavy tree_weight tree_name_place (routine_trees p.directives))
 
 -- why a source is refused: the earliest part that finds a fault answers, or a growth of memory was refused
 pub data Refuses (version : Version) (source : List ℕ) (f : SourceFault) : Type 0 where
@@ -50,10 +50,11 @@ pub data Refuses (version : Version) (source : List ℕ) (f : SourceFault) : Typ
   in_tokens : Lexes 0 1 source (Err f) → Refuses version source f
   not_in_grammar : (tokens : List SourceToken) → Lexes 0 1 source (Ok tokens)
       → ((p : ProgramTree) → IsProgram (lexemes_of tokens) p → ⊥)
+      → IsFirstUnfit (lexemes_of tokens) (λ place. place.line ≡ f.line)
       → f.number ≡ fault_numbers.not_in_grammar → Refuses version source f
   too_deep : (tokens : List SourceToken) → Lexes 0 1 source (Ok tokens)
-      → DeepProgram (greatest_nesting + 1) (lexemes_of tokens)
       → ((p : ProgramTree) → IsProgram (lexemes_of tokens) p → greatest_nesting < program_nesting p)
+      → IsFirstDeep greatest_nesting (lexemes_of tokens) (λ place. place.line ≡ f.line)
       → f.number ≡ fault_numbers.nested_too_deep → Refuses version source f
   rule_broken : (p : ProgramTree) → IsTreeOf source p → (b : Breach) → IsAmong b (program_breaches p)
       → IsFirst b (program_breaches p)

@@ -4,6 +4,7 @@ ghost use Rattle.std.specs.Prelude.{◌≡◌};
 ghost use Rattle.zcore.specs.declared.header.Version.TheVariants.{V5};
 ghost use Rattle.syntax_lexer.specs.Placed.{unplaced};
 ghost use Rattle.story.specs.Compiled.{Compiles};
+ghost use Rattle.story.specs.FaultPlaces.{PlacesUnfit, PlacesTooDeep};
 
 use crate::laws::{stories_are_short, stories_hold};
 use checker::{accepted_programs, check_placed, printable_programs};
@@ -95,7 +96,11 @@ pub fn compile_for(alloc: Global, source: &[u8], version: Version) -> Result<Sto
 /// Those of [`compile_for`]. The offset is that of the byte, the token or the first token of what
 /// is at fault; E30, E31 and E99 have none.
 pub fn compile_placed(alloc: Global, source: &[u8], version: Version) -> Result<Story, PlacedFault>
-    ensures { Compiles version source.now (unplaced result) }
+    ensures compiles { Compiles version source.now (unplaced result) }
+    // A fault of the grammar stands at the first token with which no program begins.
+    ensures unfit { PlacesUnfit source.now result }
+    // A fault of nesting stands at the first token that is nested too deep.
+    ensures too_deep { PlacesTooDeep source.now result }
 {
     accepted_programs();
     printable_tokens();

@@ -2,4 +2,5 @@ pub mod Ranking
 pub mod Summing
 pub mod Accepting
 pub mod Refusals
+pub mod FewTemporaries
 mod FigureSamples

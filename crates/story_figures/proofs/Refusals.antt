@@ -10,7 +10,7 @@ use Rattle.syntax_lexer.specs.Results.{source_tokens}
 use Rattle.syntax_lexer.specs.FaultNumbers.{no_memory}
 use Rattle.syntax.specs.Tree.{ProgramTree}
 use Rattle.syntax.specs.Grammar.{IsProgram, program_nesting}
-use Rattle.syntax.specs.Nesting.{DeepProgram}
+use Rattle.syntax.specs.Places.{IsFirstUnfit, IsFirstDeep}
 use Rattle.checker_names.specs.declared.breach.Breach.{Breach}
 use Rattle.checker_names.specs.Breaches.{IsAmong, IsFirst}
 use Rattle.checker.specs.Programs.{program_breaches}
@@ -42,22 +42,23 @@ module _ (source : List ℕ) (ts : List Token) (lexed : Lexes 0 1 source (Ok (so
 
   pub unparsed : (version : Version) (f : SourceFault)
       → (f.number ≡ 10 → ((p : ProgramTree) → IsProgram (lexemes ts) p → ⊥))
-      → (f.number ≡ 5 → (DeepProgram 101 (lexemes ts) × ((p : ProgramTree) → IsProgram (lexemes ts) p
-      → 100 < program_nesting p)))
+      → (f.number ≡ 10 → IsFirstUnfit (lexemes ts) (λ place. place.line ≡ f.line))
+      → (f.number ≡ 5 → ((p : ProgramTree) → IsProgram (lexemes ts) p → 100 < program_nesting p))
+      → (f.number ≡ 5 → IsFirstDeep 100 (lexemes ts) (λ place. place.line ≡ f.line))
       → (f.number ≡ 5) ⊎ (f.number ≡ 10) ⊎ (f ≡ no_memory)
       → IsRefused version source f
-  unparsed version f grammar deep number = elim number [
-    | inl five ↦
-        let here = deep five in (
-          spec.too_deep (source_tokens ts) lexed (subst (DeepProgram 101) (sym (same_lexemes ts)) here.0)
-              (λ p parsed. here.1 p (program_of_tokens p parsed)) five,
-          tt,
-        )
+  unparsed version f grammar place deep deep_place number = elim number [
+    | inl five ↦ (
+      spec.too_deep (source_tokens ts) lexed (λ p parsed. deep five p (program_of_tokens p parsed))
+          (subst (λ ls. IsFirstDeep 100 ls (λ place. place.line ≡ f.line)) (sym (same_lexemes ts)) (deep_place five))
+          five,
+      tt,
+    )
     | inr others ↦ elim others [
       | inl ten ↦ (
         spec.not_in_grammar (source_tokens ts) lexed
             (λ p parsed. grammar ten p (program_of_tokens p parsed))
-            ten,
+            (subst (λ ls. IsFirstUnfit ls (λ place. place.line ≡ f.line)) (sym (same_lexemes ts)) (place ten)) ten,
         tt,
       )
       | inr refused ↦ without_memory version source f refused

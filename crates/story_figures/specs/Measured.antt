@@ -8,6 +8,7 @@ use Rattle.checker.specs.Programs.{program_breaches, resolve_program, IsCheckedO
 use Rattle.story_file.specs.Layout.{story_of}
 use Rattle.story.specs.Refused.{IsTreeOf, Refuses, tree_size_fault}
 use Rattle.story.specs.Refused.{too_large}
+use Rattle.source_temporaries.specs.Needs.{IsFirstGreatest, program_needs}
 use Rattle.story_figures.specs.declared.measuring.Figures.{Figures}
 use Rattle.story_figures.specs.Figures.{AreFiguresOfChecked, attributes_in, properties_in, counts_in}
 
@@ -27,6 +28,8 @@ pub record AreFiguresOf (version : Version) (source : List ℕ) (f : Figures) : 
   pub is_checked : IsCheckedOf tree checked
   pub figures : AreFiguresOfChecked version checked f
   pub counts : f.counts ≡ counts_in checked (attributes_in tree.directives) (properties_in tree.directives)
+  -- how many temporaries its expressions need at most, and where the first begins that needs so many
+  pub temporaries : IsFirstGreatest (program_needs tree) f.temporaries
   pub story : IsStoryOfTree version tree f.story
 
 -- a source is refused, but not as too large

@@ -8,6 +8,7 @@ ghost use Rattle.meaning.specs.CheckedSizes.{checked_size_fault};
 ghost use Rattle.meaning.specs.Limits.{most_objects};
 ghost use Rattle.meaning.specs.Resolved.{program_of};
 ghost use Rattle.story_file.specs.Written.{FitsStory};
+ghost use Rattle.source_temporaries.specs.Needs.{HasFew, IsFirstGreatest, program_needs};
 ghost use Rattle.story_figures.specs.Figures.{AreFiguresOfChecked, IsStoryOfChecked};
 ghost use Rattle.story_figures.specs.Figures.{ObjectHasFewWords, attributes_in, counts_in, properties_in};
 ghost use Rattle.story_figures.specs.Measured.{Measures};
@@ -17,6 +18,7 @@ use crate::routine_figures::{RoutineFigures, routines_of};
 use crate::table_bytes::TableBytes;
 use checker::{accepted_programs, check, printable_programs};
 use meaning::{Checked, test_sizes};
+use source_temporaries::{Temporaries, greatest_temporaries};
 use std::alloc::{AllocError, Global};
 use story_file::write_story;
 use story_sizes::small_sources_have_small_code;
@@ -65,27 +67,35 @@ pub struct Figures<'a> {
 
     pub counts: Counts,
 
+    /// The greatest number of temporaries that an expression needs, and the first place with it;
+    /// `None` where the source has no expression.
+    pub temporaries: Option<Temporaries>,
+
     /// The bytes of the story file, or the fault by which the source is refused as too large: E30,
     /// E31 or E32.
     pub story: Result<usize, SourceFault>,
 }
 
-/// What is counted in the tree of a source, before names are resolved.
+/// What is found in the tree of a source, before names are resolved.
 #[derive(Clone, Copy)]
-struct Written {
+struct TreeFigures {
     attributes: usize,
     properties: usize,
+    temporaries: Option<Temporaries>,
 }
 
-fn written_in(program: &Program<'_>) -> Written
+fn tree_figures(program: &Program<'_>) -> TreeFigures
     ensures attributes { result.attributes
         ≡ attributes_in (program_tree program.now).directives }
     ensures properties { result.properties
         ≡ properties_in (program_tree program.now).directives }
+    ensures temporaries { All HasFew (program_needs (program_tree program.now))
+        → IsFirstGreatest (program_needs (program_tree program.now)) result.temporaries }
 {
-    Written {
+    TreeFigures {
         attributes: attributes_in(&program.directives),
         properties: properties_in(&program.directives),
+        temporaries: greatest_temporaries(program),
     }
 }
 
@@ -109,13 +119,13 @@ fn story_bytes(
 }
 
 /// How many there are of what a program has.
-fn counts_of(checked: &Checked<'_>, written: Written) -> Counts
-    ensures { result ≡ counts_in checked.now written.attributes written.properties }
+fn counts_of(checked: &Checked<'_>, of_tree: TreeFigures) -> Counts
+    ensures { result ≡ counts_in checked.now of_tree.attributes of_tree.properties }
 {
     Counts {
         globals: checked.globals().len(),
-        attributes: written.attributes,
-        properties: written.properties,
+        attributes: of_tree.attributes,
+        properties: of_tree.properties,
         objects: checked.objects().len(),
         words: checked.keys().len(),
         abbreviations: checked.abbreviations().texts().len(),
@@ -128,7 +138,7 @@ fn figures_of<'a>(
     alloc: Global,
     checked: &Checked<'a>,
     version: Version,
-    written: Written,
+    of_tree: TreeFigures,
 ) -> Result<Figures<'a>, AllocError>
     requires words { All ObjectHasFewWords checked.now.objects }
     requires few { length checked.now.objects ≤ most_objects }
@@ -137,7 +147,8 @@ fn figures_of<'a>(
         → FitsStory version (program_of checked.now) }
     ensures checked { IfOk result (λ f. AreFiguresOfChecked version checked.now f) }
     ensures counts { IfOk result (λ f. f.counts
-        ≡ counts_in checked.now written.attributes written.properties) }
+        ≡ counts_in checked.now of_tree.attributes of_tree.properties) }
+    ensures temporaries { IfOk result (λ f. f.temporaries ≡ of_tree.temporaries) }
 {
     let tables = TableBytes::of(checked);
     let routines = routines_of(alloc, checked)?;
@@ -149,7 +160,8 @@ fn figures_of<'a>(
         code: routines.size,
         tables,
         table_total: tables.total(),
-        counts: counts_of(checked, written),
+        counts: counts_of(checked, of_tree),
+        temporaries: of_tree.temporaries,
         story,
     })
 }
@@ -177,8 +189,8 @@ pub fn measure<'a>(
     let program = parse(alloc, &tokens)?;
     // The tree names no token, and they may take more memory than it.
     drop(tokens);
-    let written = written_in(&program);
+    let of_tree = tree_figures(&program);
     let checked = check(alloc, program)?;
-    let found = figures_of(alloc, &checked, version, written)?;
+    let found = figures_of(alloc, &checked, version, of_tree)?;
     Ok(found)
 }

@@ -3,7 +3,8 @@
 use crate::measuring::{Counts, Figures};
 use crate::routine_figures::RoutineFigures;
 use crate::table_bytes::{FIXED_LENGTH, TableBytes};
-use meaning::limits::{MOST_GLOBALS, MOST_OBJECTS, MOST_PROPERTIES};
+use meaning::limits::{MOST_GLOBALS, MOST_OBJECTS, MOST_PROPERTIES, MOST_TEMPORARIES};
+use source_temporaries::Temporaries;
 use std::fmt::{self, Display, Formatter};
 use zcore::layout::ATTRIBUTE_COUNT;
 use zcore::{MOST_ABBREVIATIONS, Version};
@@ -95,6 +96,26 @@ impl Display for TableBytes {
     }
 }
 
+/// The greatest number of temporaries, with the line of the first place that needs so many.
+#[derive(Clone, Copy)]
+struct Greatest(Option<Temporaries>);
+
+impl Display for Greatest {
+    fn fmt<W: fmt::Write>(&self, f: &mut Formatter<W>) -> fmt::Result {
+        match self.0 {
+            None => {
+                let none = Line("temporaries of an expression", 0);
+                writeln!(f, "{none} of {MOST_TEMPORARIES}")
+            }
+            Some(greatest) => {
+                let number = Line("temporaries of an expression", greatest.number as u128);
+                let line = greatest.position.line;
+                writeln!(f, "{number} of {MOST_TEMPORARIES}, line {line}")
+            }
+        }
+    }
+}
+
 impl Figures<'_> {
     /// How many bytes stand in a story behind its tables and beside its routines.
     fn rest(&self, story: usize) -> u128 {
@@ -113,7 +134,8 @@ impl Display for Figures<'_> {
         for routine in &self.heaviest {
             write!(f, "{routine}")?;
         }
-        write!(f, "{}{}", self.counts, self.tables)?;
+        let temporaries = Greatest(self.temporaries);
+        write!(f, "{}{temporaries}{}", self.counts, self.tables)?;
         let tables = Line("bytes of these four", self.table_total);
         writeln!(f, "{tables} of {MOST_TABLE_BYTES}")?;
         let fixed = Line("bytes of header and tables of one length", FIXED_LENGTH);

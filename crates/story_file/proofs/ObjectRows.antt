@@ -1,5 +1,5 @@
 -- The rows of the object table of a program, one after another.
-use Rattle.std.proofs.Common.{◌≡◌, ◌≢◌, ◌⊎◌, inl, inr, ◌+◌, ◌<◌, ◌≤◌, ◌==◌, ℕ, zero, suc, List, [], ◌∷◌, ◌++◌, length}
+use Rattle.std.proofs.Common.{◌≡◌, ◌≢◌, ◌⊎◌, inl, inr, ◌+◌, ◌<◌, ◌==◌, ℕ, zero, suc, List, [], ◌∷◌, ◌++◌, length}
 use Rattle.std.proofs.Common.{drop, slice_index_or, if◌then◌else◌, refl, ap, sym, ◌∙◌, arith, append_assoc}
 use Rattle.std.specs.Prelude.{map}
 use Rattle.std.specs.Global.{Vec}
@@ -9,39 +9,11 @@ use Rattle.tables.specs.declared.row.ObjectRow.{ObjectRow}
 use Rattle.meaning.specs.declared.checked.CheckedObject.{CheckedObject}
 use Rattle.meaning.specs.Objects.{ObjectOf, object_at, no_object, standing_in, first_of, behind_in}
 use Rattle.meaning.specs.Places.{machine_character}
-use Rattle.meaning.specs.Resolved.{object_of, property_of}
+use Rattle.meaning.specs.Resolved.{CheckedProgram, object_of, program_of, property_of}
 use Rattle.meaning.proofs.ObjectLists.{if_same, if_other}
+use Rattle.code_object_memory.specs.Laws.{AreProper}
 use Rattle.code_object_memory.specs.Rows.{RowOf, view_of, row_of, rows_from, rows_of, attribute_byte, attribute_bytes}
-
--- Searching
-
--- past an object that stands elsewhere
-pub not_here : (p o : ℕ) (xs : List CheckedObject) (i : ℕ) (x : CheckedObject) → i < length xs
-    → x ≡ slice_index_or xs i x → x.parent ≢ p
-    → standing_in p o (drop i (map object_of xs)) ≡ standing_in p (suc o) (drop (i + 1) (map object_of xs))
-not_here p o [] i x lt is other = absurd (omega (arith, lt))
-not_here p o (y ∷ ys) zero x lt is other =
-    if_other (object_of y).parent p (o ∷ standing_in p (suc o) (map object_of ys))
-    (standing_in p (suc o) (map object_of ys)) (λ e. other (ap (λ z. z.parent) is ∙ e))
-not_here p o (y ∷ ys) (suc i) x lt is other =
-    let e : suc i + 1 ≡ suc (i + 1) = omega arith in
-    not_here p o ys i x (omega (arith, lt)) is other
-    ∙ ap (λ n. standing_in p (suc o) (drop n (map object_of (y ∷ ys)))) (sym e)
-
-pub here : (p o : ℕ) (xs : List CheckedObject) (i : ℕ) (x : CheckedObject) → i < length xs
-    → x ≡ slice_index_or xs i x → x.parent ≡ p → first_of (standing_in p o (drop i (map object_of xs))) ≡ o
-here p o [] i x lt is same = absurd (omega (arith, lt))
-here p o (y ∷ ys) zero x lt is same =
-    ap first_of (if_same (object_of y).parent p (o ∷ standing_in p (suc o) (map object_of ys))
-    (standing_in p (suc o) (map object_of ys)) (sym (ap (λ z. z.parent) is) ∙ same))
-here p o (y ∷ ys) (suc i) x lt is same = here p o ys i x (omega (arith, lt)) is same
-
-pub nowhere : (p o : ℕ) (xs : List CheckedObject) (i : ℕ) → length xs ≤ i
-    → first_of (standing_in p o (drop i (map object_of xs))) ≡ 0
-nowhere p o [] zero h = refl
-nowhere p o [] (suc i) h = refl
-nowhere p o (y ∷ ys) zero h = absurd (omega (arith, h))
-nowhere p o (y ∷ ys) (suc i) h = nowhere p o ys i (omega (arith, h))
+use Rattle.story_file.specs.Linked.{AreLinked, ArePlaced}
 
 -- Siblings
 
@@ -110,7 +82,7 @@ module _ (xs : List CheckedObject) (i : ℕ) (x : CheckedObject) (lt : i < lengt
     parent_is : (object_at objects (i + 1)).parent ≡ x.parent
     parent_is = ap (λ o. o.parent) (object_found xs i x lt is)
 
-    pub sibling_is : x.parent ≢ 0
+    sibling_is : x.parent ≢ 0
         → first_of (standing_in x.parent (i + 1 + 1) (drop (i + 1) objects)) ≡ (row_in xs (i + 1)).sibling
     sibling_is some =
         let at : 1 + i ≡ i + 1 = omega arith in
@@ -122,6 +94,19 @@ module _ (xs : List CheckedObject) (i : ℕ) (x : CheckedObject) (lt : i < lengt
         ∙ ap (λ n. behind_in n (standing_in x.parent 1 objects)) (sym at)
         ∙ behind_is x.parent 1 objects i within there
         ∙ ap (λ n. first_of (standing_in x.parent (n + 1) (drop (i + 1) objects))) at)
+
+    pub next_is : (first next : List ℕ) (w : ℕ) → AreLinked objects 0 first next → w ≡ slice_index_or next i 0
+        → x.parent ≢ 0 → w ≡ (row_in xs (i + 1)).sibling
+    next_is first next w links e some =
+        let there : (slice_index_or objects i no_object).parent ≡ x.parent =
+        ap (λ o. o.parent) (get_or-map object_of xs i x no_object lt ∙ ap object_of (sym is)) in
+        let within : i < length objects = omega (arith, lt, length-map xs object_of) in
+        e ∙ links.behind i (omega arith) within
+        ∙ ap (λ p. first_of (standing_in p (i + 1 + 1) (drop (i + 1) objects))) there ∙ sibling_is some
+
+    pub first_is : (first next : List ℕ) (w : ℕ) → AreLinked objects 0 first next → w ≡ slice_index_or first (i + 1) 0
+        → w ≡ first_of (standing_in (i + 1) 1 objects)
+    first_is first next w links e = e ∙ links.first_in (i + 1) (omega (arith, lt, length-map xs object_of))
 
     child_is : first_of (standing_in (i + 1) 1 objects) ≡ (row_in xs (i + 1)).child
     child_is = ap first_of (sym (if_other (i + 1) 0 [] (standing_in (i + 1) 1 objects) (λ e. omega (arith, e))))
@@ -135,6 +120,17 @@ module _ (xs : List CheckedObject) (i : ℕ) (x : CheckedObject) (lt : i < lengt
         let o = object_found xs i x lt is in
         made_same (ea ∙ ap (λ z. attribute_bytes z.attributes) (sym o)) (ep ∙ sym parent_is) es (ec ∙ child_is)
         (en ∙ ap (λ z. map machine_character z.name) (sym o)) (eps ∙ ap (λ z. z.properties) (sym o))
+
+-- each object of a program stands in an earlier one, or nowhere
+pub placed_in : (c : CheckedProgram) (objects : List CheckedObject) → objects ≡ c.objects
+    → AreProper (program_of c).objects → ArePlaced (map object_of objects)
+placed_in c objects same proper =
+    rw same (λ k lt.
+    let next : suc k ≡ k + 1 = omega arith in
+    let at : (slice_index_or (map object_of c.objects) k no_object).parent
+    ≡ (object_at (map object_of c.objects) (k + 1)).parent =
+    ap (λ n. (object_at (map object_of c.objects) n).parent) next in
+    omega (arith, at, (proper.each k lt).parent))
 
 -- the bytes of attributes
 pub attributes_are : (xs : List ℕ) (a b c d e f : ℕ) → a ≡ attribute_byte xs 0 → b ≡ attribute_byte xs 8

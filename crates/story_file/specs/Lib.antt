@@ -1,2 +1,3 @@
 pub mod Layout
+pub mod Linked
 pub mod Written

@@ -4,6 +4,7 @@
 mod below;
 mod header;
 mod high;
+mod links;
 mod objects;
 mod packed;
 mod words;

@@ -1,17 +1,19 @@
 //! The object table of a story (Z-Machine Standards Document 1.1, section 12).
 
-ghost use Rattle.std.specs.Prelude.{◌≡◌, ◌≤◌, ◌<◌, ◌+◌, IfOk, OnOk, drop, length, map};
+ghost use Rattle.std.specs.Prelude.{◌≡◌, ◌≤◌, ◌<◌, ◌+◌, IfOk, OnOk, length, map, slice_index_or};
 ghost use Rattle.std.specs.List.{All};
 ghost use Rattle.tables.specs.Rows.{HasShortName, IsRow, objects_length};
-ghost use Rattle.meaning.specs.Objects.{first_of, object_at, standing_in};
+ghost use Rattle.meaning.specs.Objects.{object_at};
 ghost use Rattle.meaning.specs.Places as places;
 ghost use Rattle.meaning.specs.Resolved.{object_of, program_of, property_of};
 ghost use Rattle.code_object_memory.specs.Rows as rows;
 ghost use Rattle.code_object_memory.specs.Rows.{rows_bytes, rows_of, view_of};
 ghost use Rattle.story_file.specs.Layout.{object_bytes};
+ghost use Rattle.story_file.specs.Linked.{AreLinked, ArePlaced};
 ghost use Rattle.story_file.specs.Written.{ObjectsFit};
 ghost use Rattle.code_encoding.specs.Bytes.{Adds};
 
+use crate::links::{Links, links_of};
 use meaning::{Checked, CheckedObject, machine_character, part_places};
 use std::alloc::{AllocError, Global};
 use tables::{ObjectRow, TableFault, write_objects};
@@ -55,24 +57,21 @@ fn attribute_byte(attributes: &[u8], first: u8) -> u8
         + flag(attributes, first + 7)
 }
 
-/// The number of the first object from an index on that stands in another, 0 where none does.
-fn first_in(objects: &[CheckedObject<'_>], from: usize, parent: u16) -> u16
-    requires { length objects.now ≤ 2000 }
-    ensures { result ≡ first_of (standing_in parent (from + 1)
-        (drop from (map object_of objects.now))) }
+/// The number at an index, 0 where there is none.
+fn number_at(numbers: &[u16], index: usize) -> u16
+    ensures { result ≡ slice_index_or numbers.now index 0 }
 {
-    for index in from..objects.len() {
-        if objects[index].parent == parent {
-            return (index + 1) as u16;
-        }
+    match numbers.get(index) {
+        Some(number) => *number,
+        None => 0,
     }
-    0
 }
 
 /// The number of the next object that stands where the object at an index does, 0 where none does.
-fn sibling(objects: &[CheckedObject<'_>], index: usize) -> u16
+fn sibling(objects: &[CheckedObject<'_>], links: &Links, index: usize) -> u16
     requires within { index < length objects.now }
-    requires few { length objects.now ≤ 2000 }
+    requires linked { AreLinked (map object_of objects.now) 0 links.now.first.items
+        links.now.next.items }
     ensures { result ≡ (rows.row_of (map object_of objects.now) (index + 1)
         (object_at (map object_of objects.now) (index + 1))).sibling }
 {
@@ -80,7 +79,7 @@ fn sibling(objects: &[CheckedObject<'_>], index: usize) -> u16
     if parent == 0 {
         return 0;
     }
-    first_in(objects, index + 1, parent)
+    number_at(&links.next, index)
 }
 
 /// The numbers and words of properties.
@@ -97,9 +96,15 @@ fn copied(alloc: Global, properties: &[(u8, Vec<u16>)]) -> Result<Vec<(u8, Vec<u
 }
 
 /// The row of the object at an index.
-fn row(alloc: Global, objects: &[CheckedObject<'_>], index: usize) -> Result<ObjectRow, AllocError>
+fn row(
+    alloc: Global,
+    objects: &[CheckedObject<'_>],
+    links: &Links,
+    index: usize,
+) -> Result<ObjectRow, AllocError>
     requires within { index < length objects.now }
-    requires few { length objects.now ≤ 2000 }
+    requires linked { AreLinked (map object_of objects.now) 0 links.now.first.items
+        links.now.next.items }
     ensures { IfOk result (λ r. view_of r ≡ rows.row_of (map object_of objects.now) (index + 1)
         (object_at (map object_of objects.now) (index + 1))) }
 {
@@ -117,8 +122,8 @@ fn row(alloc: Global, objects: &[CheckedObject<'_>], index: usize) -> Result<Obj
     Ok(ObjectRow {
         attributes,
         parent: object.parent,
-        sibling: sibling(objects, index),
-        child: first_in(objects, 0, (index + 1) as u16),
+        sibling: sibling(objects, links, index),
+        child: number_at(&links.first, index + 1),
         name,
         properties,
     })
@@ -126,12 +131,14 @@ fn row(alloc: Global, objects: &[CheckedObject<'_>], index: usize) -> Result<Obj
 
 /// The rows of objects.
 fn rows(alloc: Global, objects: &[CheckedObject<'_>]) -> Result<Vec<ObjectRow>, AllocError>
-    requires { length objects.now ≤ 2000 }
+    requires few { length objects.now ≤ 2000 }
+    requires placed { ArePlaced (map object_of objects.now) }
     ensures { IfOk result (λ v. map view_of v.items ≡ rows_of (map object_of objects.now)) }
 {
+    let links = links_of(alloc, objects)?;
     let mut rows = Vec::new(alloc);
     for index in 0..objects.len() {
-        rows.push(row(alloc, objects, index)?)?;
+        rows.push(row(alloc, objects, &links, index)?)?;
     }
     Ok(rows)
 }

@@ -1,4 +1,3 @@
-pub mod Opcodes
 pub mod Facts
 pub mod Verdict
 pub mod Noted

@@ -1,6 +1,6 @@
 -- What is known of the opcodes outside the profile that were found.
 use Rattle.std.specs.Prelude.{◌≡◌, List, Any}
-use Rattle.survey.specs.declared.opcode.Opcode.{Opcode}
+use Rattle.survey_opcodes.specs.declared.opcode.Opcode.{Opcode}
 use Rattle.survey.specs.declared.outside.Outside.{Outside}
 
 -- an opcode is among them

@@ -3,9 +3,9 @@
 ghost use Rattle.std.specs.Prelude.{◌≡◌, OnOk};
 ghost use Rattle.survey.specs.Noted.{IsNoted};
 
-use crate::opcode::Opcode;
 use std::alloc::AllocError;
 use std::fmt;
+use survey_opcodes::Opcode;
 
 /// An opcode outside the profile among the instructions that can be reached. `Display` writes it
 /// with its first address, as `random (VAR 7) at 1A2C, 3 times`.

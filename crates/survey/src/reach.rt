@@ -5,11 +5,9 @@ ghost use Rattle.zcore.specs.Header.{scale_of};
 ghost use Rattle.zcore.specs.Layout.{longest_story};
 ghost use Rattle.zcore.specs.Parts.{jump_target, branch_target};
 
-use crate::lead::{Lead, lead_at};
-use crate::opcode::Opcode;
 use crate::outside::{Outside, note};
-use crate::shape::Shape;
 use std::alloc::{AllocError, Global};
+use survey_opcodes::{Lead, Opcode, Shape, lead_at};
 use zcore::layout::{HEADER_LENGTH, MOST_LOCALS};
 use zcore::{Header, Operand, Operation, Version};
 

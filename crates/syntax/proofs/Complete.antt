@@ -1,13 +1,12 @@
 -- What has a tree is read as that tree, unless it is nested too deep.
-use Rattle.std.proofs.Common.{◌≡◌, ℕ, zero, suc, ◌<◌, ◌≤◌, max, true, false, List, [], ◌∷◌, length, Result, Ok, Err}
+use Rattle.std.proofs.Common.{◌≡◌, ℕ, zero, suc, ◌<◌, ◌≤◌, max, true, false, List, [], ◌∷◌, length, Result, Ok}
 use Rattle.std.proofs.Common.{refl, arith}
 use Rattle.syntax_lexer.specs.declared.token.Position.{Position}
 use Rattle.syntax_lexer.specs.declared.token.Word.TheVariants as w
 use Rattle.syntax_lexer.specs.Token.{Lexeme, end}
-use Rattle.syntax_parsing.specs.declared.error.Fault.{Fault}
-use Rattle.syntax_parsing.specs.declared.error.Fault.TheVariants.{Deep}
+use Rattle.syntax_parsing.specs.Stop.{Stop, deep, TooDeep}
 use Rattle.syntax_parsing.specs.Parse.{head, is_word, repeated}
-use Rattle.syntax_expressions.proofs.Limited.{Limited, then, at_once}
+use Rattle.syntax_expressions.proofs.Limited.{Limited, then, at_once, deep_sooner, deep_before}
 use Rattle.syntax_statements.proofs.PartsRead.{repeated_stop, repeated_next}
 use Rattle.syntax_directives.specs.Tree.{DirectiveTree}
 use Rattle.syntax_directives.specs.Grammar.{IsDirective, d_global, d_global_value, d_constant, d_array, d_attribute}
@@ -34,11 +33,11 @@ first_Directive (d_routine n a) = refl
 
 -- ---- entries
 
-short_Entry : {ts r : List Lexeme} {e : EntryTree} → IsEntry ts e r → length r < length ts
+pub short_Entry : {ts r : List Lexeme} {e : EntryTree} → IsEntry ts e r → length r < length ts
 short_Entry (e_directive a) = short_Directive a
 short_Entry (e_abbreviate a lt) = omega (arith, short_Texts a)
 
-first_Entry : {ts r : List Lexeme} {e : EntryTree} → IsEntry ts e r → goes_on (head ts) ≡ true
+pub first_Entry : {ts r : List Lexeme} {e : EntryTree} → IsEntry ts e r → goes_on (head ts) ≡ true
 first_Entry (e_directive a) = first_Directive a
 first_Entry (e_abbreviate a lt) = refl
 
@@ -64,17 +63,21 @@ nesting_next : (e : EntryTree) (es : List EntryTree)
 nesting_next (entry x) es = refl
 nesting_next (abbreviate xs) es = omega arith
 
-up : {A : Type 0} {R : Result (A × List Lexeme) Fault} {d m n : ℕ} {a : A} {r : List Lexeme} → Limited R d m a r
+up : {A : Type 0} {R : Result (A × List Lexeme) Stop} {d m n : ℕ} {a : A} {r : List Lexeme} → Limited R d m a r
     → m ≡ n → Limited R d n a r
 up p e = record { within = λ h. p.within (omega arith); beyond = λ h. p.beyond (omega arith) }
 
 -- ---- what is read
 
 module _ (d : ℕ) where
-  at_Entry : {ts r : List Lexeme} {e : EntryTree} → IsEntry ts e r → Limited (one_entry d ts) d (entry_nesting e) e r
+  pub at_Entry : {ts r : List Lexeme} {e : EntryTree} → IsEntry ts e r → Limited (one_entry d ts) d (entry_nesting e) e r
   unfolding one_entry
-  at_Entry (e_directive a) = rw (no_abbreviate a) (then _ (at_Directive d a) refl)
+  at_Entry (e_directive a) = rw (no_abbreviate a) (then _ (at_Directive d a) (omega arith) refl)
   at_Entry (e_abbreviate a lt) = at_once (rw (abbreviate_read a lt) refl)
+
+  pub short_Entries : {ts r : List Lexeme} {es : List EntryTree} → IsEntries ts es r → length r ≤ length ts
+  short_Entries entries_stop = omega arith
+  short_Entries (entries_next a b) = omega (arith, short_Entry a, short_Entries b)
 
   turns_Entries : {ts : List Lexeme} {es : List EntryTree} {p : Position} → IsEntries ts es (end p ∷ [])
       → (n : ℕ) → length ts ≤ n → Limited (repeated goes_on (one_entry d) n ts) d
@@ -82,13 +85,13 @@ module _ (d : ℕ) where
   turns_Entries {p = p} entries_stop n le = repeated_stop goes_on (one_entry d) d n (end p ∷ []) refl
   turns_Entries (entries_next a b) zero le = absurd (omega (arith, short_Entry a))
   turns_Entries {ts} (entries_next {e = e} {es = es} a b) (suc n) le = up
-      (repeated_next goes_on (one_entry d) d n ts (first_Entry a) (at_Entry a)
+      (repeated_next goes_on (one_entry d) d n ts (first_Entry a) (at_Entry a) (short_Entries b)
       (turns_Entries b n (omega (arith, short_Entry a)))) (nesting_next e es)
 
   at_Entries : {es : List EntryTree} {p : Position} (ts : List Lexeme) → IsEntries ts es (end p ∷ [])
       → Limited (entries d ts) d (directives_nesting (directives_of es)) (parts_of es) (end p ∷ [])
   unfolding entries all_entries
-  at_Entries ts a = then _ (turns_Entries a (length ts) (omega arith)) refl
+  at_Entries ts a = then _ (turns_Entries a (length ts) (omega arith)) (omega arith) refl
 
 -- ---- programs
 
@@ -98,6 +101,6 @@ unfolding program
 within d {ts} (program_is a) le = rw ((at_Entries d ts a).within le) refl
 
 pub beyond : (d : ℕ) {ts : List Lexeme} {p : ProgramTree} → IsProgram ts p → d < program_nesting p
-    → program d ts ≡ Err Deep
+    → TooDeep 0 (program d ts)
 unfolding program
-beyond d {ts} (program_is a) lt = rw ((at_Entries d ts a).beyond lt) refl
+beyond d {ts} (program_is a) lt = deep_sooner (deep_before _ ((at_Entries d ts a).beyond lt)) (omega arith)

@@ -5,7 +5,7 @@ use Rattle.std.proofs.Common.{append_assoc, Result, Ok, Err, refl, sym, ap, ◌�
 use Rattle.std.specs.Prelude.{map}
 use Rattle.syntax_lexer.specs.declared.token.Word.TheVariants as w
 use Rattle.syntax_lexer.specs.Token.{Lexeme}
-use Rattle.syntax_parsing.specs.declared.error.Fault.{Fault}
+use Rattle.syntax_parsing.specs.Stop.{Stop}
 use Rattle.syntax_parsing.specs.declared.error.ParseError.{ParseError}
 use Rattle.syntax_parsing.specs.declared.error.ParseError.TheVariants as errors
 use Rattle.syntax_parsing.specs.Parse.{◌>>=◌, Fails, head, tail, is_word, as_long, repeated}
@@ -14,7 +14,7 @@ use Rattle.syntax_directives.specs.Parse.{abbreviate_behind, directive}
 use Rattle.syntax.specs.Tree.{EntryTree, entry, abbreviate, directives_of, abbreviations_of}
 use Rattle.syntax.specs.Parse.{Parts, goes_on, texts_more, one_entry, directive_more, one_more}
 
-abbrev pub gathered : Parts → Result (List EntryTree × List Lexeme) Fault → Result (Parts × List Lexeme) Fault
+abbrev pub gathered : Parts → Result (List EntryTree × List Lexeme) Stop → Result (Parts × List Lexeme) Stop
 gathered p r = r >>= λ x. Ok ((p.0 ++ directives_of x.0, p.1 ++ abbreviations_of x.0), x.1)
 
 append_none : {A : Type 0} (xs : List A) → xs ++ [] ≡ xs
@@ -39,7 +39,7 @@ added p (abbreviate new) = (p.0, p.1 ++ new)
 gathered_last : (p : Parts) (ts : List Lexeme) → gathered p (Ok ([], ts)) ≡ Ok (p, ts)
 gathered_last p ts = ap (λ z. Ok ((z, p.1 ++ []), ts)) (append_none p.0) ∙ ap (λ z. Ok ((p.0, z), ts)) (append_none p.1)
 
-gathered_more : (p : Parts) (e : EntryTree) (r : Result (List EntryTree × List Lexeme) Fault)
+gathered_more : (p : Parts) (e : EntryTree) (r : Result (List EntryTree × List Lexeme) Stop)
     → gathered p (r >>= λ y. Ok (e ∷ y.0, y.1)) ≡ gathered (added p e) r
 gathered_more p (entry d) (Ok y) =
     ap (λ z. Ok ((z, p.1 ++ abbreviations_of y.0), y.1)) (sym (append_assoc p.0 (d ∷ []) (directives_of y.0)))
@@ -50,27 +50,27 @@ gathered_more p e (Err f) = refl
 -- ---- one entry
 
 module _ (p : Parts) where
-  abbrev with_entry : EntryTree × List Lexeme → Result (Parts × List Lexeme) Fault
+  abbrev with_entry : EntryTree × List Lexeme → Result (Parts × List Lexeme) Stop
   with_entry e = Ok (added p e.0, e.1)
 
-  abbrev of_directive : DirectiveTree × List Lexeme → Result (EntryTree × List Lexeme) Fault
+  abbrev of_directive : DirectiveTree × List Lexeme → Result (EntryTree × List Lexeme) Stop
   of_directive x = Ok (entry x.0, x.1)
 
-  abbrev with_directive : DirectiveTree × List Lexeme → Result (Parts × List Lexeme) Fault
+  abbrev with_directive : DirectiveTree × List Lexeme → Result (Parts × List Lexeme) Stop
   with_directive x = Ok ((p.0 ++ x.0 ∷ [], p.1), x.1)
 
-  by_directive : (R : Result (DirectiveTree × List Lexeme) Fault)
+  by_directive : (R : Result (DirectiveTree × List Lexeme) Stop)
       → (R >>= with_directive) ≡ ((R >>= of_directive) >>= with_entry)
   by_directive (Ok x) = refl
   by_directive (Err f) = refl
 
-  abbrev of_texts : List TextTree × List Lexeme → Result (EntryTree × List Lexeme) Fault
+  abbrev of_texts : List TextTree × List Lexeme → Result (EntryTree × List Lexeme) Stop
   of_texts xs = Ok (abbreviate xs.0, xs.1)
 
-  abbrev with_texts : List TextTree × List Lexeme → Result (Parts × List Lexeme) Fault
+  abbrev with_texts : List TextTree × List Lexeme → Result (Parts × List Lexeme) Stop
   with_texts xs = Ok ((p.0, p.1 ++ xs.0), xs.1)
 
-  by_texts : (R : Result (List TextTree × List Lexeme) Fault)
+  by_texts : (R : Result (List TextTree × List Lexeme) Stop)
       → (R >>= with_texts) ≡ ((R >>= of_texts) >>= with_entry)
   by_texts (Ok xs) = refl
   by_texts (Err f) = refl
@@ -104,13 +104,13 @@ module _ (d : ℕ) where
   entries_done n p ts g = ap (gathered p) (stopped n ts g) ∙ gathered_last p ts
 
   -- the entries behind one, with it; and those behind what was read before
-  abbrev behind_entry : ℕ → EntryTree × List Lexeme → Result (List EntryTree × List Lexeme) Fault
+  abbrev behind_entry : ℕ → EntryTree × List Lexeme → Result (List EntryTree × List Lexeme) Stop
   behind_entry n e = repeated goes_on (one_entry d) n e.1 >>= λ y. Ok (e.0 ∷ y.0, y.1)
 
-  abbrev behind_parts : ℕ → Parts × List Lexeme → Result (Parts × List Lexeme) Fault
+  abbrev behind_parts : ℕ → Parts × List Lexeme → Result (Parts × List Lexeme) Stop
   behind_parts n x = gathered x.0 (repeated goes_on (one_entry d) n x.1)
 
-  turned : (n : ℕ) (p : Parts) (R : Result (EntryTree × List Lexeme) Fault)
+  turned : (n : ℕ) (p : Parts) (R : Result (EntryTree × List Lexeme) Stop)
       → gathered p (R >>= behind_entry n) ≡ ((R >>= with_entry p) >>= behind_parts n)
   turned n p (Ok e) = gathered_more p e.0 (repeated goes_on (one_entry d) n e.1)
   turned n p (Err f) = refl
@@ -128,7 +128,7 @@ module _ (d : ℕ) where
   entries_more n i p q ts r lt g h = turn n i p ts lt g ∙ rw h refl
 
   pub entries_fail : (e : ParseError) (n i : ℕ) (p : Parts) (ts : List Lexeme)
-      (total : Result (Parts × List Lexeme) Fault) → i < n → goes_on (head ts) ≡ true → Fails e (one_more d p ts)
+      (total : Result (Parts × List Lexeme) Stop) → i < n → goes_on (head ts) ≡ true → Fails e (one_more d p ts)
       → gathered p (repeated goes_on (one_entry d) (n - i) ts) ≡ total → Fails e total
   entries_fail errors.Memory n i p ts total lt g h so_far = tt
   entries_fail (errors.Fault f count) n i p ts total lt g h so_far = sym so_far ∙ turn n i p ts lt g ∙ rw h refl

@@ -5,3 +5,9 @@ pub mod Main
 pub mod Printable
 pub mod Weighed
 mod Samples
+pub mod Suffixes
+pub mod EntriesFollow
+pub mod FirstUnfit
+pub mod FirstDeep
+pub mod Placing
+mod PlaceSamples

@@ -17,20 +17,20 @@ use Rattle.syntax_directives.proofs.Sound.{directive_judged}
 use Rattle.syntax.specs.Tree.{EntryTree, entry, abbreviate, directives_of}
 use Rattle.syntax.specs.Grammar.{e_abbreviate, IsEntry, e_directive, IsEntries, entries_stop, entries_next}
 use Rattle.syntax.specs.Grammar.{directives_nesting}
-use Rattle.syntax.specs.Nesting.{DeepProgram, deep_program_first, deep_program_next}
+use Rattle.syntax.specs.Nesting.{DeepEntries, deep_entries_first, deep_entries_next}
 use Rattle.syntax.specs.Parse.{goes_on, Parts, parts_of, one_entry, all_entries, entries}
 
 -- ---- abbreviations
 
 abbreviate_judged : (p : Position) (ts : List Lexeme)
-    → Judged (λ xs r. IsEntry (reserved w.Abbreviate p ∷ ts) (abbreviate xs) r) ⊥ (abbreviate_behind ts)
+    → Judged (λ xs r. IsEntry (reserved w.Abbreviate p ∷ ts) (abbreviate xs) r) (λ i. ⊥) (abbreviate_behind ts)
 unfolding abbreviate_behind
 abbreviate_judged p ts = judged_then _ (texts_judged ts)
     (λ xs m l. judged_after (expect s.Semicolon m) _
     (λ r e. judged_read xs r
     (e_abbreviate (subst (λ v. IsTexts ts xs v) (expect_ok s.Semicolon m r e) l.0) l.1))
-    (λ e. expect_not_deep s.Semicolon m e))
-    (λ z. z)
+    (λ i e. absurd (expect_not_deep s.Semicolon m i e)))
+    (λ i z. z)
 
 -- ---- entries
 
@@ -57,27 +57,27 @@ module _ (d : ℕ) where
         subst (λ v. IsEntry v (abbreviate xs) r) (sym (at_word w.Abbreviate ts is)) h,
         omega arith,
       ))
-      (λ z. absurd z))
+      (λ i z. absurd z))
       (λ is. judged_then _ (directive_judged d ts)
-      (λ x r h. judged_read (entry x) r (e_directive h.0, omega (arith, h.1))) (λ z. z))
+      (λ x r h. judged_read (entry x) r (e_directive h.0, omega (arith, h.1))) (λ i z. z))
 
   all_entries_judged : (ts : List Lexeme)
-      → Judged (λ es r. IsEntries ts es r × (directives_nesting (directives_of es) ≤ d)) (DeepProgram (suc d) ts)
+      → Judged (λ es r. IsEntries ts es r × (directives_nesting (directives_of es) ≤ d)) (DeepEntries (suc d) ts)
       (all_entries d ts)
   unfolding all_entries
   all_entries_judged ts =
       repeated_judged goes_on (one_entry d)
       (λ us e r. IsEntry us e r × (directives_nesting (directives_of (e ∷ [])) ≤ d))
       (λ us es r. IsEntries us es r × (directives_nesting (directives_of es) ≤ d)) (DeepDirective (suc d))
-      (DeepProgram (suc d))
+      (DeepEntries (suc d))
       (λ r. (entries_stop, omega arith))
       (λ us e m es r q l. (entries_next q.0 l.0, nests_no_deeper d e es q.1 l.1))
-      (λ us e x. deep_program_first x)
-      (λ us e m q z. deep_program_next q.0 z)
+      (λ us v e x. deep_entries_first x)
+      (λ us e m v q z. deep_entries_next q.0 z)
       entry_judged (length ts) ts
 
-  pub entries_judged : (ts : List Lexeme) → Judged (λ x r. Entered d ts x r) (DeepProgram (suc d) ts) (entries d ts)
+  pub entries_judged : (ts : List Lexeme) → Judged (λ x r. Entered d ts x r) (DeepEntries (suc d) ts) (entries d ts)
   unfolding entries
   entries_judged ts = judged_then _ (all_entries_judged ts)
       (λ es r h. judged_read (parts_of es) r (record { all = es; is = refl; derives = h.0; nests = h.1 }))
-      (λ z. z)
+      (λ i z. z)

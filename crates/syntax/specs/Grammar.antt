@@ -1,6 +1,6 @@
 -- The grammar of programs: a relation between the tokens from a place on, the tree, and the tokens after it, with one
 -- case for each alternative.
-use Rattle.std.specs.Prelude.{◌<◌, ◌+◌, ℕ, max, List, [], ◌∷◌, ◌++◌, length}
+use Rattle.std.specs.Prelude.{◌<◌, ℕ, max, List, [], ◌∷◌, ◌++◌, length}
 use Rattle.syntax_lexer.specs.declared.token.Position.{Position}
 use Rattle.syntax_lexer.specs.declared.token.Sign.TheVariants as s
 use Rattle.syntax_lexer.specs.declared.token.Word.TheVariants as w

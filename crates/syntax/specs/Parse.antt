@@ -5,8 +5,7 @@ use Rattle.std.specs.Prelude.{Result, Ok, Err}
 use Rattle.syntax_lexer.specs.declared.token.Position.{Position}
 use Rattle.syntax_lexer.specs.declared.token.Word.TheVariants as w
 use Rattle.syntax_lexer.specs.Token.{Lexeme, end}
-use Rattle.syntax_parsing.specs.declared.error.Fault.{Fault}
-use Rattle.syntax_parsing.specs.declared.error.Fault.TheVariants.{Grammar}
+use Rattle.syntax_parsing.specs.Stop.{Stop, unfit}
 use Rattle.syntax_parsing.specs.Parse.{Parse, ◌>>=◌, head, tail, is_word, repeated}
 use Rattle.syntax_directives.specs.Tree.{TextTree, DirectiveTree, directive_tree, text_tree}
 use Rattle.syntax_directives.specs.Grammar.{weight_of}
@@ -40,9 +39,9 @@ parts_in found = (map directive_tree found.directives.items, map text_tree found
 unfoldable pub texts_more : Parts → Parse Parts
 texts_more x ts = abbreviate_behind (tail ts) >>= λ new. Ok ((x.0, x.1 ++ new.0), new.1)
 
--- a program of these parts and all of these tokens
-abbrev pub whole : List Lexeme → Parts → Option Position → Result ProgramTree Fault
-whole ts x (Some p) = Ok
+-- a program of these parts and all of these tokens, of which those were left behind the parts
+abbrev pub whole : List Lexeme → Parts → List Lexeme → Option Position → Result ProgramTree Stop
+whole ts x left (Some p) = Ok
     (record {
       directives = x.0;
       abbreviations = x.1;
@@ -50,7 +49,7 @@ whole ts x (Some p) = Ok
       weight = weight_of ts;
       words = dictionary_words ts;
     })
-whole ts x None = Err Grammar
+whole ts x left None = Err (unfit (length left))
 
 -- where d nestings may be opened in a statement
 module _ (d : ℕ) where
@@ -74,5 +73,5 @@ module _ (d : ℕ) where
   unfoldable pub entries : Parse Parts
   entries ts = all_entries ts >>= λ es. Ok (parts_of es.0, es.1)
 
-  unfoldable pub program : List Lexeme → Result ProgramTree Fault
-  program ts = entries ts >>= λ x. whole ts x.0 (end_alone x.1)
+  unfoldable pub program : List Lexeme → Result ProgramTree Stop
+  program ts = entries ts >>= λ x. whole ts x.0 x.1 (end_alone x.1)

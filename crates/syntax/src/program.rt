@@ -1,14 +1,16 @@
 //! Whole programs, read from tokens.
 
-ghost use Rattle.std.specs.Prelude.{◌≡◌, ◌≤◌, ◌<◌, ◌⊎◌, ◌∷◌, [], IfOk, IfErr, List};
+ghost use Rattle.std.specs.Prelude.{◌≡◌, ◌≤◌, ◌<◌, ◌⊎◌, ◌∷◌, [], IfOk, IfErr, List, Some};
 ghost use Rattle.syntax_lexer.specs.FaultNumbers.{no_memory};
 ghost use Rattle.syntax_lexer.specs.Placed.{unplaced};
 ghost use Rattle.syntax_lexer.specs.Token.{Lexeme, lexeme, lexemes};
+ghost use Rattle.syntax_lexer.specs.Tokens.{EndsOnce};
 ghost use Rattle.syntax_parsing.specs.Parse.{Gives};
 ghost use Rattle.syntax_parsing.specs.Returned.{ahead};
 ghost use Rattle.syntax.specs.Answers.{IfNumber, AnswersProgram};
 ghost use Rattle.syntax.specs.Grammar.{IsProgram, program_nesting};
 ghost use Rattle.syntax.specs.Nesting.{DeepProgram};
+ghost use Rattle.syntax.specs.Places.{IsFirstUnfit, IsFirstDeep};
 ghost use Rattle.syntax.specs.Tree.{ProgramTree, program_tree};
 ghost use Rattle.syntax.specs.Parse as spec;
 ghost use Rattle.syntax.specs.Parse.{parts_in};
@@ -53,7 +55,7 @@ fn whole<'t, 'a>(
     tokens: &[Token<'a>],
 ) -> Result<Program<'a>, ParseError>
     ensures { Gives program_tree result (spec.whole (lexemes tokens.now) (parts_in found.entry)
-        (spec.end_alone (ahead parser.now))) }
+        (ahead parser.now) (spec.end_alone (ahead parser.now))) }
 {
     let Some(end) = end_alone(parser.tokens) else {
         return Err(fault_at(Fault::Grammar, parser.tokens));
@@ -98,9 +100,9 @@ fn program<'a>(alloc: Global, tokens: &[Token<'a>]) -> Result<Program<'a>, Parse
 ///
 /// # Errors
 ///
-/// - E10: the tokens are not in the grammar. The line is that of the first with which no derivation
-///   goes on.
-/// - E05: a token stands more than 100 nestings deep. The line is that token's.
+/// - E10: the tokens are not in the grammar. The line is that of the first with which no program
+///   begins.
+/// - E05: a token stands more than 100 nestings deep. The line is that of the first that does.
 /// - E99, with line 0: a growth of memory is refused.
 pub fn parse<'a>(alloc: Global, tokens: &[Token<'a>]) -> Result<Program<'a>, SourceFault>
     // What is read derives.
@@ -112,8 +114,12 @@ pub fn parse<'a>(alloc: Global, tokens: &[Token<'a>]) -> Result<Program<'a>, Sou
     // When each fault comes.
     ensures grammar { IfNumber result 10
         ((p : ProgramTree) → IsProgram (lexemes tokens.now) p → ⊥) }
+    ensures place { IfErr result (λ f. f.number ≡ 10 → EndsOnce (lexemes tokens.now)
+        → IsFirstUnfit (lexemes tokens.now) (λ p. p.line ≡ f.line)) }
     ensures deep { IfNumber result 5 (DeepProgram 101 (lexemes tokens.now)
         × ((p : ProgramTree) → IsProgram (lexemes tokens.now) p → 100 < program_nesting p)) }
+    ensures deep_place { IfErr result (λ f. f.number ≡ 5
+        → IsFirstDeep 100 (lexemes tokens.now) (λ p. p.line ≡ f.line)) }
     ensures numbers { IfErr result (λ f. (f.number ≡ 5) ⊎ (f.number ≡ 10) ⊎ (f ≡ no_memory)) }
 {
     match parse_placed(alloc, tokens) {
@@ -134,8 +140,14 @@ pub fn parse_placed<'a>(alloc: Global, tokens: &[Token<'a>]) -> Result<Program<'
         → AnswersProgram (unplaced result) p }
     ensures grammar { IfNumber (unplaced result) 10
         ((p : ProgramTree) → IsProgram (lexemes tokens.now) p → ⊥) }
+    ensures place { IfErr result (λ f. f.fault.number ≡ 10 → EndsOnce (lexemes tokens.now)
+        → IsFirstUnfit (lexemes tokens.now)
+        (λ p. (p.line ≡ f.fault.line) × (f.offset ≡ Some p.offset))) }
     ensures deep { IfNumber (unplaced result) 5 (DeepProgram 101 (lexemes tokens.now)
         × ((p : ProgramTree) → IsProgram (lexemes tokens.now) p → 100 < program_nesting p)) }
+    ensures deep_place { IfErr result (λ f. f.fault.number ≡ 5
+        → IsFirstDeep 100 (lexemes tokens.now)
+        (λ p. (p.line ≡ f.fault.line) × (f.offset ≡ Some p.offset))) }
     ensures numbers { IfErr (unplaced result) (λ f. (f.number ≡ 5) ⊎ (f.number ≡ 10)
         ⊎ (f ≡ no_memory)) }
 {

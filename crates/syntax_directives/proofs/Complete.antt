@@ -5,7 +5,7 @@ use Rattle.syntax_lexer.specs.declared.token.Sign.TheVariants as s
 use Rattle.syntax_lexer.specs.declared.token.Word.TheVariants as w
 use Rattle.syntax_lexer.specs.Token.{Lexeme, name, reserved, sign}
 use Rattle.syntax_trees.specs.Tree.{NameTree}
-use Rattle.syntax_parsing.specs.declared.error.Fault.{Fault}
+use Rattle.syntax_parsing.specs.Stop.{Stop}
 use Rattle.syntax_parsing.specs.Parse.{head, expect}
 use Rattle.syntax_expressions.proofs.Limited.{Limited, then, at_once}
 use Rattle.syntax_expressions.specs.Parse.{expect_name}
@@ -114,7 +114,7 @@ module _ (d : ℕ) where
       }) r
   unfolding routine_at expect_name expect
   step_routine p q o l i n ns xs m k r e a =
-      let made : StatementTrees → Result (RoutineTree × List Lexeme) Fault = λ ys. Ok (
+      let made : StatementTrees → Result (RoutineTree × List Lexeme) Stop = λ ys. Ok (
         record {
           name = record { text = n; position = q };
           locals = ns;
@@ -123,13 +123,13 @@ module _ (d : ℕ) where
         },
         r,
       ) in
-      rw e (then _ a (ap made (listed_back xs)))
+      rw e (then _ a (omega arith) (ap made (listed_back xs)))
 
   step_directive : {j : ℕ} {x : RoutineTree} {r : List Lexeme} (p : Position) (m : List Lexeme)
       → Limited (routine_at d (sign s.OpenBracket p ∷ m)) d j x r
       → Limited (directive d (sign s.OpenBracket p ∷ m)) d j (routine x) r
   unfolding directive
-  step_directive p m a = then _ a refl
+  step_directive p m a = then _ a (omega arith) refl
 
   pub at_Directive : {ts r : List Lexeme} {x : DirectiveTree} → IsDirective ts x r
       → Limited (directive d ts) d (directive_nesting x) x r

@@ -6,7 +6,7 @@ use Rattle.syntax_lexer.specs.declared.token.Sign.{Sign}
 use Rattle.syntax_lexer.specs.declared.token.Sign.TheVariants as s
 use Rattle.syntax_lexer.specs.Token.{Lexeme, name, sign, lexeme, lexemes, position_of}
 use Rattle.syntax_trees.specs.Tree.{NameTree}
-use Rattle.syntax_parsing.specs.declared.error.Fault.{Fault}
+use Rattle.syntax_parsing.specs.Stop.{Stop, deep, unfit}
 use Rattle.syntax_parsing.specs.Parse.{◌>>=◌, head, tail, expect}
 use Rattle.syntax_expressions.proofs.Judged.{Judged, judged_read, judged_then, judged_after}
 use Rattle.syntax_expressions.proofs.Tokens.{expect_ok, expect_not_deep}
@@ -55,26 +55,26 @@ ends_weight ts us e = omega (arith, weight_split e.0 ts us e.1)
 
 -- ---- one part after another
 
-after : (t : Lexeme) (m r : List Lexeme) → EndsWith m r → EndsWith (t ∷ m) r
+pub after : (t : Lexeme) (m r : List Lexeme) → EndsWith m r → EndsWith (t ∷ m) r
 after t m r e = (t ∷ e.0, ap (λ u. t ∷ u) e.1)
 
-further_on : (ts m r : List Lexeme) → EndsWith ts m → EndsWith m r → EndsWith ts r
+pub further_on : (ts m r : List Lexeme) → EndsWith ts m → EndsWith m r → EndsWith ts r
 further_on ts m r a b = (a.0 ++ b.0, a.1 ∙ ap (λ u. a.0 ++ u) b.1 ∙ sym (append_assoc a.0 b.0 r))
 
 behind_sign : (s : Sign) (ts r : List Lexeme) → expect s ts ≡ Ok r → EndsWith ts r
 behind_sign s ts r e = (sign s (position_of (head ts)) ∷ [], expect_ok s ts r e)
 
-behind_names : {ts r : List Lexeme} {ns : List NameTree} → IsNames ts ns r → EndsWith ts r
+pub behind_names : {ts r : List Lexeme} {ns : List NameTree} → IsNames ts ns r → EndsWith ts r
 behind_names l = let a = spelled_Names l in (a.front, a.at)
 
-behind_statements : {ts r : List Lexeme} {xs : StatementTrees} → IsSs ts xs r → EndsWith ts r
+pub behind_statements : {ts r : List Lexeme} {xs : StatementTrees} → IsSs ts xs r → EndsWith ts r
 behind_statements l = let a = spelled_Ss l in (a.front, a.at)
 
 behind_first : (ts r : List Lexeme) → EndsWith (tail ts) r → EndsWith ts r
 behind_first [] r e = e
 behind_first (t ∷ ts) r e = after t ts r e
 
-heading_ends : (ts : List Lexeme) → Judged (λ h r. EndsWith ts r) ⊥ (routine_heading ts)
+heading_ends : (ts : List Lexeme) → Judged (λ h r. EndsWith ts r) (λ i. ⊥) (routine_heading ts)
 unfolding routine_heading
 heading_ends ts =
     judged_then _ (name_judged ts)
@@ -83,27 +83,37 @@ heading_ends ts =
     (λ m e. judged_read _ m
     (further_on ts a m (name n.text n.position ∷ [], q)
     (further_on a b m (behind_names l) (behind_sign s.Semicolon b m e))))
-    (λ e. absurd (expect_not_deep s.Semicolon b e)))
-    (λ x. x))
-    (λ x. x)
+    (λ i e. absurd (expect_not_deep s.Semicolon b i e)))
+    (λ i x. x))
+    (λ i x. x)
 
 closed_ends : (ts r : List Lexeme) → closed ts ≡ Ok r → EndsWith ts r
 unfolding closed
 closed_ends ts r e = go (expect s.CloseBracket ts) refl e
   where
-    go : (R : Result (List Lexeme) Fault) → expect s.CloseBracket ts ≡ R → (R >>= λ u. expect s.Semicolon u) ≡ Ok r
+    go : (R : Result (List Lexeme) Stop) → expect s.CloseBracket ts ≡ R → (R >>= λ u. expect s.Semicolon u) ≡ Ok r
         → EndsWith ts r
     go (Ok u) g h = further_on ts u r (behind_sign s.CloseBracket ts u g) (behind_sign s.Semicolon u r h)
     go (Err f) g h = absurd cc
 
-body_ends : (d : ℕ) (ts : List Lexeme) → Judged (λ xs r. EndsWith ts r) (Unit {0}) (routine_body d ts)
+closed_not_deep : (ts : List Lexeme) (k : ℕ) → closed ts ≡ Err (deep k) → ⊥
+unfolding closed
+closed_not_deep ts k e = go (expect s.CloseBracket ts) refl e
+  where
+    go : (R : Result (List Lexeme) Stop) → expect s.CloseBracket ts ≡ R
+        → (R >>= λ u. expect s.Semicolon u) ≡ Err (deep k) → ⊥
+    go (Ok u) g h = expect_not_deep s.Semicolon u k h
+    go (Err (unfit n)) g h = absurd cc
+    go (Err (deep n)) g h = expect_not_deep s.CloseBracket ts n g
+
+body_ends : (d : ℕ) (ts : List Lexeme) → Judged (λ xs r. EndsWith ts r) (λ i. Unit {0}) (routine_body d ts)
 unfolding routine_body
 body_ends d ts =
     judged_then _ (judged_Ss d ts)
     (λ xs u l. judged_after (closed u) _
     (λ r e. judged_read xs r (further_on ts u r (behind_statements l.0) (closed_ends u r e)))
-    (λ e. tt))
-    (λ x. tt)
+    (λ i e. absurd (closed_not_deep u i e)))
+    (λ i x. tt)
 
 pub routine_ends : (d : ℕ) (ts : List Lexeme) (h : NameTree × List NameTree) (m : List Lexeme)
     (xs : List StatementTree) (r : List Lexeme) → routine_heading (tail ts) ≡ Ok (h, m) → routine_body d m ≡ Ok (xs, r)

@@ -13,3 +13,5 @@ pub mod RoutineParts
 pub mod Complete
 pub mod Printable
 mod Samples
+pub mod DeepDirectives
+pub mod DeepEnds

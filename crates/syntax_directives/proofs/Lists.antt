@@ -18,15 +18,15 @@ use Rattle.syntax_directives.specs.Parse.{names, some_on, some_names, placed, va
 
 -- ---- names
 
-pub names_judged : (ts : List Lexeme) → Judged (λ ns r. IsNames ts ns r) ⊥ (names ts)
+pub names_judged : (ts : List Lexeme) → Judged (λ ns r. IsNames ts ns r) (λ i. ⊥) (names ts)
 unfolding names
 names_judged ts =
     repeated_judged is_name expect_name (λ us n r. us ≡ name n.text n.position ∷ r)
-    (λ us ns r. IsNames us ns r) (λ us. ⊥) (λ us. ⊥)
+    (λ us ns r. IsNames us ns r) (λ us i. ⊥) (λ us i. ⊥)
     (λ r. names_stop)
     (λ us n m ns r q l. subst (λ v. IsNames v (n ∷ ns) r) (sym q) (names_next l))
-    (λ us e x. x)
-    (λ us n m q x. x)
+    (λ us i e x. x)
+    (λ us n m i q x. x)
     name_judged (length ts) ts
 
 turns_Names : {ts r : List Lexeme} {ns : List NameTree} → IsNames ts ns r → is_name (head r) ≡ false → (n : ℕ)
@@ -49,13 +49,13 @@ short_Names (names_next a) = omega (arith, short_Names a)
 -- ---- names, at least one
 
 some_judged : {ts : List Lexeme} (ns : List NameTree) (r : List Lexeme) → IsNames ts ns r
-    → Judged (λ ms u. IsNames ts ms u × (0 < length ms)) ⊥ (some_on ns r)
+    → Judged (λ ms u. IsNames ts ms u × (0 < length ms)) (λ i. ⊥) (some_on ns r)
 some_judged [] r a = judged_grammar
 some_judged (n ∷ ns) r a = judged_read (n ∷ ns) r (a, omega arith)
 
-pub some_names_judged : (ts : List Lexeme) → Judged (λ ns r. IsNames ts ns r × (0 < length ns)) ⊥ (some_names ts)
+pub some_names_judged : (ts : List Lexeme) → Judged (λ ns r. IsNames ts ns r × (0 < length ns)) (λ i. ⊥) (some_names ts)
 unfolding some_names
-some_names_judged ts = judged_then _ (names_judged ts) (λ ns r a. some_judged ns r a) (λ x. x)
+some_names_judged ts = judged_then _ (names_judged ts) (λ ns r a. some_judged ns r a) (λ i x. x)
 
 some_read : (ns : List NameTree) (r : List Lexeme) → 0 < length ns → some_on ns r ≡ Ok (ns, r)
 some_read [] r lt = absurd (omega (arith, lt))
@@ -68,22 +68,22 @@ some_names_read {r} {ns} ts a lt e = rw (names_read ts a e) (some_read ns r lt)
 
 -- ---- values of arrays and properties
 
-pub placed_judged : (ts : List Lexeme) → Judged (λ v r. IsValue ts v r) ⊥ (placed ts)
+pub placed_judged : (ts : List Lexeme) → Judged (λ v r. IsValue ts v r) (λ i. ⊥) (placed ts)
 unfolding placed known_value
 placed_judged [] = judged_grammar
-placed_judged (t ∷ m) = judged_then _ (known_judged (t ∷ m)) (λ k r h. judged_read _ r (v_value h)) (λ x. x)
+placed_judged (t ∷ m) = judged_then _ (known_judged (t ∷ m)) (λ k r h. judged_read _ r (v_value h)) (λ i x. x)
 
-pub values_judged : (ts : List Lexeme) → Judged (λ vs r. IsValues ts vs r × (0 < length vs)) ⊥ (values ts)
+pub values_judged : (ts : List Lexeme) → Judged (λ vs r. IsValues ts vs r × (0 < length vs)) (λ i. ⊥) (values ts)
 unfolding values
 values_judged ts = judged_then _ (placed_judged ts)
     (λ v r h. judged_then _
-    (repeated_judged begins_value placed IsValue IsValues (λ us. ⊥) (λ us. ⊥)
+    (repeated_judged begins_value placed IsValue IsValues (λ us i. ⊥) (λ us i. ⊥)
     (λ u. values_stop)
     (λ us a m vs u q l. values_next q l)
-    (λ us e x. x)
-    (λ us a m q x. x)
-    placed_judged (length r) r) (λ vs u l. judged_read (v ∷ vs) u (values_next h l, omega arith)) (λ x. x))
-    (λ x. x)
+    (λ us i e x. x)
+    (λ us a m i q x. x)
+    placed_judged (length r) r) (λ vs u l. judged_read (v ∷ vs) u (values_next h l, omega arith)) (λ i x. x))
+    (λ i x. x)
 
 begins_Value : {ts r : List Lexeme} {v : ValueTree} → IsValue ts v r → begins_value (head ts) ≡ true
 begins_Value (v_value a) = begins_K a

@@ -4,7 +4,7 @@ use Rattle.std.specs.Prelude.{map}
 use Rattle.syntax_lexer.specs.Token.{Lexeme, name}
 use Rattle.syntax_trees.specs.declared.tree.Name.{Name}
 use Rattle.syntax_trees.specs.Tree.{name_tree}
-use Rattle.syntax_parsing.specs.declared.error.Fault.TheVariants.{Grammar}
+use Rattle.syntax_parsing.specs.Stop.{unfit}
 use Rattle.syntax_parsing.specs.Parse.{head, tail, repeated}
 use Rattle.syntax_parsing.proofs.Loops.{joined, repeated_more}
 use Rattle.syntax_expressions.specs.Parse.{is_name, expect_name}
@@ -20,12 +20,12 @@ names_more n i front ts x lt e = repeated_more name_tree is_name expect_name n i
 
 -- ---- names, at least one
 
-none_found : (xs : List Name) (r : List Lexeme) → length xs ≡ 0 → some_on (map name_tree xs) r ≡ Err Grammar
+none_found : (xs : List Name) (r : List Lexeme) → length xs ≡ 0 → some_on (map name_tree xs) r ≡ Err (unfit (length r))
 none_found [] r e = refl
 none_found (x ∷ xs) r e = absurd (omega (arith, e))
 
 pub no_names : (xs : List Name) (ts r : List Lexeme) → names ts ≡ Ok (map name_tree xs, r) → length xs ≡ 0
-    → some_names ts ≡ Err Grammar
+    → some_names ts ≡ Err (unfit (length r))
 unfolding some_names
 no_names xs ts r h e = rw h (none_found xs r e)
 

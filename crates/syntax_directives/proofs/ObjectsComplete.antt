@@ -6,7 +6,7 @@ use Rattle.syntax_lexer.specs.declared.token.Sign.TheVariants as s
 use Rattle.syntax_lexer.specs.declared.token.Word.TheVariants as w
 use Rattle.syntax_lexer.specs.Token.{Lexeme, name, reserved, sign}
 use Rattle.syntax_trees.specs.Tree.{NameTree}
-use Rattle.syntax_parsing.specs.declared.error.Fault.{Fault}
+use Rattle.syntax_parsing.specs.Stop.{Stop}
 use Rattle.syntax_parsing.specs.Parse.{◌>>=◌, head, is_sign, is_word, expect, as_long, repeated}
 use Rattle.syntax_expressions.specs.Parse.{is_name, expect_name}
 use Rattle.syntax_statement_parts.specs.Parse.{begins_value}
@@ -101,7 +101,7 @@ begins_Props : {ts r : List Lexeme} {xs : List PropertyTree} → IsProps ts xs r
 begins_Props (props_last (prop_values a lt)) = refl
 begins_Props (props_comma (prop_values a lt) b) = refl
 
-abbrev with_first : PropertyTree → List PropertyTree × List Lexeme → Result (List PropertyTree × List Lexeme) Fault
+abbrev with_first : PropertyTree → List PropertyTree × List Lexeme → Result (List PropertyTree × List Lexeme) Stop
 with_first x y = Ok (x ∷ y.0, y.1)
 
 turns_Props : {ts r : List Lexeme} {xs : List PropertyTree} → IsProps ts xs r → begins_value (head r) ≡ false

@@ -24,25 +24,25 @@ use Rattle.syntax_directives.proofs.Lists.{some_names_judged, short_Names, value
 
 -- ---- what is read derives
 
-arrow_judged : (ts : List Lexeme) → Judged (λ p r. ts ≡ sign s.Arrow p ∷ r) ⊥ (arrow ts)
+arrow_judged : (ts : List Lexeme) → Judged (λ p r. ts ≡ sign s.Arrow p ∷ r) (λ i. ⊥) (arrow ts)
 unfolding arrow
 arrow_judged ts =
     judged_after (expect s.Arrow ts) _
     (λ r e. judged_read (position_of (head ts)) r (expect_ok s.Arrow ts r e))
-    (λ e. absurd (expect_not_deep s.Arrow ts e))
+    (λ i e. absurd (expect_not_deep s.Arrow ts i e))
 
-arrows_judged : (ts : List Lexeme) → Judged (λ ps r. IsArrows ts ps r) ⊥ (arrows ts)
+arrows_judged : (ts : List Lexeme) → Judged (λ ps r. IsArrows ts ps r) (λ i. ⊥) (arrows ts)
 unfolding arrows
 arrows_judged ts =
-    repeated_judged (is_sign s.Arrow) arrow (λ us p r. us ≡ sign s.Arrow p ∷ r) (λ us ps r. IsArrows us ps r) (λ us. ⊥)
-    (λ us. ⊥)
+    repeated_judged (is_sign s.Arrow) arrow (λ us p r. us ≡ sign s.Arrow p ∷ r) (λ us ps r. IsArrows us ps r) (λ us i. ⊥)
+    (λ us i. ⊥)
     (λ r. arrows_stop)
     (λ us p m ps r q l. subst (λ v. IsArrows v (p ∷ ps) r) (sym q) (arrows_next l))
-    (λ us e x. x)
-    (λ us p m q x. x)
+    (λ us i e x. x)
+    (λ us p m i q x. x)
     arrow_judged (length ts) ts
 
-short_judged : (ts : List Lexeme) → Judged (λ x r. IsShortName ts x r) ⊥ (short ts)
+short_judged : (ts : List Lexeme) → Judged (λ x r. IsShortName ts x r) (λ i. ⊥) (short ts)
 unfolding short
 short_judged (text bytes p ∷ ts) = judged_read _ ts short_text
 short_judged ts = judged_read None ts short_none
@@ -53,7 +53,7 @@ data IsParent : List Position → List Lexeme → Option NameTree → List Lexem
   parent_named : {r : List Lexeme} {p : Position} {n : List ℕ}
       → IsParent [] (name n p ∷ r) (Some (record { text = n; position = p })) r
 
-parent_judged : (ps : List Position) (ts : List Lexeme) → Judged (λ x r. IsParent ps ts x r) ⊥ (parent ps ts)
+parent_judged : (ps : List Position) (ts : List Lexeme) → Judged (λ x r. IsParent ps ts x r) (λ i. ⊥) (parent ps ts)
 unfolding parent
 parent_judged [] (name n p ∷ ts) = judged_read _ ts parent_named
 parent_judged [] ts = judged_read None ts parent_none
@@ -65,7 +65,7 @@ head_made : {ts m k r : List Lexeme} {ps : List Position} {n : NameTree} {x : Op
 head_made a b parent_none = head_arrows a b
 head_made arrows_stop b parent_named = head_parent b
 
-heading_judged : (ts : List Lexeme) → Judged (λ h r. IsHead ts h r) ⊥ (object_heading ts)
+heading_judged : (ts : List Lexeme) → Judged (λ h r. IsHead ts h r) (λ i. ⊥) (object_heading ts)
 unfolding object_heading
 heading_judged ts =
     judged_then _ (arrows_judged ts)
@@ -73,10 +73,10 @@ heading_judged ts =
     (λ n b q. judged_then _ (short_judged b)
     (λ x c h. judged_then _ (parent_judged ps c)
     (λ o r g. judged_read _ r (head_made (subst (λ v. IsArrows ts ps v) q l) h g))
-    (λ x. x))
-    (λ x. x))
-    (λ x. x))
-    (λ x. x)
+    (λ i x. x))
+    (λ i x. x))
+    (λ i x. x))
+    (λ i x. x)
 
 comma_judged : (ts : List Lexeme) → IsComma ts (behind_comma ts)
 unfolding behind_comma
@@ -86,15 +86,15 @@ comma_judged ts = go (is_sign s.Comma (head ts)) refl
     go true e = subst (λ us. IsComma us (tail ts)) (sym (at_sign s.Comma ts e)) comma_one
     go false e = comma_none
 
-prop_judged : (ts : List Lexeme) → Judged (λ x r. IsProp ts x r) ⊥ (prop ts)
+prop_judged : (ts : List Lexeme) → Judged (λ x r. IsProp ts x r) (λ i. ⊥) (prop ts)
 unfolding prop
 prop_judged ts =
     judged_then _ (name_judged ts)
     (λ n m q. judged_then _ (values_judged m)
     (λ vs r l. judged_read _ r
     (subst (λ us. IsProp us (record { name = n; values = vs }) r) (sym q) (prop_values l.0 l.1)))
-    (λ x. x))
-    (λ x. x)
+    (λ i x. x))
+    (λ i x. x)
 
 -- a property behind a comma
 record IsNext (ts : List Lexeme) (x : PropertyTree) (r : List Lexeme) : Type 0 where
@@ -103,16 +103,16 @@ record IsNext (ts : List Lexeme) (x : PropertyTree) (r : List Lexeme) : Type 0 w
   at : ts ≡ sign s.Comma place ∷ from
   is : IsProp from x r
 
-next_judged : (ts : List Lexeme) → Judged (λ x r. IsNext ts x r) ⊥ (next_prop ts)
+next_judged : (ts : List Lexeme) → Judged (λ x r. IsNext ts x r) (λ i. ⊥) (next_prop ts)
 unfolding next_prop
 next_judged ts =
     judged_after (expect s.Comma ts) _
     (λ m e. judged_as (prop_judged m)
-    (λ x r a. record { place = position_of (head ts); from = m; at = expect_ok s.Comma ts m e; is = a }) (λ x. x))
-    (λ e. absurd (expect_not_deep s.Comma ts e))
+    (λ x r a. record { place = position_of (head ts); from = m; at = expect_ok s.Comma ts m e; is = a }) (λ i x. x))
+    (λ i e. absurd (expect_not_deep s.Comma ts i e))
 
 others_judged : (n : ℕ) (us ts : List Lexeme) (x : PropertyTree) → IsProp us x ts
-    → Judged (λ xs r. IsProps us (x ∷ xs) r) ⊥ (as_long lists_further next_prop n ts)
+    → Judged (λ xs r. IsProps us (x ∷ xs) r) (λ i. ⊥) (as_long lists_further next_prop n ts)
 unfolding as_long
 others_judged zero us ts x a = judged_read [] ts (props_last a)
 others_judged (suc n) us ts x a =
@@ -120,38 +120,38 @@ others_judged (suc n) us ts x a =
     (λ e. judged_then _ (next_judged ts)
     (λ y m h. judged_then _ (others_judged n h.from m y h.is)
     (λ ys r l. judged_read (y ∷ ys) r (props_comma (subst (λ v. IsProp us x v) h.at a) l))
-    (λ x. x))
-    (λ x. x))
+    (λ i x. x))
+    (λ i x. x))
     (λ e. judged_read [] ts (props_last a))
 
-props_judged : (ts : List Lexeme) → Judged (λ xs r. IsProps ts xs r) ⊥ (props ts)
+props_judged : (ts : List Lexeme) → Judged (λ xs r. IsProps ts xs r) (λ i. ⊥) (props ts)
 unfolding props
 props_judged ts =
     judged_then _ (prop_judged ts)
-    (λ x m a. judged_then _ (others_judged (length m) ts m x a) (λ xs r l. judged_read (x ∷ xs) r l) (λ x. x))
-    (λ x. x)
+    (λ x m a. judged_then _ (others_judged (length m) ts m x a) (λ xs r l. judged_read (x ∷ xs) r l) (λ i x. x))
+    (λ i x. x)
 
-properties_judged : (ts : List Lexeme) → Judged (λ xs r. IsProperties ts xs r) ⊥ (properties ts)
+properties_judged : (ts : List Lexeme) → Judged (λ xs r. IsProperties ts xs r) (λ i. ⊥) (properties ts)
 unfolding properties
 properties_judged ts =
     judged_by (is_word w.With (head (behind_comma ts))) _ _
     (λ e. judged_as (props_judged (tail (behind_comma ts)))
     (λ xs r l. properties_with (subst (λ v. IsComma ts v) (at_word w.With (behind_comma ts) e) (comma_judged ts)) l)
-    (λ x. x))
+    (λ i x. x))
     (λ e. judged_read [] ts properties_none)
 
-attributes_judged : (ts : List Lexeme) → Judged (λ ns r. IsAttributes ts ns r) ⊥ (attributes ts)
+attributes_judged : (ts : List Lexeme) → Judged (λ ns r. IsAttributes ts ns r) (λ i. ⊥) (attributes ts)
 unfolding attributes
 attributes_judged ts =
     judged_by (is_word w.Has (head (behind_comma ts))) _ _
     (λ e. judged_as (some_names_judged (tail (behind_comma ts)))
     (λ ns r l. attributes_has
     (subst (λ v. IsComma ts v) (at_word w.Has (behind_comma ts) e) (comma_judged ts)) l.0 l.1)
-    (λ x. x))
+    (λ i x. x))
     (λ e. judged_by (is_sign s.Comma (head ts)) _ _ (λ f. judged_grammar) (λ f. judged_read [] ts attributes_none))
 
 pub object_judged : (p : Position) (ts : List Lexeme)
-    → Judged (λ o r. IsDirective (reserved w.Object p ∷ ts) (object o) r) ⊥ (object_behind ts)
+    → Judged (λ o r. IsDirective (reserved w.Object p ∷ ts) (object o) r) (λ i. ⊥) (object_behind ts)
 unfolding object_behind
 object_judged p ts =
     judged_then _ (heading_judged ts)
@@ -159,10 +159,10 @@ object_judged p ts =
     (λ xs b f. judged_then _ (attributes_judged b)
     (λ ns c g. judged_after (expect s.Semicolon c) _
     (λ r k. judged_read _ r (d_object e f (subst (λ v. IsAttributes b ns v) (expect_ok s.Semicolon c r k) g)))
-    (λ k. absurd (expect_not_deep s.Semicolon c k)))
-    (λ x. x))
-    (λ x. x))
-    (λ x. x)
+    (λ i k. absurd (expect_not_deep s.Semicolon c i k)))
+    (λ i x. x))
+    (λ i x. x))
+    (λ i x. x)
 
 -- ---- each derivation takes a token
 

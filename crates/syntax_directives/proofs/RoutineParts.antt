@@ -3,7 +3,7 @@ use Rattle.std.proofs.Common.{◌≡◌, ℕ, ◌-◌, List, Result, Ok, Err, re
 use Rattle.syntax_lexer.specs.declared.token.Sign.TheVariants as s
 use Rattle.syntax_lexer.specs.Token.{Lexeme}
 use Rattle.syntax_trees.specs.Tree.{NameTree}
-use Rattle.syntax_parsing.specs.declared.error.Fault.{Fault}
+use Rattle.syntax_parsing.specs.Stop.{Stop}
 use Rattle.syntax_parsing.specs.declared.error.ParseError.{ParseError}
 use Rattle.syntax_parsing.specs.declared.error.ParseError.TheVariants as errors
 use Rattle.syntax_parsing.specs.Parse.{◌>>=◌, Fails, tail, expect}
@@ -23,78 +23,78 @@ made ts n ns xs r = (
 module _ (d : ℕ) (ts : List Lexeme) where
   -- what is read behind each part of a routine
 
-  abbrev last : NameTree → List NameTree → List StatementTree → List Lexeme → Result (RoutineTree × List Lexeme) Fault
+  abbrev last : NameTree → List NameTree → List StatementTree → List Lexeme → Result (RoutineTree × List Lexeme) Stop
   last n ns xs r = Ok (made ts n ns xs r)
 
   abbrev behind_bracket : NameTree → List NameTree → List StatementTree → List Lexeme
-      → Result (RoutineTree × List Lexeme) Fault
+      → Result (RoutineTree × List Lexeme) Stop
   behind_bracket n ns xs u = expect s.Semicolon u >>= last n ns xs
 
   abbrev behind_body : NameTree → List NameTree → List StatementTree × List Lexeme
-      → Result (RoutineTree × List Lexeme) Fault
+      → Result (RoutineTree × List Lexeme) Stop
   behind_body n ns xs = expect s.CloseBracket xs.1 >>= behind_bracket n ns xs.0
 
-  abbrev behind_locals : NameTree → List NameTree × List Lexeme → Result (RoutineTree × List Lexeme) Fault
+  abbrev behind_locals : NameTree → List NameTree × List Lexeme → Result (RoutineTree × List Lexeme) Stop
   behind_locals n ns = expect s.Semicolon ns.1 >>= λ m. statements d m >>= behind_body n ns.0
 
-  abbrev behind_name : NameTree × List Lexeme → Result (RoutineTree × List Lexeme) Fault
+  abbrev behind_name : NameTree × List Lexeme → Result (RoutineTree × List Lexeme) Stop
   behind_name n = names n.1 >>= behind_locals n.0
 
   -- the parts of a heading
 
-  abbrev heading_of : NameTree → List NameTree → List Lexeme → Result ((NameTree × List NameTree) × List Lexeme) Fault
+  abbrev heading_of : NameTree → List NameTree → List Lexeme → Result ((NameTree × List NameTree) × List Lexeme) Stop
   heading_of n ns m = Ok ((n, ns), m)
 
   abbrev heading_locals : NameTree → List NameTree × List Lexeme
-      → Result ((NameTree × List NameTree) × List Lexeme) Fault
+      → Result ((NameTree × List NameTree) × List Lexeme) Stop
   heading_locals n ns = expect s.Semicolon ns.1 >>= heading_of n ns.0
 
-  abbrev heading_name : NameTree × List Lexeme → Result ((NameTree × List NameTree) × List Lexeme) Fault
+  abbrev heading_name : NameTree × List Lexeme → Result ((NameTree × List NameTree) × List Lexeme) Stop
   heading_name n = names n.1 >>= heading_locals n.0
 
   -- the parts of a body
 
-  abbrev body_of : List StatementTree → List Lexeme → Result (List StatementTree × List Lexeme) Fault
+  abbrev body_of : List StatementTree → List Lexeme → Result (List StatementTree × List Lexeme) Stop
   body_of xs r = Ok (xs, r)
 
-  abbrev body_statements : List StatementTree × List Lexeme → Result (List StatementTree × List Lexeme) Fault
+  abbrev body_statements : List StatementTree × List Lexeme → Result (List StatementTree × List Lexeme) Stop
   body_statements xs = (expect s.CloseBracket xs.1 >>= λ u. expect s.Semicolon u) >>= body_of xs.0
 
   abbrev whole_of : NameTree → List NameTree → List StatementTree × List Lexeme
-      → Result (RoutineTree × List Lexeme) Fault
+      → Result (RoutineTree × List Lexeme) Stop
   whole_of n ns xs = Ok (made ts n ns xs.0 xs.1)
 
   -- behind a heading
-  abbrev behind : (NameTree × List NameTree) × List Lexeme → Result (RoutineTree × List Lexeme) Fault
+  abbrev behind : (NameTree × List NameTree) × List Lexeme → Result (RoutineTree × List Lexeme) Stop
   behind h = routine_body d h.1 >>= whole_of h.0.0 h.0.1
 
-  ended : (n : NameTree) (ns : List NameTree) (xs : List StatementTree) (R : Result (List Lexeme) Fault)
+  ended : (n : NameTree) (ns : List NameTree) (xs : List StatementTree) (R : Result (List Lexeme) Stop)
       → (R >>= last n ns xs) ≡ ((R >>= body_of xs) >>= whole_of n ns)
   ended n ns xs (Ok r) = refl
   ended n ns xs (Err f) = refl
 
-  bracketed : (n : NameTree) (ns : List NameTree) (xs : List StatementTree) (R : Result (List Lexeme) Fault)
+  bracketed : (n : NameTree) (ns : List NameTree) (xs : List StatementTree) (R : Result (List Lexeme) Stop)
       → (R >>= behind_bracket n ns xs) ≡ (((R >>= λ u. expect s.Semicolon u) >>= body_of xs) >>= whole_of n ns)
   bracketed n ns xs (Ok u) = ended n ns xs (expect s.Semicolon u)
   bracketed n ns xs (Err f) = refl
 
-  filled : (n : NameTree) (ns : List NameTree) (R : Result (List StatementTree × List Lexeme) Fault)
+  filled : (n : NameTree) (ns : List NameTree) (R : Result (List StatementTree × List Lexeme) Stop)
       → (R >>= behind_body n ns) ≡ ((R >>= body_statements) >>= whole_of n ns)
   filled n ns (Ok xs) = bracketed n ns xs.0 (expect s.CloseBracket xs.1)
   filled n ns (Err f) = refl
 
-  headed : (n : NameTree) (ns : List NameTree) (R : Result (List Lexeme) Fault)
+  headed : (n : NameTree) (ns : List NameTree) (R : Result (List Lexeme) Stop)
       → (R >>= λ m. statements d m >>= behind_body n ns) ≡ ((R >>= heading_of n ns) >>= behind)
   unfolding routine_body closed
   headed n ns (Ok m) = filled n ns (statements d m)
   headed n ns (Err f) = refl
 
-  local : (n : NameTree) (R : Result (List NameTree × List Lexeme) Fault)
+  local : (n : NameTree) (R : Result (List NameTree × List Lexeme) Stop)
       → (R >>= behind_locals n) ≡ ((R >>= heading_locals n) >>= behind)
   local n (Ok ns) = headed n ns.0 (expect s.Semicolon ns.1)
   local n (Err f) = refl
 
-  named : (R : Result (NameTree × List Lexeme) Fault) → (R >>= behind_name) ≡ ((R >>= heading_name) >>= behind)
+  named : (R : Result (NameTree × List Lexeme) Stop) → (R >>= behind_name) ≡ ((R >>= heading_name) >>= behind)
   named (Ok n) = local n.0 (names n.1)
   named (Err f) = refl
 

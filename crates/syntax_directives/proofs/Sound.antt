@@ -31,25 +31,25 @@ use Rattle.syntax_directives.proofs.ObjectsRead.{object_judged}
 -- ---- arrays
 
 kind_judged : (ts : List Lexeme) → Judged
-    (λ k r. (ts ≡ head ts ∷ r) × (kind_of (head ts) ≡ Some k)) ⊥ (kind ts)
+    (λ k r. (ts ≡ head ts ∷ r) × (kind_of (head ts) ≡ Some k)) (λ i. ⊥) (kind ts)
 unfolding kind
 kind_judged [] = judged_grammar
 kind_judged (t ∷ ts) = go (kind_of t) refl
   where
     go : (o : Option ArrayKind) → kind_of t ≡ o
-        → Judged (λ k r. (t ∷ ts ≡ t ∷ r) × (kind_of t ≡ Some k)) ⊥ (kind_on ts o)
+        → Judged (λ k r. (t ∷ ts ≡ t ∷ r) × (kind_of t ≡ Some k)) (λ i. ⊥) (kind_on (t ∷ ts) o)
     go None o = judged_grammar
     go (Some k) o = judged_read k ts (refl, o)
 
 -- ---- directives
 
-ended_judged : {P : DirectiveTree → List Lexeme → Type 0} {C : Type 0} (x : DirectiveTree) (ts : List Lexeme)
+ended_judged : {P : DirectiveTree → List Lexeme → Type 0} {C : List Lexeme → Type 0} (x : DirectiveTree) (ts : List Lexeme)
     → ((p : Position) (r : List Lexeme) → ts ≡ sign s.Semicolon p ∷ r → P x r) → Judged P C (ended x ts)
 unfolding ended
 ended_judged x ts make =
     judged_after (expect s.Semicolon ts) _
     (λ r e. judged_read x r (make (position_of (head ts)) r (expect_ok s.Semicolon ts r e)))
-    (λ e. absurd (expect_not_deep s.Semicolon ts e))
+    (λ i e. absurd (expect_not_deep s.Semicolon ts i e))
 
 module _ (d : ℕ) where
   global_judged : (p : Position) (ts : List Lexeme)
@@ -68,14 +68,14 @@ module _ (d : ℕ) where
             (d_global_value (subst (λ y. IsK (tail r) k y) x h)),
         omega arith,
       )))
-      (λ x. absurd x))
+      (λ i x. absurd x))
       (λ e. ended_judged (global n None) r
       (λ l v x. (
         subst (λ us. IsDirective (reserved w.Global p ∷ us) (global n None) v)
             (sym (q ∙ ap (λ u. name n.text n.position ∷ u) x)) d_global,
         omega arith,
       ))))
-      (λ x. absurd x)
+      (λ i x. absurd x)
 
   constant_judged : (p : Position) (ts : List Lexeme)
       → Judged (λ x r. IsDirective (reserved w.Constant p ∷ ts) x r × (directive_nesting x ≤ d))
@@ -93,9 +93,9 @@ module _ (d : ℕ) where
             (d_constant (subst (λ y. IsK m k y) x h)),
         omega arith,
       )))
-      (λ x. absurd x))
-      (λ e. absurd (expect_not_deep s.Assign r e)))
-      (λ x. absurd x)
+      (λ i x. absurd x))
+      (λ i e. absurd (expect_not_deep s.Assign r i e)))
+      (λ i x. absurd x)
 
   array_judged : (p : Position) (ts : List Lexeme)
       → Judged (λ x r. IsDirective (reserved w.Array p ∷ ts) (array x) r × (directive_nesting (array x) ≤ d))
@@ -113,10 +113,10 @@ module _ (d : ℕ) where
             (sym at) (d_array o.1 (subst (λ v. IsValues b vs v) (expect_ok s.Semicolon c r e) l.0) l.1),
         omega arith,
       ))
-      (λ e. absurd (expect_not_deep s.Semicolon c e)))
-      (λ x. absurd x))
-      (λ x. absurd x))
-      (λ x. absurd x)
+      (λ i e. absurd (expect_not_deep s.Semicolon c i e)))
+      (λ i x. absurd x))
+      (λ i x. absurd x))
+      (λ i x. absurd x)
 
   attribute_judged : (p : Position) (ts : List Lexeme)
       → Judged (λ x r. IsDirective (reserved w.Attribute p ∷ ts) x r × (directive_nesting x ≤ d))
@@ -130,7 +130,7 @@ module _ (d : ℕ) where
             (sym (q ∙ ap (λ u. name n.text n.position ∷ u) x)) d_attribute,
         omega arith,
       )))
-      (λ x. absurd x)
+      (λ i x. absurd x)
 
   property_judged : (p : Position) (ts : List Lexeme)
       → Judged (λ x r. IsDirective (reserved w.Property p ∷ ts) x r × (directive_nesting x ≤ d))
@@ -146,14 +146,14 @@ module _ (d : ℕ) where
             (d_property_value (subst (λ y. IsK r k y) x h)),
         omega arith,
       )))
-      (λ x. absurd x))
+      (λ i x. absurd x))
       (λ e. ended_judged (property n None) r
       (λ l v x. (
         subst (λ us. IsDirective (reserved w.Property p ∷ us) (property n None) v)
             (sym (q ∙ ap (λ u. name n.text n.position ∷ u) x)) d_property,
         omega arith,
       ))))
-      (λ x. absurd x)
+      (λ i x. absurd x)
 
   routine_judged : (p : Position) (ts : List Lexeme)
       → Judged (λ x r. IsDirective (sign s.OpenBracket p ∷ ts) (routine x) r × (body_nesting x.body ≤ d))
@@ -183,12 +183,12 @@ module _ (d : ℕ) where
             (d_routine locals (subst (λ v. IsSs m (trees_of xs) v) closed h.0)),
         h.1,
       ))
-      (λ g. absurd (expect_not_deep s.Semicolon u g)))
-      (λ f. absurd (expect_not_deep s.CloseBracket c f)))
-      (λ x. subst (λ us. DeepDirective (suc d) (sign s.OpenBracket p ∷ us)) (sym q) (deep_d_routine locals x)))
-      (λ e. absurd (expect_not_deep s.Semicolon b e)))
-      (λ x. absurd x))
-      (λ x. absurd x)
+      (λ i g. absurd (expect_not_deep s.Semicolon u i g)))
+      (λ i f. absurd (expect_not_deep s.CloseBracket c i f)))
+      (λ y x. subst (λ us. DeepDirective (suc d) (sign s.OpenBracket p ∷ us) y) (sym q) (deep_d_routine locals x)))
+      (λ i e. absurd (expect_not_deep s.Semicolon b i e)))
+      (λ i x. absurd x))
+      (λ i x. absurd x)
 
   worded_judged : (word : Word) (p : Position) (ts : List Lexeme)
       → Judged (λ x r. IsDirective (reserved word p ∷ ts) x r × (directive_nesting x ≤ d))
@@ -196,11 +196,11 @@ module _ (d : ℕ) where
   unfolding worded
   worded_judged w.Global p ts = global_judged p ts
   worded_judged w.Constant p ts = constant_judged p ts
-  worded_judged w.Array p ts = judged_then _ (array_judged p ts) (λ x r h. judged_read (array x) r h) (λ x. x)
+  worded_judged w.Array p ts = judged_then _ (array_judged p ts) (λ x r h. judged_read (array x) r h) (λ i x. x)
   worded_judged w.Attribute p ts = attribute_judged p ts
   worded_judged w.Property p ts = property_judged p ts
   worded_judged w.Object p ts = judged_then _ (object_judged p ts)
-      (λ x r h. judged_read (object x) r (h, omega arith)) (λ x. absurd x)
+      (λ x r h. judged_read (object x) r (h, omega arith)) (λ i x. absurd x)
   worded_judged _ p ts = judged_grammar
 
   pub directive_judged : (ts : List Lexeme) → Judged (λ x r. IsDirective ts x r × (directive_nesting x ≤ d))
@@ -208,5 +208,5 @@ module _ (d : ℕ) where
   unfolding directive
   directive_judged (reserved word p ∷ ts) = worded_judged word p ts
   directive_judged (sign s.OpenBracket p ∷ ts) = judged_then _ (routine_judged p ts)
-      (λ x r h. judged_read (routine x) r h) (λ x. x)
+      (λ x r h. judged_read (routine x) r h) (λ i x. x)
   directive_judged _ = judged_grammar

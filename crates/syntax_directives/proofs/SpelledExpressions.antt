@@ -93,11 +93,11 @@ mutual
   spelled_E1 (e1_logical {t = t} {op = op} a o b) = weighing (joined (spelled_E1 a) (behind t (spelled_N1 b)))
       (omega (arith, logical_weight t op o))
 
-  spelled_N1 : {ts r : List Lexeme} {e : ExpressionTree} → IsN1 ts e r → Spelled (expression_weight e) ts r
+  pub spelled_N1 : {ts r : List Lexeme} {e : ExpressionTree} → IsN1 ts e r → Spelled (expression_weight e) ts r
   spelled_N1 (n1_plain a) = spelled_E2 a
   spelled_N1 (n1_not {p = p} a) = behind (sign s.Not p) (spelled_N1 a)
 
-  spelled_E2 : {ts r : List Lexeme} {e : ExpressionTree} → IsE2 ts e r → Spelled (expression_weight e) ts r
+  pub spelled_E2 : {ts r : List Lexeme} {e : ExpressionTree} → IsE2 ts e r → Spelled (expression_weight e) ts r
   spelled_E2 (e2_plain a) = spelled_E3 a
   spelled_E2 (e2_compare {t = t} {op = op} a o b) = weighing (joined (spelled_E3 a) (behind t (spelled_E3 b)))
       (omega (arith, comparing_weight t op o))
@@ -118,16 +118,16 @@ mutual
   spelled_E3 (e3_add {t = t} {op = op} a o b) = weighing (joined (spelled_E3 a) (behind t (spelled_E4 b)))
       (omega (arith, adding_weight t op o))
 
-  spelled_E4 : {ts r : List Lexeme} {e : ExpressionTree} → IsE4 ts e r → Spelled (expression_weight e) ts r
+  pub spelled_E4 : {ts r : List Lexeme} {e : ExpressionTree} → IsE4 ts e r → Spelled (expression_weight e) ts r
   spelled_E4 (e4_plain a) = spelled_N4 a
   spelled_E4 (e4_scale {t = t} {op = op} a o b) = weighing (joined (spelled_E4 a) (behind t (spelled_N4 b)))
       (omega (arith, scaling_weight t op o))
 
-  spelled_N4 : {ts r : List Lexeme} {e : ExpressionTree} → IsN4 ts e r → Spelled (expression_weight e) ts r
+  pub spelled_N4 : {ts r : List Lexeme} {e : ExpressionTree} → IsN4 ts e r → Spelled (expression_weight e) ts r
   spelled_N4 (n4_plain a) = spelled_E5 a
   spelled_N4 (n4_complement {p = p} a) = behind (sign s.Tilde p) (spelled_N4 a)
 
-  spelled_E5 : {ts r : List Lexeme} {e : ExpressionTree} → IsE5 ts e r → Spelled (expression_weight e) ts r
+  pub spelled_E5 : {ts r : List Lexeme} {e : ExpressionTree} → IsE5 ts e r → Spelled (expression_weight e) ts r
   spelled_E5 (e5_plain a) = spelled_U a
   spelled_E5 (e5_index {p = p} {t = t} {n = n} {width = width} o a) = weighing
       (behind (name n p) (behind t (spelled_U a))) (omega (arith, indexing_weight t width o))
@@ -135,7 +135,7 @@ mutual
       (joined (spelled_P a)
       (behind (sign s.DotAmpersand q) (behind (name n p) (behind (sign s.LongArrow o) (spelled_U b))))) (omega arith)
 
-  spelled_U : {ts r : List Lexeme} {e : ExpressionTree} → IsU ts e r → Spelled (expression_weight e) ts r
+  pub spelled_U : {ts r : List Lexeme} {e : ExpressionTree} → IsU ts e r → Spelled (expression_weight e) ts r
   spelled_U (u_plain a) = spelled_P a
   spelled_U (u_minus {p = p} a) = behind (sign s.Minus p) (spelled_U a)
   spelled_U (u_before {t = t} {op = op} o a) = weighing (behind t (spelled_P a))
@@ -144,7 +144,7 @@ mutual
       (omega (arith, stepping_weight t op o))
   spelled_U (u_length {q = q} a) = spelled_name (sign s.DotHash q) refl (spelled_P a)
 
-  spelled_P : {ts r : List Lexeme} {e : ExpressionTree} → IsP ts e r → Spelled (expression_weight e) ts r
+  pub spelled_P : {ts r : List Lexeme} {e : ExpressionTree} → IsP ts e r → Spelled (expression_weight e) ts r
   spelled_P (p_property {q = q} a) = spelled_name (sign s.Dot q) refl (spelled_P a)
   spelled_P (p_number {r = r} {p = p} {n = n}) = behind (number n p) (spelled_none r)
   spelled_P (p_character {r = r} {p = p} {c = c}) = behind (character c p) (spelled_none r)

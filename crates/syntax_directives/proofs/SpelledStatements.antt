@@ -91,7 +91,7 @@ spelled_Labels {r = r} {p = p} (ranges_last a) = weighing_about
 spelled_Labels (ranges_comma {p = p} a b) = weighing_about
     (joined_about (spelled_Range a) (behind_about (sign s.Comma p) (spelled_Labels b))) (omega arith) (omega arith)
 
-spelled_Optional : {ts r : List Lexeme} {e : Option ExpressionTree} → IsOptional ts e r
+pub spelled_Optional : {ts r : List Lexeme} {e : Option ExpressionTree} → IsOptional ts e r
     → Spelled (optional_weight e) ts r
 spelled_Optional {ts} optional_none = spelled_none ts
 spelled_Optional (optional_some a) = spelled_E a

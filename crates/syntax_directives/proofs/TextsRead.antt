@@ -10,7 +10,7 @@ use Rattle.syntax_directives.specs.Tree.{TextTree}
 use Rattle.syntax_directives.specs.Grammar.{IsTexts, texts_stop, texts_next}
 use Rattle.syntax_directives.specs.Parse.{is_text, one_text, texts, abbreviate_behind}
 
-one_text_judged : (ts : List Lexeme) → Judged (λ x r. ts ≡ text x.bytes x.position ∷ r) ⊥ (one_text ts)
+one_text_judged : (ts : List Lexeme) → Judged (λ x r. ts ≡ text x.bytes x.position ∷ r) (λ i. ⊥) (one_text ts)
 unfolding one_text
 one_text_judged (text bytes p ∷ ts) = judged_read (record { bytes = bytes; position = p }) ts refl
 one_text_judged _ = judged_grammar
@@ -19,18 +19,18 @@ texts_made : (ts : List Lexeme) (x : TextTree) (m : List Lexeme) (xs : List Text
     → ts ≡ text x.bytes x.position ∷ m → IsTexts m xs r → IsTexts ts (x ∷ xs) r
 texts_made ts x m xs r q a = subst (λ v. IsTexts v (x ∷ xs) r) (sym q) (texts_next a)
 
-pub texts_judged : (ts : List Lexeme) → Judged (λ xs r. IsTexts ts xs r × (0 < length xs)) ⊥ (texts ts)
+pub texts_judged : (ts : List Lexeme) → Judged (λ xs r. IsTexts ts xs r × (0 < length xs)) (λ i. ⊥) (texts ts)
 unfolding texts
 texts_judged ts = judged_then _ (one_text_judged ts)
     (λ x m q. judged_then _
-    (repeated_judged is_text one_text (λ us y r. us ≡ text y.bytes y.position ∷ r) IsTexts (λ us. ⊥) (λ us. ⊥)
+    (repeated_judged is_text one_text (λ us y r. us ≡ text y.bytes y.position ∷ r) IsTexts (λ us i. ⊥) (λ us i. ⊥)
     (λ r. texts_stop)
     (λ us y n ys r h l. texts_made us y n ys r h l)
-    (λ us e z. z)
-    (λ us y n h z. z)
+    (λ us i e z. z)
+    (λ us y n i h z. z)
     one_text_judged (length m) m)
-    (λ xs r l. judged_read (x ∷ xs) r (texts_made ts x m xs r q l, omega arith)) (λ z. z))
-    (λ z. z)
+    (λ xs r l. judged_read (x ∷ xs) r (texts_made ts x m xs r q l, omega arith)) (λ i z. z))
+    (λ i z. z)
 
 -- ---- what derives is read
 

@@ -8,8 +8,7 @@ use Rattle.syntax_lexer.specs.declared.token.Word.{Word}
 use Rattle.syntax_lexer.specs.declared.token.Word.TheVariants as w
 use Rattle.syntax_lexer.specs.Token.{Lexeme, name, text, reserved, sign, position_of}
 use Rattle.syntax_trees.specs.Tree.{NameTree}
-use Rattle.syntax_parsing.specs.declared.error.Fault.{Fault}
-use Rattle.syntax_parsing.specs.declared.error.Fault.TheVariants.{Grammar}
+use Rattle.syntax_parsing.specs.Stop.{Stop, unfit}
 use Rattle.syntax_parsing.specs.Parse.{Parse, ◌>>=◌, head, tail, is_sign, is_word, expect, as_long, repeated}
 use Rattle.syntax_expressions.specs.Parse.{is_name, expect_name}
 use Rattle.syntax_statement_parts.specs.Parse.{known_value, begins_value}
@@ -34,12 +33,12 @@ placed ts = known_value ts >>= λ k. Ok (record { position = position_of (head t
 unfoldable pub values : Parse (List ValueTree)
 values ts = placed ts >>= λ v. repeated begins_value placed (length v.1) v.1 >>= λ vs. Ok (v.0 ∷ vs.0, vs.1)
 
-abbrev pub kind_on : List Lexeme → Option ArrayKind → Result (ArrayKind × List Lexeme) Fault
-kind_on ts None = Err Grammar
-kind_on ts (Some k) = Ok (k, ts)
+abbrev pub kind_on : List Lexeme → Option ArrayKind → Result (ArrayKind × List Lexeme) Stop
+kind_on ts None = Err (unfit (length ts))
+kind_on ts (Some k) = Ok (k, tail ts)
 
 unfoldable pub kind : Parse ArrayKind
-kind ts = kind_on (tail ts) (kind_of (head ts))
+kind ts = kind_on ts (kind_of (head ts))
 
 unfoldable pub array_behind : Parse ArrayTree
 array_behind ts = do
@@ -106,16 +105,17 @@ properties ts = if is_word w.With (head (behind_comma ts)) then props (tail (beh
 
 -- names, at least one
 abbrev pub some_on : List NameTree → Parse (List NameTree)
-some_on [] ts = Err Grammar
+some_on [] ts = Err (unfit (length ts))
 some_on (n ∷ ns) ts = Ok (n ∷ ns, ts)
 
 unfoldable pub some_names : Parse (List NameTree)
 some_names ts = names ts >>= λ ns. some_on ns.0 ns.1
 
+-- a comma may stand before `with` and `has` alone: the token behind it does not fit
 unfoldable pub attributes : Parse (List NameTree)
 attributes ts =
     if is_word w.Has (head (behind_comma ts)) then some_names (tail (behind_comma ts))
-    else if is_sign s.Comma (head ts) then Err Grammar
+    else if is_sign s.Comma (head ts) then Err (unfit (length (behind_comma ts)))
     else Ok ([], ts)
 
 unfoldable pub object_behind : Parse ObjectTree
@@ -144,12 +144,12 @@ is_text (text bytes p) = true
 is_text _ = false
 
 abbrev pub text_on : Lexeme → Parse TextTree
-text_on (text bytes p) ts = Ok (record { bytes = bytes; position = p }, ts)
-text_on _ ts = Err Grammar
+text_on (text bytes p) ts = Ok (record { bytes = bytes; position = p }, tail ts)
+text_on _ ts = Err (unfit (length ts))
 
 -- the text that comes next
 unfoldable pub one_text : Parse TextTree
-one_text ts = text_on (head ts) (tail ts)
+one_text ts = text_on (head ts) ts
 
 -- texts, at least one
 unfoldable pub texts : Parse (List TextTree)
@@ -194,7 +194,7 @@ worded w.Array ts = array_behind (tail ts) >>= λ x. Ok (array x.0, x.1)
 worded w.Attribute ts = attribute_behind (tail ts)
 worded w.Property ts = property_behind (tail ts)
 worded w.Object ts = object_behind (tail ts) >>= λ x. Ok (object x.0, x.1)
-worded _ ts = Err Grammar
+worded _ ts = Err (unfit (length ts))
 
 -- ---- directives
 
@@ -207,7 +207,7 @@ routine_heading ts = do
   Ok ((n.0, ns.0), m)
 
 -- the tokens behind what closes a routine
-unfoldable pub closed : List Lexeme → Result (List Lexeme) Fault
+unfoldable pub closed : List Lexeme → Result (List Lexeme) Stop
 closed ts = expect s.CloseBracket ts >>= λ u. expect s.Semicolon u
 
 -- where d nestings may be opened in a statement
@@ -233,7 +233,7 @@ module _ (d : ℕ) where
   abbrev pub directive_on : Lexeme → Parse DirectiveTree
   directive_on (reserved word p) ts = worded word ts
   directive_on (sign s.OpenBracket p) ts = one_routine ts
-  directive_on _ ts = Err Grammar
+  directive_on _ ts = Err (unfit (length ts))
 
   unfoldable pub directive : Parse DirectiveTree
   directive ts = directive_on (head ts) ts

@@ -3,13 +3,13 @@ use Rattle.std.specs.Prelude.{List, Result}
 use Rattle.std.specs.Global.{Box}
 use Rattle.syntax_lexer.specs.Token.{Lexeme}
 use Rattle.syntax_parsing.specs.Returned.{Takes}
-use Rattle.syntax_parsing.specs.declared.error.Fault.{Fault}
+use Rattle.syntax_parsing.specs.Stop.{Stop}
 use Rattle.syntax_parsing.specs.declared.error.ParseError.{ParseError}
 use Rattle.syntax_parsing.specs.declared.parser.Parser.{Parser}
 use Rattle.syntax_directives.specs.declared.tree.Directive.{Directive}
 use Rattle.syntax_directives.specs.Tree.{DirectiveTree, directive_tree}
 
 -- The same as Takes, of a directive in a box.
-abbrev pub TakesDirective : Result (Box Directive) ParseError → Parser → Result (DirectiveTree × List Lexeme) Fault
+abbrev pub TakesDirective : Result (Box Directive) ParseError → Parser → Result (DirectiveTree × List Lexeme) Stop
     → Type 0
 TakesDirective result left read = Takes (λ x. directive_tree x.value) result left read

@@ -1,5 +1,5 @@
 -- How each alternative of the grammar is read, from how its parts are read.
-use Rattle.std.proofs.Common.{◌≡◌, ℕ, max, true, false, List, [], ◌∷◌, Some, None, Result, Ok, refl, ap}
+use Rattle.std.proofs.Common.{◌≡◌, ℕ, max, true, false, List, [], ◌∷◌, Some, None, Result, Ok, refl, ap, arith, length, suc, ◌≤◌}
 use Rattle.syntax_lexer.specs.declared.token.Position.{Position}
 use Rattle.syntax_lexer.specs.declared.token.Sign.TheVariants as s
 use Rattle.syntax_lexer.specs.declared.token.Word.TheVariants as w
@@ -15,7 +15,7 @@ use Rattle.syntax_trees.specs.declared.tree.Width.{Width}
 use Rattle.syntax_trees.specs.Tree.{NameTree, ExpressionTree, ExpressionTrees, constant, word, named, call, index}
 use Rattle.syntax_trees.specs.Tree.{parenthesised, relative_of, property_length, property_entry, prefixed, step_before}
 use Rattle.syntax_trees.specs.Tree.{step_after, compare, equal, contained, tested, assign, none, more, trees_of}
-use Rattle.syntax_parsing.specs.declared.error.Fault.{Fault}
+use Rattle.syntax_parsing.specs.Stop.{Stop}
 use Rattle.syntax_parsing.specs.Parse.{◌>>=◌, head, is_sign, is_word, expect, list}
 use Rattle.syntax_expressions.specs.Operators.{logical, comparing, equating, containing, testing, adding, scaling}
 use Rattle.syntax_expressions.specs.Operators.{stepping, prefixes, relating, indexing}
@@ -43,7 +43,7 @@ trees_back (more e es) = ap (more e) (trees_back es)
 
 -- ---- operands with what stands after them
 
-pub owner_ends : {R : Result (ExpressionTree × List Lexeme) Fault} {d n : ℕ} {e : ExpressionTree} {r : List Lexeme}
+pub owner_ends : {R : Result (ExpressionTree × List Lexeme) Stop} {d n : ℕ} {e : ExpressionTree} {r : List Lexeme}
     → Owned R d n e r → Stops 7 r → Limited R d n e r
 owner_ends {r = r} o st = owner_stops o (property_stops (head r) st)
 
@@ -68,15 +68,16 @@ module _ (ts : List Lexeme) (d : ℕ) where
   pub step_e_plain : {n : ℕ} {e : ExpressionTree} {r : List Lexeme} → Limited (condition (nested d) ts) d n e r
       → Stops 1 r → Limited (expression (nested d) ts) d n e r
   unfolding expression assignment
-  step_e_plain {r = r} a st = then _ a (rw (assign_stops (head r) st) refl)
+  step_e_plain {r = r} a st = then _ a (omega arith) (rw (assign_stops (head r) st) refl)
 
   pub step_e_assign : {n k : ℕ} {p : Position} {a b : ExpressionTree} {r : List Lexeme} (m : List Lexeme)
       → Limited (condition (nested d) ts) d n a (sign s.Assign p ∷ m) → begins_expression (head m) ≡ true
-      → Limited (nested d whole m) d k b r → Limited (expression (nested d) ts) d (max n k) (assign a p b) r
+      → length r ≤ length m → Limited (nested d whole (length m) m) d k b r
+      → Limited (expression (nested d) ts) d (max n k) (assign a p b) r
   unfolding expression assignment assigned
-  step_e_assign {k = k} {b = b} {r = r} m a e h =
+  step_e_assign {k = k} {b = b} {r = r} m a e short h =
       let right : Limited (assigned (nested d) m) d k b r = same (rw e refl) h in
-      bound _ a (then _ right refl)
+      bound _ a (omega (arith, short)) (then _ right (omega arith) refl)
 
   pub step_e1_plain : {n : ℕ} {e : ExpressionTree} {r : List Lexeme} → Limited (negated (nested d) ts) d n e r
       → Chained logical (negated (nested d)) (condition (nested d) ts) d n e r
@@ -91,7 +92,7 @@ module _ (ts : List Lexeme) (d : ℕ) where
   pub step_e2_plain : {n : ℕ} {e : ExpressionTree} {r : List Lexeme} → Limited (sum (nested d) ts) d n e r → Stops 3 r
       → Limited (comparison (nested d) ts) d n e r
   unfolding comparison compared tested_next
-  step_e2_plain {r = r} a st = then _ a
+  step_e2_plain {r = r} a st = then _ a (omega arith)
       (rw (
         comparing_stops (head r) st,
         equating_stops (head r) st,
@@ -100,14 +101,15 @@ module _ (ts : List Lexeme) (d : ℕ) where
       ) refl)
 
   pub step_e2_contained : {n k : ℕ} {a b : ExpressionTree} {t : Lexeme} {op : Containment} {m r : List Lexeme}
-      → Limited (sum (nested d) ts) d n a (t ∷ m) → containing t ≡ Some op → Limited (sum (nested d) m) d k b r
+      → Limited (sum (nested d) ts) d n a (t ∷ m) → containing t ≡ Some op → length r ≤ length m
+      → Limited (sum (nested d) m) d k b r
       → Limited (comparison (nested d) ts) d (max n k) (contained op a b) r
   unfolding comparison compared
-  step_e2_contained {a = a} {t = t} {op = op} {m = m} l o b =
+  step_e2_contained {a = a} {t = t} {op = op} {m = m} l o short b =
       let not_these = containing_only t op o in
-      bound _ l
+      bound _ l (omega (arith, short))
       (same {S = sum (nested d) m >>= λ x. Ok (contained op a x.0, x.1)} (rw (not_these.0, not_these.1, o) refl)
-      (then _ b refl))
+      (then _ b (omega arith) refl))
 
   pub step_e2_tested : {n : ℕ} {a : ExpressionTree} {t : Lexeme} {test : ObjectTest} {p : Position} {f : List ℕ}
       {r : List Lexeme} → Limited (sum (nested d) ts) d n a (t ∷ name f p ∷ r) → testing t ≡ Some test
@@ -115,24 +117,25 @@ module _ (ts : List Lexeme) (d : ℕ) where
   unfolding comparison compared tested_next expect_name
   step_e2_tested {t = t} {test = test} l o =
       let not_these = testing_only t test o in
-      then _ l (rw (not_these.0, not_these.1, not_these.2, o) refl)
+      then _ l (omega arith) (rw (not_these.0, not_these.1, not_these.2, o) refl)
 
   pub step_e2_compare : {n k : ℕ} {a b : ExpressionTree} {t : Lexeme} {op : Comparison} {m r : List Lexeme}
-      → Limited (sum (nested d) ts) d n a (t ∷ m) → comparing t ≡ Some op → Limited (sum (nested d) m) d k b r
+      → Limited (sum (nested d) ts) d n a (t ∷ m) → comparing t ≡ Some op → length r ≤ length m
+      → Limited (sum (nested d) m) d k b r
       → Limited (comparison (nested d) ts) d (max n k) (compare op a b) r
   unfolding comparison compared
-  step_e2_compare {a = a} {op = op} {m = m} l o b = bound _ l
-      (same {S = sum (nested d) m >>= λ x. Ok (compare op a x.0, x.1)} (rw o refl) (then _ b refl))
+  step_e2_compare {a = a} {op = op} {m = m} l o short b = bound _ l (omega (arith, short))
+      (same {S = sum (nested d) m >>= λ x. Ok (compare op a x.0, x.1)} (rw o refl) (then _ b (omega arith) refl))
 
   pub step_e2_equal : {n k : ℕ} {a : ExpressionTree} {t : Lexeme} {op : Equality} {bs : ExpressionTrees} {m r : List
-      Lexeme} → Limited (sum (nested d) ts) d n a (t ∷ m) → equating t ≡ Some op
+      Lexeme} → Limited (sum (nested d) ts) d n a (t ∷ m) → equating t ≡ Some op → length r ≤ length m
       → Limited (list (is_word w.Or) (sum (nested d)) m) d k (list_of bs) r
       → Limited (comparison (nested d) ts) d (max n k) (equal op a bs) r
   unfolding comparison compared equated
-  step_e2_equal {a = a} {t = t} {op = op} {bs = bs} {m = m} {r = r} l o b =
-      bound _ l
+  step_e2_equal {a = a} {t = t} {op = op} {bs = bs} {m = m} {r = r} l o short b =
+      bound _ l (omega (arith, short))
       (same {S = list (is_word w.Or) (sum (nested d)) m >>= λ x. Ok (equal op a (trees_of x.0), x.1)}
-      (rw (equating_only t op o, o) refl) (then _ b (rw (trees_back bs) refl)))
+      (rw (equating_only t op o, o) refl) (then _ b (omega arith) (rw (trees_back bs) refl)))
 
   pub step_e3_plain : {n : ℕ} {e : ExpressionTree} {r : List Lexeme} → Limited (product (nested d) ts) d n e r
       → Chained adding (product (nested d)) (sum (nested d) ts) d n e r
@@ -156,25 +159,27 @@ module _ (ts : List Lexeme) (d : ℕ) where
 
   pub step_e5_suffixed : {n : ℕ} {a e : ExpressionTree} {m r : List Lexeme} → array_at ts ≡ None
       → prefixes (head ts) ≡ false → Limited (primary (nested d) ts) d n a m
-      → is_sign s.DotAmpersand (head m) ≡ false → suffixed a m ≡ Ok (e, r) → Limited (indexed (nested d) ts) d n e r
+      → is_sign s.DotAmpersand (head m) ≡ false → length r ≤ length m → suffixed a m ≡ Ok (e, r)
+      → Limited (indexed (nested d) ts) d n e r
   unfolding indexed unindexed owned
-  step_e5_suffixed h o a ends p = same {S = primary (nested d) ts >>= λ x. owned (nested d) x.0 x.1}
-      (rw (h, o) refl) (then _ a (rw ends p))
+  step_e5_suffixed h o a ends short p = same {S = primary (nested d) ts >>= λ x. owned (nested d) x.0 x.1}
+      (rw (h, o) refl) (then _ a short (rw ends p))
 
   pub step_e5_entry : {n k : ℕ} {a i : ExpressionTree} {p q o : Position} {f : List ℕ} {m r : List Lexeme}
       → array_at ts ≡ None → prefixes (head ts) ≡ false
       → Limited (primary (nested d) ts) d n a (sign s.DotAmpersand q ∷ name f p ∷ sign s.LongArrow o ∷ m)
-      → Limited (unary (nested d) m) d k i r
+      → length r ≤ length m → Limited (unary (nested d) m) d k i r
       → Limited (indexed (nested d) ts) d (max n k) (property_entry a (record { text = f; position = p }) i) r
   unfolding indexed unindexed owned entry entry_of expect_name expect
-  step_e5_entry h o a b = same {S = primary (nested d) ts >>= λ x. owned (nested d) x.0 x.1} (rw (h, o) refl)
-      (bound _ a (then _ b refl))
+  step_e5_entry h o a short b = same {S = primary (nested d) ts >>= λ x. owned (nested d) x.0 x.1} (rw (h, o) refl)
+      (bound _ a (omega (arith, short)) (then _ b (omega arith) refl))
 
   pub step_u_suffixed : {n : ℕ} {a e : ExpressionTree} {m r : List Lexeme} → is_sign s.Minus (head ts) ≡ false
-      → stepping (head ts) ≡ None → Limited (primary (nested d) ts) d n a m → suffixed a m ≡ Ok (e, r)
+      → stepping (head ts) ≡ None → Limited (primary (nested d) ts) d n a m → length r ≤ length m
+      → suffixed a m ≡ Ok (e, r)
       → Limited (unary (nested d) ts) d n e r
   unfolding unary stepped
-  step_u_suffixed h o a p = same {S = primary (nested d) ts >>= λ x. suffixed x.0 x.1} (rw (h, o) refl) (then _ a p)
+  step_u_suffixed h o a short p = same {S = primary (nested d) ts >>= λ x. suffixed x.0 x.1} (rw (h, o) refl) (then _ a short p)
 
   pub step_primary : {n : ℕ} {e : ExpressionTree} {r : List Lexeme} → Limited (atom (nested d) ts) d n e r
       → Owned (primary (nested d) ts) d n e r
@@ -183,16 +188,16 @@ module _ (ts : List Lexeme) (d : ℕ) where
 
 module _ (d : ℕ) (m : List Lexeme) where
   pub step_n1_not : {n : ℕ} (p : Position) {e : ExpressionTree} {r : List Lexeme}
-      → Limited (nested d negation m) d n e r
+      → Limited (nested d negation (suc (length m)) m) d n e r
       → Limited (negated (nested d) (sign s.Not p ∷ m)) d n (prefixed op.Not e) r
   unfolding negated
-  step_n1_not p a = then _ a refl
+  step_n1_not p a = then _ a (omega arith) refl
 
   pub step_n4_complement : {n : ℕ} (p : Position) {e : ExpressionTree} {r : List Lexeme}
-      → Limited (nested d complement m) d n e r → Limited (complemented (nested d) (sign s.Tilde p ∷ m)) d n
+      → Limited (nested d complement (suc (length m)) m) d n e r → Limited (complemented (nested d) (sign s.Tilde p ∷ m)) d n
       (prefixed op.Complement e) r
   unfolding complemented
-  step_n4_complement p a = then _ a refl
+  step_n4_complement p a = then _ a (omega arith) refl
 
   pub step_e5_index : {n : ℕ} (p : Position) (t : Lexeme) (f : List ℕ) (width : Width) {e : ExpressionTree} {r : List
       Lexeme} → indexing t ≡ Some width → Limited (unary (nested d) m) d n e r
@@ -200,19 +205,19 @@ module _ (d : ℕ) (m : List Lexeme) where
   unfolding indexed array_at
   step_e5_index p t f width o a =
       same {S = unary (nested d) m >>= λ x. Ok (index (record { text = f; position = p }) width x.0, x.1)}
-      (rw o refl) (then _ a refl)
+      (rw o refl) (then _ a (omega arith) refl)
 
-  pub step_u_minus : {n : ℕ} (p : Position) {e : ExpressionTree} {r : List Lexeme} → Limited (nested d prefix m) d n e r
+  pub step_u_minus : {n : ℕ} (p : Position) {e : ExpressionTree} {r : List Lexeme} → Limited (nested d prefix (suc (length m)) m) d n e r
       → Limited (unary (nested d) (sign s.Minus p ∷ m)) d n (prefixed op.Minus e) r
   unfolding unary
-  step_u_minus p a = then _ a refl
+  step_u_minus p a = then _ a (omega arith) refl
 
   pub step_u_before : {n : ℕ} (t : Lexeme) (op : Step) {e : ExpressionTree} {r : List Lexeme} → stepping t ≡ Some op
-      → Limited (nested d operand m) d n e r → Limited (unary (nested d) (t ∷ m)) d n
+      → Limited (nested d operand (suc (length m)) m) d n e r → Limited (unary (nested d) (t ∷ m)) d n
       (step_before op (position_of t) e) r
   unfolding unary
-  step_u_before t op o a = same {S = nested d operand m >>= λ x. Ok (step_before op (position_of t) x.0, x.1)}
-      (rw (stepping_only t op o, o) refl) (then _ a refl)
+  step_u_before t op o a = same {S = nested d operand (suc (length m)) m >>= λ x. Ok (step_before op (position_of t) x.0, x.1)}
+      (rw (stepping_only t op o, o) refl) (then _ a (omega arith) refl)
 
   pub step_p_number : (p : Position) (n : ℕ) → Limited (atom (nested d) (number n p ∷ m)) d 0 (constant n) m
   unfolding atom
@@ -244,21 +249,21 @@ module _ (d : ℕ) (m : List Lexeme) where
   step_p_name p f st = at_once (rw (parenthesis_stops (head m) st) refl)
 
   pub step_p_parenthesised : {n : ℕ} (p : Position) {o : Position} {e : ExpressionTree} {r : List Lexeme}
-      → Limited (nested d whole m) d n e (sign s.CloseParenthesis o ∷ r)
+      → Limited (nested d whole (suc (length m)) m) d n e (sign s.CloseParenthesis o ∷ r)
       → Limited (atom (nested d) (sign s.OpenParenthesis p ∷ m)) d n (parenthesised e) r
   unfolding atom enclosed expect
-  step_p_parenthesised p a = then _ a refl
+  step_p_parenthesised p a = then _ a (omega arith) refl
 
   pub step_p_relative : {n : ℕ} (t : Lexeme) (which : Relative) (p : Position) {o : Position} {e : ExpressionTree}
-      {r : List Lexeme} → relating t ≡ Some which → Limited (nested d whole m) d n e (sign s.CloseParenthesis o ∷ r)
+      {r : List Lexeme} → relating t ≡ Some which → Limited (nested d whole (suc (length m)) m) d n e (sign s.CloseParenthesis o ∷ r)
       → Limited (atom (nested d) (t ∷ sign s.OpenParenthesis p ∷ m)) d n (relative_of which e) r
   unfolding atom related expect
-  step_p_relative (reserved v q) which p h a = same {S = nested d whole m >>= λ x. expect s.CloseParenthesis x.1
-      >>= λ u. Ok (relative_of which x.0, u)} (rw h refl) (then _ a refl)
+  step_p_relative (reserved v q) which p h a = same {S = nested d whole (suc (length m)) m >>= λ x. expect s.CloseParenthesis x.1
+      >>= λ u. Ok (relative_of which x.0, u)} (rw h refl) (then _ a (omega arith) refl)
   step_p_relative _ which p h a = absurd cc
 
   pub step_p_call : {n : ℕ} (p q : Position) (f : List ℕ) {e : ExpressionTree} {r : List Lexeme}
-      → Limited (nested d (arguments (record { text = f; position = p })) m) d n e r
+      → Limited (nested d (arguments (record { text = f; position = p })) (suc (length m)) m) d n e r
       → Limited (atom (nested d) (name f p ∷ sign s.OpenParenthesis q ∷ m)) d n e r
   unfolding atom after_name
   step_p_call p q f a = same refl a
@@ -275,4 +280,4 @@ module _ (d : ℕ) (m : List Lexeme) where
   unfolding called expect
   step_called {r = r} f es h a =
       same {S = list (is_sign s.Comma) (expression (nested d)) m >>= λ x. expect s.CloseParenthesis x.1
-      >>= λ u. Ok (call f (trees_of x.0), u)} (rw h refl) (then _ a (rw (trees_back es) refl))
+      >>= λ u. Ok (call f (trees_of x.0), u)} (rw h refl) (then _ a (omega arith) (rw (trees_back es) refl))

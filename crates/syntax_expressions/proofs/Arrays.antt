@@ -29,7 +29,7 @@ pub array_no_name : (ts : List Lexeme) → is_name (head ts) ≡ false → array
 unfolding array_at
 array_no_name ts e = not_a_name (head ts) (indexing (head (tail ts))) e
 
-no_arrow : (t : Lexeme) → array_of t None ≡ None
+pub no_arrow : (t : Lexeme) → array_of t None ≡ None
 no_arrow (name n p) = refl
 no_arrow _ = refl
 
@@ -44,7 +44,7 @@ step_no_index (sign s.Increment p) op e = refl
 step_no_index (sign s.Decrement p) op e = refl
 step_no_index _ op e = absurd cc
 
-step_no_name : (t : Lexeme) (op : Step) → stepping t ≡ Some op → is_name t ≡ false
+pub step_no_name : (t : Lexeme) (op : Step) → stepping t ≡ Some op → is_name t ≡ false
 step_no_name (sign s.Increment p) op e = refl
 step_no_name (sign s.Decrement p) op e = refl
 step_no_name _ op e = absurd cc

@@ -97,7 +97,7 @@ begins_any (reserved r p) lt = word_any r lt
 begins_any (sign s.OpenParenthesis p) lt = refl
 begins_any _ lt = absurd (omega arith)
 
-step_begins : (t : Lexeme) (op : Step) → stepping t ≡ Some op → begins t ≡ 3
+pub step_begins : (t : Lexeme) (op : Step) → stepping t ≡ Some op → begins t ≡ 3
 step_begins (sign s.Increment p) op e = refl
 step_begins (sign s.Decrement p) op e = refl
 step_begins _ op e = absurd cc
@@ -108,7 +108,7 @@ relating_word_level w.Child which e = refl
 relating_word_level w.Sibling which e = refl
 relating_word_level _ which e = absurd cc
 
-relating_begins : (t : Lexeme) (which : Relative) → relating t ≡ Some which → begins t ≡ 4
+pub relating_begins : (t : Lexeme) (which : Relative) → relating t ≡ Some which → begins t ≡ 4
 relating_begins (reserved r p) which e = relating_word_level r which e
 relating_begins _ which e = absurd cc
 

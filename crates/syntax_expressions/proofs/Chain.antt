@@ -8,7 +8,7 @@ use Rattle.syntax_lexer.specs.Token.{Lexeme, lexeme, lexemes}
 use Rattle.syntax_trees.specs.declared.tree.Binary.{Binary}
 use Rattle.syntax_trees.specs.declared.tree.Expression.{Expression}
 use Rattle.syntax_trees.specs.Tree.{ExpressionTree, binary, chained, expression_tree, link}
-use Rattle.syntax_parsing.specs.declared.error.Fault.{Fault}
+use Rattle.syntax_parsing.specs.Stop.{Stop, stop_of}
 use Rattle.syntax_parsing.specs.declared.error.ParseError.{ParseError}
 use Rattle.syntax_parsing.specs.declared.error.ParseError.TheVariants as errors
 use Rattle.syntax_parsing.specs.Parse.{◌>>=◌, Fails, Parse, head, tail}
@@ -34,17 +34,17 @@ module _ (ops : Lexeme → Option Binary) (p : Parse ExpressionTree) where
   unfolding chain
   chain_done n i left ts le = let k : n - i ≡ 0 = omega arith in rw k refl
 
-  pub chain_err : (n i : ℕ) (left : ExpressionTree) (ts : List Lexeme) (op : Binary) (f : Fault) → i < n
+  pub chain_err : (n i : ℕ) (left : ExpressionTree) (ts : List Lexeme) (op : Binary) (f : Stop) → i < n
       → ops (head ts) ≡ Some op → p (tail ts) ≡ Err f → chain ops p (n - i) left ts ≡ Err f
   unfolding chain
   chain_err n i left ts op f lt e h = let k : n - i ≡ suc (n - (i + 1)) = omega arith in rw (k, e, h) refl
 
   pub chain_fails : (e : ParseError) (n i : ℕ) (left : ExpressionTree) (ts : List Lexeme) (op : Binary)
-      (total : Result (ExpressionTree × List Lexeme) Fault) → i < n → ops (head ts) ≡ Some op → Fails e (p (tail ts))
+      (total : Result (ExpressionTree × List Lexeme) Stop) → i < n → ops (head ts) ≡ Some op → Fails e (p (tail ts))
       → chain ops p (n - i) left ts ≡ total → Fails e total
   chain_fails errors.Memory n i left ts op total lt o h so_far = tt
   chain_fails (errors.Fault f count) n i left ts op total lt o h so_far = sym so_far
-      ∙ chain_err n i left ts op f lt o h
+      ∙ chain_err n i left ts op (stop_of f count) lt o h
 
   pub chain_more : (n i : ℕ) (first : ExpressionTree) (ls : List (Binary × Expression)) (ts : List Lexeme)
       (op : Binary) (r : Expression) (rest : List Lexeme) → i < n → ops (head ts) ≡ Some op
@@ -76,7 +76,7 @@ module _ (ops : Lexeme → Option Binary) (p : Parse ExpressionTree) where
 
 -- ---- the levels of chains
 
-module _ (below : Level → Parse ExpressionTree) (l : Operators) where
+module _ (below : Level → ℕ → Parse ExpressionTree) (l : Operators) where
   level_is : (ts : List Lexeme) → chain_of below l ts
       ≡ (operand_of below l ts >>= λ x. chain (operator_of l) (operand_of below l) (length x.1) x.0 x.1)
   unfolding condition sum product

@@ -1,5 +1,5 @@
 -- What has a tree is read as that tree, unless it is nested too deep. So tokens have one tree.
-use Rattle.std.proofs.Common.{ℕ, List, ◌∷◌, refl, arith}
+use Rattle.std.proofs.Common.{ℕ, List, ◌∷◌, refl, arith, length, suc}
 use Rattle.syntax_lexer.specs.declared.token.Position.{Position}
 use Rattle.syntax_lexer.specs.declared.token.Sign.TheVariants as s
 use Rattle.syntax_lexer.specs.declared.token.Word.TheVariants as w
@@ -28,7 +28,7 @@ use Rattle.syntax_expressions.proofs.Begins.{begins_not, begins_tilde, begins_mi
 use Rattle.syntax_expressions.proofs.Begins.{step_prefixes, begins_close, begin_P, begin_E5, begin_E2, begin_Arguments}
 use Rattle.syntax_expressions.proofs.Begins.{first_E}
 use Rattle.syntax_expressions.proofs.Arrays.{no_array_P, no_array}
-use Rattle.syntax_expressions.proofs.Short.{short_E, short_N1, short_E3, short_E4, short_N4}
+use Rattle.syntax_expressions.proofs.Short.{short_E, short_N1, short_Choice, short_E3, short_E4, short_N4, short_U, short_P, short_Arguments}
 use Rattle.syntax_expressions.proofs.Alternatives.{list_of, owner_ends, suffix_none, suffix_step, suffix_length}
 use Rattle.syntax_expressions.proofs.Alternatives.{step_e_plain, step_e_assign, step_e1_plain, step_n1_plain}
 use Rattle.syntax_expressions.proofs.Alternatives.{step_e2_plain, step_e2_contained, step_e2_tested, step_e2_compare}
@@ -44,8 +44,8 @@ mutual
   pub at_E : {ts r : List Lexeme} {e : ExpressionTree} → IsE ts e r → (d : ℕ) → Stops 1 r
       → Limited (expression (nested d) ts) d (nesting e) e r
   at_E {ts} (e_plain a) d st = step_e_plain ts d (at_E1 a d (omega arith)) st
-  at_E {ts} (e_assign {m = m} a b) d st = step_e_assign ts d m (at_E1 a d (omega arith)) (first_E b)
-      (in_whole m d (λ k. at_E b k st))
+  at_E {ts} (e_assign {m = m} a b) d st = step_e_assign ts d m (at_E1 a d (omega arith)) (first_E b) (omega (arith, short_E b))
+      (in_whole (length m) m d (short_E b) (λ k. at_E b k st))
 
   pub at_E1 : {ts r : List Lexeme} {e : ExpressionTree} → IsE1 ts e r → (d : ℕ) → Stops 2 r
       → Limited (condition (nested d) ts) d (nesting e) e r
@@ -54,7 +54,7 @@ mutual
       (goes_on (chain_E1 a d (omega (arith, logical_binds t op o))) o (at_N1 b d (omega arith)) (short_N1 b))
       (logical_stops (head r) st)
 
-  chain_E1 : {ts r : List Lexeme} {e : ExpressionTree} → IsE1 ts e r → (d : ℕ) → Stops 3 r
+  pub chain_E1 : {ts r : List Lexeme} {e : ExpressionTree} → IsE1 ts e r → (d : ℕ) → Stops 3 r
       → Chained logical (negated (nested d)) (condition (nested d) ts) d (nesting e) e r
   chain_E1 {ts} (e1_plain a) d st = step_e1_plain ts d (at_N1 a d st)
   chain_E1 (e1_logical {t = t} {op = op} a o b) d st = goes_on (chain_E1 a d (omega (arith, logical_binds t op o))) o
@@ -63,19 +63,19 @@ mutual
   pub at_N1 : {ts r : List Lexeme} {e : ExpressionTree} → IsN1 ts e r → (d : ℕ) → Stops 3 r
       → Limited (negated (nested d) ts) d (nesting e) e r
   at_N1 {ts} (n1_plain a) d st = step_n1_plain ts d (begins_not (head ts) (begin_E2 a)) (at_E2 a d st)
-  at_N1 (n1_not {m = m} {p = p} a) d st = step_n1_not d m p (in_negation m d (λ k. at_N1 a k st))
+  at_N1 (n1_not {m = m} {p = p} a) d st = step_n1_not d m p (in_negation (suc (length m)) m d (omega (arith, short_N1 a)) (λ k. at_N1 a k st))
 
   pub at_E2 : {ts r : List Lexeme} {e : ExpressionTree} → IsE2 ts e r → (d : ℕ) → Stops 3 r
       → Limited (comparison (nested d) ts) d (nesting e) e r
   at_E2 {ts} (e2_plain a) d st = step_e2_plain ts d (at_E3 a d (omega arith)) st
   at_E2 {ts} (e2_compare {t = t} {op = op} a o b) d st = step_e2_compare ts d
-      (at_E3 a d (omega (arith, comparing_binds t op o))) o (at_E3 b d (omega arith))
+      (at_E3 a d (omega (arith, comparing_binds t op o))) o (omega (arith, short_E3 b)) (at_E3 b d (omega arith))
   at_E2 {ts} (e2_contained {t = t} {op = op} a o b) d st = step_e2_contained ts d
-      (at_E3 a d (omega (arith, containing_binds t op o))) o (at_E3 b d (omega arith))
+      (at_E3 a d (omega (arith, containing_binds t op o))) o (omega (arith, short_E3 b)) (at_E3 b d (omega arith))
   at_E2 {ts} (e2_tested {t = t} {test = test} a o) d st = step_e2_tested ts d
       (at_E3 a d (omega (arith, testing_binds t test o))) o
   at_E2 {ts} (e2_equal {m = m} {t = t} {op = op} a o b) d st = step_e2_equal ts d
-      (at_E3 a d (omega (arith, equating_binds t op o))) o
+      (at_E3 a d (omega (arith, equating_binds t op o))) o (omega (arith, short_Choice b))
       (listed_all (is_word w.Or) (sum (nested d)) d m (at_Choice b d st))
 
   at_Choice : {ts r : List Lexeme} {es : ExpressionTrees} → IsChoice ts es r → (d : ℕ) → Stops 3 r
@@ -92,7 +92,7 @@ mutual
       (goes_on (chain_E3 a d (omega (arith, adding_binds t op o))) o (at_E4 b d (omega arith)) (short_E4 b))
       (adding_stops (head r) st)
 
-  chain_E3 : {ts r : List Lexeme} {e : ExpressionTree} → IsE3 ts e r → (d : ℕ) → Stops 5 r
+  pub chain_E3 : {ts r : List Lexeme} {e : ExpressionTree} → IsE3 ts e r → (d : ℕ) → Stops 5 r
       → Chained adding (product (nested d)) (sum (nested d) ts) d (nesting e) e r
   chain_E3 {ts} (e3_plain a) d st = step_e3_plain ts d (at_E4 a d st)
   chain_E3 (e3_add {t = t} {op = op} a o b) d st = goes_on (chain_E3 a d (omega (arith, adding_binds t op o))) o
@@ -105,7 +105,7 @@ mutual
       (goes_on (chain_E4 a d (omega (arith, scaling_binds t op o))) o (at_N4 b d (omega arith)) (short_N4 b))
       (scaling_stops (head r) st)
 
-  chain_E4 : {ts r : List Lexeme} {e : ExpressionTree} → IsE4 ts e r → (d : ℕ) → Stops 6 r
+  pub chain_E4 : {ts r : List Lexeme} {e : ExpressionTree} → IsE4 ts e r → (d : ℕ) → Stops 6 r
       → Chained scaling (complemented (nested d)) (product (nested d) ts) d (nesting e) e r
   chain_E4 {ts} (e4_plain a) d st = step_e4_plain ts d (at_N4 a d st)
   chain_E4 (e4_scale {t = t} {op = op} a o b) d st = goes_on (chain_E4 a d (omega (arith, scaling_binds t op o))) o
@@ -114,46 +114,46 @@ mutual
   pub at_N4 : {ts r : List Lexeme} {e : ExpressionTree} → IsN4 ts e r → (d : ℕ) → Stops 6 r
       → Limited (complemented (nested d) ts) d (nesting e) e r
   at_N4 {ts} (n4_plain a) d st = step_n4_plain ts d (begins_tilde (head ts) (begin_E5 a)) (at_E5 a d st)
-  at_N4 (n4_complement {m = m} {p = p} a) d st = step_n4_complement d m p (in_complement m d (λ k. at_N4 a k st))
+  at_N4 (n4_complement {m = m} {p = p} a) d st = step_n4_complement d m p (in_complement (suc (length m)) m d (omega (arith, short_N4 a)) (λ k. at_N4 a k st))
 
   pub at_E5 : {ts r : List Lexeme} {e : ExpressionTree} → IsE5 ts e r → (d : ℕ) → Stops 6 r
       → Limited (indexed (nested d) ts) d (nesting e) e r
   at_E5 {ts} {r} (e5_plain (u_plain {e = e} a)) d st = step_e5_suffixed ts d (no_array (u_plain a) st)
       (begins_prefix (head ts) (begin_P a)) (owner_ends (owner_P a d (omega arith)) (omega arith))
-      (entry_stops (head r) st) (suffix_none e r st)
+      (entry_stops (head r) st) (omega arith) (suffix_none e r st)
   at_E5 {ts} (e5_plain (u_minus {m = m} {p = p} a)) d st = step_e5_prefixed ts d (no_array (u_minus a) st) refl
-      (step_u_minus d m p (in_prefix m d (λ k. at_U a k st)))
+      (step_u_minus d m p (in_prefix (suc (length m)) m d (omega (arith, short_U a)) (λ k. at_U a k st)))
   at_E5 {ts} (e5_plain (u_before {m = m} {t = t} {op = op} o a)) d st = step_e5_prefixed ts d
       (no_array (u_before o a) st) (step_prefixes t op o)
-      (step_u_before d m t op o (in_operand m d (λ k. owner_ends (owner_P a k (omega arith)) (omega arith))))
+      (step_u_before d m t op o (in_operand (suc (length m)) m d (omega (arith, short_P a)) (λ k. owner_ends (owner_P a k (omega arith)) (omega arith))))
   at_E5 {ts} {r} (e5_plain (u_after {t = t} {op = op} {e = e} a o)) d st = step_e5_suffixed ts d
       (no_array (u_after a o) st) (begins_prefix (head ts) (begin_P a))
       (owner_ends (owner_P a d (omega (arith, stepping_binds t op o))) (omega (arith, stepping_binds t op o)))
-      (step_no_entry t op o) (suffix_step e t op r o)
+      (step_no_entry t op o) (omega arith) (suffix_step e t op r o)
   at_E5 {ts} {r} (e5_plain (u_length {p = p} {q = q} {n = f} {e = e} a)) d st = step_e5_suffixed ts d
       (no_array (u_length a) st) (begins_prefix (head ts) (begin_P a))
-      (owner_ends (owner_P a d (omega arith)) (omega arith)) refl (suffix_length e p q f r)
+      (owner_ends (owner_P a d (omega arith)) (omega arith)) refl (omega arith) (suffix_length e p q f r)
   at_E5 {ts} (e5_entry a b) d st = step_e5_entry ts d (no_array_P a refl) (begins_prefix (head ts) (begin_P a))
-      (owner_ends (owner_P a d (omega arith)) (omega arith)) (at_U b d st)
+      (owner_ends (owner_P a d (omega arith)) (omega arith)) (omega (arith, short_U b)) (at_U b d st)
   at_E5 (e5_index {m = m} {p = p} {t = t} {n = f} {width = width} o a) d st = step_e5_index d m p t f width o
       (at_U a d st)
 
   pub at_U : {ts r : List Lexeme} {e : ExpressionTree} → IsU ts e r → (d : ℕ) → Stops 6 r
       → Limited (unary (nested d) ts) d (nesting e) e r
   at_U {ts} {r} (u_plain {e = e} a) d st = step_u_suffixed ts d (begins_minus (head ts) (begin_P a))
-      (begins_step (head ts) (begin_P a)) (owner_ends (owner_P a d (omega arith)) (omega arith)) (suffix_none e r st)
-  at_U (u_minus {m = m} {p = p} a) d st = step_u_minus d m p (in_prefix m d (λ k. at_U a k st))
+      (begins_step (head ts) (begin_P a)) (owner_ends (owner_P a d (omega arith)) (omega arith)) (omega arith) (suffix_none e r st)
+  at_U (u_minus {m = m} {p = p} a) d st = step_u_minus d m p (in_prefix (suc (length m)) m d (omega (arith, short_U a)) (λ k. at_U a k st))
   at_U (u_before {m = m} {t = t} {op = op} o a) d st = step_u_before d m t op o
-      (in_operand m d (λ k. owner_ends (owner_P a k (omega arith)) (omega arith)))
+      (in_operand (suc (length m)) m d (omega (arith, short_P a)) (λ k. owner_ends (owner_P a k (omega arith)) (omega arith)))
   at_U {ts} {r} (u_after {t = t} {op = op} {e = e} a o) d st = step_u_suffixed ts d
       (begins_minus (head ts) (begin_P a)) (begins_step (head ts) (begin_P a))
       (owner_ends (owner_P a d (omega (arith, stepping_binds t op o))) (omega (arith, stepping_binds t op o)))
-      (suffix_step e t op r o)
+      (omega arith) (suffix_step e t op r o)
   at_U {ts} {r} (u_length {p = p} {q = q} {n = f} {e = e} a) d st = step_u_suffixed ts d
       (begins_minus (head ts) (begin_P a)) (begins_step (head ts) (begin_P a))
-      (owner_ends (owner_P a d (omega arith)) (omega arith)) (suffix_length e p q f r)
+      (owner_ends (owner_P a d (omega arith)) (omega arith)) (omega arith) (suffix_length e p q f r)
 
-  owner_P : {ts r : List Lexeme} {e : ExpressionTree} → IsP ts e r → (d : ℕ) → Stops 8 r
+  pub owner_P : {ts r : List Lexeme} {e : ExpressionTree} → IsP ts e r → (d : ℕ) → Stops 8 r
       → Owned (primary (nested d) ts) d (nesting e) e r
   owner_P (p_property a) d st = owner_next (owner_P a d (omega arith))
   owner_P {ts} (p_number {r = r} {p = p} {n = n}) d st = step_primary ts d (step_p_number d r p n)
@@ -166,18 +166,18 @@ mutual
   owner_P {ts} (p_call {r = r} {p = p} {q = q} {o = o} {n = f}) d st =
       step_primary ts d
       (step_p_call d (sign s.CloseParenthesis o ∷ r) p q f
-      (in_arguments (record { text = f; position = p }) (sign s.CloseParenthesis o ∷ r) d
+      (in_arguments (record { text = f; position = p }) (suc (suc (length r))) (sign s.CloseParenthesis o ∷ r) d (omega arith)
       (λ k. step_called_none k r o (record { text = f; position = p }))))
   owner_P {ts} (p_call_with {m = m} {p = p} {q = q} {n = f} {es = es} a) d st =
       step_primary ts d
       (step_p_call d m p q f
-      (in_arguments (record { text = f; position = p }) m d
+      (in_arguments (record { text = f; position = p }) (suc (length m)) m d (omega (arith, short_Arguments a))
       (λ k. step_called k m (record { text = f; position = p }) es (begins_close (head m) (begin_Arguments a))
       (listed_all (is_sign s.Comma) (expression (nested k)) k m (at_Arguments a k)))))
   owner_P {ts} (p_relative {m = m} {p = p} {t = t} {which = which} h a) d st = step_primary ts d
-      (step_p_relative d m t which p h (in_whole m d (λ k. at_E a k (omega arith))))
+      (step_p_relative d m t which p h (in_whole (suc (length m)) m d (omega (arith, short_E a)) (λ k. at_E a k (omega arith))))
   owner_P {ts} (p_parenthesised {m = m} {p = p} a) d st = step_primary ts d
-      (step_p_parenthesised d m p (in_whole m d (λ k. at_E a k (omega arith))))
+      (step_p_parenthesised d m p (in_whole (suc (length m)) m d (omega (arith, short_E a)) (λ k. at_E a k (omega arith))))
 
   -- up to the closing parenthesis
   at_Arguments : {ts r : List Lexeme} {o : Position} {es : ExpressionTrees}

@@ -5,15 +5,16 @@ use Rattle.syntax_lexer.specs.declared.token.Word.{Word}
 use Rattle.syntax_lexer.specs.declared.token.Word.TheVariants as w
 use Rattle.syntax_lexer.specs.Token.{Lexeme, reserved, sign}
 use Rattle.syntax_trees.specs.Tree.{ExpressionTree}
-use Rattle.syntax_parsing.specs.declared.error.Fault.{Fault}
+use Rattle.syntax_parsing.specs.Stop.{Stop}
 use Rattle.syntax_parsing.specs.Parse.{head}
 use Rattle.syntax_expressions.specs.Grammar.{nesting}
 use Rattle.syntax_expressions.specs.Laws.{word_goes_on, continues, goes_on, ReadsWhatDerives, DerivesWhatIsRead}
 use Rattle.syntax_expressions.specs.Laws.{DeepWhereDeep, OneTree, ReadsUnassigned, UnassignedIsRead, UnassignedDeep}
-use Rattle.syntax_expressions.specs.Laws.{OneUnassigned}
+use Rattle.syntax_expressions.specs.Laws.{OneUnassigned, DeepAtFirst, UnassignedAtFirst}
 use Rattle.syntax_expressions.proofs.Follow.{word_binds, binds}
 use Rattle.syntax_expressions.proofs.Sound.{judged_E, judged_E1}
 use Rattle.syntax_expressions.proofs.Complete.{at_E, at_E1}
+use Rattle.syntax_expressions.proofs.DeepExpressions.{deep_E, deep_E1}
 
 word_stops : (r : Word) → word_goes_on r ≡ false → word_binds r < 1
 word_stops w.Or e = absurd cc
@@ -89,9 +90,14 @@ complete d ts r e a o =
     (l.within, l.beyond)
 
 pub deep : DeepWhereDeep
-deep d ts h = (judged_E d ts).deep h
+deep d left ts h =
+    let s = (judged_E d ts).deep left h in
+    (s.from, s.is, s.left)
 
-abbrev found : ExpressionTree × List Lexeme → Result (ExpressionTree × List Lexeme) Fault
+pub at_first : DeepAtFirst
+at_first d n ts u x lt = (deep_E x d).stops lt
+
+abbrev found : ExpressionTree × List Lexeme → Result (ExpressionTree × List Lexeme) Stop
 found x = Ok x
 
 found_is : (x y : ExpressionTree × List Lexeme) → found x ≡ found y → x ≡ y
@@ -116,7 +122,12 @@ complete_unassigned d ts r e a o =
     (l.within, l.beyond)
 
 pub deep_unassigned : UnassignedDeep
-deep_unassigned d ts h = (judged_E1 d ts).deep h
+deep_unassigned d left ts h =
+    let s = (judged_E1 d ts).deep left h in
+    (s.from, s.is, s.left)
+
+pub unassigned_at_first : UnassignedAtFirst
+unassigned_at_first d n ts u x lt = (deep_E1 x d).stops lt
 
 pub one_unassigned : OneUnassigned
 one_unassigned ts r u a b p q o g =

@@ -15,5 +15,7 @@ pub mod Begins
 pub mod Arrays
 pub mod Alternatives
 pub mod Complete
+pub mod Deepened
+pub mod DeepExpressions
 pub mod Given
 mod Samples

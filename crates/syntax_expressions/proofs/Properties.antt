@@ -8,13 +8,12 @@ use Rattle.syntax_lexer.specs.declared.token.Token.{Token}
 use Rattle.syntax_lexer.specs.Token.{Lexeme, name, sign, lexeme, lexemes}
 use Rattle.syntax_trees.specs.declared.tree.Name.{Name}
 use Rattle.syntax_trees.specs.Tree.{NameTree, ExpressionTree, property, property_length, name_tree, propertied}
-use Rattle.syntax_parsing.specs.declared.error.Fault.{Fault}
-use Rattle.syntax_parsing.specs.declared.error.Fault.TheVariants.{Deep}
+use Rattle.syntax_parsing.specs.Stop.{Stop, TooDeep, stop_of}
 use Rattle.syntax_parsing.specs.declared.error.ParseError.{ParseError}
 use Rattle.syntax_parsing.specs.declared.error.ParseError.TheVariants as errors
 use Rattle.syntax_parsing.specs.Parse.{◌>>=◌, Fails, head, tail, is_sign}
 use Rattle.syntax_expressions.specs.Parse.{expect_name, properties, lengthened, property_next}
-use Rattle.syntax_expressions.proofs.Limited.{Limited}
+use Rattle.syntax_expressions.proofs.Limited.{Limited, deep_before, deep_sooner}
 
 -- ---- the length of a property
 
@@ -75,17 +74,17 @@ properties_next n i e ns x ts us r lt h u g = rw (propertied_push e ns x)
 
 -- where a name is missing
 properties_broken : (fault : ParseError) (n i : ℕ) (e : ExpressionTree) (ts us : List Lexeme)
-    (total : Result (ExpressionTree × List Lexeme) Fault) → i < n → is_sign s.Dot (head ts) ≡ true
+    (total : Result (ExpressionTree × List Lexeme) Stop) → i < n → is_sign s.Dot (head ts) ≡ true
     → us ≡ tail ts → Fails fault (property_next e us) → properties (n - i) e ts ≡ total → Fails fault total
 unfolding properties
 properties_broken errors.Memory n i e ts us total lt h u g so_far = tt
 properties_broken (errors.Fault f count) n i e ts us total lt h u g so_far =
     let k : n - i ≡ suc (n - (i + 1)) = omega arith in
-    let one : properties (n - i) e ts ≡ Err f = rw (k, h, ← u, g) refl in
+    let one : properties (n - i) e ts ≡ Err (stop_of f count) = rw (k, h, ← u, g) refl in
     sym so_far ∙ one
 
 pub properties_fail : (fault : ParseError) (n i : ℕ) (e : ExpressionTree) (ts us : List Lexeme)
-    (total : Result (ExpressionTree × List Lexeme) Fault) → i < n → is_sign s.Dot (head ts) ≡ true
+    (total : Result (ExpressionTree × List Lexeme) Stop) → i < n → is_sign s.Dot (head ts) ≡ true
     → us ≡ tail ts → Fails fault (expect_name us) → properties (n - i) e ts ≡ total → Fails fault total
 properties_fail fault n i e ts us total lt h u g so_far =
     properties_broken fault n i e ts us total lt h u (property_unnamed fault e us g) so_far
@@ -127,27 +126,27 @@ properties_begin_fails fault e ts us h u g = begins_broken fault e ts us h u (pr
 
 -- where the loop ends, after all turns or at another token
 pub properties_read : (n i : ℕ) (e : ExpressionTree) (r : List Lexeme)
-    (total : Result (ExpressionTree × List Lexeme) Fault) → properties (n - i) e r ≡ total
+    (total : Result (ExpressionTree × List Lexeme) Stop) → properties (n - i) e r ≡ total
     → (n ≤ i) ⊎ (is_sign s.Dot (head r) ≡ false) → total ≡ Ok (e, r)
 properties_read n i e r total so_far (inl le) = sym so_far ∙ properties_done n i e r le
 properties_read n i e r total so_far (inr h) = sym so_far ∙ properties_stop (n - i) e r h
 
 -- ---- by what derives: after e the loop goes on at m
 
-pub record Owned (R : Result (ExpressionTree × List Lexeme) Fault) (d n : ℕ) (e : ExpressionTree) (m : List Lexeme) :
+pub record Owned (R : Result (ExpressionTree × List Lexeme) Stop) (d n : ℕ) (e : ExpressionTree) (m : List Lexeme) :
     Type 0 where
   pub turns : ℕ
   pub enough : length m ≤ turns
   pub within : n ≤ d → R ≡ properties turns e m
-  pub beyond : d < n → R ≡ Err Deep
+  pub beyond : d < n → TooDeep (suc (length m)) R
 
-pub owner_begins : {R : Result (ExpressionTree × List Lexeme) Fault} {d n : ℕ} {e : ExpressionTree} {m : List Lexeme}
+pub owner_begins : {R : Result (ExpressionTree × List Lexeme) Stop} {d n : ℕ} {e : ExpressionTree} {m : List Lexeme}
     → Limited R d n e m → Owned (R >>= λ x. properties (length x.1) x.0 x.1) d n e m
 owner_begins {m = m} h = record {
   turns = length m;
   enough = omega arith;
   within = λ le. rw (h.within le) refl;
-  beyond = λ lt. rw (h.beyond lt) refl;
+  beyond = λ lt. deep_before _ (h.beyond lt);
 }
 
 owner_turn : (n : ℕ) (e : ExpressionTree) (p q : Position) (f : List ℕ) (r : List Lexeme) → 0 < n
@@ -157,17 +156,17 @@ unfolding properties property_next expect_name
 owner_turn zero e p q f r lt = absurd (omega arith)
 owner_turn (suc n) e p q f r lt = let k : suc n - 1 ≡ n = omega arith in rw k refl
 
-pub owner_next : {R : Result (ExpressionTree × List Lexeme) Fault} {d n : ℕ} {e : ExpressionTree} {p q : Position}
+pub owner_next : {R : Result (ExpressionTree × List Lexeme) Stop} {d n : ℕ} {e : ExpressionTree} {p q : Position}
     {f : List ℕ} {r : List Lexeme} → Owned R d n e (sign s.Dot q ∷ name f p ∷ r)
     → Owned R d n (property e (record { text = f; position = p })) r
 owner_next {e = e} {p = p} {q = q} {f = f} {r = r} o = record {
   turns = o.turns - 1;
   enough = omega (arith, o.enough);
   within = λ le. o.within le ∙ owner_turn o.turns e p q f r (omega (arith, o.enough));
-  beyond = o.beyond;
+  beyond = λ lt. deep_sooner (o.beyond lt) (omega arith);
 }
 
-pub owner_stops : {R : Result (ExpressionTree × List Lexeme) Fault} {d n : ℕ} {e : ExpressionTree} {r : List Lexeme}
+pub owner_stops : {R : Result (ExpressionTree × List Lexeme) Stop} {d n : ℕ} {e : ExpressionTree} {r : List Lexeme}
     → Owned R d n e r → is_sign s.Dot (head r) ≡ false → Limited R d n e r
 owner_stops {e = e} {r = r} o h = record {
   within = λ le. o.within le ∙ properties_stop o.turns e r h;

@@ -1,6 +1,6 @@
 -- What is read derives in the grammar and is nested no deeper than was allowed; and where the fault is that a token
 -- stands too deep, one does.
-use Rattle.std.proofs.Common.{◌≡◌, ℕ, zero, suc, ◌<◌, ◌≤◌, ◌⊎◌, true, List, [], ◌∷◌, length, Option, Some, None, refl}
+use Rattle.std.proofs.Common.{◌≡◌, ℕ, zero, suc, ◌<◌, ◌≤◌, true, List, [], ◌∷◌, length, Option, Some, None, refl}
 use Rattle.std.proofs.Common.{sym, subst, inl, inr, arith}
 use Rattle.syntax_lexer.specs.declared.token.Position.{Position}
 use Rattle.syntax_lexer.specs.declared.token.Sign.TheVariants as s
@@ -18,7 +18,7 @@ use Rattle.syntax_expressions.specs.Operators.{logical, comparing, equating, con
 use Rattle.syntax_expressions.specs.Nesting.{begins_expression, DeepE, deep_e_left, deep_e_first, deep_e_right, DeepE1}
 use Rattle.syntax_expressions.specs.Nesting.{deep_e1_first, deep_e1_next, DeepN1, deep_n1_plain, deep_n1_not}
 use Rattle.syntax_expressions.specs.Nesting.{deep_n1_in, DeepE2, deep_e2_left, deep_e2_compare, deep_e2_equal}
-use Rattle.syntax_expressions.specs.Nesting.{deep_e2_contained, DeepChoice, deep_choice_first, deep_choice_next, DeepE3}
+use Rattle.syntax_expressions.specs.Nesting.{deep_e2_contained, DeepChoice, deep_choice_first, deep_choice_next, DeepE3, DeepU, DeepP}
 use Rattle.syntax_expressions.specs.Nesting.{deep_e3_first, deep_e3_next, DeepE4, deep_e4_first, deep_e4_next, DeepN4}
 use Rattle.syntax_expressions.specs.Nesting.{deep_n4_plain, deep_n4_complement, deep_n4_in, DeepArguments}
 use Rattle.syntax_expressions.specs.Nesting.{deep_arguments_first, deep_arguments_next}
@@ -30,12 +30,12 @@ use Rattle.syntax_expressions.specs.Grammar.{IsE2, e2_plain, e2_compare, e2_equa
 use Rattle.syntax_expressions.specs.Grammar.{choice_last, choice_or, IsE3, e3_plain, e3_add, IsE4, e4_plain, e4_scale}
 use Rattle.syntax_expressions.specs.Grammar.{IsN4, n4_plain, n4_complement, IsP, p_call, p_call_with, IsArguments}
 use Rattle.syntax_expressions.specs.Grammar.{arguments_last, arguments_comma, nesting, nestings}
-use Rattle.syntax_expressions.proofs.Judged.{Judged, judged_read, judged_grammar, judged_deep, judged_then}
+use Rattle.syntax_expressions.proofs.Judged.{Stands, Judged, judged_read, judged_grammar, judged_deep, judged_then}
 use Rattle.syntax_expressions.proofs.Judged.{judged_after, judged_by, judged_as}
 use Rattle.syntax_expressions.proofs.Tokens.{at_sign, is_that_sign, is_that_word, expect_ok, expect_not_deep}
 use Rattle.syntax_expressions.proofs.NamesRead.{name_judged}
 use Rattle.syntax_expressions.proofs.Repeated.{chain_judged, list_judged}
-use Rattle.syntax_expressions.proofs.SoundOperands.{deeper, Inner, primary_judged, unary_judged, indexed_judged}
+use Rattle.syntax_expressions.proofs.SoundOperands.{Within, deeper, Inner, primary_judged, unary_judged, indexed_judged}
 
 module _ (d : ℕ) (inner : Inner d) where
   complemented_judged : (ts : List Lexeme) → Judged (λ e r. IsN4 ts e r × (nesting e ≤ d)) (DeepN4 (suc d) ts)
@@ -46,13 +46,13 @@ module _ (d : ℕ) (inner : Inner d) where
       (λ e.
       let at = at_sign s.Tilde ts e in
       let p = position_of (head ts) in
-      judged_then _ (inner.in_complement (tail ts))
+      judged_then _ (inner.in_complement ts (tail ts))
       (λ a r h. judged_read (prefixed op.Complement a) r
       (subst (λ u. IsN4 u (prefixed op.Complement a) r) (sym at) (n4_complement h.0), omega (arith, h.1)))
-      (λ h. subst (λ u. DeepN4 (suc d) u) (sym at)
-      (deeper (λ n. DeepN4 n (tail ts)) (λ n. DeepN4 n (sign s.Tilde p ∷ tail ts)) d deep_n4_complement
-      (λ n x. deep_n4_in x) h)))
-      (λ e. judged_as (indexed_judged d inner ts) (λ a r h. (n4_plain h.0, h.1)) (λ h. deep_n4_plain h))
+      (λ u h. deeper (λ n. DeepN4 n (tail ts)) (λ n. DeepN4 n ts) d ts u
+      (subst (λ v. DeepN4 1 v v) (sym at) deep_n4_complement)
+      (λ n x. subst (λ v. DeepN4 (suc n) v u) (sym at) (deep_n4_in x)) h))
+      (λ e. judged_as (indexed_judged d inner ts) (λ a r h. (n4_plain h.0, h.1)) (λ v h. deep_n4_plain h))
 
   product_judged : (ts : List Lexeme) → Judged (λ e r. IsE4 ts e r × (nesting e ≤ d)) (DeepE4 (suc d) ts)
       (product (nested d) ts)
@@ -62,9 +62,9 @@ module _ (d : ℕ) (inner : Inner d) where
       (λ a r h. chain_judged scaling (complemented (nested d)) (λ e u. IsE4 ts e u × (nesting e ≤ d))
       (DeepE4 (suc d) ts) refl
       (λ l t op m q o. judged_as (complemented_judged m) (λ b u g. (e4_scale q.0 o g.0, omega (arith, q.1, g.1)))
-      (λ g. deep_e4_next q.0 o g))
+      (λ v g. deep_e4_next q.0 o g))
       (length r) a r (e4_plain h.0, h.1))
-      (λ h. deep_e4_first h)
+      (λ v h. deep_e4_first h)
 
   sum_judged : (ts : List Lexeme) → Judged (λ e r. IsE3 ts e r × (nesting e ≤ d)) (DeepE3 (suc d) ts)
       (sum (nested d) ts)
@@ -74,9 +74,9 @@ module _ (d : ℕ) (inner : Inner d) where
       (λ a r h. chain_judged adding (product (nested d)) (λ e u. IsE3 ts e u × (nesting e ≤ d)) (DeepE3 (suc d) ts)
       refl
       (λ l t op m q o. judged_as (product_judged m) (λ b u g. (e3_add q.0 o g.0, omega (arith, q.1, g.1)))
-      (λ g. deep_e3_next q.0 o g))
+      (λ v g. deep_e3_next q.0 o g))
       (length r) a r (e3_plain h.0, h.1))
-      (λ h. deep_e3_first h)
+      (λ v h. deep_e3_first h)
 
   or_next : (ts : List Lexeme) (a : ExpressionTree) (t : Lexeme) (m : List Lexeme) (xs : List ExpressionTree)
       (r : List Lexeme) → IsE3 ts a (t ∷ m) × (nesting a ≤ d) → is_word w.Or t ≡ true
@@ -85,9 +85,9 @@ module _ (d : ℕ) (inner : Inner d) where
   or_next ts a t m xs r q e l =
       (choice_or (subst (λ x. IsE3 ts a (x ∷ m)) (is_that_word w.Or t e) q.0) l.0, omega (arith, q.1, l.1))
 
-  or_deep : (ts : List Lexeme) (a : ExpressionTree) (t : Lexeme) (m : List Lexeme)
-      → IsE3 ts a (t ∷ m) × (nesting a ≤ d) → is_word w.Or t ≡ true → DeepChoice (suc d) m → DeepChoice (suc d) ts
-  or_deep ts a t m q e h = deep_choice_next (subst (λ x. IsE3 ts a (x ∷ m)) (is_that_word w.Or t e) q.0) h
+  or_deep : (ts : List Lexeme) (a : ExpressionTree) (t : Lexeme) (m v : List Lexeme)
+      → IsE3 ts a (t ∷ m) × (nesting a ≤ d) → is_word w.Or t ≡ true → DeepChoice (suc d) m v → DeepChoice (suc d) ts v
+  or_deep ts a t m v q e h = deep_choice_next (subst (λ x. IsE3 ts a (x ∷ m)) (is_that_word w.Or t e) q.0) h
 
   choice_judged : (ts : List Lexeme) → Judged (λ xs r. IsChoice ts (trees_of xs) r × (nestings (trees_of xs) ≤ d))
       (DeepChoice (suc d) ts) (list (is_word w.Or) (sum (nested d)) ts)
@@ -95,13 +95,13 @@ module _ (d : ℕ) (inner : Inner d) where
       list_judged (is_word w.Or) (sum (nested d)) (λ us a r. IsE3 us a r × (nesting a ≤ d))
       (λ us xs r. IsChoice us (trees_of xs) r × (nestings (trees_of xs) ≤ d)) (λ us. DeepE3 (suc d) us)
       (λ us. DeepChoice (suc d) us)
-      refl (λ us a r q. (choice_last q.0, omega (arith, q.1))) or_next (λ us h. deep_choice_first h) or_deep
+      refl (λ us a r q. (choice_last q.0, omega (arith, q.1))) or_next (λ us v h. deep_choice_first h) or_deep
       sum_judged ts
 
   comparison_judged : (ts : List Lexeme) → Judged (λ e r. IsE2 ts e r × (nesting e ≤ d)) (DeepE2 (suc d) ts)
       (comparison (nested d) ts)
   unfolding comparison compared equated tested_next
-  comparison_judged ts = judged_then _ (sum_judged ts) (λ a r h. go a r h.0 h.1) (λ h. deep_e2_left h)
+  comparison_judged ts = judged_then _ (sum_judged ts) (λ a r h. go a r h.0 h.1) (λ v h. deep_e2_left h)
     where
       go5 : (a : ExpressionTree) (t : Lexeme) (m : List Lexeme) → IsE3 ts a (t ∷ m) → nesting a ≤ d
           → (o : Option ObjectTest) → testing t ≡ o
@@ -109,7 +109,7 @@ module _ (d : ℕ) (inner : Inner d) where
       go5 a t m q b None o = judged_read a (t ∷ m) (e2_plain q, b)
       go5 a t m q b (Some test) o = judged_then _ (name_judged m)
           (λ x r g. judged_read (tested test a x) r (e2_tested (subst (λ v. IsE3 ts a (t ∷ v)) g q) o, b))
-          (λ never. absurd never)
+          (λ v never. absurd never)
 
       go4 : (a : ExpressionTree) (t : Lexeme) (m : List Lexeme) → IsE3 ts a (t ∷ m) → nesting a ≤ d
           → (o : Option Containment) → containing t ≡ o
@@ -117,7 +117,7 @@ module _ (d : ℕ) (inner : Inner d) where
       go4 a t m q b None o = go5 a t m q b (testing t) refl
       go4 a t m q b (Some op) o = judged_then _ (sum_judged m)
           (λ c r g. judged_read (contained op a c) r (e2_contained q o g.0, omega (arith, b, g.1)))
-          (λ g. deep_e2_contained q o g)
+          (λ v g. deep_e2_contained q o g)
 
       go3 : (a : ExpressionTree) (t : Lexeme) (m : List Lexeme) → IsE3 ts a (t ∷ m) → nesting a ≤ d
           → (o : Option Equality) → equating t ≡ o
@@ -125,7 +125,7 @@ module _ (d : ℕ) (inner : Inner d) where
       go3 a t m q b None o = go4 a t m q b (containing t) refl
       go3 a t m q b (Some op) o = judged_then _ (choice_judged m)
           (λ xs r g. judged_read (equal op a (trees_of xs)) r (e2_equal q o g.0, omega (arith, b, g.1)))
-          (λ g. deep_e2_equal q o g)
+          (λ v g. deep_e2_equal q o g)
 
       go2 : (a : ExpressionTree) (t : Lexeme) (m : List Lexeme) → IsE3 ts a (t ∷ m) → nesting a ≤ d
           → (o : Option Comparison) → comparing t ≡ o
@@ -133,7 +133,7 @@ module _ (d : ℕ) (inner : Inner d) where
       go2 a t m q b None o = go3 a t m q b (equating t) refl
       go2 a t m q b (Some op) o = judged_then _ (sum_judged m)
           (λ c r g. judged_read (compare op a c) r (e2_compare q o g.0, omega (arith, b, g.1)))
-          (λ g. deep_e2_compare q o g)
+          (λ v g. deep_e2_compare q o g)
 
       go : (a : ExpressionTree) (r : List Lexeme) → IsE3 ts a r → nesting a ≤ d
           → Judged (λ e u. IsE2 ts e u × (nesting e ≤ d)) (DeepE2 (suc d) ts)
@@ -149,13 +149,13 @@ module _ (d : ℕ) (inner : Inner d) where
       (λ e.
       let at = at_sign s.Not ts e in
       let p = position_of (head ts) in
-      judged_then _ (inner.in_negation (tail ts))
+      judged_then _ (inner.in_negation ts (tail ts))
       (λ a r h. judged_read (prefixed op.Not a) r
       (subst (λ u. IsN1 u (prefixed op.Not a) r) (sym at) (n1_not h.0), omega (arith, h.1)))
-      (λ h. subst (λ u. DeepN1 (suc d) u) (sym at)
-      (deeper (λ n. DeepN1 n (tail ts)) (λ n. DeepN1 n (sign s.Not p ∷ tail ts)) d deep_n1_not
-      (λ n x. deep_n1_in x) h)))
-      (λ e. judged_as (comparison_judged ts) (λ a r h. (n1_plain h.0, h.1)) (λ h. deep_n1_plain h))
+      (λ u h. deeper (λ n. DeepN1 n (tail ts)) (λ n. DeepN1 n ts) d ts u
+      (subst (λ v. DeepN1 1 v v) (sym at) deep_n1_not)
+      (λ n x. subst (λ v. DeepN1 (suc n) v u) (sym at) (deep_n1_in x)) h))
+      (λ e. judged_as (comparison_judged ts) (λ a r h. (n1_plain h.0, h.1)) (λ v h. deep_n1_plain h))
 
   condition_judged : (ts : List Lexeme) → Judged (λ e r. IsE1 ts e r × (nesting e ≤ d)) (DeepE1 (suc d) ts)
       (condition (nested d) ts)
@@ -165,9 +165,9 @@ module _ (d : ℕ) (inner : Inner d) where
       (λ a r h. chain_judged logical (negated (nested d)) (λ e u. IsE1 ts e u × (nesting e ≤ d)) (DeepE1 (suc d) ts)
       refl
       (λ l t op m q o. judged_as (negated_judged m) (λ b u g. (e1_logical q.0 o g.0, omega (arith, q.1, g.1)))
-      (λ g. deep_e1_next q.0 o g))
+      (λ v g. deep_e1_next q.0 o g))
       (length r) a r (e1_plain h.0, h.1))
-      (λ h. deep_e1_first h)
+      (λ v h. deep_e1_first h)
 
   -- the right side of an assignment, after its left side a
   right_judged : (ts : List Lexeme) (a : ExpressionTree) (p : Position) (m : List Lexeme)
@@ -177,11 +177,12 @@ module _ (d : ℕ) (inner : Inner d) where
   unfolding assigned
   right_judged ts a p m q b =
       judged_by (begins_expression (head m)) _ _
-      (λ e. judged_as (inner.in_whole m) (λ c r h. (e_assign q h.0, omega (arith, b, h.1)))
-      (λ h. deeper (λ n. DeepE n m) (λ n. DeepE n ts) d (first m q e) (λ n x. deep_e_right q x) h))
+      (λ e. judged_as (inner.in_whole m m) (λ c r h. (e_assign q h.0, omega (arith, b, h.1)))
+      (λ u h. deeper (λ n. DeepE n m) (λ n. DeepE n ts) d m u (first m q e) (λ n x. deep_e_right q x) h))
       (λ e. judged_grammar)
     where
-      first : (u : List Lexeme) → IsE1 ts a (sign s.Assign p ∷ u) → begins_expression (head u) ≡ true → DeepE 1 ts
+      first : (u : List Lexeme) → IsE1 ts a (sign s.Assign p ∷ u) → begins_expression (head u) ≡ true
+          → DeepE 1 ts u
       first [] q e = absurd cc
       first (t ∷ u) q e = deep_e_first q e
 
@@ -194,9 +195,9 @@ module _ (d : ℕ) (inner : Inner d) where
       (λ e.
       let left = subst (λ u. IsE1 ts a u) (at_sign s.Assign r e) h.0 in
       judged_then _ (right_judged ts a (position_of (head r)) (tail r) left h.1)
-      (λ b u g. judged_read (assign a (position_of (head r)) b) u g) (λ g. g))
+      (λ b u g. judged_read (assign a (position_of (head r)) b) u g) (λ v g. g))
       (λ e. judged_read a r (e_plain h.0, h.1)))
-      (λ h. deep_e_left h)
+      (λ v h. deep_e_left h)
 
   comma_next : (ts : List Lexeme) (a : ExpressionTree) (t : Lexeme) (m : List Lexeme) (xs : List ExpressionTree)
       (r : List Lexeme) → IsE ts a (t ∷ m) × (nesting a ≤ d) → is_sign s.Comma t ≡ true
@@ -205,10 +206,10 @@ module _ (d : ℕ) (inner : Inner d) where
   comma_next ts a t m xs r q e l =
       (arguments_comma (subst (λ x. IsE ts a (x ∷ m)) (is_that_sign s.Comma t e) q.0) l.0, omega (arith, q.1, l.1))
 
-  comma_deep : (ts : List Lexeme) (a : ExpressionTree) (t : Lexeme) (m : List Lexeme)
-      → IsE ts a (t ∷ m) × (nesting a ≤ d) → is_sign s.Comma t ≡ true → DeepArguments (suc d) m
-      → DeepArguments (suc d) ts
-  comma_deep ts a t m q e h = deep_arguments_next (subst (λ x. IsE ts a (x ∷ m)) (is_that_sign s.Comma t e) q.0) h
+  comma_deep : (ts : List Lexeme) (a : ExpressionTree) (t : Lexeme) (m v : List Lexeme)
+      → IsE ts a (t ∷ m) × (nesting a ≤ d) → is_sign s.Comma t ≡ true → DeepArguments (suc d) m v
+      → DeepArguments (suc d) ts v
+  comma_deep ts a t m v q e h = deep_arguments_next (subst (λ x. IsE ts a (x ∷ m)) (is_that_sign s.Comma t e) q.0) h
 
   arguments_judged : (ts : List Lexeme) → Judged
       (λ xs r. IsArguments ts (trees_of xs) r × (nestings (trees_of xs) ≤ d)) (DeepArguments (suc d) ts)
@@ -217,7 +218,7 @@ module _ (d : ℕ) (inner : Inner d) where
       list_judged (is_sign s.Comma) (expression (nested d)) (λ us a r. IsE us a r × (nesting a ≤ d))
       (λ us xs r. IsArguments us (trees_of xs) r × (nestings (trees_of xs) ≤ d)) (λ us. DeepE (suc d) us)
       (λ us. DeepArguments (suc d) us)
-      refl (λ us a r q. (arguments_last q.0, omega (arith, q.1))) comma_next (λ us h. deep_arguments_first h)
+      refl (λ us a r q. (arguments_last q.0, omega (arith, q.1))) comma_next (λ us v h. deep_arguments_first h)
       comma_deep expression_judged ts
 
   called_judged : (f : List ℕ) (p q : Position) (ts : List Lexeme)
@@ -238,31 +239,36 @@ module _ (d : ℕ) (inner : Inner d) where
         omega
             (arith, h.1),
       ))
-      (λ g. absurd (expect_not_deep s.CloseParenthesis r g)))
-      (λ h. h))
+      (λ n g. absurd (expect_not_deep s.CloseParenthesis r n g)))
+      (λ v h. h))
+
+-- no nesting is left
+pub no_more : (D : ℕ → List Lexeme → List Lexeme → Type 0) (o ts : List Lexeme) → Stands (Within 0 D o ts) (length o)
+no_more D o ts = record { from = o; is = inl (refl, refl); left = refl }
 
 pub inner_judged : (d : ℕ) → Inner d
 unfolding nested
 inner_judged zero = record {
-  in_whole = λ ts. judged_deep (inl refl);
-  in_negation = λ ts. judged_deep (inl refl);
-  in_complement = λ ts. judged_deep (inl refl);
-  in_prefix = λ ts. judged_deep (inl refl);
-  in_operand = λ ts. judged_deep (inl refl);
-  in_arguments = λ f p q ts. judged_deep (inl refl);
+  in_whole = λ o ts. judged_deep (no_more DeepE o ts);
+  in_negation = λ o ts. judged_deep (no_more DeepN1 o ts);
+  in_complement = λ o ts. judged_deep (no_more DeepN4 o ts);
+  in_prefix = λ o ts. judged_deep (no_more DeepU o ts);
+  in_operand = λ o ts. judged_deep (no_more DeepP o ts);
+  in_arguments = λ f p q o ts. judged_deep (no_more DeepArguments o ts);
 }
 inner_judged (suc d) = record {
-  in_whole = λ ts. judged_as (expression_judged d (inner_judged d) ts) (λ e r h. (h.0, omega (arith, h.1)))
-      (λ h. inr h);
-  in_negation = λ ts. judged_as (negated_judged d (inner_judged d) ts) (λ e r h. (h.0, omega (arith, h.1)))
-      (λ h. inr h);
-  in_complement = λ ts. judged_as (complemented_judged d (inner_judged d) ts) (λ e r h. (h.0, omega (arith, h.1)))
-      (λ h. inr h);
-  in_prefix = λ ts. judged_as (unary_judged d (inner_judged d) ts) (λ e r h. (h.0, omega (arith, h.1))) (λ h. inr h);
-  in_operand = λ ts. judged_as (primary_judged d (inner_judged d) ts) (λ e r h. (h.0, omega (arith, h.1)))
-      (λ h. inr h);
-  in_arguments = λ f p q ts. judged_as (called_judged d (inner_judged d) f p q ts)
-      (λ e r h. (h.0, omega (arith, h.1))) (λ h. inr h);
+  in_whole = λ o ts. judged_as (expression_judged d (inner_judged d) ts) (λ e r h. (h.0, omega (arith, h.1)))
+      (λ v h. inr h);
+  in_negation = λ o ts. judged_as (negated_judged d (inner_judged d) ts) (λ e r h. (h.0, omega (arith, h.1)))
+      (λ v h. inr h);
+  in_complement = λ o ts. judged_as (complemented_judged d (inner_judged d) ts) (λ e r h. (h.0, omega (arith, h.1)))
+      (λ v h. inr h);
+  in_prefix = λ o ts. judged_as (unary_judged d (inner_judged d) ts) (λ e r h. (h.0, omega (arith, h.1)))
+      (λ v h. inr h);
+  in_operand = λ o ts. judged_as (primary_judged d (inner_judged d) ts) (λ e r h. (h.0, omega (arith, h.1)))
+      (λ v h. inr h);
+  in_arguments = λ f p q o ts. judged_as (called_judged d (inner_judged d) f p q ts)
+      (λ e r h. (h.0, omega (arith, h.1))) (λ v h. inr h);
 }
 
 -- ---- for upper crates
@@ -277,7 +283,7 @@ pub judged_E1 : (d : ℕ) (ts : List Lexeme) → Judged (λ e r. IsE1 ts e r × 
     (condition (nested d) ts)
 judged_E1 d ts = condition_judged d (inner_judged d) ts
 
--- an expression one nesting further in
-pub judged_whole : (d : ℕ) (ts : List Lexeme) → Judged (λ e r. IsE ts e r × (nesting e < d)) ((d ≡ 0) ⊎ DeepE d ts)
-    (nested d whole ts)
-judged_whole d ts = (inner_judged d).in_whole ts
+-- an expression one nesting further in, which the first of the tokens o opens
+pub judged_whole : (d : ℕ) (o ts : List Lexeme) → Judged (λ e r. IsE ts e r × (nesting e < d)) (Within d DeepE o ts)
+    (nested d whole (length o) ts)
+judged_whole d o ts = (inner_judged d).in_whole o ts

@@ -1,6 +1,6 @@
 -- Which token stands where a test for a sign or a reserved word holds.
-use Rattle.std.proofs.Common.{◌≡◌, ℕ, Bool, true, false, cond, eqb, List, [], ◌∷◌, get_or, Result, Ok, Err, refl, sym}
-use Rattle.std.proofs.Common.{ap, ◌∙◌}
+use Rattle.std.proofs.Common.{◌≡◌, ℕ, Bool, true, false, cond, eqb, List, [], ◌∷◌, length, get_or, Result, Ok, Err}
+use Rattle.std.proofs.Common.{refl, sym, ap, ◌∙◌}
 use Rattle.std.proofs.lemmas.Bool.{eqb-true}
 use Rattle.syntax_lexer.specs.declared.token.Sign.{Sign}
 use Rattle.syntax_lexer.specs.declared.token.Sign.TheVariants as s
@@ -8,8 +8,7 @@ use Rattle.syntax_lexer.specs.declared.token.Word.{Word}
 use Rattle.syntax_lexer.specs.declared.token.Word.TheVariants as w
 use Rattle.syntax_lexer.specs.Token.{Lexeme, name, number, text, character, dictionary_word, reserved, sign, end}
 use Rattle.syntax_lexer.specs.Token.{position_of}
-use Rattle.syntax_parsing.specs.declared.error.Fault.{Fault}
-use Rattle.syntax_parsing.specs.declared.error.Fault.TheVariants.{Grammar, Deep}
+use Rattle.syntax_parsing.specs.Stop.{Stop, unfit, deep}
 use Rattle.syntax_parsing.specs.Parse.{head, tail, sign_number, word_number, is_sign, is_word, expect, expect_word}
 
 sign_at : ℕ → Sign
@@ -152,36 +151,36 @@ pub is_that_word : (w : Word) (t : Lexeme) → is_word w t ≡ true → t ≡ re
 is_that_word w t e = ap head (at_word w (t ∷ []) e)
 
 -- what was expected
-taken : (b : Bool) (u : List Lexeme) → Result (List Lexeme) Fault
-taken b u = cond b (Ok u) (Err Grammar)
+taken : (b : Bool) (n : ℕ) (u : List Lexeme) → Result (List Lexeme) Stop
+taken b n u = cond b (Ok u) (Err (unfit n))
 
-taken_ok : (b : Bool) (u r : List Lexeme) → taken b u ≡ Ok r → (b ≡ true) × (u ≡ r)
+taken_ok : (b : Bool) (n : ℕ) (u r : List Lexeme) → taken b n u ≡ Ok r → (b ≡ true) × (u ≡ r)
 unfolding taken
-taken_ok true u r e = (refl, cc)
-taken_ok false u r e = absurd cc
+taken_ok true n u r e = (refl, cc)
+taken_ok false n u r e = absurd cc
 
-taken_deep : (b : Bool) (u : List Lexeme) → taken b u ≡ Err Deep → ⊥
+taken_deep : (b : Bool) (n k : ℕ) (u : List Lexeme) → taken b n u ≡ Err (deep k) → ⊥
 unfolding taken
-taken_deep true u e = absurd cc
-taken_deep false u e = absurd cc
+taken_deep true n k u e = absurd cc
+taken_deep false n k u e = absurd cc
 
 pub expect_ok : (s : Sign) (ts r : List Lexeme) → expect s ts ≡ Ok r → ts ≡ sign s (position_of (head ts)) ∷ r
 unfolding expect taken
 expect_ok s ts r e =
-    let p = taken_ok (is_sign s (head ts)) (tail ts) r e in
+    let p = taken_ok (is_sign s (head ts)) (length ts) (tail ts) r e in
     at_sign s ts p.0 ∙ ap (λ u. sign s (position_of (head ts)) ∷ u) p.1
 
-pub expect_not_deep : (s : Sign) (ts : List Lexeme) → expect s ts ≡ Err Deep → ⊥
+pub expect_not_deep : (s : Sign) (ts : List Lexeme) (k : ℕ) → expect s ts ≡ Err (deep k) → ⊥
 unfolding expect taken
-expect_not_deep s ts e = taken_deep (is_sign s (head ts)) (tail ts) e
+expect_not_deep s ts k e = taken_deep (is_sign s (head ts)) (length ts) k (tail ts) e
 
 pub expect_word_ok : (w : Word) (ts r : List Lexeme) → expect_word w ts ≡ Ok r
     → ts ≡ reserved w (position_of (head ts)) ∷ r
 unfolding expect_word taken
 expect_word_ok w ts r e =
-    let p = taken_ok (is_word w (head ts)) (tail ts) r e in
+    let p = taken_ok (is_word w (head ts)) (length ts) (tail ts) r e in
     at_word w ts p.0 ∙ ap (λ u. reserved w (position_of (head ts)) ∷ u) p.1
 
-pub expect_word_not_deep : (w : Word) (ts : List Lexeme) → expect_word w ts ≡ Err Deep → ⊥
+pub expect_word_not_deep : (w : Word) (ts : List Lexeme) (k : ℕ) → expect_word w ts ≡ Err (deep k) → ⊥
 unfolding expect_word taken
-expect_word_not_deep w ts e = taken_deep (is_word w (head ts)) (tail ts) e
+expect_word_not_deep w ts k e = taken_deep (is_word w (head ts)) (length ts) k (tail ts) e

@@ -1,11 +1,11 @@
 -- What reading has to do with the grammar.
-use Rattle.std.specs.Prelude.{◌≡◌, Bool, true, false, ℕ, suc, ◌<◌, ◌≤◌, List, Ok, Err}
+use Rattle.std.specs.Prelude.{◌≡◌, Bool, true, false, ℕ, suc, ◌<◌, ◌≤◌, List, length, Ok, Err}
 use Rattle.syntax_lexer.specs.declared.token.Sign.TheVariants as s
 use Rattle.syntax_lexer.specs.declared.token.Word.{Word}
 use Rattle.syntax_lexer.specs.declared.token.Word.TheVariants as w
 use Rattle.syntax_lexer.specs.Token.{Lexeme, reserved, sign}
 use Rattle.syntax_trees.specs.Tree.{ExpressionTree}
-use Rattle.syntax_parsing.specs.declared.error.Fault.TheVariants.{Deep}
+use Rattle.syntax_parsing.specs.Stop.{deep, TooDeep}
 use Rattle.syntax_parsing.specs.Parse.{head}
 use Rattle.syntax_expressions.specs.Grammar.{IsE, IsE1, nesting}
 use Rattle.syntax_expressions.specs.Nesting.{DeepE, DeepE1}
@@ -61,14 +61,19 @@ ReadsWhatDerives =
     → IsE ts e r × (nesting e ≤ d)
 
 -- what derives, up to a token that does not go on with it, is read; or the fault is that it is nested too deep, which
--- it is
+-- it is, and stands in it
 abbrev pub DerivesWhatIsRead : Type 0
 DerivesWhatIsRead = (d : ℕ) (ts r : List Lexeme) (e : ExpressionTree) → IsE ts e r → goes_on (head r) ≡ false
-    → (nesting e ≤ d → expression (nested d) ts ≡ Ok (e, r)) × (d < nesting e → expression (nested d) ts ≡ Err Deep)
+    → (nesting e ≤ d → expression (nested d) ts ≡ Ok (e, r)) × (d < nesting e
+    → TooDeep (suc (length r)) (expression (nested d) ts))
 
--- where the fault is that a token stands too deep, one does, whether the tokens derive or not
+-- where the fault is that a token stands too deep, one does, whether the tokens derive or not, and it is the first one
 abbrev pub DeepWhereDeep : Type 0
-DeepWhereDeep = (d : ℕ) (ts : List Lexeme) → expression (nested d) ts ≡ Err Deep → DeepE (suc d) ts
+DeepWhereDeep = (d left : ℕ) (ts : List Lexeme) → expression (nested d) ts ≡ Err (deep left)
+    → (u : List Lexeme) × DeepE (suc d) ts u × (length u ≡ left)
+
+abbrev pub DeepAtFirst : Type 0
+DeepAtFirst = (d n : ℕ) (ts u : List Lexeme) → DeepE n ts u → d < n → TooDeep (length u) (expression (nested d) ts)
 
 -- tokens have one tree
 abbrev pub OneTree : Type 0
@@ -85,10 +90,16 @@ ReadsUnassigned =
 
 abbrev pub UnassignedIsRead : Type 0
 UnassignedIsRead = (d : ℕ) (ts r : List Lexeme) (e : ExpressionTree) → IsE1 ts e r → continues (head r) ≡ false
-    → (nesting e ≤ d → condition (nested d) ts ≡ Ok (e, r)) × (d < nesting e → condition (nested d) ts ≡ Err Deep)
+    → (nesting e ≤ d → condition (nested d) ts ≡ Ok (e, r)) × (d < nesting e
+    → TooDeep (suc (length r)) (condition (nested d) ts))
 
 abbrev pub UnassignedDeep : Type 0
-UnassignedDeep = (d : ℕ) (ts : List Lexeme) → condition (nested d) ts ≡ Err Deep → DeepE1 (suc d) ts
+UnassignedDeep = (d left : ℕ) (ts : List Lexeme) → condition (nested d) ts ≡ Err (deep left)
+    → (u : List Lexeme) × DeepE1 (suc d) ts u × (length u ≡ left)
+
+abbrev pub UnassignedAtFirst : Type 0
+UnassignedAtFirst = (d n : ℕ) (ts u : List Lexeme) → DeepE1 n ts u → d < n
+    → TooDeep (length u) (condition (nested d) ts)
 
 abbrev pub OneUnassigned : Type 0
 OneUnassigned =

@@ -1,6 +1,6 @@
 -- Words of proofs: the levels whose operators group to the left: E1, E3 and E4, each with its operators and its
 -- operands.
-use Rattle.std.specs.Prelude.{Option}
+use Rattle.std.specs.Prelude.{ℕ, Option}
 use Rattle.syntax_lexer.specs.Token.{Lexeme}
 use Rattle.syntax_trees.specs.declared.tree.Binary.{Binary}
 use Rattle.syntax_trees.specs.Tree.{ExpressionTree}
@@ -15,12 +15,12 @@ operator_of operators.Logical = logical
 operator_of operators.Adding = adding
 operator_of operators.Scaling = scaling
 
-abbrev pub operand_of : (Level → Parse ExpressionTree) → Operators → Parse ExpressionTree
+abbrev pub operand_of : (Level → ℕ → Parse ExpressionTree) → Operators → Parse ExpressionTree
 operand_of below operators.Logical = negated below
 operand_of below operators.Adding = product below
 operand_of below operators.Scaling = complemented below
 
-abbrev pub chain_of : (Level → Parse ExpressionTree) → Operators → Parse ExpressionTree
+abbrev pub chain_of : (Level → ℕ → Parse ExpressionTree) → Operators → Parse ExpressionTree
 chain_of below operators.Logical = condition below
 chain_of below operators.Adding = sum below
 chain_of below operators.Scaling = product below

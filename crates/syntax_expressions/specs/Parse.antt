@@ -19,8 +19,7 @@ use Rattle.syntax_trees.specs.Tree.{NameTree, ExpressionTree, constant, word, na
 use Rattle.syntax_trees.specs.Tree.{prefixed, relative_of, property, property_length, property_entry, step_before}
 use Rattle.syntax_trees.specs.Tree.{step_after, binary, compare, equal, contained, tested, assign, none, trees_of}
 use Rattle.syntax_parsing.specs.Parse.{Parse, ◌>>=◌, head, tail, is_sign, is_word, expect, list}
-use Rattle.syntax_parsing.specs.declared.error.Fault.{Fault}
-use Rattle.syntax_parsing.specs.declared.error.Fault.TheVariants.{Grammar, Deep}
+use Rattle.syntax_parsing.specs.Stop.{Stop, unfit, deep}
 use Rattle.syntax_expressions.specs.Operators.{logical, comparing, equating, containing, testing, adding, scaling}
 use Rattle.syntax_expressions.specs.Operators.{stepping, prefixes, relating_word, indexing}
 use Rattle.syntax_expressions.specs.Nesting.{begins_expression}
@@ -39,23 +38,23 @@ array_of _ _ = None
 unfoldable pub array_at : List Lexeme → Option (NameTree × Width)
 array_at ts = array_of (head ts) (indexing (head (tail ts)))
 
--- the name that comes next, and the tokens after it
-abbrev pub name_on : Lexeme → List Lexeme → Result (NameTree × List Lexeme) Fault
-name_on (name n p) ts = Ok (record { text = n; position = p }, ts)
-name_on _ ts = Err Grammar
+-- the name that comes next, and the tokens after it; of the tokens, the first comes next
+abbrev pub name_on : Lexeme → List Lexeme → Result (NameTree × List Lexeme) Stop
+name_on (name n p) ts = Ok (record { text = n; position = p }, tail ts)
+name_on _ ts = Err (unfit (length ts))
 
 unfoldable pub expect_name : Parse NameTree
-expect_name ts = name_on (head ts) (tail ts)
+expect_name ts = name_on (head ts) ts
 
 -- what stands in parentheses, with the second of them
-abbrev pub closed : {A B : Type 0} → (A → B) → A × List Lexeme → Result (B × List Lexeme) Fault
+abbrev pub closed : {A B : Type 0} → (A → B) → A × List Lexeme → Result (B × List Lexeme) Stop
 closed make x = expect s.CloseParenthesis x.1 >>= λ r. Ok (make x.0, r)
 
 -- ---- chains and lists. The number bounds the turns; the count of tokens is enough.
 
 -- {operator operand} after a left side, grouped to the left
 abbrev pub chain_on : (ExpressionTree → Parse ExpressionTree) → Parse ExpressionTree → ExpressionTree → List Lexeme
-    → Option Binary → Result (ExpressionTree × List Lexeme) Fault
+    → Option Binary → Result (ExpressionTree × List Lexeme) Stop
 chain_on again operand left ts None = Ok (left, ts)
 chain_on again operand left ts (Some op) = operand (tail ts) >>= λ x. again (binary op left x.0) x.1
 
@@ -84,7 +83,7 @@ lengthened e ts =
     if is_sign s.DotHash (head ts) then (expect_name (tail ts) >>= λ x. Ok (property_length e x.0, x.1))
     else Ok (e, ts)
 
-abbrev pub tested_on : ExpressionTree → List Lexeme → Option ObjectTest → Result (ExpressionTree × List Lexeme) Fault
+abbrev pub tested_on : ExpressionTree → List Lexeme → Option ObjectTest → Result (ExpressionTree × List Lexeme) Stop
 tested_on e ts None = Ok (e, ts)
 tested_on e ts (Some test) = expect_name (tail ts) >>= λ x. Ok (tested test e x.0, x.1)
 
@@ -101,8 +100,8 @@ word_value w.Nothing = Some 0
 word_value _ = None
 
 abbrev pub valued : Option ℕ → Parse ExpressionTree
-valued None ts = Err Grammar
-valued (Some n) ts = Ok (constant n, ts)
+valued None ts = Err (unfit (length ts))
+valued (Some n) ts = Ok (constant n, tail ts)
 
 -- what is read one nesting further in
 pub data Level : Type 0 where
@@ -114,45 +113,47 @@ pub data Level : Type 0 where
   arguments : NameTree → Level
 
 -- an operand, and `++`, `--` or the length of a property where it stands after it
-abbrev pub step_on : ExpressionTree → List Lexeme → Option Step → Result (ExpressionTree × List Lexeme) Fault
+abbrev pub step_on : ExpressionTree → List Lexeme → Option Step → Result (ExpressionTree × List Lexeme) Stop
 step_on e ts None = lengthened e ts
 step_on e ts (Some op) = Ok (step_after e op (position_of (head ts)), tail ts)
 
 unfoldable pub suffixed : ExpressionTree → Parse ExpressionTree
 suffixed e ts = step_on e ts (stepping (head ts))
 
--- over the levels one nesting further in
-module _ (below : Level → Parse ExpressionTree) where
+-- over the levels one nesting further in, each with the number of tokens that are left from the token on that opens
+-- the nesting
+module _ (below : Level → ℕ → Parse ExpressionTree) where
   -- a name, and behind a parenthesis its arguments
   unfoldable pub after_name : NameTree → Parse ExpressionTree
   after_name n ts =
-      if is_sign s.OpenParenthesis (head ts) then below (arguments n) (tail ts)
+      if is_sign s.OpenParenthesis (head ts) then below (arguments n) (length ts) (tail ts)
       else Ok (named n, ts)
 
-  unfoldable pub enclosed : Parse ExpressionTree
-  enclosed ts = below whole ts >>= closed parenthesised
+  -- behind a parenthesis
+  unfoldable pub enclosed : ℕ → Parse ExpressionTree
+  enclosed opening ts = below whole opening ts >>= closed parenthesised
 
   -- behind `parent`, `child` or `sibling`
   unfoldable pub related : Relative → Parse ExpressionTree
   related which ts =
-      if is_sign s.OpenParenthesis (head ts) then (below whole (tail ts) >>= closed (relative_of which))
-      else Err Grammar
+      if is_sign s.OpenParenthesis (head ts) then (below whole (length ts) (tail ts) >>= closed (relative_of which))
+      else Err (unfit (length ts))
 
   abbrev pub word_on : Word → Option Relative → Parse ExpressionTree
   word_on w None ts = valued (word_value w) ts
-  word_on w (Some which) ts = related which ts
+  word_on w (Some which) ts = related which (tail ts)
 
   abbrev pub atom_on : Lexeme → Parse ExpressionTree
-  atom_on (number n p) ts = Ok (constant n, ts)
-  atom_on (character c p) ts = Ok (constant c, ts)
-  atom_on (dictionary_word f p) ts = Ok (word f, ts)
+  atom_on (number n p) ts = Ok (constant n, tail ts)
+  atom_on (character c p) ts = Ok (constant c, tail ts)
+  atom_on (dictionary_word f p) ts = Ok (word f, tail ts)
   atom_on (reserved w p) ts = word_on w (relating_word w) ts
-  atom_on (name n p) ts = after_name (record { text = n; position = p }) ts
-  atom_on (sign s.OpenParenthesis p) ts = enclosed ts
-  atom_on _ ts = Err Grammar
+  atom_on (name n p) ts = after_name (record { text = n; position = p }) (tail ts)
+  atom_on (sign s.OpenParenthesis p) ts = enclosed (length ts) (tail ts)
+  atom_on _ ts = Err (unfit (length ts))
 
   unfoldable pub atom : Parse ExpressionTree
-  atom ts = atom_on (head ts) (tail ts)
+  atom ts = atom_on (head ts) ts
 
   unfoldable pub primary : Parse ExpressionTree
   primary ts = atom ts >>= λ x. properties (length x.1) x.0 x.1
@@ -160,15 +161,17 @@ module _ (below : Level → Parse ExpressionTree) where
   unfoldable pub stepped : Parse ExpressionTree
   stepped ts = primary ts >>= λ x. suffixed x.0 x.1
 
-  abbrev pub unary_on : List Lexeme → Option Step → Result (ExpressionTree × List Lexeme) Fault
+  abbrev pub unary_on : List Lexeme → Option Step → Result (ExpressionTree × List Lexeme) Stop
   unary_on ts None = stepped ts
-  unary_on ts (Some op) = below operand (tail ts) >>= λ x. Ok (step_before op (position_of (head ts)) x.0, x.1)
+  unary_on ts (Some op) =
+      below operand (length ts) (tail ts) >>= λ x. Ok (step_before op (position_of (head ts)) x.0, x.1)
 
-  abbrev pub minus : Parse ExpressionTree
-  minus ts = below prefix ts >>= λ x. Ok (prefixed op.Minus x.0, x.1)
+  -- behind its sign
+  abbrev pub minus : ℕ → Parse ExpressionTree
+  minus opening ts = below prefix opening ts >>= λ x. Ok (prefixed op.Minus x.0, x.1)
 
   unfoldable pub unary : Parse ExpressionTree
-  unary ts = if is_sign s.Minus (head ts) then minus (tail ts) else unary_on ts (stepping (head ts))
+  unary ts = if is_sign s.Minus (head ts) then minus (length ts) (tail ts) else unary_on ts (stepping (head ts))
 
   -- an entry of a property of an object, from behind its sign on
   unfoldable pub entry : ExpressionTree → Parse ExpressionTree
@@ -180,7 +183,7 @@ module _ (below : Level → Parse ExpressionTree) where
   unfoldable pub unindexed : Parse ExpressionTree
   unindexed ts = if prefixes (head ts) then unary ts else (primary ts >>= λ x. owned x.0 x.1)
 
-  abbrev pub indexed_on : List Lexeme → Option (NameTree × Width) → Result (ExpressionTree × List Lexeme) Fault
+  abbrev pub indexed_on : List Lexeme → Option (NameTree × Width) → Result (ExpressionTree × List Lexeme) Stop
   indexed_on ts None = unindexed ts
   indexed_on ts (Some a) = unary (tail (tail ts)) >>= λ x. Ok (index a.0 a.1 x.0, x.1)
 
@@ -189,7 +192,8 @@ module _ (below : Level → Parse ExpressionTree) where
 
   unfoldable pub complemented : Parse ExpressionTree
   complemented ts =
-      if is_sign s.Tilde (head ts) then (below complement (tail ts) >>= λ x. Ok (prefixed op.Complement x.0, x.1))
+      if is_sign s.Tilde (head ts) then (below complement (length ts) (tail ts)
+      >>= λ x. Ok (prefixed op.Complement x.0, x.1))
       else indexed ts
 
   unfoldable pub product : Parse ExpressionTree
@@ -209,16 +213,16 @@ module _ (below : Level → Parse ExpressionTree) where
   contain_on left op ts = sum ts >>= λ x. Ok (contained op left x.0, x.1)
 
   abbrev pub contained_on : ExpressionTree → List Lexeme → Option Containment
-      → Result (ExpressionTree × List Lexeme) Fault
+      → Result (ExpressionTree × List Lexeme) Stop
   contained_on left ts None = tested_next left ts
   contained_on left ts (Some op) = contain_on left op (tail ts)
 
-  abbrev pub equated_on : ExpressionTree → List Lexeme → Option Equality → Result (ExpressionTree × List Lexeme) Fault
+  abbrev pub equated_on : ExpressionTree → List Lexeme → Option Equality → Result (ExpressionTree × List Lexeme) Stop
   equated_on left ts None = contained_on left ts (containing (head ts))
   equated_on left ts (Some op) = equated left op (tail ts)
 
   abbrev pub compared_on : ExpressionTree → List Lexeme → Option Comparison
-      → Result (ExpressionTree × List Lexeme) Fault
+      → Result (ExpressionTree × List Lexeme) Stop
   compared_on left ts None = equated_on left ts (equating (head ts))
   compared_on left ts (Some op) = compare_on left op (tail ts)
 
@@ -231,7 +235,7 @@ module _ (below : Level → Parse ExpressionTree) where
 
   unfoldable pub negated : Parse ExpressionTree
   negated ts =
-      if is_sign s.Not (head ts) then (below negation (tail ts) >>= λ x. Ok (prefixed op.Not x.0, x.1))
+      if is_sign s.Not (head ts) then (below negation (length ts) (tail ts) >>= λ x. Ok (prefixed op.Not x.0, x.1))
       else comparison ts
 
   unfoldable pub condition : Parse ExpressionTree
@@ -239,7 +243,7 @@ module _ (below : Level → Parse ExpressionTree) where
 
   -- the right side of an assignment is one nesting further in where it begins
   unfoldable pub assigned : Parse ExpressionTree
-  assigned ts = if begins_expression (head ts) then below whole ts else Err Grammar
+  assigned ts = if begins_expression (head ts) then below whole (length ts) ts else Err (unfit (length ts))
 
   -- behind a left side
   unfoldable pub assignment : ExpressionTree → Parse ExpressionTree
@@ -258,12 +262,12 @@ module _ (below : Level → Parse ExpressionTree) where
       else (list (is_sign s.Comma) expression ts >>= λ x. expect s.CloseParenthesis x.1
       >>= λ r. Ok (call n (trees_of x.0), r))
 
--- each level, with so many nestings at most
-unfoldable pub nested : ℕ → Level → Parse ExpressionTree
-nested zero l ts = Err Deep
-nested (suc d) whole ts = expression (nested d) ts
-nested (suc d) negation ts = negated (nested d) ts
-nested (suc d) complement ts = complemented (nested d) ts
-nested (suc d) prefix ts = unary (nested d) ts
-nested (suc d) operand ts = primary (nested d) ts
-nested (suc d) (arguments n) ts = called (nested d) n ts
+-- each level, with so many nestings at most, which the token opens from which on so many are left
+unfoldable pub nested : ℕ → Level → ℕ → Parse ExpressionTree
+nested zero l opening ts = Err (deep opening)
+nested (suc d) whole opening ts = expression (nested d) ts
+nested (suc d) negation opening ts = negated (nested d) ts
+nested (suc d) complement opening ts = complemented (nested d) ts
+nested (suc d) prefix opening ts = unary (nested d) ts
+nested (suc d) operand opening ts = primary (nested d) ts
+nested (suc d) (arguments n) opening ts = called (nested d) n ts

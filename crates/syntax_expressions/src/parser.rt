@@ -445,7 +445,7 @@ fn minus<'t, 'a>(
     depth: usize,
 ) -> Result<Box<Expression<'a>>, ParseError>
     ensures { TakesExpression result parser.new
-        (spec.minus (spec.nested depth) (tail (ahead parser.old))) }
+        (spec.minus (spec.nested depth) (length (ahead parser.old)) (tail (ahead parser.old))) }
 {
     let inside = open(depth, parser.tokens)?;
     pass(parser);
@@ -564,7 +564,7 @@ fn within<'t, 'a>(
     depth: usize,
 ) -> Result<Box<Expression<'a>>, ParseError>
     ensures { TakesExpression result parser.new
-        (spec.nested depth spec.whole (tail (ahead parser.old))) }
+        (spec.nested depth spec.whole (length (ahead parser.old)) (tail (ahead parser.old))) }
 {
     let inside = open(depth, parser.tokens)?;
     pass(parser);
@@ -579,7 +579,7 @@ fn enclosed<'t, 'a>(
     depth: usize,
 ) -> Result<Box<Expression<'a>>, ParseError>
     ensures { TakesExpression result parser.new
-        (spec.enclosed (spec.nested depth) (tail (ahead parser.old))) }
+        (spec.enclosed (spec.nested depth) (length (ahead parser.old)) (tail (ahead parser.old))) }
 {
     match within(parser, depth) {
         Ok(inside) => parts::parenthesised(parser, inside),
@@ -595,7 +595,7 @@ fn reserved<'t, 'a>(
     word: Word,
 ) -> Result<Box<Expression<'a>>, ParseError>
     ensures { TakesExpression result parser.new (spec.word_on (spec.nested depth) word
-        (operators.relating_word word) (tail (ahead parser.old))) }
+        (operators.relating_word word) (ahead parser.old)) }
 {
     match relating_word(word) {
         Some(relative) => related(parser, depth, relative),

@@ -61,7 +61,7 @@ pub fn word_constant<'t, 'a>(
     word: Word,
 ) -> Result<Box<Expression<'a>>, ParseError>
     ensures { TakesExpression result parser.new
-        (spec.valued (spec.word_value word) (reading.tail (ahead parser.old))) }
+        (spec.valued (spec.word_value word) (ahead parser.old)) }
 {
     match word_value(word) {
         Some(value) => constant(parser, value),

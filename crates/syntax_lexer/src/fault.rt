@@ -162,14 +162,6 @@ pub struct PlacedFault {
     pub offset: Option<usize>,
 }
 
-impl From<PlacedFault> for SourceFault {
-    ghost from_gives = { λ p e. e ≡ p.fault };
-
-    fn from(placed: PlacedFault) -> SourceFault {
-        placed.fault
-    }
-}
-
 impl From<AllocError> for PlacedFault {
     ghost from_gives = { λ _ p. p ≡ nowhere no_memory };
 

@@ -4,15 +4,15 @@ use Rattle.std.proofs.Common.{Err, refl, sym, ap, ◌∙◌, arith}
 use Rattle.std.specs.Prelude.{map, length}
 use Rattle.syntax_lexer.specs.declared.token.Token.{Token}
 use Rattle.syntax_lexer.specs.Token.{Lexeme, lexemes}
-use Rattle.syntax_parsing.specs.declared.error.Fault.{Fault}
+use Rattle.syntax_parsing.specs.Stop.{Stop, stop_of}
 use Rattle.syntax_parsing.specs.declared.error.ParseError.{ParseError}
 use Rattle.syntax_parsing.specs.declared.error.ParseError.TheVariants as errors
 use Rattle.syntax_parsing.specs.Parse.{◌>>=◌, Fails, Parse, head, tail, further, list, as_long, repeated}
 
-abbrev pub joined : {A : Type 0} → List A → Result (List A × List Lexeme) Fault → Result (List A × List Lexeme) Fault
+abbrev pub joined : {A : Type 0} → List A → Result (List A × List Lexeme) Stop → Result (List A × List Lexeme) Stop
 joined front r = r >>= λ x. Ok (front ++ x.0, x.1)
 
-pub joined_none : {A : Type 0} (r : Result (List A × List Lexeme) Fault) → joined [] r ≡ r
+pub joined_none : {A : Type 0} (r : Result (List A × List Lexeme) Stop) → joined [] r ≡ r
 joined_none (Ok x) = refl
 joined_none (Err f) = refl
 
@@ -25,7 +25,7 @@ map_push : {X A : Type 0} (view : X → A) (xs : List X) (x : X) (rest : List A)
 map_push view [] x rest = refl
 map_push view (y ∷ xs) x rest = ap (λ ys. view y ∷ ys) (map_push view xs x rest)
 
-joined_more : {X A : Type 0} (view : X → A) (front : List X) (x : X) (r : Result (List A × List Lexeme) Fault)
+joined_more : {X A : Type 0} (view : X → A) (front : List X) (x : X) (r : Result (List A × List Lexeme) Stop)
     → joined (map view front) (r >>= λ y. Ok (view x ∷ y.0, y.1)) ≡ joined (map view (front ++ x ∷ [])) r
 joined_more view front x (Ok y) = ap (λ z. Ok (z, y.1)) (map_push view front x y.0)
 joined_more view front x (Err f) = refl
@@ -54,13 +54,13 @@ module _ {X A : Type 0} (view : X → A) (begins : List Lexeme → Bool) (p : Pa
       rw (k, e, h) (joined_more view front x (as_long begins p (n - (i + 1)) r))
 
   pub as_long_fails : (e : ParseError) (n i : ℕ) (front : List X) (ts : List Lexeme)
-      (total : Result (List A × List Lexeme) Fault) → i < n → begins ts ≡ true → Fails e (p ts)
+      (total : Result (List A × List Lexeme) Stop) → i < n → begins ts ≡ true → Fails e (p ts)
       → joined (map view front) (as_long begins p (n - i) ts) ≡ total → Fails e total
   unfolding as_long
   as_long_fails errors.Memory n i front ts total lt c h so_far = tt
   as_long_fails (errors.Fault f count) n i front ts total lt c h so_far =
       let k : n - i ≡ suc (n - (i + 1)) = omega arith in
-      let one : joined (map view front) (as_long begins p (n - i) ts) ≡ Err f = rw (k, c, h) refl in
+      let one : joined (map view front) (as_long begins p (n - i) ts) ≡ Err (stop_of f count) = rw (k, c, h) refl in
       sym so_far ∙ one
 
 module _ {X A : Type 0} (view : X → A) (begins : Lexeme → Bool) (p : Parse A) where
@@ -82,7 +82,7 @@ module _ {X A : Type 0} (view : X → A) (begins : Lexeme → Bool) (p : Parse A
   repeated_more n i front ts x r lt e h = as_long_more view (λ us. begins (head us)) p n i front ts x r lt e h
 
   pub repeated_fails : (e : ParseError) (n i : ℕ) (front : List X) (ts : List Lexeme)
-      (total : Result (List A × List Lexeme) Fault) → i < n → begins (head ts) ≡ true → Fails e (p ts)
+      (total : Result (List A × List Lexeme) Stop) → i < n → begins (head ts) ≡ true → Fails e (p ts)
       → joined (map view front) (repeated begins p (n - i) ts) ≡ total → Fails e total
   unfolding repeated
   repeated_fails e n i front ts total lt c h so_far = as_long_fails view (λ us. begins (head us)) p e n i front ts
@@ -108,13 +108,13 @@ module _ {X A : Type 0} (view : X → A) (begins : Lexeme → Bool) (p : Parse A
       rw (k, e, h) (joined_more view front x (further begins p (n - (i + 1)) r))
 
   pub further_fails : (e : ParseError) (n i : ℕ) (front : List X) (ts : List Lexeme)
-      (total : Result (List A × List Lexeme) Fault) → i < n → begins (head ts) ≡ true → Fails e (p (tail ts))
+      (total : Result (List A × List Lexeme) Stop) → i < n → begins (head ts) ≡ true → Fails e (p (tail ts))
       → joined (map view front) (further begins p (n - i) ts) ≡ total → Fails e total
   unfolding further
   further_fails errors.Memory n i front ts total lt c h so_far = tt
   further_fails (errors.Fault f count) n i front ts total lt c h so_far =
       let k : n - i ≡ suc (n - (i + 1)) = omega arith in
-      let one : joined (map view front) (further begins p (n - i) ts) ≡ Err f = rw (k, c, h) refl in
+      let one : joined (map view front) (further begins p (n - i) ts) ≡ Err (stop_of f count) = rw (k, c, h) refl in
       sym so_far ∙ one
 
 -- ---- the first item of a list

@@ -1,3 +1,4 @@
+pub mod Stop
 pub mod Parse
 pub mod Returned
 pub mod Errors

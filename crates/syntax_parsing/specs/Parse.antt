@@ -7,26 +7,26 @@ use Rattle.syntax_lexer.specs.declared.token.Word.{Word}
 use Rattle.syntax_lexer.specs.declared.token.Word.TheVariants as w
 use Rattle.syntax_lexer.specs.Token.{Lexeme, reserved, sign}
 pub use Rattle.syntax_lexer.specs.Token.{head, tail}
-use Rattle.syntax_parsing.specs.declared.error.Fault.{Fault}
-use Rattle.syntax_parsing.specs.declared.error.Fault.TheVariants.{Grammar}
+use Rattle.syntax_parsing.specs.Stop.{Stop, unfit, stop_of}
 use Rattle.syntax_parsing.specs.declared.error.ParseError.{ParseError}
 use Rattle.syntax_parsing.specs.declared.error.ParseError.TheVariants as errors
 
--- what is read, and the tokens after it; or why nothing is
+-- what is read, and the tokens after it; or why nothing is, and where
 abbrev pub Parse : Type 0 → Type 0
-Parse A = List Lexeme → Result (A × List Lexeme) Fault
+Parse A = List Lexeme → Result (A × List Lexeme) Stop
 
 infixl 10 ◌>>=◌
-abbrev pub ◌>>=◌ : {A B : Type 0} → Result A Fault → (A → Result B Fault) → Result B Fault
+abbrev pub ◌>>=◌ : {A B : Type 0} → Result A Stop → (A → Result B Stop) → Result B Stop
 (Ok x) >>= f = f x
 (Err e) >>= f = Err e
 
--- What a function returned, seen by view, is what reading gives, unless memory was refused.
-abbrev pub Fails : {Y : Type 0} → ParseError → Result Y Fault → Type 0
+-- What a function returned, seen by view, is what reading gives, unless memory was refused. A fault stands where
+-- reading stops.
+abbrev pub Fails : {Y : Type 0} → ParseError → Result Y Stop → Type 0
 Fails errors.Memory read = Unit {0}
-Fails (errors.Fault f count) read = read ≡ Err f
+Fails (errors.Fault f left) read = read ≡ Err (stop_of f left)
 
-abbrev pub Gives : {X Y : Type 0} → (X → Y) → Result X ParseError → Result Y Fault → Type 0
+abbrev pub Gives : {X Y : Type 0} → (X → Y) → Result X ParseError → Result Y Stop → Type 0
 Gives view (Ok x) read = read ≡ Ok (view x)
 Gives view (Err e) read = Fails e read
 
@@ -124,11 +124,11 @@ is_word w (reserved r p) = word_number r == word_number w
 is_word w _ = false
 
 -- the tokens after that sign, or word
-unfoldable pub expect : Sign → List Lexeme → Result (List Lexeme) Fault
-expect s ts = if is_sign s (head ts) then Ok (tail ts) else Err Grammar
+unfoldable pub expect : Sign → List Lexeme → Result (List Lexeme) Stop
+expect s ts = if is_sign s (head ts) then Ok (tail ts) else Err (unfit (length ts))
 
-unfoldable pub expect_word : Word → List Lexeme → Result (List Lexeme) Fault
-expect_word w ts = if is_word w (head ts) then Ok (tail ts) else Err Grammar
+unfoldable pub expect_word : Word → List Lexeme → Result (List Lexeme) Stop
+expect_word w ts = if is_word w (head ts) then Ok (tail ts) else Err (unfit (length ts))
 
 -- {separator item}
 unfoldable pub further : {A : Type 0} → (Lexeme → Bool) → Parse A → ℕ → Parse (List A)

@@ -11,8 +11,7 @@ use Rattle.syntax_lexer.specs.Token.{position_of}
 use Rattle.syntax_trees.specs.declared.tree.Containment.TheVariants as containment
 use Rattle.syntax_trees.specs.Tree.{NameTree, ExpressionTree, contained}
 use Rattle.syntax_trees.specs.Tree as expressions
-use Rattle.syntax_parsing.specs.declared.error.Fault.{Fault}
-use Rattle.syntax_parsing.specs.declared.error.Fault.TheVariants.{Grammar, Deep}
+use Rattle.syntax_parsing.specs.Stop.{Stop, unfit, deep}
 use Rattle.syntax_parsing.specs.Parse.{Parse, ◌>>=◌, head, tail, is_sign, is_word, expect, list, repeated}
 use Rattle.syntax_expressions.specs.Parse.{expect_name, whole, nested, condition, expression}
 use Rattle.syntax_statement_parts.specs.Tree.{LiteralTree, number_value, word_value, named_value, RangeTree}
@@ -65,22 +64,22 @@ loop_of x e = loop_on x e (name_alone e) (member e) (holder e)
 -- ---- values that are known before a story runs
 
 abbrev pub negative_on : Lexeme → Parse LiteralTree
-negative_on (number n p) ts = Ok (number_value ((65536 - n) % 65536), ts)
-negative_on _ ts = Err Grammar
+negative_on (number n p) ts = Ok (number_value ((65536 - n) % 65536), tail ts)
+negative_on _ ts = Err (unfit (length ts))
 
 abbrev pub value_on : Lexeme → Parse LiteralTree
-value_on (number n p) ts = Ok (number_value n, ts)
-value_on (character c p) ts = Ok (number_value c, ts)
-value_on (dictionary_word f p) ts = Ok (word_value f, ts)
-value_on (reserved w.True p) ts = Ok (number_value 1, ts)
-value_on (reserved w.False p) ts = Ok (number_value 0, ts)
-value_on (reserved w.Nothing p) ts = Ok (number_value 0, ts)
-value_on (name n p) ts = Ok (named_value (record { text = n; position = p }), ts)
-value_on (sign s.Minus p) ts = negative_on (head ts) (tail ts)
-value_on _ ts = Err Grammar
+value_on (number n p) ts = Ok (number_value n, tail ts)
+value_on (character c p) ts = Ok (number_value c, tail ts)
+value_on (dictionary_word f p) ts = Ok (word_value f, tail ts)
+value_on (reserved w.True p) ts = Ok (number_value 1, tail ts)
+value_on (reserved w.False p) ts = Ok (number_value 0, tail ts)
+value_on (reserved w.Nothing p) ts = Ok (number_value 0, tail ts)
+value_on (name n p) ts = Ok (named_value (record { text = n; position = p }), tail ts)
+value_on (sign s.Minus p) ts = negative_on (head (tail ts)) (tail ts)
+value_on _ ts = Err (unfit (length ts))
 
 unfoldable pub known_value : Parse LiteralTree
-known_value ts = value_on (head ts) (tail ts)
+known_value ts = value_on (head ts) ts
 
 abbrev pub begins_value : Lexeme → Bool
 begins_value (number _ _) = true
@@ -105,16 +104,16 @@ ranges ts = list (is_sign s.Comma) range ts
 
 -- ---- what stands inside statements
 
--- behind a token that opens a nesting, where so many may be opened
-abbrev pub opened : {A : Type 0} → ℕ → Result A Fault → Result A Fault
-opened zero R = Err Deep
-opened (suc d) R = R
+-- behind the token that opens a nesting, from which on so many are left, where so many may be opened
+abbrev pub opened : {A : Type 0} → ℕ → ℕ → Result A Stop → Result A Stop
+opened zero opening R = Err (deep opening)
+opened (suc d) opening R = R
 
 -- where d nestings more may be opened
 module _ (d : ℕ) where
   -- `(char)` or `(object)`, and a value
   unfoldable pub cast : (Position → ExpressionTree → PrintItemTree) → Parse PrintItemTree
-  cast make ts = opened d
+  cast make ts = opened d (length ts)
       (expect s.CloseParenthesis (tail (tail ts)) >>= λ r. expression (nested d) r
       >>= λ x. Ok (make (position_of (head r)) x.0, x.1))
 
@@ -138,7 +137,7 @@ module _ (d : ℕ) where
   unfoldable pub enclosed_condition : Parse ExpressionTree
   enclosed_condition ts = do
     r ← expect s.OpenParenthesis ts
-    x ← nested d whole r
+    x ← nested d whole (length ts) r
     u ← expect s.CloseParenthesis x.1
     Ok (x.0, u)
 
@@ -150,7 +149,7 @@ module _ (d : ℕ) where
 
   -- it must have an effect
   unfoldable pub optional_effect : Sign → Parse (Option ExpressionTree)
-  optional_effect s ts = optional s ts >>= λ x. if effect_or_none x.0 then Ok x else Err Grammar
+  optional_effect s ts = optional s ts >>= λ x. if effect_or_none x.0 then Ok x else Err (unfit (length x.1))
 
   -- the parts of a `for`, with the parenthesis behind them
   unfoldable pub heading : Parse HeadingTree
@@ -172,17 +171,17 @@ module _ (d : ℕ) where
     Ok (loop_of n.0 x.0, r)
 
 -- those parts in parentheses, where d nestings more may be opened
-abbrev pub heading_in : ℕ → Parse HeadingTree
-heading_in zero ts = Err Deep
-heading_in (suc d) ts = heading d ts
+abbrev pub heading_in : ℕ → ℕ → Parse HeadingTree
+heading_in zero opening ts = Err (deep opening)
+heading_in (suc d) opening ts = heading d ts
 
 unfoldable pub enclosed_heading : ℕ → Parse HeadingTree
-enclosed_heading d ts = expect s.OpenParenthesis ts >>= λ r. heading_in d r
+enclosed_heading d ts = expect s.OpenParenthesis ts >>= λ r. heading_in d (length ts) r
 
 -- the same of what an `objectloop` goes over
-abbrev pub looped_in : ℕ → Parse LoopTree
-looped_in zero ts = Err Deep
-looped_in (suc d) ts = looped d ts
+abbrev pub looped_in : ℕ → ℕ → Parse LoopTree
+looped_in zero opening ts = Err (deep opening)
+looped_in (suc d) opening ts = looped d ts
 
 unfoldable pub enclosed_loop : ℕ → Parse LoopTree
-enclosed_loop d ts = expect s.OpenParenthesis ts >>= λ r. looped_in d r
+enclosed_loop d ts = expect s.OpenParenthesis ts >>= λ r. looped_in d (length ts) r

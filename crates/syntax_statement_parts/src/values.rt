@@ -2,7 +2,7 @@
 
 ghost use Rattle.std.specs.Prelude.{◌≡◌, map};
 ghost use Rattle.syntax_lexer.specs.Token.{lexeme, lexemes};
-ghost use Rattle.syntax_parsing.specs.Parse.{head, tail};
+ghost use Rattle.syntax_parsing.specs.Parse.{head};
 ghost use Rattle.syntax_parsing.specs.Returned.{ahead, Takes};
 ghost use Rattle.syntax_statement_parts.specs.Nesting as nesting;
 ghost use Rattle.syntax_statement_parts.specs.Tree.{literal_tree, range_tree};
@@ -16,7 +16,7 @@ use syntax_trees::Name;
 // The number behind a `-`.
 fn negative<'t, 'a>(parser: &mut Parser<'t, 'a>) -> Result<Literal<'a>, ParseError>
     ensures { Takes literal_tree result parser.new
-        (spec.negative_on (head (ahead parser.old)) (tail (ahead parser.old))) }
+        (spec.negative_on (head (ahead parser.old)) (ahead parser.old)) }
 {
     match peek(parser.tokens).kind {
         Kind::Number(number) => {

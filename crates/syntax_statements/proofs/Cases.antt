@@ -1,11 +1,11 @@
 -- What is read behind `if`, the words of loops and `switch`, by what reading their parts gave.
-use Rattle.std.proofs.Common.{◌≡◌, ℕ, true, false, List, Option, Some, Ok, Err, refl, ◌∙◌}
+use Rattle.std.proofs.Common.{◌≡◌, ℕ, true, false, List, length, Option, Some, Ok, Err, refl, ◌∙◌}
 use Rattle.syntax_lexer.specs.declared.token.Position.{Position}
 use Rattle.syntax_lexer.specs.declared.token.Sign.TheVariants as s
 use Rattle.syntax_lexer.specs.declared.token.Word.TheVariants as w
 use Rattle.syntax_lexer.specs.Token.{Lexeme}
 use Rattle.syntax_trees.specs.Tree.{ExpressionTree}
-use Rattle.syntax_parsing.specs.declared.error.Fault.TheVariants.{Grammar}
+use Rattle.syntax_parsing.specs.Stop.{unfit}
 use Rattle.syntax_parsing.specs.Parse.{◌>>=◌, Parse, head, tail, is_sign, is_word, expect}
 use Rattle.syntax_expressions.specs.Parse.{closed}
 use Rattle.syntax_statement_parts.specs.Tree.{HeadingTree, LoopTree}
@@ -32,18 +32,18 @@ module _ (d : ℕ) (inside : Parse StatementTree) (p : Position) (ts : List Lexe
   unfolding traversal
   traversal_made l x m r read g = rw (read, g) refl
 
-pub block_behind : (braces : Parse (List StatementTree)) (ts : List Lexeme)
-    → braced braces ts ≡ (braces ts >>= λ x. block_of x.0 x.1)
+pub block_behind : (braces : ℕ → Parse (List StatementTree)) (left : ℕ) (ts : List Lexeme)
+    → braced braces left ts ≡ (braces left ts >>= λ x. block_of x.0 x.1)
 unfolding braced
-block_behind braces ts = refl
+block_behind braces left ts = refl
 
-pub block_read : (braces : Parse (List StatementTree)) (ts m : List Lexeme) (xs : List StatementTree)
-    → braces ts ≡ Ok (xs, m) → braced braces ts ≡ block_of xs m
+pub block_read : (braces : ℕ → Parse (List StatementTree)) (left : ℕ) (ts m : List Lexeme)
+    (xs : List StatementTree) → braces left ts ≡ Ok (xs, m) → braced braces left ts ≡ block_of xs m
 unfolding braced
-block_read braces ts m xs h = rw h refl
+block_read braces left ts m xs h = rw h refl
 
-pub selection_made : (d : ℕ) (braces bodies : Parse (List StatementTree)) (p : Position) (ts m us r k : List Lexeme)
-    (e : ExpressionTree) (cs : List CaseTree) (o : Option (List StatementTree)) → enclosed_condition d ts ≡ Ok (e, m)
+pub selection_made : (d : ℕ) (braces : ℕ → Parse (List StatementTree)) (bodies : Parse (List StatementTree))
+    (p : Position) (ts m us r k : List Lexeme) (e : ExpressionTree) (cs : List CaseTree) (o : Option (List StatementTree)) → enclosed_condition d ts ≡ Ok (e, m)
     → expect s.OpenBrace m ≡ Ok us → cases bodies us ≡ Ok (cs, r) → otherwise braces r ≡ Ok (o, k)
     → selection d braces bodies p ts ≡ switch_of p e cs o k
 unfolding selection
@@ -51,18 +51,18 @@ selection_made d braces bodies p ts m us r k e cs o read h c g = rw (read, h, c,
 
 -- what stands behind `default`, whose colon is looked at before its statements are read
 
-module _ (braces : Parse (List StatementTree)) (ts us : List Lexeme) (is : is_word w.Default (head ts) ≡ true)
+module _ (braces : ℕ → Parse (List StatementTree)) (ts us : List Lexeme) (is : is_word w.Default (head ts) ≡ true)
     (behind : us ≡ tail ts) where
   pub otherwise_default : is_sign s.Colon (head us) ≡ true
-      → otherwise braces ts ≡ (braces (tail us) >>= λ xs. Ok (Some xs.0, xs.1))
+      → otherwise braces ts ≡ (braces (length us) (tail us) >>= λ xs. Ok (Some xs.0, xs.1))
   unfolding otherwise expect
   otherwise_default colon = rw (is, ← behind, colon) refl
 
   pub otherwise_made : (k : List Lexeme) (xs : List StatementTree) → is_sign s.Colon (head us) ≡ true
-      → braces (tail us) ≡ Ok (xs, k) → otherwise braces ts ≡ Ok (Some xs, k)
+      → braces (length us) (tail us) ≡ Ok (xs, k) → otherwise braces ts ≡ Ok (Some xs, k)
   otherwise_made k xs colon read = otherwise_default colon ∙ rw read refl
 
-  pub otherwise_uncoloned : is_sign s.Colon (head us) ≡ false → otherwise braces ts ≡ Err Grammar
+  pub otherwise_uncoloned : is_sign s.Colon (head us) ≡ false → otherwise braces ts ≡ Err (unfit (length us))
   unfolding otherwise expect
   otherwise_uncoloned none = rw (is, ← behind, none) refl
 

@@ -9,6 +9,7 @@ use Rattle.syntax_expressions.specs.Grammar.{nesting}
 use Rattle.syntax_expressions.specs.Nesting.{begins_expression}
 use Rattle.syntax_expressions.proofs.Begins.{first_E}
 use Rattle.syntax_expressions.proofs.Limited.{Limited, same, in_whole}
+use Rattle.syntax_expressions.proofs.Short.{short_E}
 use Rattle.syntax_expressions.proofs.Complete.{at_E}
 use Rattle.syntax_statement_parts.specs.Parse.{begins_value}
 use Rattle.syntax_statements.specs.Tree.{StatementTree, StatementTrees, CaseTrees}
@@ -19,10 +20,10 @@ use Rattle.syntax_statements.specs.Grammar.{ss_next, IsCases, cases_none, cases_
 use Rattle.syntax_statements.specs.Grammar.{inside_nesting, body_nesting, s_give, s_move, s_remove, s_objectloop}
 use Rattle.syntax_statements.specs.Nesting.{begins_statement, begins_in_case}
 use Rattle.syntax_statements.specs.Parse.{one_case, cases, otherwise, inside, braces, bodies, statement, statements}
-use Rattle.syntax_statements.proofs.Follow.{short_S, short_Ss}
+use Rattle.syntax_statements.proofs.Follow.{short_S, short_Ss, short_Cases, short_Optional, short_Given}
 use Rattle.syntax_statements.proofs.KnownValues.{short_Ranges, ranges_read, begins_Ranges, case_Ranges}
 use Rattle.syntax_statements.proofs.Labels.{case_S}
-use Rattle.syntax_statements.proofs.LoopHeads.{at_Loop, nests_over}
+use Rattle.syntax_statements.proofs.LoopHeads.{at_Loop, nests_over, short_Loop}
 use Rattle.syntax_statements.proofs.ItemsRead.{at_Items}
 use Rattle.syntax_statements.proofs.Deepest.{up, in_statement, in_block, listed, in_bodies, in_heading, in_loop}
 use Rattle.syntax_statements.proofs.Deepest.{case_list, default_list, list_nesting, default_nesting, deepest_case}
@@ -31,16 +32,16 @@ use Rattle.syntax_statements.proofs.Alternatives.{step_new_line, step_rtrue, ste
 use Rattle.syntax_statements.proofs.Alternatives.{step_return, step_return_value, step_condition, step_if, step_if_else}
 use Rattle.syntax_statements.proofs.Alternatives.{step_while, step_enclosed, step_for, step_enclosed_loop}
 use Rattle.syntax_statements.proofs.Alternatives.{step_objectloop, step_entered, step_do, step_break, step_continue}
-use Rattle.syntax_statements.proofs.Alternatives.{step_case, step_no_default, step_default, step_switch, step_give}
+use Rattle.syntax_statements.proofs.Alternatives.{step_case, step_no_default, step_default, step_switch, step_switch_none, step_give}
 use Rattle.syntax_statements.proofs.Alternatives.{step_move, step_remove, statement_of, step_alone}
 use Rattle.syntax_statements.proofs.PartsRead.{as_long_stop, as_long_next, repeated_stop, repeated_next, at_Given}
 use Rattle.syntax_statements.proofs.PartsRead.{stops_Given, at_Heading}
 
-expression_semicolon : (t : Lexeme) → begins_expression t ≡ true → is_sign s.Semicolon t ≡ false
+pub expression_semicolon : (t : Lexeme) → begins_expression t ≡ true → is_sign s.Semicolon t ≡ false
 expression_semicolon (sign s.Semicolon p) e = absurd cc
 expression_semicolon _ e = refl
 
-expression_statement : (t : Lexeme) → begins_expression t ≡ true → begins_statement t ≡ true
+pub expression_statement : (t : Lexeme) → begins_expression t ≡ true → begins_statement t ≡ true
 unfolding begins_statement
 expression_statement (name f p) e = refl
 expression_statement (number n p) e = refl
@@ -96,7 +97,7 @@ brace_stops q = refl
 
 -- a statement of a case goes on with it; the next case, `default` and a brace end it
 
-in_case : {ts r : List Lexeme} {x : StatementTree} → IsS ts x r → begins_in_case ts ≡ true
+pub in_case : {ts r : List Lexeme} {x : StatementTree} → IsS ts x r → begins_in_case ts ≡ true
 in_case a = rw (first_S a, case_S a) refl
 
 not_both : (a : Bool) → (a && not true) ≡ false
@@ -113,6 +114,8 @@ case_ends {ts} (cases_next g a b) = rw (case_Ranges g) (not_both (begins_stateme
 -- the cases of a tree are read from ts on, and its `default` behind them
 record Cased (d n : ℕ) (ts : List Lexeme) (cs : CaseTrees) (r : List Lexeme) : Type 0 where
   rest : List Lexeme
+  fewer : length rest ≤ length ts
+  last : length r ≤ length rest
   list : Limited (repeated begins_value (one_case (bodies d)) n ts) d (list_nesting cs) (case_list cs) rest
   default : Limited (otherwise (braces d) rest) d (default_nesting cs) (default_list cs) r
 
@@ -126,41 +129,48 @@ mutual
       → Limited (statement d ts) d (statement_nesting x) x r
   at_S (s_empty {r = r} {p = p}) d = step_empty d p r
   at_S (s_block {m = m} {r = r} {p = p} {q = q} {xs = xs} a) d = step_block d xs p q m r
-      (in_block m d (λ k. at_block a k (length m) (omega arith)))
+      (in_block (suc (length m)) m d (omega (arith, short_Ss a)) (λ k. at_block a k (length m) (omega arith)))
   at_S (s_text {r = r} {p = p} {q = q} {bytes = bytes}) d = step_text d bytes p q r
   at_S (s_print {m = m} {r = r} {p = p} {q = q} {is = is} a) d = step_print d is p q m r (at_Items a d)
   at_S (s_print_ret {m = m} {r = r} {p = p} {q = q} {is = is} a) d = step_print_ret d is p q m r (at_Items a d)
   at_S (s_new_line {r = r} {p = p} {q = q}) d = step_new_line d p q r
   at_S (s_if {m = m} {k = k} {p = p} {q = q} {o = o} c a e) d = up
       (step_if d p (sign s.OpenParenthesis q ∷ m)
-      (step_condition d q o m k (in_whole m d (λ j. at_E c j (omega arith)))) (in_statement k d (λ j. at_S a j)) e)
+      (step_condition d q o m k (in_whole (suc (length m)) m d (omega (arith, short_E c)) (λ j. at_E c j (omega arith)))) (omega (arith, short_S a)) (in_statement k d (short_S a) (λ j. at_S a j)) e)
       (omega arith)
   at_S (s_if_else {m = m} {k = k} {l = l} {p = p} {q = q} {o = o} {e = e} c a b) d = up
       (step_if_else d p e (sign s.OpenParenthesis q ∷ m) l
-      (step_condition d q o m k (in_whole m d (λ j. at_E c j (omega arith)))) (in_statement k d (λ j. at_S a j))
-      (in_statement l d (λ j. at_S b j))) (omega arith)
+      (step_condition d q o m k (in_whole (suc (length m)) m d (omega (arith, short_E c)) (λ j. at_E c j (omega arith)))) (omega (arith, short_S a)) (omega (arith, short_S b))
+      (in_statement k d (short_S a) (λ j. at_S a j)) (in_statement l d (short_S b) (λ j. at_S b j))) (omega arith)
   at_S (s_while {m = m} {k = k} {p = p} {q = q} {o = o} c a) d = up
       (step_while d p (sign s.OpenParenthesis q ∷ m)
-      (step_condition d q o m k (in_whole m d (λ j. at_E c j (omega arith)))) (in_statement k d (λ j. at_S a j)))
+      (step_condition d q o m k (in_whole (suc (length m)) m d (omega (arith, short_E c)) (λ j. at_E c j (omega arith)))) (omega (arith, short_S a))
+      (in_statement k d (short_S a) (λ j. at_S a j)))
       (omega arith)
   at_S (s_do {m = m} {k = k} {r = r} {p = p} {q = q} {o = o} {u = u} {j = j} a c) d = up
-      (step_do d p u j m (sign s.OpenParenthesis q ∷ k) r
-      (step_entered d m (first_S a) (in_statement m d (λ i. at_S a i)))
-      (step_condition d q o k (sign s.Semicolon j ∷ r) (in_whole k d (λ i. at_E c i (omega arith)))))
+      (step_do d p u j m (sign s.OpenParenthesis q ∷ k) r (omega (arith, short_E c))
+      (step_entered d m (first_S a) (in_statement m d (short_S a) (λ i. at_S a i)))
+      (step_condition d q o k (sign s.Semicolon j ∷ r) (in_whole (suc (length k)) k d (omega (arith, short_E c)) (λ i. at_E c i (omega arith)))))
       (omega arith)
   at_S (s_for {m = m} {n = n} {p = p} {q = q} a f b c g x) d = up
       (step_for d p (sign s.OpenParenthesis q ∷ m)
-      (step_enclosed d q m (in_heading m d (λ i. at_Heading a f b c g i))) (in_statement n d (λ i. at_S x i)))
+      (step_enclosed d q m (in_heading (suc (length m)) m d
+      (omega (arith, short_Optional a, short_Optional b, short_Optional c)) (λ i. at_Heading a f b c g i)))
+      (omega (arith, short_S x)) (in_statement n d (short_S x) (λ i. at_S x i)))
       (omega arith)
   at_S (s_objectloop {m = m} {k = k} {p = p} {q = q} {l = l} {x = x} a b) d = up
       (step_objectloop d p (sign s.OpenParenthesis q ∷ m)
-      (step_enclosed_loop d q m (in_loop m d (λ i. at_Loop a i))) (in_statement k d (λ i. at_S b i)))
+      (step_enclosed_loop d q m (in_loop (suc (length m)) m d (omega (arith, short_Loop a)) (λ i. at_Loop a i)))
+      (omega (arith, short_S b)) (in_statement k d (short_S b) (λ i. at_S b i)))
       (omega (arith, nests_over p l x))
-  at_S (s_switch {m = m} {k = k} {r = r} {p = p} {q = q} {o = o} {i = i} {j = j} {e = e} {cs = cs} a b) d =
+  at_S (s_switch {m = m} {r = r} {p = p} {q = q} a b) zero = step_switch_none zero p q m r refl
+      (omega (arith, short_E a, short_Cases b))
+  at_S (s_switch {m = m} {k = k} {r = r} {p = p} {q = q} {o = o} {i = i} {j = j} {e = e} {cs = cs} a b) (suc d) =
       let c = at_cases b d (length k) (omega arith) in
       up
-      (step_switch d p i j cs (sign s.OpenParenthesis q ∷ m) r
-      (step_condition d q o m (sign s.OpenBrace i ∷ k) (in_whole m d (λ z. at_E a z (omega arith))))
+      (step_switch (suc d) p i j cs (sign s.OpenParenthesis q ∷ m) r c.fewer (omega (arith, c.last))
+      (step_condition (suc d) q o m (sign s.OpenBrace i ∷ k)
+      (in_whole (suc (length m)) m (suc d) (omega (arith, short_E a)) (λ z. at_E a z (omega arith))))
       (all_cases c) c.default) (deepest_case (nesting e) cs)
   at_S (s_break {r = r} {p = p} {q = q}) d = step_break d p q r
   at_S (s_continue {r = r} {p = p} {q = q}) d = step_continue d p q r
@@ -172,61 +182,67 @@ mutual
   at_S (s_quit {r = r} {p = p} {q = q}) d = step_quit d p q r
   at_S (s_read {r = r} {p = p} {q = q} {o = o} {j = j} {a = a} {b = b}) d = step_read d p q o j a b r
   at_S (s_give {m = m} {r = r} {p = p} {q = q} c a) d = up
-      (step_give d p q m r (at_E c d (stops_Given a)) (at_Given a d)) (omega arith)
-  at_S (s_move {m = m} {k = k} {r = r} {p = p} {q = q} {o = o} a b) d = step_move d p o q m k r
+      (step_give d p q m r (omega (arith, short_Given a)) (at_E c d (stops_Given a)) (at_Given a d)) (omega arith)
+  at_S (s_move {m = m} {k = k} {r = r} {p = p} {q = q} {o = o} a b) d = step_move d p o q m k r (omega (arith, short_E b))
       (at_E a d (omega arith)) (at_E b d (omega arith))
   at_S (s_remove {m = m} {r = r} {p = p} {q = q} c) d = step_remove d p q m r (at_E c d (omega arith))
   at_S {ts} (s_effect {r = r} {q = q} c f) d = same (statement_of d ts (first_E c))
       (step_alone d q ts r f (at_E c d (omega arith)))
 
-  at_block : {ts r : List Lexeme} {xs : StatementTrees} {q : Position} → IsSs ts xs (sign s.CloseBrace q ∷ r)
+  pub at_block : {ts r : List Lexeme} {xs : StatementTrees} {q : Position} → IsSs ts xs (sign s.CloseBrace q ∷ r)
       → (d n : ℕ) → length ts ≤ n → Limited (repeated begins_statement (inside d) n ts) d (inside_nesting xs)
       (listed xs) (sign s.CloseBrace q ∷ r)
   at_block {r = r} {q = q} ss_stop d n le = repeated_stop begins_statement (inside d) d n (sign s.CloseBrace q ∷ r)
       (brace_stops q)
   at_block (ss_next a b) d zero le = absurd (omega (arith, short_S a))
   at_block {ts} (ss_next a b) d (suc n) le = repeated_next begins_statement (inside d) d n ts (first_S a)
-      (in_statement ts d (λ j. at_S a j)) (at_block b d n (omega (arith, short_S a)))
+      (in_statement ts d (short_S a) (λ j. at_S a j)) (short_Ss b) (at_block b d n (omega (arith, short_S a)))
 
-  at_body : {ts r : List Lexeme} {xs : StatementTrees} → IsSs ts xs r → begins_in_case r ≡ false → (d n : ℕ)
+  pub at_body : {ts r : List Lexeme} {xs : StatementTrees} → IsSs ts xs r → begins_in_case r ≡ false → (d n : ℕ)
       → length ts ≤ n → Limited (as_long begins_in_case (inside d) n ts) d (inside_nesting xs) (listed xs) r
   at_body {r = r} ss_stop e d n le = as_long_stop begins_in_case (inside d) d n r e
   at_body (ss_next a b) e d zero le = absurd (omega (arith, short_S a))
   at_body {ts} (ss_next a b) e d (suc n) le = as_long_next begins_in_case (inside d) d n ts (in_case a)
-      (in_statement ts d (λ j. at_S a j)) (at_body b e d n (omega (arith, short_S a)))
+      (in_statement ts d (short_S a) (λ j. at_S a j)) (short_Ss b) (at_body b e d n (omega (arith, short_S a)))
 
   at_cases : {ts r : List Lexeme} {cs : CaseTrees} {q : Position} → IsCases ts cs (sign s.CloseBrace q ∷ r)
-      → (d n : ℕ) → length ts ≤ n → Cased d n ts cs (sign s.CloseBrace q ∷ r)
+      → (d n : ℕ) → length ts ≤ n → Cased (suc d) n ts cs (sign s.CloseBrace q ∷ r)
   at_cases {r = r} {q = q} cases_none d n le = record {
     rest = sign s.CloseBrace q ∷ r;
-    list = repeated_stop begins_value (one_case (bodies d)) d n (sign s.CloseBrace q ∷ r) refl;
-    default = step_no_default d (sign s.CloseBrace q ∷ r) refl;
+    fewer = omega arith;
+    last = omega arith;
+    list = repeated_stop begins_value (one_case (bodies (suc d))) (suc d) n (sign s.CloseBrace q ∷ r) refl;
+    default = step_no_default (suc d) (sign s.CloseBrace q ∷ r) refl;
   }
   at_cases (cases_default {m = m} {p = p} {q = o} a) d n le = record {
     rest = reserved w.Default p ∷ sign s.Colon o ∷ m;
+    fewer = omega arith;
+    last = omega (arith, short_Ss a);
     list =
-        repeated_stop begins_value (one_case (bodies d)) d n (reserved w.Default p ∷ sign s.Colon o ∷ m) refl;
-    default = step_default d p o m (in_block m d (λ k. at_block a k (length m) (omega arith)));
+        repeated_stop begins_value (one_case (bodies (suc d))) (suc d) n (reserved w.Default p ∷ sign s.Colon o ∷ m) refl;
+    default = step_default (suc d) p o m (in_block (suc (length m)) m (suc d) (omega (arith, short_Ss a)) (λ k. at_block a k (length m) (omega arith)));
   }
   at_cases (cases_next g a b) d zero le = absurd (omega (arith, short_Ranges g))
   at_cases {ts} (cases_next {m = m} {p = p} {gs = gs} {xs = xs} g a b) d (suc n) le =
       let c = at_cases b d n (omega (arith, short_Ranges g, short_Ss a)) in
       record {
         rest = c.rest;
+        fewer = omega (arith, short_Ranges g, short_Ss a, c.fewer);
+        last = c.last;
         list =
-            repeated_next begins_value (one_case (bodies d)) d n ts (begins_Ranges g)
-            (step_case d gs xs p ts m (ranges_read g)
-            (in_bodies m d (λ k. at_body a (case_ends b) k (length m) (omega arith)))) c.list;
+            repeated_next begins_value (one_case (bodies (suc d))) (suc d) n ts (begins_Ranges g)
+            (step_case (suc d) gs xs p ts m (ranges_read g)
+            (in_bodies m d (at_body a (case_ends b) d (length m) (omega arith)))) c.fewer c.list;
         default = c.default;
       }
 
 -- statements directly in a routine, up to a token that begins none
-turns_Ss : {ts r : List Lexeme} {xs : StatementTrees} → IsSs ts xs r → begins_statement (head r) ≡ false → (d n : ℕ)
+pub turns_Ss : {ts r : List Lexeme} {xs : StatementTrees} → IsSs ts xs r → begins_statement (head r) ≡ false → (d n : ℕ)
     → length ts ≤ n → Limited (repeated begins_statement (statement d) n ts) d (body_nesting xs) (listed xs) r
 turns_Ss {r = r} ss_stop e d n le = repeated_stop begins_statement (statement d) d n r e
 turns_Ss (ss_next a b) e d zero le = absurd (omega (arith, short_S a))
 turns_Ss {ts} (ss_next a b) e d (suc n) le = repeated_next begins_statement (statement d) d n ts (first_S a)
-    (at_S a d) (turns_Ss b e d n (omega (arith, short_S a)))
+    (at_S a d) (short_Ss b) (turns_Ss b e d n (omega (arith, short_S a)))
 
 pub at_Ss : {r : List Lexeme} {xs : StatementTrees} (ts : List Lexeme) → IsSs ts xs r
     → begins_statement (head r) ≡ false → (d : ℕ) → Limited (statements d ts) d (body_nesting xs) (listed xs) r

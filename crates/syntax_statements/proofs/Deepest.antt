@@ -1,10 +1,10 @@
 -- One nesting further in, and how deep lists of statements and of cases nest.
 use Rattle.std.proofs.Common.{◌≡◌, ℕ, zero, suc, max, List, [], ◌∷◌, length, Option, Some, None, Result, Ok, refl, ap}
-use Rattle.std.proofs.Common.{arith}
+use Rattle.std.proofs.Common.{arith, ◌<◌}
 use Rattle.syntax_lexer.specs.declared.token.Position.{Position}
 use Rattle.syntax_lexer.specs.declared.token.Sign.TheVariants as s
 use Rattle.syntax_lexer.specs.Token.{Lexeme, sign}
-use Rattle.syntax_parsing.specs.declared.error.Fault.{Fault}
+use Rattle.syntax_parsing.specs.Stop.{Stop}
 use Rattle.syntax_parsing.specs.Parse.{expect, as_long, repeated}
 use Rattle.syntax_expressions.proofs.Limited.{Limited}
 use Rattle.syntax_statement_parts.specs.Tree.{HeadingTree, LoopTree}
@@ -16,7 +16,7 @@ use Rattle.syntax_statements.specs.Nesting.{begins_statement, begins_in_case}
 use Rattle.syntax_statements.specs.Parse.{ended, inside, braces, bodies, statement}
 
 -- by another bound that is the same number
-pub up : {A : Type 0} {R : Result (A × List Lexeme) Fault} {d m n : ℕ} {a : A} {r : List Lexeme} → Limited R d m a r
+pub up : {A : Type 0} {R : Result (A × List Lexeme) Stop} {d m n : ℕ} {a : A} {r : List Lexeme} → Limited R d m a r
     → m ≡ n → Limited R d n a r
 up p e = record { within = λ h. p.within (omega arith); beyond = λ h. p.beyond (omega arith) }
 
@@ -25,18 +25,24 @@ unfolding ended expect
 step_ended x q r = refl
 
 pub in_statement : {n : ℕ} {x : StatementTree} {r : List Lexeme} (ts : List Lexeme) (d : ℕ)
-    → ((k : ℕ) → Limited (statement k ts) k n x r) → Limited (inside d ts) d (suc n) x r
+    → length r < length ts → ((k : ℕ) → Limited (statement k ts) k n x r) → Limited (inside d ts) d (suc n) x r
 unfolding inside statement
-in_statement ts zero h = record { within = λ le. absurd (omega arith); beyond = λ lt. refl }
-in_statement ts (suc d) h =
+in_statement ts zero short h = record {
+  within = λ le. absurd (omega arith);
+  beyond = λ lt. record { left = length ts; stops = refl; enough = short };
+}
+in_statement ts (suc d) short h =
     record { within = λ le. (h d).within (omega arith); beyond = λ lt. (h d).beyond (omega arith) }
 
-pub in_block : {n : ℕ} {xs : List StatementTree} {r : List Lexeme} (ts : List Lexeme) (d : ℕ)
-    → ((k : ℕ) → Limited (repeated begins_statement (inside k) (length ts) ts) k n xs r)
-    → Limited (braces d ts) d (suc n) xs r
+pub in_block : {n : ℕ} {xs : List StatementTree} {r : List Lexeme} (left : ℕ) (ts : List Lexeme) (d : ℕ)
+    → length r < left → ((k : ℕ) → Limited (repeated begins_statement (inside k) (length ts) ts) k n xs r)
+    → Limited (braces d left ts) d (suc n) xs r
 unfolding braces
-in_block ts zero h = record { within = λ le. absurd (omega arith); beyond = λ lt. refl }
-in_block ts (suc d) h =
+in_block left ts zero short h = record {
+  within = λ le. absurd (omega arith);
+  beyond = λ lt. record { left = left; stops = refl; enough = short };
+}
+in_block left ts (suc d) short h =
     record { within = λ le. (h d).within (omega arith); beyond = λ lt. (h d).beyond (omega arith) }
 
 -- the trees of a list
@@ -48,24 +54,29 @@ pub listed_back : (xs : StatementTrees) → trees_of (listed xs) ≡ xs
 listed_back stop = refl
 listed_back (next x xs) = ap (next x) (listed_back xs)
 
+-- the statements of a case stand behind a parenthesis and a brace that opened a nesting
 pub in_bodies : {n : ℕ} {xs : List StatementTree} {r : List Lexeme} (ts : List Lexeme) (d : ℕ)
-    → ((k : ℕ) → Limited (as_long begins_in_case (inside k) (length ts) ts) k n xs r)
-    → Limited (bodies d ts) d (suc n) xs r
+    → Limited (as_long begins_in_case (inside d) (length ts) ts) d n xs r
+    → Limited (bodies (suc d) ts) (suc d) (suc n) xs r
 unfolding bodies
-in_bodies ts zero h = record { within = λ le. absurd (omega arith); beyond = λ lt. refl }
-in_bodies ts (suc d) h =
+in_bodies ts d h = record { within = λ le. h.within (omega arith); beyond = λ lt. h.beyond (omega arith) }
+
+pub in_heading : {n : ℕ} {h : HeadingTree} {r : List Lexeme} (left : ℕ) (ts : List Lexeme) (d : ℕ)
+    → length r < left → ((k : ℕ) → Limited (heading k ts) k n h r) → Limited (heading_in d left ts) d (suc n) h r
+in_heading left ts zero short h = record {
+  within = λ le. absurd (omega arith);
+  beyond = λ lt. record { left = left; stops = refl; enough = short };
+}
+in_heading left ts (suc d) short h =
     record { within = λ le. (h d).within (omega arith); beyond = λ lt. (h d).beyond (omega arith) }
 
-pub in_heading : {n : ℕ} {h : HeadingTree} {r : List Lexeme} (ts : List Lexeme) (d : ℕ)
-    → ((k : ℕ) → Limited (heading k ts) k n h r) → Limited (heading_in d ts) d (suc n) h r
-in_heading ts zero h = record { within = λ le. absurd (omega arith); beyond = λ lt. refl }
-in_heading ts (suc d) h =
-    record { within = λ le. (h d).within (omega arith); beyond = λ lt. (h d).beyond (omega arith) }
-
-pub in_loop : {n : ℕ} {l : LoopTree} {r : List Lexeme} (ts : List Lexeme) (d : ℕ)
-    → ((k : ℕ) → Limited (looped k ts) k n l r) → Limited (looped_in d ts) d (suc n) l r
-in_loop ts zero h = record { within = λ le. absurd (omega arith); beyond = λ lt. refl }
-in_loop ts (suc d) h =
+pub in_loop : {n : ℕ} {l : LoopTree} {r : List Lexeme} (left : ℕ) (ts : List Lexeme) (d : ℕ)
+    → length r < left → ((k : ℕ) → Limited (looped k ts) k n l r) → Limited (looped_in d left ts) d (suc n) l r
+in_loop left ts zero short h = record {
+  within = λ le. absurd (omega arith);
+  beyond = λ lt. record { left = left; stops = refl; enough = short };
+}
+in_loop left ts (suc d) short h =
     record { within = λ le. (h d).within (omega arith); beyond = λ lt. (h d).beyond (omega arith) }
 
 -- the cases of a tree as a list, and the statements of its `default`; how deep these are nested with their brace

@@ -44,7 +44,7 @@ pub short_Items : {ts r : List Lexeme} {is : List PrintItemTree} → IsItems ts 
 short_Items (items_last a) = short_Item a
 short_Items (items_comma a b) = omega (arith, short_Item a, short_Items b)
 
-short_Optional : {ts r : List Lexeme} {e : Option ExpressionTree} → IsOptional ts e r → length r ≤ length ts
+pub short_Optional : {ts r : List Lexeme} {e : Option ExpressionTree} → IsOptional ts e r → length r ≤ length ts
 short_Optional optional_none = omega arith
 short_Optional (optional_some a) = omega (arith, short_E a)
 
@@ -56,7 +56,7 @@ pub short_Flags : {ts r : List Lexeme} {xs : List FlagTree} → IsFlags ts xs r 
 short_Flags flags_none = omega arith
 short_Flags (flags_next a b) = omega (arith, short_Flag a, short_Flags b)
 
-short_Given : {ts r : List Lexeme} {xs : List FlagTree} → IsGiven ts xs r → length r < length ts
+pub short_Given : {ts r : List Lexeme} {xs : List FlagTree} → IsGiven ts xs r → length r < length ts
 short_Given (given_first a b) = omega (arith, short_Flag a, short_Flags b)
 
 mutual
@@ -99,15 +99,15 @@ mutual
 -- ---- tokens with which parts begin
 
 -- behind a parenthesis an expression begins
-stepping_opens : (t : Lexeme) (op : Step) → stepping t ≡ Some op → is_sign s.OpenParenthesis t ≡ false
+pub stepping_opens : (t : Lexeme) (op : Step) → stepping t ≡ Some op → is_sign s.OpenParenthesis t ≡ false
 stepping_opens (sign s.OpenParenthesis p) op e = absurd cc
 stepping_opens _ op e = refl
 
-relating_opens : (t : Lexeme) (which : Relative) → relating t ≡ Some which → is_sign s.OpenParenthesis t ≡ false
+pub relating_opens : (t : Lexeme) (which : Relative) → relating t ≡ Some which → is_sign s.OpenParenthesis t ≡ false
 relating_opens (sign s.OpenParenthesis p) which e = absurd cc
 relating_opens _ which e = refl
 
-second_P : {ts r : List Lexeme} {e : ExpressionTree} → IsP ts e r → is_sign s.OpenParenthesis (head ts) ≡ true
+pub second_P : {ts r : List Lexeme} {e : ExpressionTree} → IsP ts e r → is_sign s.OpenParenthesis (head ts) ≡ true
     → begins_expression (head (tail ts)) ≡ true
 second_P (p_property a) h = second_P a h
 second_P p_number h = absurd cc
@@ -122,7 +122,7 @@ second_P (p_call_with a) h = absurd cc
 second_P (p_relative {t = t} {which = which} o a) h = let no = relating_opens t which o in absurd cc
 second_P (p_parenthesised a) h = first_E a
 
-second_U : {ts r : List Lexeme} {e : ExpressionTree} → IsU ts e r → is_sign s.OpenParenthesis (head ts) ≡ true
+pub second_U : {ts r : List Lexeme} {e : ExpressionTree} → IsU ts e r → is_sign s.OpenParenthesis (head ts) ≡ true
     → begins_expression (head (tail ts)) ≡ true
 second_U (u_plain a) h = second_P a h
 second_U (u_minus a) h = absurd cc
@@ -130,28 +130,28 @@ second_U (u_before {t = t} {op = op} o a) h = let no = stepping_opens t op o in 
 second_U (u_after a o) h = second_P a h
 second_U (u_length a) h = second_P a h
 
-second_E5 : {ts r : List Lexeme} {e : ExpressionTree} → IsE5 ts e r → is_sign s.OpenParenthesis (head ts) ≡ true
+pub second_E5 : {ts r : List Lexeme} {e : ExpressionTree} → IsE5 ts e r → is_sign s.OpenParenthesis (head ts) ≡ true
     → begins_expression (head (tail ts)) ≡ true
 second_E5 (e5_plain a) h = second_U a h
 second_E5 (e5_index o a) h = absurd cc
 second_E5 (e5_entry a b) h = second_P a h
 
-second_N4 : {ts r : List Lexeme} {e : ExpressionTree} → IsN4 ts e r → is_sign s.OpenParenthesis (head ts) ≡ true
+pub second_N4 : {ts r : List Lexeme} {e : ExpressionTree} → IsN4 ts e r → is_sign s.OpenParenthesis (head ts) ≡ true
     → begins_expression (head (tail ts)) ≡ true
 second_N4 (n4_plain a) h = second_E5 a h
 second_N4 (n4_complement a) h = absurd cc
 
-second_E4 : {ts r : List Lexeme} {e : ExpressionTree} → IsE4 ts e r → is_sign s.OpenParenthesis (head ts) ≡ true
+pub second_E4 : {ts r : List Lexeme} {e : ExpressionTree} → IsE4 ts e r → is_sign s.OpenParenthesis (head ts) ≡ true
     → begins_expression (head (tail ts)) ≡ true
 second_E4 (e4_plain a) h = second_N4 a h
 second_E4 (e4_scale a o b) h = second_E4 a h
 
-second_E3 : {ts r : List Lexeme} {e : ExpressionTree} → IsE3 ts e r → is_sign s.OpenParenthesis (head ts) ≡ true
+pub second_E3 : {ts r : List Lexeme} {e : ExpressionTree} → IsE3 ts e r → is_sign s.OpenParenthesis (head ts) ≡ true
     → begins_expression (head (tail ts)) ≡ true
 second_E3 (e3_plain a) h = second_E4 a h
 second_E3 (e3_add a o b) h = second_E3 a h
 
-second_E2 : {ts r : List Lexeme} {e : ExpressionTree} → IsE2 ts e r → is_sign s.OpenParenthesis (head ts) ≡ true
+pub second_E2 : {ts r : List Lexeme} {e : ExpressionTree} → IsE2 ts e r → is_sign s.OpenParenthesis (head ts) ≡ true
     → begins_expression (head (tail ts)) ≡ true
 second_E2 (e2_plain a) h = second_E3 a h
 second_E2 (e2_compare a o b) h = second_E3 a h
@@ -159,32 +159,32 @@ second_E2 (e2_equal a o b) h = second_E3 a h
 second_E2 (e2_contained a o b) h = second_E3 a h
 second_E2 (e2_tested a o) h = second_E3 a h
 
-second_N1 : {ts r : List Lexeme} {e : ExpressionTree} → IsN1 ts e r → is_sign s.OpenParenthesis (head ts) ≡ true
+pub second_N1 : {ts r : List Lexeme} {e : ExpressionTree} → IsN1 ts e r → is_sign s.OpenParenthesis (head ts) ≡ true
     → begins_expression (head (tail ts)) ≡ true
 second_N1 (n1_plain a) h = second_E2 a h
 second_N1 (n1_not a) h = absurd cc
 
-second_E1 : {ts r : List Lexeme} {e : ExpressionTree} → IsE1 ts e r → is_sign s.OpenParenthesis (head ts) ≡ true
+pub second_E1 : {ts r : List Lexeme} {e : ExpressionTree} → IsE1 ts e r → is_sign s.OpenParenthesis (head ts) ≡ true
     → begins_expression (head (tail ts)) ≡ true
 second_E1 (e1_plain a) h = second_N1 a h
 second_E1 (e1_logical a o b) h = second_E1 a h
 
-second_E : {ts r : List Lexeme} {e : ExpressionTree} → IsE ts e r → is_sign s.OpenParenthesis (head ts) ≡ true
+pub second_E : {ts r : List Lexeme} {e : ExpressionTree} → IsE ts e r → is_sign s.OpenParenthesis (head ts) ≡ true
     → begins_expression (head (tail ts)) ≡ true
 second_E (e_plain a) h = second_E1 a h
 second_E (e_assign a b) h = second_E1 a h
 
 -- `char` begins no expression
-no_character : (t : Lexeme) → begins_expression t ≡ true → is_word w.Char t ≡ false
+pub no_character : (t : Lexeme) → begins_expression t ≡ true → is_word w.Char t ≡ false
 no_character (reserved w.Char p) e = absurd cc
 no_character _ e = refl
 
 -- nor does `object`
-no_object : (t : Lexeme) → begins_expression t ≡ true → is_word w.Object t ≡ false
+pub no_object : (t : Lexeme) → begins_expression t ≡ true → is_word w.Object t ≡ false
 no_object (reserved w.Object p) e = absurd cc
 no_object _ e = refl
 
-either : (a b : Bool) → (a ≡ true → b ≡ false) → (a && b) ≡ false
+pub either : (a b : Bool) → (a ≡ true → b ≡ false) → (a && b) ≡ false
 either true b h = h refl
 either false b h = refl
 

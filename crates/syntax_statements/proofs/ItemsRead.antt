@@ -1,12 +1,13 @@
 -- What `print` prints is read as it derives.
-use Rattle.std.proofs.Common.{◌≡◌, ◌&&◌, ℕ, zero, suc, max, true, false, List, [], ◌∷◌, Result, Ok, refl, arith}
+use Rattle.std.proofs.Common.{◌≡◌, ◌&&◌, ℕ, zero, suc, max, true, false, List, [], ◌∷◌, Result, Ok, refl, arith, length, ◌≤◌}
 use Rattle.syntax_lexer.specs.declared.token.Position.{Position}
 use Rattle.syntax_lexer.specs.declared.token.Sign.TheVariants as s
 use Rattle.syntax_lexer.specs.declared.token.Word.TheVariants as w
 use Rattle.syntax_lexer.specs.Token.{Lexeme, text, reserved, sign, position_of}
 use Rattle.syntax_trees.specs.Tree.{ExpressionTree}
-use Rattle.syntax_parsing.specs.declared.error.Fault.{Fault}
+use Rattle.syntax_parsing.specs.Stop.{Stop}
 use Rattle.syntax_parsing.specs.Parse.{◌>>=◌, head, tail, is_sign, is_word, expect}
+use Rattle.syntax_expressions.proofs.Short.{short_E}
 use Rattle.syntax_expressions.specs.Nesting.{begins_expression}
 use Rattle.syntax_expressions.specs.Parse.{nested, expression}
 use Rattle.syntax_expressions.proofs.Follow.{Stops}
@@ -22,27 +23,33 @@ use Rattle.syntax_statements.proofs.Follow.{short_Item, no_cast, no_object_cast}
 
 -- ---- what `print` prints
 
-weaken : {A : Type 0} {R : Result (A × List Lexeme) Fault} {d n : ℕ} {a : A} {r : List Lexeme}
+weaken : {A : Type 0} {R : Result (A × List Lexeme) Stop} {d n : ℕ} {a : A} {r : List Lexeme}
     → Limited R (suc d) n a r → Limited R (suc d) (max 1 n) a r
 weaken p = record { within = λ h. p.within (omega arith); beyond = λ h. p.beyond (omega arith) }
 
 step_character : {n : ℕ} {e : ExpressionTree} (d : ℕ) (p q o : Position) (ts r : List Lexeme)
-    → Limited (expression (nested d) ts) d n e r
+    → length r ≤ length ts → Limited (expression (nested d) ts) d n e r
     → Limited (item d (sign s.OpenParenthesis p ∷ reserved w.Char q ∷ sign s.CloseParenthesis o ∷ ts)) d (max 1 n)
     (character_item (position_of (head ts)) e) r
 unfolding item value cast expect
-step_character {n} zero p q o ts r a = record { within = λ h. absurd (omega arith); beyond = λ h. refl }
-step_character (suc d) p q o ts r a = weaken (then _ a refl)
+step_character {n} zero p q o ts r short a = record {
+  within = λ h. absurd (omega arith);
+  beyond = λ h. record { left = _; stops = refl; enough = omega (arith, short) };
+}
+step_character (suc d) p q o ts r short a = weaken (then _ a (omega arith) refl)
 
 step_object : {n : ℕ} {e : ExpressionTree} (d : ℕ) (p q o : Position) (ts r : List Lexeme)
-    → Limited (expression (nested d) ts) d n e r
+    → length r ≤ length ts → Limited (expression (nested d) ts) d n e r
     → Limited (item d (sign s.OpenParenthesis p ∷ reserved w.Object q ∷ sign s.CloseParenthesis o ∷ ts)) d (max 1 n)
     (object_item (position_of (head ts)) e) r
 unfolding item value cast expect
-step_object {n} zero p q o ts r a = record { within = λ h. absurd (omega arith); beyond = λ h. refl }
-step_object (suc d) p q o ts r a = weaken (then _ a refl)
+step_object {n} zero p q o ts r short a = record {
+  within = λ h. absurd (omega arith);
+  beyond = λ h. record { left = _; stops = refl; enough = omega (arith, short) };
+}
+step_object (suc d) p q o ts r short a = weaken (then _ a (omega arith) refl)
 
-item_of : (d : ℕ) (ts : List Lexeme) → begins_expression (head ts) ≡ true → item d ts ≡ value d ts
+pub item_of : (d : ℕ) (ts : List Lexeme) → begins_expression (head ts) ≡ true → item d ts ≡ value d ts
 unfolding item
 item_of d [] e = absurd cc
 item_of d (text bytes p ∷ ts) e = absurd cc
@@ -55,7 +62,7 @@ step_number : {n : ℕ} {e : ExpressionTree} (d : ℕ) (ts r : List Lexeme) → 
 unfolding value
 step_number d ts r b c o a = same (item_of d ts b)
     (same {S = expression (nested d) ts >>= λ x. Ok (number_item (position_of (head ts)) x.0, x.1)} (rw (c, o) refl)
-    (then _ a refl))
+    (then _ a (omega arith) refl))
 
 step_text_item : (d : ℕ) (bytes : List ℕ) (p : Position) (r : List Lexeme)
     → Limited (item d (text bytes p ∷ r)) d 0 (text_item bytes) r
@@ -66,9 +73,9 @@ pub at_Item : {ts r : List Lexeme} {i : PrintItemTree} → IsItem ts i r → (d 
     → Limited (item d ts) d (item_nesting i) i r
 at_Item (item_text {r = r} {p = p} {bytes = bytes}) d st = step_text_item d bytes p r
 at_Item (item_character {m = m} {r = r} {t = t} {p = p} {q = q} {o = o} a) d st = step_character d p q o (t ∷ m) r
-    (at_E a d st)
+    (omega (arith, short_E a)) (at_E a d st)
 at_Item (item_object {m = m} {r = r} {t = t} {p = p} {q = q} {o = o} a) d st = step_object d p q o (t ∷ m) r
-    (at_E a d st)
+    (omega (arith, short_E a)) (at_E a d st)
 at_Item {ts} {r} (item_number a) d st = step_number d ts r (first_E a) (no_cast a) (no_object_cast a) (at_E a d st)
 
 listed_Items : {ts r : List Lexeme} {is : List PrintItemTree} {q : Position} → IsItems ts is (sign s.Semicolon q ∷ r)

@@ -6,7 +6,7 @@ use Rattle.syntax_lexer.specs.declared.token.Position.{Position}
 use Rattle.syntax_lexer.specs.declared.token.Sign.TheVariants as s
 use Rattle.syntax_lexer.specs.declared.token.Word.TheVariants as w
 use Rattle.syntax_lexer.specs.Token.{Lexeme, name, number, character, dictionary_word, reserved, sign}
-use Rattle.syntax_parsing.specs.declared.error.Fault.{Fault}
+use Rattle.syntax_parsing.specs.Stop.{Stop}
 use Rattle.syntax_parsing.specs.Parse.{◌>>=◌, head, tail, is_sign, is_word, further, list}
 use Rattle.syntax_expressions.proofs.Judged.{Judged, judged_read, judged_grammar, judged_then, judged_by}
 use Rattle.syntax_expressions.proofs.Repeated.{list_judged}
@@ -20,7 +20,7 @@ use Rattle.syntax_statement_parts.specs.Parse.{known_value, begins_value, range,
 
 -- ---- what is read derives
 
-pub known_judged : (ts : List Lexeme) → Judged (λ k r. IsK ts k r) ⊥ (known_value ts)
+pub known_judged : (ts : List Lexeme) → Judged (λ k r. IsK ts k r) (λ v. ⊥) (known_value ts)
 unfolding known_value
 known_judged (number n p ∷ ts) = judged_read (number_value n) ts k_number
 known_judged (character c p ∷ ts) = judged_read (number_value c) ts k_character
@@ -32,26 +32,26 @@ known_judged (name n p ∷ ts) = judged_read (named_value (record { text = n; po
 known_judged (sign s.Minus p ∷ number n q ∷ ts) = judged_read (number_value ((65536 - n) % 65536)) ts k_negative
 known_judged _ = judged_grammar
 
-range_judged : (ts : List Lexeme) → Judged (λ g r. IsRange ts g r) ⊥ (range ts)
+range_judged : (ts : List Lexeme) → Judged (λ g r. IsRange ts g r) (λ v. ⊥) (range ts)
 unfolding range
 range_judged ts =
     judged_then _ (known_judged ts)
     (λ k r h. judged_by (is_word w.To (head r)) _ _
     (λ e. judged_then _ (known_judged (tail r))
     (λ l u g. judged_read (record { low = k; high = Some l }) u
-    (range_to (subst (λ v. IsK ts k v) (at_word w.To r e) h) g)) (λ x. x))
+    (range_to (subst (λ v. IsK ts k v) (at_word w.To r e) h) g)) (λ v x. x))
     (λ e. judged_read (record { low = k; high = None }) r (range_alone h)))
-    (λ x. x)
+    (λ v x. x)
 
-pub ranges_judged : (ts : List Lexeme) → Judged (λ gs r. IsRanges ts gs r) ⊥ (ranges ts)
+pub ranges_judged : (ts : List Lexeme) → Judged (λ gs r. IsRanges ts gs r) (λ v. ⊥) (ranges ts)
 unfolding ranges
 ranges_judged ts =
-    list_judged (is_sign s.Comma) range IsRange IsRanges (λ us. ⊥) (λ us. ⊥)
+    list_judged (is_sign s.Comma) range IsRange IsRanges (λ us v. ⊥) (λ us v. ⊥)
     refl
     (λ us g r h. ranges_last h)
     (λ us g t m gs r h e l. ranges_comma (subst (λ x. IsRange us g (x ∷ m)) (is_that_sign s.Comma t e) h) l)
-    (λ us x. x)
-    (λ us g t m h e x. x)
+    (λ us v x. x)
+    (λ us g t m v h e x. x)
     range_judged ts
 
 -- ---- each derivation takes a token
@@ -93,7 +93,7 @@ unfolding range
 range_read (range_alone a) e = rw (known_read a, e) refl
 range_read (range_to a b) e = rw (known_read a, known_read b) refl
 
-abbrev with_first : RangeTree → List RangeTree × List Lexeme → Result (List RangeTree × List Lexeme) Fault
+abbrev with_first : RangeTree → List RangeTree × List Lexeme → Result (List RangeTree × List Lexeme) Stop
 with_first g y = Ok (g ∷ y.0, y.1)
 
 turns_Ranges : {ts r : List Lexeme} {gs : List RangeTree} {p : Position} → IsRanges ts gs (sign s.Colon p ∷ r)

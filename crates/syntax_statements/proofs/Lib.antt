@@ -16,3 +16,5 @@ pub mod Deepest
 pub mod Alternatives
 pub mod PartsRead
 pub mod Complete
+pub mod DeepParts
+pub mod DeepStatements

@@ -1,7 +1,7 @@
 -- What an `objectloop` goes over: what is read derives, and what has a tree is read as that tree. It is read as one
 -- expression without an assignment at its root, and told by its tree.
-use Rattle.std.proofs.Common.{◌≡◌, ℕ, zero, suc, ◌<◌, ◌≤◌, max, ◌⊎◌, List, ◌∷◌, length, Option, Some, None, refl, sym}
-use Rattle.std.proofs.Common.{subst, inl, inr, arith}
+use Rattle.std.proofs.Common.{◌≡◌, ℕ, zero, suc, ◌<◌, ◌≤◌, max, List, ◌∷◌, length, Option, Some, None, refl, sym}
+use Rattle.std.proofs.Common.{subst, inr, arith}
 use Rattle.syntax_lexer.specs.declared.token.Position.{Position}
 use Rattle.syntax_lexer.specs.declared.token.Sign.TheVariants as s
 use Rattle.syntax_lexer.specs.declared.token.Word.TheVariants as w
@@ -17,7 +17,8 @@ use Rattle.syntax_expressions.proofs.Complete.{at_E1}
 use Rattle.syntax_expressions.proofs.Judged.{Judged, judged_read, judged_deep, judged_then, judged_after, judged_as}
 use Rattle.syntax_expressions.proofs.Limited.{Limited, then}
 use Rattle.syntax_expressions.proofs.Short.{short_E1, short_E3}
-use Rattle.syntax_expressions.proofs.Sound.{judged_E1}
+use Rattle.syntax_expressions.proofs.Sound.{judged_E1, no_more}
+use Rattle.syntax_expressions.proofs.SoundOperands.{Within}
 use Rattle.syntax_expressions.proofs.Tokens.{expect_ok, expect_not_deep}
 use Rattle.syntax_expressions.proofs.NamesRead.{name_judged}
 use Rattle.syntax_statement_parts.specs.Tree.{LoopTree, over_all, over_in, over_where}
@@ -71,11 +72,11 @@ module _ (x : NameTree) (m r : List Lexeme) (e : ExpressionTree) (is : IsE1 (nam
   told = told_by (name_alone e) (member e) (holder e) refl refl refl
 
 -- the variable comes first
-pub record DeepLoop (n : ℕ) (ts : List Lexeme) : Type 0 where
+pub record DeepLoop (n : ℕ) (ts u : List Lexeme) : Type 0 where
   pub variable : NameTree
   pub from : List Lexeme
   pub at : ts ≡ name variable.text variable.position ∷ from
-  pub deep : DeepE1 n (name variable.text variable.position ∷ from)
+  pub deep : DeepE1 n (name variable.text variable.position ∷ from) u
 
 pub record IsLooped (ts : List Lexeme) (l : LoopTree) (n : ℕ) (r : List Lexeme) : Type 0 where
   pub closes : Position
@@ -97,9 +98,9 @@ looped_judged d ts =
       derives = subst (λ us. IsLoop us (loop_of x e) v) (sym at) t.derives;
       within = omega (arith, h.1, t.nests);
     }))
-    (λ f. absurd (expect_not_deep s.CloseParenthesis u f)))
-    (λ z. record { variable = x; from = m; at = at; deep = subst (λ us. DeepE1 (suc d) us) at z }))
-    (λ z. absurd z)
+    (λ n f. absurd (expect_not_deep s.CloseParenthesis u n f)))
+    (λ w z. record { variable = x; from = m; at = at; deep = subst (λ us. DeepE1 (suc d) us w) at z }))
+    (λ v z. absurd z)
 
 pub record IsEnclosedLoop (d : ℕ) (ts : List Lexeme) (l : LoopTree) (r : List Lexeme) : Type 0 where
   pub opens : Position
@@ -109,28 +110,28 @@ pub record IsEnclosedLoop (d : ℕ) (ts : List Lexeme) (l : LoopTree) (r : List 
   pub derives : IsLoop from l (sign s.CloseParenthesis closes ∷ r)
   pub within : loop_nesting l < d
 
-pub record DeepEnclosedLoop (d : ℕ) (ts : List Lexeme) : Type 0 where
+pub record DeepEnclosedLoop (d : ℕ) (ts u : List Lexeme) : Type 0 where
   pub opens : Position
   pub from : List Lexeme
   pub at : ts ≡ sign s.OpenParenthesis opens ∷ from
-  pub deep : (d ≡ 0) ⊎ DeepLoop d from
+  pub deep : Within d DeepLoop ts from u
 
-looped_in_judged : (d : ℕ) (ts : List Lexeme) → Judged (λ l r. IsLooped ts l d r × (loop_nesting l < d))
-    ((d ≡ 0) ⊎ DeepLoop d ts) (looped_in d ts)
-looped_in_judged zero ts = judged_deep (inl refl)
-looped_in_judged (suc d) ts = judged_as (looped_judged d ts)
+looped_in_judged : (d : ℕ) (o ts : List Lexeme) → Judged (λ l r. IsLooped ts l d r × (loop_nesting l < d))
+    (Within d DeepLoop o ts) (looped_in d (length o) ts)
+looped_in_judged zero o ts = judged_deep (no_more DeepLoop o ts)
+looped_in_judged (suc d) o ts = judged_as (looped_judged d ts)
     (λ l r q. (
       record { closes = q.closes; derives = q.derives; within = omega (arith, q.within) },
       omega (arith, q.within),
     ))
-    (λ x. inr x)
+    (λ v x. inr x)
 
 pub enclosed_loop_judged : (d : ℕ) (ts : List Lexeme) → Judged (IsEnclosedLoop d ts) (DeepEnclosedLoop d ts)
     (enclosed_loop d ts)
 unfolding enclosed_loop
 enclosed_loop_judged d ts =
     judged_after (expect s.OpenParenthesis ts) _
-    (λ m e. judged_as (looped_in_judged d m)
+    (λ m e. judged_as (looped_in_judged d ts m)
     (λ l r q. record {
       opens = position_of (head ts);
       closes = q.0.closes;
@@ -139,8 +140,8 @@ enclosed_loop_judged d ts =
       derives = q.0.derives;
       within = q.1;
     })
-    (λ x. record { opens = position_of (head ts); from = m; at = expect_ok s.OpenParenthesis ts m e; deep = x }))
-    (λ e. absurd (expect_not_deep s.OpenParenthesis ts e))
+    (λ v x. record { opens = position_of (head ts); from = m; at = expect_ok s.OpenParenthesis ts m e; deep = x }))
+    (λ n e. absurd (expect_not_deep s.OpenParenthesis ts n e))
 
 -- ---- what has a tree is read as that tree
 
@@ -152,7 +153,7 @@ step_looped : {n : ℕ} {e : ExpressionTree} (d : ℕ) (x : List ℕ) (p q : Pos
     → Limited (condition (nested d) (name x p ∷ m)) d n e (sign s.CloseParenthesis q ∷ r)
     → Limited (looped d (name x p ∷ m)) d n (loop_of (record { text = x; position = p }) e) r
 unfolding looped expect_name expect
-step_looped d x p q m r a = then _ a refl
+step_looped d x p q m r a = then _ a (omega arith) refl
 
 at_condition : {ts r : List Lexeme} {e : ExpressionTree} {q : Position} → IsE1 ts e (sign s.CloseParenthesis q ∷ r)
     → (d : ℕ) → Limited (condition (nested d) ts) d (nesting e) e (sign s.CloseParenthesis q ∷ r)

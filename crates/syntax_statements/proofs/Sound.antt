@@ -1,12 +1,14 @@
 -- What is read derives in the grammar and is nested no deeper than was allowed; and where the fault is that a token
 -- stands too deep, one does.
-use Rattle.std.proofs.Common.{◌≡◌, ℕ, zero, suc, ◌<◌, ◌≤◌, ◌⊎◌, true, List, [], ◌∷◌, length, refl, sym, subst, inl, inr}
+use Rattle.std.proofs.Common.{◌≡◌, ℕ, zero, suc, ◌<◌, ◌≤◌, true, List, [], ◌∷◌, length, refl, sym, subst, inr}
 use Rattle.std.proofs.Common.{arith}
 use Rattle.syntax_lexer.specs.declared.token.Sign.TheVariants as s
 use Rattle.syntax_lexer.specs.declared.token.Word.TheVariants as w
 use Rattle.syntax_lexer.specs.Token.{Lexeme, text, reserved, sign}
 use Rattle.syntax_parsing.specs.Parse.{head, as_long, repeated}
 use Rattle.syntax_expressions.proofs.Judged.{Judged, judged_read, judged_deep, judged_as}
+use Rattle.syntax_expressions.proofs.SoundOperands.{Within, deeper}
+use Rattle.syntax_expressions.proofs.Sound.{no_more}
 use Rattle.syntax_statements.specs.Tree.{trees_of, empty, text_alone, print, print_return, new_line, break_at}
 use Rattle.syntax_statements.specs.Tree.{continue_at, return_true, return_false, quit}
 use Rattle.syntax_statements.specs.Grammar.{IsS, s_empty, s_text, s_print, s_print_ret, s_new_line, s_break, s_continue}
@@ -17,7 +19,7 @@ use Rattle.syntax_statements.specs.Nesting.{DeepInside, deep_inside_begins, deep
 use Rattle.syntax_statements.specs.Nesting.{DeepInCase, deep_in_case_begins, deep_in_case_first, deep_in_case_next}
 use Rattle.syntax_statements.specs.Nesting.{DeepSs, deep_ss_first, deep_ss_next}
 use Rattle.syntax_statements.specs.Parse.{statement_over, inside, braces, bodies, statement, statements}
-use Rattle.syntax_statements.proofs.SoundRows.{deeper, as_long_judged, repeated_judged}
+use Rattle.syntax_statements.proofs.SoundRows.{as_long_judged, repeated_judged}
 use Rattle.syntax_statements.proofs.SoundSimple.{ended_judged, printed_judged, returned_judged, read_judged}
 use Rattle.syntax_statements.proofs.SoundSimple.{given_judged, moved_judged, removed_judged, alone_judged}
 use Rattle.syntax_statements.proofs.SoundNested.{Inner, until_judged, iteration_judged, traversal_judged}
@@ -32,9 +34,9 @@ module _ (d : ℕ) (inner : Inner d) where
   over_judged (text bytes p ∷ ts) = ended_judged (text_alone bytes) ts
       (λ q r e. (subst (λ u. IsS (text bytes p ∷ u) (text_alone bytes) r) (sym e) s_text, omega arith))
   over_judged (reserved w.Print p ∷ ts) = printed_judged d print (reserved w.Print p) ts (λ is q r h. s_print h)
-      (λ is. refl) (λ x. deep_s_print x)
+      (λ is. refl) (λ v x. deep_s_print x)
   over_judged (reserved w.PrintRet p ∷ ts) = printed_judged d print_return (reserved w.PrintRet p) ts
-      (λ is q r h. s_print_ret h) (λ is. refl) (λ x. deep_s_print_ret x)
+      (λ is q r h. s_print_ret h) (λ is. refl) (λ v x. deep_s_print_ret x)
   over_judged (reserved w.NewLine p ∷ ts) = ended_judged new_line ts
       (λ q r e. (subst (λ u. IsS (reserved w.NewLine p ∷ u) new_line r) (sym e) s_new_line, omega arith))
   over_judged (reserved w.If p ∷ ts) = choice_judged d inner p ts
@@ -61,10 +63,11 @@ module _ (d : ℕ) (inner : Inner d) where
   over_judged ts = alone_judged d ts
 
   -- the statement that begins is too deep, or something in it is
-  begun : (ts : List Lexeme) → begins_statement (head ts) ≡ true → (d ≡ 0) ⊎ DeepS d ts → DeepInside (suc d) ts
+  begun : (ts u : List Lexeme) → begins_statement (head ts) ≡ true → Within d DeepS ts ts u
+      → DeepInside (suc d) ts u
   unfolding begins_statement
-  begun [] e z = absurd cc
-  begun (t ∷ ts) e z = deeper (λ n. DeepS n (t ∷ ts)) (λ n. DeepInside n (t ∷ ts)) d (deep_inside_begins e)
+  begun [] u e z = absurd cc
+  begun (t ∷ ts) u e z = deeper (λ n. DeepS n (t ∷ ts)) (λ n. DeepInside n (t ∷ ts)) d (t ∷ ts) u (deep_inside_begins e)
       (λ n x. deep_inside_first x) z
 
   block_judged : (n : ℕ) (ts : List Lexeme) → Judged
@@ -72,45 +75,45 @@ module _ (d : ℕ) (inner : Inner d) where
       (repeated begins_statement (inside d) n ts)
   block_judged n ts =
       repeated_judged begins_statement (inside d) (λ us x r. IsS us x r × (statement_nesting x < d))
-      (λ us xs r. IsSs us (trees_of xs) r × (inside_nesting (trees_of xs) ≤ d)) (λ us. (d ≡ 0) ⊎ DeepS d us)
+      (λ us xs r. IsSs us (trees_of xs) r × (inside_nesting (trees_of xs) ≤ d)) (λ us v. Within d DeepS us us v)
       (DeepInside (suc d))
       (λ r. (ss_stop, omega arith))
       (λ us x m xs r q l. (ss_next q.0 l.0, omega (arith, q.1, l.1)))
       begun
-      (λ us x m q z. deep_inside_next q.0 z)
+      (λ us x m v q z. deep_inside_next q.0 z)
       inner.in_statement n ts
 
-  case_begun : (ts : List Lexeme) → begins_in_case ts ≡ true → (d ≡ 0) ⊎ DeepS d ts → DeepInCase (suc d) ts
-  case_begun ts e z = deeper (λ n. DeepS n ts) (λ n. DeepInCase n ts) d (deep_in_case_begins e)
-      (λ n x. deep_in_case_first x) z
+  case_begun : (ts u : List Lexeme) → begins_in_case ts ≡ true → Within d DeepS ts ts u → DeepInCase (suc d) ts u
+  case_begun ts u e z = deeper (λ n. DeepS n ts) (λ n. DeepInCase n ts) d ts u (deep_in_case_begins e)
+      (λ n x. deep_in_case_first e x) z
 
   bodies_judged : (n : ℕ) (ts : List Lexeme) → Judged
       (λ xs r. IsSs ts (trees_of xs) r × (inside_nesting (trees_of xs) ≤ d)) (DeepInCase (suc d) ts)
       (as_long begins_in_case (inside d) n ts)
   bodies_judged n ts =
       as_long_judged begins_in_case (inside d) (λ us x r. IsS us x r × (statement_nesting x < d))
-      (λ us xs r. IsSs us (trees_of xs) r × (inside_nesting (trees_of xs) ≤ d)) (λ us. (d ≡ 0) ⊎ DeepS d us)
+      (λ us xs r. IsSs us (trees_of xs) r × (inside_nesting (trees_of xs) ≤ d)) (λ us v. Within d DeepS us us v)
       (DeepInCase (suc d))
       (λ r. (ss_stop, omega arith))
       (λ us x m xs r q l. (ss_next q.0 l.0, omega (arith, q.1, l.1)))
       case_begun
-      (λ us x m q z. deep_in_case_next q.0 z)
+      (λ us x m v q z. deep_in_case_next q.0 z)
       inner.in_statement n ts
 
 inner_judged : (d : ℕ) → Inner d
 unfolding inside braces bodies
 inner_judged zero = record {
-  in_statement = λ ts. judged_deep (inl refl);
-  in_block = λ ts. judged_deep (inl refl);
-  in_case = λ ts. judged_deep (inl refl);
+  in_statement = λ ts. judged_deep (no_more DeepS ts ts);
+  in_block = λ o ts. judged_deep (no_more DeepInside o ts);
+  in_case = λ ts. judged_deep (no_more DeepInCase ts ts);
 }
 inner_judged (suc d) = record {
   in_statement = λ ts. judged_as (over_judged d (inner_judged d) ts) (λ a r h. (h.0, omega (arith, h.1)))
-      (λ h. inr h);
-  in_block = λ ts. judged_as (block_judged d (inner_judged d) (length ts) ts) (λ a r h. (h.0, omega (arith, h.1)))
-      (λ h. inr h);
+      (λ v h. inr h);
+  in_block = λ o ts. judged_as (block_judged d (inner_judged d) (length ts) ts) (λ a r h. (h.0, omega (arith, h.1)))
+      (λ v h. inr h);
   in_case = λ ts. judged_as (bodies_judged d (inner_judged d) (length ts) ts) (λ a r h. (h.0, omega (arith, h.1)))
-      (λ h. inr h);
+      (λ v h. inr h);
 }
 
 -- a statement
@@ -128,6 +131,6 @@ judged_Ss d ts =
     (λ us xs r. IsSs us (trees_of xs) r × (body_nesting (trees_of xs) ≤ d)) (DeepS (suc d)) (DeepSs (suc d))
     (λ r. (ss_stop, omega arith))
     (λ us x m xs r q l. (ss_next q.0 l.0, omega (arith, q.1, l.1)))
-    (λ us e x. deep_ss_first x)
-    (λ us x m q z. deep_ss_next q.0 z)
+    (λ us v e x. deep_ss_first x)
+    (λ us x m v q z. deep_ss_next q.0 z)
     (judged_S d) (length ts) ts

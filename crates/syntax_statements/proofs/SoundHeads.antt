@@ -1,6 +1,6 @@
 -- What is read in the parentheses of a `for`, of an `objectloop` and of a condition derives in the grammar.
-use Rattle.std.proofs.Common.{◌≡◌, ℕ, zero, suc, ◌<◌, ◌≤◌, max, ◌⊎◌, true, List, [], ◌∷◌, Some, None, refl, sym, subst}
-use Rattle.std.proofs.Common.{inl, inr, arith}
+use Rattle.std.proofs.Common.{◌≡◌, ℕ, zero, suc, ◌<◌, ◌≤◌, max, true, List, [], ◌∷◌, Some, None, refl, sym, subst}
+use Rattle.std.proofs.Common.{inr, arith, length}
 use Rattle.syntax_lexer.specs.declared.token.Position.{Position}
 use Rattle.syntax_lexer.specs.declared.token.Sign.{Sign}
 use Rattle.syntax_lexer.specs.declared.token.Sign.TheVariants as s
@@ -13,7 +13,8 @@ use Rattle.syntax_expressions.specs.Nesting.{DeepE}
 use Rattle.syntax_expressions.proofs.Judged.{Judged, judged_read, judged_grammar, judged_deep, judged_then}
 use Rattle.syntax_expressions.proofs.Judged.{judged_after, judged_by, judged_as}
 use Rattle.syntax_expressions.proofs.Tokens.{expect_ok, expect_not_deep}
-use Rattle.syntax_expressions.proofs.Sound.{judged_E, judged_whole}
+use Rattle.syntax_expressions.proofs.SoundOperands.{Within}
+use Rattle.syntax_expressions.proofs.Sound.{judged_E, judged_whole, no_more}
 use Rattle.syntax_statement_parts.specs.Tree.{HeadingTree}
 use Rattle.syntax_statement_parts.specs.Grammar.{effect_or_none, IsOptional, optional_none, optional_some}
 use Rattle.syntax_statement_parts.specs.Grammar.{optional_nesting}
@@ -33,7 +34,7 @@ unfolding optional
 optional_judged d z ts =
     judged_by (is_sign z (head ts)) _ _
     (λ e. judged_read None ts (optional_none, omega arith))
-    (λ e. judged_then _ (judged_E d ts) (λ a r h. judged_read (Some a) r (optional_some h.0, h.1)) (λ x. x))
+    (λ e. judged_then _ (judged_E d ts) (λ a r h. judged_read (Some a) r (optional_some h.0, h.1)) (λ v x. x))
 
 effect_judged : (d : ℕ) (z : Sign) (ts : List Lexeme)
     → Judged (λ e r. IsOptional ts e r × (effect_or_none e ≡ true) × (optional_nesting e ≤ d)) (DeepE (suc d) ts)
@@ -42,7 +43,7 @@ unfolding optional_effect
 effect_judged d z ts =
     judged_then _ (optional_judged d z ts)
     (λ e r h. judged_by (effect_or_none e) _ _ (λ f. judged_read e r (h.0, f, h.1)) (λ f. judged_grammar))
-    (λ x. x)
+    (λ v x. x)
 
 abbrev pub heading_nesting : HeadingTree → ℕ
 heading_nesting h = max (optional_nesting h.before) (max (optional_nesting h.test) (optional_nesting h.behind))
@@ -88,12 +89,12 @@ heading_judged d ts =
       },
       omega (arith, h.2, g.1, i.2),
     ))
-    (λ j. absurd (expect_not_deep s.CloseParenthesis x j)))
-    (λ z. deep_heading_behind before h.1 test z))
-    (λ f. absurd (expect_not_deep s.Colon v f)))
-    (λ z. deep_heading_test before h.1 z))
-    (λ e. absurd (expect_not_deep s.Colon u e)))
-    (λ z. deep_heading_before z)
+    (λ n j. absurd (expect_not_deep s.CloseParenthesis x n j)))
+    (λ w z. deep_heading_behind before h.1 test z))
+    (λ n f. absurd (expect_not_deep s.Colon v n f)))
+    (λ w z. deep_heading_test before h.1 z))
+    (λ n e. absurd (expect_not_deep s.Colon u n e)))
+    (λ w z. deep_heading_before z)
 
 pub record IsEnclosed (d : ℕ) (ts : List Lexeme) (h : HeadingTree) (r : List Lexeme) : Type 0 where
   pub opens : Position
@@ -102,22 +103,22 @@ pub record IsEnclosed (d : ℕ) (ts : List Lexeme) (h : HeadingTree) (r : List L
   pub parts : IsHeading from h r
   pub within : heading_nesting h < d
 
-pub record DeepEnclosed (d : ℕ) (ts : List Lexeme) : Type 0 where
+pub record DeepEnclosed (d : ℕ) (ts u : List Lexeme) : Type 0 where
   pub opens : Position
   pub from : List Lexeme
   pub at : ts ≡ sign s.OpenParenthesis opens ∷ from
-  pub deep : (d ≡ 0) ⊎ DeepHeading d from
+  pub deep : Within d DeepHeading ts from u
 
-heading_in_judged : (d : ℕ) (ts : List Lexeme) → Judged (λ h r. IsHeading ts h r × (heading_nesting h < d))
-    ((d ≡ 0) ⊎ DeepHeading d ts) (heading_in d ts)
-heading_in_judged zero ts = judged_deep (inl refl)
-heading_in_judged (suc d) ts = judged_as (heading_judged d ts) (λ h r q. (q.0, omega (arith, q.1))) (λ x. inr x)
+heading_in_judged : (d : ℕ) (o ts : List Lexeme) → Judged (λ h r. IsHeading ts h r × (heading_nesting h < d))
+    (Within d DeepHeading o ts) (heading_in d (length o) ts)
+heading_in_judged zero o ts = judged_deep (no_more DeepHeading o ts)
+heading_in_judged (suc d) o ts = judged_as (heading_judged d ts) (λ h r q. (q.0, omega (arith, q.1))) (λ v x. inr x)
 
 pub enclosed_judged : (d : ℕ) (ts : List Lexeme) → Judged (IsEnclosed d ts) (DeepEnclosed d ts) (enclosed_heading d ts)
 unfolding enclosed_heading
 enclosed_judged d ts =
     judged_after (expect s.OpenParenthesis ts) _
-    (λ m e. judged_as (heading_in_judged d m)
+    (λ m e. judged_as (heading_in_judged d ts m)
     (λ h r q. record {
       opens = position_of (head ts);
       from = m;
@@ -125,14 +126,15 @@ enclosed_judged d ts =
       parts = q.0;
       within = q.1;
     })
-    (λ x. record { opens = position_of (head ts); from = m; at = expect_ok s.OpenParenthesis ts m e; deep = x }))
-    (λ e. absurd (expect_not_deep s.OpenParenthesis ts e))
+    (λ v x. record { opens = position_of (head ts); from = m; at = expect_ok s.OpenParenthesis ts m e; deep = x }))
+    (λ n e. absurd (expect_not_deep s.OpenParenthesis ts n e))
 
 -- ---- what an `objectloop` goes over
 
-pub loop_deep : (p q : Position) (n : ℕ) (ts : List Lexeme) → DeepLoop n ts
-    → DeepS (suc n) (reserved w.Objectloop p ∷ sign s.OpenParenthesis q ∷ ts)
-loop_deep p q n ts h = subst (λ us. DeepS (suc n) (reserved w.Objectloop p ∷ sign s.OpenParenthesis q ∷ us)) (sym h.at)
+pub loop_deep : (p q : Position) (n : ℕ) (ts u : List Lexeme) → DeepLoop n ts u
+    → DeepS (suc n) (reserved w.Objectloop p ∷ sign s.OpenParenthesis q ∷ ts) u
+loop_deep p q n ts u h =
+    subst (λ us. DeepS (suc n) (reserved w.Objectloop p ∷ sign s.OpenParenthesis q ∷ us) u) (sym h.at)
     (deep_s_objectloop_head h.deep)
 
 -- ---- conditions
@@ -145,18 +147,18 @@ pub record IsCondition (d : ℕ) (ts : List Lexeme) (c : ExpressionTree) (r : Li
   pub derives : IsE from c (sign s.CloseParenthesis closes ∷ r)
   pub within : nesting c < d
 
-pub record DeepCondition (d : ℕ) (ts : List Lexeme) : Type 0 where
+pub record DeepCondition (d : ℕ) (ts u : List Lexeme) : Type 0 where
   pub opens : Position
   pub from : List Lexeme
   pub at : ts ≡ sign s.OpenParenthesis opens ∷ from
-  pub deep : (d ≡ 0) ⊎ DeepE d from
+  pub deep : Within d DeepE ts from u
 
 pub condition_judged : (d : ℕ) (ts : List Lexeme) → Judged (IsCondition d ts) (DeepCondition d ts)
     (enclosed_condition d ts)
 unfolding enclosed_condition
 condition_judged d ts =
     judged_after (expect s.OpenParenthesis ts) _
-    (λ m e. judged_then _ (judged_whole d m)
+    (λ m e. judged_then _ (judged_whole d ts m)
     (λ c r h. judged_after (expect s.CloseParenthesis r) _
     (λ u f. judged_read c u
     (record {
@@ -167,9 +169,9 @@ condition_judged d ts =
       derives = subst (λ v. IsE m c v) (expect_ok s.CloseParenthesis r u f) h.0;
       within = h.1;
     }))
-    (λ f. absurd (expect_not_deep s.CloseParenthesis r f)))
-    (λ x. record { opens = position_of (head ts); from = m; at = expect_ok s.OpenParenthesis ts m e; deep = x }))
-    (λ e. absurd (expect_not_deep s.OpenParenthesis ts e))
+    (λ n f. absurd (expect_not_deep s.CloseParenthesis r n f)))
+    (λ v x. record { opens = position_of (head ts); from = m; at = expect_ok s.OpenParenthesis ts m e; deep = x }))
+    (λ n e. absurd (expect_not_deep s.OpenParenthesis ts n e))
 
 pub at_else : (ts : List Lexeme) → else_follows ts ≡ true → ts ≡ reserved w.Else (position_of (head ts)) ∷ tail ts
 at_else [] e = absurd cc

@@ -36,13 +36,13 @@ use Rattle.syntax_statements.proofs.SoundRows.{both, repeated_judged}
 
 -- ---- statements without statements inside them
 
-pub ended_judged : {P : StatementTree → List Lexeme → Type 0} {C : Type 0} (x : StatementTree) (ts : List Lexeme)
+pub ended_judged : {P : StatementTree → List Lexeme → Type 0} {C : List Lexeme → Type 0} (x : StatementTree) (ts : List Lexeme)
     → ((p : Position) (r : List Lexeme) → ts ≡ sign s.Semicolon p ∷ r → P x r) → Judged P C (ended x ts)
 unfolding ended
 ended_judged x ts make =
     judged_after (expect s.Semicolon ts) _
     (λ r e. judged_read x r (make (position_of (head ts)) r (expect_ok s.Semicolon ts r e)))
-    (λ e. absurd (expect_not_deep s.Semicolon ts e))
+    (λ n e. absurd (expect_not_deep s.Semicolon ts n e))
 
 from_number : (ts : List Lexeme) (e : ExpressionTree) (r : List Lexeme) → IsE ts e r
     → IsItem ts (number_item (position_of (head ts)) e) r
@@ -65,7 +65,7 @@ character_judged : (d : ℕ) (p q : Position) (m : List Lexeme)
     (DeepItem (suc d) (sign s.OpenParenthesis p ∷ reserved w.Char q ∷ m))
     (cast d character_item (sign s.OpenParenthesis p ∷ reserved w.Char q ∷ m))
 unfolding cast
-character_judged zero p q m = judged_deep deep_item_parenthesis
+character_judged zero p q m = judged_deep (record { from = _; is = deep_item_parenthesis; left = refl })
 character_judged (suc d) p q m =
     judged_after (expect s.CloseParenthesis m) _
     (λ r e.
@@ -77,9 +77,9 @@ character_judged (suc d) p q m =
           (character_item (position_of (head r)) a) u) (sym at) (from_character p q o r a u h.0),
       omega (arith, h.1),
     ))
-    (λ x. subst (λ v. DeepItem (suc (suc d)) (sign s.OpenParenthesis p ∷ reserved w.Char q ∷ v)) (sym at)
+    (λ u x. subst (λ v. DeepItem (suc (suc d)) (sign s.OpenParenthesis p ∷ reserved w.Char q ∷ v) u) (sym at)
     (deep_item_character x)))
-    (λ e. absurd (expect_not_deep s.CloseParenthesis m e))
+    (λ n e. absurd (expect_not_deep s.CloseParenthesis m n e))
 
 from_object : (p q o : Position) (ts : List Lexeme) (e : ExpressionTree) (r : List Lexeme) → IsE ts e r
     → IsItem (sign s.OpenParenthesis p ∷ reserved w.Object q ∷ sign s.CloseParenthesis o ∷ ts)
@@ -92,7 +92,7 @@ object_judged : (d : ℕ) (p q : Position) (m : List Lexeme)
     (DeepItem (suc d) (sign s.OpenParenthesis p ∷ reserved w.Object q ∷ m))
     (cast d object_item (sign s.OpenParenthesis p ∷ reserved w.Object q ∷ m))
 unfolding cast
-object_judged zero p q m = judged_deep deep_item_object_parenthesis
+object_judged zero p q m = judged_deep (record { from = _; is = deep_item_object_parenthesis; left = refl })
 object_judged (suc d) p q m =
     judged_after (expect s.CloseParenthesis m) _
     (λ r e.
@@ -104,9 +104,9 @@ object_judged (suc d) p q m =
           (object_item (position_of (head r)) a) u) (sym at) (from_object p q o r a u h.0),
       omega (arith, h.1),
     ))
-    (λ x. subst (λ v. DeepItem (suc (suc d)) (sign s.OpenParenthesis p ∷ reserved w.Object q ∷ v)) (sym at)
+    (λ u x. subst (λ v. DeepItem (suc (suc d)) (sign s.OpenParenthesis p ∷ reserved w.Object q ∷ v) u) (sym at)
     (deep_item_object x)))
-    (λ e. absurd (expect_not_deep s.CloseParenthesis m e))
+    (λ n e. absurd (expect_not_deep s.CloseParenthesis m n e))
 
 value_judged : (d : ℕ) (ts : List Lexeme) → Judged (λ i r. IsItem ts i r × (item_nesting i ≤ d))
     (DeepItem (suc d) ts) (value d ts)
@@ -127,7 +127,7 @@ value_judged d ts =
     subst (λ us. Judged (λ i r. IsItem us i r × (item_nesting i ≤ d)) (DeepItem (suc d) us) (cast d object_item us))
     (sym at) (object_judged d (position_of (head ts)) (position_of (head (tail ts))) (tail (tail ts))))
     (λ e. judged_then _ (judged_E d ts) (λ a r h. judged_read _ r (from_number ts a r h.0, h.1))
-    (λ x. deep_item_number x)))
+    (λ v x. deep_item_number x)))
 
 item_judged : (d : ℕ) (ts : List Lexeme) → Judged (λ i r. IsItem ts i r × (item_nesting i ≤ d)) (DeepItem (suc d) ts)
     (item d ts)
@@ -145,15 +145,15 @@ items_judged d ts =
     (λ us i r h. (items_last h.0, omega (arith, h.1)))
     (λ us i t m is r h e l.
     (items_comma (subst (λ x. IsItem us i (x ∷ m)) (is_that_sign s.Comma t e) h.0) l.0, omega (arith, h.1, l.1)))
-    (λ us x. deep_items_first x)
-    (λ us i t m h e x. deep_items_next (subst (λ y. IsItem us i (y ∷ m)) (is_that_sign s.Comma t e) h.0) x)
+    (λ us v x. deep_items_first x)
+    (λ us i t m v h e x. deep_items_next (subst (λ y. IsItem us i (y ∷ m)) (is_that_sign s.Comma t e) h.0) x)
     (item_judged d) ts
 
 pub printed_judged : (d : ℕ) (make : List PrintItemTree → StatementTree) (t : Lexeme) (ts : List Lexeme)
     → ((is : List PrintItemTree) (q : Position) (r : List Lexeme) → IsItems ts is (sign s.Semicolon q ∷ r)
     → IsS (t ∷ ts) (make is) r)
     → ((is : List PrintItemTree) → statement_nesting (make is) ≡ items_nesting is)
-    → (DeepItems (suc d) ts → DeepS (suc d) (t ∷ ts))
+    → ((v : List Lexeme) → DeepItems (suc d) ts v → DeepS (suc d) (t ∷ ts) v)
     → Judged (λ x r. IsS (t ∷ ts) x r × (statement_nesting x ≤ d)) (DeepS (suc d) (t ∷ ts)) (printed d make ts)
 unfolding printed
 printed_judged d make t ts build same up =
@@ -174,7 +174,7 @@ returned_judged d p ts =
     ))
     (λ e. judged_then _ (judged_E d ts)
     (λ a r h. ended_judged (return_value p a) r (λ q u x. (s_return_value (subst (λ v. IsE ts a v) x h.0), h.1)))
-    (λ x. deep_s_return x))
+    (λ v x. deep_s_return x))
 
 pub read_judged : (d : ℕ) (p : Position) (ts : List Lexeme)
     → Judged (λ x r. IsS (reserved w.Read p ∷ ts) x r × (statement_nesting x ≤ d))
@@ -187,10 +187,10 @@ read_judged d p ts =
     (λ j r e.
     let at = h ∙ ap (λ us. name a.text a.position ∷ us) (g ∙ ap (λ us. name b.text b.position ∷ us) e) in
     (subst (λ us. IsS (reserved w.Read p ∷ us) (read_line a b) r) (sym at) s_read, omega arith)))
-    (λ x. absurd x))
-    (λ x. absurd x)
+    (λ v x. absurd x))
+    (λ v x. absurd x)
 
-flag_judged : (ts : List Lexeme) → Judged (IsFlag ts) ⊥ (flag ts)
+flag_judged : (ts : List Lexeme) → Judged (IsFlag ts) (λ v. ⊥) (flag ts)
 unfolding flag
 flag_judged ts =
     judged_by (is_sign s.Tilde (head ts)) _ _
@@ -198,27 +198,27 @@ flag_judged ts =
     (λ n r h.
     let at = at_sign s.Tilde ts e ∙ ap (λ us. sign s.Tilde (position_of (head ts)) ∷ us) h in
     judged_read (false, n) r (subst (λ us. IsFlag us (false, n) r) (sym at) flag_taken))
-    (λ x. x))
+    (λ v x. x))
     (λ e. judged_then _ (name_judged ts)
     (λ n r h. judged_read (true, n) r (subst (λ us. IsFlag us (true, n) r) (sym h) flag_given))
-    (λ x. x))
+    (λ v x. x))
 
-more_flags_judged : (n : ℕ) (ts : List Lexeme) → Judged (IsFlags ts) ⊥ (repeated begins_flag flag n ts)
+more_flags_judged : (n : ℕ) (ts : List Lexeme) → Judged (IsFlags ts) (λ v. ⊥) (repeated begins_flag flag n ts)
 more_flags_judged n ts =
-    repeated_judged begins_flag flag IsFlag IsFlags (λ us. ⊥) (λ us. ⊥)
+    repeated_judged begins_flag flag IsFlag IsFlags (λ us v. ⊥) (λ us v. ⊥)
     (λ r. flags_none)
     (λ us x m xs r q l. flags_next q l)
-    (λ us e x. x)
-    (λ us x m q z. z)
+    (λ us v e x. x)
+    (λ us x m v q z. z)
     flag_judged n ts
 
-flags_judged : (ts : List Lexeme) → Judged (IsGiven ts) ⊥ (flags ts)
+flags_judged : (ts : List Lexeme) → Judged (IsGiven ts) (λ v. ⊥) (flags ts)
 unfolding flags
 flags_judged ts =
     judged_then _ (flag_judged ts)
     (λ x m h. judged_then _ (more_flags_judged (length m) m) (λ xs r g. judged_read (x ∷ xs) r (given_first h g))
-    (λ z. z))
-    (λ z. z)
+    (λ v z. z))
+    (λ v z. z)
 
 pub given_judged : (d : ℕ) (p : Position) (ts : List Lexeme)
     → Judged (λ x r. IsS (reserved w.Give p ∷ ts) x r × (statement_nesting x ≤ d))
@@ -228,8 +228,8 @@ given_judged d p ts =
     judged_then _ (judged_E d ts)
     (λ e m h. judged_then _ (flags_judged m)
     (λ xs r g. ended_judged (give p e xs) r (λ q u x. (s_give h.0 (subst (λ v. IsGiven m xs v) x g), h.1)))
-    (λ z. absurd z))
-    (λ x. deep_s_give x)
+    (λ v z. absurd z))
+    (λ v x. deep_s_give x)
 
 pub moved_judged : (d : ℕ) (p : Position) (ts : List Lexeme)
     → Judged (λ x r. IsS (reserved w.Move p ∷ ts) x r × (statement_nesting x ≤ d))
@@ -243,9 +243,9 @@ moved_judged d p ts =
     judged_then _ (judged_E d m)
     (λ b r g. ended_judged (move p a b) r
     (λ q v x. (s_move object (subst (λ y. IsE m b y) x g.0), omega (arith, h.1, g.1))))
-    (λ x. deep_s_move_to object x))
-    (λ e. absurd (expect_word_not_deep w.To u e)))
-    (λ x. deep_s_move x)
+    (λ v x. deep_s_move_to object x))
+    (λ n e. absurd (expect_word_not_deep w.To u n e)))
+    (λ v x. deep_s_move x)
 
 pub removed_judged : (d : ℕ) (p : Position) (ts : List Lexeme)
     → Judged (λ x r. IsS (reserved w.Remove p ∷ ts) x r × (statement_nesting x ≤ d))
@@ -254,7 +254,7 @@ unfolding removed
 removed_judged d p ts =
     judged_then _ (judged_E d ts)
     (λ e r h. ended_judged (remove p e) r (λ q u x. (s_remove (subst (λ v. IsE ts e v) x h.0), h.1)))
-    (λ x. deep_s_remove x)
+    (λ v x. deep_s_remove x)
 
 pub alone_judged : (d : ℕ) (ts : List Lexeme)
     → Judged (λ x r. IsS ts x r × (statement_nesting x ≤ d)) (DeepS (suc d) ts)
@@ -266,4 +266,4 @@ alone_judged d ts =
     (λ f. ended_judged (effect (position_of (head ts)) a) r
     (λ q u x. (from_effect ts a q u (subst (λ v. IsE ts a v) x h.0) f, h.1)))
     (λ f. judged_grammar))
-    (λ x. deep_s_effect x)
+    (λ v x. deep_s_effect x)

@@ -6,8 +6,7 @@ use Rattle.syntax_lexer.specs.declared.token.Sign.TheVariants as s
 use Rattle.syntax_lexer.specs.declared.token.Word.TheVariants as w
 use Rattle.syntax_lexer.specs.Token.{Lexeme, text, reserved, sign, position_of}
 use Rattle.syntax_trees.specs.Tree.{ExpressionTree}
-use Rattle.syntax_parsing.specs.declared.error.Fault.{Fault}
-use Rattle.syntax_parsing.specs.declared.error.Fault.TheVariants.{Grammar, Deep}
+use Rattle.syntax_parsing.specs.Stop.{Stop, unfit, deep}
 use Rattle.syntax_parsing.specs.Parse.{Parse, ◌>>=◌, head, tail, is_sign, is_word, expect, expect_word, as_long}
 use Rattle.syntax_parsing.specs.Parse.{repeated}
 use Rattle.syntax_expressions.specs.Parse.{expect_name, nested, expression}
@@ -69,10 +68,10 @@ module _ (d : ℕ) where
   alone ts = do
     x ← expression (nested d) ts
     if has_effect x.0 then ended (effect (position_of (head ts)) x.0) x.1
-        else Err Grammar
+        else Err (unfit (length x.1))
 
   -- a statement that no other stands in, but for `;` alone
-  abbrev pub plain_on : Lexeme → List Lexeme → Result (StatementTree × List Lexeme) Fault
+  abbrev pub plain_on : Lexeme → List Lexeme → Result (StatementTree × List Lexeme) Stop
   plain_on (text bytes p) ts = ended (text_alone bytes) (tail ts)
   plain_on (reserved w.Print p) ts = printed print (tail ts)
   plain_on (reserved w.PrintRet p) ts = printed print_return (tail ts)
@@ -91,20 +90,22 @@ module _ (d : ℕ) where
 
 -- the statement behind `do`, over a statement one nesting further in
 unfoldable pub entered : Parse StatementTree → Parse StatementTree
-entered inside ts = if begins_statement (head ts) then inside ts else Err Grammar
+entered inside ts = if begins_statement (head ts) then inside ts else Err (unfit (length ts))
 
--- over the statements of a block or of `default`
-module _ (braces : Parse (List StatementTree)) where
-  unfoldable pub braced : Parse StatementTree
-  braced ts = do
-    x ← braces ts
+-- over the statements of a block or of `default`, with the number of tokens that are left from the brace or the
+-- colon on
+module _ (braces : ℕ → Parse (List StatementTree)) where
+  unfoldable pub braced : ℕ → Parse StatementTree
+  braced opening ts = do
+    x ← braces opening ts
     r ← expect s.CloseBrace x.1
     Ok (block (trees_of x.0), r)
 
   unfoldable pub otherwise : Parse (Option (List StatementTree))
   otherwise ts =
       if is_word w.Default (head ts)
-      then (expect s.Colon (tail ts) >>= λ m. braces m >>= λ xs. Ok (Some xs.0, xs.1))
+      then (expect s.Colon (tail ts) >>= λ m. braces (length (tail ts)) m
+      >>= λ xs. Ok (Some xs.0, xs.1))
       else Ok (None, ts)
 
 -- over the statements of a case
@@ -155,7 +156,7 @@ module _ (d : ℕ) where
       Ok (loop_over p l.0 x.0, x.1)
 
   -- over the statements of a block or of `default`, and those of a case
-  module _ (braces bodies : Parse (List StatementTree)) where
+  module _ (braces : ℕ → Parse (List StatementTree)) (bodies : Parse (List StatementTree)) where
     unfoldable pub selection : Position → Parse StatementTree
     selection p ts = do
       e ← enclosed_condition d ts
@@ -165,10 +166,11 @@ module _ (d : ℕ) where
       switch_of p e.0 cs.0 o.0 o.1
 
   -- over all of these
-  module _ (inside : Parse StatementTree) (braces bodies : Parse (List StatementTree)) where
-    abbrev pub statement_on : Lexeme → List Lexeme → Result (StatementTree × List Lexeme) Fault
+  module _ (inside : Parse StatementTree) (braces : ℕ → Parse (List StatementTree))
+      (bodies : Parse (List StatementTree)) where
+    abbrev pub statement_on : Lexeme → List Lexeme → Result (StatementTree × List Lexeme) Stop
     statement_on (sign s.Semicolon p) ts = Ok (empty, tail ts)
-    statement_on (sign s.OpenBrace p) ts = braced braces (tail ts)
+    statement_on (sign s.OpenBrace p) ts = braced braces (length ts) (tail ts)
     statement_on (reserved w.If p) ts = choice inside p (tail ts)
     statement_on (reserved w.While p) ts = repetition inside p (tail ts)
     statement_on (reserved w.Do p) ts = until inside p (tail ts)
@@ -183,17 +185,17 @@ module _ (d : ℕ) where
 unfoldable mutual
   -- a statement one nesting further in
   pub inside : ℕ → Parse StatementTree
-  inside zero ts = Err Deep
+  inside zero ts = Err (deep (length ts))
   inside (suc d) ts = statement_over d (inside d) (braces d) (bodies d) ts
 
-  -- the statements of a block, behind its brace
-  pub braces : ℕ → Parse (List StatementTree)
-  braces zero ts = Err Deep
-  braces (suc d) ts = repeated begins_statement (inside d) (length ts) ts
+  -- the statements of a block, behind its brace, from which on so many tokens are left
+  pub braces : ℕ → ℕ → Parse (List StatementTree)
+  braces zero opening ts = Err (deep opening)
+  braces (suc d) opening ts = repeated begins_statement (inside d) (length ts) ts
 
   -- the statements of a case, where d nestings more may be opened before the brace of its `switch`
   pub bodies : ℕ → Parse (List StatementTree)
-  bodies zero ts = Err Deep
+  bodies zero ts = Err (deep (length ts))
   bodies (suc d) ts = as_long begins_in_case (inside d) (length ts) ts
 
 unfoldable pub statement : ℕ → Parse StatementTree

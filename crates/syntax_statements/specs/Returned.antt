@@ -3,7 +3,7 @@ use Rattle.std.specs.Prelude.{List, Result}
 use Rattle.std.specs.Global.{Box}
 use Rattle.syntax_lexer.specs.Token.{Lexeme}
 use Rattle.syntax_parsing.specs.Returned.{Takes}
-use Rattle.syntax_parsing.specs.declared.error.Fault.{Fault}
+use Rattle.syntax_parsing.specs.Stop.{Stop}
 use Rattle.syntax_parsing.specs.declared.error.ParseError.{ParseError}
 use Rattle.syntax_parsing.specs.declared.parser.Parser.{Parser}
 use Rattle.syntax_statements.specs.declared.tree.SimpleStatement.{SimpleStatement}
@@ -11,11 +11,11 @@ use Rattle.syntax_statements.specs.declared.tree.Statement.{Statement}
 use Rattle.syntax_statements.specs.Tree.{StatementTree, simple_tree, statement_tree}
 
 -- The same of a statement in a box.
-abbrev pub TakesStatement : Result (Box Statement) ParseError → Parser → Result (StatementTree × List Lexeme) Fault
+abbrev pub TakesStatement : Result (Box Statement) ParseError → Parser → Result (StatementTree × List Lexeme) Stop
     → Type 0
 TakesStatement result left read = Takes (λ x. statement_tree x.value) result left read
 
 -- The same of a statement in which no other stands.
-abbrev pub TakesSimple : Result (Box SimpleStatement) ParseError → Parser → Result (StatementTree × List Lexeme) Fault
+abbrev pub TakesSimple : Result (Box SimpleStatement) ParseError → Parser → Result (StatementTree × List Lexeme) Stop
     → Type 0
 TakesSimple result left read = Takes (λ x. simple_tree x.value) result left read

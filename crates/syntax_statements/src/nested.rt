@@ -1,6 +1,6 @@
 //! Statements, and those inside them, read from tokens.
 
-ghost use Rattle.std.specs.Prelude.{◌≡◌, ◌<◌, map};
+ghost use Rattle.std.specs.Prelude.{◌≡◌, ◌<◌, length, map};
 ghost use Rattle.syntax_lexer.specs.Token.{lexeme, lexemes};
 ghost use Rattle.syntax_parsing.specs.Parse.{tail};
 ghost use Rattle.syntax_parsing.specs.Returned.{ahead, Takes};
@@ -145,7 +145,7 @@ fn braces<'t, 'a>(
     depth: usize,
 ) -> Result<Vec<Statement<'a>>, ParseError>
     ensures { Takes (λ xs. map statement_tree xs.items) result parser.new
-        (spec.braces depth (tail (ahead parser.old))) }
+        (spec.braces depth (length (ahead parser.old)) (tail (ahead parser.old))) }
 {
     let inside = open(depth, parser.tokens)?;
     pass(parser);
@@ -163,7 +163,7 @@ fn block<'t, 'a>(
     depth: usize,
 ) -> Result<Box<Statement<'a>>, ParseError>
     ensures { TakesStatement result parser.new
-        (spec.braced (spec.braces depth) (tail (ahead parser.old))) }
+        (spec.braced (spec.braces depth) (length (ahead parser.old)) (tail (ahead parser.old))) }
 {
     match braces(parser, depth) {
         Ok(found) => parts::block(parser, found),

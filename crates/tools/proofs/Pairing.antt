@@ -14,7 +14,7 @@ use Rattle.meaning.specs.Plays.{Plays}
 use Rattle.machine.specs.declared.load.LoadFault.TheVariants as loads
 use Rattle.session.specs.declared.fault.OpenFault.{OpenFault}
 use Rattle.session.specs.declared.fault.OpenFault.TheVariants as opens
-use Rattle.session.specs.Replies.{Opens}
+use Rattle.session.specs.Replies.{OpensSession}
 use Rattle.session.specs.Game.{Game, telling_of}
 use Rattle.session.proofs.Said.{Agree}
 use Rattle.tools.specs.Headline.{last_of, meant_by, WantsMemory}
@@ -51,7 +51,7 @@ read_whole story h WrongAddress p q = q.1.4 (p.3, p.4)
 
 -- so memory was refused where it is not opened
 pub wants_memory : (story : List ℕ) (fuel : ℕ) (keep : Option ℕ) (h : Header) (f : OpenFault) → Reads story (Ok h)
-    → Opens story fuel keep (Err f) → WantsMemory f
+    → OpensSession story fuel keep (Err f) → WantsMemory f
 wants_memory story fuel keep h (opens.Load (loads.Header f)) p q = absurd (read_whole story h f p q)
 wants_memory story fuel keep h (opens.Load loads.Memory) p q = inl refl
 wants_memory story fuel keep h opens.Memory p q = inr refl

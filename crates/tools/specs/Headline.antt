@@ -27,14 +27,11 @@ last_of (t ∷ u ∷ ts) = last_of (u ∷ ts)
 
 -- what a program means, run afresh on lines: the text of its last turn, and where it then stands
 abbrev pub meant_by : ProgramOf → ℕ → Telling
-meant_by p fuel = record {
-  text = λ lines. last_of (meaning p fuel lines).texts;
-  place = λ lines. (meaning p fuel lines).place;
-}
+meant_by p fuel =
+    record { text = λ lines. last_of (meaning p fuel lines).texts; place = λ lines. (meaning p fuel lines).place }
 
--- The source has a story of the version, and what a run of its lines wrote is what the source means on the lines that
--- stand: the transcript of the opening and the replies. The session is that of the story on these lines: its whole
--- states are those of the machine.
+-- The source has a story of the version; what a run of its lines wrote, the opening first, is what the source means on
+-- the lines that stand; and the session is that of the story on these lines, with the machine's whole states.
 pub record PlaysSource (source : List ℕ) (version : Version) (fuel : ℕ) (keep : Option ℕ) (io : Streams)
     (session : Session) (result : Result Place RunFault) : Type 0 where
   pub story : List ℕ

@@ -3,7 +3,7 @@ use Rattle.session.specs.Game.{IsSessionOf, text_on}
 use Rattle.session.specs.Standing.{undo_of, redo_of, taken}
 use Rattle.session.specs.Transcript.{note}
 use Rattle.session.specs.Replies.{After}
-use Rattle.session.specs.Wrote.{Wrote}
+use Rattle.session.specs.Wrote.{WroteText}
 use Rattle.session.proofs.Replying.{heard_one, heard_err, hears_err, absent, tested, at_undo, at_redo, at_line}
 use Rattle.session.proofs.Replying.{undo_some, undo_none, redo_some, redo_none, line_taken, line_unmet, line_over}
 use Rattle.session.proofs.Replying.{line_refused}
@@ -68,7 +68,7 @@ returns-in_ok-put-in-Some g c = λ game s p.
     (wrote_both (g.W.Write.contents c.args.writer.now) (g.W.Write.contents c.put.new.writer)
     (g.W.Write.contents c.tell-in-Some.new.writer) (note (codes "[Redone.]")) (text_on game (redo_of s).done)
     c.tell-in-Some.result c.in_ok-put-in-Some.ensures
-    (subst (λ (t : List ℕ). Wrote (g.W.Write.contents c.put.new.writer)
+    (subst (λ (t : List ℕ). WroteText (g.W.Write.contents c.put.new.writer)
     (g.W.Write.contents c.tell-in-Some.new.writer) t c.tell-in-Some.result)
     (c.in-Some.ensures.text game.story game.fuel game.keep s p) c.tell-in-Some.ensures))
 
@@ -104,7 +104,7 @@ returns-in-Taken g c = λ game s p.
     (c.in-Taken.ensures.says game.story game.fuel game.keep s p).1)
     ((subst (λ r. After c.args.line.now r c.args.session.now c.reply.follows.lender-at-none) c.in-Taken.is
     c.reply.follows.holds-at-none) game.story game.fuel game.keep s p)
-    (subst (λ (t : List ℕ). Wrote (g.W.Write.contents c.args.writer.now)
+    (subst (λ (t : List ℕ). WroteText (g.W.Write.contents c.args.writer.now)
     (g.W.Write.contents c.tell-in-Taken.new.writer) t c.tell-in-Taken.result)
     (c.in-Taken.ensures.says game.story game.fuel game.keep s p).2 c.tell-in-Taken.ensures)
 

@@ -1,9 +1,9 @@
 use Rattle.std.proofs.Common.{length}
-use Rattle.session.specs.Wrote.{Written}
+use Rattle.session.specs.Wrote.{WrittenSoFar}
 use Rattle.session.proofs.writing.put.Given as goal
 
 abbrev pub invariant-loop-rest : goal.invariant-loop-rest
-invariant-loop-rest g l = Written (g.W.Write.contents l.fn.writer) (g.W.Write.contents l.writer) l.fn.text l.rest
+invariant-loop-rest g l = WrittenSoFar (g.W.Write.contents l.fn.writer) (g.W.Write.contents l.writer) l.fn.text l.rest
 
 abbrev pub decreases-loop-rest : goal.decreases-loop-rest
 decreases-loop-rest g l = length l.rest

@@ -1,11 +1,14 @@
 use Rattle.std.proofs.Common.{sym, subst, ap, ◌∙◌, Ok, refl}
 use Rattle.syntax_lexer.specs.FaultNumbers.{no_memory}
-use Rattle.syntax_lexer.specs.Tokens.{Lexes}
+use Rattle.syntax_lexer.specs.Token.{lexemes}
+use Rattle.syntax_lexer.specs.Tokens.{Lexes, EndsOnce}
 use Rattle.syntax_lexer.specs.Results.{source_tokens}
 use Rattle.syntax.specs.Tree.{program_tree}
 use Rattle.story.proofs.Compiling.{is_tree, fits}
+use Rattle.source_temporaries.specs.Needs.{IsFirstGreatest, program_needs}
 use Rattle.story_figures.specs.Figures.{attributes_in, counts_in}
 use Rattle.story_figures.proofs.Accepting.{few_words, few_objects, accepted_program, story_of_tree, refused}
+use Rattle.story_figures.proofs.FewTemporaries.{temporaries_few}
 use Rattle.story_figures.proofs.Refusals.{without_memory, unlexed, unparsed, unchecked}
 use Rattle.story_figures.proofs.measuring.measure.Goals as goal
 
@@ -23,7 +26,11 @@ returns-in_err-program c =
     refused c.args.version c.args.source.now c.from_residual-in_err-program.result c.in_err-program.field-0.0
     c.from_residual-in_err-program.ensures
     (unparsed c.args.source.now c.deref.result.now lexed c.args.version c.in_err-program.field-0.0
-    c.in_err-program.ensures.grammar c.in_err-program.ensures.deep c.in_err-program.ensures.numbers)
+    c.in_err-program.ensures.grammar
+    (λ ten. c.in_err-program.ensures.place ten
+    (subst (λ ts. EndsOnce (lexemes ts)) (sym c.deref.ensures.value) c.in_ok-tokens.ensures.ends_once))
+    (λ five. (c.in_err-program.ensures.deep five).1) c.in_err-program.ensures.deep_place
+    c.in_err-program.ensures.numbers)
 
 pub returns-in_err-checked : goal.returns-in_err-checked
 returns-in_err-checked c =
@@ -70,7 +77,7 @@ returns c =
     let p = program_tree c.in_ok-program.program in
     let q = c.in_ok-checked.checked in
     let checked = c.in_ok-checked.ensures in
-    let w = c.written_in-written in
+    let w = c.tree_figures-of_tree in
     let e = c.in_ok-found.ensures in
     record {
       tree = p;
@@ -81,5 +88,7 @@ returns c =
       figures = e.checked;
       counts = e.counts ∙ ap (λ n. counts_in q n w.result.properties) w.ensures.attributes
           ∙ ap (λ n. counts_in q (attributes_in p.directives) n) w.ensures.properties;
+      temporaries = subst (IsFirstGreatest (program_needs p)) (sym e.temporaries)
+          (w.ensures.temporaries (temporaries_few p checked.0));
       story = story_of_tree c.args.version p q checked.1 c.in_ok-found.found.story e.checked.story;
     }

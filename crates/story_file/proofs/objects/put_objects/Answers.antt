@@ -1,7 +1,12 @@
 use Rattle.std.proofs.Common.{ap}
 use Rattle.meaning.specs.Resolved.{program_of}
+use Rattle.story_file.proofs.ObjectRows.{placed_in}
 use Rattle.story_file.proofs.ObjectTables.{are_rows, have_short_names, rows_are, rows_end}
 use Rattle.story_file.proofs.objects.put_objects.Goals as goal
+
+pub rows-requires-clause-placed : goal.rows-requires-clause-placed
+rows-requires-clause-placed c =
+    placed_in c.args.checked.now c.objects.result.now c.objects.ensures c.requires.proper
 
 pub table-requires-clause-rows : goal.table-requires-clause-rows
 table-requires-clause-rows c =

@@ -1,7 +1,7 @@
-use Rattle.std.proofs.Common.{map, refl, ap, ◌∙◌}
+use Rattle.std.proofs.Common.{◌+◌, map, slice_index_or, refl, ap, ◌∙◌}
 use Rattle.meaning.specs.Resolved.{property_of}
 use Rattle.code_object_memory.specs.Rows.{attribute_byte}
-use Rattle.story_file.proofs.ObjectRows.{attributes_are, row_made}
+use Rattle.story_file.proofs.ObjectRows.{attributes_are, first_is, row_made}
 use Rattle.story_file.proofs.objects.row.Goals as goal
 
 pub returns : goal.returns
@@ -16,5 +16,9 @@ returns c =
     (c.attribute_byte-4.ensures ∙ ap (λ xs. attribute_byte xs 24) c.deref-5.ensures.value)
     (c.attribute_byte-5.ensures ∙ ap (λ xs. attribute_byte xs 32) c.deref-6.ensures.value)
     (c.attribute_byte-6.ensures ∙ ap (λ xs. attribute_byte xs 40) c.deref-7.ensures.value))
-    refl c.sibling.ensures c.first_in.ensures c.in_ok-name.ensures
+    refl c.sibling.ensures
+    (first_is c.args.objects.now c.args.index c.index-objects-index.result c.requires.within c.index-objects-index.is
+    _ _ _ c.requires.linked
+    (c.number_at.ensures ∙ ap (λ ns. slice_index_or ns (c.args.index + 1) 0) c.deref-8.ensures.value))
+    c.in_ok-name.ensures
     (c.in_ok-properties.ensures ∙ ap (map property_of) c.deref.ensures.value)

@@ -2,6 +2,7 @@ use Rattle.std.proofs.Common.{ap}
 use Rattle.syntax_lexer.specs.Token.{lexemes}
 use Rattle.syntax_lexer.specs.declared.fault.PlacedFault.{PlacedFault}
 use Rattle.syntax.proofs.Main.{found, ok_only, err_only, err_grammar, err_deep, err_numbers}
+use Rattle.syntax.proofs.Placing.{err_place, err_deep_place}
 use Rattle.syntax.proofs.program.parse_placed.Goals as goal
 
 pub returns-in-Err-clause-only : goal.returns-in-Err-clause-only
@@ -14,10 +15,18 @@ returns-in-Err-clause-grammar c =
     err_grammar c.in-Err.e c.placed.result.fault (lexemes c.args.tokens.now) c.in-Err.ensures
     (ap (λ (x : PlacedFault). x.fault) c.placed.ensures)
 
+pub returns-in-Err-clause-place : goal.returns-in-Err-clause-place
+returns-in-Err-clause-place c =
+    err_place c.in-Err.e c.placed.result (lexemes c.args.tokens.now) c.in-Err.ensures c.placed.ensures
+
 pub returns-in-Err-clause-deep : goal.returns-in-Err-clause-deep
 returns-in-Err-clause-deep c =
     err_deep c.in-Err.e c.placed.result.fault (lexemes c.args.tokens.now) c.in-Err.ensures
     (ap (λ (x : PlacedFault). x.fault) c.placed.ensures)
+
+pub returns-in-Err-clause-deep_place : goal.returns-in-Err-clause-deep_place
+returns-in-Err-clause-deep_place c =
+    err_deep_place c.in-Err.e c.placed.result (lexemes c.args.tokens.now) c.in-Err.ensures c.placed.ensures
 
 pub returns-in-Err-clause-numbers : goal.returns-in-Err-clause-numbers
 returns-in-Err-clause-numbers c =

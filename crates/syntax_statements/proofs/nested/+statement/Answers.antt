@@ -16,11 +16,11 @@ use Rattle.syntax_statements.proofs.nested.+statement.Goals.{cases-else-loop-tur
 use Rattle.syntax_statements.proofs.nested.+statement.Goals.{cases-then-loop-turn-test+then-not-begins_value}
 
 pub block-returns-in-Ok : goal.block-returns-in-Ok
-block-returns-in-Ok t c = rw (block_read (braces c.args.depth) _ _ _ c.in-Ok.ensures) c.block.ensures
+block-returns-in-Ok t c = rw (block_read (braces c.args.depth) _ _ _ _ c.in-Ok.ensures) c.block.ensures
 
 pub block-returns-in-Err : goal.block-returns-in-Err
 block-returns-in-Err t c = part_fails c.in-Err.e _ _ _ c.in-Err.ensures
-    (block_behind (braces c.args.depth) (tail (ahead c.args.parser.now)))
+    (block_behind (braces c.args.depth) _ (tail (ahead c.args.parser.now)))
 
 pub repetition-returns-in-Ok : goal.repetition-returns-in-Ok
 repetition-returns-in-Ok t c = rw

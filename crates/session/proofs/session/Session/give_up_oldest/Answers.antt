@@ -2,7 +2,8 @@ use Rattle.std.proofs.Common.{ℕ, ◌-◌, ◌<◌, ◌∙◌, ap, arith}
 use Rattle.std.specs.declared.vec.Vec.{Vec}
 use Rattle.std.specs.declared.alloc.Global.{Global}
 use Rattle.session.specs.Inside.{view_of}
-use Rattle.session.specs.Session.{Session, without_oldest}
+use Rattle.session.specs.Session.{Session}
+use Rattle.session.specs.Stepped.{without_oldest}
 use Rattle.session.proofs.Insides.{oldest_view, oldest_between}
 use Rattle.session.proofs.Views.{counted}
 use Rattle.session.proofs.session.Session.give_up_oldest.Goals as goal

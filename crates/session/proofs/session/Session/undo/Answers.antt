@@ -1,7 +1,8 @@
 use Rattle.std.proofs.Common.{◌≡◌, ◌+◌, ◌-◌, ◌<◌, ap, sym, ◌∙◌, arith, subst, length}
 use Rattle.journal.specs.Swap.{Fits}
 use Rattle.machine_frames.specs.Contents.{bound_of}
-use Rattle.session.specs.Session.{Session, stepped_back}
+use Rattle.session.specs.Session.{Session}
+use Rattle.session.specs.Stepped.{stepped_back}
 use Rattle.session.specs.Inside.{view_of}
 use Rattle.session.specs.Sessions.{IsSession}
 use Rattle.session.specs.Standing.{undo_of}

@@ -1,0 +1,40 @@
+//! Why and where a source is refused, on standard error.
+
+use one_line::OneLine;
+use std::process::ExitCode;
+use story_diagnosis::{Diagnosis, Shown};
+use story_sentences::sentence;
+use syntax_lexer::SourceFault;
+use zcore::Version;
+
+/// The exit status where the source is refused.
+const REFUSED: u8 = 1;
+
+/// Says on standard error why a source is refused.
+pub fn refused(rt: &HostRuntime, fault: SourceFault) -> ExitCode {
+    let _ = eprintln!(rt; "{fault}");
+    ExitCode::from(REFUSED)
+}
+
+/// Says on standard error why the source of a name is refused for a version, and shows where.
+pub fn show(
+    rt: &HostRuntime,
+    name: &str,
+    source: &[u8],
+    version: Version,
+    diagnosis: Diagnosis,
+) -> ExitCode {
+    let sentence = match sentence(rt.alloc(), source, version, &diagnosis) {
+        Ok(sentence) => sentence,
+        Err(refusal) => return refused(rt, SourceFault::from(refusal)),
+    };
+    let status = refused(rt, diagnosis.fault);
+    let shown = Shown {
+        source,
+        name: OneLine(name),
+        sentence: sentence.as_str(),
+        diagnosis,
+    };
+    let _ = eprint!(rt; "{shown}");
+    status
+}

@@ -1,0 +1,48 @@
+//! Kinds of names, in words.
+
+use checker_names::Binding;
+use meaning::limits::MOST_ARRAY_BYTES;
+use syntax::ArrayKind;
+
+/// What a name is.
+pub fn kind_of(binding: Binding) -> &'static str {
+    match binding {
+        Binding::Constant(_) => "a Constant",
+        Binding::Global(_) => "a global",
+        Binding::Array(_, _) => "an array",
+        Binding::Routine(_, _) => "a routine",
+        Binding::Attribute(_) => "an attribute",
+        Binding::Property(_) => "a property",
+        Binding::Object(_) => "an object",
+        Binding::Local(_) => "a local",
+    }
+}
+
+/// Whether a name is a variable.
+pub fn is_variable(binding: Binding) -> bool {
+    match binding {
+        Binding::Global(_) => true,
+        Binding::Local(_) => true,
+        _ => false,
+    }
+}
+
+/// What an array is.
+pub fn array_kind(kind: ArrayKind) -> &'static str {
+    match kind {
+        ArrayKind::Bytes => "an array of bytes",
+        ArrayKind::Words => "an array of words",
+        ArrayKind::String => "a string",
+        ArrayKind::Table => "a table",
+    }
+}
+
+/// How many entries an array may have at most.
+pub fn most_entries(kind: ArrayKind) -> usize {
+    match kind {
+        ArrayKind::Bytes => MOST_ARRAY_BYTES,
+        ArrayKind::Words => MOST_ARRAY_BYTES / 2,
+        ArrayKind::String => 255,
+        ArrayKind::Table => MOST_ARRAY_BYTES / 2 - 1,
+    }
+}

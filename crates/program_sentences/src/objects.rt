@@ -1,0 +1,36 @@
+//! The names within an object. The tokens are those of a program.
+
+use crate::tokens::{before, behind, is_name, is_named, is_sign, is_text, is_word};
+use syntax::{Sign, Token, Word};
+
+/// Whether the token of a number is the name of a property that an object gives.
+pub fn is_property(tokens: &[Token<'_>], at: usize) -> bool {
+    let last = before(at, 1);
+    is_name(tokens, at) && (is_word(tokens, last, Word::With) || is_sign(tokens, last, Sign::Comma))
+}
+
+/// The number of the token where the object whose name has a number gives a property first.
+pub fn first_given(tokens: &[Token<'_>], object: usize, text: &[u8]) -> Option<usize> {
+    for number in object.saturating_add(1)..tokens.len() {
+        if is_named(tokens, number, text) && is_property(tokens, number) {
+            return Some(number);
+        }
+    }
+    None
+}
+
+/// Whether the token of a number is the parent of the object whose name has a number.
+pub fn is_parent(tokens: &[Token<'_>], object: usize, at: usize) -> bool {
+    let next = behind(object, 1);
+    at == next || is_text(tokens, next) && at == behind(object, 2)
+}
+
+/// Whether a `has` stands before the token of a number, behind the name of its object.
+pub fn is_behind_has(tokens: &[Token<'_>], object: usize, at: usize) -> bool {
+    for number in object..at {
+        if is_word(tokens, number, Word::Has) {
+            return true;
+        }
+    }
+    false
+}

@@ -1,0 +1,196 @@
+//! What is wanted in the place of a name (E23). The tokens are those of a program.
+
+use crate::objects::{is_behind_has, is_parent, is_property};
+use crate::operands::{begins_expression, ends_operand, is_step, owns_parentheses};
+use crate::tokens::{before, behind, is_sign, is_word, kind_at};
+use syntax::{Kind, Sign, Token, Word};
+
+const ARRAY: &str = "an array";
+
+const ATTRIBUTE: &str = "an attribute";
+
+/// What is wanted as a value that is known before a story runs.
+pub const CONSTANT: &str = "a Constant or an object";
+
+const OBJECT: &str = "an object";
+
+const PROPERTY: &str = "a property";
+
+const ROUTINE: &str = "a routine";
+
+const VALUE: &str = "a value";
+
+const VARIABLE: &str = "a variable";
+
+/// What is wanted in the place of the token of a number within the object whose name has a number.
+pub fn wanted_in_object(tokens: &[Token<'_>], object: usize, at: usize) -> &'static str {
+    if is_parent(tokens, object, at) {
+        OBJECT
+    } else if is_property(tokens, at) {
+        PROPERTY
+    } else if is_behind_has(tokens, object, at) {
+        ATTRIBUTE
+    } else {
+        CONSTANT
+    }
+}
+
+/// Whether a statement ends or begins with a sign.
+fn divides(sign: Sign) -> bool {
+    matches!(sign, Sign::Semicolon | Sign::OpenBrace | Sign::CloseBrace)
+}
+
+/// Whether a statement ends or begins with the token of a number.
+fn divides_at(tokens: &[Token<'_>], at: usize) -> bool {
+    match kind_at(tokens, at) {
+        Kind::Sign(sign) => divides(sign),
+        _ => false,
+    }
+}
+
+/// Whether a name stands in a `give`, from its word on.
+fn is_in_give(tokens: &[Token<'_>], at: usize) -> bool {
+    for count in 1..at {
+        let number = before(at, count);
+        if is_word(tokens, number, Word::Give) {
+            return true;
+        }
+        if divides_at(tokens, number) {
+            return false;
+        }
+    }
+    false
+}
+
+/// Whether a name is one of the attributes of a `give`: it stands behind an operand, as no name in
+/// an expression does.
+fn is_given(tokens: &[Token<'_>], at: usize) -> bool {
+    let last = if is_sign(tokens, before(at, 1), Sign::Tilde) {
+        before(at, 2)
+    } else {
+        before(at, 1)
+    };
+    ends_operand(tokens, last) && is_in_give(tokens, at)
+}
+
+/// Whether parentheses that hold an expression stand so far around a name.
+fn is_enclosed(tokens: &[Token<'_>], at: usize, far: usize) -> bool {
+    is_sign(tokens, before(at, far), Sign::OpenParenthesis)
+        && is_sign(tokens, behind(at, far), Sign::CloseParenthesis)
+        && !owns_parentheses(tokens, before(at, far.saturating_add(1)))
+}
+
+/// Whether what stands so far around a name steps it.
+fn is_stepped(tokens: &[Token<'_>], at: usize, far: usize) -> bool {
+    is_step(tokens, before(at, far)) || is_step(tokens, behind(at, far))
+}
+
+/// Whether a value is assigned to a name, which may stand in parentheses, or it is stepped.
+fn is_target(tokens: &[Token<'_>], at: usize) -> bool {
+    for pairs in 0..at {
+        let far = pairs.saturating_add(1);
+        if is_stepped(tokens, at, far) {
+            return true;
+        }
+        if is_sign(tokens, behind(at, far), Sign::Assign) {
+            return begins_expression(tokens, before(at, far));
+        }
+        if !is_enclosed(tokens, at, far) {
+            return false;
+        }
+    }
+    false
+}
+
+/// Whether a name is the variable of an `objectloop`.
+fn is_loop_variable(tokens: &[Token<'_>], at: usize) -> bool {
+    is_sign(tokens, before(at, 1), Sign::OpenParenthesis)
+        && is_word(tokens, before(at, 2), Word::Objectloop)
+}
+
+/// Whether a name is one of the two of a `read`.
+pub fn is_read(tokens: &[Token<'_>], at: usize) -> bool {
+    is_word(tokens, before(at, 1), Word::Read) || is_word(tokens, before(at, 2), Word::Read)
+}
+
+/// What is wanted behind a reserved word, if it tells.
+fn wanted_behind_word(word: Word) -> Option<&'static str> {
+    match word {
+        Word::Provides => Some(PROPERTY),
+        Word::Has => Some(ATTRIBUTE),
+        Word::Hasnt => Some(ATTRIBUTE),
+        _ => None,
+    }
+}
+
+/// Whether a property is wanted behind a sign.
+fn asks_property(sign: Sign) -> bool {
+    matches!(sign, Sign::Dot | Sign::DotHash | Sign::DotAmpersand)
+}
+
+/// What is wanted behind the token of a number, if it tells.
+fn wanted_behind(tokens: &[Token<'_>], at: usize) -> Option<&'static str> {
+    match kind_at(tokens, at) {
+        Kind::Sign(sign) => {
+            if asks_property(sign) {
+                Some(PROPERTY)
+            } else {
+                None
+            }
+        }
+        Kind::Reserved(word) => wanted_behind_word(word),
+        _ => None,
+    }
+}
+
+/// What is wanted before a sign, if it tells.
+fn wanted_before(sign: Sign) -> Option<&'static str> {
+    match sign {
+        Sign::OpenParenthesis => Some(ROUTINE),
+        Sign::Arrow => Some(ARRAY),
+        Sign::LongArrow => Some(ARRAY),
+        _ => None,
+    }
+}
+
+/// What is wanted before the token of a number, if it tells.
+fn wanted_before_token(tokens: &[Token<'_>], at: usize) -> Option<&'static str> {
+    match kind_at(tokens, at) {
+        Kind::Sign(sign) => wanted_before(sign),
+        _ => None,
+    }
+}
+
+/// What is wanted in an expression where a name stands. A variable that cannot stand as a value
+/// stands in a case.
+fn wanted_in_expression(tokens: &[Token<'_>], at: usize, variable: bool) -> &'static str {
+    match wanted_before_token(tokens, behind(at, 1)) {
+        Some(wanted) => wanted,
+        None => {
+            if is_target(tokens, at) {
+                VARIABLE
+            } else if variable {
+                CONSTANT
+            } else {
+                VALUE
+            }
+        }
+    }
+}
+
+/// What is wanted in a statement where a name stands, which may be a variable.
+pub fn wanted_in_statement(tokens: &[Token<'_>], at: usize, variable: bool) -> &'static str {
+    if !variable && is_loop_variable(tokens, at) {
+        return VARIABLE;
+    }
+    match wanted_behind(tokens, before(at, 1)) {
+        Some(wanted) => wanted,
+        None => {
+            if is_given(tokens, at) {
+                ATTRIBUTE
+            } else {
+                wanted_in_expression(tokens, at, variable)
+            }
+        }
+    }
+}

@@ -1,0 +1,11 @@
+//! What is wrong with a byte or a token of a source, in a sentence.
+#![tactic(auto)]
+
+mod numbers;
+mod quoted;
+mod runs;
+mod sentence;
+mod written;
+
+pub use sentence::source_sentence;
+pub use written::{Counted, Cut, Figure, Met, Quoted};

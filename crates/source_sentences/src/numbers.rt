@@ -1,0 +1,34 @@
+//! Why no number begins at a digit or a `$` (E03).
+
+use crate::runs::{Class, from, front, run_length};
+use crate::written::{Cut, Quoted};
+use std::alloc::{AllocError, Global};
+
+/// The class of a number's digits, the length of what stands before them, and their word.
+fn digits(bytes: &[u8]) -> (Class, usize, &'static str) {
+    match bytes {
+        [b'$', b'$', ..] => (Class::Binary, 2, "binary "),
+        [b'$', ..] => (Class::Hexadecimal, 1, "hexadecimal "),
+        _ => (Class::Decimal, 0, ""),
+    }
+}
+
+/// What is wrong with the number at the front.
+///
+/// # Errors
+///
+/// `AllocError` where memory is refused.
+pub fn number(alloc: Global, bytes: &[u8]) -> Result<String, AllocError> {
+    let (class, begin, word) = digits(bytes);
+    let count = run_length(class, from(bytes, begin));
+    let number = front(bytes, begin.saturating_add(count));
+    let behind = from(bytes, number.len());
+    if count == 0 {
+        return format!(in alloc; "no {word}digit stands behind {}", Quoted(number));
+    }
+    if run_length(Class::Name, front(behind, 1)) > 0 {
+        let next = Quoted(front(behind, 1));
+        return format!(in alloc; "{next} stands directly behind the number {}", Cut(number));
+    }
+    format!(in alloc; "{} is above 65,535", Cut(number))
+}

@@ -1,0 +1,47 @@
+//! The sentence of a fault of a byte or a token.
+
+use crate::numbers::number;
+use crate::quoted::{misplaced, quoted};
+use crate::runs::{Class, from, run_length};
+use std::alloc::{AllocError, Global};
+use syntax_lexer::{BAD_NUMBER, BAD_TEXT, NAME_TOO_LONG, STRAY_BYTE};
+
+/// What is wrong with a byte that begins no token.
+fn stray(alloc: Global, bytes: &[u8]) -> Result<Option<String>, AllocError> {
+    match bytes.first().copied() {
+        None => Ok(None),
+        Some(byte) if matches!(byte, b' '..=b'~') => {
+            let sign = char::from(byte);
+            Ok(Some(format!(in alloc; "'{sign}' begins no token")?))
+        }
+        Some(byte) => misplaced(alloc, byte, "in a source"),
+    }
+}
+
+/// What is wrong with a name that is too long.
+fn long_name(alloc: Global, bytes: &[u8]) -> Result<String, AllocError> {
+    let length = run_length(Class::Name, bytes);
+    format!(in alloc; "the name has {length} bytes; 32 is the most")
+}
+
+/// What is wrong at an offset of a source that breaks a rule of bytes or tokens, by the rule's
+/// number: E01 to E04. `None` for another rule, and where no such thing stands there.
+///
+/// # Errors
+///
+/// `AllocError` where memory is refused.
+pub fn source_sentence(
+    alloc: Global,
+    source: &[u8],
+    rule: u8,
+    offset: usize,
+) -> Result<Option<String>, AllocError> {
+    let bytes = from(source, offset);
+    match rule {
+        STRAY_BYTE => stray(alloc, bytes),
+        BAD_TEXT => quoted(alloc, bytes),
+        BAD_NUMBER => Ok(Some(number(alloc, bytes)?)),
+        NAME_TOO_LONG => Ok(Some(long_name(alloc, bytes)?)),
+        _ => Ok(None),
+    }
+}

@@ -1,0 +1,5 @@
+pub mod Raising
+pub mod Each
+pub mod FirstGreatest
+pub mod FirstAt
+pub mod Heading

@@ -1,0 +1,12 @@
+//! Opcodes and instructions of a story, whether the machine knows them or not.
+#![tactic(auto)]
+
+mod forms;
+mod lead;
+mod names;
+mod opcode;
+mod shape;
+
+pub use lead::{Lead, lead_at};
+pub use opcode::{Numbering, Opcode};
+pub use shape::Shape;

@@ -1,0 +1,32 @@
+-- Where tokens leave the grammar of programs, and where they stand too deep.
+use Rattle.std.specs.Prelude.{◌≡◌, ◌<◌, ◌≤◌, ℕ, suc, List, [], ◌∷◌, ◌++◌, length}
+use Rattle.syntax_lexer.specs.declared.token.Position.{Position}
+use Rattle.syntax_lexer.specs.Token.{Lexeme, position_of}
+use Rattle.syntax.specs.Tree.{ProgramTree}
+use Rattle.syntax.specs.Grammar.{IsProgram}
+use Rattle.syntax.specs.Nesting.{DeepEntries}
+
+-- some program begins with these tokens, whatever its nesting and its names
+abbrev pub Begins : List Lexeme → Type 0
+Begins front = (back : List Lexeme) × (p : ProgramTree) × IsProgram (front ++ back) p
+
+-- of the position of the first token with which no program begins, P holds
+pub record IsFirstUnfit (ts : List Lexeme) (P : Position → Type 0) : Type 0 where
+  pub front : List Lexeme
+  pub token : Lexeme
+  pub behind : List Lexeme
+  pub is : ts ≡ front ++ token ∷ behind
+  pub fits : Begins front
+  pub does_not : Begins (front ++ token ∷ []) → ⊥
+  pub stands : P (position_of token)
+
+-- of the position of the first token that stands more than that many nestings deep, P holds
+pub record IsFirstDeep (most : ℕ) (ts : List Lexeme) (P : Position → Type 0) : Type 0 where
+  pub front : List Lexeme
+  pub token : Lexeme
+  pub behind : List Lexeme
+  pub is : ts ≡ front ++ token ∷ behind
+  pub too_deep : DeepEntries (suc most) ts (token ∷ behind)
+  -- what stands before it stands no deeper
+  pub first : (n : ℕ) (u : List Lexeme) → DeepEntries n ts u → length (token ∷ behind) < length u → n ≤ most
+  pub stands : P (position_of token)

@@ -1,0 +1,12 @@
+pub mod After
+pub mod Expressions
+pub mod Values
+pub mod Rows
+pub mod Parts
+pub mod Items
+pub mod Either
+pub mod Bodies
+pub mod Statements
+pub mod Objects
+pub mod Directives
+pub mod Shallow

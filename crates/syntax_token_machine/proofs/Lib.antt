@@ -1,0 +1,6 @@
+pub mod Machine
+pub mod Words
+pub mod Kept
+pub mod Taken
+pub mod Stopped
+mod Samples

@@ -1,0 +1,2 @@
+//! A machine that takes the tokens of a program one at a time.
+#![tactic(auto)]
