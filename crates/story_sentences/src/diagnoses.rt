@@ -5,14 +5,17 @@ use source_places::Diagnosis;
 use source_sentences::{Figure, source_sentence};
 use std::alloc::{AllocError, Global};
 use story_figures::measure;
-use syntax_lexer::{NAME_TOO_LONG, NO_MEMORY, STORY_TOO_LARGE, TABLES_TOO_LARGE};
+use syntax_directives::weight_of;
+use syntax_lexer::{NAME_TOO_LONG, NO_MEMORY, STORY_TOO_LARGE, TABLES_TOO_LARGE, lex};
 use zcore::Version;
 
-/// The figures of a source that is too large as a whole: what it weighs, what its tables have, and
-/// whether it is a story of version 8.
+/// What a source of version 8 weighs at most.
+const GREATEST_WEIGHT: u128 = 450_000;
+
+/// The figures of a source that is too large as a whole: the bytes of its tables, and whether it is
+/// a story of version 8.
 #[derive(Clone, Copy)]
 struct Whole {
-    weight: u128,
     tables: u128,
     is_large_story: bool,
 }
@@ -21,7 +24,6 @@ struct Whole {
 fn figures_of(alloc: Global, source: &[u8]) -> Result<Option<Whole>, AllocError> {
     match measure(alloc, source, Version::V8) {
         Ok(figures) => Ok(Some(Whole {
-            weight: figures.weight,
             tables: figures.table_total,
             is_large_story: figures.story.is_ok(),
         })),
@@ -30,11 +32,35 @@ fn figures_of(alloc: Global, source: &[u8]) -> Result<Option<Whole>, AllocError>
     }
 }
 
+/// What the tokens of a source weigh. `None` where its bytes are none.
+fn weight_of_source(alloc: Global, source: &[u8]) -> Result<Option<u128>, AllocError> {
+    match lex(alloc, source) {
+        Ok(tokens) => Ok(Some(weight_of(&tokens))),
+        Err(fault) if fault.number == NO_MEMORY => Err(AllocError),
+        Err(_) => Ok(None),
+    }
+}
+
+/// Whether a source of that weight is a story of version 8. To measure one takes longer than to
+/// compile it, so it is not done where the weight says all.
+fn is_large_story(alloc: Global, source: &[u8], weight: u128) -> Result<bool, AllocError> {
+    if weight > GREATEST_WEIGHT {
+        return Ok(false);
+    }
+    match figures_of(alloc, source)? {
+        Some(whole) => Ok(whole.is_large_story),
+        None => Ok(false),
+    }
+}
+
 /// What is wrong with a source that weighs too much for a version.
-fn heavy(alloc: Global, whole: Whole, version: Version) -> Result<String, AllocError> {
-    let weight = Figure(whole.weight);
-    match version {
-        Version::V5 if whole.is_large_story => format!(in alloc;
+fn heavy(alloc: Global, source: &[u8], version: Version) -> Result<Option<String>, AllocError> {
+    let Some(found) = weight_of_source(alloc, source)? else {
+        return Ok(None);
+    };
+    let weight = Figure(found);
+    let sentence = match version {
+        Version::V5 if is_large_story(alloc, source, found)? => format!(in alloc;
             "the source weighs {weight}; 190,000 is the most for version 5, and -v 8 would do"
         ),
         Version::V5 => {
@@ -43,22 +69,15 @@ fn heavy(alloc: Global, whole: Whole, version: Version) -> Result<String, AllocE
         Version::V8 => {
             format!(in alloc; "the source weighs {weight}; 450,000 is the most for version 8")
         }
-    }
+    };
+    Ok(Some(sentence?))
 }
 
-/// What is wrong with a source that is too large as a whole, by the broken rule, E30 or E31.
-fn too_large(
-    alloc: Global,
-    source: &[u8],
-    version: Version,
-    rule: u8,
-) -> Result<Option<String>, AllocError> {
+/// What is wrong with a source whose tables are too large.
+fn large_tables(alloc: Global, source: &[u8]) -> Result<Option<String>, AllocError> {
     let Some(whole) = figures_of(alloc, source)? else {
         return Ok(None);
     };
-    if rule == STORY_TOO_LARGE {
-        return Ok(Some(heavy(alloc, whole, version)?));
-    }
     let bytes = Figure(whole.tables);
     Ok(Some(format!(in alloc;
         "arrays, objects, words and abbreviations have {bytes} bytes; 64,660 is the most"
@@ -74,7 +93,8 @@ fn found(
 ) -> Result<Option<String>, AllocError> {
     let rule = diagnosis.fault.number;
     match (rule, diagnosis.place) {
-        (TABLES_TOO_LARGE | STORY_TOO_LARGE, _) => too_large(alloc, source, version, rule),
+        (TABLES_TOO_LARGE, _) => large_tables(alloc, source),
+        (STORY_TOO_LARGE, _) => heavy(alloc, source, version),
         (_, None) => Ok(None),
         (1..=NAME_TOO_LONG, Some(place)) => source_sentence(alloc, source, rule, place.offset),
         (_, Some(place)) => program_sentence(alloc, source, rule, place.offset),
