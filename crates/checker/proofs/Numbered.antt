@@ -17,7 +17,9 @@ use Rattle.checker_names.specs.Keys.{keys_of}
 use Rattle.checker_names.specs.Names.{Table, File, table_of}
 use Rattle.checker_arrays.specs.Arrays.{arrays_of}
 use Rattle.checker_objects.specs.Objects.{placed, parents_of, object_trees, objects_in}
+use Rattle.checker_objects.specs.Sizes.{listed_objects_size}
 use Rattle.checker_objects.proofs.Chains.{placed_many}
+use Rattle.checker_objects.proofs.Sizes.{objects_sized}
 use Rattle.checker.specs.Programs.{resolve_with, no_numbers, file_of}
 
 abbrev pub numbered : Table → (ℕ → ℕ) → File
@@ -70,26 +72,24 @@ fold_same at to is = is_folded (cases_lt to 65536)
 
 -- the names and numbers of a file, by those of its names with no numbers
 pub file_numbered : (p : Program) (given again : List Directive) (words : List (Bor (List ℕ))) (first : File)
-    (table : Table) (keys : List ℕ) (n size place : ℕ) (os : List ObjectOf)
+    (table : Table) (keys : List ℕ) (n size place : ℕ)
     → first ≡ no_numbers (program_tree p) → table ≡ first.table → given ≡ p.directives.items
     → again ≡ p.directives.items
     → n ≡ length (concat (arrays_of first (map directive_tree given)))
-    → os ≡ objects_in first (map directive_tree again) → size ≡ folded (objects_size os)
+    → size ≡ folded (listed_objects_size (map directive_tree again))
     → place ≡ folded (864 + n + size) → words ≡ p.words.items
     → keys ≡ keys_of (map (λ (w : Bor (List ℕ)). w.now) words)
     → numbered table (numbers_by place keys) ≡ file_of (program_tree p)
 unfolding file_of resolve_with
-file_numbered p given again words first table keys n size place os none names same twice long made much at spoken
-    found =
+file_numbered p given again words first table keys n size place none names same twice long much at spoken found =
     let tree = program_tree p in
     let real : ℕ = dictionary_place (resolve_with (no_numbers tree) tree) in
     let arrays : n ≡ length (concat (arrays_of (no_numbers tree) tree.directives)) =
     long ∙ ap (λ (ds : List Directive). length (concat (arrays_of first (map directive_tree ds)))) same
     ∙ ap (λ (f : File). length (concat (arrays_of f tree.directives))) none in
     let objects : size ≡ folded (objects_size (objects_in (no_numbers tree) tree.directives)) =
-    much ∙ ap (λ (x : List ObjectOf). folded (objects_size x))
-    (made ∙ ap (λ (ds : List Directive). objects_in first (map directive_tree ds)) twice
-    ∙ ap (λ (f : File). objects_in f tree.directives) none) in
+    much ∙ ap (λ (ds : List Directive). folded (listed_objects_size (map directive_tree ds))) twice
+    ∙ ap folded (sym (objects_sized (no_numbers tree) tree.directives)) in
     let here : place ≡ folded real = at
     ∙ fold_part (864 + n) (objects_size (objects_in (no_numbers tree) tree.directives)) size objects
     ∙ ap (λ (m : ℕ). folded (864 + m + objects_size (objects_in (no_numbers tree) tree.directives))) arrays

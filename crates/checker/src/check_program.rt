@@ -16,8 +16,8 @@ use crate::directive_rules::all_directives;
 use crate::main_rules::main_number;
 use checker_arrays::bytes_of_arrays;
 use checker_names::{Breach, File, Numbers, gather, tabulate};
-use checker_objects::{all_defaults, objects_alone, parents, place};
-use meaning::{Checked, dictionary_behind, objects_size};
+use checker_objects::{all_defaults, listed_objects_size, parents, place};
+use meaning::{Checked, dictionary_behind};
 use std::alloc::{AllocError, Global};
 use syntax::{Directive, Program, Text};
 use syntax_lexer::{PlacedFault, SourceFault};
@@ -79,7 +79,7 @@ fn numbered(program: &Program<'_>, alloc: Global) -> Result<File, AllocError>
 {
     let first = unnumbered(program, alloc)?;
     let bytes = bytes_of_arrays(&program.directives, alloc, &first)?;
-    let objects = objects_alone(&program.directives, alloc, &first)?;
+    let objects = listed_objects_size(&program.directives);
     let keys = gather(alloc, &program.words)?;
     let File { table, numbers } = first;
     drop(numbers);
@@ -87,7 +87,7 @@ fn numbered(program: &Program<'_>, alloc: Global) -> Result<File, AllocError>
         table,
         numbers: Numbers {
             keys,
-            dictionary: dictionary_behind(bytes, objects_size(&objects)),
+            dictionary: dictionary_behind(bytes, objects),
         },
     })
 }
@@ -121,7 +121,7 @@ pub fn check<'a>(alloc: Global, program: Program<'a>) -> Result<Checked<'a>, Sou
     ensures { AnswersBreaches result (program_breaches (program_tree program.entry))
         (λ c. IsCheckedOf (program_tree program.entry) c) }
 {
-    match check_placed(alloc, program) {
+    match check_placed(alloc, &program) {
         Ok(checked) => Ok(checked),
         Err(placed) => Err(placed.fault),
     }
@@ -132,14 +132,14 @@ pub fn check<'a>(alloc: Global, program: Program<'a>) -> Result<Checked<'a>, Sou
 /// # Errors
 ///
 /// Those of [`check`]. The offset is that of the first broken rule; E99 has none.
-pub fn check_placed<'a>(alloc: Global, program: Program<'a>) -> Result<Checked<'a>, PlacedFault>
-    ensures answers { AnswersBreaches (unplaced result) (program_breaches (program_tree program.entry))
-        (λ c. IsCheckedOf (program_tree program.entry) c) }
+pub fn check_placed<'a>(alloc: Global, program: &Program<'a>) -> Result<Checked<'a>, PlacedFault>
+    ensures answers { AnswersBreaches (unplaced result) (program_breaches (program_tree program.now))
+        (λ c. IsCheckedOf (program_tree program.now) c) }
     ensures stands { IfErr result (λ e. (e ≡ nowhere no_memory)
-        ⊎ StandsAtFirst e (program_breaches (program_tree program.entry))) }
+        ⊎ StandsAtFirst e (program_breaches (program_tree program.now))) }
 {
     let mut least = None;
-    match resolve(&program, alloc, &mut least) {
+    match resolve(program, alloc, &mut least) {
         Ok(checked) => match least {
             None => Ok(checked),
             Some(breach) => Err(PlacedFault {

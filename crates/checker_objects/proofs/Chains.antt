@@ -9,16 +9,16 @@ use Rattle.syntax_directives.specs.declared.tree.Directive.{Directive}
 use Rattle.syntax_directives.specs.declared.tree.Directive.TheVariants as directives
 use Rattle.syntax_directives.specs.Tree.{ObjectTree, object_tree, directive_tree}
 use Rattle.checker_names.specs.declared.breach.Breach.{Breach}
-use Rattle.checker_names.specs.Names.{Table, File}
+use Rattle.checker_names.specs.Names.{Table}
 use Rattle.checker_names.specs.Noted.{noted}
 use Rattle.checker_names.proofs.Dropped.{drop_here, drop_end}
 use Rattle.checker_names.proofs.Noted.{noted_none, noted_append}
 use Rattle.meaning.specs.declared.checked.CheckedObject.{CheckedObject}
 use Rattle.meaning.specs.Resolved.{object_of}
 use Rattle.meaning.specs.Objects.{ObjectOf}
-use Rattle.checker_objects.specs.Objects.{objects_in, object_trees, Open, open_to, opened, above_of, stand_breaches}
-use Rattle.checker_objects.specs.Objects.{standing_from, parent_number, parents_from, placed, exactly, object_in}
-use Rattle.checker_names.proofs.Mapped.{nothing_more, map_push}
+use Rattle.checker_objects.specs.Objects.{object_trees, Open, open_to, opened, above_of, stand_breaches}
+use Rattle.checker_objects.specs.Objects.{standing_from, parent_number, parents_from, placed, exactly}
+use Rattle.checker_names.proofs.Mapped.{nothing_more}
 
 -- those that stay open come first
 pub open_taken : (n : ℕ) (chain : Open) → take (length (open_to n chain)) chain ≡ open_to n chain
@@ -89,36 +89,6 @@ trees_next ds i x o lt is one =
 
 pub trees_end : (ds : List Directive) (i : ℕ) → length ds ≤ i → object_trees (map directive_tree (drop i ds)) ≡ []
 trees_end ds i end = ap (λ (z : List Directive). object_trees (map directive_tree z)) (drop_end ds i end)
-
--- Objects that are made one by one
-
-made_one : (file : File) (d : Directive) (ds : List Directive) (o : Object) → d ≡ directives.Object o
-    → objects_in file (map directive_tree (d ∷ ds))
-    ≡ object_in file (object_tree o) ∷ objects_in file (map directive_tree ds)
-made_one file d ds o is = rw is refl
-
-pub made_next : (file : File) (ds : List Directive) (i : ℕ) (x : Directive) (o : Object) (old new : List CheckedObject)
-    (c : CheckedObject) (all : List ObjectOf) → i < length ds → x ≡ slice_index_or ds i x → x ≡ directives.Object o
-    → new ≡ old ++ c ∷ [] → object_of c ≡ object_in file (object_tree o)
-    → map object_of old ++ objects_in file (map directive_tree (drop i ds)) ≡ all
-    → map object_of new ++ objects_in file (map directive_tree (drop (i + 1) ds)) ≡ all
-made_next file ds i x o old new c all lt is one more value h =
-    let rest : List ObjectOf = objects_in file (map directive_tree (drop (i + 1) ds)) in
-    ap (λ (z : List CheckedObject). map object_of z ++ rest) more
-    ∙ ap (λ (z : List ObjectOf). z ++ rest) (map_push object_of old c)
-    ∙ append_assoc (map object_of old) (object_of c ∷ []) rest
-    ∙ ap (λ (y : ObjectOf). map object_of old ++ y ∷ rest) value
-    ∙ ap (λ (z : List ObjectOf). map object_of old ++ z) (sym (made_one file x (drop (i + 1) ds) o one))
-    ∙ ap (λ (z : List Directive). map object_of old ++ objects_in file (map directive_tree z))
-    (sym (drop_here ds i x lt is)) ∙ h
-
-pub made_end : (file : File) (ds : List Directive) (i : ℕ) (old : List CheckedObject) (all : List ObjectOf)
-    → length ds ≤ i → map object_of old ++ objects_in file (map directive_tree (drop i ds)) ≡ all
-    → map object_of old ≡ all
-made_end file ds i old all end h =
-    nothing_more (map object_of old)
-    ∙ ap (λ (z : List Directive). map object_of old ++ objects_in file (map directive_tree z)) (sym (drop_end ds i end))
-    ∙ h
 
 -- Parents
 

@@ -1,3 +1,4 @@
 pub mod NameTables
 pub mod ObjectLists
 pub mod Chains
+pub mod Sizes

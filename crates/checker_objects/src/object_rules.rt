@@ -278,7 +278,8 @@ fn repeated(names: &[Name<'_>], alloc: Global, least: &mut Option<Breach>) -> Re
     Ok(())
 }
 
-fn short_name<'a>(short: &Option<Text<'a>>) -> &'a [u8]
+/// A short name, empty where none is written.
+pub(crate) fn short_name<'a>(short: &Option<Text<'a>>) -> &'a [u8]
     ensures { result.now ≡ spec.short_name (option_map text_tree short.now) }
 {
     match short {

@@ -1,5 +1,5 @@
 -- Items that operate on words, without a fault.
-use Rattle.std.proofs.Common.{◌≡◌, ◌≢◌, ℕ, ◌-◌, ◌%◌, ◌≤◌, List, [], ◌∷◌, ◌++◌, length, Some, None, true, refl, sym, ap}
+use Rattle.std.proofs.Common.{◌≡◌, ◌≢◌, ℕ, ◌-◌, ◌%◌, ◌≤◌, List, [], ◌∷◌, ◌++◌, length, Some, None, true, refl, sym, ap, ◌∙◌}
 use Rattle.std.proofs.Common.{subst, arith}
 use Rattle.std.specs.List.{All, flat_map}
 use Rattle.std.proofs.lemmas.List.Elements.{All-cons, All-nil}
@@ -18,7 +18,8 @@ use Rattle.meaning.specs.Meaning.{with_prefix}
 use Rattle.code_values.specs.Items.{Item, Destination}
 use Rattle.code_values.specs.Items as items
 use Rattle.code_items.specs.Stack as stack
-use Rattle.code_encoding.specs.Instructions.{giving, in_place, result_in, operands, takes}
+use Rattle.code_encoding.specs.Instructions.{giving, in_place, result_in, operands, takes, top}
+use Rattle.code_instructions.specs.Instructions.{commuting}
 use Rattle.code_selection.specs.ItemBytes.{text_bytes}
 use Rattle.code.proofs.Behind.{Holds}
 use Rattle.code.proofs.Play.{stays}
@@ -138,3 +139,50 @@ module _ (c : Running) where
           (first_held m (after_takes c os) i [] parts.others)
           (omega (arith, stands.next, size, same, parts.sizes, one_length i)) (t.values world.text)
           (performs v w) t.leads
+
+  -- where it does not matter which stands first, words that are both pushed are taken as they stand
+  pub commutes_led : (item : Item) (op : Operation) (f : ℕ → ℕ → ℕ) (x y : items.Operand) (d : Destination)
+      (s : List ℕ)
+      → IsOperandHere c x → IsOperandHere c y → IsHere c d → length s ≤ 48 → ArrivesAt c item
+      → code_here c item ≡ commuting op x y d → text_bytes p.abbreviations item ≡ []
+      → least_operands op ≤ 2 → 2 ≤ most_operands op → has_result op ≡ true → FitsBranch (has_branch op) None
+      → ((v w : ℕ) → f w v ≡ f v w)
+      → ((v w : ℕ) (before : Next) (after : ℕ) (st : State)
+      → perform op before after (Some (result_in d)) None (v ∷ w ∷ []) st
+      ≡ give_result before after (Some (result_in d)) (f v w) st)
+      → LedFrom c s (stack.with_operand y (situation_here c) s
+      (λ w left. stack.with_operand x (situation_here c) left (λ v rest. to d (f v w) s rest)))
+  commutes_led item op f (items.number n) y d s is is_y is_d short stands code none least most result branch turned
+      performs =
+      reckons_led item op f (items.number n) y d s is is_y is_d short stands code none least most result branch performs
+  commutes_led item op f (items.variable x) y d s is is_y is_d short stands code none least most result branch turned
+      performs =
+      reckons_led item op f (items.variable x) y d s is is_y is_d short stands code none least most result branch
+      performs
+  commutes_led item op f items.pushed (items.number n) d s is is_y is_d short stands code none least most result branch
+      turned performs =
+      reckons_led item op f items.pushed (items.number n) d s is is_y is_d short stands code none least most result
+      branch performs
+  commutes_led item op f items.pushed (items.variable x) d s is is_y is_d short stands code none least most result
+      branch turned performs =
+      reckons_led item op f items.pushed (items.variable x) d s is is_y is_d short stands code none least most result
+      branch performs
+  commutes_led item op f items.pushed items.pushed d [] is is_y is_d short stands code none least most result branch
+      turned performs = tt
+  commutes_led item op f items.pushed items.pushed d (w ∷ []) is is_y is_d short stands code none least most result
+      branch turned performs = tt
+  commutes_led item op f items.pushed items.pushed d (w ∷ v ∷ s) is is_y is_d short stands code none least most result
+      branch turned performs =
+      let st = at_words (around c) m locals (w ∷ v ∷ s) world.text in
+      let st1 = at_words (around c) m locals (v ∷ s) world.text in
+      let st2 = at_words (around c) m locals s world.text in
+      let there = single c item (giving op (top ∷ top ∷ []) (result_in d)) code none stands in
+      gives_led c op (top ∷ top ∷ []) d (f v w) (here c) (w ∷ v ∷ s) (w ∷ v ∷ s) s m (w ∷ v ∷ []) is_d
+      (scratch_here c) (omega (arith, short)) (omega arith)
+      (shaped_result op (top ∷ top ∷ []) d least most result branch) there.held there.end
+      (two_operands st st1 st2 top top w v
+      (alone_value c items.pushed m world.text (w ∷ v ∷ s) w (v ∷ s) (scratch_here c) is_y refl)
+      (alone_value c items.pushed m world.text (v ∷ s) v s (scratch_here c) is refl))
+      (λ before after u. performs w v before after u
+      ∙ ap (λ n. give_result before after (Some (result_in d)) n u) (turned v w))
+      (stays (point (here c) world.fuel) st)

@@ -3,7 +3,9 @@ use Rattle.std.proofs.Common.{◌≡◌, ◌≢◌, ℕ, zero, suc, ◌+◌, ◌
 use Rattle.std.proofs.Common.{None, Bool, true, false, refl, ap, subst, arith, length-append}
 use Rattle.std.specs.Prelude.{nat_le, if◌then◌else◌, ◌==◌, bit_and, bit_or}
 use Rattle.std.specs.List.{flat_map}
+use Rattle.std.proofs.Math.Nat.{mul_comm}
 use Rattle.std.proofs.lemmas.Bool.{le-leb}
+use Rattle.std.proofs.lemmas.Nat.{and_comm, or_comm}
 use Rattle.zcore.specs.declared.instruction.Operand.TheVariants.{Variable}
 use Rattle.zcore.specs.declared.instruction.Operation.{Operation}
 use Rattle.zcore.specs.declared.instruction.Operation.TheVariants as operations
@@ -46,7 +48,10 @@ use Rattle.code.proofs.Temporaries.{others_held_pull}
 use Rattle.code.proofs.Alone.{Alone, by_operand, alone_count, alone_value, IsOperandHere, IsHere, next_place}
 use Rattle.code.proofs.Alone.{plain_length, gives_led}
 use Rattle.code.proofs.ItemsThatPrint.{fails_led}
-use Rattle.code.proofs.Arithmetic.{shaped_result, reckons_led}
+use Rattle.code.proofs.Arithmetic.{shaped_result, reckons_led, commutes_led}
+
+turned_sum : (v w : ℕ) → (w + v) % 65536 ≡ (v + w) % 65536
+turned_sum v w = let e : w + v ≡ v + w = omega arith in ap (λ (n : ℕ). n % 65536) e
 
 pub some_is : (y : ℕ) → (y == 0) ≡ false → 1 ≤ y
 some_is zero e = absurd cc
@@ -268,22 +273,24 @@ module _ (c : Running) where
   operate_led binaries.AndAlso x y d s is is_y is_d no_and no_or short stands = absurd (no_and refl)
   operate_led binaries.OrElse x y d s is is_y is_d no_and no_or short stands = absurd (no_or refl)
   operate_led binaries.Add x y d s is is_y is_d no_and no_or short stands =
-      reckons_led c (items.operate binaries.Add x y d) operations.Add (λ v w. (v + w) % 65536) x y d s is is_y is_d
-      short
-      stands refl refl (omega arith) (omega arith) refl tt (λ v w here after st. refl)
+      commutes_led c (items.operate binaries.Add x y d) operations.Add (λ v w. (v + w) % 65536) x y d s is is_y is_d
+      short stands refl refl (omega arith) (omega arith) refl tt turned_sum
+      (λ v w here after st. refl)
   operate_led binaries.Subtract x y d s is is_y is_d no_and no_or short stands =
       reckons_led c (items.operate binaries.Subtract x y d) operations.Sub (λ v w. (v + 65536 - w) % 65536) x y d s is
       is_y is_d short stands refl refl (omega arith) (omega arith) refl tt (λ v w here after st. refl)
   operate_led binaries.Multiply x y d s is is_y is_d no_and no_or short stands =
-      reckons_led c (items.operate binaries.Multiply x y d) operations.Mul (λ v w. v * w % 65536) x y d s is is_y is_d
-      short stands refl refl (omega arith) (omega arith) refl tt (λ v w here after st. refl)
+      commutes_led c (items.operate binaries.Multiply x y d) operations.Mul (λ v w. v * w % 65536) x y d s is is_y is_d
+      short stands refl refl (omega arith) (omega arith) refl tt (λ v w. ap (λ n. n % 65536) (mul_comm w v))
+      (λ v w here after st. refl)
   operate_led binaries.And x y d s is is_y is_d no_and no_or short stands =
-      reckons_led c (items.operate binaries.And x y d) operations.And bit_and x y d s is is_y is_d short stands refl
-      refl
-      (omega arith) (omega arith) refl tt (λ v w here after st. refl)
+      commutes_led c (items.operate binaries.And x y d) operations.And bit_and x y d s is is_y is_d
+      short stands refl refl (omega arith) (omega arith) refl tt (λ v w. and_comm w v)
+      (λ v w here after st. refl)
   operate_led binaries.Or x y d s is is_y is_d no_and no_or short stands =
-      reckons_led c (items.operate binaries.Or x y d) operations.Or bit_or x y d s is is_y is_d short stands refl refl
-      (omega arith) (omega arith) refl tt (λ v w here after st. refl)
+      commutes_led c (items.operate binaries.Or x y d) operations.Or bit_or x y d s is is_y is_d
+      short stands refl refl (omega arith) (omega arith) refl tt (λ v w. or_comm w v)
+      (λ v w here after st. refl)
   operate_led binaries.Divide x y d s is is_y is_d no_and no_or short stands =
       divided_led (items.operate binaries.Divide x y d) operations.Div quotient x y d s is is_y is_d short stands refl
       refl (omega arith) (omega arith) refl tt (λ v w e here after st. divides here after (result_in d) v w st e)

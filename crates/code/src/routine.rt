@@ -22,6 +22,9 @@ use meaning::Checked;
 use std::alloc::{AllocError, Global};
 use std::marker::Model;
 
+/// Most items have no more bytes: so much memory is asked for at once, and more where it is needed.
+const BYTES_OF_ITEM: usize = 8;
+
 /// The code of a routine, ready to be written where the routine stands.
 #[derive(Drop)]
 pub struct Code<'a, 'b> {
@@ -75,8 +78,8 @@ fn parts_of(alloc: Global, sizes: &Sizes<'_>, items: &[Item<'_>]) -> Result<Vec<
         arrays: &[],
         faults: &[],
     };
-    let mut bytes = Vec::new(alloc);
-    let mut parts = Vec::new(alloc);
+    let mut bytes = Vec::with_capacity(alloc, items.len().saturating_mul(BYTES_OF_ITEM))?;
+    let mut parts = Vec::with_capacity(alloc, items.len())?;
     for item in items {
         let before = bytes.len();
         put_item(&mut bytes, alloc, sizes, &addresses, 2, item)?;
@@ -207,7 +210,7 @@ impl Code<'_, '_> {
             self.now.items)) }
         ensures kept { OnErr result (story.new.items ≡ story.old.items) }
     {
-        let mut bytes = Vec::new(self.alloc);
+        let mut bytes = Vec::with_capacity(self.alloc, self.length)?;
         bytes.push((self.locals % 256) as u8)?;
         put_items(
             &mut bytes,

@@ -125,7 +125,7 @@ pub fn lay_out(alloc: Global, parts: &[Part]) -> Result<Vec<usize>, AllocError>
     requires { first (lefts 0 parts.now) < bytes_limit }
     ensures { IfOk result (λ left. left.items ≡ reverse (lefts 0 parts.now)) }
 {
-    let mut left = Vec::new(alloc);
+    let mut left = Vec::with_capacity(alloc, parts.len().saturating_add(1))?;
     left.push(0)?;
     let mut end = 0;
     for done in 0..parts.len() {
@@ -150,7 +150,7 @@ pub fn branches(alloc: Global, parts: &[Part], left: &[usize]) -> Result<Vec<Bra
     ensures uses { IfOk result (λ found. found.items ≡ uses 0 parts.now) }
     ensures shortest { IfOk result (λ found. All IsShortest found.items) }
 {
-    let mut found = Vec::new(alloc);
+    let mut found = Vec::with_capacity(alloc, parts.len())?;
     for number in 0..parts.len() {
         if let Some(target) = parts[number].target {
             let behind = &left[..parts.len() - number];

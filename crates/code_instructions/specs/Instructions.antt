@@ -25,7 +25,7 @@ use Rattle.code_values.specs.Items.{Destination, Test}
 use Rattle.code_values.specs.Items as items
 use Rattle.code_encoding.specs.Addresses.{Addresses, fault_address}
 use Rattle.code_encoding.specs.Instructions.{plain, giving, branching, number_of, temporary, constant, push, pull, copy}
-use Rattle.code_encoding.specs.Instructions.{store, fail, in_place, takes, operands, result_in}
+use Rattle.code_encoding.specs.Instructions.{store, fail, in_place, takes, operands, result_in, top}
 
 -- 1 is pushed where a branch leads to the last of these, by 8 from the one before them, and else 0
 abbrev pub flag : List Instruction
@@ -49,6 +49,12 @@ prefix_code prefixes.Not o d = []
 abbrev pub arithmetic : Operation → items.Operand → items.Operand → Destination → List Instruction
 arithmetic operation a b d = takes (a ∷ b ∷ []) ++ giving operation (operands (a ∷ b ∷ [])) (result_in d) ∷ []
 
+-- Of two pushed words the right one is on the top. Where it does not matter which stands first, they are taken from the
+-- stack as they stand there.
+abbrev pub commuting : Operation → items.Operand → items.Operand → Destination → List Instruction
+commuting operation items.pushed items.pushed d = giving operation (top ∷ top ∷ []) (result_in d) ∷ []
+commuting operation a b d = arithmetic operation a b d
+
 -- a division by the word of a variable, which is tested first
 abbrev pub divided_by : Addresses → Operation → items.Operand → ℕ → Destination → List Instruction
 divided_by a operation x variable d =
@@ -67,13 +73,13 @@ divided a operation x (items.variable y) d = divided_by a operation x (number_of
 abbrev pub binary_code : Addresses → Binary → items.Operand → items.Operand → Destination → List Instruction
 binary_code a binaries.AndAlso x y d = []
 binary_code a binaries.OrElse x y d = []
-binary_code a binaries.Add x y d = arithmetic Add x y d
+binary_code a binaries.Add x y d = commuting Add x y d
 binary_code a binaries.Subtract x y d = arithmetic Sub x y d
-binary_code a binaries.Multiply x y d = arithmetic Mul x y d
+binary_code a binaries.Multiply x y d = commuting Mul x y d
 binary_code a binaries.Divide x y d = divided a Div x y d
 binary_code a binaries.Remainder x y d = divided a Mod x y d
-binary_code a binaries.And x y d = arithmetic And x y d
-binary_code a binaries.Or x y d = arithmetic Or x y d
+binary_code a binaries.And x y d = commuting And x y d
+binary_code a binaries.Or x y d = commuting Or x y d
 
 abbrev pub step_operation : Step → Operation
 step_operation steps.Increment = Increment

@@ -6,7 +6,7 @@ ghost use Rattle.code_values.specs.Items as source_items;
 ghost use Rattle.code_values.specs.Code.{as_operand, as_destination};
 ghost use Rattle.code_encoding.specs.Bytes.{AddsCode};
 ghost use Rattle.code_encoding.specs.Written.{addresses_of, instruction_of};
-ghost use Rattle.code_instructions.specs.Instructions.{prefix_code, arithmetic, divided, divided_by};
+ghost use Rattle.code_instructions.specs.Instructions.{prefix_code, arithmetic, commuting, divided, divided_by};
 ghost use Rattle.code_instructions.specs.Instructions.{binary_code, first_equal_code, also_equal_code};
 ghost use Rattle.code_instructions.specs.Instructions.{flag};
 
@@ -67,6 +67,38 @@ fn put_arithmetic(
     put_named(&mut named, &operands)?;
     put_instruction(bytes, operation, &named, Some(result_in(destination)), None)?;
     Ok(())
+}
+
+/// An operation on two words of which it does not matter which stands first: where both are pushed,
+/// they are taken as they stand.
+fn put_commuting(
+    bytes: &mut Vec<u8>,
+    alloc: Global,
+    operation: Operation,
+    left: code_values::Operand,
+    right: code_values::Operand,
+    destination: Destination,
+) -> Result<(), AllocError>
+    ensures { OnOk result (AddsCode bytes.old bytes.new
+        (commuting operation (as_operand left) (as_operand right) (as_destination destination))) }
+{
+    match left {
+        code_values::Operand::Pushed => match right {
+            code_values::Operand::Pushed => {
+                let operands = Operands::Two(in_place(left), in_place(right));
+                put_all(
+                    bytes,
+                    &[giving(operation, operands, result_in(destination))],
+                )
+            }
+            code_values::Operand::Number(_) | code_values::Operand::Variable(_) => {
+                put_arithmetic(bytes, alloc, operation, left, right, destination)
+            }
+        },
+        code_values::Operand::Number(_) | code_values::Operand::Variable(_) => {
+            put_arithmetic(bytes, alloc, operation, left, right, destination)
+        }
+    }
 }
 
 /// A division by the word of a variable, or the text of the fault that it is 0, and the story ends.
@@ -171,13 +203,15 @@ pub fn put_binary(
         Binary::Remainder => {
             return put_division(bytes, addresses, Operation::Mod, left, right, destination);
         }
+        Binary::Subtract => {
+            return put_arithmetic(bytes, alloc, Operation::Sub, left, right, destination);
+        }
         Binary::Add => Operation::Add,
-        Binary::Subtract => Operation::Sub,
         Binary::Multiply => Operation::Mul,
         Binary::And => Operation::And,
         Binary::Or => Operation::Or,
     };
-    put_arithmetic(bytes, alloc, operation, left, right, destination)
+    put_commuting(bytes, alloc, operation, left, right, destination)
 }
 
 /// A branch over 6 bytes, and 1 or 0 that is pushed.

@@ -5,4 +5,4 @@ mod laws;
 mod story;
 
 pub use laws::{stories_are_short, stories_hold};
-pub use story::{Story, compile, compile_for, compile_placed};
+pub use story::{Story, compile, compile_for, compile_once, compile_placed};

@@ -9,12 +9,13 @@ ghost use Rattle.story.specs.FaultPlaces.{PlacesUnfit, PlacesTooDeep};
 use crate::laws::{stories_are_short, stories_hold};
 use checker::{accepted_programs, check_placed, printable_programs};
 use code::code_plays;
-use meaning::test_sizes_placed;
+use meaning::{Checked, test_sizes_placed};
 use std::alloc::Global;
 use std::marker::Model;
+use std::mem::forget;
 use story_file::write_story;
 use story_sizes::small_sources_have_small_code;
-use syntax::{parse_placed, printable_trees};
+use syntax::{Program, parse_placed, printable_trees};
 use syntax_lexer::{PlacedFault, SourceFault, lex_placed, printable_tokens};
 use zcore::Version;
 
@@ -89,17 +90,39 @@ pub fn compile_for(alloc: Global, source: &[u8], version: Version) -> Result<Sto
     }
 }
 
-/// The story of a source, as [`compile_for`] makes it, or the fault with its place.
-///
-/// # Errors
-///
-/// Those of [`compile_for`]. The offset is that of the byte, the token or the first token of what
-/// is at fault; E30, E31 and E99 have none.
-pub fn compile_placed(alloc: Global, source: &[u8], version: Version) -> Result<Story, PlacedFault>
+/// What becomes of the memory in which the trees of a source stand.
+#[derive(Clone, Copy)]
+enum Trees {
+    /// It is given back, part by part.
+    GivenBack,
+
+    /// It is left to the system, which takes it back when the program ends.
+    Left,
+}
+
+// The trees are not needed any more.
+fn leave(checked: Checked<'_>, program: Program<'_>, trees: Trees) {
+    match trees {
+        Trees::GivenBack => {
+            drop(checked);
+            drop(program);
+        }
+        Trees::Left => {
+            forget(checked);
+            forget(program);
+        }
+    }
+}
+
+// The story of a source, or the fault with its place.
+fn compile_in(
+    alloc: Global,
+    source: &[u8],
+    version: Version,
+    trees: Trees,
+) -> Result<Story, PlacedFault>
     ensures compiles { Compiles version source.now (unplaced result) }
-    // A fault of the grammar stands at the first token with which no program begins.
     ensures unfit { PlacesUnfit source.now result }
-    // A fault of nesting stands at the first token that is nested too deep.
     ensures too_deep { PlacesTooDeep source.now result }
 {
     accepted_programs();
@@ -114,8 +137,40 @@ pub fn compile_placed(alloc: Global, source: &[u8], version: Version) -> Result<
     let program = parse_placed(alloc, &tokens)?;
     // The tree names no token, and they may take more memory than it.
     drop(tokens);
-    let checked = check_placed(alloc, program)?;
+    let checked = check_placed(alloc, &program)?;
     test_sizes_placed(&checked, version)?;
     let bytes = write_story(alloc, &checked, version)?;
+    leave(checked, program, trees);
     Ok(Story::of_bytes(bytes))
+}
+
+/// The story of a source, as [`compile_for`] makes it, or the fault with its place.
+///
+/// # Errors
+///
+/// Those of [`compile_for`]. The offset is that of the byte, the token or the first token of what
+/// is at fault; E30, E31 and E99 have none.
+pub fn compile_placed(alloc: Global, source: &[u8], version: Version) -> Result<Story, PlacedFault>
+    ensures compiles { Compiles version source.now (unplaced result) }
+    // A fault of the grammar stands at the first token with which no program begins.
+    ensures unfit { PlacesUnfit source.now result }
+    // A fault of nesting stands at the first token that is nested too deep.
+    ensures too_deep { PlacesTooDeep source.now result }
+{
+    compile_in(alloc, source, version, Trees::GivenBack)
+}
+
+/// As [`compile_placed`], for a program that compiles one source and ends: the memory of the trees
+/// of a source that has a story is left to the system. To give it back takes about a seventh of
+/// the whole.
+///
+/// # Errors
+///
+/// Those of [`compile_placed`].
+pub fn compile_once(alloc: Global, source: &[u8], version: Version) -> Result<Story, PlacedFault>
+    ensures compiles { Compiles version source.now (unplaced result) }
+    ensures unfit { PlacesUnfit source.now result }
+    ensures too_deep { PlacesTooDeep source.now result }
+{
+    compile_in(alloc, source, version, Trees::Left)
 }

@@ -4,10 +4,11 @@ ghost use Rattle.story_diagnosis.specs.Diagnosed.{Diagnoses};
 
 use source_places::{Diagnosis, located};
 use std::alloc::Global;
-use story::{Story, compile_placed};
+use story::{Story, compile_once};
 use zcore::Version;
 
-/// The story of a source in a version, or why the source is refused, and where.
+/// The story of a source in a version, or why the source is refused, and where. It is for a program
+/// that compiles one source and ends: the memory of the source's trees is left to the system.
 ///
 /// # Errors
 ///
@@ -15,7 +16,7 @@ use zcore::Version;
 pub fn diagnose(alloc: Global, source: &[u8], version: Version) -> Result<Story, Diagnosis>
     ensures { Diagnoses version source.now result }
 {
-    match compile_placed(alloc, source, version) {
+    match compile_once(alloc, source, version) {
         Ok(story) => Ok(story),
         Err(placed) => Err(located(source, placed)),
     }

@@ -20,7 +20,7 @@ use crate::high::add_text;
 use crate::objects::put_objects;
 use crate::packed::{add_text_sizes, array_addresses};
 use crate::words::{put_word, put_words, put_zeros};
-use meaning::{Checked, part_places};
+use meaning::{Checked, Places};
 use std::alloc::{AllocError, Global};
 use tables::layout::{DICTIONARY_ENTRY_LENGTH, DICTIONARY_HEAD_LENGTH};
 use zcore::layout::GLOBAL_COUNT;
@@ -128,12 +128,12 @@ fn put_dictionary(bytes: &mut Vec<u8>, keys: &[u64]) -> Result<(), AllocError>
 
 /// How many bytes stand between the dictionary and the texts of abbreviations, which begin at an
 /// even address.
-fn filling(checked: &Checked<'_>) -> usize
-    requires { places.routines_place (program_of checked.now) ≤ greatest_word }
+fn filling(checked: &Checked<'_>, at: Places) -> usize
+    requires at { at ≡ places.places_of (program_of checked.now) }
+    requires fits { places.routines_place (program_of checked.now) ≤ greatest_word }
     ensures { result ≡ places.filling_before checked.now.abbreviations
         (places.dictionary_end (program_of checked.now)) }
 {
-    let at = part_places(checked);
     at.texts
         - (at.dictionary + DICTIONARY_HEAD_LENGTH + DICTIONARY_ENTRY_LENGTH * checked.keys().len())
 }
@@ -159,20 +159,22 @@ fn put_start(bytes: &mut Vec<u8>, main: u16) -> Result<(), AllocError>
 }
 
 /// Where the arrays stand: behind the globals.
-pub fn arrays_place(checked: &Checked<'_>) -> usize
-    requires { places.routines_place (program_of checked.now) ≤ greatest_word }
+pub fn arrays_place(checked: &Checked<'_>, at: Places) -> usize
+    requires { at ≡ places.places_of (program_of checked.now) }
     ensures { result ≡ places.arrays_place }
 {
-    part_places(checked).globals + 2 * GLOBAL_COUNT
+    at.globals + 2 * GLOBAL_COUNT
 }
 
-/// All that stands between the header and the routines.
+/// All that stands between the header and the routines, where these are the places of its parts.
 pub fn put_low(
     alloc: Global,
     bytes: &mut Vec<u8>,
     checked: &Checked<'_>,
+    at: Places,
     main: u16,
 ) -> Result<(), AllocError>
+    requires at { at ≡ places.places_of (program_of checked.now) }
     requires globals { length checked.now.globals ≤ global_count }
     requires objects { ObjectsFit (program_of checked.now) }
     requires keys { length checked.now.keys ≤ greatest_word }
@@ -181,13 +183,13 @@ pub fn put_low(
     ensures { OnOk result (Adds bytes.old bytes.new (low_bytes (program_of checked.now) main)) }
 {
     let texts = z_texts(alloc, checked.abbreviations().texts())?;
-    put_table(alloc, bytes, &texts, part_places(checked).texts)?;
+    put_table(alloc, bytes, &texts, at.texts)?;
     put_word(bytes, NO_CHARACTERS)?;
     put_globals(bytes, checked.globals())?;
     bytes.extend_from_slice(checked.array_bytes())?;
-    put_objects(alloc, bytes, checked)?;
+    put_objects(alloc, bytes, checked, at)?;
     put_dictionary(bytes, checked.keys())?;
-    put_zeros(bytes, filling(checked))?;
+    put_zeros(bytes, filling(checked, at))?;
     put_all(bytes, &texts)?;
     put_start(bytes, main)?;
     Ok(())

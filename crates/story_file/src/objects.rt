@@ -14,7 +14,7 @@ ghost use Rattle.story_file.specs.Written.{ObjectsFit};
 ghost use Rattle.code_encoding.specs.Bytes.{Adds};
 
 use crate::links::{Links, links_of};
-use meaning::{Checked, CheckedObject, machine_character, part_places};
+use meaning::{Checked, CheckedObject, Places, machine_character};
 use std::alloc::{AllocError, Global};
 use tables::{ObjectRow, TableFault, write_objects};
 use zcore::layout::DEFAULT_COUNT;
@@ -166,17 +166,19 @@ fn table(
     }
 }
 
-/// The property defaults, the entries of objects, and their property tables.
+/// The property defaults, the entries of objects, and their property tables, where these are the
+/// places of the story's parts.
 pub fn put_objects(
     alloc: Global,
     bytes: &mut Vec<u8>,
     checked: &Checked<'_>,
+    at: Places,
 ) -> Result<(), AllocError>
-    requires { ObjectsFit (program_of checked.now) }
+    requires at { at ≡ places.places_of (program_of checked.now) }
+    requires fit { ObjectsFit (program_of checked.now) }
     ensures { OnOk result (Adds bytes.old bytes.new (object_bytes (program_of checked.now))) }
 {
     let rows = rows(alloc, checked.objects())?;
-    let at = part_places(checked).defaults as u16;
-    let table = table(alloc, &rows, checked.defaults(), at)?;
+    let table = table(alloc, &rows, checked.defaults(), at.defaults as u16)?;
     bytes.extend_from_slice(&table)
 }

@@ -3,6 +3,7 @@
 ghost use Rattle.std.specs.Prelude.{◌≡◌, ◌≤◌, ◌<◌, IfOk, drop, length, map};
 ghost use Rattle.zcore.specs.Header.{scale_of};
 ghost use Rattle.meaning.specs.Meaning.{routine_at};
+ghost use Rattle.meaning.specs.Places.{places_of};
 ghost use Rattle.meaning.specs.Resolved.{program_of};
 ghost use Rattle.code_encoding.specs.Written.{addresses_of};
 ghost use Rattle.code.specs.HeldProgram.{sizes_of};
@@ -14,7 +15,7 @@ use crate::header::put_header;
 use crate::high::{add_text, put_routines, put_texts};
 use crate::packed::{add_text_sizes, array_addresses, code_sizes, packed_addresses};
 use code::{Addresses, Code, CodeFault, routine_code};
-use meaning::{Checked, part_places};
+use meaning::{Checked, Places, part_places};
 use std::alloc::{AllocError, Global};
 use zcore::Version;
 
@@ -82,20 +83,26 @@ fn codes_of<'a, 'b>(
     Ok(codes)
 }
 
-/// The bytes behind the header.
-fn body_of(alloc: Global, version: Version, checked: &Checked<'_>) -> Result<Vec<u8>, AllocError>
-    requires { FitsStory version (program_of checked.now) }
+/// The bytes behind the header, where these are the places of the parts.
+fn body_of(
+    alloc: Global,
+    version: Version,
+    checked: &Checked<'_>,
+    at: Places,
+) -> Result<Vec<u8>, AllocError>
+    requires at { at ≡ places_of (program_of checked.now) }
+    requires fits { FitsStory version (program_of checked.now) }
     ensures { IfOk result (λ v. v.items ≡ layout.body_of version (program_of checked.now)) }
 {
     let codes = codes_of(alloc, checked)?;
     let texts = fault_texts(alloc)?;
     let mut sizes = code_sizes(alloc, &codes)?;
     add_text_sizes(&mut sizes, &texts)?;
-    let packed = packed_addresses(alloc, version, part_places(checked).routines, &sizes)?;
-    let arrays = array_addresses(alloc, arrays_place(checked), checked.array_sizes())?;
+    let packed = packed_addresses(alloc, version, at.routines, &sizes)?;
+    let arrays = array_addresses(alloc, arrays_place(checked, at), checked.array_sizes())?;
     let addresses = addresses_in(&packed, codes.len(), &arrays);
     let mut body = Vec::new(alloc);
-    put_low(alloc, &mut body, checked, packed[checked.main()])?;
+    put_low(alloc, &mut body, checked, at, packed[checked.main()])?;
     put_routines(&mut body, version, &codes, &addresses)?;
     put_texts(&mut body, version, &texts)?;
     Ok(body)
@@ -114,9 +121,10 @@ pub fn write_story(
     requires { FitsStory version (program_of checked.now) }
     ensures { IfOk result (λ v. v.items ≡ layout.story_of version (program_of checked.now)) }
 {
-    let body = body_of(alloc, version, checked)?;
+    let at = part_places(checked);
+    let body = body_of(alloc, version, checked, at)?;
     let mut story = Vec::new(alloc);
-    put_header(&mut story, version, part_places(checked), &body)?;
+    put_header(&mut story, version, at, &body)?;
     story.extend_from_slice(&body)?;
     Ok(story)
 }

@@ -24,7 +24,7 @@ use Rattle.code_branch_forms.specs.Layout.{first}
 use Rattle.code_encoding.specs.Instructions as spec
 use Rattle.code_encoding.specs.Instructions.{plain, giving, in_place, constant, operands, takes, result_in, fail}
 use Rattle.code_encoding.specs.Bytes.{bytes_of_all}
-use Rattle.code_instructions.specs.Instructions.{arithmetic, divided, binary_code, prefix_code, move_code, step_code}
+use Rattle.code_instructions.specs.Instructions.{arithmetic, commuting, divided, binary_code, prefix_code, move_code, step_code}
 use Rattle.code_instructions.specs.Instructions.{character_code}
 use Rattle.code_objects.specs.ObjectCode.{assigned_takes, assigned_word, passed_on}
 use Rattle.code_selection.specs.ItemCode.{entries_in, load_operation, store_operation, at_index, entry_code}
@@ -43,6 +43,21 @@ arithmetic_few : (op : Operation) (x y : items.Operand) (d : Destination) → ha
 arithmetic_few op x y d e =
     let i = giving op (operands (x ∷ y ∷ [])) (result_in d) in
     omega (arith, all_length (takes (x ∷ y ∷ [])) (i ∷ []), one_length i, few_bytes i e, taken_few (x ∷ y ∷ []))
+
+commuting_few : (op : Operation) (x y : items.Operand) (d : Destination) → has_more_types op ≡ false
+    → length (bytes_of_all (commuting op x y d)) ≤ 11
+commuting_few op items.pushed items.pushed d e =
+    let i = giving op (in_place items.pushed ∷ in_place items.pushed ∷ []) (result_in d) in
+    omega (
+      arith,
+      giving_few op (in_place items.pushed) (in_place items.pushed) (result_in d) e,
+      operand_few items.pushed,
+      one_length i,
+    )
+commuting_few op items.pushed (items.number n) d e = arithmetic_few op items.pushed (items.number n) d e
+commuting_few op items.pushed (items.variable v) d e = arithmetic_few op items.pushed (items.variable v) d e
+commuting_few op (items.number n) y d e = arithmetic_few op (items.number n) y d e
+commuting_few op (items.variable v) y d e = arithmetic_few op (items.variable v) y d e
 
 divided_few : (op : Operation) (x y : items.Operand) (d : Destination) → has_more_types op ≡ false
     → length (bytes_of_all (divided no_addresses op x y d)) ≤ 16
@@ -78,13 +93,13 @@ pub binary_few : (op : Binary) (x y : items.Operand) (d : Destination)
     → length (bytes_of_all (binary_code no_addresses op x y d)) ≤ 16
 binary_few binaries.AndAlso x y d = omega arith
 binary_few binaries.OrElse x y d = omega arith
-binary_few binaries.Add x y d = omega (arith, arithmetic_few operations.Add x y d refl)
+binary_few binaries.Add x y d = omega (arith, commuting_few operations.Add x y d refl)
 binary_few binaries.Subtract x y d = omega (arith, arithmetic_few operations.Sub x y d refl)
-binary_few binaries.Multiply x y d = omega (arith, arithmetic_few operations.Mul x y d refl)
+binary_few binaries.Multiply x y d = omega (arith, commuting_few operations.Mul x y d refl)
 binary_few binaries.Divide x y d = divided_few operations.Div x y d refl
 binary_few binaries.Remainder x y d = divided_few operations.Mod x y d refl
-binary_few binaries.And x y d = omega (arith, arithmetic_few operations.And x y d refl)
-binary_few binaries.Or x y d = omega (arith, arithmetic_few operations.Or x y d refl)
+binary_few binaries.And x y d = omega (arith, commuting_few operations.And x y d refl)
+binary_few binaries.Or x y d = omega (arith, commuting_few operations.Or x y d refl)
 
 pub prefix_few : (op : Prefix) (o : items.Operand) (d : Destination) → length (bytes_of_all (prefix_code op o d)) ≤ 6
 prefix_few prefixes.Minus o d =

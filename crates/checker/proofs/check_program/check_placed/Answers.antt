@@ -6,18 +6,18 @@ use Rattle.checker.proofs.check_program.check_placed.Goals as goal
 
 pub returns-in-None-clause-answers : goal.returns-in-None-clause-answers
 returns-in-None-clause-answers c = (
-  first_law (program_breaches (program_tree c.args.program)) None (sym c.in-Ok.ensures.breaches ∙ c.in-None.is),
+  first_law (program_breaches (program_tree c.args.program.now)) None (sym c.in-Ok.ensures.breaches ∙ c.in-None.is),
   c.in-Ok.ensures.value,
 )
 
 pub returns-in-Ok-clause-answers : goal.returns-in-Ok-clause-answers
 returns-in-Ok-clause-answers c =
-    let l = first_law (program_breaches (program_tree c.args.program)) (Some c.in-Some.breach)
+    let l = first_law (program_breaches (program_tree c.args.program.now)) (Some c.in-Some.breach)
     (sym c.in-Ok.ensures.breaches ∙ c.in-Some.is) in
     inr (c.in-Some.breach, l.0, l.1, c.fault.ensures.number, c.fault.ensures.line)
 
 pub returns-in-Ok-clause-stands : goal.returns-in-Ok-clause-stands
 returns-in-Ok-clause-stands c =
-    let l = first_law (program_breaches (program_tree c.args.program)) (Some c.in-Some.breach)
+    let l = first_law (program_breaches (program_tree c.args.program.now)) (Some c.in-Some.breach)
     (sym c.in-Ok.ensures.breaches ∙ c.in-Some.is) in
     inr (c.in-Some.breach, l.0, l.1, refl)

@@ -2,8 +2,6 @@ use Rattle.std.proofs.Common.{ℕ, List, Bor, refl, ap, ◌∙◌}
 use Rattle.std.specs.Prelude.{map}
 use Rattle.checker_names.specs.Keys.{keys_of}
 use Rattle.checker_names.specs.Scope.{file_in}
-use Rattle.meaning.specs.declared.checked.CheckedObject.{CheckedObject}
-use Rattle.meaning.specs.Resolved.{object_of}
 use Rattle.checker.proofs.Numbered.{file_numbered}
 use Rattle.checker.proofs.check_program.numbered.Goals as goal
 
@@ -11,10 +9,10 @@ pub returns-clause-file : goal.returns-clause-file
 returns-clause-file c =
     file_numbered c.args.program.now c.deref.result.now c.deref-2.result.now c.deref-3.result.now
     (file_in c.in_ok-first.first) c.in_ok-first.first.table.entries c.in_ok-keys.keys.items c.in_ok-bytes.bytes
-    c.objects_size.result c.dictionary_behind.result (map object_of c.deref-4.result.now)
+    c.listed_objects_size-objects.result c.dictionary_behind.result
     c.in_ok-first.ensures refl c.deref.ensures.value c.deref-2.ensures.value c.in_ok-bytes.ensures.bytes
-    (ap (λ (os : List CheckedObject). map object_of os) c.deref-4.ensures.value ∙ c.in_ok-objects.ensures)
-    c.objects_size.ensures.size c.dictionary_behind.ensures.place c.deref-3.ensures.value c.in_ok-keys.ensures.keys
+    c.listed_objects_size-objects.ensures.size c.dictionary_behind.ensures.place c.deref-3.ensures.value
+    c.in_ok-keys.ensures.keys
 
 pub returns-clause-keys : goal.returns-clause-keys
 returns-clause-keys c =

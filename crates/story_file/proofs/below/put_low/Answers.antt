@@ -17,7 +17,7 @@ put_table-requires-clause-placed c =
     ∙ ap (λ (ts : List (List ℕ)). map encoded ts) (c.texts.ensures ∙ c.abbreviations.ensures) in
     omega (
       arith,
-      ap (λ (at : Places). at.texts) c.part_places.ensures,
+      ap (λ (at : Places). at.texts) c.requires.at,
       sizes_total p c.deref.result.now texts,
       c.requires.objects.placed,
     )
@@ -35,7 +35,7 @@ returns c =
     c.put_dictionary.new.bytes.items c.put_zeros.new.bytes.items c.put_all.new.bytes.items
     c.put_start.new.bytes.items
     (c.in_ok-put_table.ensures ∙ ap (λ z. c.args.bytes.now.items ++ z) (table_is p c.deref.result.now
-    c.part_places.result.texts c.requires.few (ap (λ (at : Places). at.texts) c.part_places.ensures) texts))
+    c.args.at.texts c.requires.few (ap (λ (at : Places). at.texts) c.requires.at) texts))
     c.in_ok-put_word.ensures
     (c.in_ok-put_globals.ensures ∙ ap (λ gs. c.put_word.new.bytes.items ++ global_bytes gs) c.globals.ensures)
     (c.in_ok-extend_from_slice.ensures.items ∙ ap (λ z. c.put_globals.new.bytes.items ++ z) c.array_bytes.ensures)

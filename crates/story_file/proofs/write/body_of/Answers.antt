@@ -17,9 +17,9 @@ packed_addresses-requires c =
     let texts = map bytes_in c.in_ok-texts.texts.items in
     subst (λ (at : Places). end_from (scale_of c.args.version) at.routines c.deref-3.result.now
     ≤ 65535 * scale_of c.args.version)
-    (sym c.part_places.ensures)
+    (sym c.requires.at)
     (packed_within c.args.version (program_of c.args.checked.now) c.deref.result.now texts c.deref-3.result.now
-    c.requires (c.deref.ensures.value ∙ c.in_ok-codes.ensures) c.in_ok-texts.ensures
+    c.requires.fits (c.deref.ensures.value ∙ c.in_ok-codes.ensures) c.in_ok-texts.ensures
     (c.deref-3.ensures.value ∙ sizes_of_texts c.deref.result.now c.in_ok-texts.texts.items c.deref-2.result.now
     c.in_ok-sizes.sizes.items c.add_text_sizes.new.sizes.items c.deref-2.ensures.value c.in_ok-sizes.ensures
     c.in_ok-add_text_sizes.ensures))
@@ -27,11 +27,11 @@ packed_addresses-requires c =
 pub array_addresses-requires : goal.array_addresses-requires
 array_addresses-requires c =
     arrays_within (program_of c.args.checked.now) c.arrays_place.result c.array_sizes.result.now
-    c.requires.placed c.arrays_place.ensures c.array_sizes.ensures
+    c.requires.fits.placed c.arrays_place.ensures c.array_sizes.ensures
 
 pub addresses_in-addresses-requires : goal.addresses_in-addresses-requires
 addresses_in-addresses-requires c =
-    let count = packed_counted c.args.version c.part_places.result.routines c.deref.result.now
+    let count = packed_counted c.args.version c.args.at.routines c.deref.result.now
     (map bytes_in c.in_ok-texts.texts.items) c.deref-3.result.now c.in_ok-packed.packed.items
     (c.deref-3.ensures.value ∙ sizes_of_texts c.deref.result.now c.in_ok-texts.texts.items c.deref-2.result.now
     c.in_ok-sizes.sizes.items c.add_text_sizes.new.sizes.items c.deref-2.ensures.value c.in_ok-sizes.ensures
@@ -40,35 +40,35 @@ addresses_in-addresses-requires c =
 
 pub index-requires : goal.index-requires
 index-requires c =
-    let count = packed_counted c.args.version c.part_places.result.routines c.deref.result.now
+    let count = packed_counted c.args.version c.args.at.routines c.deref.result.now
     (map bytes_in c.in_ok-texts.texts.items) c.deref-3.result.now c.in_ok-packed.packed.items
     (c.deref-3.ensures.value ∙ sizes_of_texts c.deref.result.now c.in_ok-texts.texts.items c.deref-2.result.now
     c.in_ok-sizes.sizes.items c.add_text_sizes.new.sizes.items c.deref-2.ensures.value c.in_ok-sizes.ensures
     c.in_ok-add_text_sizes.ensures) c.in_ok-packed.ensures in
     let codes = codes_counted (program_of c.args.checked.now) c.deref.result.now (c.deref.ensures.value
     ∙ c.in_ok-codes.ensures) in
-    omega (arith, count, codes, c.requires.accepted.main, c.main.ensures, c.in_ok-packed.packed.ok.0)
+    omega (arith, count, codes, c.requires.fits.accepted.main, c.main.ensures, c.in_ok-packed.packed.ok.0)
 
 pub put_low-requires-clause-objects : goal.put_low-requires-clause-objects
 put_low-requires-clause-objects c = record {
-  few = c.requires.accepted.few;
-  proper = record { each = c.requires.accepted.objects; names = c.requires.printable.1 };
-  defaults = c.requires.accepted.defaults.0;
-  placed = c.requires.placed;
+  few = c.requires.fits.accepted.few;
+  proper = record { each = c.requires.fits.accepted.objects; names = c.requires.fits.printable.1 };
+  defaults = c.requires.fits.accepted.defaults.0;
+  placed = c.requires.fits.placed;
 }
 
 pub put_low-requires-clause-keys : goal.put_low-requires-clause-keys
-put_low-requires-clause-keys c = omega (arith, c.requires.placed)
+put_low-requires-clause-keys c = omega (arith, c.requires.fits.placed)
 
 pub put_low-requires-clause-few : goal.put_low-requires-clause-few
-put_low-requires-clause-few c = c.requires.accepted.few_abbreviations
+put_low-requires-clause-few c = c.requires.fits.accepted.few_abbreviations
 
 pub put_low-requires-clause-printable : goal.put_low-requires-clause-printable
-put_low-requires-clause-printable c = c.requires.printable.2
+put_low-requires-clause-printable c = c.requires.fits.printable.2
 
 pub put_routines-requires : goal.put_routines-requires
 put_routines-requires c =
-    codes_ready c.args.version (program_of c.args.checked.now) c.deref-6.result.now c.requires
+    codes_ready c.args.version (program_of c.args.checked.now) c.deref-6.result.now c.requires.fits
     (c.deref-6.ensures.value ∙ c.in_ok-codes.ensures)
 
 pub returns : goal.returns
@@ -80,7 +80,7 @@ returns c =
     ≡ packed_from (scale_of c.args.version) (routines_place p) c.deref-3.result.now =
     c.in_ok-packed.ensures
     ∙ ap (λ (at : Places). packed_from (scale_of c.args.version) at.routines c.deref-3.result.now)
-    c.part_places.ensures in
+    c.requires.at in
     let packed : c.in_ok-packed.packed.items ≡ packed_addresses (scale_of c.args.version) p =
     packed_are c.args.version p c.deref.result.now texts c.deref-3.result.now c.in_ok-packed.packed.items codes
     c.in_ok-texts.ensures
@@ -98,13 +98,13 @@ returns c =
     (c.deref-4.ensures.value ∙ packed) (c.deref-5.ensures.value ∙ arrays) count c.addresses_in-addresses.ensures in
     let same : a.routines ≡ c.in_ok-packed.packed.items =
     ap (λ x. x.routines) c.addresses_in-addresses.ensures ∙ c.deref-4.ensures.value in
-    let counted = packed_counted c.args.version c.part_places.result.routines c.deref.result.now
+    let counted = packed_counted c.args.version c.args.at.routines c.deref.result.now
     (map bytes_in c.in_ok-texts.texts.items) c.deref-3.result.now c.in_ok-packed.packed.items
     (c.deref-3.ensures.value ∙ sizes_of_texts c.deref.result.now c.in_ok-texts.texts.items c.deref-2.result.now
     c.in_ok-sizes.sizes.items c.add_text_sizes.new.sizes.items c.deref-2.ensures.value c.in_ok-sizes.ensures
     c.in_ok-add_text_sizes.ensures) c.in_ok-packed.ensures in
     let there : c.main.result < length c.in_ok-packed.packed.items =
-    omega (arith, counted, codes_counted p c.deref.result.now codes, c.requires.accepted.main, c.main.ensures) in
+    omega (arith, counted, codes_counted p c.deref.result.now codes, c.requires.fits.accepted.main, c.main.ensures) in
     let main : c.index.result.now ≡ slice_index a.routines p.main =
     c.index.ensures ∙ found_at c.in_ok-packed.packed.items c.main.result c.index.result.now there
     ∙ ap (λ n. slice_index c.in_ok-packed.packed.items n) c.main.ensures
@@ -114,6 +114,6 @@ returns c =
     ap (λ (xs : List (Vec ℕ)). map bytes_in xs) c.deref-7.ensures.value ∙ c.in_ok-texts.ensures in
     body_laid c.args.version p c.deref-6.result.now a (map bytes_in c.deref-7.result.now)
     c.new-body.result.items c.put_low.new.bytes.items c.put_routines.new.body.items c.put_texts.new.body.items
-    c.index.result.now c.requires.accepted.defaults.0
+    c.index.result.now c.requires.fits.accepted.defaults.0
     again printed addresses main c.new-body.ensures.items c.in_ok-put_low.ensures c.in_ok-put_routines.ensures
     c.in_ok-put_texts.ensures

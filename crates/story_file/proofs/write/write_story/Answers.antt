@@ -9,7 +9,7 @@ use Rattle.story_file.proofs.write.write_story.Goals as goal
 pub put_header-requires-clause-words : goal.put_header-requires-clause-words
 put_header-requires-clause-words c =
     let placed = c.requires.placed in
-    subst AreWords (sym c.part_places.ensures) (record {
+    subst AreWords (sym c.part_places-at.ensures) (record {
       globals = omega arith;
       defaults = omega (arith, placed);
       dictionary = omega (arith, placed);
@@ -30,5 +30,5 @@ returns c =
     c.put_header.new.story.items c.extend_from_slice.new.self.items
     body c.new-story.ensures.items
     (c.in_ok-put_header.ensures ∙ ap (λ (at : Places). c.new-story.result.items
-    ++ header_of c.args.version at c.deref.result.now) c.part_places.ensures)
+    ++ header_of c.args.version at c.deref.result.now) c.part_places-at.ensures)
     (c.in_ok-extend_from_slice.ensures.items ∙ ap (λ z. c.put_header.new.story.items ++ z) again)

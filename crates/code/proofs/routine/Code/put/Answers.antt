@@ -12,7 +12,7 @@ returns-clause-written c =
     let sizes = sizes_in x.sizes in
     let a = addresses_of c.args.addresses.now in
     let first : c.push.new.self.items ≡ (x.locals % 256) ∷ [] =
-    c.in_ok-push.ensures.items ∙ ap (λ z. z ++ (x.locals % 256) ∷ []) c.new-bytes.ensures.items in
+    c.in_ok-push.ensures.items ∙ ap (λ z. z ++ (x.locals % 256) ∷ []) c.in_ok-bytes.ensures.items in
     let same = ap items_of c.deref.ensures.value in
     code_written sizes a c.args.self.now (items_of x.items.items) x.locals c.args.story.now.items
     c.extend_from_slice.new.self.items c.push.new.self.items c.put_items.new.bytes.items c.deref-3.result.now

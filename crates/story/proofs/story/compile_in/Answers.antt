@@ -10,7 +10,7 @@ use Rattle.story.specs.Refused.{Refuses}
 use Rattle.story.proofs.Compiling.{is_tree, unparsed, unchecked, too_large, answered, fits, compiled}
 use Rattle.story.proofs.Unfit.{unfit_answered, unfit_unlexed, unfit_parsed, unfit_derived}
 use Rattle.story.proofs.TooDeep.{deep_answered, deep_unlexed, deep_parsed, deep_derived}
-use Rattle.story.proofs.story.compile_placed.Goals as goal
+use Rattle.story.proofs.story.compile_in.Goals as goal
 
 pub returns-in_err-program-clause-compiles : goal.returns-in_err-program-clause-compiles
 returns-in_err-program-clause-compiles c =
