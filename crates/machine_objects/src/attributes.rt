@@ -29,7 +29,7 @@ fn test_attribute_number(attribute: u16) -> Result<(), End>
 
 /// The bit of an attribute in its byte.
 #[inline]
-fn attribute_bit(attribute: u16) -> u8
+pub fn attribute_bit(attribute: u16) -> u8
     ensures { result ≡ attribute_bit attribute }
 {
     1 << (7 - attribute % 8)
