@@ -17,9 +17,9 @@ use Rattle.code_values.specs.Items.{Test}
 use Rattle.code_values.specs.Items as items
 use Rattle.meaning.specs.declared.cause.Cause.TheVariants as causes
 use Rattle.code_encoding.specs.Addresses.{Addresses}
-use Rattle.code_encoding.specs.Instructions.{plain, branching, takes, operands, pulled_into}
-use Rattle.code_instructions.specs.Instructions.{labelled, test_operation, tested_code, asks_none, least_word}
-use Rattle.code_instructions.specs.Instructions.{branch_code, compared, case_code}
+use Rattle.code_encoding.specs.Instructions.{plain, branching, top, takes, operands, pulled_into}
+use Rattle.code_instructions.specs.Instructions.{labelled, test_operation, turned, are_both_pushed, ordered_code, tested_code}
+use Rattle.code_instructions.specs.Instructions.{asks_none, least_word, branch_code, compared, case_code}
 use Rattle.code_encoding.specs.Bytes.{bytes_of_all}
 use Rattle.code_objects.specs.ObjectCode.{tests_in}
 use Rattle.code.proofs.AddressLengths.{all_length, one_length, tests_same}
@@ -79,12 +79,36 @@ labelled_length op os when offset = go (nat_lt offset 8192) (nat_lt offset 64) r
       jump_length (offset % 65536),
     )
 
+-- two pushed words are all that is tested
+pub both_pushed : (os : List items.Operand) → are_both_pushed os ≡ true → os ≡ items.pushed ∷ items.pushed ∷ []
+both_pushed (items.pushed ∷ items.pushed ∷ []) e = refl
+both_pushed [] e = absurd (cc)
+both_pushed (items.number k ∷ os) e = absurd (cc)
+both_pushed (items.variable x ∷ os) e = absurd (cc)
+both_pushed (items.pushed ∷ []) e = absurd (cc)
+both_pushed (items.pushed ∷ items.number k ∷ os) e = absurd (cc)
+both_pushed (items.pushed ∷ items.variable x ∷ os) e = absurd (cc)
+both_pushed (items.pushed ∷ items.pushed ∷ o ∷ os) e = absurd (cc)
+
+-- the bytes of a test beside its label
+abbrev before_label : Bool → Test → List items.Operand → ℕ
+before_label both test os = if both then beside (test_operation (turned test)) (top ∷ top ∷ [])
+    else length (bytes_of_all (takes os)) + beside (test_operation test) (operands os)
+
 tested_length : (test : Test) (os : List items.Operand) (when : Bool) (offset : ℕ)
-    → length (bytes_of_all (tested_code test os when offset)) ≡ length (bytes_of_all (takes os))
-    + (beside (test_operation test) (operands os) + size_with (form_for offset))
-tested_length test os when offset =
-    all_length (takes os) (labelled (test_operation test) (operands os) when offset)
-    ∙ ap (λ k. length (bytes_of_all (takes os)) + k) (labelled_length (test_operation test) (operands os) when offset)
+    → length (bytes_of_all (tested_code test os when offset)) ≡ before_label (are_both_pushed os) test os
+    + size_with (form_for offset)
+tested_length test os when offset = go (are_both_pushed os)
+  where
+    go : (both : Bool) → length (bytes_of_all (if both
+        then labelled (test_operation (turned test)) (top ∷ top ∷ []) when offset else ordered_code test os when offset))
+        ≡ before_label both test os + size_with (form_for offset)
+    go true = labelled_length (test_operation (turned test)) (top ∷ top ∷ []) when offset
+    go false = omega (
+      arith,
+      all_length (takes os) (labelled (test_operation test) (operands os) when offset),
+      labelled_length (test_operation test) (operands os) when offset,
+    )
 
 -- beside its label a branch has as many bytes in each form
 pub branch_length : (test : Test) (os : List items.Operand) (when : Bool) (offset : ℕ)

@@ -1,26 +1,30 @@
 -- The branches of a routine.
-use Rattle.std.proofs.Common.{◌≡◌, ℕ, ◌+◌, ◌-◌, ◌<◌, ◌≤◌, List, [], length, Bool, true, false, refl, sym, ap, ◌∙◌}
-use Rattle.std.proofs.Common.{Option, None, subst, arith}
+use Rattle.std.proofs.Common.{◌≡◌, ℕ, ◌+◌, ◌-◌, ◌<◌, ◌≤◌, List, [], ◌∷◌, ◌++◌, length, Bool, true, false, refl, sym, ap}
+use Rattle.std.proofs.Common.{◌∙◌, Option, None, subst, arith}
 use Rattle.std.specs.Prelude.{nat_lt, if◌then◌else◌}
 use Rattle.std.specs.List.{All, flat_map}
 use Rattle.std.proofs.lemmas.Bool.{ltb-true}
 use Rattle.std.proofs.lemmas.List.{take_all}
+use Rattle.zcore.specs.declared.instruction.Operand.{Operand}
 use Rattle.zcore.specs.declared.instruction.Operation.{Operation}
-use Rattle.zcore.specs.Instruction.{bytes_of, FitsOperand}
+use Rattle.zcore.specs.Instruction.{Instruction, bytes_of, FitsOperand}
+use Rattle.zcore.specs.State.{done}
+use Rattle.zcore.specs.Parts.{operand_values}
 use Rattle.meaning.specs.Meaning.{routine_at}
 use Rattle.code_values.specs.Items.{Item, Test, agrees}
 use Rattle.code_values.specs.Items as items
 use Rattle.code_items.specs.Laws.{IsTestedValue}
 use Rattle.code_items.specs.Stack as stack
-use Rattle.code_encoding.specs.Instructions.{operands, most_tested}
-use Rattle.code_instructions.specs.Instructions.{labelled, test_operation, tested_code, branch_code}
+use Rattle.code_encoding.specs.Instructions.{operands, takes, top, most_tested}
+use Rattle.code_instructions.specs.Instructions.{labelled, test_operation, ordered_code, turned, are_both_pushed}
+use Rattle.code_instructions.specs.Instructions.{tested_code, branch_code}
 use Rattle.code_selection.specs.ItemBytes.{text_bytes}
 use Rattle.code.specs.Bytes.{place_of}
 use Rattle.code.specs.HeldProgram.{sizes_of}
 use Rattle.code.proofs.Behind.{Holds}
-use Rattle.code.proofs.Play.{Leads, address, IsChosen, none_chosen}
+use Rattle.code.proofs.Play.{Leads, address, IsChosen, none_chosen, stays}
 use Rattle.code.proofs.Parts.{machine as at_words}
-use Rattle.code.proofs.Steps.{point, leads_then, landing}
+use Rattle.code.proofs.Steps.{point, leads_then, landing, two_operands}
 use Rattle.code.proofs.Fitting.{held_bytes}
 use Rattle.code.proofs.ItemOperands.{with_first, by_operands, gives_count, gives_length, few_pushed, GivesOperands}
 use Rattle.code.proofs.ItemOperands.{operands_length}
@@ -28,11 +32,13 @@ use Rattle.code.proofs.Labels.{Branching, label_leads}
 use Rattle.code.proofs.Places.{rises, ends_by}
 use Rattle.code.proofs.Arriving.{Running, at, at_case, around, here, high, above, kept, LedFrom, code_here, ArrivesAt}
 use Rattle.code.proofs.Arriving.{code_held, arrives_with, situation_here}
-use Rattle.code.proofs.Temporaries.{Scratch, held_in}
-use Rattle.code.proofs.Taking.{after_takes, Taken, taken, Apart, apart}
-use Rattle.code.proofs.Alone.{IsOperandHere, next_place, plain_length}
+use Rattle.code.proofs.Temporaries.{Scratch, scratch_here, held_in}
+use Rattle.code.proofs.Taking.{after_takes, taken, apart}
+use Rattle.code.proofs.Alone.{IsOperandHere, next_place, plain_length, alone_value}
 use Rattle.code.proofs.Jumping.{is_in, short}
 use Rattle.code.proofs.Tests.{labelled_fit, branching_some, TestOf, Counted, few_tested, few_given, asked, test_of}
+use Rattle.code.proofs.Tests.{holds_turned, counted_turned}
+use Rattle.code.proofs.BranchLengths.{both_pushed}
 
 module _ (c : Running) where
   open c use {story, a, p, accepted, holds, full, m, count, counts, routine, place, callers, locals, world, good}
@@ -98,16 +104,20 @@ module _ (c : Running) where
       go false true l = passes l
       go false false l = jumps (nat_lt place target) refl l
 
-  branches_led : (item : Item) (test : Test) (os : List items.Operand) (when : Bool) (target : ℕ)
-      (chosen : Option ℕ) (words vs rest : List ℕ) → All (IsOperandHere c) os → Counted test (length os)
-      → length words ≤ 48 → ArrivesAt c item → text_bytes p.abbreviations item ≡ []
-      → code_here c item ≡ tested_code test os when (2 + over target)
-      → GivesOperands os (situation_here c) words vs rest
+  -- a branch by the words that its operands come to, behind what takes them from the stack
+  labelled_led : (test : Test) (os : List Operand) (when : Bool) (target : ℕ) (chosen : Option ℕ)
+      (words before vs rest memory : List ℕ) (q : ℕ) → TestOf test os vs → length rest ≤ 48 → Scratch c memory
+      → here c ≤ q
+      → Holds m q (flat_map bytes_of (labelled (test_operation test) os when (2 + over target)))
+      → next_place c ≡ q + length (flat_map bytes_of (labelled (test_operation test) os when (2 + over target)))
+      → operand_values os (at_words (around c) memory locals before world.text)
+      ≡ done vs (at_words (around c) memory locals rest world.text)
+      → Leads (point (here c) world.fuel) (at_words (around c) m locals words world.text)
+      (point q world.fuel) (at_words (around c) memory locals before world.text)
       → LedFrom c words (stack.branch (agrees (stack.holds test vs) when) target rest (at_case c chosen words))
-  branches_led item test os when target chosen words vs rest all is room stands none code g =
+  labelled_led test os when target chosen words before vs rest memory q kinds left scratch from held next values leads =
       branches_to (agrees (stack.holds test vs) when)
-      (lands_led None target words rest t.memory when (stack.holds test vs) left t.scratch
-      (none_chosen story t.memory) there)
+      (lands_led None target words rest memory when (stack.holds test vs) left scratch (none_chosen story memory) there)
     where
       -- a branch takes its operands, and leaves no word of a `switch`
       branches_to : (b : Bool) → LedFrom c words (stack.by_case b target (at c rest))
@@ -121,34 +131,12 @@ module _ (c : Running) where
       d : ℕ
       d = over target
 
-      few : length os ≤ 4
-      few = few_tested test (length os) is
+      fit : All FitsOperand os
+      fit = labelled_fit op os when (2 + d)
+          (held_bytes _ q story m (flat_map bytes_of (labelled op os when (2 + d))) holds.byte_each (kept c)
+          (omega (arith, high c, from)) held)
 
-      parts : Apart c os (labelled op (operands os) when (2 + d))
-      parts = apart c os (labelled op (operands os) when (2 + d))
-          (subst (λ is. Holds m (here c) (flat_map bytes_of is)) code (code_held c item stands))
-
-      t : Taken c os words vs rest
-      t = taken c os words vs rest all (omega (arith, few, few_pushed os)) g parts.takes_held
-
-      left : length rest ≤ 48
-      left = omega (arith, room, gives_count os (situation_here c) words vs rest g)
-
-      kinds : TestOf test (operands os) vs
-      kinds = test_of test (operands os) vs (gives_length os (situation_here c) words vs rest g
-          ∙ sym (operands_length os)) (subst (Counted test) (sym (operands_length os)) is)
-
-      q : ℕ
-      q = after_takes c os
-
-      fit : All FitsOperand (operands os)
-      fit = labelled_fit op (operands os) when (2 + d)
-          (held_bytes _ q story m (flat_map bytes_of (labelled op (operands os) when (2 + d))) holds.byte_each
-          (kept c)
-          (omega (arith, high c)) parts.others)
-
-      branching_is : Branching (around c) t.memory locals (with_first os vs rest) rest world.text op (operands os)
-          (stack.holds test vs)
+      branching_is : Branching (around c) memory locals before rest world.text op os (stack.holds test vs)
       branching_is = record {
         values = vs;
         fits = λ when offset small. record {
@@ -158,45 +146,110 @@ module _ (c : Running) where
           result_fits = kinds.result;
           branch_fits = kinds.branch when offset small;
         };
-        some = branching_some op (operands os);
-        taken = t.values world.text;
+        some = branching_some op os;
+        taken = values;
         branches = λ when offset from after.
-            kinds.does when offset from after (at_words (around c) t.memory locals rest world.text);
+            kinds.does when offset from after (at_words (around c) memory locals rest world.text);
       }
 
-      next : next_place c ≡ q + length (flat_map bytes_of (labelled op (operands os) when (2 + d)))
-      next = omega (
-        arith,
-        stands.next,
-        plain_length c item none,
-        ap (λ is. length (flat_map bytes_of is)) code,
-        parts.sizes,
-      )
-
-      within : next_place c + d < length t.memory
+      within : next_place c + d < length memory
       within = omega (
         arith,
         (holds.routines routine good.known).followed,
         ends_by (sizes_of p) (is_in c) target,
         ends_by (sizes_of p) (is_in c) (place + 1),
         good.stored.size,
-        t.scratch.stored.size,
+        scratch.stored.size,
       )
 
       there : Leads (point (here c) world.fuel) (at_words (around c) m locals words world.text)
           (point (landing when (stack.holds test vs) (next_place c) d) world.fuel)
-          (at_words (around c) t.memory locals rest world.text)
+          (at_words (around c) memory locals rest world.text)
       there =
           leads_then (point (here c) world.fuel) (point q world.fuel)
           (point (landing when (stack.holds test vs) (next_place c) d) world.fuel)
-          (at_words (around c) m locals words world.text)
-          (at_words (around c) t.memory locals (with_first os vs rest) world.text)
-          (at_words (around c) t.memory locals rest world.text) t.leads
-          (label_leads (around c) world.fuel t.memory locals (with_first os vs rest) rest world.text q d op
-          (operands os) when (stack.holds test vs) branching_is (omega (arith, above c))
+          (at_words (around c) m locals words world.text) (at_words (around c) memory locals before world.text)
+          (at_words (around c) memory locals rest world.text) leads
+          (label_leads (around c) world.fuel memory locals before rest world.text q d op os when (stack.holds test vs)
+          branching_is (omega (arith, above c, from))
           (omega (arith, short c, ends_by (sizes_of p) (is_in c) target)) (next_place c) next within
-          (held_in c t.memory (flat_map bytes_of (labelled op (operands os) when (2 + d))) q t.scratch
-          (omega arith) parts.others))
+          (held_in c memory (flat_map bytes_of (labelled op os when (2 + d))) q scratch from held))
+
+  -- the place behind the instructions of the item
+  item_ends : (item : Item) (is : List Instruction) → ArrivesAt c item → text_bytes p.abbreviations item ≡ []
+      → code_here c item ≡ is → next_place c ≡ here c + length (flat_map bytes_of is)
+  item_ends item is stands none code =
+      omega (arith, stands.next, plain_length c item none, ap (λ is. length (flat_map bytes_of is)) code)
+
+  ordered_led : (item : Item) (test : Test) (os : List items.Operand) (when : Bool) (target : ℕ)
+      (chosen : Option ℕ) (words vs rest : List ℕ) → All (IsOperandHere c) os → Counted test (length os)
+      → length words ≤ 48 → ArrivesAt c item → text_bytes p.abbreviations item ≡ []
+      → code_here c item ≡ ordered_code test os when (2 + over target)
+      → GivesOperands os (situation_here c) words vs rest
+      → LedFrom c words (stack.branch (agrees (stack.holds test vs) when) target rest (at_case c chosen words))
+  ordered_led item test os when target chosen words vs rest all is room stands none code g =
+      let op = test_operation test in
+      let code1 = labelled op (operands os) when (2 + over target) in
+      let parts = apart c os code1 (subst (λ is. Holds m (here c) (flat_map bytes_of is)) code
+      (code_held c item stands)) in
+      let few = few_tested test (length os) is in
+      let t = taken c os words vs rest all (omega (arith, few, few_pushed os)) g parts.takes_held in
+      let count = gives_count os (situation_here c) words vs rest g in
+      let ends = item_ends item (takes os ++ code1) stands none code in
+      labelled_led test (operands os) when target chosen words (with_first os vs rest) vs rest t.memory
+      (after_takes c os)
+      (test_of test (operands os) vs
+      (gives_length os (situation_here c) words vs rest g ∙ sym (operands_length os))
+      (subst (Counted test) (sym (operands_length os)) is))
+      (omega (arith, room, count)) t.scratch (omega arith) parts.others (omega (arith, ends, parts.sizes))
+      (t.values world.text) t.leads
+
+  -- two pushed words, which are taken as they stand
+  turned_led : (item : Item) (test : Test) (when : Bool) (target : ℕ) (chosen : Option ℕ)
+      (words vs rest : List ℕ) → Counted test 2 → length words ≤ 48 → ArrivesAt c item
+      → text_bytes p.abbreviations item ≡ []
+      → code_here c item ≡ labelled (test_operation (turned test)) (top ∷ top ∷ []) when (2 + over target)
+      → GivesOperands (items.pushed ∷ items.pushed ∷ []) (situation_here c) words vs rest
+      → LedFrom c words (stack.branch (agrees (stack.holds test vs) when) target rest (at_case c chosen words))
+  turned_led item test when target chosen words [] rest is room stands none code g = absurd g
+  turned_led item test when target chosen words (v ∷ []) rest is room stands none code g = absurd g
+  turned_led item test when target chosen words (v ∷ w ∷ u ∷ vs) rest is room stands none code g = absurd g
+  turned_led item test when target chosen words (v ∷ w ∷ []) rest is room stands none code g =
+      let st = at_words (around c) m locals words world.text in
+      let st1 = at_words (around c) m locals (v ∷ rest) world.text in
+      let st2 = at_words (around c) m locals rest world.text in
+      let code1 = labelled (test_operation (turned test)) (top ∷ top ∷ []) when (2 + over target) in
+      subst (λ b. LedFrom c words (stack.branch (agrees b when) target rest (at_case c chosen words)))
+      (holds_turned test v w)
+      (labelled_led (turned test) (top ∷ top ∷ []) when target chosen words words (w ∷ v ∷ []) rest m (here c)
+      (test_of (turned test) (top ∷ top ∷ []) (w ∷ v ∷ []) refl (counted_turned test 2 is))
+      (omega (arith, room, ap length g)) (scratch_here c) (omega arith)
+      (subst (λ is. Holds m (here c) (flat_map bytes_of is)) code (code_held c item stands))
+      (item_ends item code1 stands none code)
+      (two_operands st st1 st2 top top w v
+      (alone_value c items.pushed m world.text words w (v ∷ rest) (scratch_here c) tt g)
+      (alone_value c items.pushed m world.text (v ∷ rest) v rest (scratch_here c) tt refl))
+      (stays (point (here c) world.fuel) st))
+
+  branches_led : (item : Item) (test : Test) (os : List items.Operand) (when : Bool) (target : ℕ)
+      (chosen : Option ℕ) (words vs rest : List ℕ) → All (IsOperandHere c) os → Counted test (length os)
+      → length words ≤ 48 → ArrivesAt c item → text_bytes p.abbreviations item ≡ []
+      → code_here c item ≡ tested_code test os when (2 + over target)
+      → GivesOperands os (situation_here c) words vs rest
+      → LedFrom c words (stack.branch (agrees (stack.holds test vs) when) target rest (at_case c chosen words))
+  branches_led item test os when target chosen words vs rest all is room stands none code g =
+      go (are_both_pushed os) refl code
+    where
+      go : (b : Bool) → are_both_pushed os ≡ b
+          → code_here c item
+          ≡ (if b then labelled (test_operation (turned test)) (top ∷ top ∷ []) when (2 + over target)
+          else ordered_code test os when (2 + over target))
+          → LedFrom c words (stack.branch (agrees (stack.holds test vs) when) target rest (at_case c chosen words))
+      go true e code =
+          let both = both_pushed os e in
+          turned_led item test when target chosen words vs rest (subst (λ os. Counted test (length os)) both is) room
+          stands none code (subst (λ os. GivesOperands os (situation_here c) words vs rest) both g)
+      go false e code = ordered_led item test os when target chosen words vs rest all is room stands none code g
 
   pub branch_led : (test : Test) (os : List items.Operand) (when : Bool) (target : ℕ) (chosen : Option ℕ)
       (words : List ℕ) → All (IsOperandHere c) os → IsTestedValue test (length os) → length words ≤ 48

@@ -9,7 +9,8 @@ use Rattle.syntax_trees.specs.declared.tree.Prefix.TheVariants as prefixes
 use Rattle.syntax_trees.specs.declared.tree.Width.{Width}
 use Rattle.meaning.specs.Resolved.{Value, Values}
 use Rattle.meaning.specs.Resolved as source
-use Rattle.code_values.specs.Items.{Item, Destination, push, operand_of, alone, left_of, if_pushed, is_few, value_count}
+use Rattle.code_values.specs.Items.{Item, Operand, Destination, push, operand_of, operands_of, alone, left_of, if_pushed}
+use Rattle.code_values.specs.Items.{is_direct, same_count, same_items, value_count}
 use Rattle.code_values.specs.Items.{operand_count, operands_count, branch_count, many_count, value_items}
 use Rattle.code_values.specs.Items.{operands_items, branch_items, many_items, also_items}
 use Rattle.code_values.specs.Items as items
@@ -71,29 +72,40 @@ compare_fine op a b f g =
       branch = branches;
     }
 
+same_fine : (o : Operand) (os : List Operand) (at : ℕ) (when : Bool) (t : ℕ) → Fine (same_items o os at when t)
+same_fine o [] at when t = first _ _ tt nothing
+same_fine o (x ∷ []) at when t = first _ _ tt nothing
+same_fine o (x ∷ y ∷ []) at when t = first _ _ tt nothing
+same_fine o (x ∷ y ∷ z ∷ []) at when t = first _ _ tt nothing
+same_fine o (x ∷ y ∷ z ∷ u ∷ os) at when t = first _ _ tt (same_fine o (u ∷ os) (at + 1) when t)
+
 pub equal_fine : (op : Equality) (a : Value) (bs : Values) → ValueFine a → ValuesFine bs
     → ValueFine (source.equal op a bs)
 equal_fine op a bs f g = record {
-  value = λ at d. either_fine (is_few bs) _ _
-      (truth_fine at (operand_count a (operand_of a bs) + operands_count bs + 1) d (few_items at true) (few at true))
+  value = λ at d. either_fine (is_direct a bs) _ _
+      (truth_fine at (operand_count a (operand_of a bs) + operands_count bs + same_count (operands_of bs)) d
+      (direct_items at true) (direct at true))
       (truth_fine at (value_count a push + many_count bs) d (several_items at true) (several at true));
-  branch = λ at when t. either_fine (is_few bs) _ _ (few at when t) (several at when t);
+  branch = λ at when t. either_fine (is_direct a bs) _ _ (direct at when t) (several at when t);
 }
   where
-    few_items : ℕ → Bool → ℕ → List Item
-    few_items at when t = if_pushed (operand_of a bs) (value_items at a push) []
+    direct_items : ℕ → Bool → ℕ → List Item
+    direct_items at when t = if_pushed (operand_of a bs) (value_items at a push) []
         ++ (operands_items (at + operand_count a (operand_of a bs)) bs
-        ++ items.branch items.same (operand_of a bs ∷ items.operands_of bs) (items.equality_when op when) t ∷ [])
+        ++ same_items (operand_of a bs) (operands_of bs)
+        (at + operand_count a (operand_of a bs) + operands_count bs) (items.equality_when op when) t)
 
     several_items : ℕ → Bool → ℕ → List Item
     several_items at when t = value_items at a push ++ many_items (at + value_count a push) op bs when t
 
-    few : (at : ℕ) (when : Bool) (t : ℕ) → Fine (few_items at when t)
-    few at when t =
+    direct : (at : ℕ) (when : Bool) (t : ℕ) → Fine (direct_items at when t)
+    direct at when t =
         joined (if_pushed (operand_of a bs) (value_items at a push) []) _
         (pushed_fine (operand_of a bs) _ (f.value at push))
-        (last (operands_items (at + operand_count a (operand_of a bs)) bs) _
-        (g.all (at + operand_count a (operand_of a bs))) tt)
+        (joined (operands_items (at + operand_count a (operand_of a bs)) bs) _
+        (g.all (at + operand_count a (operand_of a bs)))
+        (same_fine (operand_of a bs) (operands_of bs) (at + operand_count a (operand_of a bs) + operands_count bs)
+        (items.equality_when op when) t))
 
     several : (at : ℕ) (when : Bool) (t : ℕ) → Fine (several_items at when t)
     several at when t = joined (value_items at a push) _ (f.value at push)

@@ -1,8 +1,9 @@
 -- What a branch tests, and the instruction that tests it.
-use Rattle.std.proofs.Common.{◌≡◌, ℕ, ◌%◌, ◌<◌, ◌≤◌, List, [], ◌∷◌, length, Some, None, Bool, true, false, refl, arith}
-use Rattle.std.specs.Prelude.{nat_lt, nat_le, if◌then◌else◌, not}
+use Rattle.std.proofs.Common.{◌≡◌, ℕ, ◌%◌, ◌<◌, ◌≤◌, List, [], ◌∷◌, length, Some, None, Bool, true, false, refl, ap}
+use Rattle.std.proofs.Common.{sym, arith}
+use Rattle.std.specs.Prelude.{◌==◌, ◌||◌, nat_lt, nat_le, if◌then◌else◌, not}
 use Rattle.std.specs.List.{All, flat_map}
-use Rattle.std.proofs.lemmas.Bool.{le-ltb, leb-true}
+use Rattle.std.proofs.lemmas.Bool.{le-ltb, leb-true, eq-eqb, ne_eqb, eqb-true, eqb-false}
 use Rattle.std.proofs.lemmas.List.Elements.{All-nil, All-cons}
 use Rattle.zcore.specs.declared.instruction.Operand.{Operand}
 use Rattle.zcore.specs.declared.instruction.Operand.TheVariants.{Large}
@@ -22,7 +23,7 @@ use Rattle.code_values.specs.Items as items
 use Rattle.code_items.specs.Laws.{IsOperand, IsTestedValue}
 use Rattle.code_items.specs.Stack as stack
 use Rattle.code_encoding.specs.Instructions.{plain, branching}
-use Rattle.code_instructions.specs.Instructions.{labelled, test_operation, tested_code, least_word, branch_code}
+use Rattle.code_instructions.specs.Instructions.{labelled, test_operation, turned, tested_code, least_word, branch_code}
 use Rattle.code.proofs.Fitting.{AreBytes, first_part, all_fit}
 use Rattle.code.proofs.ItemOperands.{gives_length, GivesOperands}
 use Rattle.code.proofs.BranchLengths.{branching_length}
@@ -212,3 +213,24 @@ test_of items.same os (v ∷ vs) e is =
       branch = λ when offset h. h;
       does = λ when offset here after st. refl;
     }
+
+-- Two operands the other way round
+
+pub counted_turned : (test : Test) (n : ℕ) → Counted test n → Counted (turned test) n
+counted_turned items.is_zero n is = is
+counted_turned items.less n is = is
+counted_turned items.greater n is = is
+counted_turned items.same n is = is
+
+equal_turned : (v w : ℕ) → (v == w) ≡ (w == v)
+equal_turned v w = go (v == w) refl
+  where
+    go : (b : Bool) → (v == w) ≡ b → b ≡ (w == v)
+    go true e = sym (eq-eqb w v (sym (eqb-true v w e)))
+    go false e = sym (ne_eqb w v (λ f. eqb-false v w e (sym f)))
+
+pub holds_turned : (test : Test) (v w : ℕ) → stack.holds (turned test) (w ∷ v ∷ []) ≡ stack.holds test (v ∷ w ∷ [])
+holds_turned items.is_zero v w = refl
+holds_turned items.less v w = refl
+holds_turned items.greater v w = refl
+holds_turned items.same v w = ap (λ b. b || false) (equal_turned w v)

@@ -12,7 +12,7 @@ use Rattle.code_values.specs.declared.item.Operand as code_operand
 use Rattle.code_values.specs.Code.{as_operand, as_operands}
 use Rattle.code_encoding.specs.Instructions.{takes, operands}
 use Rattle.code_instructions.specs.Instructions.{calling, call_code, call_operation, call_result, asks_none, labelled}
-use Rattle.code_instructions.specs.Instructions.{test_operation, least_word, tested_code, branch_code}
+use Rattle.code_instructions.specs.Instructions.{test_operation, least_word, ordered_code, tested_code, branch_code}
 use Rattle.code_encoding.specs.Bytes.{bytes_of_all}
 use Rattle.code_encoding.proofs.Chains.{one_joined, all_joined}
 
@@ -73,7 +73,7 @@ pub tested_joined : (test : Test) (os : List items.Operand) (op : Operation) (wh
     (b b1 b2 : List ℕ) (n1 n2 n3 : List Operand) → n1 ≡ [] → n2 ≡ n1 ++ operands os → n3 ≡ n2
     → op ≡ test_operation test
     → b1 ≡ b ++ bytes_of_all (takes os) → b2 ≡ b1 ++ bytes_of_all (labelled op n3 when offset)
-    → b2 ≡ b ++ bytes_of_all (tested_code test os when offset)
+    → b2 ≡ b ++ bytes_of_all (ordered_code test os when offset)
 tested_joined test os op when offset b b1 b2 n1 n2 n3 e1 e2 e3 o f1 f2 =
     let named : n3 ≡ operands os = e3 ∙ e2 ∙ ap (λ n. n ++ operands os) e1 in
     all_joined (takes os) (labelled (test_operation test) (operands os) when offset) b b1 b2 f1

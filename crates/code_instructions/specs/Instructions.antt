@@ -160,8 +160,25 @@ labelled operation os when offset =
     if nat_lt offset 8192 then branching operation os when offset ∷ []
     else branching operation os (not when) 5 ∷ plain Jump (Large (offset % 65536) ∷ []) ∷ []
 
+abbrev pub ordered_code : Test → List items.Operand → Bool → ℕ → List Instruction
+ordered_code test os when offset = takes os ++ labelled (test_operation test) (operands os) when offset
+
+-- the test of two operands that stand the other way round
+abbrev pub turned : Test → Test
+turned items.is_zero = items.is_zero
+turned items.less = items.greater
+turned items.greater = items.less
+turned items.same = items.same
+
+abbrev pub are_both_pushed : List items.Operand → Bool
+are_both_pushed (items.pushed ∷ items.pushed ∷ []) = true
+are_both_pushed os = false
+
+-- of two pushed words the right one is on the top: they are taken as they stand, by the turned test
 abbrev pub tested_code : Test → List items.Operand → Bool → ℕ → List Instruction
-tested_code test os when offset = takes os ++ labelled (test_operation test) (operands os) when offset
+tested_code test os when offset =
+    if are_both_pushed os then labelled (test_operation (turned test)) (top ∷ top ∷ []) when offset
+    else ordered_code test os when offset
 
 -- the test that a word equals one of none is never so
 abbrev pub asks_none : Test → List items.Operand → Bool

@@ -6,7 +6,8 @@ ghost use Rattle.zcore.specs.declared.instruction.Operand.TheVariants.{Large};
 ghost use Rattle.code_values.specs.Items as source_items;
 ghost use Rattle.code_values.specs.Code.{as_operands, as_test};
 ghost use Rattle.code_encoding.specs.Instructions.{plain};
-ghost use Rattle.code_instructions.specs.Instructions.{labelled, tested_code, branch_code, test_operation};
+ghost use Rattle.code_instructions.specs.Instructions.{labelled, ordered_code, tested_code, branch_code};
+ghost use Rattle.code_instructions.specs.Instructions.{test_operation};
 ghost use Rattle.code_encoding.specs.Instructions as basic;
 ghost use Rattle.code_instructions.specs.Instructions as spec;
 ghost use Rattle.code_encoding.specs.Bytes.{AddsCode};
@@ -14,7 +15,7 @@ ghost use Rattle.meaning.specs.Limits.{most_arguments};
 
 use code_branch_forms::TWO_BYTE_LIMIT;
 use code_encoding::{
-    CHOSEN, Operands, constant, plain, put_all, put_instruction, put_named, put_takes,
+    CHOSEN, Operands, constant, in_place, plain, put_all, put_instruction, put_named, put_takes,
 };
 use code_values::{MOST_COMPARED, Test};
 use std::alloc::{AllocError, Global};
@@ -98,8 +99,51 @@ fn asks_none(test: Test, operands: &[code_values::Operand]) -> bool
     }
 }
 
-/// A branch by a test of its operands.
+/// The test of two operands that stand the other way round.
+fn turned(test: Test) -> Test
+    ensures { as_test result ≡ spec.turned (as_test test) }
+{
+    match test {
+        Test::IsZero => Test::IsZero,
+        Test::Less => Test::Greater,
+        Test::Greater => Test::Less,
+        Test::Same => Test::Same,
+    }
+}
+
+/// Whether there are two operands, both pushed.
+fn are_both_pushed(operands: &[code_values::Operand]) -> bool
+    ensures { result ≡ spec.are_both_pushed (as_operands operands.now) }
+{
+    matches!(
+        operands,
+        [code_values::Operand::Pushed, code_values::Operand::Pushed]
+    )
+}
+
+/// A branch by a test of its operands, of which all but the first are taken from the stack before.
 #[tactic(auto, using(crate::proofs::Givens::tested_joined))]
+fn put_ordered(
+    bytes: &mut Vec<u8>,
+    alloc: Global,
+    test: Test,
+    operands: &[code_values::Operand],
+    when: bool,
+    offset: usize,
+) -> Result<(), AllocError>
+    requires { length operands.now ≤ most_arguments }
+    ensures { OnOk result (AddsCode bytes.old bytes.new
+        (ordered_code (as_test test) (as_operands operands.now) when offset)) }
+{
+    put_takes(bytes, operands)?;
+    let mut named = Vec::new(alloc);
+    put_named(&mut named, operands)?;
+    put_labelled(bytes, operation_of(test), &named, when, offset)?;
+    Ok(())
+}
+
+/// A branch by a test of its operands. Of two pushed words the right one is on the top: they are
+/// taken as they stand, by the turned test.
 fn put_tested(
     bytes: &mut Vec<u8>,
     alloc: Global,
@@ -112,11 +156,12 @@ fn put_tested(
     ensures { OnOk result (AddsCode bytes.old bytes.new
         (tested_code (as_test test) (as_operands operands.now) when offset)) }
 {
-    put_takes(bytes, operands)?;
-    let mut named = Vec::new(alloc);
-    put_named(&mut named, operands)?;
-    put_labelled(bytes, operation_of(test), &named, when, offset)?;
-    Ok(())
+    if are_both_pushed(operands) {
+        let top = in_place(code_values::Operand::Pushed);
+        put_labelled(bytes, operation_of(turned(test)), &[top, top], when, offset)
+    } else {
+        put_ordered(bytes, alloc, test, operands, when, offset)
+    }
 }
 
 /// A branch by the test that a word equals one of none, which is never so: no word is less than the

@@ -1,14 +1,16 @@
 -- Operands are evaluated one after another, and stay what they were.
-use Rattle.std.proofs.Common.{◌≡◌, ℕ, ◌+◌, ◌≤◌, List, [], ◌∷◌, ◌++◌, length, Bool, true, false, sym, ◌∙◌, subst, arith}
+use Rattle.std.proofs.Common.{◌≡◌, ℕ, ◌+◌, ◌≤◌, List, [], ◌∷◌, ◌++◌, length, Bool, true, false, refl, sym, ap}
+use Rattle.std.proofs.Common.{◌∙◌, subst, arith}
 use Rattle.std.specs.Prelude.{◌||◌, if◌then◌else◌}
 use Rattle.meaning.specs.declared.resolved.Variable.{Variable}
 use Rattle.meaning.specs.Limits.{operands}
 use Rattle.meaning.specs.Resolved.{Value, Values, none, more}
 use Rattle.meaning.specs.Resolved as source
 use Rattle.meaning.specs.Accepted.{need_of, needs_of}
-use Rattle.meaning.specs.World.{Situation, to, Part, ◌>>=◌, give, value_in}
-use Rattle.meaning.specs.Meaning.{evaluate, evaluate_all}
-use Rattle.code_values.specs.Items.{Item, pushed, variable, Destination, push, operand_of, operands_of, alone, left_of}
+use Rattle.meaning.specs.World.{Situation, Comes, to, bound, Part, ◌>>=◌, give, value_in}
+use Rattle.meaning.specs.Meaning.{with_prefix, evaluate, evaluate_all}
+use Rattle.code_values.specs.Items.{Item, Operand, pushed, number, variable, Destination, push, prefix_operand}
+use Rattle.code_values.specs.Items.{operand_of, operands_of, alone, left_of}
 use Rattle.code_values.specs.Items.{first_of, if_pushed, changes, change, operand_count, value_items, operands_items}
 use Rattle.code_values.specs.Items.{branch_items}
 use Rattle.code_items.specs.Stack.{Next}
@@ -19,7 +21,8 @@ use Rattle.code_items.proofs.Acts.{came}
 use Rattle.code_items.proofs.Running.{Running, code, setting}
 use Rattle.code_items.proofs.Standing.{HasAt, split}
 use Rattle.code_items.proofs.Held.{Held, onto, onto_length, AllHeld, onto_all, held_after, not_changed}
-use Rattle.code_items.proofs.Leads.{Leads, on, given, stands, lands, goes_by, begins_at}
+use Rattle.code_items.proofs.Held.{prefix_held, no_variable}
+use Rattle.code_items.proofs.Leads.{Leads, on, given, stands, lands, goes_by, begins_at, as_part}
 
 module _ (now : Running) where
   open now use {keep}
@@ -42,7 +45,26 @@ module _ (now : Running) where
       go true = tt
       go false = let there : s ≡ last = cc in let is : value_in x s ≡ a = cc in
           subst (λ z. value_in x z ≡ a) there is
+  operand_held (source.prefixed op v) later s last a e =
+      let c = came (evaluate (setting now) v s) (λ x. give (with_prefix op x)) a last e in
+      let is : with_prefix op c.first ≡ a = cc in
+      prefix_held op (operand_of v none) c.first a c.between last (operand_held v none s c.between c.first c.is) is
   operand_held v later s last a e = tt
+
+  -- a number that stands in place is what the value comes to, and nothing else is done
+  comes_to : (v : Value) (n : ℕ) (s : Situation) → operand_of v none ≡ number n → evaluate (setting now) v s ≡ to n s
+  comes_to (source.number k) n s e = let is : k ≡ n = cc in ap (λ (x : ℕ). to x s) is
+  comes_to (source.read x) n s e = absurd (cc)
+  comes_to (source.prefixed op v) n s e = go (operand_of v none) (λ k f. comes_to v k s f) e
+    where
+      go : (o : Operand) → ((k : ℕ) → o ≡ number k → evaluate (setting now) v s ≡ to k s)
+          → prefix_operand op o ≡ number n → evaluate (setting now) (source.prefixed op v) s ≡ to n s
+      go pushed f e = absurd (cc)
+      go (variable x) f e = absurd (cc)
+      go (number k) f e =
+          let is : with_prefix op k ≡ n = cc in
+          ap (λ (c : Comes ℕ). bound c (λ x. give (with_prefix op x))) (f k refl) ∙ ap (λ (x : ℕ). to x s) is
+  comes_to v n s e = absurd (cc)
 
   -- what an operand is after what is evaluated later
   pub still_held : (v : Value) (later : Values) (s last : Situation) (a : ℕ)
@@ -67,6 +89,16 @@ module _ (now : Running) where
       go true has = ok.value s n pc q words push has le
       go false has =
           begins_at now q pc words (sym has) (given now {behind = λ a last. stands now q words last} (value_in x s))
+  operand_does (source.prefixed op v) later ok s n pc q words has le = go (prefix_operand op (operand_of v none)) refl has
+    where
+      go : (o : Operand) → prefix_operand op (operand_of v none) ≡ o
+          → HasAt (code now) pc (if_pushed o (value_items pc (source.prefixed op v) push) []) q
+          → Leads now s n (stands now pc words s) (evaluate (setting now) (source.prefixed op v) s)
+          (λ a last. stands now q (onto o a words) last)
+      go pushed e has = ok.value s n pc q words push has le
+      go (variable x) e has = absurd (no_variable op (operand_of v none) x e)
+      go (number k) e has = as_part now _ _ (sym (comes_to (source.prefixed op v) k s e))
+          (begins_at now q pc words (sym has) (given now {behind = λ a last. stands now q words last} k))
   operand_does v later ok s n pc q words has le = ok.value s n pc q words push has le
 
   pub record ListOk (vs : Values) : Type 0 where

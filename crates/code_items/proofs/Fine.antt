@@ -3,25 +3,19 @@ use Rattle.std.proofs.Common.{◌≡◌, ℕ, ◌+◌, ◌<◌, ◌≤◌, List,
 use Rattle.std.specs.Prelude.{if◌then◌else◌}
 use Rattle.std.specs.List.{All}
 use Rattle.std.proofs.lemmas.List.Elements.{All-nil, All-cons, All-head, All-tail}
-use Rattle.std.proofs.lemmas.Bool.{leb-true}
 use Rattle.syntax_trees.specs.declared.tree.Comparison.{Comparison}
 use Rattle.syntax_trees.specs.declared.tree.Comparison.TheVariants as comparisons
+use Rattle.syntax_trees.specs.declared.tree.Prefix.{Prefix}
 use Rattle.meaning.specs.declared.resolved.Variable.{Variable}
 use Rattle.meaning.specs.Resolved.{Value, Values, none, more, ProgramOf}
 use Rattle.meaning.specs.Resolved as source
-use Rattle.meaning.specs.Accepted.{count_of, IsVariable, IsValue, AreValues}
+use Rattle.meaning.specs.Accepted.{IsVariable, IsValue, AreValues}
 use Rattle.code_values.specs.Items.{Item, Operand, pushed, number, variable, Destination, push, into, nowhere}
-use Rattle.code_values.specs.Items.{operand_of, operands_of, if_pushed, change, branch_true, is_few, comparison_test}
+use Rattle.code_values.specs.Items.{prefix_operand, operand_of, operands_of, if_pushed, change, branch_true}
+use Rattle.code_values.specs.Items.{comparison_test, same_count, same_items}
 use Rattle.code_values.specs.Items.{truth_count, kept_count, moved, truth_items, after_items, kept_items}
 use Rattle.code_values.specs.Items as items
 use Rattle.code_items.specs.Laws.{IsOperand, IsDestination, IsItem, IsTestedValue}
-
-pub operands_count_is : (vs : Values) → length (operands_of vs) ≡ count_of vs
-operands_count_is none = refl
-operands_count_is (more v vs) = omega (arith, operands_count_is vs)
-
-pub few_are : (vs : Values) → is_few vs ≡ true → count_of vs ≤ 3
-few_are vs e = leb-true _ _ e
 
 -- what an item of a routine can name: what a program has, so many locals and so many items
 pub record Bounds : Type 0 where
@@ -61,6 +55,12 @@ module _ (here : Bounds) where
       go : (b : Bool) → IsOperand p locals (if b then pushed else variable x)
       go true = tt
       go false = h
+  operand_fine (source.prefixed op v) later h = go (operand_of v none)
+    where
+      go : (o : Operand) → IsOperand p locals (prefix_operand op o)
+      go pushed = tt
+      go (number n) = tt
+      go (variable x) = tt
   operand_fine v later h = tt
 
   pub operands_fine : (vs : Values) → AreValues p locals vs → All (IsOperand p locals) (operands_of vs)
@@ -128,17 +128,32 @@ module _ (here : Bounds) where
   branch_two op a b when t ha hb lt =
       (All-cons (IsOperand p locals) a (b ∷ []) ha (one_operand b hb), comparison_fine op, lt)
 
-  pub branch_same : (a : Value) (bs : Values) (when : Bool) (t : ℕ) → is_few bs ≡ true → IsValue p locals a
-      → AreValues p locals bs → t < count
-      → IsItem p locals count (items.branch items.same (operand_of a bs ∷ operands_of bs) when t)
-  branch_same a bs when t few ha hbs lt =
-      let n = operands_count_is bs in
-      let m = few_are bs few in (
-        All-cons (IsOperand p locals) (operand_of a bs) (operands_of bs) (operand_fine a bs ha)
-            (operands_fine bs hbs),
-        (omega arith, omega (arith, n, m)),
-        lt,
-      )
+  same_item : (o : Operand) (os : List Operand) (when : Bool) (t : ℕ) → IsOperand p locals o
+      → All (IsOperand p locals) os → length os ≤ 3 → t < count
+      → IsItem p locals count (items.branch items.same (o ∷ os) when t)
+  same_item o os when t ho hos few lt =
+      (All-cons (IsOperand p locals) o os ho hos, (omega arith, omega (arith, few)), lt)
+
+  pub same_fine : (o : Operand) (os : List Operand) (at : ℕ) (when : Bool) (t : ℕ) → IsOperand p locals o
+      → All (IsOperand p locals) os → at + same_count os < count → t < count → Fine (same_items o os at when t)
+  same_fine o [] at when t ho hos lt le = first _ _ (same_item o [] when t ho hos (omega arith) le) nothing
+  same_fine o (x ∷ []) at when t ho hos lt le =
+      first _ _ (same_item o (x ∷ []) when t ho hos (omega arith) le) nothing
+  same_fine o (x ∷ y ∷ []) at when t ho hos lt le =
+      first _ _ (same_item o (x ∷ y ∷ []) when t ho hos (omega arith) le) nothing
+  same_fine o (x ∷ y ∷ z ∷ []) at when t ho hos lt le =
+      first _ _ (same_item o (x ∷ y ∷ z ∷ []) when t ho hos (omega arith) le) nothing
+  same_fine o (x ∷ y ∷ z ∷ u ∷ os) at when t ho hos lt le =
+      let P = IsOperand p locals in
+      let h1 = All-tail P x (y ∷ z ∷ u ∷ os) hos in
+      let h2 = All-tail P y (z ∷ u ∷ os) h1 in
+      let h3 = All-tail P z (u ∷ os) h2 in
+      let three = All-cons P x (y ∷ z ∷ []) (All-head P x (y ∷ z ∷ u ∷ os) hos)
+      (All-cons P y (z ∷ []) (All-head P y (z ∷ u ∷ os) h1) (one_operand z (All-head P z (u ∷ os) h2))) in
+      first _ _
+      (same_item o (x ∷ y ∷ z ∷ []) true (if when then t else at + 1 + same_count (u ∷ os)) ho three (omega arith)
+      (chosen when t (at + 1 + same_count (u ∷ os)) le (omega (arith, lt))))
+      (same_fine o (u ∷ os) (at + 1) when t ho h3 (omega (arith, lt)) le)
 
   pub two_fine : (oa ob : Operand) (xa xb tail : List Item) (na nb at : ℕ)
       → at + (if_pushed oa na 0 + if_pushed ob nb 0) < count → (at + na < count → Fine xa)

@@ -13,14 +13,16 @@ use Rattle.meaning.specs.Resolved.{Value, Values, none, more}
 use Rattle.meaning.specs.Resolved as source
 use Rattle.meaning.specs.Accepted.{IsVariable, IsValue, AreValues}
 use Rattle.code_values.specs.Items.{Item, Operand, pushed, Destination, push, into, operand_of, operands_of, alone}
-use Rattle.code_values.specs.Items.{left_of, if_pushed, is_few, comparison_when, equality_when, truth_count}
+use Rattle.code_values.specs.Items.{left_of, if_pushed, is_direct, same_count, comparison_when, equality_when, truth_count}
 use Rattle.code_values.specs.Items.{value_count, operand_count, operands_count, branch_count, many_count, also_count}
+use Rattle.code_values.specs.Items.{same_items}
 use Rattle.code_values.specs.Items.{value_items, operands_items, branch_items, many_items, also_items}
 use Rattle.code_values.specs.Items as items
+use Rattle.code_values.proofs.InPlace.{operands_counted}
 use Rattle.code_items.specs.Laws.{IsDestination, IsItem}
-use Rattle.code_items.proofs.Fine.{Bounds, Fine, branch_same, branch_two, chosen, counted_else, counted_then}
+use Rattle.code_items.proofs.Fine.{Bounds, Fine, same_fine, branch_two, chosen, counted_else, counted_then}
 use Rattle.code_items.proofs.Fine.{either_fine, first, joined, kept_fine, last, last_two, nothing, operand_fine}
-use Rattle.code_items.proofs.Fine.{operands_count_is, operands_fine, pushed_fine, true_fine, truth_fine, two_fine}
+use Rattle.code_items.proofs.Fine.{operands_fine, pushed_fine, true_fine, truth_fine, two_fine}
 
 module _ (here : Bounds) where
   open here use {p, locals, count}
@@ -54,7 +56,7 @@ module _ (here : Bounds) where
   call_item : (r : ℕ) (vs : Values) → IsValue p locals (source.call r vs) → (d : Destination)
       → IsDestination p locals d → IsItem p locals count (items.call r (operands_of vs) d)
   call_item r vs h d hd = let n =
-      operands_count_is vs in (h.0, operands_fine here vs h.3, omega (arith, n, h.1), omega (arith, n, h.2), hd)
+      operands_counted vs in (h.0, operands_fine here vs h.3, omega (arith, n, h.1), omega (arith, n, h.2), hd)
 
   pub call_fine : (r : ℕ) (vs : Values) → IsValue p locals (source.call r vs) → FineList vs
       → FineValue (source.call r vs)
@@ -128,18 +130,19 @@ module _ (here : Bounds) where
           (first here _ _ (branch_two here op (left_of a b) (alone b) (comparison_when op when) t
           (operand_fine here a (more b none) ha) (operand_fine here b none hb) le) (nothing here))
 
-  few_fine : (op : Equality) (a : Value) (bs : Values) → IsValue p locals a → AreValues p locals bs → FineValue a
-      → FineList bs → (at : ℕ) (when : Bool) (t : ℕ) → is_few bs ≡ true
-      → at + (operand_count a (operand_of a bs) + operands_count bs) < count → t < count
+  direct_fine : (op : Equality) (a : Value) (bs : Values) → IsValue p locals a → AreValues p locals bs → FineValue a
+      → FineList bs → (at : ℕ) (when : Bool) (t : ℕ)
+      → at + (operand_count a (operand_of a bs) + operands_count bs + same_count (operands_of bs)) < count → t < count
       → Fine here (if_pushed (operand_of a bs) (value_items at a push) []
-      ++ (operands_items (at + operand_count a (operand_of a bs)) bs ++ items.branch items.same
-      (operand_of a bs ∷ operands_of bs) (equality_when op when) t ∷ []))
-  few_fine op a bs ha hbs fa fbs at when t few lt le =
+      ++ (operands_items (at + operand_count a (operand_of a bs)) bs ++ same_items (operand_of a bs) (operands_of bs)
+      (at + operand_count a (operand_of a bs) + operands_count bs) (equality_when op when) t))
+  direct_fine op a bs ha hbs fa fbs at when t lt le =
       joined here (if_pushed (operand_of a bs) (value_items at a push) []) _
       (operand_pushed (operand_of a bs) a fa at (omega (arith, lt)))
-      (last here (operands_items (at + operand_count a (operand_of a bs)) bs) _
+      (joined here (operands_items (at + operand_count a (operand_of a bs)) bs) _
       (fbs.list (at + operand_count a (operand_of a bs)) (omega (arith, lt)))
-      (branch_same here a bs (equality_when op when) t few ha hbs le))
+      (same_fine here (operand_of a bs) (operands_of bs) (at + operand_count a (operand_of a bs) + operands_count bs)
+      (equality_when op when) t (operand_fine here a bs ha) (operands_fine here bs hbs) (omega (arith, lt)) le))
 
   all_fine : (op : Equality) (a : Value) (bs : Values) → FineValue a → FineList bs → (at : ℕ) (when : Bool) (t : ℕ)
       → at + (value_count a push + many_count bs) < count → t < count
@@ -152,21 +155,21 @@ module _ (here : Bounds) where
       → FineList bs → FineValue (source.equal op a bs)
   equal_fine op a bs ha hbs fa fbs = record {
     value = λ at d hd lt.
-        either_fine here (is_few bs) _ _
-        (λ e. let l = counted_then here (is_few bs) at few all (truth_count d) lt e in
-        truth_fine here at few d _ hd l (λ t le. few_fine op a bs ha hbs fa fbs at true t e (omega (arith, l)) le))
-        (λ e. let l = counted_else here (is_few bs) at few all (truth_count d) lt e in
+        either_fine here (is_direct a bs) _ _
+        (λ e. let l = counted_then here (is_direct a bs) at direct all (truth_count d) lt e in
+        truth_fine here at direct d _ hd l (λ t le. direct_fine op a bs ha hbs fa fbs at true t (omega (arith, l)) le))
+        (λ e. let l = counted_else here (is_direct a bs) at direct all (truth_count d) lt e in
         truth_fine here at all d _ hd l (λ t le. all_fine op a bs fa fbs at true t (omega (arith, l)) le));
     branch = λ at when t lt le.
-        either_fine here (is_few bs) _ _
-        (λ e. let l = counted_then here (is_few bs) at few all 0 (omega (arith, lt)) e in
-        few_fine op a bs ha hbs fa fbs at when t e (omega (arith, l)) le)
-        (λ e. let l = counted_else here (is_few bs) at few all 0 (omega (arith, lt)) e in
+        either_fine here (is_direct a bs) _ _
+        (λ e. let l = counted_then here (is_direct a bs) at direct all 0 (omega (arith, lt)) e in
+        direct_fine op a bs ha hbs fa fbs at when t (omega (arith, l)) le)
+        (λ e. let l = counted_else here (is_direct a bs) at direct all 0 (omega (arith, lt)) e in
         all_fine op a bs fa fbs at when t (omega (arith, l)) le);
   }
     where
-      few : ℕ
-      few = operand_count a (operand_of a bs) + operands_count bs + 1
+      direct : ℕ
+      direct = operand_count a (operand_of a bs) + operands_count bs + same_count (operands_of bs)
 
       all : ℕ
       all = value_count a push + many_count bs

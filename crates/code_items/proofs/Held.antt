@@ -1,11 +1,15 @@
 -- Operands that are still what was evaluated.
 use Rattle.std.proofs.Common.{◌≡◌, ℕ, ◌+◌, ◌≤◌, List, [], ◌∷◌, length, Bool, true, false, refl, ap, ◌∙◌, subst, arith}
 use Rattle.std.specs.Prelude.{if◌then◌else◌}
+use Rattle.syntax_trees.specs.declared.tree.Prefix.{Prefix}
 use Rattle.meaning.specs.declared.resolved.Variable.{Variable}
-use Rattle.meaning.specs.Resolved.{Value, Values}
+use Rattle.meaning.specs.Resolved.{Value, Values, none, more}
 use Rattle.meaning.specs.Resolved as source
 use Rattle.meaning.specs.World.{Situation, value_in}
-use Rattle.code_values.specs.Items.{Operand, pushed, number, variable, operand_of, change}
+use Rattle.meaning.specs.Meaning.{with_prefix}
+use Rattle.code_values.specs.Items.{Operand, pushed, number, variable, prefix_operand, operand_of, operands_of}
+use Rattle.code_values.specs.Items.{if_pushed, change, is_in_place, all_in_place}
+use Rattle.code_values.proofs.InPlace.{both_true, stays_placed}
 use Rattle.code_items.specs.Stack.{Next, with_operand, with_operands}
 
 -- what is known of an operand whose value was evaluated
@@ -13,6 +17,13 @@ abbrev pub Held : Operand → ℕ → Situation → Type 0
 Held pushed v s = Unit {0}
 Held (number n) v s = n ≡ v
 Held (variable x) v s = value_in x s ≡ v
+
+-- an operator before a number that was evaluated makes this word of it
+pub prefix_held : (op : Prefix) (o : Operand) (v w : ℕ) (s last : Situation) → Held o v s → with_prefix op v ≡ w
+    → Held (prefix_operand op o) w last
+prefix_held op pushed v w s last h is = tt
+prefix_held op (number n) v w s last h is = ap (with_prefix op) h ∙ is
+prefix_held op (variable x) v w s last h is = tt
 
 -- the stack with an operand
 abbrev pub onto : Operand → ℕ → List ℕ → List ℕ
@@ -58,6 +69,12 @@ held_after pushed v s last still h = tt
 held_after (number n) v s last still h = h
 held_after (variable x) v s last still h = still x refl ∙ h
 
+-- an operator before an operand is no variable
+pub no_variable : (op : Prefix) (o : Operand) (x : Variable) → prefix_operand op o ≡ variable x → ⊥
+no_variable op pushed x e = absurd (cc)
+no_variable op (number n) x e = absurd (cc)
+no_variable op (variable y) x e = absurd (cc)
+
 -- a variable that stands in place is not changed by what is evaluated later
 pub not_changed : (v : Value) (later : Values) (x : Variable) → operand_of v later ≡ variable x
     → change x later ≡ false
@@ -66,4 +83,28 @@ not_changed (source.read y) later x e = go (change y later) refl e
     go : (b : Bool) → change y later ≡ b → (if b then pushed else variable y) ≡ variable x → change x later ≡ false
     go true f e = absurd (cc)
     go false f e = let is : y ≡ x = cc in subst (λ z. change z later ≡ false) is f
+not_changed (source.prefixed op v) later x e = absurd (no_variable op (operand_of v none) x e)
 not_changed v later x e = absurd (cc)
+
+-- Operands that stand in place
+
+abbrev pub AllPlaced : List Operand → Type 0
+AllPlaced [] = Unit {0}
+AllPlaced (o ∷ os) = (if_pushed o false true ≡ true) × AllPlaced os
+
+onto_one : (o : Operand) (v : ℕ) (words : List ℕ) → if_pushed o false true ≡ true → onto o v words ≡ words
+onto_one pushed v words e = absurd (cc)
+onto_one (number n) v words e = refl
+onto_one (variable x) v words e = refl
+
+-- nothing of them is on the stack
+pub onto_placed : (os : List Operand) (vs words : List ℕ) → AllPlaced os → onto_all os vs words ≡ words
+onto_placed [] vs words h = refl
+onto_placed (o ∷ os) [] words h = refl
+onto_placed (o ∷ os) (v ∷ vs) words h =
+    ap (λ ws. onto_all os vs ws) (onto_one o v words h.0) ∙ onto_placed os vs words h.1
+
+pub all_placed : (vs : Values) → all_in_place vs ≡ true → AllPlaced (operands_of vs)
+all_placed none e = tt
+all_placed (more v vs) e =
+    let h = both_true (is_in_place v) (all_in_place vs) e in (stays_placed v vs h.0 h.1, all_placed vs h.1)

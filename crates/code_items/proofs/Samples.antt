@@ -44,6 +44,12 @@ sum_assigned : action_items outside 0 (effect (assign x (binary binaries.Add (re
     ≡ operate binaries.Add (items.variable y) (items.number 5) (into x) ∷ []
 sum_assigned = refl
 
+-- x = y + -5;
+negative_added : action_items outside 0
+    (effect (assign x (binary binaries.Add (read y) (prefixed prefixes.Minus (number 5)))))
+    ≡ operate binaries.Add (items.variable y) (items.number 65531) (into x) ∷ []
+negative_added = refl
+
 -- x = -y;
 negated : action_items outside 0 (effect (assign x (prefixed prefixes.Minus (read y))))
     ≡ apply_prefix prefixes.Minus (items.variable y) (into x) ∷ []
@@ -175,9 +181,30 @@ entry_tested : action_items outside 0 (if_then (source.entry widths.Byte 3 (read
 entry_tested = refl
 
 -- if (x == 1 or 2 or 3 or 4) F();
-many_compared : action_items outside 0
+many_in_place : action_items outside 0
     (if_then (equal equalities.Equal (read x)
     (more (number 1) (more (number 2) (more (number 3) (more (number 4) none))))) (effect called))
+    ≡ branch same (items.variable x ∷ items.number 1 ∷ items.number 2 ∷ items.number 3 ∷ []) true 2
+    ∷ branch same (items.variable x ∷ items.number 4 ∷ []) false 3
+    ∷ items.call 7 [] nowhere
+    ∷ []
+many_in_place = refl
+
+-- if (x ~= 1 or 2 or 3 or y or -5) F();
+none_in_place : action_items outside 0
+    (if_then (equal equalities.NotEqual (read x)
+    (more (number 1) (more (number 2) (more (number 3) (more (read y) (more (prefixed prefixes.Minus (number 5))
+    none)))))) (effect called))
+    ≡ branch same (items.variable x ∷ items.number 1 ∷ items.number 2 ∷ items.number 3 ∷ []) true 3
+    ∷ branch same (items.variable x ∷ items.variable y ∷ items.number 65531 ∷ []) true 3
+    ∷ items.call 7 [] nowhere
+    ∷ []
+none_in_place = refl
+
+-- if (x == 1 or 2 or 3 or F()) F();
+many_compared : action_items outside 0
+    (if_then (equal equalities.Equal (read x)
+    (more (number 1) (more (number 2) (more (number 3) (more called none))))) (effect called))
     ≡ move (items.variable x) push
     ∷ move (items.number 1) push
     ∷ first_equal
@@ -185,7 +212,7 @@ many_compared : action_items outside 0
     ∷ also_equal
     ∷ move (items.number 3) push
     ∷ also_equal
-    ∷ move (items.number 4) push
+    ∷ items.call 7 [] push
     ∷ also_equal
     ∷ drop_below
     ∷ branch is_zero (pushed ∷ []) true 12

@@ -1,43 +1,32 @@
 -- What is written for `==` and `~=`, and for lists of expressions.
 use Rattle.std.proofs.Common.{◌≡◌, ℕ, zero, suc, ◌+◌, ◌-◌, ◌<◌, List, [], ◌∷◌, ◌++◌, length, map, drop, slice_index_or}
 use Rattle.std.proofs.Common.{Bool, true, false, refl, sym, ap, subst, ◌∙◌, arith, append_assoc, length-append}
-use Rattle.std.specs.Prelude.{nat_le, nat_lt, if◌then◌else◌}
+use Rattle.std.specs.Prelude.{nat_lt, if◌then◌else◌}
 use Rattle.syntax_trees.specs.declared.tree.Binary.{Binary}
 use Rattle.syntax_trees.specs.declared.tree.Equality.{Equality}
 use Rattle.meaning.specs.declared.resolved.Value as code_value
 use Rattle.meaning.specs.Resolved.{Value, Values, none, more, value_of, values_of}
 use Rattle.meaning.specs.Resolved as source
 use Rattle.meaning.specs.Accepted.{count_of}
-use Rattle.code_values.specs.Items.{Item, Operand, pushed, push, same, operand_of, operands_of, if_pushed, is_few}
-use Rattle.code_values.specs.Items.{branch_true, equality_when, value_count, truth_items, value_items, operands_items}
-use Rattle.code_values.specs.Items.{also_items}
+use Rattle.code_values.specs.Items.{Item, Operand, pushed, push, same, operand_of, operands_of, if_pushed}
+use Rattle.code_values.specs.Items.{is_in_place, all_in_place, is_direct, branch_true, equality_when, value_count}
+use Rattle.code_values.specs.Items.{operands_count, truth_items, same_items, value_items, operands_items, also_items}
 use Rattle.code_values.specs.Items as items
 use Rattle.code_values.specs.declared.wanted.Wanted.{Wanted}
 use Rattle.code_values.specs.declared.wanted.Wanted.TheVariants.{Word}
 use Rattle.code_values.specs.declared.item.Destination.TheVariants as destinations
-use Rattle.code_values.specs.Writing.{wanted_items, first_operand, second_operand, link_of, IsCondition, WritesBefore}
-use Rattle.code_values.specs.Writing.{ReducesTruth}
+use Rattle.code_values.specs.Writing.{wanted_items, first_operand, second_operand, alones, link_of, IsCondition}
+use Rattle.code_values.specs.Writing.{WritesBefore, Leaves, ReducesTruth}
 use Rattle.code_values.proofs.Counts.{value_length, operands_length}
+use Rattle.code_values.proofs.InPlace.{are_few, both_true, operands_placed, nothing_pushed, nothing_counted}
+use Rattle.code_values.proofs.InPlace.{direct_few, placed, on_stack, in_instructions, same_last, few_counted}
 use Rattle.code_values.proofs.WrittenItems.{one, both, as_items, then_one, after_one}
 use Rattle.code_values.specs.ValueWriting.{pushes, both_push, folded_items, ReducesLinks, ReducesLink, ReducesEquality}
 use Rattle.code_values.proofs.OperationForms.{links_next}
 use Rattle.code_values.proofs.Values.{pushes_length}
 
--- one instruction does, or it does not
-few_or_not : (n : ℕ) → nat_lt n 3 ≡ nat_le (n + 1) 3
-few_or_not n = let e : suc n ≡ n + 1 = omega arith in ap (λ m. nat_le m 3) e
-
-are_few : (b : Value) (bs : Values) (known : Bool) → nat_lt (count_of bs) 3 ≡ known → is_few (more b bs) ≡ known
-are_few b bs known e = sym (few_or_not (count_of bs)) ∙ e
-
-then_is : {A : Type 0} (t : Bool) → t ≡ true → (x y : A) → x ≡ (if t then x else y)
-then_is t e x y = ap (λ b. if b then x else y) (sym e)
-
-else_is : {A : Type 0} (t : Bool) → t ≡ false → (x y : A) → y ≡ (if t then x else y)
-else_is t e x y = ap (λ b. if b then x else y) (sym e)
-
 equal_condition : (op : Equality) (a : Value) (bs : Values) → IsCondition (source.equal op a bs)
-equal_condition op a bs at d = go (is_few bs) _ _ _ _
+equal_condition op a bs at d = go (is_direct a bs) _ _ _ _
   where
     go : (b : Bool) (m k : ℕ) (f g : ℕ → List Item) → (if b then truth_items at m d f else truth_items at k d g)
         ≡ truth_items at (if b then m else k) d (λ t. if b then f t else g t)
@@ -55,48 +44,99 @@ both_length oa ob a b n at =
       pushes_length ob b n (at + if_pushed oa (value_count a push) 0),
     )
 
--- all right sides in one instruction
-pub few_link : (c c1 c2 c3 : List Item) (wanted : Wanted) (when : Bool) (target : ℕ) (op : Equality) (oa ob : Operand)
-    (bs : Values) → nat_lt (count_of bs) 3 ≡ true → ReducesTruth c c1 wanted when target
-    → c2 ≡ c1 ++ items.branch same (oa ∷ ob ∷ operands_of bs) (equality_when op when) target ∷ []
-    → WritesBefore c2 c3 (λ n at. operands_items at bs) → ReducesEquality c c3 wanted op oa ob bs
-few_link c c1 c2 c3 wanted when target op oa ob bs few reduces e wb a b ea eb =
-    let is = are_few b bs true few in
+then_is : {A : Type 0} (t : Bool) → t ≡ true → (x y : A) → x ≡ (if t then x else y)
+then_is t e x y = ap (λ b. if b then x else y) (sym e)
+
+else_is : {A : Type 0} (t : Bool) → t ≡ false → (x y : A) → y ≡ (if t then x else y)
+else_is t e x y = ap (λ b. if b then x else y) (sym e)
+
+-- all right sides by instructions alone
+direct_link : (c c1 c3 : List Item) (wanted : Wanted) (when : Bool) (target : ℕ) (op : Equality) (oa ob : Operand)
+    (a b : Value) (bs : Values) → is_direct a (more b bs) ≡ true → oa ≡ operand_of a (more b bs) → ob ≡ operand_of b bs
+    → ReducesTruth c c1 wanted when target
+    → WritesBefore c1 c3 (λ n at. operands_items at bs
+    ++ same_items oa (ob ∷ operands_of bs) (at + operands_count bs) (equality_when op when) (n - target))
+    → Leaves c c3 (wanted_items wanted (source.equal op a (more b bs))) (both_push oa a ob b)
+direct_link c c1 c3 wanted when target op oa ob a b bs is fa fb reduces wb =
     let ka = if_pushed oa (value_count a push) 0 in
     let kb = if_pushed ob (value_count b push) 0 in
-    let fa : oa ≡ operand_of a (more b bs) = ea ∙ ap (λ t. if t then operand_of a (more b bs) else pushed) is in
-    let fb : ob ≡ operand_of b bs = eb ∙ ap (λ t. if t then operand_of b bs else pushed) is in
     record {
       with_rest = λ c4 w.
           (reduces (source.equal op a (more b bs)) (equal_condition op a (more b bs))).with_rest c4
           (as_items (λ n at _.
           let there : at + (ka + kb) ≡ at + ka + kb = omega arith in
-          ap (λ m. both_push oa a ob b n at
-          ++ (operands_items m bs ++ items.branch same (oa ∷ ob ∷ operands_of bs) (equality_when op when)
-          (n - target) ∷ [])) there
-          ∙ ap (λ x. whole x ob a b n at) fa ∙ ap (λ y. whole (operand_of a (more b bs)) y a b n at) fb
-          ∙ regroup (operand_of a (more b bs)) (operand_of b bs) a b n at
-          ∙ then_is (is_few (more b bs)) is _ _)
-          (both (ka + kb) (λ n at. both_length oa ob a b n at)
-          (after_one _ (items.branch same (oa ∷ ob ∷ operands_of bs) (equality_when op when) target)
-          (λ n at. operands_length bs at) e wb) w));
+          ap (λ m. both_push oa a ob b n at ++ (operands_items m bs ++ same_items oa (ob ∷ operands_of bs)
+          (m + operands_count bs) (equality_when op when) (n - target))) there
+          ∙ ap (λ x. whole x ob n at) fa ∙ ap (λ y. whole (operand_of a (more b bs)) y n at) fb
+          ∙ regroup (operand_of a (more b bs)) (operand_of b bs) n at
+          ∙ then_is (is_direct a (more b bs)) is _ _)
+          (both (ka + kb) (λ n at. both_length oa ob a b n at) wb w));
     }
   where
-    whole : Operand → Operand → Value → Value → ℕ → ℕ → List Item
-    whole x y a b n at =
-        both_push x a y b n at
-        ++ (operands_items (at + if_pushed x (value_count a push) 0 + if_pushed y (value_count b push) 0) bs
-        ++ items.branch same (x ∷ y ∷ operands_of bs) (equality_when op when) (n - target) ∷ [])
+    whole : Operand → Operand → ℕ → ℕ → List Item
+    whole x y n at =
+        let m = at + if_pushed x (value_count a push) 0 + if_pushed y (value_count b push) 0 in
+        both_push x a y b n at ++ (operands_items m bs ++ same_items x (y ∷ operands_of bs)
+        (m + operands_count bs) (equality_when op when) (n - target))
 
-    few_items : Operand → Operand → Value → Value → ℕ → ℕ → List Item
-    few_items x y a b n at =
+    direct_items : Operand → Operand → ℕ → ℕ → List Item
+    direct_items x y n at =
         if_pushed x (value_items at a push) []
         ++ ((if_pushed y (value_items (at + if_pushed x (value_count a push) 0) b push) [] ++ operands_items
         (at + if_pushed x (value_count a push) 0 + if_pushed y (value_count b push) 0) bs)
-        ++ items.branch same (x ∷ y ∷ operands_of bs) (equality_when op when) (n - target) ∷ [])
+        ++ same_items x (y ∷ operands_of bs)
+        (at + if_pushed x (value_count a push) 0 + (if_pushed y (value_count b push) 0 + operands_count bs))
+        (equality_when op when) (n - target))
 
-    regroup : (x y : Operand) (a b : Value) (n at : ℕ) → whole x y a b n at ≡ few_items x y a b n at
-    regroup x y a b n at = simp append_assoc
+    grouped : (xs ys zs us : List Item) → (xs ++ ys) ++ (zs ++ us) ≡ xs ++ ((ys ++ zs) ++ us)
+    grouped xs ys zs us = simp append_assoc
+
+    regroup : (x y : Operand) (n at : ℕ) → whole x y n at ≡ direct_items x y n at
+    regroup x y n at =
+        let kx = if_pushed x (value_count a push) 0 in
+        let ky = if_pushed y (value_count b push) 0 in
+        let there : at + kx + ky + operands_count bs ≡ at + kx + (ky + operands_count bs) = omega arith in
+        grouped (if_pushed x (value_items at a push) []) (if_pushed y (value_items (at + kx) b push) [])
+        (operands_items (at + kx + ky) bs)
+        (same_items x (y ∷ operands_of bs) (at + kx + ky + operands_count bs) (equality_when op when) (n - target))
+        ∙ ap (λ m. if_pushed x (value_items at a push) []
+        ++ ((if_pushed y (value_items (at + kx) b push) [] ++ operands_items (at + kx + ky) bs)
+        ++ same_items x (y ∷ operands_of bs) m (equality_when op when) (n - target))) there
+
+-- by one
+pub few_link : (c c1 c2 c3 : List Item) (wanted : Wanted) (when : Bool) (target : ℕ) (op : Equality) (oa ob : Operand)
+    (bs : Values) → nat_lt (count_of bs) 3 ≡ true → ReducesTruth c c1 wanted when target
+    → c2 ≡ c1 ++ items.branch same (oa ∷ ob ∷ operands_of bs) (equality_when op when) target ∷ []
+    → WritesBefore c2 c3 (λ n at. operands_items at bs) → ReducesEquality c c3 wanted op oa ob bs
+few_link c c1 c2 c3 wanted when target op oa ob bs few reduces e wb a b ea eb =
+    let is = direct_few a (more b bs) (are_few b bs true few) in
+    let fa : oa ≡ operand_of a (more b bs) = ea ∙ ap (λ t. if t then operand_of a (more b bs) else pushed) is in
+    let fb : ob ≡ operand_of b bs = eb ∙ ap (λ t. if t then operand_of b bs else pushed) is in
+    direct_link c c1 c3 wanted when target op oa ob a b bs is fa fb reduces
+    (as_items (λ n at _. ap (λ l. operands_items at bs ++ l) (sym (same_last oa (ob ∷ operands_of bs)
+    (at + operands_count bs) (equality_when op when) (n - target) (few_counted ob bs few))))
+    (after_one _ (items.branch same (oa ∷ ob ∷ operands_of bs) (equality_when op when) target)
+    (λ n at. operands_length bs at) e wb))
+
+-- by several, where all stand in place
+pub placed_link : (c c1 c2 : List Item) (wanted : Wanted) (when : Bool) (target : ℕ) (op : Equality)
+    (oa ob : Operand) (bs : Values) → nat_lt (count_of bs) 3 ≡ false → if_pushed oa true false ≡ false
+    → ReducesTruth c c1 wanted when target
+    → WritesBefore c1 c2 (λ n at. same_items oa (ob ∷ alones bs) at (equality_when op when) (n - target))
+    → ReducesEquality c c2 wanted op oa ob bs
+placed_link c c1 c2 wanted when target op oa ob bs many off reduces w a b ea eb =
+    let is = in_instructions oa a b bs ea off in
+    let fa : oa ≡ operand_of a (more b bs) = ea ∙ ap (λ t. if t then operand_of a (more b bs) else pushed) is in
+    let fb : ob ≡ operand_of b bs = eb ∙ ap (λ t. if t then operand_of b bs else pushed) is in
+    let h = placed a (more b bs) (are_few b bs false many) is in
+    let p = (both_true (is_in_place b) (all_in_place bs) h.1).1 in
+    direct_link c c1 c2 wanted when target op oa ob a b bs is fa fb reduces
+    (as_items (λ n at _.
+    let there : at ≡ at + operands_count bs = omega (arith, nothing_counted bs p) in
+    ap (λ os. same_items oa (ob ∷ os) at (equality_when op when) (n - target)) (sym (operands_placed bs p))
+    ∙ ap (λ m. same_items oa (ob ∷ operands_of bs) m (equality_when op when) (n - target)) there
+    ∙ ap (λ is. is ++ same_items oa (ob ∷ operands_of bs) (at + operands_count bs) (equality_when op when)
+    (n - target)) (sym (nothing_pushed bs at p))) w)
 
 also_are : (vs : Values) (op : Equality) (when : Bool) (at t : ℕ) → also_items at op vs when t
     ≡ folded_items at vs ++ items.drop_below ∷ branch_true pushed (equality_when op when) t ∷ []
@@ -124,12 +164,13 @@ folded_length (more v vs) at =
 
 -- each right side by itself
 pub many_link : (c c1 c2 c3 c4 c5 : List Item) (wanted : Wanted) (when : Bool) (target : ℕ) (op : Equality)
-    (oa ob : Operand) (bs : Values) → nat_lt (count_of bs) 3 ≡ false → ReducesTruth c c1 wanted when target
+    (oa ob : Operand) (bs : Values) → nat_lt (count_of bs) 3 ≡ false → if_pushed oa true false ≡ true
+    → ReducesTruth c c1 wanted when target
     → c2 ≡ c1 ++ branch_true pushed (equality_when op when) target ∷ [] → c3 ≡ c2 ++ items.drop_below ∷ []
     → WritesBefore c3 c4 (λ n at. folded_items at bs) → c5 ≡ c4 ++ items.first_equal ∷ []
     → ReducesEquality c c5 wanted op oa ob bs
-many_link c c1 c2 c3 c4 c5 wanted when target op oa ob bs many reduces e2 e3 wf e5 a b ea eb =
-    let is = are_few b bs false many in
+many_link c c1 c2 c3 c4 c5 wanted when target op oa ob bs many on reduces e2 e3 wf e5 a b ea eb =
+    let is = on_stack oa a b bs many ea on in
     let ka = value_count a push in
     let kb = value_count b push in
     let fa : oa ≡ pushed = ea ∙ ap (λ t. if t then operand_of a (more b bs) else pushed) is in
@@ -148,7 +189,7 @@ many_link c c1 c2 c3 c4 c5 wanted when target op oa ob bs many reduces e2 e3 wf 
           (sym (also_are bs op when (at + ka + kb + 1) (n - target)))
           ∙ append_assoc (value_items at a push) (value_items (at + ka) b push)
           (items.first_equal ∷ also_items (at + ka + kb + 1) op bs when (n - target))
-          ∙ else_is (is_few (more b bs)) is _ _)
+          ∙ else_is (is_direct a (more b bs)) is _ _)
           (both (ka + kb) (λ n at. both_length pushed pushed a b n at)
           (then_one items.first_equal
           (both (folded_count bs) (λ n at. folded_length bs at)
@@ -156,7 +197,7 @@ many_link c c1 c2 c3 c4 c5 wanted when target op oa ob bs many reduces e2 e3 wf 
     }
 
 pub equal_more : (c c1 c2 c3 : List Item) (wanted : Wanted) (op : Equality) (oa ob : Operand) (a b : Value)
-    (bs : Values) → oa ≡ first_operand a b bs → ob ≡ second_operand b bs → ReducesEquality c c1 wanted op oa ob bs
+    (bs : Values) → oa ≡ first_operand a b bs → ob ≡ second_operand a b bs → ReducesEquality c c1 wanted op oa ob bs
     → WritesBefore c1 c2 (pushes ob b) → WritesBefore c2 c3 (pushes oa a)
     → WritesBefore c c3 (wanted_items wanted (source.equal op a (more b bs)))
 equal_more c c1 c2 c3 wanted op oa ob a b bs ea eb link wb wa = (link a b ea eb).with_rest c3

@@ -1,6 +1,6 @@
 -- What is written for assignments, calls, operations and comparisons, as the code comes to them: with its own
 -- operands, destinations and tests.
-use Rattle.std.proofs.Common.{◌≡◌, ℕ, List, [], ◌∷◌, ◌++◌, length, Bool, true, false, sym, ap, subst, ◌∙◌, refl}
+use Rattle.std.proofs.Common.{◌≡◌, ℕ, ◌-◌, List, [], ◌∷◌, ◌++◌, length, Bool, true, false, sym, ap, subst, ◌∙◌, refl}
 use Rattle.std.specs.Prelude.{nat_lt, if◌then◌else◌}
 use Rattle.syntax_trees.specs.declared.tree.Binary.{Binary}
 use Rattle.syntax_trees.specs.declared.tree.Binary.TheVariants as binaries
@@ -11,7 +11,8 @@ use Rattle.meaning.specs.Resolved.{Value, Values}
 use Rattle.meaning.specs.Resolved as source
 use Rattle.meaning.specs.Accepted.{count_of}
 use Rattle.code_values.specs.Items.{Item, Operand, Destination, Test, pushed, into, branch_true, alone, operands_of}
-use Rattle.code_values.specs.Items.{operands_items, comparison_test, comparison_when, equality_when, same}
+use Rattle.code_values.specs.Items.{if_pushed, operands_items, same_items, comparison_test, comparison_when}
+use Rattle.code_values.specs.Items.{equality_when, same}
 use Rattle.code_values.specs.Items as items
 use Rattle.code_values.specs.Code.{as_operand, as_operands, as_destination}
 use Rattle.code_values.specs.declared.item.Destination as code_destination
@@ -19,12 +20,13 @@ use Rattle.code_values.specs.declared.item.Destination.TheVariants as destinatio
 use Rattle.code_values.specs.declared.item.Operand as code_operand
 use Rattle.code_values.specs.declared.wanted.Wanted.{Wanted}
 use Rattle.code_values.specs.declared.wanted.Wanted.TheVariants.{Word, Branch}
-use Rattle.code_values.specs.Writing.{wanted_items, ReducesWord, ReducesTruth, WritesBefore}
+use Rattle.code_values.specs.Writing.{wanted_items, alones, ReducesWord, ReducesTruth, WritesBefore}
 use Rattle.code_values.specs.ValueWriting.{pushes, folded_items, ReducesLink, ReducesComparison, ReducesEquality}
 use Rattle.code_values.proofs.OperationForms.{not_logical, operate_link, compare_link}
 use Rattle.code_values.proofs.Values.{call_more, and_link_at, or_link_at}
 use Rattle.code_values.proofs.Assigned.{assign_nowhere, assign_pushed, assign_kept}
-use Rattle.code_values.proofs.Alternatives.{few_link, many_link}
+use Rattle.code_values.proofs.WrittenItems.{as_items}
+use Rattle.code_values.proofs.Alternatives.{few_link, placed_link, many_link}
 
 -- Assignments
 
@@ -117,13 +119,30 @@ few_written c c1 c2 c3 wanted when known few target op oa ob sides os bs counted
     (added ∙ ap (λ (l : List code_operand.Operand). as_operands l ++ operands_of bs) are)
     ∙ ap (λ w. c1 ++ items.branch same (as_operand oa ∷ as_operand ob ∷ operands_of bs) w target ∷ []) known_is) wb
 
+-- by several, where all stand in place
+pub placed_written : (c c1 c2 : List Item) (wanted : Wanted) (when known few on : Bool) (target : ℕ) (op : Equality)
+    (oa ob : code_operand.Operand) (sides os given : List code_operand.Operand) (bs : Values)
+    → few ≡ nat_lt (count_of bs) 3 → few ≡ false → on ≡ if_pushed (as_operand oa) true false → on ≡ false
+    → ReducesTruth c c1 wanted when target → sides ≡ ob ∷ [] → as_operands os ≡ as_operands sides ++ alones bs
+    → given ≡ os → known ≡ equality_when op when
+    → WritesBefore c1 c2 (λ n at. same_items (as_operand oa) (as_operands given) at known (n - target))
+    → ReducesEquality c c2 wanted op (as_operand oa) (as_operand ob) bs
+placed_written c c1 c2 wanted when known few on target op oa ob sides os given bs counted is pushes off reduces are added
+    same_given known_is w =
+    placed_link c c1 c2 wanted when target op (as_operand oa) (as_operand ob) bs (sym counted ∙ is)
+    (sym pushes ∙ off) reduces
+    (as_items (λ n at _. ap (λ l. same_items (as_operand oa) l at known (n - target))
+    (ap as_operands same_given ∙ added ∙ ap (λ (l : List code_operand.Operand). as_operands l ++ alones bs) are)
+    ∙ ap (λ v. same_items (as_operand oa) (as_operand ob ∷ alones bs) at v (n - target)) known_is) w)
+
 -- each right side by itself
-pub many_written : (c c1 c2 c3 c4 c5 : List Item) (wanted : Wanted) (when known few : Bool) (target : ℕ)
+pub many_written : (c c1 c2 c3 c4 c5 : List Item) (wanted : Wanted) (when known few on : Bool) (target : ℕ)
     (op : Equality) (oa ob : Operand) (bs : Values) → few ≡ nat_lt (count_of bs) 3 → few ≡ false
-    → ReducesTruth c c1 wanted when target → known ≡ equality_when op when
+    → on ≡ if_pushed oa true false → on ≡ true → ReducesTruth c c1 wanted when target → known ≡ equality_when op when
     → c2 ≡ c1 ++ branch_true pushed known target ∷ [] → c3 ≡ c2 ++ items.drop_below ∷ []
     → WritesBefore c3 c4 (λ n at. folded_items at bs) → c5 ≡ c4 ++ items.first_equal ∷ []
     → ReducesEquality c c5 wanted op oa ob bs
-many_written c c1 c2 c3 c4 c5 wanted when known few target op oa ob bs counted is reduces known_is e2 e3 wf e5 =
-    many_link c c1 c2 c3 c4 c5 wanted when target op oa ob bs (sym counted ∙ is) reduces
+many_written c c1 c2 c3 c4 c5 wanted when known few on target op oa ob bs counted is pushes so reduces known_is e2 e3 wf
+    e5 =
+    many_link c c1 c2 c3 c4 c5 wanted when target op oa ob bs (sym counted ∙ is) (sym pushes ∙ so) reduces
     (e2 ∙ ap (λ w. c1 ++ branch_true pushed w target ∷ []) known_is) e3 wf e5

@@ -6,10 +6,12 @@ use Rattle.meaning.specs.Resolved as source
 use Rattle.meaning.specs.Meaning.{is_true}
 use Rattle.code_values.specs.Items.{Item, pushed, number, variable, Destination, push, into, operand_of}
 use Rattle.code_values.specs.Items.{containment_when, first_of, operands_of, alone, left_of, if_pushed, branch_true}
-use Rattle.code_values.specs.Items.{agrees, is_few, comparison_test, comparison_when, equality_when, truth_count}
+use Rattle.code_values.specs.Items.{agrees, is_direct, same_count, comparison_test, comparison_when, equality_when, truth_count}
 use Rattle.code_values.specs.Items.{value_count, operand_count, operands_count, branch_count, many_count, also_count}
-use Rattle.code_values.specs.Items.{value_items, operands_items, branch_items, many_items, also_items, alone_items}
+use Rattle.code_values.specs.Items.{same_items, value_items, operands_items, branch_items, many_items, also_items}
+use Rattle.code_values.specs.Items.{alone_items}
 use Rattle.code_values.specs.Items as items
+use Rattle.code_values.proofs.InPlace.{same_length}
 use Rattle.code_values.proofs.CountedForms.{joined, if_length, moved_length, after_length, truth_length, two_length}
 use Rattle.code_values.proofs.CountedForms.{three_length, kept_length, known_length, either_length, either_and, Counted}
 use Rattle.code_values.proofs.CountedForms.{prefixed_counted, binary_counted, entry_counted, assign_entry_counted}
@@ -30,20 +32,21 @@ one_branch v c i when at t = omega (
       (if_length (alone v) _ _ (c.value push at)) refl,
 )
 
-few_length : (op : Equality) (a : Value) (bs : Values) → Counted a
+direct_length : (op : Equality) (a : Value) (bs : Values) → Counted a
     → ((at : ℕ) → length (operands_items at bs) ≡ operands_count bs) → (when : Bool) (at t : ℕ)
     → length (if_pushed (operand_of a bs) (value_items at a push) []
-    ++ (operands_items (at + operand_count a (operand_of a bs)) bs ++ items.branch items.same
-    (operand_of a bs ∷ operands_of bs) (equality_when op when) t ∷ []))
-    ≡ operand_count a (operand_of a bs) + operands_count bs + 1
-few_length op a bs c cs when at t =
+    ++ (operands_items (at + operand_count a (operand_of a bs)) bs ++ same_items (operand_of a bs) (operands_of bs)
+    (at + operand_count a (operand_of a bs) + operands_count bs) (equality_when op when) t))
+    ≡ operand_count a (operand_of a bs) + operands_count bs + same_count (operands_of bs)
+direct_length op a bs c cs when at t =
+    let o = operand_of a bs in
+    let m = at + operand_count a o in
     omega (
       arith,
-      joined (if_pushed (operand_of a bs) (value_items at a push) []) _ _ _
-          (if_length (operand_of a bs) _ _ (c.value push at))
-          (joined (operands_items (at + operand_count a (operand_of a bs)) bs)
-          (items.branch items.same (operand_of a bs ∷ operands_of bs) (equality_when op when) t ∷ []) _ 1
-          (cs (at + operand_count a (operand_of a bs))) refl),
+      joined (if_pushed o (value_items at a push) []) _ _ _ (if_length o _ _ (c.value push at))
+          (joined (operands_items m bs)
+          (same_items o (operands_of bs) (m + operands_count bs) (equality_when op when) t) _ _
+          (cs m) (same_length o (operands_of bs) (m + operands_count bs) (equality_when op when) t)),
     )
 
 one_more : (i : Item) (xs : List Item) (n : ℕ) → length xs ≡ n → length (i ∷ xs) ≡ 1 + n
@@ -81,13 +84,13 @@ mutual
   }
   counted (source.equal op a bs) = record {
     value = λ d at.
-        either_and (is_few bs) _ _ _ _ (truth_count d)
-        (truth_length at _ d _ (λ t. few_length op a bs (counted a) (operands_length bs) true at t))
+        either_and (is_direct a bs) _ _ _ _ (truth_count d)
+        (truth_length at _ d _ (λ t. direct_length op a bs (counted a) (operands_length bs) true at t))
         (truth_length at _ d _
         (λ t. joined (value_items at a push) _ _ _ ((counted a).value push at)
         (many_length bs op true (at + value_count a push) t)));
     branch = λ when at t.
-        either_length (is_few bs) _ _ _ _ (few_length op a bs (counted a) (operands_length bs) when at t)
+        either_length (is_direct a bs) _ _ _ _ (direct_length op a bs (counted a) (operands_length bs) when at t)
         (joined (value_items at a push) _ _ _ ((counted a).value push at)
         (many_length bs op when (at + value_count a push) t));
   }

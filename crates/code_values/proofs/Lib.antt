@@ -3,6 +3,8 @@ pub mod Counts
 pub mod Trees
 pub mod Drafts
 pub mod Operands
+pub mod InPlace
+pub mod SameRounds
 pub mod WrittenItems
 pub mod Reductions
 pub mod OperationForms

@@ -5,21 +5,28 @@ use Rattle.std.proofs.lemmas.List.{map-append}
 use Rattle.std.specs.Prelude.{if◌then◌else◌}
 use Rattle.meaning.specs.declared.resolved.Variable.{Variable}
 use Rattle.meaning.specs.declared.resolved.Value as code_value
-use Rattle.meaning.specs.Resolved.{Value, Values, value_of, values_of}
+use Rattle.meaning.specs.Resolved.{Value, Values, none, value_of, values_of}
 use Rattle.meaning.specs.Resolved as source
-use Rattle.code_values.specs.Items.{Operand, pushed, number, variable, operand_of, operands_of, alone, change}
+use Rattle.code_values.specs.Items.{Operand, pushed, number, variable, prefix_operand, operand_of, operands_of}
+use Rattle.code_values.specs.Items.{alone, change}
 use Rattle.code_values.specs.declared.item.Operand as code
 use Rattle.code_values.specs.Code.{as_operand, as_operands}
 
 -- an operand before others
-abbrev kept : Operand → Values → Operand
+abbrev pub kept : Operand → Values → Operand
 kept pushed later = pushed
 kept (number n) later = number n
 kept (variable x) later = if change x later then pushed else variable x
 
-before_is : (v : Value) (later : Values) → operand_of v later ≡ kept (alone v) later
+pub before_is : (v : Value) (later : Values) → operand_of v later ≡ kept (alone v) later
 before_is (source.number n) later = refl
 before_is (source.read x) later = refl
+before_is (source.prefixed op v) later = go (operand_of v none)
+  where
+    go : (o : Operand) → prefix_operand op o ≡ kept (prefix_operand op o) later
+    go pushed = refl
+    go (number n) = refl
+    go (variable x) = refl
 before_is v later = refl
 
 pub before_pushed : (v : Value) (later : Values) → pushed ≡ alone v → pushed ≡ operand_of v later

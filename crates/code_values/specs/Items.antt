@@ -1,6 +1,6 @@
 -- Items: one for each act of the language, with its operands, where its word goes, its tests and its fault inside. The
 -- items of expressions, and how many they are.
-use Rattle.std.specs.Prelude.{◌||◌, ◌+◌, ◌==◌, not, ℕ, nat_le, Bool, true, false, if◌then◌else◌, List, [], ◌∷◌, ◌++◌}
+use Rattle.std.specs.Prelude.{◌&&◌, ◌||◌, ◌+◌, ◌==◌, not, ℕ, nat_le, Bool, true, false, if◌then◌else◌, List, [], ◌∷◌, ◌++◌}
 use Rattle.syntax_trees.specs.declared.tree.Binary.{Binary}
 use Rattle.syntax_trees.specs.declared.tree.Binary.TheVariants as binaries
 use Rattle.syntax_trees.specs.declared.tree.Comparison.{Comparison}
@@ -18,7 +18,7 @@ use Rattle.meaning.specs.declared.resolved.Variable.{Variable}
 use Rattle.meaning.specs.declared.resolved.Variable.TheVariants as variables
 use Rattle.meaning.specs.Resolved.{Value, Values, none, more}
 use Rattle.meaning.specs.Resolved as source
-use Rattle.meaning.specs.Meaning.{is_true}
+use Rattle.meaning.specs.Meaning.{is_true, with_prefix}
 use Rattle.meaning.specs.Accepted.{count_of}
 
 -- a word that an item takes: from the top of the stack, or one that stands in the instruction. A variable is read
@@ -154,11 +154,17 @@ abbrev mutual
   change x none = false
   change x (more v vs) = changes x v || change x vs
 
--- the operand for a value that is evaluated before others: a number and a variable stand in place, if those others do
--- not change it
+-- the operand for an operator before an operand: before a number it makes another number
+abbrev pub prefix_operand : Prefix → Operand → Operand
+prefix_operand op (number n) = number (with_prefix op n)
+prefix_operand op o = pushed
+
+-- the operand for a value that is evaluated before others: a number, also one with operators before it, and a variable
+-- stand in place, the variable if those others do not change it
 abbrev pub operand_of : Value → Values → Operand
 operand_of (source.number n) later = number n
 operand_of (source.read x) later = if change x later then pushed else variable x
+operand_of (source.prefixed op v) later = prefix_operand op (operand_of v none)
 operand_of v later = pushed
 
 -- the operands for values that are evaluated one after another
@@ -223,6 +229,23 @@ agrees false when = not when
 abbrev pub is_few : Values → Bool
 is_few vs = nat_le (count_of vs) 3
 
+-- what stands in place whatever is evaluated later, since that stands in place too
+abbrev pub is_in_place : Value → Bool
+is_in_place v = if_pushed (alone v) false true
+
+abbrev pub all_in_place : Values → Bool
+all_in_place none = true
+all_in_place (more v vs) = is_in_place v && all_in_place vs
+
+-- the sides of `==` are compared by instructions alone: by one, or by several where all stand in place
+abbrev pub is_direct : Value → Values → Bool
+is_direct a bs = is_few bs || (is_in_place a && all_in_place bs)
+
+-- by how many
+abbrev pub same_count : List Operand → ℕ
+same_count (x ∷ y ∷ z ∷ u ∷ os) = 1 + same_count (u ∷ os)
+same_count os = 1
+
 -- How many items
 
 -- an operand in place goes to a destination
@@ -269,7 +292,8 @@ abbrev mutual
       if_pushed (left_of a b) (value_count a push) 0 + if_pushed (alone b) (value_count b push) 0 + 1
       + truth_count d
   value_count (source.equal op a bs) d =
-      (if is_few bs then if_pushed (operand_of a bs) (value_count a push) 0 + operands_count bs + 1
+      (if is_direct a bs then
+      if_pushed (operand_of a bs) (value_count a push) 0 + operands_count bs + same_count (operands_of bs)
       else value_count a push + many_count bs)
       + truth_count d
   value_count (source.assign x v) d = kept_count d (value_count v (into x)) (value_count v push)
@@ -313,7 +337,8 @@ abbrev mutual
   branch_count (source.compare op a b) when =
       if_pushed (left_of a b) (value_count a push) 0 + if_pushed (alone b) (value_count b push) 0 + 1
   branch_count (source.equal op a bs) when =
-      if is_few bs then if_pushed (operand_of a bs) (value_count a push) 0 + operands_count bs + 1
+      if is_direct a bs then
+      if_pushed (operand_of a bs) (value_count a push) 0 + operands_count bs + same_count (operands_of bs)
       else value_count a push + many_count bs
   branch_count (source.assign x v) when = value_count v push + 2
   branch_count (source.entry width a i) when = if_pushed (alone i) (value_count i push) 0 + 1 + 1
@@ -334,7 +359,7 @@ abbrev mutual
       if_pushed (first_of v i w) (value_count v push) 0 + if_pushed (left_of i w) (value_count i push) 0
       + if_pushed (alone w) (value_count w push) 0 + 1 + 1
 
-  -- `==` of more than three, where the left side is pushed, and a branch by its flag
+  -- `==` of more than three that do not all stand in place: the left side is pushed, and a branch by its flag
   pub many_count : Values → ℕ
   many_count none = 1
   many_count (more v vs) = value_count v push + 1 + also_count vs
@@ -389,6 +414,13 @@ abbrev pub or_items : ℕ → ℕ → ℕ → Bool → ℕ → Branching → Bra
 or_items at n m when target first second =
     first at true (if when then target else at + n + m) ++ second (at + n) when target
 
+-- a branch where an operand equals one of others, and where there are more than three, `||` of several branches
+abbrev pub same_items : Operand → List Operand → Branching
+same_items o (x ∷ y ∷ z ∷ u ∷ os) at when target =
+    branch same (o ∷ x ∷ y ∷ z ∷ []) true (if when then target else at + 1 + same_count (u ∷ os))
+    ∷ same_items o (u ∷ os) (at + 1) when target
+same_items o os at when target = branch same (o ∷ os) when target ∷ []
+
 abbrev mutual
   -- an expression, whose word goes to a destination
   pub value_items : ℕ → Value → Destination → List Item
@@ -419,11 +451,12 @@ abbrev mutual
       ++ (if_pushed (alone b) (value_items (at + operand_count a (left_of a b)) b push) []
       ++ branch (comparison_test op) (left_of a b ∷ alone b ∷ []) (comparison_when op true) target ∷ []))
   value_items at (source.equal op a bs) d =
-      if is_few bs then
-      truth_items at (operand_count a (operand_of a bs) + operands_count bs + 1) d (λ target.
+      if is_direct a bs then
+      truth_items at (operand_count a (operand_of a bs) + operands_count bs + same_count (operands_of bs)) d (λ target.
       if_pushed (operand_of a bs) (value_items at a push) []
       ++ (operands_items (at + operand_count a (operand_of a bs)) bs
-      ++ branch same (operand_of a bs ∷ operands_of bs) (equality_when op true) target ∷ []))
+      ++ same_items (operand_of a bs) (operands_of bs) (at + operand_count a (operand_of a bs) + operands_count bs)
+      (equality_when op true) target))
       else truth_items at (value_count a push + many_count bs) d
       (λ target. value_items at a push ++ many_items (at + value_count a push) op bs true target)
   value_items at (source.assign x v) d =
@@ -501,10 +534,11 @@ abbrev mutual
       ++ (if_pushed (alone b) (value_items (at + operand_count a (left_of a b)) b push) []
       ++ branch (comparison_test op) (left_of a b ∷ alone b ∷ []) (comparison_when op when) target ∷ [])
   branch_items at (source.equal op a bs) when target =
-      if is_few bs then
+      if is_direct a bs then
       if_pushed (operand_of a bs) (value_items at a push) []
       ++ (operands_items (at + operand_count a (operand_of a bs)) bs
-      ++ branch same (operand_of a bs ∷ operands_of bs) (equality_when op when) target ∷ [])
+      ++ same_items (operand_of a bs) (operands_of bs) (at + operand_count a (operand_of a bs) + operands_count bs)
+      (equality_when op when) target)
       else value_items at a push ++ many_items (at + value_count a push) op bs when target
   branch_items at (source.assign x v) when target =
       value_items at v push ++ keep x ∷ branch_true pushed when target ∷ []
@@ -547,7 +581,7 @@ abbrev mutual
       (value_items (at + operand_count v (first_of v i w) + operand_count i (left_of i w)) w push) []
       ++ assign_property_word p (first_of v i w) (left_of i w) (alone w) push ∷ branch_true pushed when target ∷ []))
 
-  -- `==` of more than three, where the left side is pushed
+  -- `==` of more than three that do not all stand in place, where the left side is pushed
   pub many_items : ℕ → Equality → Values → Bool → ℕ → List Item
   many_items at op none when target = branch_true pushed when target ∷ []
   many_items at op (more v vs) when target =

@@ -92,7 +92,7 @@ ReducesAssignedWord old new wanted p o q w = (v i : Value) → o ≡ items.first
 -- `==` and `~=`: those that push the left side and the first right side
 abbrev pub ReducesEquality : List Item → List Item → Wanted → Equality → Operand → Operand → Values → Type 0
 ReducesEquality old new wanted op oa ob bs =
-    (a b : Value) → oa ≡ first_operand a b bs → ob ≡ second_operand b bs
+    (a b : Value) → oa ≡ first_operand a b bs → ob ≡ second_operand a b bs
     → Leaves old new (wanted_items wanted (source.equal op a (more b bs))) (both_push oa a ob b)
 
 -- The same of drafts, as the code has them

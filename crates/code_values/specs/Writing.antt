@@ -5,8 +5,9 @@ use Rattle.syntax_trees.specs.declared.tree.Binary.{Binary}
 use Rattle.syntax_trees.specs.declared.tree.Binary.TheVariants as binaries
 use Rattle.meaning.specs.declared.resolved.Variable.{Variable}
 use Rattle.meaning.specs.declared.resolved.Value as code_value
-use Rattle.meaning.specs.Resolved.{Value, Values, more, value_of, values_of}
-use Rattle.code_values.specs.Items.{Item, Operand, pushed, changes, Destination, push, operand_of, operands_of, is_few}
+use Rattle.meaning.specs.Resolved.{Value, Values, none, more, value_of, values_of}
+use Rattle.code_values.specs.Items.{Item, Operand, pushed, changes, Destination, push, alone, operand_of, operands_of}
+use Rattle.code_values.specs.Items.{is_direct}
 use Rattle.code_values.specs.Items.{branch_true, branch_count, truth_items, value_items, branch_items, moved}
 use Rattle.code_values.specs.Items as items
 use Rattle.code_values.specs.Code.{as_operand, as_operands, as_destination, items_of}
@@ -83,11 +84,16 @@ change_links x (l ∷ ls) = changes x l.1 || change_links x ls
 
 -- the operand for the left side, before the first right side and others
 abbrev pub first_operand : Value → Value → Values → Operand
-first_operand a b bs = if is_few (more b bs) then operand_of a (more b bs) else pushed
+first_operand a b bs = if is_direct a (more b bs) then operand_of a (more b bs) else pushed
 
 -- the operand for the first right side
-abbrev pub second_operand : Value → Values → Operand
-second_operand b bs = if is_few (more b bs) then operand_of b bs else pushed
+abbrev pub second_operand : Value → Value → Values → Operand
+second_operand a b bs = if is_direct a (more b bs) then operand_of b bs else pushed
+
+-- the operands for right sides that stand in place
+abbrev pub alones : Values → List Operand
+alones none = []
+alones (more v vs) = alone v ∷ alones vs
 
 -- a condition as a word
 abbrev pub chosen_items : Value → Destination → ℕ → List Item
@@ -168,9 +174,18 @@ abbrev pub left_side : code_value.Value → code_value.Value → List code_value
 left_side a b bs = first_operand (value_of a) (value_of b) (values_in bs)
 
 -- the one for the first right side
-abbrev pub right_side : code_value.Value → List code_value.Value → Operand
-right_side b bs = second_operand (value_of b) (values_in bs)
+abbrev pub right_side : code_value.Value → code_value.Value → List code_value.Value → Operand
+right_side a b bs = second_operand (value_of a) (value_of b) (values_in bs)
+
+-- an operand equals one of others: a branch by it
+abbrev pub WritesSame : Draft → Draft → code_operand.Operand → List code_operand.Operand → Bool → ℕ → Type 0
+WritesSame old new o os when left =
+    Writes old new (λ n at. items.same_items (as_operand o) (as_operands os) at when (n - left))
 
 -- behind other operands stand those for expressions that are evaluated one after another
 abbrev pub AddsOperands : List code_operand.Operand → List code_operand.Operand → List code_value.Value → Type 0
 AddsOperands old new xs = as_operands new ≡ as_operands old ++ all_operands xs
+
+-- behind other operands stand those for expressions that stand in place
+abbrev pub AddsAlone : List code_operand.Operand → List code_operand.Operand → List code_value.Value → Type 0
+AddsAlone old new xs = as_operands new ≡ as_operands old ++ alones (values_in xs)

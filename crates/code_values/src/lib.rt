@@ -5,6 +5,7 @@ mod draft;
 mod item;
 mod operand;
 mod parts;
+mod several;
 mod value;
 mod wanted;
 

@@ -1,17 +1,18 @@
 //! Which operands stand in place.
 
-ghost use Rattle.std.specs.Prelude.{◌≡◌, ◌||◌, map, nat_lt, OnOk};
-ghost use Rattle.meaning.specs.Resolved.{value_of};
+ghost use Rattle.std.specs.Prelude.{◌≡◌, ◌&&◌, ◌||◌, true, false, map, nat_lt, OnOk};
+ghost use Rattle.meaning.specs.Resolved.{none, more, value_of};
 ghost use Rattle.meaning.specs.Accepted.{count_of};
+ghost use Rattle.meaning.specs.Meaning.{with_prefix};
 ghost use Rattle.code_values.specs.Items as items;
 ghost use Rattle.code_values.specs.Code.{as_operand};
 ghost use Rattle.code_values.specs.Writing.{change_links, link_of, values_in, more_in, left_side};
-ghost use Rattle.code_values.specs.Writing.{right_side, AddsOperands};
+ghost use Rattle.code_values.specs.Writing.{right_side, AddsOperands, AddsAlone};
 
 use crate::item::Operand;
 use meaning::{Value, Variable};
 use std::alloc::AllocError;
-use syntax_trees::Binary;
+use syntax_trees::{Binary, Prefix};
 
 fn is_same(left: Variable, right: Variable) -> bool
     ensures { result ≡ items.is_same left right }
@@ -109,6 +110,27 @@ fn links_change(variable: Variable, links: &[(Binary, Value)]) -> bool
     false
 }
 
+/// The number that an operator before a number makes of it.
+fn with_prefix(prefix: Prefix, number: u16) -> u16
+    ensures { result ≡ with_prefix prefix number }
+{
+    match prefix {
+        Prefix::Minus => ((65536 - number as u32) % 65536) as u16,
+        Prefix::Complement => 65535 - number,
+        Prefix::Not => { if number == 0 { 1 } else { 0 } }
+    }
+}
+
+/// The operand for an operator before an operand: before a number it makes another number.
+fn prefix_operand(prefix: Prefix, operand: Operand) -> Operand
+    ensures { as_operand result ≡ items.prefix_operand prefix (as_operand operand) }
+{
+    match operand {
+        Operand::Number(number) => Operand::Number(with_prefix(prefix, number)),
+        Operand::Pushed | Operand::Variable(_) => Operand::Pushed,
+    }
+}
+
 /// The operand for an expression after which none is evaluated.
 pub fn alone(value: &Value) -> Operand
     ensures { as_operand result ≡ items.alone (value_of value.now) }
@@ -118,8 +140,8 @@ pub fn alone(value: &Value) -> Operand
         Value::Read(variable) => Operand::Variable(*variable),
         Value::Chain(..) => Operand::Pushed,
         Value::Property(..) => Operand::Pushed,
+        Value::Prefixed(prefix, operand) => prefix_operand(*prefix, alone(operand)),
         Value::Call(..)
-        | Value::Prefixed(..)
         | Value::StepBefore(..)
         | Value::StepAfter(..)
         | Value::Compare(..)
@@ -157,6 +179,21 @@ pub fn before(value: &Value, later: &[Value]) -> Operand
     }
 }
 
+/// Whether the evaluation of an expression, or of one of several after it, may change a variable.
+fn next_changes(variable: Variable, next: &Value, later: &[Value]) -> bool
+    ensures { result ≡ items.change variable (more_in next.now later.now) }
+{
+    changes(variable, next) || change(variable, later)
+}
+
+/// Whether the evaluation of one of two may.
+fn either_changes(variable: Variable, first: &Value, second: &Value) -> bool
+    ensures { result ≡ items.change variable
+        (more (value_of first.now) (more (value_of second.now) none)) }
+{
+    changes(variable, first) || changes(variable, second)
+}
+
 /// The operand for an expression that is evaluated before another and then others.
 #[tactic(auto, using(crate::proofs::Operands::before_pushed, crate::proofs::Operands::before_number, crate::proofs::Operands::before_changed, crate::proofs::Operands::before_kept))]
 fn before_more(value: &Value, next: &Value, later: &[Value]) -> Operand
@@ -167,8 +204,7 @@ fn before_more(value: &Value, next: &Value, later: &[Value]) -> Operand
         Operand::Pushed => Operand::Pushed,
         Operand::Number(number) => Operand::Number(number),
         Operand::Variable(variable) => {
-            let by_next = changes(variable, next);
-            if by_next || change(variable, later) {
+            if next_changes(variable, next, later) {
                 Operand::Pushed
             } else {
                 Operand::Variable(variable)
@@ -185,6 +221,7 @@ pub fn left_of(left: &Value, right: &Value) -> Operand
 }
 
 /// The operand for the first one of three expressions.
+#[tactic(auto, using(crate::proofs::Operands::before_pushed, crate::proofs::Operands::before_number, crate::proofs::Operands::before_changed, crate::proofs::Operands::before_kept))]
 pub fn first_of(first: &Value, second: &Value, third: &Value) -> Operand
     ensures { as_operand result
         ≡ items.first_of (value_of first.now) (value_of second.now) (value_of third.now) }
@@ -193,8 +230,7 @@ pub fn first_of(first: &Value, second: &Value, third: &Value) -> Operand
         Operand::Pushed => Operand::Pushed,
         Operand::Number(number) => Operand::Number(number),
         Operand::Variable(variable) => {
-            let by_second = changes(variable, second);
-            if by_second || changes(variable, third) {
+            if either_changes(variable, second, third) {
                 Operand::Pushed
             } else {
                 Operand::Variable(variable)
@@ -207,15 +243,56 @@ pub fn first_of(first: &Value, second: &Value, third: &Value) -> Operand
 pub const MOST_COMPARED: usize = 3;
 
 /// The operands for the left side of `==` or `~=` and for its first right side. Where there are too
-/// many right sides each is compared by itself, on the stack.
+/// many right sides for one instruction, and not all stand in place, each is compared by itself, on
+/// the stack.
+#[tactic(auto, using(crate::proofs::InPlace::left_few, crate::proofs::InPlace::right_few, crate::proofs::InPlace::left_placed, crate::proofs::InPlace::right_placed, crate::proofs::InPlace::left_each, crate::proofs::InPlace::right_each))]
 pub fn side_operands(left: &Value, right: &Value, others: &[Value]) -> (Operand, Operand)
     ensures left { as_operand result.0 ≡ left_side left.now right.now others.now }
-    ensures right { as_operand result.1 ≡ right_side right.now others.now }
+    ensures right { as_operand result.1 ≡ right_side left.now right.now others.now }
 {
-    if !are_few(others) {
+    if are_few(others) {
+        return (before_more(left, right, others), before(right, others));
+    }
+    if !stand_in_place(left, right, others) {
         return (Operand::Pushed, Operand::Pushed);
     }
-    (before_more(left, right, others), before(right, others))
+    (alone(left), alone(right))
+}
+
+/// Whether the left side of `==` or `~=` and all right sides stand in place.
+fn stand_in_place(left: &Value, right: &Value, others: &[Value]) -> bool
+    ensures { result ≡ (items.is_in_place (value_of left.now)
+        && items.all_in_place (more_in right.now others.now)) }
+{
+    is_in_place(left) && is_in_place(right) && all_in_place(others)
+}
+
+/// Whether an expression stands in place, where none is evaluated after it.
+fn is_in_place(value: &Value) -> bool
+    ensures { result ≡ items.is_in_place (value_of value.now) }
+{
+    !is_pushed(alone(value))
+}
+
+/// Whether an operand is pushed.
+pub fn is_pushed(operand: Operand) -> bool
+    ensures { result ≡ items.if_pushed (as_operand operand) true false }
+{
+    match operand {
+        Operand::Pushed => true,
+        Operand::Number(_) | Operand::Variable(_) => false,
+    }
+}
+
+fn all_in_place(values: &[Value]) -> bool
+    ensures { result ≡ items.all_in_place (values_in values.now) }
+{
+    for value in values {
+        if !is_in_place(value) {
+            return false;
+        }
+    }
+    true
 }
 
 /// Whether one instruction compares with the first right side and these others.
@@ -232,6 +309,17 @@ pub fn push_operands(operands: &mut Vec<Operand>, values: &[Value]) -> Result<()
 {
     for number in 0..values.len() {
         operands.push(before(&values[number], &values[number + 1..]))?;
+    }
+    Ok(())
+}
+
+/// Operands for expressions that stand in place, behind other operands.
+#[tactic(auto, using(crate::proofs::InPlace::alone_next, crate::proofs::InPlace::alones_end))]
+pub fn push_alone(operands: &mut Vec<Operand>, values: &[Value]) -> Result<(), AllocError>
+    ensures { OnOk result (AddsAlone operands.old.items operands.new.items values.now) }
+{
+    for number in 0..values.len() {
+        operands.push(alone(&values[number]))?;
     }
     Ok(())
 }

@@ -15,12 +15,15 @@ ghost use Rattle.code_values.specs.ValueWriting.{WritesProperties};
 
 use crate::draft::{Draft, put, put_branch, written};
 use crate::item::{Destination, Item, Operand, Test};
-use crate::operand::{alone, are_few, before, first_of, left_of, push_operands, side_operands};
+use crate::operand::{
+    alone, are_few, before, first_of, is_pushed, left_of, push_alone, push_operands, side_operands,
+};
 use crate::parts::{
     comparison_test, comparison_when, containment_when, equality_when, first_of_and, first_of_or,
     has_when, is_logical, put_number, put_read, put_step_after, put_step_before, put_truth,
     put_word,
 };
+use crate::several::put_each_same;
 use crate::wanted::Wanted;
 use meaning::{Value, Variable};
 use std::alloc::AllocError;
@@ -681,11 +684,15 @@ fn put_others<'a>(
         push_operands(&mut operands, others)?;
         put(draft, Item::Branch(Test::Same, operands, when, target))?;
         put_operands(draft, others)?;
-    } else {
+    } else if is_pushed(sides.0) {
         put_branch(draft, Operand::Pushed, when, target)?;
         put(draft, Item::DropBelow)?;
         put_folded(draft, others)?;
         put(draft, Item::FirstEqual)?;
+    } else {
+        let mut compared = vec![in draft.alloc; sides.1]?;
+        push_alone(&mut compared, others)?;
+        put_each_same(draft, sides.0, &compared, when, target)?;
     }
     Ok(())
 }

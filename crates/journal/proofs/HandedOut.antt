@@ -10,8 +10,9 @@ use Rattle.std.proofs.lemmas.Map.Keys.{IsDistinct-head, IsDistinct-tail}
 use Rattle.std.proofs.lemmas.Map.Made.{AllPairs-from_IsDistinct}
 use Rattle.std.proofs.lemmas.Slice.Zip.{firsts-zip, seconds-zip}
 use Rattle.journal.specs.Swap.{back, entry_cells, entry_values}
-use Rattle.journal.specs.Pages.{IsPaged, cells_of}
-use Rattle.journal.proofs.Pages.{all_by_none, cell_kept, distinct_cells, length-cells_of-le, not_both, or_true}
+use Rattle.journal.specs.Pages.{IsPaged, cells_of, values_of}
+use Rattle.journal.proofs.Packed.{has_values}
+use Rattle.journal.proofs.Pages.{HasValues, all_by_none, cell_kept, distinct_cells, length-cells_of-le, not_both, or_true}
 use Rattle.journal.proofs.Steps.{length-entries}
 use Rattle.journal.proofs.Swaps.{length-back}
 
@@ -54,7 +55,7 @@ pub record IsHandedOut (c pages olds : List ℕ) (es : List (ℕ × ℕ)) : Type
   pub kept : length es ≡ length (cells_of (length c) pages)
   pub bound : length es ≤ length c
 
-entries_handed_out : (c pages values : List ℕ) → IsPaged (length c) pages values
+entries_handed_out : (c pages values : List ℕ) → HasValues (length c) pages values
     → IsHandedOut c pages values (zip (cells_of (length c) pages) values)
 entries_handed_out c pages values h =
     let cs : List ℕ = cells_of (length c) pages in
@@ -71,11 +72,14 @@ entries_handed_out c pages values h =
       bound = omega (arith, long, length-cells_of-le (length c) pages h.distinct);
     }
 
-pub handed_out : (c pages values : List ℕ) (n : ℕ) (ps vs : List ℕ) (es : List (ℕ × ℕ))
-    → IsPaged (length c) pages values → es ≡ zip (cells_of n ps) vs → n ≡ length c → ps ≡ pages → vs ≡ values
-    → IsHandedOut c pages values es
-handed_out c pages values n ps vs es h is en ep ev =
+pub handed_out : (c pages packed : List ℕ) (n : ℕ) (ps qs : List ℕ) (es : List (ℕ × ℕ))
+    → IsPaged (length c) pages packed → es ≡ zip (cells_of n ps) (values_of n ps qs) → n ≡ length c → ps ≡ pages
+    → qs ≡ packed → IsHandedOut c pages (values_of (length c) pages packed) es
+handed_out c pages packed n ps qs es h is en ep eq =
+    let values : List ℕ = values_of (length c) pages packed in
     let whole : es ≡ zip (cells_of (length c) pages) values =
-    is ∙ ap (λ (t : ℕ). zip (cells_of t ps) vs) en ∙ ap (λ (t : List ℕ). zip (cells_of (length c) t) vs) ep
-    ∙ ap (λ (t : List ℕ). zip (cells_of (length c) pages) t) ev in
-    subst (λ (t : List (ℕ × ℕ)). IsHandedOut c pages values t) (sym whole) (entries_handed_out c pages values h)
+    is ∙ ap (λ (t : ℕ). zip (cells_of t ps) (values_of t ps qs)) en
+    ∙ ap (λ (t : List ℕ). zip (cells_of (length c) t) (values_of (length c) t qs)) ep
+    ∙ ap (λ (t : List ℕ). zip (cells_of (length c) pages) (values_of (length c) pages t)) eq in
+    subst (λ (t : List (ℕ × ℕ)). IsHandedOut c pages values t) (sym whole)
+    (entries_handed_out c pages values (has_values (length c) pages packed h))

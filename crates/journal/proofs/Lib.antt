@@ -7,3 +7,6 @@ pub mod HandedOut
 pub mod ReadPages
 pub mod PageEntries
 pub mod PageSwaps
+pub mod Packed
+pub mod PackedSwaps
+pub mod WordSwaps

@@ -2,7 +2,7 @@
 use Rattle.std.proofs.Common.{◌≡◌, ℕ, zero, suc, ◌+◌, ◌-◌, ◌*◌, ◌/◌, ◌<◌, ◌≤◌, min, Bool, true, false, ◌||◌, eqb}
 use Rattle.std.proofs.Common.{List, [], ◌∷◌, ◌++◌, length, map, get_or, set, refl, ap, sym, subst, ◌∙◌, arith}
 use Rattle.std.proofs.Common.{append_assoc, slice_set, slice_index, ◌⊎◌, inl, inr}
-use Rattle.std.specs.List.{AllByRecursion, IsDistinct, list_any, range_with_len, zip}
+use Rattle.std.specs.List.{All, AllByRecursion, IsDistinct, list_any, range_with_len, zip}
 use Rattle.std.proofs.lemmas.Cmp.{nat_eq_equiv}
 use Rattle.std.proofs.lemmas.Bool.{eq-eqb}
 use Rattle.std.proofs.lemmas.Bool.Decides.{eqb_tells}
@@ -14,7 +14,7 @@ use Rattle.std.proofs.lemmas.Map.Keys.{IsDistinct-head, IsDistinct-tail, IsDisti
 use Rattle.std.proofs.lemmas.Map.Steps.{length-le_from_distinct_below}
 use Rattle.std.proofs.lemmas.List.Elements.{All-append, All-cons, All-nil}
 use Rattle.journal.specs.Swap.{back, Fits, FitsCell}
-use Rattle.journal.specs.Pages.{IsPaged, cells_of, keeps, page_cells, page_len}
+use Rattle.journal.specs.Pages.{cells_of, keeps, page_cells, page_len}
 
 -- numbers
 
@@ -219,8 +219,14 @@ back_kept_page c pages values p h =
     ∙ back-append c (zip cs values) (zip ps f)
     ∙ ap (λ (t : List ℕ). (back t (zip cs values)).cells) (back_present c ps)
 
-pub paged_push : (n : ℕ) (pages values : List ℕ) (f : ℕ → ℕ) (p : ℕ) → IsPaged n pages values → p * 64 < n
-    → keeps pages p ≡ false → IsPaged n (pages ++ p ∷ []) (values ++ map f (page_cells n p))
+-- distinct pages of a store of n cells, with a value for each cell
+pub record HasValues (n : ℕ) (pages values : List ℕ) : Type 0 where
+  pub distinct : IsDistinct eqb pages
+  pub named : All (λ p. p * 64 < n) pages
+  pub size : length values ≡ length (cells_of n pages)
+
+pub paged_push : (n : ℕ) (pages values : List ℕ) (f : ℕ → ℕ) (p : ℕ) → HasValues n pages values → p * 64 < n
+    → keeps pages p ≡ false → HasValues n (pages ++ p ∷ []) (values ++ map f (page_cells n p))
 paged_push n pages values f p h named new =
     let size : length (values ++ map f (page_cells n p)) ≡ length (cells_of n (pages ++ p ∷ [])) =
     length-append values (map f (page_cells n p)) ∙ ap (λ (t : ℕ). length values + t) (length-map (page_cells n p) f)

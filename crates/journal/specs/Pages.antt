@@ -1,6 +1,6 @@
 -- The pages of a store: page p has the cells 64p to 64p + 63, as far as the store goes.
-use Rattle.std.specs.Prelude.{◌≡◌, ℕ, ◌-◌, ◌*◌, ◌<◌, min, Bool, false, eqb, List, [], ◌∷◌, ◌++◌, length, map}
-use Rattle.std.specs.Prelude.{slice_index, slice_index_or, if◌then◌else◌}
+use Rattle.std.specs.Prelude.{◌≡◌, ℕ, ◌+◌, ◌-◌, ◌*◌, ◌<◌, ◌≤◌, min, nat_lt, Bool, false, eqb, List, [], ◌∷◌}
+use Rattle.std.specs.Prelude.{◌++◌, length, map, take, drop, slice_index, slice_index_or, if◌then◌else◌}
 use Rattle.std.specs.List.{All, IsDistinct, flat_map, list_any, range_with_len, zip}
 use Rattle.journal.specs.Swap.{Fits}
 
@@ -20,9 +20,51 @@ page_cells n p = range_with_len (p * whole_page) (page_len n p)
 abbrev pub cells_of : ℕ → List ℕ → List ℕ
 cells_of n pages = flat_map (page_cells n) pages
 
+-- how many pages may hold words; in all pages behind them each cell is a byte
+abbrev pub word_pages : ℕ
+word_pages = 1134
+
+-- no cell behind those pages holds more than a byte
+abbrev pub HoldsBytes : (ℕ → ℕ) → Type 0
+HoldsBytes bounds = (i : ℕ) → word_pages * whole_page ≤ i → bounds i ≤ 255
+
+-- how many bytes a record holds for page p, of which the store has so many cells
+unfoldable pub packed_len : ℕ → ℕ → ℕ
+packed_len p count = if nat_lt p word_pages then count * 2 else count
+
+-- how many it holds for pages, in a store of n cells
+abbrev pub packed_size : ℕ → List ℕ → ℕ
+packed_size n [] = 0
+packed_size n (p ∷ pages) = packed_len p (page_len n p) + packed_size n pages
+
+-- the word at an offset, its low byte first
+abbrev pub word_at : List ℕ → ℕ → ℕ
+word_at packed k = slice_index packed (k * 2) + slice_index packed (k * 2 + 1) * 256
+
+-- the first words that bytes stand for
+abbrev pub words_of : ℕ → List ℕ → List ℕ
+words_of count packed = map (word_at packed) (range_with_len 0 count)
+
+-- the values of the first cells of page p, for which a record holds these bytes
+unfoldable pub page_unpacked : ℕ → ℕ → List ℕ → List ℕ
+page_unpacked p count packed = if nat_lt p word_pages then words_of count packed else packed
+
+-- the values of pages, for which a record holds these bytes, one page behind the other
+abbrev pub values_of : ℕ → List ℕ → List ℕ → List ℕ
+values_of n [] packed = []
+values_of n (p ∷ pages) packed =
+    let size : ℕ = packed_len p (page_len n p) in
+    page_unpacked p (page_len n p) (take size packed) ++ values_of n pages (drop size packed)
+
+-- behind what a record held, it holds the values of the first cells of page p too
+pub record IsAdded (p : ℕ) (was now values : List ℕ) : Type 0 where
+  pub front : now ≡ was ++ drop (length was) now
+  pub size : length (drop (length was) now) ≡ packed_len p (length values)
+  pub values_are : page_unpacked p (length values) (drop (length was) now) ≡ values
+
 -- pages with the values of their cells, as entries
 abbrev pub entries_of : ℕ → List ℕ → List ℕ → List (ℕ × ℕ)
-entries_of n pages values = zip (cells_of n pages) values
+entries_of n pages packed = zip (cells_of n pages) (values_of n pages packed)
 
 -- the values of the first cells of page p
 abbrev pub page_values : List ℕ → ℕ → ℕ → List ℕ
@@ -44,11 +86,11 @@ pages_in_place = 1728
 abbrev pub with_page : List ℕ → ℕ → List ℕ
 with_page pages p = if keeps pages p then pages else pages ++ p ∷ []
 
--- distinct pages of a store of n cells, with a value for each cell
-pub record IsPaged (n : ℕ) (pages values : List ℕ) : Type 0 where
+-- distinct pages of a store of n cells, with all that a record holds of their values
+pub record IsPaged (n : ℕ) (pages packed : List ℕ) : Type 0 where
   pub distinct : IsDistinct eqb pages
   pub named : All (λ p. p * whole_page < n) pages
-  pub size : length values ≡ length (cells_of n pages)
+  pub size : length packed ≡ packed_size n pages
 
 -- the flags tell which pages are kept
 abbrev pub IsMarked : List Bool → List ℕ → Type 0
@@ -60,7 +102,7 @@ IsMarkedAs was now = (p : ℕ) → slice_index_or now p false ≡ slice_index_or
 
 -- what a turn holds: distinct pages with a value for each cell, each value within its cell's bound, and flags that
 -- tell which pages these are
-pub record IsHeld (n : ℕ) (bounds : ℕ → ℕ) (flags : List Bool) (pages values : List ℕ) : Type 0 where
-  pub paged : IsPaged n pages values
-  pub fits : Fits n bounds (entries_of n pages values)
+pub record IsHeld (n : ℕ) (bounds : ℕ → ℕ) (flags : List Bool) (pages packed : List ℕ) : Type 0 where
+  pub paged : IsPaged n pages packed
+  pub fits : Fits n bounds (entries_of n pages packed)
   pub marked : IsMarked flags pages

@@ -1,9 +1,11 @@
 //! What a store has to offer for its writes to be recorded.
 
-ghost use Rattle.std.specs.Prelude.{◌≡◌, ℕ, ◌<◌, ◌≤◌, List, length, slice_set, slice_index};
+ghost use Rattle.std.specs.Prelude.{◌≡◌, ℕ, ◌^◌, ◌<◌, ◌≤◌, List, length, slice_set, slice_index};
+ghost use Rattle.journal.specs.Pages.{HoldsBytes};
 
 /// A store of numbered cells. Each holds a number from 0 to a bound of its own, at most 65,535.
-/// How many cells there are, and their bounds, stay the same under every write.
+/// How many cells there are, and their bounds, stay the same under every write. Behind the first
+/// `WORD_PAGES` pages each cell holds a byte, so that a page there is kept in half the room.
 pub trait Cells {
     /// The values of the cells, in order.
     ghost cells: { Self → List ℕ };
@@ -16,7 +18,9 @@ pub trait Cells {
 
     /// How many cells there are. They are numbered from 0.
     fn len(&self) -> usize
-        ensures { result ≡ length (cells self.now) };
+        ensures count { result ≡ length (cells self.now) }
+        ensures short { result < 2 ^ 32 }
+        ensures bytes { HoldsBytes (bounds self.now) };
 
     /// The greatest value that cell `i` may hold.
     fn bound(&self, i: usize) -> u16

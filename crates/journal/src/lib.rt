@@ -3,10 +3,12 @@
 #![tactic(auto)]
 
 mod cells;
+mod packing;
 mod page_flags;
 mod record;
 mod recorded;
 
 pub use cells::Cells;
+pub use packing::WORD_PAGES;
 pub use record::{PAGE, Record, swap_back, swap_forward};
 pub use recorded::{NoMemory, Recorded};

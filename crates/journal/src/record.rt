@@ -3,10 +3,11 @@
 ghost use Rattle.std.specs.Prelude.{◌≡◌, ◌+◌, ◌*◌, ◌^◌, ◌<◌, ◌≤◌, ℕ, length, slice_set, slice_index};
 ghost use Rattle.std.specs.List.{All};
 ghost use Rattle.journal.specs.Swap.{back, forward};
-ghost use Rattle.journal.specs.Pages.{IsPaged, cells_of, entries_of, page_entries, page_len, whole_page};
+ghost use Rattle.journal.specs.Pages.{IsPaged, cells_of, entries_of, packed_len, page_entries, page_len, page_unpacked, whole_page, word_at, word_pages, words_of};
 ghost use Rattle.journal.specs.Stores.{FitsIn, GoesBack, GoesForward, MayHold, Writes, swapped};
 
 use crate::cells::Cells;
+use crate::packing::{PAGE_BYTES, WORD_PAGES, packed_size, put_word, read_bytes, unpack};
 use crate::recorded::read_page;
 use std::marker::Model;
 
@@ -22,10 +23,11 @@ pub struct Record {
     len: usize,
 
     /// The pages, in the order in which they were first written. No page stands twice.
-    pages: Vec<usize>,
+    pages: Vec<u32>,
 
-    /// The pages' values, one page behind the other.
-    values: Vec<u16>,
+    /// The pages' values, one page behind the other: of a page of bytes a byte for each cell, of
+    /// any other two, the low one first.
+    packed: Vec<u8>,
 }
 
 impl Model for Record {
@@ -34,18 +36,18 @@ impl Model for Record {
 
     ghost Value = { List (ℕ × ℕ) };
 
-    ghost view = { λ r. entries_of r.len r.pages.items r.values.items };
+    ghost view = { λ r. entries_of r.len r.pages.items r.packed.items };
 
-    ghost invariant = { λ r. IsPaged r.len r.pages.items r.values.items };
+    ghost invariant = { λ r. IsPaged r.len r.pages.items r.packed.items };
 }
 
 impl Record {
     /// A record of these pages of a store of `len` cells, with their values.
-    pub(crate) fn of(len: usize, pages: Vec<usize>, values: Vec<u16>) -> Record
-        requires { IsPaged len pages.items values.items }
-        ensures { result ≡ entries_of len pages.items values.items }
+    pub(crate) fn of(len: usize, pages: Vec<u32>, packed: Vec<u8>) -> Record
+        requires { IsPaged len pages.items packed.items }
+        ensures { result ≡ entries_of len pages.items packed.items }
     {
-        Record { len, pages, values }
+        Record { len, pages, packed }
     }
 
     /// How many cells it holds the values of: 64 for each page that the turn wrote to, and fewer
@@ -53,7 +55,7 @@ impl Record {
     pub fn cells(&self) -> usize
         ensures { result ≡ length self.now }
     {
-        self.values.len()
+        cell_count(self.len, &self.pages)
     }
 }
 
@@ -70,7 +72,7 @@ pub fn swap_back<C: Cells>(store: &mut C, turn: &mut Record)
     ensures bounds { C.bounds store.new ≡ C.bounds store.old }
     ensures fixed { C.fixed store.new ≡ C.fixed store.old }
 {
-    go_back(store, turn.len, &turn.pages, &mut turn.values);
+    go_back(store, turn.len, &turn.pages, &mut turn.packed);
 }
 
 /// Does a turn again that was taken back: exchanges the turn's values with the store's, from the
@@ -86,7 +88,20 @@ pub fn swap_forward<C: Cells>(store: &mut C, turn: &mut Record)
     ensures bounds { C.bounds store.new ≡ C.bounds store.old }
     ensures fixed { C.fixed store.new ≡ C.fixed store.old }
 {
-    go_forward(store, turn.len, &turn.pages, &mut turn.values);
+    go_forward(store, turn.len, &turn.pages, &mut turn.packed);
+}
+
+/// How many cells pages have, in a store of `len` cells.
+fn cell_count(len: usize, pages: &[u32]) -> usize
+    requires named { All (λ p. p * whole_page < len) pages.now }
+    requires within { length (cells_of len pages.now) ≤ len }
+    ensures { result ≡ length (cells_of len pages.now) }
+{
+    let mut count = 0;
+    for slot in 0..pages.len() {
+        count += page_size(len, pages[slot] as usize);
+    }
+    count
 }
 
 /// How many cells a page has, in a store of `len` cells.
@@ -112,10 +127,10 @@ pub(crate) fn cell_of(page: usize, offset: usize) -> usize
     page * PAGE + offset % PAGE
 }
 
-/// Exchanges a value with that of the cell at an offset in a page, which is given too. Most cells
-/// of a page have the same value still, and to compare costs less than to write.
+/// Exchanges a byte with that of the cell at an offset in a page, which is given too. Most cells of
+/// a page have the same value still, and to compare costs less than to write.
 #[inline(always)]
-fn exchange<C: Cells>(store: &mut C, page: usize, offset: usize, held: u16, value: &mut u16)
+fn exchange_byte<C: Cells>(store: &mut C, page: usize, offset: usize, held: u8, value: &mut u8)
     requires offset { offset < whole_page }
     requires within { page * whole_page + offset < 2 ^ 64 }
     requires held { held ≡ slice_index (C.cells store.old) (page * whole_page + offset) }
@@ -129,16 +144,49 @@ fn exchange<C: Cells>(store: &mut C, page: usize, offset: usize, held: u16, valu
     ensures fixed { C.fixed store.new ≡ C.fixed store.old }
 {
     if held != *value {
-        store.put(cell_of(page, offset), *value);
+        store.put(cell_of(page, offset), *value as u16);
         *value = held;
     }
 }
 
-/// Exchanges the values of a page with those of its first cells, from the last to the first. The
-/// values are a slice, so that where they lie is read once for the page: behind a reference to a
-/// vector it would be read for each cell.
+/// Exchanges the word that two bytes stand for with that of the cell; both are given too.
 #[inline(always)]
-fn exchange_back<C: Cells>(store: &mut C, page: usize, values: &mut [u16])
+fn exchange_word<C: Cells>(
+    store: &mut C,
+    page: usize,
+    offset: usize,
+    held: u16,
+    value: u16,
+    pair: &mut [u8],
+)
+    requires pair { length pair.old ≡ 2 }
+    requires value { value ≡ word_at pair.old 0 }
+    requires offset { offset < whole_page }
+    requires within { page * whole_page + offset < 2 ^ 64 }
+    requires held { held ≡ slice_index (C.cells store.old) (page * whole_page + offset) }
+    requires bound { held ≤ C.bounds store.old (page * whole_page + offset) }
+    requires fits { MayHold C.Cells store.old (page * whole_page + offset) (word_at pair.old 0) }
+    ensures cells { Writes C.Cells store.old store.new (page * whole_page + offset)
+        (word_at pair.old 0) }
+    ensures value { word_at pair.new 0
+        ≡ slice_index (C.cells store.old) (page * whole_page + offset) }
+    ensures fits { MayHold C.Cells store.new (page * whole_page + offset) (word_at pair.new 0) }
+    ensures length { length (C.cells store.new) ≡ length (C.cells store.old) }
+    ensures bounds { C.bounds store.new ≡ C.bounds store.old }
+    ensures fixed { C.fixed store.new ≡ C.fixed store.old }
+{
+    if held != value {
+        store.put(cell_of(page, offset), value);
+        put_word(pair, held);
+    }
+}
+
+/// Exchanges the values of a page of bytes with those of its first cells, from the last to the
+/// first. The values are a slice, so that where they lie is read once for the page: behind a
+/// reference to a vector it would be read for each cell.
+#[inline(always)]
+fn bytes_back<C: Cells>(store: &mut C, page: usize, values: &mut [u8])
+    requires bytes { word_pages ≤ page }
     requires page { length values.old ≤ whole_page }
     requires within { page * whole_page + length values.old < 2 ^ 64 }
     requires cells { page * whole_page + length values.old ≤ length (C.cells store.old) }
@@ -152,19 +200,20 @@ fn exchange_back<C: Cells>(store: &mut C, page: usize, values: &mut [u16])
     ensures bounds { C.bounds store.new ≡ C.bounds store.old }
     ensures fixed { C.fixed store.new ≡ C.fixed store.old }
 {
-    let mut held = [0; PAGE];
+    let mut held = [0; PAGE_BYTES];
     let mut offset = values.len();
-    read_page(store, page, offset, &mut held);
+    read_bytes(store, page, offset, &mut held);
     'cells: while offset > 0 {
         offset -= 1;
-        exchange(store, page, offset, held[offset], &mut values[offset]);
+        exchange_byte(store, page, offset, held[offset], &mut values[offset]);
     }
 }
 
-/// Exchanges the values of a page with those of its first cells, from the first to the last; a
-/// slice for the same reason.
+/// Exchanges the values of a page of bytes with those of its first cells, from the first to the
+/// last; a slice for the same reason.
 #[inline(always)]
-fn exchange_forward<C: Cells>(store: &mut C, page: usize, values: &mut [u16])
+fn bytes_forward<C: Cells>(store: &mut C, page: usize, values: &mut [u8])
+    requires bytes { word_pages ≤ page }
     requires page { length values.old ≤ whole_page }
     requires within { page * whole_page + length values.old < 2 ^ 64 }
     requires cells { page * whole_page + length values.old ≤ length (C.cells store.old) }
@@ -178,58 +227,178 @@ fn exchange_forward<C: Cells>(store: &mut C, page: usize, values: &mut [u16])
     ensures bounds { C.bounds store.new ≡ C.bounds store.old }
     ensures fixed { C.fixed store.new ≡ C.fixed store.old }
 {
-    let mut held = [0; PAGE];
+    let mut held = [0; PAGE_BYTES];
     let size = values.len();
-    read_page(store, page, size, &mut held);
+    read_bytes(store, page, size, &mut held);
     'cells: for offset in 0..size {
-        exchange(store, page, offset, held[offset], &mut values[offset]);
+        exchange_byte(store, page, offset, held[offset], &mut values[offset]);
     }
 }
 
-/// `swap_back` on the parts of a record.
-pub(crate) fn go_back<C: Cells>(store: &mut C, len: usize, pages: &[usize], values: &mut Vec<u16>)
-    requires paged { IsPaged len pages.now values.old.items }
-    requires fits { FitsIn C.Cells store.old (entries_of len pages.now values.old.items) }
+/// Exchanges the values of a page of words with those of its first cells, from the last to the
+/// first. They are unpacked first, many at once: the loop over cells then compares words.
+#[inline(always)]
+fn words_back<C: Cells>(store: &mut C, page: usize, size: usize, packed: &mut [u8])
+    requires packed { length packed.old ≡ size * 2 }
+    requires page { size ≤ whole_page }
+    requires within { page * whole_page + size < 2 ^ 64 }
+    requires cells { page * whole_page + size ≤ length (C.cells store.old) }
+    requires fits { FitsIn C.Cells store.old (page_entries page (words_of size packed.old)) }
     ensures cells { GoesBack C.Cells store.old store.new
-        (entries_of len pages.now values.old.items) }
-    ensures entries { entries_of len pages.now values.new.items
-        ≡ (back (C.cells store.old) (entries_of len pages.now values.old.items)).entries }
-    ensures paged { IsPaged len pages.now values.new.items }
-    ensures fits { FitsIn C.Cells store.new (entries_of len pages.now values.new.items) }
+        (page_entries page (words_of size packed.old)) }
+    ensures entries { page_entries page (words_of size packed.new)
+        ≡ (back (C.cells store.old) (page_entries page (words_of size packed.old))).entries }
+    ensures size { length packed.new ≡ length packed.old }
+    ensures fits { FitsIn C.Cells store.new (page_entries page (words_of size packed.new)) }
     ensures length { length (C.cells store.new) ≡ length (C.cells store.old) }
     ensures bounds { C.bounds store.new ≡ C.bounds store.old }
     ensures fixed { C.fixed store.new ≡ C.fixed store.old }
 {
-    let mut at = values.len();
+    let mut held = [0; PAGE];
+    let mut values = [0; PAGE];
+    let mut offset = size;
+    read_page(store, page, offset, &mut held);
+    unpack(packed, size, &mut values);
+    'cells: while offset > 0 {
+        offset -= 1;
+        let at = 2 * offset;
+        let pair = &mut packed[at..at + 2];
+        exchange_word(store, page, offset, held[offset], values[offset], pair);
+    }
+}
+
+/// Exchanges the values of a page of words with those of its first cells, from the first to the
+/// last.
+#[inline(always)]
+fn words_forward<C: Cells>(store: &mut C, page: usize, size: usize, packed: &mut [u8])
+    requires packed { length packed.old ≡ size * 2 }
+    requires page { size ≤ whole_page }
+    requires within { page * whole_page + size < 2 ^ 64 }
+    requires cells { page * whole_page + size ≤ length (C.cells store.old) }
+    requires fits { FitsIn C.Cells store.old (page_entries page (words_of size packed.old)) }
+    ensures cells { GoesForward C.Cells store.old store.new
+        (page_entries page (words_of size packed.old)) }
+    ensures entries { page_entries page (words_of size packed.new)
+        ≡ (forward (C.cells store.old) (page_entries page (words_of size packed.old))).entries }
+    ensures size { length packed.new ≡ length packed.old }
+    ensures fits { FitsIn C.Cells store.new (page_entries page (words_of size packed.new)) }
+    ensures length { length (C.cells store.new) ≡ length (C.cells store.old) }
+    ensures bounds { C.bounds store.new ≡ C.bounds store.old }
+    ensures fixed { C.fixed store.new ≡ C.fixed store.old }
+{
+    let mut held = [0; PAGE];
+    let mut values = [0; PAGE];
+    read_page(store, page, size, &mut held);
+    unpack(packed, size, &mut values);
+    'cells: for offset in 0..size {
+        let at = 2 * offset;
+        let pair = &mut packed[at..at + 2];
+        exchange_word(store, page, offset, held[offset], values[offset], pair);
+    }
+}
+
+/// Exchanges the values of a page, as a record holds them, with those of its first cells, from the
+/// last to the first.
+#[inline(always)]
+fn page_back<C: Cells>(store: &mut C, page: usize, size: usize, packed: &mut [u8])
+    requires page { size ≤ whole_page }
+    requires packed { length packed.old ≡ packed_len page size }
+    requires within { page * whole_page + size < 2 ^ 64 }
+    requires cells { page * whole_page + size ≤ length (C.cells store.old) }
+    requires fits { FitsIn C.Cells store.old
+        (page_entries page (page_unpacked page size packed.old)) }
+    ensures cells { GoesBack C.Cells store.old store.new
+        (page_entries page (page_unpacked page size packed.old)) }
+    ensures entries { page_entries page (page_unpacked page size packed.new) ≡ (back
+        (C.cells store.old) (page_entries page (page_unpacked page size packed.old))).entries }
+    ensures size { length packed.new ≡ length packed.old }
+    ensures fits { FitsIn C.Cells store.new
+        (page_entries page (page_unpacked page size packed.new)) }
+    ensures length { length (C.cells store.new) ≡ length (C.cells store.old) }
+    ensures bounds { C.bounds store.new ≡ C.bounds store.old }
+    ensures fixed { C.fixed store.new ≡ C.fixed store.old }
+{
+    if page < WORD_PAGES {
+        words_back(store, page, size, packed);
+    } else {
+        bytes_back(store, page, packed);
+    }
+}
+
+/// Exchanges the values of a page, as a record holds them, with those of its first cells, from the
+/// first to the last.
+#[inline(always)]
+fn page_forward<C: Cells>(store: &mut C, page: usize, size: usize, packed: &mut [u8])
+    requires page { size ≤ whole_page }
+    requires packed { length packed.old ≡ packed_len page size }
+    requires within { page * whole_page + size < 2 ^ 64 }
+    requires cells { page * whole_page + size ≤ length (C.cells store.old) }
+    requires fits { FitsIn C.Cells store.old
+        (page_entries page (page_unpacked page size packed.old)) }
+    ensures cells { GoesForward C.Cells store.old store.new
+        (page_entries page (page_unpacked page size packed.old)) }
+    ensures entries { page_entries page (page_unpacked page size packed.new) ≡ (forward
+        (C.cells store.old) (page_entries page (page_unpacked page size packed.old))).entries }
+    ensures size { length packed.new ≡ length packed.old }
+    ensures fits { FitsIn C.Cells store.new
+        (page_entries page (page_unpacked page size packed.new)) }
+    ensures length { length (C.cells store.new) ≡ length (C.cells store.old) }
+    ensures bounds { C.bounds store.new ≡ C.bounds store.old }
+    ensures fixed { C.fixed store.new ≡ C.fixed store.old }
+{
+    if page < WORD_PAGES {
+        words_forward(store, page, size, packed);
+    } else {
+        bytes_forward(store, page, packed);
+    }
+}
+
+/// `swap_back` on the parts of a record.
+pub(crate) fn go_back<C: Cells>(store: &mut C, len: usize, pages: &[u32], packed: &mut Vec<u8>)
+    requires paged { IsPaged len pages.now packed.old.items }
+    requires fits { FitsIn C.Cells store.old (entries_of len pages.now packed.old.items) }
+    ensures cells { GoesBack C.Cells store.old store.new
+        (entries_of len pages.now packed.old.items) }
+    ensures entries { entries_of len pages.now packed.new.items
+        ≡ (back (C.cells store.old) (entries_of len pages.now packed.old.items)).entries }
+    ensures paged { IsPaged len pages.now packed.new.items }
+    ensures fits { FitsIn C.Cells store.new (entries_of len pages.now packed.new.items) }
+    ensures length { length (C.cells store.new) ≡ length (C.cells store.old) }
+    ensures bounds { C.bounds store.new ≡ C.bounds store.old }
+    ensures fixed { C.fixed store.new ≡ C.fixed store.old }
+{
+    let mut at = packed.len();
     let mut slot = pages.len();
     'pages: while slot > 0 {
         slot -= 1;
-        let page = pages[slot];
+        let page = pages[slot] as usize;
         let size = page_size(len, page);
-        at -= size;
-        exchange_back(store, page, &mut values[at..at + size]);
+        let width = packed_size(page, size);
+        at -= width;
+        page_back(store, page, size, &mut packed[at..at + width]);
     }
 }
 
 /// `swap_forward` on the parts of a record.
-fn go_forward<C: Cells>(store: &mut C, len: usize, pages: &[usize], values: &mut Vec<u16>)
-    requires paged { IsPaged len pages.now values.old.items }
-    requires fits { FitsIn C.Cells store.old (entries_of len pages.now values.old.items) }
+fn go_forward<C: Cells>(store: &mut C, len: usize, pages: &[u32], packed: &mut Vec<u8>)
+    requires paged { IsPaged len pages.now packed.old.items }
+    requires fits { FitsIn C.Cells store.old (entries_of len pages.now packed.old.items) }
     ensures cells { GoesForward C.Cells store.old store.new
-        (entries_of len pages.now values.old.items) }
-    ensures entries { entries_of len pages.now values.new.items
-        ≡ (forward (C.cells store.old) (entries_of len pages.now values.old.items)).entries }
-    ensures paged { IsPaged len pages.now values.new.items }
-    ensures fits { FitsIn C.Cells store.new (entries_of len pages.now values.new.items) }
+        (entries_of len pages.now packed.old.items) }
+    ensures entries { entries_of len pages.now packed.new.items
+        ≡ (forward (C.cells store.old) (entries_of len pages.now packed.old.items)).entries }
+    ensures paged { IsPaged len pages.now packed.new.items }
+    ensures fits { FitsIn C.Cells store.new (entries_of len pages.now packed.new.items) }
     ensures length { length (C.cells store.new) ≡ length (C.cells store.old) }
     ensures bounds { C.bounds store.new ≡ C.bounds store.old }
     ensures fixed { C.fixed store.new ≡ C.fixed store.old }
 {
     let mut at = 0;
     'pages: for slot in 0..pages.len() {
-        let page = pages[slot];
+        let page = pages[slot] as usize;
         let size = page_size(len, page);
-        exchange_forward(store, page, &mut values[at..at + size]);
-        at += size;
+        let width = packed_size(page, size);
+        page_forward(store, page, size, &mut packed[at..at + width]);
+        at += width;
     }
 }

@@ -6,10 +6,11 @@ ghost use Rattle.std.specs.List.{range_with_len};
 ghost use Rattle.journal.specs.contracts.recorded.Recorded.{the_row};
 ghost use Rattle.journal.specs.Recording.{IsNothingKept};
 ghost use Rattle.journal.specs.Swap.{back, entry_cells, entry_values};
-ghost use Rattle.journal.specs.Pages.{IsMarked, keeps, page_len, page_values, with_page, whole_page};
+ghost use Rattle.journal.specs.Pages.{IsAdded, IsMarked, keeps, page_len, page_values, with_page, whole_page};
 ghost use Rattle.journal.specs.Stores.{FitsIn, IsPageWithin, Writes, begun, kept_cells};
 
 use crate::cells::Cells;
+use crate::packing::{PAGE_BYTES, packed_size, read_packed};
 use crate::page_flags::PageFlags;
 use crate::record::{PAGE, Record, cell_of, go_back, page_size};
 use std::alloc::{AllocError, Global};
@@ -37,10 +38,10 @@ pub struct Recorded<C: Cells> {
     flags: PageFlags,
 
     /// The kept pages, in the order in which they were first written.
-    pages: Vec<usize>,
+    pages: Vec<u32>,
 
-    /// The kept pages' values, one page behind the other.
-    values: Vec<u16>,
+    /// The kept pages' values, one page behind the other, as a record holds them.
+    packed: Vec<u8>,
 
     /// Where the vectors of the next turn come from.
     alloc: Global,
@@ -59,12 +60,12 @@ impl<C: Cells> Model for Recorded<C> {
     ghost view = { λ r. record {
       store = r.store;
       beginning = (back (C.cells r.store)
-          (entries_of (length (C.cells r.store)) r.pages.items r.values.items)).cells;
+          (entries_of (length (C.cells r.store)) r.pages.items r.packed.items)).cells;
       kept = r.pages.items;
     } };
 
     ghost invariant = { λ r. IsHeld (length (C.cells r.store)) (C.bounds r.store)
-        r.flags r.pages.items r.values.items };
+        r.flags r.pages.items r.packed.items };
 }
 
 impl<C: Cells> Recorded<C> {
@@ -77,7 +78,7 @@ impl<C: Cells> Recorded<C> {
             store,
             flags: PageFlags::new(alloc),
             pages: Vec::new(alloc),
-            values: Vec::new(alloc),
+            packed: Vec::new(alloc),
             alloc,
         }
     }
@@ -180,10 +181,10 @@ impl<C: Cells> Recorded<C> {
     {
         let len = self.store.len();
         self.flags.cover(page, len / PAGE + 1)?;
-        let at = self.values.len();
-        copy_page(&self.store, page, page_size(len, page), &mut self.values)?;
-        if self.pages.push(page).is_err() {
-            self.values.truncate(at);
+        let at = self.packed.len();
+        copy_page(&self.store, page, page_size(len, page), &mut self.packed)?;
+        if self.pages.push(page as u32).is_err() {
+            self.packed.truncate(at);
             return Err(AllocError);
         }
         self.flags.set(page, true);
@@ -207,8 +208,8 @@ impl<C: Cells> Recorded<C> {
         let len = self.store.len();
         unmark(&mut self.flags, &self.pages);
         let pages = mem::replace(&mut self.pages, Vec::new(alloc));
-        let values = mem::replace(&mut self.values, Vec::new(alloc));
-        Record::of(len, pages, values)
+        let packed = mem::replace(&mut self.packed, Vec::new(alloc));
+        Record::of(len, pages, packed)
     }
 
     /// Gives the turn up: the store is again as it was when the turn began, and nothing is kept.
@@ -224,10 +225,10 @@ impl<C: Cells> Recorded<C> {
         ensures fixed { C.fixed self.new.store ≡ C.fixed self.old.store }
     {
         let len = self.store.len();
-        go_back(&mut self.store, len, &self.pages, &mut self.values);
+        go_back(&mut self.store, len, &self.pages, &mut self.packed);
         unmark(&mut self.flags, &self.pages);
         self.pages.clear();
-        self.values.clear();
+        self.packed.clear();
     }
 
     /// The store itself, for writes that are not recorded, as those of a swap. It asks that nothing
@@ -242,28 +243,29 @@ impl<C: Cells> Recorded<C> {
     }
 }
 
-/// Appends the values of the first cells of a page. At `Err` nothing is appended. They are gathered
-/// in an array first, since a loop that writes to a vector behind a reference takes twice the time.
-/// Room for the first page is room for `FIRST_PAGES`, as few turns keep less.
+/// Appends the values of the first cells of a page, as a record holds them. At `Err` nothing is
+/// appended. They are gathered in an array first, since a loop that writes to a vector behind a
+/// reference takes twice the time. Room for the first page is room for `FIRST_PAGES`, as few turns
+/// keep less.
 fn copy_page<C: Cells>(
     store: &C,
     page: usize,
     count: usize,
-    values: &mut Vec<u16>,
+    packed: &mut Vec<u8>,
 ) -> Result<(), AllocError>
     requires cells { page * whole_page + count ≤ length (C.cells store.now) }
     requires page { count ≤ whole_page }
-    ensures ok { OnOk result (values.new.items
-        ≡ values.old.items ++ page_values (C.cells store.now) page count) }
+    ensures ok { OnOk result (IsAdded page packed.old.items packed.new.items
+        (page_values (C.cells store.now) page count)) }
     ensures within { OnOk result (IsPageWithin C.Cells store.now page count) }
-    ensures err { OnErr result (values.new.items ≡ values.old.items) }
+    ensures err { OnErr result (packed.new.items ≡ packed.old.items) }
 {
-    let mut cells = [0; PAGE];
-    read_page(store, page, count, &mut cells);
-    if values.is_empty() {
-        values.reserve(FIRST_PAGES * PAGE)?;
+    let mut row = [0; PAGE_BYTES];
+    read_packed(store, page, count, &mut row);
+    if packed.is_empty() {
+        packed.reserve(FIRST_PAGES * PAGE_BYTES)?;
     }
-    values.extend_from_slice(&cells[..count])
+    packed.extend_from_slice(&row[..packed_size(page, count)])
 }
 
 /// Writes the values of the first cells of a page to the front of an array. The loop ends by `!=`:
@@ -284,11 +286,11 @@ pub(crate) fn read_page<C: Cells>(store: &C, page: usize, count: usize, cells: &
 }
 
 /// Clears the flags of the pages, which are all that are set.
-fn unmark(flags: &mut PageFlags, pages: &[usize])
+fn unmark(flags: &mut PageFlags, pages: &[u32])
     requires { IsMarked flags.old pages.now }
     ensures { IsMarked flags.new [] }
 {
     for i in 0..pages.len() {
-        flags.set(pages[i], false);
+        flags.set(pages[i] as usize, false);
     }
 }

@@ -8,6 +8,7 @@ mod objects;
 mod properties;
 
 pub use attributes::{attribute_bit, clear_attribute, set_attribute, test_attribute};
+pub use links::named_from;
 pub use moves::{insert_object, remove_object};
 pub use objects::{get_child, get_parent, get_sibling, jump_if_in, print_object};
 pub use properties::{

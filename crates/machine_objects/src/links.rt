@@ -67,13 +67,7 @@ fn word(memory: &[u8], at: usize) -> u16
 }
 
 /// The place of the link that names an object, looked for from a place on along sibling links.
-pub(crate) fn named_from(
-    memory: &[u8],
-    table: u16,
-    end: usize,
-    object: u16,
-    from: usize,
-) -> Option<usize>
+pub fn named_from(memory: &[u8], table: u16, end: usize, object: u16, from: usize) -> Option<usize>
     requires end { end ≤ length memory.now }
     requires from { from + 1 < end }
     ensures same { result ≡ named_from memory.now table end object from 4681 }

@@ -1,24 +1,39 @@
 //! Cells whose writes are recorded.
 
-ghost use Rattle.std.specs.Prelude.{◌≡◌, ℕ, List, [], length};
+ghost use Rattle.std.specs.Prelude.{◌≡◌, ◌≤◌, ℕ, List, [], length, nat_lt, if◌then◌else◌};
 
-use crate::names::{Cells, Recorded, swap_back, swap_forward};
+use crate::names::{Cells, PAGE, Recorded, WORD_PAGES, swap_back, swap_forward};
 use rows::{RowError, Shown, number_in, written_bytes};
 use std::alloc::{AllocError, Global};
+use std::marker::Model;
 
 /// A store has more cells than are shown where it has more than so many.
 const SHOWN: usize = 8;
 
+/// How many cells may hold words.
+const MOST: usize = WORD_PAGES * PAGE;
+
 /// Words in memory.
 #[derive(Drop)]
 pub struct Words {
+    /// No more than may hold words.
     values: Vec<u16>,
 }
 
-impl Cells for Words {
-    ghost cells = { λ s. s.values.items };
+impl Model for Words {
+    ghost use Rattle.std.specs.Prelude.{◌≤◌, List, ℕ, length};
 
-    ghost bounds = { λ _ _. 65535 };
+    ghost Value = { List ℕ };
+
+    ghost view = { λ s. s.values.items };
+
+    ghost invariant = { λ s. length s.values.items ≤ 72576 };
+}
+
+impl Cells for Words {
+    ghost cells = { λ s. s };
+
+    ghost bounds = { λ _ i. if nat_lt i 72576 then 65535 else 255 };
 
     ghost fixed = { λ _. [] };
 
@@ -27,8 +42,7 @@ impl Cells for Words {
     }
 
     fn bound(&self, i: usize) -> u16 {
-        let _i = i;
-        u16::MAX
+        if i < MOST { u16::MAX } else { 255 }
     }
 
     fn get(&self, i: usize) -> u16 {
@@ -44,6 +58,9 @@ impl Cells for Words {
 pub fn recorded(alloc: Global, text: &str) -> Result<Recorded<Words>, RowError> {
     let written = written_bytes(alloc, text)?;
     let values = values_in(alloc, &written)?;
+    if values.len() > MOST {
+        return Err(RowError::Number);
+    }
     Ok(Recorded::new(alloc, Words { values }))
 }
 
@@ -70,7 +87,8 @@ pub fn write(turn: &mut Recorded<Words>, text: &str) -> Result<(), RowError> {
     let Ok(value) = u16::try_from(number_in(value)?) else {
         return Err(RowError::Number);
     };
-    if cell >= turn.store().len() {
+    let store = turn.store();
+    if cell >= store.len() || value > store.bound(cell) {
         return Err(RowError::Number);
     }
     match turn.put(cell, value) {

@@ -1,5 +1,5 @@
 -- How large the items of the forms of expressions are, but for those on objects.
-use Rattle.std.proofs.Common.{ℕ, ◌+◌, ◌-◌, ◌*◌, ◌≤◌, List, [], ◌∷◌, ◌++◌, Bool, true, false, arith}
+use Rattle.std.proofs.Common.{ℕ, ◌+◌, ◌-◌, ◌*◌, ◌≤◌, List, [], ◌∷◌, ◌++◌, length, Bool, true, false, arith}
 use Rattle.std.specs.Prelude.{if◌then◌else◌, not}
 use Rattle.syntax_trees.specs.declared.tree.Binary.{Binary}
 use Rattle.syntax_trees.specs.declared.tree.Binary.TheVariants as binaries
@@ -12,7 +12,8 @@ use Rattle.meaning.specs.Resolved.{Value, Values, none, more}
 use Rattle.meaning.specs.Resolved as source
 use Rattle.meaning.specs.Accepted.{count_of}
 use Rattle.code_values.specs.Items.{Item, Operand, pushed, Destination, push, operand_of, operands_of, alone, left_of}
-use Rattle.code_values.specs.Items.{if_pushed, branch_true, is_few, comparison_test, comparison_when, equality_when}
+use Rattle.code_values.specs.Items.{if_pushed, branch_true, is_direct, same_count, comparison_test, comparison_when, equality_when}
+use Rattle.code_values.specs.Items.{same_items}
 use Rattle.code_values.specs.Items.{value_count, operand_count, operands_count, branch_count, many_count, truth_items}
 use Rattle.code_values.specs.Items.{value_items, operands_items, branch_items, many_items, also_items}
 use Rattle.code_values.specs.Items as items
@@ -147,21 +148,32 @@ compare_small op a b sa sb =
       branch = λ when at t. omega (arith, both when at t);
     }
 
+-- branches by three others at a time
+same_small : (o : Operand) (os : List Operand) (at : ℕ) (when : Bool) (t : ℕ)
+    → most_of (same_items o os at when t) ≤ 10 + 8 * length os
+same_small o [] at when t = omega arith
+same_small o (x ∷ []) at when t = omega arith
+same_small o (x ∷ y ∷ []) at when t = omega arith
+same_small o (x ∷ y ∷ z ∷ []) at when t = omega arith
+same_small o (x ∷ y ∷ z ∷ u ∷ os) at when t = omega (arith, same_small o (u ∷ os) (at + 1) when t)
+
 -- the two ways of `==`
-few_small : (op : Equality) (a : Value) (bs : Values) → Small a → AreSmall bs → (when : Bool) (at t : ℕ)
+direct_small : (op : Equality) (a : Value) (bs : Values) → Small a → AreSmall bs → (when : Bool) (at t : ℕ)
     → most_of (if_pushed (operand_of a bs) (value_items at a push) []
     ++ (operands_items (at + operand_count a (operand_of a bs)) bs
-    ++ items.branch items.same (operand_of a bs ∷ operands_of bs) (equality_when op when) t ∷ [])) + 10
+    ++ same_items (operand_of a bs) (operands_of bs) (at + operand_count a (operand_of a bs) + operands_count bs)
+    (equality_when op when) t)) + 10
     ≤ 32 * tokens a + 32 * list_tokens bs
-few_small op a bs sa sbs when at t =
+direct_small op a bs sa sbs when at t =
     let o = operand_of a bs in
     let m = at + operand_count a o in
-    let last = items.branch items.same (o ∷ operands_of bs) (equality_when op when) t ∷ [] in
+    let last = same_items o (operands_of bs) (m + operands_count bs) (equality_when op when) t in
     omega (
       arith,
       if_small o _ _ (sa.value push at),
       sbs.all m,
       operands_length bs,
+      same_small o (operands_of bs) (m + operands_count bs) (equality_when op when) t,
       most_append (if_pushed o (value_items at a push) []) (operands_items m bs ++ last),
       most_append (operands_items m bs) last,
     )
@@ -191,30 +203,32 @@ many_small op a (more v vs) sa first when at t =
 pub equal_small : (op : Equality) (a : Value) (bs : Values) → Small a → AreSmall bs → FirstSmall bs
     → Small (source.equal op a bs)
 equal_small op a bs sa sbs first =
-    let few = few_small op a bs sa sbs in
+    let direct = direct_small op a bs sa sbs in
     let many = many_small op a bs sa first in
     let room = alternatives_are bs in
     let n = 32 * (tokens a + alternative_tokens bs) in
     record {
       value = λ d at.
-          let count = operand_count a (operand_of a bs) + operands_count bs + 1 in
+          let count = operand_count a (operand_of a bs) + operands_count bs + same_count (operands_of bs) in
           let more_count = value_count a push + many_count bs in
-          let a1 = truth_small at count d (few_items at true) (n - 33) (λ t. omega (arith, few true at t, room)) in
+          let a1 = truth_small at count d (direct_items at true) (n - 33) (λ t. omega (arith, direct true at t, room)) in
           let a2 = truth_small at more_count d (several_items at true) (n - 33)
           (λ t. omega (arith, many true at t, room)) in
-          let h = either_small (is_few bs) (truth_items at count d (few_items at true))
-          (truth_items at more_count d (several_items at true)) (n - 20) (omega (arith, a1, room, few true at 0))
-          (omega (arith, a2, room, few true at 0)) in
-          omega (arith, h, room, few true at 0);
-      branch = λ when at t. let h = either_small (is_few bs) (few_items at when t) (several_items at when t) (n - 20)
-          (omega (arith, few when at t, room)) (omega (arith, many when at t, room)) in
-          omega (arith, h, room, few when at t);
+          let h = either_small (is_direct a bs) (truth_items at count d (direct_items at true))
+          (truth_items at more_count d (several_items at true)) (n - 20) (omega (arith, a1, room, direct true at 0))
+          (omega (arith, a2, room, direct true at 0)) in
+          omega (arith, h, room, direct true at 0);
+      branch = λ when at t.
+          let h = either_small (is_direct a bs) (direct_items at when t) (several_items at when t) (n - 20)
+          (omega (arith, direct when at t, room)) (omega (arith, many when at t, room)) in
+          omega (arith, h, room, direct when at t);
     }
   where
-    few_items : ℕ → Bool → ℕ → List Item
-    few_items at when t = if_pushed (operand_of a bs) (value_items at a push) []
+    direct_items : ℕ → Bool → ℕ → List Item
+    direct_items at when t = if_pushed (operand_of a bs) (value_items at a push) []
         ++ (operands_items (at + operand_count a (operand_of a bs)) bs
-        ++ items.branch items.same (operand_of a bs ∷ operands_of bs) (equality_when op when) t ∷ [])
+        ++ same_items (operand_of a bs) (operands_of bs) (at + operand_count a (operand_of a bs) + operands_count bs)
+        (equality_when op when) t)
 
     several_items : ℕ → Bool → ℕ → List Item
     several_items at when t = value_items at a push ++ many_items (at + value_count a push) op bs when t

@@ -1,7 +1,7 @@
 -- How many bytes the items have that branch, and those of `switch`.
-use Rattle.std.proofs.Common.{◌≡◌, ◌≤◌, ◌+◌, ◌-◌, ◌*◌, ℕ, Bool, false, List, [], ◌∷◌, length, take, refl, arith}
-use Rattle.std.proofs.Common.{length-append}
-use Rattle.std.specs.Prelude.{nat_lt, map}
+use Rattle.std.proofs.Common.{◌≡◌, ◌≤◌, ◌+◌, ◌-◌, ◌*◌, ℕ, Bool, true, false, List, [], ◌∷◌, length, take, refl, arith}
+use Rattle.std.proofs.Common.{subst, length-append}
+use Rattle.std.specs.Prelude.{nat_lt, map, if◌then◌else◌}
 use Rattle.std.specs.List.{flat_map}
 use Rattle.std.proofs.lemmas.List.{length-take}
 use Rattle.zcore.specs.declared.instruction.Operand.TheVariants.{Small, Variable}
@@ -13,13 +13,14 @@ use Rattle.code_values.specs.Items.{Test}
 use Rattle.code_values.specs.Items as items
 use Rattle.code_encoding.specs.Instructions as spec
 use Rattle.code_encoding.specs.Instructions.{constant, operands, takes, most_tested}
-use Rattle.code_instructions.specs.Instructions.{labelled, test_operation, tested_code, least_word, branch_code}
+use Rattle.code_instructions.specs.Instructions.{labelled, test_operation, turned, are_both_pushed, ordered_code, tested_code}
+use Rattle.code_instructions.specs.Instructions.{least_word, branch_code}
 use Rattle.code_instructions.specs.Instructions.{chosen_variable, choose_code, most_compared, compared, case_code}
 use Rattle.code_encoding.specs.Addresses.{Sizes}
 use Rattle.code_encoding.specs.Bytes.{bytes_of_all}
 use Rattle.code.specs.Bytes.{part_of}
 use Rattle.code.proofs.AddressLengths.{all_length}
-use Rattle.code.proofs.BranchLengths.{labelled_length}
+use Rattle.code.proofs.BranchLengths.{labelled_length, both_pushed}
 use Rattle.story_sizes.proofs.SizesOfInstructions.{operand_count, constant_few, taken_few}
 use Rattle.story_sizes.proofs.SizesOfOperands.{plain_few, store_few, label_few, beside_few}
 use Rattle.story_sizes.proofs.SizesOfCalls.{taken_length}
@@ -33,8 +34,22 @@ test_more items.same = refl
 tested_few : (test : Test) (os : List items.Operand) (when : Bool) (n : ℕ)
     → operand_count (operands os) + length (bytes_of_all (takes os)) ≤ n
     → length (bytes_of_all (tested_code test os when 2)) ≤ 3 + n
-tested_few test os when n h =
-    omega (
+tested_few test os when n h = go (are_both_pushed os) refl
+  where
+    go : (both : Bool) → are_both_pushed os ≡ both
+        → length (bytes_of_all (if both then labelled (test_operation (turned test)) (spec.top ∷ spec.top ∷ []) when 2
+        else ordered_code test os when 2)) ≤ 3 + n
+    go true e =
+        let op = test_operation (turned test) in
+        let more = subst (λ os. operand_count (operands os) + length (bytes_of_all (takes os)) ≤ n) (both_pushed os e) h
+        in
+        omega (
+          arith,
+          labelled_length op (spec.top ∷ spec.top ∷ []) when 2,
+          beside_few op (spec.top ∷ spec.top ∷ []) (test_more (turned test)),
+          more,
+        )
+    go false e = omega (
       arith,
       all_length (takes os) (labelled (test_operation test) (operands os) when 2),
       labelled_length (test_operation test) (operands os) when 2,

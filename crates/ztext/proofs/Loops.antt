@@ -1,9 +1,9 @@
 -- Reading, a Z-character at a time.
-use Rattle.std.proofs.Common.{◌≡◌, ℕ, suc, ◌+◌, ◌*◌, ◌<◌, ◌≤◌, Bool, true, false, List, [], ◌∷◌, ◌++◌, length, get_or}
-use Rattle.std.proofs.Common.{if◌then◌else◌, eqb, ltb, drop, Result, Ok, Err, refl, sym, ap, subst, ◌∙◌, append_assoc}
+use Rattle.std.proofs.Common.{◌≡◌, ℕ, suc, ◌+◌, ◌*◌, ◌/◌, ◌%◌, ◌<◌, ◌≤◌, Bool, true, false, List, [], ◌∷◌, ◌++◌, length, get_or}
+use Rattle.std.proofs.Common.{if◌then◌else◌, eqb, ltb, drop, Result, Ok, Err, refl, sym, ap, subst, ◌∙◌, append_assoc, slice_index}
 use Rattle.std.proofs.Common.{arith, add-one, drop-cons, ◌⊎◌, inl, inr, take}
 use Rattle.std.proofs.lemmas.Bool.{ne_eqb, le-ltb}
-use Rattle.std.proofs.lemmas.List.{append-nil, drop_all, take_all}
+use Rattle.std.proofs.lemmas.List.{append-nil, drop_all, take_all, length-append}
 use Rattle.ztext.specs.declared.fault.TextFault.{TextFault}
 use Rattle.ztext.specs.declared.fault.TextFault.TheVariants as faults
 use Rattle.ztext.specs.declared.reading.State as declared
@@ -17,7 +17,7 @@ use Rattle.ztext.specs.Text.{read_with, refused}
 use Rattle.ztext.specs.Words.{unpacked_text}
 use Rattle.ztext.specs.Faults.{FailsText}
 use Rattle.ztext.specs.Fronts.{front_of}
-use Rattle.ztext.specs.TextParts.{words_of, z_character_at, state_of, Prints, after_text}
+use Rattle.ztext.specs.TextParts.{words_of, three_at, z_character_at, state_of, Prints, after_text, PrintsInLower, ArePrintedInLower, IsReadAtOnce}
 use Rattle.ztext.specs.Expansions.{read_on, rest_of}
 use Rattle.ztext.proofs.Packing.{z_character-is, length-words_of}
 use Rattle.ztext.proofs.Fronts.{front, take_front}
@@ -214,6 +214,67 @@ module _ (expand : ℕ → Result (List ℕ) Cause) where
       ∙ ap (λ y. front most (read_from expand bytes words (text ++ got) (next state y) (place + 1))) is
       ∙ ap (front most)
       (sym (read_step expand bytes words text got state place lt (ap (printed expand state) (sym is) ∙ e))) ∙ so_far
+
+-- ---- a word whose Z-characters are letters of alphabet A0 and spaces
+
+z_in_word : (bytes : List ℕ) (place k at : ℕ) → place % 3 ≡ 0 → k < 3 → at ≡ place + k
+    → slice_index (three_at bytes (place / 3)) k ≡ z_character_at bytes at
+z_in_word bytes place k at begins lt is =
+    let d : at / 3 ≡ place / 3 = omega (arith, begins, lt, is) in
+    let m : at % 3 ≡ k = omega (arith, begins, lt, is) in
+    rw (d, m) refl
+
+pub small_many : (zs cs : List ℕ) → ArePrintedInLower zs cs → length cs ≡ length zs
+small_many [] [] h = refl
+small_many (z ∷ zs) (c ∷ cs) h = omega (arith, small_many zs cs h.1)
+small_many [] (c ∷ cs) h = absurd h
+small_many (z ∷ zs) [] h = absurd h
+
+module _ (expand : ℕ → Result (List ℕ) Cause) (most : ℕ) (bytes : List ℕ) (words place : ℕ)
+    (whole : Result (List ℕ) Cause) where
+  small_at : (text now : List ℕ) (k at c : ℕ) → place % 3 ≡ 0 → k < 3 → at ≡ place + k → at < 3 * words
+      → PrintsInLower (slice_index (three_at bytes (place / 3)) k) c → now ≡ take most (text ++ c ∷ [])
+      → front most (read_from expand bytes words text Lower at) ≡ whole
+      → front most (read_from expand bytes words now Lower (at + 1)) ≡ whole
+  small_at text now k at c begins lt is within prints grown so_far =
+      turn_at expand most bytes words (slice_index (three_at bytes (place / 3)) k) text (c ∷ []) now Lower Lower
+      at whole (z_in_word bytes place k at begins lt is) within so_far (prints.0 expand) grown (sym prints.1)
+
+  three_read : (text now : List ℕ) (a b c : ℕ) → place % 3 ≡ 0 → place < 3 * words
+      → length text + 3 ≤ most → ArePrintedInLower (three_at bytes (place / 3)) (a ∷ b ∷ c ∷ [])
+      → now ≡ text ++ a ∷ b ∷ c ∷ []
+      → front most (read_from expand bytes words text Lower place) ≡ whole
+      → front most (read_from expand bytes words now Lower (place + 3)) ≡ whole
+  three_read text now a b c begins lt room prints grown so_far =
+      let one = text ++ a ∷ [] in
+      let two = one ++ b ∷ [] in
+      let three = two ++ c ∷ [] in
+      let n1 : length one ≡ length text + 1 = length-append text (a ∷ []) in
+      let n2 : length two ≡ length text + 2 = omega (arith, length-append one (b ∷ []), n1) in
+      let n3 : length three ≡ length text + 3 = omega (arith, length-append two (c ∷ []), n2) in
+      let is : now ≡ three = grown ∙ sym (append_assoc text (a ∷ []) (b ∷ c ∷ []))
+      ∙ sym (append_assoc one (b ∷ []) (c ∷ [])) in
+      let first = small_at text one 0 place a begins (omega arith) (omega arith) lt prints.0
+      (sym (take_all most one (omega (arith, n1, room)))) so_far in
+      let second = small_at one two 1 (place + 1) b begins (omega arith) (omega arith) (omega (arith, lt, begins))
+      prints.1.0 (sym (take_all most two (omega (arith, n2, room)))) first in
+      let third = small_at two three 2 (place + 1 + 1) c begins (omega arith) (omega arith)
+      (omega (arith, lt, begins)) prints.1.1.0 (sym (take_all most three (omega (arith, n3, room)))) second in
+      let end : place + 3 ≡ place + 1 + 1 + 1 = omega arith in
+      ap (λ t. front most (read_from expand bytes words t Lower (place + 3))) is
+      ∙ ap (λ p. front most (read_from expand bytes words three Lower p)) end ∙ third
+
+  pub word_read : (text now three : List ℕ) (state : ReadingState)
+      → IsReadAtOnce bytes place state most text three → place < 3 * words → now ≡ text ++ three
+      → front most (read_from expand bytes words text state place) ≡ whole
+      → front most (read_from expand bytes words now state (place + 3)) ≡ whole
+  word_read text now (a ∷ b ∷ c ∷ []) state h lt grown so_far = rw h.lower
+      (three_read text now a b c h.begins lt h.room h.printed grown
+      (ap (λ s. front most (read_from expand bytes words text s place)) (sym h.lower) ∙ so_far))
+  word_read text now [] state h lt grown so_far = absurd h.printed
+  word_read text now (a ∷ []) state h lt grown so_far = absurd h.printed.1
+  word_read text now (a ∷ b ∷ []) state h lt grown so_far = absurd h.printed.1.1
+  word_read text now (a ∷ b ∷ c ∷ d ∷ cs) state h lt grown so_far = absurd h.printed.1.1.1
 
 -- ---- what a Z-character prints, by the code's answer
 

@@ -1,5 +1,5 @@
 -- Words for the contracts of the functions within the crate.
-use Rattle.std.specs.Prelude.{◌≡◌, ◌+◌, ◌*◌, ◌/◌, ◌%◌, ◌<◌, ℕ, zero, suc, min, true, false, List, [], ◌∷◌, ◌++◌}
+use Rattle.std.specs.Prelude.{◌≡◌, ◌+◌, ◌*◌, ◌/◌, ◌%◌, ◌<◌, ◌≤◌, ℕ, zero, suc, min, true, false, List, [], ◌∷◌, ◌++◌}
 use Rattle.std.specs.Prelude.{length, take, replicate, slice_index, if◌then◌else◌, Option, Some, None, Result, Ok, Err}
 use Rattle.std.specs.Prelude.{MatchResult}
 use Rattle.ztext.specs.declared.abbreviations.Found as declared_found
@@ -11,7 +11,7 @@ use Rattle.ztext.specs.declared.reading.Output.{Output}
 use Rattle.ztext.specs.declared.reading.Output.TheVariants as outputs
 use Rattle.ztext.specs.Results.{◌>>=◌}
 use Rattle.ztext.specs.Reading.{Cause, Character, Lower, Upper, Punctuation, EscapeHigh, EscapeLow, Abbreviated}
-use Rattle.ztext.specs.Reading.{ReadingState}
+use Rattle.ztext.specs.Reading.{ReadingState, printed, next}
 use Rattle.ztext.specs.Words.{three_of}
 use Rattle.ztext.specs.Text.{has_abbreviations, abbreviation_address}
 use Rattle.ztext.specs.Abbreviations.{Found, begins}
@@ -21,6 +21,10 @@ use Rattle.ztext.specs.Bytes.{most_abbreviations}
 abbrev pub AreSmall : List ℕ → Type 0
 AreSmall [] = Unit {0}
 AreSmall (z ∷ zs) = (z < 32) × AreSmall zs
+
+-- the Z-characters of a word of bytes
+abbrev pub three_at : List ℕ → ℕ → List ℕ
+three_at bytes n = three_of (slice_index bytes (2 * n)) (slice_index bytes (2 * n + 1))
 
 -- the Z-characters of the first words of bytes
 unfoldable pub words_of : ℕ → List ℕ → List ℕ
@@ -81,3 +85,20 @@ found_of (Some x) = Some (record { number = x.number; length = x.length })
 -- the abbreviation of a number, where it stands at the beginning of a text
 abbrev pub at_front : ℕ → List ℕ → List ℕ → Option Found
 at_front number a text = if begins a text then Some (record { number = number; length = length a }) else None
+
+-- a Z-character is a letter of alphabet A0 or a space, which it prints, and the next one is read in A0 too
+abbrev pub PrintsInLower : ℕ → ℕ → Type 0
+PrintsInLower z c = ((expand : ℕ → Result (List ℕ) Cause) → printed expand Lower z ≡ Ok (c ∷ [])) × (next Lower z ≡ Lower)
+
+-- so do these, one after the other
+abbrev pub ArePrintedInLower : List ℕ → List ℕ → Type 0
+ArePrintedInLower [] [] = Unit {0}
+ArePrintedInLower (z ∷ zs) (c ∷ cs) = PrintsInLower z c × ArePrintedInLower zs cs
+ArePrintedInLower _ _ = ⊥
+
+-- the word at a place can be read at once: three characters are printed, for which the text has room
+pub record IsReadAtOnce (bytes : List ℕ) (place : ℕ) (state : ReadingState) (most : ℕ) (text three : List ℕ) : Type 0 where
+  pub lower : state ≡ Lower
+  pub begins : place % 3 ≡ 0
+  pub room : length text + 3 ≤ most
+  pub printed : ArePrintedInLower (three_at bytes (place / 3)) three

@@ -6,7 +6,7 @@ ghost use Rattle.ztext.specs.Alphabets.{spelled};
 ghost use Rattle.ztext.specs.Text.{encoded};
 ghost use Rattle.ztext.specs.Words as spec;
 ghost use Rattle.ztext.specs.Faults.{GivesText};
-ghost use Rattle.ztext.specs.TextParts.{AreSmall, words_of, z_character_at};
+ghost use Rattle.ztext.specs.TextParts.{AreSmall, words_of, three_at, z_character_at};
 
 use crate::bytes::read_word;
 use crate::fault::TextFault;
@@ -131,4 +131,19 @@ pub(crate) fn z_character(bytes: &[u8], place: usize) -> u8
         _ => word,
     };
     (shifted % 32) as u8
+}
+
+/// The three Z-characters of a word, counted from 0, of the text at the front of the bytes.
+#[inline(always)]
+pub(crate) fn z_characters(bytes: &[u8], n: usize) -> [u8; 3]
+    requires { 2 * n + 1 < length bytes.now }
+    ensures three { result ≡ three_at bytes.now n }
+    ensures small { AreSmall result }
+{
+    let word = read_word(bytes, 2 * n);
+    [
+        (word / 1024 % 32) as u8,
+        (word / 32 % 32) as u8,
+        (word % 32) as u8,
+    ]
 }

@@ -8,6 +8,7 @@ use Rattle.code_values.proofs.Values.{prefix_more, not_more_at}
 use Rattle.code_values.proofs.Alternatives.{equal_more}
 use Rattle.code_values.proofs.CodeForms.{assigned_nowhere, assigned_pushed, assigned_kept, call_written, and_written}
 use Rattle.code_values.proofs.CodeForms.{or_written, operation_written, comparison_written, few_written, many_written}
+use Rattle.code_values.proofs.CodeForms.{placed_written}
 use Rattle.code_values.proofs.ListRounds.{folded_round, operand_round, link_round, links_done}
 use Rattle.code_values.proofs.ObjectForms.{assigned_word_link, assigned_word_more}
 use Rattle.code_values.proofs.Properties.{property_more}
@@ -83,10 +84,16 @@ put_others-returns-in_ok-put_operands t c = few_written _ _ _ _ c.args.wanted c.
     c.in_ok-put.ensures c.in_ok-put_operands.ensures
 
 pub put_others-returns-in_ok-put-3 : goal.put_others-returns-in_ok-put-3
-put_others-returns-in_ok-put-3 t c = many_written _ _ _ _ _ _ c.args.wanted c.in_ok-when.when _ _ c.in_ok-when.target
+put_others-returns-in_ok-put-3 t c = many_written _ _ _ _ _ _ c.args.wanted c.in_ok-when.when _ _ _ c.in_ok-when.target
     c.args.equality _ _ (values_of (map value_of c.args.others.now)) c.are_few.ensures c.if-are_few.false
-    c.in_ok-when.ensures c.equality_when-when.ensures c.in_ok-put_branch.ensures c.in_ok-put-2.ensures
+    c.is_pushed.ensures c.if-is_pushed.true c.in_ok-when.ensures c.equality_when-when.ensures c.in_ok-put_branch.ensures c.in_ok-put-2.ensures
     c.in_ok-put_folded.ensures c.in_ok-put-3.ensures
+
+pub put_others-returns-in_ok-put_each_same : goal.put_others-returns-in_ok-put_each_same
+put_others-returns-in_ok-put_each_same t c = placed_written _ _ _ c.args.wanted c.in_ok-when.when _ _ _
+    c.in_ok-when.target c.args.equality _ _ _ _ _ (values_of (map value_of c.args.others.now)) c.are_few.ensures
+    c.if-are_few.false c.is_pushed.ensures c.if-is_pushed.false c.in_ok-when.ensures c.in_ok-compared.ensures.items
+    c.in_ok-push_alone.ensures c.deref.ensures.value c.equality_when-when.ensures c.in_ok-put_each_same.ensures
 
 -- Rounds of loops
 

@@ -1,114 +1,147 @@
-use Rattle.std.proofs.Common.{◌≡◌, ◌+◌, ◌-◌, ◌<◌, ℕ, List, ◌++◌, length, get_or, take, drop, refl, sym, subst, arith}
+use Rattle.std.proofs.Common.{◌≡◌, ◌+◌, ◌-◌, ℕ, List, ◌++◌, length, get_or, take, drop, refl, ap, sym, subst}
+use Rattle.std.proofs.Common.{◌∙◌, arith}
 use Rattle.std.proofs.lemmas.List.{with_items_is}
 use Rattle.journal.specs.Swap.{Fits}
-use Rattle.journal.specs.Pages.{cells_of, page_entries}
-use Rattle.journal.proofs.Steps.{GoneForward, forward_ends_pages, forward_starts, page_at, page_within}
-use Rattle.journal.proofs.PageEntries.{fits_page, length-row, page_in_store, some_cells}
-use Rattle.journal.proofs.PageSwaps.{page_after, page_gone_forward}
+use Rattle.journal.specs.Pages.{cells_of, page_entries, page_unpacked, values_of}
+use Rattle.journal.proofs.Packed.{length-values_of, packed_at}
+use Rattle.journal.proofs.PackedSwaps.{length-packed_row, length-packed_with}
+use Rattle.journal.proofs.PackedSwaps.{packed_after, packed_forward_ends, packed_fits}
+use Rattle.journal.proofs.PackedSwaps.{packed_gone_forward, packed_inside, start_of}
+use Rattle.journal.proofs.Steps.{GoneForward, forward_starts}
 use Rattle.journal.proofs.record.go_forward.Goals as goal
 
 pub pages-init : goal.pages-init
-pages-init g c = record {
-  at = refl;
-  forward = forward_starts (length (g.C.Cells.cells c.args.store.now)) (g.C.Cells.bounds c.args.store.now)
-      (cells_of c.args.len c.args.pages.now) c.args.values.now.items (g.C.Cells.cells c.args.store.now)
-      c.requires.paged.size c.requires.fits;
-  same_len = refl;
-  same_bounds = refl;
-  same_fixed = refl;
-}
+pages-init g c =
+    let all = length-values_of c.args.len c.args.pages.now c.args.packed.now.items c.requires.paged.size in
+    record {
+      at = refl;
+      long = c.requires.paged.size;
+      forward = forward_starts (length (g.C.Cells.cells c.args.store.now)) (g.C.Cells.bounds c.args.store.now) (cells_of c.args.len c.args.pages.now)
+          (values_of c.args.len c.args.pages.now c.args.packed.now.items) (g.C.Cells.cells c.args.store.now) all c.requires.fits;
+      same_len = refl;
+      same_bounds = refl;
+      same_fixed = refl;
+    }
 
 pub overflow_add-at : goal.overflow_add-at
 overflow_add-at g c =
+    let there = packed_after c.args.len c.args.pages.now c.pages.packed.items c.pages.packed.items c.pages.slot
+    c.pages.at c.packed_size-width.result c.page_size-size.result (omega arith) c.pages.invariant.at
+    c.pages.invariant.long c.page_size-size.ensures.result c.packed_size-width.ensures refl in
+    omega (arith, packed_inside c.args.len c.args.pages.now c.pages.packed.items c.pages.slot c.pages.at _ there)
+
+pub slice_bounds-page_forward-end : goal.slice_bounds-page_forward-end
+slice_bounds-page_forward-end g c =
+    let there = packed_after c.args.len c.args.pages.now c.pages.packed.items c.deref_mut.result.now c.pages.slot
+    c.pages.at c.packed_size-width.result c.page_size-size.result (omega arith) c.pages.invariant.at
+    c.pages.invariant.long c.page_size-size.ensures.result c.packed_size-width.ensures c.deref_mut.ensures.value in
     omega (
       arith,
-      page_within c.args.len c.args.pages.now c.pages.slot 0 (omega arith),
-      c.pages.invariant.at,
-      c.page_size-size.ensures.result,
-      c.pages.invariant.forward.size,
+      packed_inside c.args.len c.args.pages.now c.deref_mut.result.now c.pages.slot c.pages.at _ there,
+      c.deref_mut.type_inv.1,
     )
 
-pub offset_bounds-deref_mut-at : goal.offset_bounds-deref_mut-at
-offset_bounds-deref_mut-at g c =
-    let here = page_after c.args.len c.args.pages.now c.pages.values.items c.deref_mut.result.now c.pages.slot
-    c.pages.at c.page_size-size.result (omega arith) c.pages.invariant.at c.page_size-size.ensures.result
-    c.deref_mut.ensures.value c.pages.invariant.forward in
-    omega (arith, here.1.within, here.1.long, c.deref_mut.type_inv.1)
-
-pub slice_bounds-exchange_forward-end : goal.slice_bounds-exchange_forward-end
-slice_bounds-exchange_forward-end g c =
-    let here = page_after c.args.len c.args.pages.now c.pages.values.items c.deref_mut.result.now c.pages.slot
-    c.pages.at c.page_size-size.result (omega arith) c.pages.invariant.at c.page_size-size.ensures.result
-    c.deref_mut.ensures.value c.pages.invariant.forward in
-    omega (arith, here.1.within, here.1.long)
-
-pub exchange_forward-requires-clause-cells : goal.exchange_forward-requires-clause-cells
-exchange_forward-requires-clause-cells g c =
-    let size = c.page_size-size.result in
-    let count : ℕ = c.pages.at + size - c.pages.at in
-    let page : ℕ = get_or c.args.pages.now c.pages.slot 0 in
-    let values : List ℕ = c.deref_mut.result.now in
-    let cs : List ℕ = cells_of c.args.len c.args.pages.now in
+pub page_forward-requires-clause-packed : goal.page_forward-requires-clause-packed
+page_forward-requires-clause-packed g c =
+    let size : ℕ = c.page_size-size.result in
+    let s : ℕ = c.pages.slot in
+    let at : ℕ = c.pages.at in
+    let count : ℕ = at + c.packed_size-width.result - at in
+    let packed : List ℕ = c.deref_mut.result.now in
     let n : ℕ = length (g.C.Cells.cells c.args.store.now) in
     let b : ℕ → ℕ = g.C.Cells.bounds c.args.store.now in
-    let here = page_after c.args.len c.args.pages.now c.pages.values.items values c.pages.slot c.pages.at
-    size (omega arith) c.pages.invariant.at c.page_size-size.ensures.result c.deref_mut.ensures.value
-    c.pages.invariant.forward in
-    let some : 0 < size = some_cells c.args.len c.args.pages.now c.pages.slot size c.requires.paged.named (omega arith)
-    c.page_size-size.ensures.result in
-    let inside = page_in_store n b page (take count (drop c.pages.at values))
-    (fits_page n b cs values page c.pages.at count here.1 here.0.fits)
-    (omega (arith, length-row cs values page c.pages.at count here.1, some)) in
-    omega (arith, inside, c.pages.invariant.same_len)
+    let there = packed_after c.args.len c.args.pages.now c.pages.packed.items c.deref_mut.result.now c.pages.slot
+    c.pages.at c.packed_size-width.result c.page_size-size.result (omega arith) c.pages.invariant.at
+    c.pages.invariant.long c.page_size-size.ensures.result c.packed_size-width.ensures c.deref_mut.ensures.value in
+    omega (
+      arith,
+      length-packed_row c.args.len c.args.pages.now packed s at count there,
+      c.packed_size-width.ensures,
+    )
 
-pub exchange_forward-requires-clause-fits : goal.exchange_forward-requires-clause-fits
-exchange_forward-requires-clause-fits g c =
-    let size = c.page_size-size.result in
-    let count : ℕ = c.pages.at + size - c.pages.at in
-    let page : ℕ = get_or c.args.pages.now c.pages.slot 0 in
-    let values : List ℕ = c.deref_mut.result.now in
+pub page_forward-requires-clause-cells : goal.page_forward-requires-clause-cells
+page_forward-requires-clause-cells g c =
+    let size : ℕ = c.page_size-size.result in
+    let s : ℕ = c.pages.slot in
+    let at : ℕ = c.pages.at in
+    let count : ℕ = at + c.packed_size-width.result - at in
+    let packed : List ℕ = c.deref_mut.result.now in
     let n : ℕ = length (g.C.Cells.cells c.args.store.now) in
     let b : ℕ → ℕ = g.C.Cells.bounds c.args.store.now in
-    let here = page_after c.args.len c.args.pages.now c.pages.values.items values c.pages.slot c.pages.at
-    size (omega arith) c.pages.invariant.at c.page_size-size.ensures.result c.deref_mut.ensures.value
-    c.pages.invariant.forward in
-    let fits : Fits n b (page_entries page (take count (drop c.pages.at values))) = fits_page n b
-    (cells_of c.args.len c.args.pages.now) values page c.pages.at count here.1 here.0.fits in
-    rw (c.pages.invariant.same_len, c.pages.invariant.same_bounds) fits
+    let there = packed_after c.args.len c.args.pages.now c.pages.packed.items c.deref_mut.result.now c.pages.slot
+    c.pages.at c.packed_size-width.result c.page_size-size.result (omega arith) c.pages.invariant.at
+    c.pages.invariant.long c.page_size-size.ensures.result c.packed_size-width.ensures c.deref_mut.ensures.value in
+    let fit = packed_fits c.args.len n b c.args.pages.now packed s at count size there c.requires.paged.named
+    c.page_size-size.ensures.result
+    (subst (λ (t : List ℕ). GoneForward n b (cells_of c.args.len c.args.pages.now)
+    (values_of c.args.len c.args.pages.now c.args.packed.now.items) (g.C.Cells.cells c.args.store.now)
+    (start_of c.args.len c.args.pages.now c.pages.slot) (g.C.Cells.cells c.pages.store)
+    (values_of c.args.len c.args.pages.now t)) (sym c.deref_mut.ensures.value) c.pages.invariant.forward).fits in
+    omega (arith, fit.1, c.pages.invariant.same_len)
+
+pub page_forward-requires-clause-fits : goal.page_forward-requires-clause-fits
+page_forward-requires-clause-fits g c =
+    let size : ℕ = c.page_size-size.result in
+    let s : ℕ = c.pages.slot in
+    let at : ℕ = c.pages.at in
+    let count : ℕ = at + c.packed_size-width.result - at in
+    let packed : List ℕ = c.deref_mut.result.now in
+    let n : ℕ = length (g.C.Cells.cells c.args.store.now) in
+    let b : ℕ → ℕ = g.C.Cells.bounds c.args.store.now in
+    let there = packed_after c.args.len c.args.pages.now c.pages.packed.items c.deref_mut.result.now c.pages.slot
+    c.pages.at c.packed_size-width.result c.page_size-size.result (omega arith) c.pages.invariant.at
+    c.pages.invariant.long c.page_size-size.ensures.result c.packed_size-width.ensures c.deref_mut.ensures.value in
+    let fit = packed_fits c.args.len n b c.args.pages.now packed s at count size there c.requires.paged.named
+    c.page_size-size.ensures.result
+    (subst (λ (t : List ℕ). GoneForward n b (cells_of c.args.len c.args.pages.now)
+    (values_of c.args.len c.args.pages.now c.args.packed.now.items) (g.C.Cells.cells c.args.store.now)
+    (start_of c.args.len c.args.pages.now c.pages.slot) (g.C.Cells.cells c.pages.store)
+    (values_of c.args.len c.args.pages.now t)) (sym c.deref_mut.ensures.value) c.pages.invariant.forward).fits in
+    rw (c.pages.invariant.same_len, c.pages.invariant.same_bounds) fit.0
 
 pub pages-preserved : goal.pages-preserved
 pages-preserved g c =
-    let size = c.page_size-size.result in
+    let size : ℕ = c.page_size-size.result in
+    let s : ℕ = c.pages.slot in
     let at : ℕ = c.pages.at in
-    let count : ℕ = c.pages.at + size - c.pages.at in
-    let page : ℕ = get_or c.args.pages.now c.pages.slot 0 in
-    let values : List ℕ = c.deref_mut.result.now in
-    let row : List ℕ = c.exchange_forward.new.values in
-    let whole : List ℕ = take at values ++ (row ++ drop count (drop at values)) in
-    let cs : List ℕ = cells_of c.args.len c.args.pages.now in
-    let was : List ℕ = c.args.values.now.items in
+    let count : ℕ = at + c.packed_size-width.result - at in
+    let packed : List ℕ = c.deref_mut.result.now in
     let n : ℕ = length (g.C.Cells.cells c.args.store.now) in
     let b : ℕ → ℕ = g.C.Cells.bounds c.args.store.now in
-    let here = page_after c.args.len c.args.pages.now c.pages.values.items values c.pages.slot at
-    size (omega arith) c.pages.invariant.at c.page_size-size.ensures.result c.deref_mut.ensures.value
+    let row : List ℕ = c.page_forward.new.packed in
+    let whole : List ℕ = take at packed ++ (row ++ drop count (drop at packed)) in
+    let cs : List ℕ = cells_of c.args.len c.args.pages.now in
+    let was : List ℕ = values_of c.args.len c.args.pages.now c.args.packed.now.items in
+    let c0 : List ℕ = g.C.Cells.cells c.args.store.now in
+    let there = packed_after c.args.len c.args.pages.now c.pages.packed.items c.deref_mut.result.now c.pages.slot
+    c.pages.at c.packed_size-width.result c.page_size-size.result (omega arith) c.pages.invariant.at
+    c.pages.invariant.long c.page_size-size.ensures.result c.packed_size-width.ensures c.deref_mut.ensures.value in
+    let gone_so_far = subst (λ (t : List ℕ). GoneForward n b cs was c0 (start_of c.args.len c.args.pages.now c.pages.slot)
+    (g.C.Cells.cells c.pages.store) (values_of c.args.len c.args.pages.now t)) (sym c.deref_mut.ensures.value)
     c.pages.invariant.forward in
-    let len : n ≡ length (g.C.Cells.cells c.exchange_forward.new.store) = cc in
-    let bounds : b ≡ g.C.Cells.bounds c.exchange_forward.new.store = cc in
-    let fits : Fits n b (page_entries page row) = rw (len, bounds) c.exchange_forward.ensures.fits in
-    let gone = page_gone_forward n b cs was (g.C.Cells.cells c.args.store.now) at (at + size) count page
-    (g.C.Cells.cells c.pages.store) values (g.C.Cells.cells c.exchange_forward.new.store) row here.0
-    c.requires.paged.size (omega arith) here.1 c.exchange_forward.ensures.size c.exchange_forward.ensures.cells
-    c.exchange_forward.ensures.entries fits in
-    let items = with_items_is c.pages.values whole (omega (arith, gone.size, here.1.long, c.deref_mut.ensures.len)) in
+    let len : n ≡ length (g.C.Cells.cells c.page_forward.new.store) = cc in
+    let bounds : b ≡ g.C.Cells.bounds c.page_forward.new.store = cc in
+    let fits : Fits n b (page_entries (get_or c.args.pages.now s 0) (page_unpacked (get_or c.args.pages.now s 0) size row)) =
+    rw (len, bounds) c.page_forward.ensures.fits in
+    let same : length row ≡ count = c.page_forward.ensures.size
+    ∙ length-packed_row c.args.len c.args.pages.now packed s at count there in
+    let all = length-values_of c.args.len c.args.pages.now c.args.packed.now.items c.requires.paged.size in
+    let gone = packed_gone_forward c.args.len n b was c0 c.args.pages.now packed (c.pages.slot + 1) s at count size
+    (g.C.Cells.cells c.pages.store) (g.C.Cells.cells c.page_forward.new.store) row gone_so_far all
+    (omega arith) there same c.page_size-size.ensures.result c.page_forward.ensures.cells c.page_forward.ensures.entries fits in
+    let long : length whole ≡ length packed =
+    length-packed_with c.args.len c.args.pages.now packed s at count row there same in
+    let items = with_items_is c.pages.packed whole (omega (arith, long, c.deref_mut.ensures.len)) in
     record {
       at = omega (
         arith,
-        page_at c.args.len c.args.pages.now c.pages.slot 0 (omega arith),
-        c.pages.invariant.at,
-        c.page_size-size.ensures.result,
+        packed_at c.args.len c.args.pages.now c.pages.slot (omega arith),
+        there.start,
+        there.wide,
       );
-      forward = subst (λ (t : List ℕ). GoneForward n b cs was (g.C.Cells.cells c.args.store.now) (at + size)
-          (g.C.Cells.cells c.exchange_forward.new.store) t) (sym items) gone;
+      long = ap (λ (t : List ℕ). length t) items ∙ long ∙ there.long;
+      forward = subst (λ (t : List ℕ). GoneForward n b cs was c0 (start_of c.args.len c.args.pages.now (c.pages.slot + 1))
+          (g.C.Cells.cells c.page_forward.new.store) (values_of c.args.len c.args.pages.now t)) (sym items) gone;
       same_len = cc;
       same_bounds = cc;
       same_fixed = cc;
@@ -116,10 +149,17 @@ pages-preserved g c =
 
 pub returns-clause-cells : goal.returns-clause-cells
 returns-clause-cells g c =
-    (forward_ends_pages c.args.len c.args.pages.now c.pages.slot c.pages.at c.pages.invariant.forward
-    c.requires.paged.size c.pages.invariant.at (omega arith)).0
+    (packed_forward_ends c.args.len c.args.pages.now c.pages.slot c.pages.invariant.forward
+    (length-values_of c.args.len c.args.pages.now c.args.packed.now.items c.requires.paged.size) (omega arith)).0
 
 pub returns-clause-entries : goal.returns-clause-entries
 returns-clause-entries g c =
-    (forward_ends_pages c.args.len c.args.pages.now c.pages.slot c.pages.at c.pages.invariant.forward
-    c.requires.paged.size c.pages.invariant.at (omega arith)).1
+    (packed_forward_ends c.args.len c.args.pages.now c.pages.slot c.pages.invariant.forward
+    (length-values_of c.args.len c.args.pages.now c.args.packed.now.items c.requires.paged.size) (omega arith)).1
+
+pub returns-clause-paged : goal.returns-clause-paged
+returns-clause-paged g c = record {
+  distinct = c.requires.paged.distinct;
+  named = c.requires.paged.named;
+  size = c.pages.invariant.long;
+}

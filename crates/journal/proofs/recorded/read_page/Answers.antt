@@ -4,7 +4,7 @@ use Rattle.journal.proofs.Pages.{below_next, run_more}
 use Rattle.journal.proofs.recorded.read_page.Goals as goal
 
 pub cell_of-requires-clause-within : goal.cell_of-requires-clause-within
-cell_of-requires-clause-within g c = omega (arith, c.len-len.ensures, c.requires.cells)
+cell_of-requires-clause-within g c = omega (arith, c.len-len.ensures.count, c.requires.cells)
 
 pub offsets-preserved : goal.offsets-preserved
 offsets-preserved g c =

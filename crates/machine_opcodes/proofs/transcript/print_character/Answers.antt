@@ -17,4 +17,4 @@ returns-clause-told c =
     let items : c.push.new.self.items ≡ c.args.text.now.items ++ c.transcribed.result
     ∷ [] = grind (arith, common_steps) in
     byte_told _ c.args.start _ _ c.args.character c.transcribed.result c.requires.sound c.requires.text
-    c.transcribed.ensures (omega (arith, c.requires.text.begun, c.requires.text.within)) items
+    (c.transcribed.ensures.only c.if-character-eq0.false) (omega (arith, c.requires.text.begun, c.requires.text.within)) items

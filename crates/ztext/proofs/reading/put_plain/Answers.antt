@@ -1,64 +1,65 @@
-use Rattle.std.proofs.Common.{◌≡◌, ◌∙◌, ◌∷◌, ◌++◌, [], ℕ, List, Result, Ok, take, ap, arith}
-use Rattle.std.proofs.lemmas.List.{take_all}
+use Rattle.std.proofs.Common.{◌≡◌, ◌∙◌, ◌/◌, ◌∷◌, ◌++◌, [], ℕ, List, Result, Ok, take, ap, sym, arith, length}
+use Rattle.std.proofs.lemmas.List.{take_all, length-append}
 use Rattle.std.proofs.lemmas.Result.{err_from_is_err_and}
 use Rattle.ztext.specs.Reading.{Cause, printed}
 use Rattle.ztext.specs.Text.{refused}
-use Rattle.ztext.specs.TextParts.{state_of}
+use Rattle.ztext.specs.TextParts.{state_of, three_at}
 use Rattle.ztext.proofs.Fronts.{still, front_room, front_stays}
 use Rattle.ztext.proofs.Loops.{read_on_is, fault_at, done_at, named_at, turn_at, printed_fails, nothing, one, named}
-use Rattle.ztext.proofs.Loops.{named_next}
+use Rattle.ztext.proofs.Loops.{named_next, word_read, small_many}
 use Rattle.ztext.proofs.reading.put_plain.Goals as goal
 
-pub loop-place-init : goal.loop-place-init
-loop-place-init c = record {
+pub places-init : goal.places-init
+places-init c = record {
   row = tt;
   room = c.requires.room;
+  begun = omega arith;
   stays = take_all _ c.args.text.now.items (omega arith);
   so_far = λ expand. read_on_is expand c.args.most c.args.bytes.now c.args.words c.args.text.now.items c.args.from;
 }
 
 pub returns-in_err-printed-clause-read : goal.returns-in_err-printed-clause-read
 returns-in_err-printed-clause-read c =
-    let p = err_from_is_err_and c.from_residual.result c.from_residual.ensures.1 in
+    let p = err_from_is_err_and c.from_residual-in_err-printed.result c.from_residual-in_err-printed.ensures.1 in
     let fault = c.in_err-printed.field-0.0 in
-    let state = state_of c.loop-place.state in
+    let state = state_of c.places.state in
     λ expand. rw (p.1, p.2)
-    (fault_at expand c.args.most fault c.args.bytes.now c.args.words c.z_character-z.result c.loop-place.text.items
-    state c.loop-place.place _ c.z_character-z.ensures (omega arith) (c.loop-place.invariant.so_far expand)
+    (fault_at expand c.args.most fault c.args.bytes.now c.args.words c.z_character-z.result c.places.text.items
+    state c.places.place _ c.z_character-z.ensures (omega arith) (c.places.invariant.so_far expand)
     (printed_fails expand (printed expand state c.z_character-z.result) fault (c.in_err-printed.ensures expand)))
 
 pub returns-in-Abbreviation-clause-read : goal.returns-in-Abbreviation-clause-read
 returns-in-Abbreviation-clause-read c =
-    let state = state_of c.loop-place.state in
+    let state = state_of c.places.state in
     let z = c.z_character-z.result in
     let number = c.in-Abbreviation.number in
     let is = λ (expand : ℕ → Result (List ℕ) Cause). named expand (printed expand state z) c.in_ok-printed.field-0
     number c.in-Abbreviation.is (c.in_ok-printed.ensures expand) in
-    λ expand. named_at expand c.args.most c.args.bytes.now c.args.words z number c.loop-place.text.items state
-    c.loop-place.place _ c.z_character-z.ensures (omega arith) (c.loop-place.invariant.so_far expand)
+    λ expand. named_at expand c.args.most c.args.bytes.now c.args.words z number c.places.text.items state
+    c.places.place _ c.z_character-z.ensures (omega arith) (c.places.invariant.so_far expand)
     (is expand).0 (named_next state z (is refused).0)
 
 pub returns-in-Abbreviation-clause-named : goal.returns-in-Abbreviation-clause-named
 returns-in-Abbreviation-clause-named c =
-    let state = state_of c.loop-place.state in
+    let state = state_of c.places.state in
     let is = named refused (printed refused state c.z_character-z.result) c.in_ok-printed.field-0
     c.in-Abbreviation.number c.in-Abbreviation.is (c.in_ok-printed.ensures refused) in
     (is.1, omega arith, omega arith)
 
-pub loop-place-preserved : goal.loop-place-preserved
-loop-place-preserved c =
-    let state = state_of c.loop-place.state in
+pub places-preserved : goal.places-preserved
+places-preserved c =
+    let state = state_of c.places.state in
     let z = c.z_character-z.result in
     let most = c.args.most in
-    let text = c.loop-place.text.items in
-    let now = c.match-branch-2.text.items in
+    let text = c.places.text.items in
+    let now = c.match-branch-3.text.items in
     let output = c.in_ok-printed.field-0 in
     let grew : (got : List ℕ) × ((expand : ℕ → Result (List ℕ) Cause) → printed expand state z ≡ Ok got)
-    × (now ≡ take most (text ++ got)) = elim c.match-branch-2.branch [
+    × (now ≡ take most (text ++ got)) = elim c.match-branch-3.branch [
       | goal.in-Nothing w ↦ (
         [],
         λ expand. nothing expand (printed expand state z) output w.in-Nothing.is (c.in_ok-printed.ensures expand),
-        ap (λ v. v.items) w.text-is ∙ still most text c.loop-place.invariant.room,
+        ap (λ v. v.items) w.text-is ∙ still most text c.places.invariant.room,
       )
       | goal.in-Character+in_ok-put-in-Character w ↦ (
         w.in-Character.c ∷ [],
@@ -69,15 +70,36 @@ loop-place-preserved c =
     ] in
     record {
       row = c.next-state.ensures.row;
+      begun = omega (arith, c.places.invariant.begun);
       room = front_room most now (text ++ grew.0) grew.2;
-      stays = front_stays most c.args.text.now.items text grew.0 now c.loop-place.invariant.room
-          c.loop-place.invariant.stays grew.2;
+      stays = front_stays most c.args.text.now.items text grew.0 now c.places.invariant.room
+          c.places.invariant.stays grew.2;
       so_far = λ expand. turn_at expand most c.args.bytes.now c.args.words z text grew.0 now state
-          (state_of c.next-state.result) c.loop-place.place _ c.z_character-z.ensures (omega arith)
-          (c.loop-place.invariant.so_far expand) (grew.1 expand) grew.2 c.next-state.ensures.next;
+          (state_of c.next-state.result) c.places.place _ c.z_character-z.ensures (omega arith)
+          (c.places.invariant.so_far expand) (grew.1 expand) grew.2 c.next-state.ensures.next;
+    }
+
+pub places-preserved-in-Some : goal.places-preserved-in-Some
+places-preserved-in-Some c =
+    let text = c.places.text.items in
+    let now = c.extend_from_slice.new.self.items in
+    let read = c.in-Some.ensures in
+    let grown : now ≡ text ++ c.in-Some.three = c.in_ok-extend_from_slice.ensures.items in
+    let three : length c.in-Some.three ≡ 3 = small_many (three_at c.args.bytes.now (c.places.place / 3)) c.in-Some.three read.printed in
+    let all : now ≡ take c.args.most (text ++ c.in-Some.three) = grown
+    ∙ sym (take_all c.args.most (text ++ c.in-Some.three)
+    (omega (arith, length-append text c.in-Some.three, three, read.room))) in
+    record {
+      row = c.places.invariant.row;
+      room = front_room c.args.most now (text ++ c.in-Some.three) all;
+      begun = omega (arith, c.places.invariant.begun);
+      stays = front_stays c.args.most c.args.text.now.items text c.in-Some.three now c.places.invariant.room
+          c.places.invariant.stays all;
+      so_far = λ expand. word_read expand c.args.most c.args.bytes.now c.args.words c.places.place _ text now
+          c.in-Some.three (state_of c.places.state) read (omega arith) grown (c.places.invariant.so_far expand);
     }
 
 pub returns-clause-read : goal.returns-clause-read
-returns-clause-read c = λ expand. done_at expand c.args.most c.args.bytes.now c.args.words c.loop-place.text.items
-    (state_of c.loop-place.state) c.loop-place.place _ (omega arith) c.loop-place.invariant.room
-    (c.loop-place.invariant.so_far expand)
+returns-clause-read c = λ expand. done_at expand c.args.most c.args.bytes.now c.args.words c.places.text.items
+    (state_of c.places.state) c.places.place _ (omega arith) c.places.invariant.room
+    (c.places.invariant.so_far expand)

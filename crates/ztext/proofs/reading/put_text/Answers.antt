@@ -16,12 +16,14 @@ returns-in_err-put_rest c =
     let expand = abbreviation c.args.story.now in
     let bytes = c.bytes_from-bytes.result.now in
     let zs = words_of c.in_ok-words.words bytes in
-    let old = c.args.text.now.items in
+    let old = c.reserve.new.self.items in
+    let failed : FailsText fault (read_on expand c.args.most old zs) = subst (FailsText fault)
+    (sym (met expand c.args.most old c.put_plain.new.text.items zs 0 c.in_ok-first.field-0
+    c.in-Some.first c.in-Some.is (c.in_ok-first.ensures.read expand))) c.in_err-put_rest.ensures in
     rw (p.1, p.2)
-    (fails_whole expand c.args.most fault c.args.story.now bytes c.args.at (c.args.at + 2 * c.in_ok-words.words) zs old
-    c.bytes_from-bytes.ensures c.in_ok-words.ensures.words
-    (subst (FailsText fault) (sym (met expand c.args.most old c.put_plain.new.text.items zs 0 c.in_ok-first.field-0
-    c.in-Some.first c.in-Some.is (c.in_ok-first.ensures.read expand))) c.in_err-put_rest.ensures))
+    (fails_whole expand c.args.most fault c.args.story.now bytes c.args.at (c.args.at + 2 * c.in_ok-words.words) zs
+    c.args.text.now.items c.bytes_from-bytes.ensures c.in_ok-words.ensures.words
+    (subst (λ text. FailsText fault (read_on expand c.args.most text zs)) c.reserve.ensures.items failed))
 
 pub returns : goal.returns
 returns c =
@@ -29,9 +31,9 @@ returns c =
     let bytes = c.bytes_from-bytes.result.now in
     let words = c.in_ok-words.words in
     let zs = words_of words bytes in
-    let old = c.args.text.now.items in
+    let old = c.reserve.new.self.items in
     let plain = c.put_plain.new.text.items in
-    let read : read_on expand c.args.most old zs ≡ Ok c.match-branch-3.text.items = elim c.match-branch-3.branch [
+    let read : read_on expand c.args.most old zs ≡ Ok c.match-branch-4.text.items = elim c.match-branch-4.branch [
       | goal.in-Some+in_ok-put_rest w ↦
           met expand c.args.most old plain zs 0 c.in_ok-first.field-0 w.in-Some.first w.in-Some.is
           (c.in_ok-first.ensures.read expand)
@@ -41,6 +43,8 @@ returns c =
           (c.in_ok-first.ensures.read expand)
           ∙ ap (λ v. Ok v.items) (sym w.text-is)
     ] in
-    whole expand c.args.most c.args.story.now bytes c.args.at (c.args.at + 2 * words) zs old
+    whole expand c.args.most c.args.story.now bytes c.args.at (c.args.at + 2 * words) zs c.args.text.now.items
     c.bytes_from-bytes.ensures c.in_ok-words.ensures.words
+    ∙ ap (λ text. read_on expand c.args.most text zs >>= λ read. Ok (read, c.args.at + 2 * words))
+    (sym c.reserve.ensures.items)
     ∙ ap (λ r. r >>= λ text. Ok (text, c.args.at + 2 * words)) read

@@ -1,0 +1,121 @@
+use Rattle.std.proofs.Common.{◌≡◌, ◌+◌, ◌-◌, ◌*◌, ℕ, List, length, slice_index, take, drop, refl, ap, sym, subst, ◌∙◌}
+use Rattle.std.proofs.Common.{arith}
+use Rattle.std.specs.List.{range_with_len}
+use Rattle.journal.specs.Swap.{Fits, FitsCell, back}
+use Rattle.journal.specs.Pages.{word_at, words_of}
+use Rattle.journal.proofs.Packed.{pair_of, word_stays}
+use Rattle.journal.proofs.Steps.{back_ends, back_starts}
+use Rattle.journal.proofs.ReadPages.{other_stays, read_at}
+use Rattle.journal.proofs.WordSwaps.{IsPairAt, length-words, word_entries, word_fits, word_gone_back, words_long}
+use Rattle.journal.proofs.record.words_back.Goals as goal
+
+pub cells-init : goal.cells-init
+cells-init g c =
+    let first = c.args.page * 64 in
+    let fits = subst (λ (t : List (ℕ × ℕ)). Fits (length (g.C.Cells.cells c.args.store.now)) (g.C.Cells.bounds c.args.store.now) t)
+    (word_entries c.args.page c.args.size c.args.packed.now) c.requires.fits in
+    record {
+      upto = omega arith;
+      back = back_starts (length (g.C.Cells.cells c.args.store.now)) (g.C.Cells.bounds c.args.store.now)
+          (range_with_len first c.args.size) (words_of c.args.size c.args.packed.now) (g.C.Cells.cells c.args.store.now) c.args.size
+          (words_long first c.args.size c.args.packed.now) (sym (length-words c.args.size c.args.packed.now)) fits;
+      unread = λ k lt. read_at (g.C.Cells.cells c.args.store.now) c.read_page.new.cells first c.args.size k c.read_page.ensures.read lt;
+      unpacked = λ k lt. c.unpack.ensures k lt;
+      same_len = refl;
+      same_bounds = refl;
+      same_fixed = refl;
+    }
+
+pub exchange_word-requires-clause-held : goal.exchange_word-requires-clause-held
+exchange_word-requires-clause-held g c = sym (c.cells.invariant.unread (c.cells.offset - 1) (omega arith))
+
+pub exchange_word-requires-clause-bound : goal.exchange_word-requires-clause-bound
+exchange_word-requires-clause-bound g c =
+    let first = c.args.page * 64 in
+    let offset : ℕ = (c.cells.offset - 1) in
+    let value = read_at (g.C.Cells.cells c.args.store.now) c.read_page.new.cells first c.args.size offset c.read_page.ensures.read
+    (omega (arith, c.cells.invariant.upto)) in
+    let here = c.read_page.ensures.within (first + offset) (omega arith) (omega (arith, c.cells.invariant.upto)) in
+    rw (value, sym c.cells.invariant.same_bounds) at here
+
+pub exchange_word-requires-clause-value : goal.exchange_word-requires-clause-value
+exchange_word-requires-clause-value g c =
+    let offset : ℕ = (c.cells.offset - 1) in
+    let at : ℕ = 2 * offset in
+    c.cells.invariant.unpacked offset (omega arith)
+    ∙ sym (pair_of c.cells.packed at (at + 2 - at) offset (omega arith) (omega arith))
+
+pub exchange_word-requires-clause-fits : goal.exchange_word-requires-clause-fits
+exchange_word-requires-clause-fits g c =
+    let offset : ℕ = (c.cells.offset - 1) in
+    let at : ℕ = 2 * offset in
+    let there : IsPairAt c.args.size c.cells.packed offset at (at + 2 - at) = record {
+      page = omega (arith, c.cells.invariant.upto);
+      long = omega (arith, c.cells.auto.packed, c.requires.packed);
+      start = omega arith;
+      size = omega arith;
+    } in
+    let fit = word_fits (length (g.C.Cells.cells c.args.store.now)) (g.C.Cells.bounds c.args.store.now) (c.args.page * 64) c.args.size c.cells.packed offset at (at + 2 - at) there
+    c.cells.invariant.back.fits in
+    rw (c.cells.invariant.same_len, c.cells.invariant.same_bounds) fit
+
+pub cells-preserved : goal.cells-preserved
+cells-preserved g c =
+    let first = c.args.page * 64 in
+    let offset : ℕ = (c.cells.offset - 1) in
+    let at : ℕ = 2 * offset in
+    let n = length (g.C.Cells.cells c.args.store.now) in
+    let b = g.C.Cells.bounds c.args.store.now in
+    let pair : List ℕ = c.exchange_word.new.pair in
+    let there : IsPairAt c.args.size c.cells.packed offset at (at + 2 - at) = record {
+      page = omega (arith, c.cells.invariant.upto);
+      long = omega (arith, c.cells.auto.packed, c.requires.packed);
+      start = omega arith;
+      size = omega arith;
+    } in
+    let len : n ≡ length (g.C.Cells.cells c.exchange_word.new.store) = cc in
+    let bounds : b ≡ g.C.Cells.bounds c.exchange_word.new.store = cc in
+    let fit : FitsCell n b (first + offset, word_at pair 0) = rw (len, bounds) c.exchange_word.ensures.fits in
+    record {
+      upto = omega (arith, c.cells.invariant.upto);
+      back = word_gone_back n b first c.args.size (words_of c.args.size c.args.packed.now) (g.C.Cells.cells c.args.store.now) c.cells.offset offset at (at + 2 - at)
+          (g.C.Cells.cells c.cells.store) c.cells.packed pair (g.C.Cells.cells c.exchange_word.new.store)
+          c.cells.invariant.back (words_long first c.args.size c.args.packed.now) (omega arith) there
+          (omega (arith, c.exchange_word.auto.pair)) c.exchange_word.ensures.cells c.exchange_word.ensures.value fit;
+      unread = λ k lt. subst (λ (t : List ℕ). slice_index t (first + k) ≡ slice_index c.read_page.new.cells k)
+          (sym c.exchange_word.ensures.cells)
+          (other_stays (g.C.Cells.cells c.cells.store) (first + offset) (first + k)
+          (word_at (take (at + 2 - at) (drop at c.cells.packed)) 0)
+          (slice_index c.read_page.new.cells k) (λ e. absurd (omega (arith, e, lt)))
+          (c.cells.invariant.unread k (omega (arith, lt))));
+      unpacked = λ k lt. c.cells.invariant.unpacked k (omega (arith, lt))
+          ∙ sym (word_stays c.cells.packed pair c.args.size at (at + 2 - at) offset k there.long there.page there.start
+          there.size (omega (arith, c.exchange_word.auto.pair)) (omega (arith, lt, c.cells.invariant.upto))
+          (λ e. absurd (omega (arith, e, lt))));
+      same_len = cc;
+      same_bounds = cc;
+      same_fixed = cc;
+    }
+
+pub returns-clause-cells : goal.returns-clause-cells
+returns-clause-cells g c =
+    let first = c.args.page * 64 in
+    (back_ends (length (g.C.Cells.cells c.args.store.now)) (g.C.Cells.bounds c.args.store.now) (range_with_len first c.args.size) (words_of c.args.size c.args.packed.now)
+    (g.C.Cells.cells c.args.store.now) c.cells.offset (g.C.Cells.cells c.cells.store) (words_of c.args.size c.cells.packed)
+    c.cells.invariant.back (omega arith)).0
+    ∙ sym (ap (λ (t : List (ℕ × ℕ)). (back (g.C.Cells.cells c.args.store.now) t).cells) (word_entries c.args.page c.args.size c.args.packed.now))
+
+pub returns-clause-entries : goal.returns-clause-entries
+returns-clause-entries g c =
+    let first = c.args.page * 64 in
+    word_entries c.args.page c.args.size c.cells.packed
+    ∙ (back_ends (length (g.C.Cells.cells c.args.store.now)) (g.C.Cells.bounds c.args.store.now) (range_with_len first c.args.size) (words_of c.args.size c.args.packed.now)
+    (g.C.Cells.cells c.args.store.now) c.cells.offset (g.C.Cells.cells c.cells.store) (words_of c.args.size c.cells.packed)
+    c.cells.invariant.back (omega arith)).1
+    ∙ sym (ap (λ (t : List (ℕ × ℕ)). (back (g.C.Cells.cells c.args.store.now) t).entries) (word_entries c.args.page c.args.size c.args.packed.now))
+
+pub returns-clause-fits : goal.returns-clause-fits
+returns-clause-fits g c =
+    let whole = subst (λ (t : List (ℕ × ℕ)). Fits (length (g.C.Cells.cells c.args.store.now)) (g.C.Cells.bounds c.args.store.now) t)
+    (sym (word_entries c.args.page c.args.size c.cells.packed)) c.cells.invariant.back.fits in
+    rw (c.cells.invariant.same_len, c.cells.invariant.same_bounds) whole
