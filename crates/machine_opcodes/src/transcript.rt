@@ -22,6 +22,7 @@ const FEW: usize = 12;
 ///
 /// The limit of text; what fits before it stands. `End::Memory` where memory was refused: the turn
 /// is given up.
+#[inline]
 pub fn print(
     store: &mut Recorded<Store>,
     text: &mut Vec<u8>,
@@ -34,8 +35,33 @@ pub fn print(
         (parts.print characters.now) }
     ensures text { Grew start text.old.items text.new.items }
 {
+    if FEW < characters.len() {
+        return print_many(store, text, start, characters);
+    }
+    print_each(store, text, start, characters)
+}
+
+/// Prints characters at once where it can, apart, so that `print` stays small: it is taken in by all
+/// that print a number or a few characters.
+///
+/// # Errors
+///
+/// Those of `print`.
+#[inline(never)]
+fn print_many(
+    store: &mut Recorded<Store>,
+    text: &mut Vec<u8>,
+    start: usize,
+    characters: &[u8],
+) -> Result<(), End>
+    requires sound { IsSound store.old.store }
+    requires text { HasBegun start text.old.items }
+    ensures told { ToldFrom start result store.old text.old.items store.new text.new.items
+        (parts.print characters.now) }
+    ensures text { Grew start text.old.items text.new.items }
+{
     let room = TEXT_LIMIT - (text.len() - start);
-    if FEW < characters.len() && characters.len() <= room && have_bytes(characters) {
+    if characters.len() <= room && have_bytes(characters) {
         return print_at_once(store, text, start, characters);
     }
     print_each(store, text, start, characters)
@@ -101,6 +127,7 @@ fn transcribe(characters: &mut [u8])
 /// # Errors
 ///
 /// Those of `print`.
+#[inline]
 fn print_each(
     store: &mut Recorded<Store>,
     text: &mut Vec<u8>,
