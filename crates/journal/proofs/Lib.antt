@@ -4,9 +4,8 @@ pub mod Steps
 pub mod Flags
 pub mod Held
 pub mod HandedOut
-pub mod ReadPages
 pub mod PageEntries
 pub mod PageSwaps
 pub mod Packed
 pub mod PackedSwaps
-pub mod WordSwaps
+pub mod Runs

@@ -1,13 +1,13 @@
 -- What a record holds for pages, and the values that it means.
-use Rattle.std.proofs.Common.{◌≡◌, ◌≢◌, ℕ, ◌+◌, ◌-◌, ◌*◌, ◌/◌, ◌%◌, ◌<◌, ◌≤◌, Bool, List, [], ◌∷◌, ◌++◌}
+use Rattle.std.proofs.Common.{◌≡◌, ℕ, ◌+◌, ◌-◌, ◌*◌, ◌/◌, ◌%◌, ◌<◌, ◌≤◌, Bool, List, [], ◌∷◌, ◌++◌}
 use Rattle.std.proofs.Common.{length, map, get_or, set, take, drop, refl, ap, sym, ◌∙◌, arith, append_assoc}
 use Rattle.std.proofs.Common.{slice_index, if◌then◌else◌, inl, inr, Result, Ok, Err}
 use Rattle.std.specs.List.{range_with_len}
 use Rattle.std.specs.Prelude.{OnOk, is_ok}
 use Rattle.std.proofs.lemmas.Bool.{cases_lt, le-ltb, lt-ltb}
 use Rattle.std.proofs.lemmas.Bool.Decides.{eqb_tells}
-use Rattle.std.proofs.lemmas.List.{append-nil, drop-append-le, drop_at, drop_more, ext_get_or, get_or-append_right}
-use Rattle.std.proofs.lemmas.List.{get_or-drop, get_or-set_other, get_or-set_same, get_or-take, get_or_append_left}
+use Rattle.std.proofs.lemmas.List.{append-nil, drop-append-le, drop_at, drop_more, ext_get_or}
+use Rattle.std.proofs.lemmas.List.{get_or-drop, get_or-set_other, get_or-set_same, get_or-take}
 use Rattle.std.proofs.lemmas.List.{length-append, length-drop, length-set, length-take-le, take-append-drop}
 use Rattle.std.proofs.lemmas.List.{take-append-le, take_at, take_more}
 use Rattle.std.proofs.lemmas.List.FromFn.{get_or-map-range_with_len, length-map-range_with_len}
@@ -49,31 +49,6 @@ same_word : (q r : List ℕ) (i k : ℕ) → slice_index q (i * 2) ≡ slice_ind
 same_word q r i k low high = ap (λ (t : ℕ). t + slice_index q (i * 2 + 1) * 256) low
     ∙ ap (λ (t : ℕ). slice_index r (k * 2) + t * 256) high
 
--- what stands in front of a part of a list, in the part, and behind it
-
-with_front : (q part rest : List ℕ) (at k : ℕ) → at ≤ length q → k < at
-    → slice_index (take at q ++ (part ++ rest)) k ≡ slice_index q k
-with_front q part rest at k within lt = get_or_append_left (take at q) (part ++ rest) 0 k
-    (omega (arith, length-take-le at q within, lt)) ∙ get_or-take at q k 0 lt
-
-with_part : (q part rest : List ℕ) (at j k : ℕ) → at ≤ length q → j < length part → k ≡ at + j
-    → slice_index (take at q ++ (part ++ rest)) k ≡ slice_index part j
-with_part q part rest at j k within lt is =
-    get_or-append_right (take at q) (part ++ rest) at k 0 (length-take-le at q within) (omega (arith, is))
-    ∙ ap (λ (t : ℕ). slice_index (part ++ rest) t) (omega (arith, is)) ∙ get_or_append_left part rest 0 j lt
-
-with_rest : (q part : List ℕ) (at size k : ℕ) → at ≤ length q → length part ≡ size → at + size ≤ k
-    → slice_index (take at q ++ (part ++ drop size (drop at q))) k ≡ slice_index q k
-with_rest q part at size k within long le =
-    let rest : List ℕ = drop size (drop at q) in
-    let there : size + (k - at - size) ≡ k - at = omega (arith, le) in
-    let back : at + (k - at) ≡ k = omega (arith, le) in
-    get_or-append_right (take at q) (part ++ rest) at k 0 (length-take-le at q within) (omega (arith, le))
-    ∙ get_or-append_right part rest size (k - at) 0 long (omega (arith, le))
-    ∙ get_or-drop size (drop at q) (k - at - size) 0
-    ∙ ap (λ (t : ℕ). slice_index (drop at q) t) there ∙ get_or-drop at q (k - at) 0
-    ∙ ap (λ (t : ℕ). slice_index q t) back
-
 -- a pair of bytes is a word of a page
 pub pair_of : (q : List ℕ) (at two k : ℕ) → at ≡ k * 2 → two ≡ 2 → word_at (take two (drop at q)) 0 ≡ word_at q k
 pair_of q at two k is size =
@@ -84,42 +59,6 @@ pair_of q at two k is size =
     ∙ get_or-drop at q 1 0 ∙ ap (λ (t : ℕ). slice_index q t) (omega (arith, is)) in
     ap (λ (t : ℕ). word_at (take t (drop at q)) 0) size ∙ same_word (take 2 (drop at q)) q 0 k low high
 
--- with another pair in its place, that word alone is another
-pub put_pair : (q pair : List ℕ) (count at k : ℕ) → length q ≡ count * 2 → k < count → at ≡ k * 2 → length pair ≡ 2
-    → words_of count (take at q ++ (pair ++ drop 2 (drop at q))) ≡ set (words_of count q) k (word_at pair 0)
-put_pair q pair count at k long lt is both =
-    let new : List ℕ = take at q ++ (pair ++ drop 2 (drop at q)) in
-    let vs : List ℕ = words_of count q in
-    let long_vs : length vs ≡ count = length-map-range_with_len (word_at q) 0 count in
-    let within : at ≤ length q = omega (arith, long, lt, is) in
-    ext_get_or 0 (words_of count new) (set vs k (word_at pair 0))
-    (length-map-range_with_len (word_at new) 0 count ∙ sym (length-set vs k (word_at pair 0) ∙ long_vs)) (λ i less.
-    let inside : i < count = omega (arith, less, length-map-range_with_len (word_at new) 0 count) in
-    read_word new count i inside ∙ elim (cases_lt i k) as
-    (λ _. word_at new i ≡ get_or (set vs k (word_at pair 0)) i 0) [
-      | inl before ↦
-          let e : word_at new i ≡ word_at q i = same_word new q i i
-          (with_front q pair (drop 2 (drop at q)) at (i * 2) within (omega (arith, before, is)))
-          (with_front q pair (drop 2 (drop at q)) at (i * 2 + 1) within (omega (arith, before, is))) in
-          e ∙ sym (read_word q count i inside)
-          ∙ sym (get_or-set_other vs k i (word_at pair 0) 0 (λ t. absurd (omega (arith, before, t))))
-      | inr from ↦ elim (eqb_tells i k) as (λ _. word_at new i ≡ get_or (set vs k (word_at pair 0)) i 0) [
-        | inl s ↦
-            let e : word_at new i ≡ word_at pair 0 = same_word new pair i 0
-            (with_part q pair (drop 2 (drop at q)) at 0 (i * 2) within (omega (arith, both)) (omega (arith, s.1, is)))
-            (with_part q pair (drop 2 (drop at q)) at 1 (i * 2 + 1) within (omega (arith, both))
-            (omega (arith, s.1, is))) in
-            e ∙ sym (get_or-set_same vs k (word_at pair 0) 0 (omega (arith, long_vs, lt)))
-            ∙ ap (λ (t : ℕ). get_or (set vs k (word_at pair 0)) t 0) (sym s.1)
-        | inr d ↦
-            let after : k < i = omega (arith, from, d.1) in
-            let e : word_at new i ≡ word_at q i = same_word new q i i
-            (with_rest q pair at 2 (i * 2) within both (omega (arith, after, is)))
-            (with_rest q pair at 2 (i * 2 + 1) within both (omega (arith, after, is))) in
-            e ∙ sym (read_word q count i inside) ∙ sym (get_or-set_other vs k i (word_at pair 0) 0 d.1)
-      ]
-    ])
-
 -- what stands before j in a list, with one more written there
 pub set_more : (f : ℕ → ℕ) (vs : List ℕ) (j v : ℕ) → j < length vs → ((k : ℕ) → k < j → slice_index vs k ≡ f k)
     → v ≡ f j → (k : ℕ) → k < j + 1 → slice_index (set vs j v) k ≡ f k
@@ -127,17 +66,6 @@ set_more f vs j v lt done value k less = elim (eqb_tells k j) as (λ _. slice_in
   | inl s ↦ ap (λ (t : ℕ). slice_index (set vs j v) t) s.1 ∙ get_or-set_same vs j v 0 lt ∙ value ∙ ap f (sym s.1)
   | inr d ↦ get_or-set_other vs j k v 0 d.1 ∙ done k (omega (arith, less, d.1))
 ]
-
--- a word in front of a pair that was written is as before
-pub word_stays : (q pair : List ℕ) (count at two k i : ℕ) → length q ≡ count * 2 → k < count → at ≡ k * 2 → two ≡ 2
-    → length pair ≡ 2 → i < count → i ≢ k
-    → word_at (take at q ++ (pair ++ drop two (drop at q))) i ≡ word_at q i
-word_stays q pair count at two k i long lt is size both inside other =
-    let new : List ℕ = take at q ++ (pair ++ drop 2 (drop at q)) in
-    ap (λ (t : ℕ). word_at (take at q ++ (pair ++ drop t (drop at q))) i) size
-    ∙ sym (read_word new count i inside)
-    ∙ ap (λ (t : List ℕ). get_or t i 0) (put_pair q pair count at k long lt is both)
-    ∙ get_or-set_other (words_of count q) k i (word_at pair 0) 0 other ∙ read_word q count i inside
 
 -- while a page of words is read, the words before j are there
 pub words_more : (f : ℕ → ℕ) (vs ws : List ℕ) (j a v : ℕ) → a + 1 < length vs → a ≡ j * 2

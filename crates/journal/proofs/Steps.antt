@@ -1,17 +1,16 @@
 -- How far a swap has come, at entry k of a record that gives each of the cells cs a value.
-use Rattle.std.proofs.Common.{◌≡◌, ℕ, ◌+◌, ◌<◌, ◌≤◌, List, [], ◌∷◌, ◌++◌, length, get_or, set, take, drop, refl}
-use Rattle.std.proofs.Common.{ap, sym, subst, ◌∙◌, arith, append_assoc, slice_index, drop_of_length-le, ◌-◌}
+use Rattle.std.proofs.Common.{◌≡◌, ℕ, ◌+◌, ◌<◌, ◌≤◌, List, [], ◌++◌, length, get_or, take, drop, refl}
+use Rattle.std.proofs.Common.{ap, sym, subst, ◌∙◌, arith, drop_of_length-le, ◌-◌}
 use Rattle.std.specs.List.{zip}
-use Rattle.std.proofs.lemmas.List.{append-nil, take_all, length-set, drop_more, take_more, take_more_set, get_or-drop}
-use Rattle.std.proofs.lemmas.List.{drop-set-lt, length-append}
-use Rattle.std.proofs.lemmas.List.Elements.{All-set, All-get_or}
+use Rattle.std.proofs.lemmas.List.{append-nil, take_all, take_more}
+use Rattle.std.proofs.lemmas.List.{length-append}
+use Rattle.std.proofs.lemmas.List.Elements.{All-get_or}
 use Rattle.std.proofs.lemmas.List.Folds.{length-flat_map-take}
-use Rattle.std.proofs.lemmas.Grind.{drop_more_same, get_or_default_zero}
+use Rattle.std.proofs.lemmas.Grind.{get_or_default_zero}
 use Rattle.std.proofs.lemmas.Slice.Zip.{get_or-zip, length-zip}
 use Rattle.journal.specs.Swap.{back, forward, Fits, FitsCell}
 use Rattle.journal.specs.Pages.{cells_of, page_cells, page_len}
-use Rattle.journal.proofs.Pages.{cells_of-push, length-page_cells, zip-set}
-use Rattle.journal.proofs.Swaps.{back_more}
+use Rattle.journal.proofs.Pages.{cells_of-push, length-page_cells}
 
 -- the entries from k on have gone back; was: the values before
 pub record GoneBack (n : ℕ) (b : ℕ → ℕ) (cs was c : List ℕ) (k : ℕ) (x vs : List ℕ) : Type 0 where
@@ -43,70 +42,6 @@ pub fit_at : (n : ℕ) (b : ℕ → ℕ) (cs vs : List ℕ) (k a v : ℕ) → le
     → k < length cs → a ≡ get_or cs k 0 → v ≡ get_or vs k v → FitsCell n b (a, v)
 fit_at n b cs vs k a v p fits lt ea ev = subst (FitsCell n b) (sym (read cs vs k a v p lt ea ev))
     (All-get_or (FitsCell n b) (zip cs vs) k (a, v) (omega (arith, length-zip_same cs vs p)) fits)
-
-fits_more : (n : ℕ) (b : ℕ → ℕ) (cs vs : List ℕ) (k a w : ℕ) → Fits n b (zip cs vs) → a ≡ get_or cs k 0
-    → FitsCell n b (a, w) → Fits n b (zip cs (set vs k w))
-fits_more n b cs vs k a w fits ea h =
-    let e : zip cs (set vs k w) ≡ set (zip cs vs) k (a, w) = zip-set cs vs k w
-    ∙ ap (λ (t : ℕ). set (zip cs vs) k (t, w)) (sym ea) in
-    subst (λ (t : List (ℕ × ℕ)). Fits n b t) (sym e) (All-set (FitsCell n b) (zip cs vs) k (a, w) h fits)
-
-pub gone_back_more : (n : ℕ) (b : ℕ → ℕ) (cs was c : List ℕ) (i k : ℕ) (x vs : List ℕ) (a v w : ℕ) (y : List ℕ)
-    → GoneBack n b cs was c i x vs → length was ≡ length cs → i ≡ k + 1 → k < length cs → a ≡ get_or cs k 0
-    → v ≡ get_or vs k v → y ≡ set x a v → w ≡ slice_index x a → FitsCell n b (a, w)
-    → GoneBack n b cs was c k y (set vs k w)
-gone_back_more n b cs was c i k x vs a v w y g p ik lt ea ev ey ew h =
-    let es : List (ℕ × ℕ) = zip cs was in
-    let ys : List (ℕ × ℕ) = zip cs vs in
-    let step : (set x a v ≡ (back c (drop k es)).cells)
-    × (set ys k (a, slice_index x a) ≡ take k es ++ (back c (drop k es)).entries) =
-    back_more c es ys x i k (a, v) ik (omega (arith, length-zip_same cs was p)) g.now g.left
-    (read cs vs k a v g.size lt ea ev) in
-    record {
-      now = ey ∙ step.0;
-      left = zip-set cs vs k w ∙ ap (λ (t : ℕ). set ys k (t, w)) (sym ea) ∙ ap (λ (t : ℕ). set ys k (a, t)) ew
-          ∙ step.1;
-      size = length-set vs k w ∙ g.size;
-      fits = fits_more n b cs vs k a w g.fits ea h;
-    }
-
-pub gone_forward_more : (n : ℕ) (b : ℕ → ℕ) (cs was c : List ℕ) (i k : ℕ) (x vs : List ℕ) (a v w : ℕ) (y : List ℕ)
-    → GoneForward n b cs was c k x vs → length was ≡ length cs → i ≡ k + 1 → k < length cs → a ≡ get_or cs k 0
-    → v ≡ get_or vs k v → y ≡ set x a v → w ≡ slice_index x a → FitsCell n b (a, w)
-    → GoneForward n b cs was c i y (set vs k w)
-gone_forward_more n b cs was c i k x vs a v w y g p ik lt ea ev ey ew h =
-    let es : List (ℕ × ℕ) = zip cs was in
-    let ys : List (ℕ × ℕ) = zip cs vs in
-    let rest : List (ℕ × ℕ) = drop (k + 1) es in
-    let in_es : k < length es = omega (arith, length-zip_same cs was p) in
-    let in_ys : k < length ys = omega (arith, length-zip_same cs vs g.size) in
-    let here : k + 0 ≡ k = omega arith in
-    let there : (a, v) ≡ get_or es k (a, v) = read cs vs k a v g.size lt ea ev
-    ∙ ap (λ (t : ℕ). get_or ys t (a, v)) (sym here) ∙ sym (get_or-drop k ys 0 (a, v))
-    ∙ ap (λ (t : List (ℕ × ℕ)). get_or t 0 (a, v)) g.left ∙ get_or-drop k es 0 (a, v)
-    ∙ ap (λ (t : ℕ). get_or es t (a, v)) here in
-    let from : drop k es ≡ (a, v) ∷ rest = drop_more es k (a, v) in_es ∙ ap (λ (t : ℕ × ℕ). t ∷ rest) (sym there) in
-    let put : zip cs (set vs k w) ≡ set ys k (a, w) = zip-set cs vs k w ∙ ap (λ (t : ℕ). set ys k (t, w)) (sym ea) in
-    let f : List (ℕ × ℕ) = (forward (set x a v) rest).entries in
-    let now : (forward y rest).cells ≡ (forward c es).cells = ap (λ (t : List ℕ). (forward t rest).cells) ey
-    ∙ sym (ap (λ (t : List (ℕ × ℕ)). (forward x t).cells) from) ∙ g.now in
-    let done : take (k + 1) (zip cs (set vs k w)) ++ (forward y rest).entries ≡ (forward c es).entries =
-    ap (λ (t : List (ℕ × ℕ)). take (k + 1) t ++ (forward y rest).entries) put
-    ∙ ap (λ (t : List ℕ). take (k + 1) (set ys k (a, w)) ++ (forward t rest).entries) ey
-    ∙ ap (λ (t : List (ℕ × ℕ)). t ++ f) (take_more_set ys k (a, w) in_ys)
-    ∙ append_assoc (take k ys) ((a, w) ∷ []) f
-    ∙ ap (λ (t : ℕ). take k ys ++ (a, t) ∷ f) ew
-    ∙ sym (ap (λ (t : List (ℕ × ℕ)). take k ys ++ (forward x t).entries) from) ∙ g.done in
-    let left : drop (k + 1) (zip cs (set vs k w)) ≡ rest =
-    ap (λ (t : List (ℕ × ℕ)). drop (k + 1) t) put ∙ drop-set-lt (k + 1) ys k (a, w) (omega arith)
-    ∙ drop_more_same ys es k g.left in
-    record {
-      now = ap (λ (t : ℕ). (forward y (drop t es)).cells) ik ∙ now;
-      done = ap (λ (t : ℕ). take t (zip cs (set vs k w)) ++ (forward y (drop t es)).entries) ik ∙ done;
-      left = ap (λ (t : ℕ). drop t (zip cs (set vs k w))) ik ∙ left ∙ sym (ap (λ (t : ℕ). drop t es) ik);
-      size = length-set vs k w ∙ g.size;
-      fits = fits_more n b cs vs k a w g.fits ea h;
-    }
 
 -- where page s stands among the values
 pub page_at : (n : ℕ) (pages : List ℕ) (s d : ℕ) → s < length pages

@@ -28,6 +28,18 @@ word_pages = 1134
 abbrev pub HoldsBytes : (ℕ → ℕ) → Type 0
 HoldsBytes bounds = (i : ℕ) → word_pages * whole_page ≤ i → bounds i ≤ 255
 
+-- the values of so many cells, from one on
+abbrev pub run_of : List ℕ → ℕ → ℕ → List ℕ
+run_of cells first count = take count (drop first cells)
+
+-- cells with these values from one on
+abbrev pub put_run : List ℕ → ℕ → List ℕ → List ℕ
+put_run cells first values = take first cells ++ (values ++ drop (length values) (drop first cells))
+
+-- each value is within the bound of its cell, where the first cell is this
+abbrev pub AreWithin : (ℕ → ℕ) → ℕ → List ℕ → Type 0
+AreWithin bounds first values = (k : ℕ) → k < length values → slice_index values k ≤ bounds (first + k)
+
 -- how many bytes a record holds for page p, of which the store has so many cells
 unfoldable pub packed_len : ℕ → ℕ → ℕ
 packed_len p count = if nat_lt p word_pages then count * 2 else count

@@ -1,7 +1,7 @@
 //! What a store has to offer for its writes to be recorded.
 
-ghost use Rattle.std.specs.Prelude.{◌≡◌, ℕ, ◌^◌, ◌<◌, ◌≤◌, List, length, slice_set, slice_index};
-ghost use Rattle.journal.specs.Pages.{HoldsBytes};
+ghost use Rattle.std.specs.Prelude.{◌≡◌, ℕ, ◌+◌, ◌*◌, ◌^◌, ◌<◌, ◌≤◌, List, length, slice_set, slice_index};
+ghost use Rattle.journal.specs.Pages.{AreWithin, HoldsBytes, put_run, run_of, whole_page, word_pages};
 
 /// A store of numbered cells. Each holds a number from 0 to a bound of its own, at most 65,535.
 /// How many cells there are, and their bounds, stay the same under every write. Behind the first
@@ -38,6 +38,34 @@ pub trait Cells {
         requires cell { i < length (cells self.old) }
         requires within { v ≤ bounds self.old i }
         ensures cells { cells self.new ≡ slice_set (cells self.old) i v }
+        ensures bounds { bounds self.new ≡ bounds self.old }
+        ensures fixed { fixed self.new ≡ fixed self.old };
+
+    /// Exchanges values with the first cells of a page of bytes, as many as there are values, each
+    /// within its cell's bound, and changes nothing else.
+    fn exchange_bytes(&mut self, page: usize, values: &mut [u8])
+        requires bytes { word_pages ≤ page }
+        requires page { length values.old ≤ whole_page }
+        requires cells { page * whole_page + length values.old ≤ length (cells self.old) }
+        requires within { AreWithin (bounds self.old) (page * whole_page) values.old }
+        ensures cells { cells self.new ≡ put_run (cells self.old) (page * whole_page) values.old }
+        ensures values { values.new
+            ≡ run_of (cells self.old) (page * whole_page) (length values.old) }
+        ensures within { AreWithin (bounds self.old) (page * whole_page) values.new }
+        ensures bounds { bounds self.new ≡ bounds self.old }
+        ensures fixed { fixed self.new ≡ fixed self.old };
+
+    /// Exchanges values with the first cells of a page that may hold words, as many as there are
+    /// values, each within its cell's bound, and changes nothing else.
+    fn exchange_words(&mut self, page: usize, values: &mut [u16])
+        requires words { page < word_pages }
+        requires page { length values.old ≤ whole_page }
+        requires cells { page * whole_page + length values.old ≤ length (cells self.old) }
+        requires within { AreWithin (bounds self.old) (page * whole_page) values.old }
+        ensures cells { cells self.new ≡ put_run (cells self.old) (page * whole_page) values.old }
+        ensures values { values.new
+            ≡ run_of (cells self.old) (page * whole_page) (length values.old) }
+        ensures within { AreWithin (bounds self.old) (page * whole_page) values.new }
         ensures bounds { bounds self.new ≡ bounds self.old }
         ensures fixed { fixed self.new ≡ fixed self.old };
 }

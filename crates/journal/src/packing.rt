@@ -33,18 +33,7 @@ fn word_in(pair: &[u8]) -> u16
     pair[0] as u16 + pair[1] as u16 * 256
 }
 
-/// Writes the two bytes that stand for a word.
-#[inline(always)]
-pub(crate) fn put_word(pair: &mut [u8], word: u16)
-    requires { length pair.old ≡ 2 }
-    ensures { word_at pair.new 0 ≡ word }
-{
-    pair[0] = (word % 256) as u8;
-    pair[1] = (word / 256) as u8;
-}
-
-/// Writes the first words that bytes stand for to the front of an array. The loop ends by `!=`: see
-/// `read_page`.
+/// Writes the first words that bytes stand for to the front of an array.
 #[inline(always)]
 pub(crate) fn unpack(packed: &[u8], count: usize, words: &mut [u16; PAGE])
     requires packed { length packed.now ≡ count * 2 }
@@ -55,6 +44,22 @@ pub(crate) fn unpack(packed: &[u8], count: usize, words: &mut [u16; PAGE])
     'offsets: while offset != count {
         let at = 2 * offset;
         words[offset] = word_in(&packed[at..at + 2]);
+        offset += 1;
+    }
+}
+
+/// Writes the bytes that stand for the first words of an array.
+#[inline(always)]
+pub(crate) fn pack(words: &[u16; PAGE], count: usize, packed: &mut [u8])
+    requires packed { length packed.old ≡ count * 2 }
+    requires page { count ≤ whole_page }
+    ensures { (k : ℕ) → k < count → word_at packed.new k ≡ slice_index words.now k }
+{
+    let mut offset = 0;
+    'offsets: while offset != count {
+        let word = words[offset];
+        packed[2 * offset] = (word % 256) as u8;
+        packed[2 * offset + 1] = (word / 256) as u8;
         offset += 1;
     }
 }
@@ -81,7 +86,8 @@ pub(crate) fn read_packed<C: Cells>(
 }
 
 /// Writes the words of the first cells of a page to the front of an array, two bytes for each. The
-/// loop ends by `!=`: see `read_page`.
+/// loop ends by `!=`: where the compiler knows that the offsets are below `PAGE`, it drops the
+/// remainder in `cell_of` before it has used it.
 #[inline(always)]
 fn read_words<C: Cells>(store: &C, page: usize, count: usize, row: &mut [u8; PAGE_BYTES])
     requires cells { page * whole_page + count ≤ length (C.cells store.now) }
@@ -101,9 +107,9 @@ fn read_words<C: Cells>(store: &C, page: usize, count: usize, row: &mut [u8; PAG
 }
 
 /// Writes the first cells of a page of bytes to the front of an array. The loop ends by `!=`: see
-/// `read_page`.
+/// `read_words`.
 #[inline(always)]
-pub(crate) fn read_bytes<C: Cells>(store: &C, page: usize, count: usize, row: &mut [u8; PAGE_BYTES])
+fn read_bytes<C: Cells>(store: &C, page: usize, count: usize, row: &mut [u8; PAGE_BYTES])
     requires bytes { word_pages ≤ page }
     requires cells { page * whole_page + count ≤ length (C.cells store.now) }
     requires page { count ≤ whole_page }

@@ -1,14 +1,13 @@
 //! What a turn overwrote, and the swaps that take a turn back and do it again.
 
-ghost use Rattle.std.specs.Prelude.{◌≡◌, ◌+◌, ◌*◌, ◌^◌, ◌<◌, ◌≤◌, ℕ, length, slice_set, slice_index};
+ghost use Rattle.std.specs.Prelude.{◌≡◌, ◌+◌, ◌*◌, ◌^◌, ◌<◌, ◌≤◌, ℕ, length};
 ghost use Rattle.std.specs.List.{All};
 ghost use Rattle.journal.specs.Swap.{back, forward};
-ghost use Rattle.journal.specs.Pages.{IsPaged, cells_of, entries_of, packed_len, page_entries, page_len, page_unpacked, whole_page, word_at, word_pages, words_of};
-ghost use Rattle.journal.specs.Stores.{FitsIn, GoesBack, GoesForward, MayHold, Writes, swapped};
+ghost use Rattle.journal.specs.Pages.{IsPaged, cells_of, entries_of, packed_len, page_entries, page_len, page_unpacked, whole_page, word_pages, words_of};
+ghost use Rattle.journal.specs.Stores.{FitsIn, GoesBack, GoesForward, swapped};
 
 use crate::cells::Cells;
-use crate::packing::{PAGE_BYTES, WORD_PAGES, packed_size, put_word, read_bytes, unpack};
-use crate::recorded::read_page;
+use crate::packing::{WORD_PAGES, pack, packed_size, unpack};
 use std::marker::Model;
 
 /// How many cells a whole page has. Page n of a store is its cells 64n to 64n + 63, as far as they
@@ -127,99 +126,20 @@ pub(crate) fn cell_of(page: usize, offset: usize) -> usize
     page * PAGE + offset % PAGE
 }
 
-/// Exchanges a byte with that of the cell at an offset in a page, which is given too. Most cells of
-/// a page have the same value still, and to compare costs less than to write.
+/// Exchanges the values of a page of bytes with those of its first cells, all at once. No cell of a
+/// page stands twice, so that it is the same from the last to the first as from the first to the
+/// last.
 #[inline(always)]
-fn exchange_byte<C: Cells>(store: &mut C, page: usize, offset: usize, held: u8, value: &mut u8)
-    requires offset { offset < whole_page }
-    requires within { page * whole_page + offset < 2 ^ 64 }
-    requires held { held ≡ slice_index (C.cells store.old) (page * whole_page + offset) }
-    requires bound { held ≤ C.bounds store.old (page * whole_page + offset) }
-    requires fits { MayHold C.Cells store.old (page * whole_page + offset) value.old }
-    ensures cells { Writes C.Cells store.old store.new (page * whole_page + offset) value.old }
-    ensures value { value.new ≡ slice_index (C.cells store.old) (page * whole_page + offset) }
-    ensures fits { MayHold C.Cells store.new (page * whole_page + offset) value.new }
-    ensures length { length (C.cells store.new) ≡ length (C.cells store.old) }
-    ensures bounds { C.bounds store.new ≡ C.bounds store.old }
-    ensures fixed { C.fixed store.new ≡ C.fixed store.old }
-{
-    if held != *value {
-        store.put(cell_of(page, offset), *value as u16);
-        *value = held;
-    }
-}
-
-/// Exchanges the word that two bytes stand for with that of the cell; both are given too.
-#[inline(always)]
-fn exchange_word<C: Cells>(
-    store: &mut C,
-    page: usize,
-    offset: usize,
-    held: u16,
-    value: u16,
-    pair: &mut [u8],
-)
-    requires pair { length pair.old ≡ 2 }
-    requires value { value ≡ word_at pair.old 0 }
-    requires offset { offset < whole_page }
-    requires within { page * whole_page + offset < 2 ^ 64 }
-    requires held { held ≡ slice_index (C.cells store.old) (page * whole_page + offset) }
-    requires bound { held ≤ C.bounds store.old (page * whole_page + offset) }
-    requires fits { MayHold C.Cells store.old (page * whole_page + offset) (word_at pair.old 0) }
-    ensures cells { Writes C.Cells store.old store.new (page * whole_page + offset)
-        (word_at pair.old 0) }
-    ensures value { word_at pair.new 0
-        ≡ slice_index (C.cells store.old) (page * whole_page + offset) }
-    ensures fits { MayHold C.Cells store.new (page * whole_page + offset) (word_at pair.new 0) }
-    ensures length { length (C.cells store.new) ≡ length (C.cells store.old) }
-    ensures bounds { C.bounds store.new ≡ C.bounds store.old }
-    ensures fixed { C.fixed store.new ≡ C.fixed store.old }
-{
-    if held != value {
-        store.put(cell_of(page, offset), value);
-        put_word(pair, held);
-    }
-}
-
-/// Exchanges the values of a page of bytes with those of its first cells, from the last to the
-/// first. The values are a slice, so that where they lie is read once for the page: behind a
-/// reference to a vector it would be read for each cell.
-#[inline(always)]
-fn bytes_back<C: Cells>(store: &mut C, page: usize, values: &mut [u8])
+fn exchange_bytes<C: Cells>(store: &mut C, page: usize, values: &mut [u8])
     requires bytes { word_pages ≤ page }
     requires page { length values.old ≤ whole_page }
-    requires within { page * whole_page + length values.old < 2 ^ 64 }
     requires cells { page * whole_page + length values.old ≤ length (C.cells store.old) }
     requires fits { FitsIn C.Cells store.old (page_entries page values.old) }
-    ensures cells { GoesBack C.Cells store.old store.new (page_entries page values.old) }
-    ensures entries { page_entries page values.new
+    ensures back { GoesBack C.Cells store.old store.new (page_entries page values.old) }
+    ensures back_entries { page_entries page values.new
         ≡ (back (C.cells store.old) (page_entries page values.old)).entries }
-    ensures size { length values.new ≡ length values.old }
-    ensures fits { FitsIn C.Cells store.new (page_entries page values.new) }
-    ensures length { length (C.cells store.new) ≡ length (C.cells store.old) }
-    ensures bounds { C.bounds store.new ≡ C.bounds store.old }
-    ensures fixed { C.fixed store.new ≡ C.fixed store.old }
-{
-    let mut held = [0; PAGE_BYTES];
-    let mut offset = values.len();
-    read_bytes(store, page, offset, &mut held);
-    'cells: while offset > 0 {
-        offset -= 1;
-        exchange_byte(store, page, offset, held[offset], &mut values[offset]);
-    }
-}
-
-/// Exchanges the values of a page of bytes with those of its first cells, from the first to the
-/// last; a slice for the same reason.
-#[inline(always)]
-fn bytes_forward<C: Cells>(store: &mut C, page: usize, values: &mut [u8])
-    requires bytes { word_pages ≤ page }
-    requires page { length values.old ≤ whole_page }
-    requires within { page * whole_page + length values.old < 2 ^ 64 }
-    requires cells { page * whole_page + length values.old ≤ length (C.cells store.old) }
-    requires fits { FitsIn C.Cells store.old (page_entries page values.old) }
-    ensures cells { GoesForward C.Cells store.old store.new (page_entries page values.old) }
-    ensures entries { page_entries page values.new
+    ensures forward { GoesForward C.Cells store.old store.new (page_entries page values.old) }
+    ensures forward_entries { page_entries page values.new
         ≡ (forward (C.cells store.old) (page_entries page values.old)).entries }
     ensures size { length values.new ≡ length values.old }
     ensures fits { FitsIn C.Cells store.new (page_entries page values.new) }
@@ -227,58 +147,25 @@ fn bytes_forward<C: Cells>(store: &mut C, page: usize, values: &mut [u8])
     ensures bounds { C.bounds store.new ≡ C.bounds store.old }
     ensures fixed { C.fixed store.new ≡ C.fixed store.old }
 {
-    let mut held = [0; PAGE_BYTES];
-    let size = values.len();
-    read_bytes(store, page, size, &mut held);
-    'cells: for offset in 0..size {
-        exchange_byte(store, page, offset, held[offset], &mut values[offset]);
-    }
+    store.exchange_bytes(page, values);
 }
 
-/// Exchanges the values of a page of words with those of its first cells, from the last to the
-/// first. They are unpacked first, many at once: the loop over cells then compares words.
+/// Exchanges the values of a page of words with those of its first cells, all at once: so they are
+/// unpacked, and packed again.
 #[inline(always)]
-fn words_back<C: Cells>(store: &mut C, page: usize, size: usize, packed: &mut [u8])
+fn exchange_words<C: Cells>(store: &mut C, page: usize, size: usize, packed: &mut [u8])
+    requires words { page < word_pages }
     requires packed { length packed.old ≡ size * 2 }
     requires page { size ≤ whole_page }
-    requires within { page * whole_page + size < 2 ^ 64 }
     requires cells { page * whole_page + size ≤ length (C.cells store.old) }
     requires fits { FitsIn C.Cells store.old (page_entries page (words_of size packed.old)) }
-    ensures cells { GoesBack C.Cells store.old store.new
+    ensures back { GoesBack C.Cells store.old store.new
         (page_entries page (words_of size packed.old)) }
-    ensures entries { page_entries page (words_of size packed.new)
+    ensures back_entries { page_entries page (words_of size packed.new)
         ≡ (back (C.cells store.old) (page_entries page (words_of size packed.old))).entries }
-    ensures size { length packed.new ≡ length packed.old }
-    ensures fits { FitsIn C.Cells store.new (page_entries page (words_of size packed.new)) }
-    ensures length { length (C.cells store.new) ≡ length (C.cells store.old) }
-    ensures bounds { C.bounds store.new ≡ C.bounds store.old }
-    ensures fixed { C.fixed store.new ≡ C.fixed store.old }
-{
-    let mut held = [0; PAGE];
-    let mut values = [0; PAGE];
-    let mut offset = size;
-    read_page(store, page, offset, &mut held);
-    unpack(packed, size, &mut values);
-    'cells: while offset > 0 {
-        offset -= 1;
-        let at = 2 * offset;
-        let pair = &mut packed[at..at + 2];
-        exchange_word(store, page, offset, held[offset], values[offset], pair);
-    }
-}
-
-/// Exchanges the values of a page of words with those of its first cells, from the first to the
-/// last.
-#[inline(always)]
-fn words_forward<C: Cells>(store: &mut C, page: usize, size: usize, packed: &mut [u8])
-    requires packed { length packed.old ≡ size * 2 }
-    requires page { size ≤ whole_page }
-    requires within { page * whole_page + size < 2 ^ 64 }
-    requires cells { page * whole_page + size ≤ length (C.cells store.old) }
-    requires fits { FitsIn C.Cells store.old (page_entries page (words_of size packed.old)) }
-    ensures cells { GoesForward C.Cells store.old store.new
+    ensures forward { GoesForward C.Cells store.old store.new
         (page_entries page (words_of size packed.old)) }
-    ensures entries { page_entries page (words_of size packed.new)
+    ensures forward_entries { page_entries page (words_of size packed.new)
         ≡ (forward (C.cells store.old) (page_entries page (words_of size packed.old))).entries }
     ensures size { length packed.new ≡ length packed.old }
     ensures fits { FitsIn C.Cells store.new (page_entries page (words_of size packed.new)) }
@@ -286,15 +173,10 @@ fn words_forward<C: Cells>(store: &mut C, page: usize, size: usize, packed: &mut
     ensures bounds { C.bounds store.new ≡ C.bounds store.old }
     ensures fixed { C.fixed store.new ≡ C.fixed store.old }
 {
-    let mut held = [0; PAGE];
-    let mut values = [0; PAGE];
-    read_page(store, page, size, &mut held);
-    unpack(packed, size, &mut values);
-    'cells: for offset in 0..size {
-        let at = 2 * offset;
-        let pair = &mut packed[at..at + 2];
-        exchange_word(store, page, offset, held[offset], values[offset], pair);
-    }
+    let mut words = [0; PAGE];
+    unpack(packed, size, &mut words);
+    store.exchange_words(page, &mut words[..size]);
+    pack(&words, size, packed);
 }
 
 /// Exchanges the values of a page, as a record holds them, with those of its first cells, from the
@@ -319,9 +201,9 @@ fn page_back<C: Cells>(store: &mut C, page: usize, size: usize, packed: &mut [u8
     ensures fixed { C.fixed store.new ≡ C.fixed store.old }
 {
     if page < WORD_PAGES {
-        words_back(store, page, size, packed);
+        exchange_words(store, page, size, packed);
     } else {
-        bytes_back(store, page, packed);
+        exchange_bytes(store, page, packed);
     }
 }
 
@@ -347,9 +229,9 @@ fn page_forward<C: Cells>(store: &mut C, page: usize, size: usize, packed: &mut 
     ensures fixed { C.fixed store.new ≡ C.fixed store.old }
 {
     if page < WORD_PAGES {
-        words_forward(store, page, size, packed);
+        exchange_words(store, page, size, packed);
     } else {
-        bytes_forward(store, page, packed);
+        exchange_bytes(store, page, packed);
     }
 }
 

@@ -268,23 +268,6 @@ fn copy_page<C: Cells>(
     packed.extend_from_slice(&row[..packed_size(page, count)])
 }
 
-/// Writes the values of the first cells of a page to the front of an array. The loop ends by `!=`:
-/// where the compiler knows that the offsets are below `PAGE`, it drops the remainder in `cell_of`
-/// before it has used it.
-pub(crate) fn read_page<C: Cells>(store: &C, page: usize, count: usize, cells: &mut [u16; PAGE])
-    requires cells { page * whole_page + count ≤ length (C.cells store.now) }
-    requires page { count ≤ whole_page }
-    ensures read { take count cells.new ≡ page_values (C.cells store.now) page count }
-    ensures within { IsPageWithin C.Cells store.now page count }
-{
-    let _len = store.len();
-    let mut offset = 0;
-    'offsets: while offset != count {
-        cells[offset] = store.get(cell_of(page, offset));
-        offset += 1;
-    }
-}
-
 /// Clears the flags of the pages, which are all that are set.
 fn unmark(flags: &mut PageFlags, pages: &[u32])
     requires { IsMarked flags.old pages.now }

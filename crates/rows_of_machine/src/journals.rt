@@ -52,6 +52,15 @@ impl Cells for Words {
     fn put(&mut self, i: usize, v: u16) {
         self.values[i] = v;
     }
+
+    fn exchange_bytes(&mut self, _page: usize, _values: &mut [u8]) {
+        // It has no page of bytes.
+    }
+
+    fn exchange_words(&mut self, page: usize, values: &mut [u16]) {
+        let at = page * PAGE;
+        self.values[at..at + values.len()].swap_with_slice(values);
+    }
 }
 
 /// The words that a text writes, of which nothing is recorded yet.
