@@ -39,12 +39,6 @@ not_both x p q = cc
 
 -- zips
 
-pub zip-set : (cs vs : List ℕ) (k w : ℕ) → zip cs (set vs k w) ≡ set (zip cs vs) k (get_or cs k 0, w)
-zip-set [] vs k w = refl
-zip-set (c ∷ cs) [] k w = refl
-zip-set (c ∷ cs) (v ∷ vs) zero w = refl
-zip-set (c ∷ cs) (v ∷ vs) (suc k) w = ap (λ (t : List (ℕ × ℕ)). (c, v) ∷ t) (zip-set cs vs k w)
-
 pub zip-append : (xs bs vs ws : List ℕ) → length vs ≡ length xs → zip (xs ++ bs) (vs ++ ws) ≡ zip xs vs ++ zip bs ws
 zip-append [] bs [] ws p = refl
 zip-append [] bs (v ∷ vs) ws p = absurd (omega (arith, p))

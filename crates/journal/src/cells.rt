@@ -46,6 +46,7 @@ pub trait Cells {
     fn exchange_bytes(&mut self, page: usize, values: &mut [u8])
         requires bytes { word_pages ≤ page }
         requires page { length values.old ≤ whole_page }
+        requires short { page * whole_page + length values.old < 2 ^ 64 }
         requires cells { page * whole_page + length values.old ≤ length (cells self.old) }
         requires within { AreWithin (bounds self.old) (page * whole_page) values.old }
         ensures cells { cells self.new ≡ put_run (cells self.old) (page * whole_page) values.old }
@@ -60,6 +61,7 @@ pub trait Cells {
     fn exchange_words(&mut self, page: usize, values: &mut [u16])
         requires words { page < word_pages }
         requires page { length values.old ≤ whole_page }
+        requires short { page * whole_page + length values.old < 2 ^ 64 }
         requires cells { page * whole_page + length values.old ≤ length (cells self.old) }
         requires within { AreWithin (bounds self.old) (page * whole_page) values.old }
         ensures cells { cells self.new ≡ put_run (cells self.old) (page * whole_page) values.old }

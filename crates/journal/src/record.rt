@@ -133,6 +133,7 @@ pub(crate) fn cell_of(page: usize, offset: usize) -> usize
 fn exchange_bytes<C: Cells>(store: &mut C, page: usize, values: &mut [u8])
     requires bytes { word_pages ≤ page }
     requires page { length values.old ≤ whole_page }
+    requires within { page * whole_page + length values.old < 2 ^ 64 }
     requires cells { page * whole_page + length values.old ≤ length (C.cells store.old) }
     requires fits { FitsIn C.Cells store.old (page_entries page values.old) }
     ensures back { GoesBack C.Cells store.old store.new (page_entries page values.old) }
@@ -157,6 +158,7 @@ fn exchange_words<C: Cells>(store: &mut C, page: usize, size: usize, packed: &mu
     requires words { page < word_pages }
     requires packed { length packed.old ≡ size * 2 }
     requires page { size ≤ whole_page }
+    requires within { page * whole_page + size < 2 ^ 64 }
     requires cells { page * whole_page + size ≤ length (C.cells store.old) }
     requires fits { FitsIn C.Cells store.old (page_entries page (words_of size packed.old)) }
     ensures back { GoesBack C.Cells store.old store.new

@@ -15,3 +15,4 @@ pub mod Lines
 pub mod Filling
 pub mod Words
 pub mod Buffers
+pub mod Exchanging

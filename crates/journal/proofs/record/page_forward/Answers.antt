@@ -15,6 +15,10 @@ pub exchange_bytes-requires-clause-page : goal.exchange_bytes-requires-clause-pa
 exchange_bytes-requires-clause-page g c =
     omega (arith, c.requires.packed, packed_len_bytes c.args.page c.args.size (omega arith), c.requires.page)
 
+pub exchange_bytes-requires-clause-within : goal.exchange_bytes-requires-clause-within
+exchange_bytes-requires-clause-within g c =
+    omega (arith, c.requires.packed, packed_len_bytes c.args.page c.args.size (omega arith), c.requires.within)
+
 pub exchange_bytes-requires-clause-cells : goal.exchange_bytes-requires-clause-cells
 exchange_bytes-requires-clause-cells g c =
     omega (arith, c.requires.packed, packed_len_bytes c.args.page c.args.size (omega arith), c.requires.cells)
