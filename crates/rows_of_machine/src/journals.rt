@@ -54,7 +54,8 @@ impl Cells for Words {
     }
 
     fn exchange_bytes(&mut self, _page: usize, _values: &mut [u8]) {
-        // It has no page of bytes.
+        // So few cells have no page of bytes: there is no value to exchange.
+        let _len = self.values.len();
     }
 
     fn exchange_words(&mut self, page: usize, values: &mut [u16]) {
