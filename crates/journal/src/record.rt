@@ -181,47 +181,22 @@ fn exchange_words<C: Cells>(store: &mut C, page: usize, size: usize, packed: &mu
     pack(&words, size, packed);
 }
 
-/// Exchanges the values of a page, as a record holds them, with those of its first cells, from the
-/// last to the first.
+/// Exchanges the values of a page, as a record holds them, with those of its first cells.
 #[inline(always)]
-fn page_back<C: Cells>(store: &mut C, page: usize, size: usize, packed: &mut [u8])
+fn exchange_page<C: Cells>(store: &mut C, page: usize, size: usize, packed: &mut [u8])
     requires page { size ≤ whole_page }
     requires packed { length packed.old ≡ packed_len page size }
     requires within { page * whole_page + size < 2 ^ 64 }
     requires cells { page * whole_page + size ≤ length (C.cells store.old) }
     requires fits { FitsIn C.Cells store.old
         (page_entries page (page_unpacked page size packed.old)) }
-    ensures cells { GoesBack C.Cells store.old store.new
+    ensures back { GoesBack C.Cells store.old store.new
         (page_entries page (page_unpacked page size packed.old)) }
-    ensures entries { page_entries page (page_unpacked page size packed.new) ≡ (back
+    ensures back_entries { page_entries page (page_unpacked page size packed.new) ≡ (back
         (C.cells store.old) (page_entries page (page_unpacked page size packed.old))).entries }
-    ensures size { length packed.new ≡ length packed.old }
-    ensures fits { FitsIn C.Cells store.new
-        (page_entries page (page_unpacked page size packed.new)) }
-    ensures length { length (C.cells store.new) ≡ length (C.cells store.old) }
-    ensures bounds { C.bounds store.new ≡ C.bounds store.old }
-    ensures fixed { C.fixed store.new ≡ C.fixed store.old }
-{
-    if page < WORD_PAGES {
-        exchange_words(store, page, size, packed);
-    } else {
-        exchange_bytes(store, page, packed);
-    }
-}
-
-/// Exchanges the values of a page, as a record holds them, with those of its first cells, from the
-/// first to the last.
-#[inline(always)]
-fn page_forward<C: Cells>(store: &mut C, page: usize, size: usize, packed: &mut [u8])
-    requires page { size ≤ whole_page }
-    requires packed { length packed.old ≡ packed_len page size }
-    requires within { page * whole_page + size < 2 ^ 64 }
-    requires cells { page * whole_page + size ≤ length (C.cells store.old) }
-    requires fits { FitsIn C.Cells store.old
+    ensures forward { GoesForward C.Cells store.old store.new
         (page_entries page (page_unpacked page size packed.old)) }
-    ensures cells { GoesForward C.Cells store.old store.new
-        (page_entries page (page_unpacked page size packed.old)) }
-    ensures entries { page_entries page (page_unpacked page size packed.new) ≡ (forward
+    ensures forward_entries { page_entries page (page_unpacked page size packed.new) ≡ (forward
         (C.cells store.old) (page_entries page (page_unpacked page size packed.old))).entries }
     ensures size { length packed.new ≡ length packed.old }
     ensures fits { FitsIn C.Cells store.new
@@ -259,7 +234,7 @@ pub(crate) fn go_back<C: Cells>(store: &mut C, len: usize, pages: &[u32], packed
         let size = page_size(len, page);
         let width = packed_size(page, size);
         at -= width;
-        page_back(store, page, size, &mut packed[at..at + width]);
+        exchange_page(store, page, size, &mut packed[at..at + width]);
     }
 }
 
@@ -282,7 +257,7 @@ fn go_forward<C: Cells>(store: &mut C, len: usize, pages: &[u32], packed: &mut V
         let page = pages[slot] as usize;
         let size = page_size(len, page);
         let width = packed_size(page, size);
-        page_forward(store, page, size, &mut packed[at..at + width]);
+        exchange_page(store, page, size, &mut packed[at..at + width]);
         at += width;
     }
 }

@@ -30,8 +30,8 @@ overflow_add-at g c =
     c.pages.invariant.long c.page_size-size.ensures.result c.packed_size-width.ensures refl in
     omega (arith, packed_inside c.args.len c.args.pages.now c.pages.packed.items c.pages.slot c.pages.at _ there)
 
-pub slice_bounds-page_forward-end : goal.slice_bounds-page_forward-end
-slice_bounds-page_forward-end g c =
+pub slice_bounds-exchange_page-end : goal.slice_bounds-exchange_page-end
+slice_bounds-exchange_page-end g c =
     let there = packed_after c.args.len c.args.pages.now c.pages.packed.items c.deref_mut.result.now c.pages.slot
     c.pages.at c.packed_size-width.result c.page_size-size.result (omega arith) c.pages.invariant.at
     c.pages.invariant.long c.page_size-size.ensures.result c.packed_size-width.ensures c.deref_mut.ensures.value in
@@ -41,8 +41,8 @@ slice_bounds-page_forward-end g c =
       c.deref_mut.type_inv.1,
     )
 
-pub page_forward-requires-clause-packed : goal.page_forward-requires-clause-packed
-page_forward-requires-clause-packed g c =
+pub exchange_page-requires-clause-packed : goal.exchange_page-requires-clause-packed
+exchange_page-requires-clause-packed g c =
     let size : ℕ = c.page_size-size.result in
     let s : ℕ = c.pages.slot in
     let at : ℕ = c.pages.at in
@@ -59,8 +59,8 @@ page_forward-requires-clause-packed g c =
       c.packed_size-width.ensures,
     )
 
-pub page_forward-requires-clause-cells : goal.page_forward-requires-clause-cells
-page_forward-requires-clause-cells g c =
+pub exchange_page-requires-clause-cells : goal.exchange_page-requires-clause-cells
+exchange_page-requires-clause-cells g c =
     let size : ℕ = c.page_size-size.result in
     let s : ℕ = c.pages.slot in
     let at : ℕ = c.pages.at in
@@ -79,8 +79,8 @@ page_forward-requires-clause-cells g c =
     (values_of c.args.len c.args.pages.now t)) (sym c.deref_mut.ensures.value) c.pages.invariant.forward).fits in
     omega (arith, fit.1, c.pages.invariant.same_len)
 
-pub page_forward-requires-clause-fits : goal.page_forward-requires-clause-fits
-page_forward-requires-clause-fits g c =
+pub exchange_page-requires-clause-fits : goal.exchange_page-requires-clause-fits
+exchange_page-requires-clause-fits g c =
     let size : ℕ = c.page_size-size.result in
     let s : ℕ = c.pages.slot in
     let at : ℕ = c.pages.at in
@@ -108,7 +108,7 @@ pages-preserved g c =
     let packed : List ℕ = c.deref_mut.result.now in
     let n : ℕ = length (g.C.Cells.cells c.args.store.now) in
     let b : ℕ → ℕ = g.C.Cells.bounds c.args.store.now in
-    let row : List ℕ = c.page_forward.new.packed in
+    let row : List ℕ = c.exchange_page.new.packed in
     let whole : List ℕ = take at packed ++ (row ++ drop count (drop at packed)) in
     let cs : List ℕ = cells_of c.args.len c.args.pages.now in
     let was : List ℕ = values_of c.args.len c.args.pages.now c.args.packed.now.items in
@@ -119,16 +119,16 @@ pages-preserved g c =
     let gone_so_far = subst (λ (t : List ℕ). GoneForward n b cs was c0 (start_of c.args.len c.args.pages.now c.pages.slot)
     (g.C.Cells.cells c.pages.store) (values_of c.args.len c.args.pages.now t)) (sym c.deref_mut.ensures.value)
     c.pages.invariant.forward in
-    let len : n ≡ length (g.C.Cells.cells c.page_forward.new.store) = cc in
-    let bounds : b ≡ g.C.Cells.bounds c.page_forward.new.store = cc in
+    let len : n ≡ length (g.C.Cells.cells c.exchange_page.new.store) = cc in
+    let bounds : b ≡ g.C.Cells.bounds c.exchange_page.new.store = cc in
     let fits : Fits n b (page_entries (get_or c.args.pages.now s 0) (page_unpacked (get_or c.args.pages.now s 0) size row)) =
-    rw (len, bounds) c.page_forward.ensures.fits in
-    let same : length row ≡ count = c.page_forward.ensures.size
+    rw (len, bounds) c.exchange_page.ensures.fits in
+    let same : length row ≡ count = c.exchange_page.ensures.size
     ∙ length-packed_row c.args.len c.args.pages.now packed s at count there in
     let all = length-values_of c.args.len c.args.pages.now c.args.packed.now.items c.requires.paged.size in
     let gone = packed_gone_forward c.args.len n b was c0 c.args.pages.now packed (c.pages.slot + 1) s at count size
-    (g.C.Cells.cells c.pages.store) (g.C.Cells.cells c.page_forward.new.store) row gone_so_far all
-    (omega arith) there same c.page_size-size.ensures.result c.page_forward.ensures.cells c.page_forward.ensures.entries fits in
+    (g.C.Cells.cells c.pages.store) (g.C.Cells.cells c.exchange_page.new.store) row gone_so_far all
+    (omega arith) there same c.page_size-size.ensures.result c.exchange_page.ensures.forward c.exchange_page.ensures.forward_entries fits in
     let long : length whole ≡ length packed =
     length-packed_with c.args.len c.args.pages.now packed s at count row there same in
     let items = with_items_is c.pages.packed whole (omega (arith, long, c.deref_mut.ensures.len)) in
@@ -141,7 +141,7 @@ pages-preserved g c =
       );
       long = ap (λ (t : List ℕ). length t) items ∙ long ∙ there.long;
       forward = subst (λ (t : List ℕ). GoneForward n b cs was c0 (start_of c.args.len c.args.pages.now (c.pages.slot + 1))
-          (g.C.Cells.cells c.page_forward.new.store) (values_of c.args.len c.args.pages.now t)) (sym items) gone;
+          (g.C.Cells.cells c.exchange_page.new.store) (values_of c.args.len c.args.pages.now t)) (sym items) gone;
       same_len = cc;
       same_bounds = cc;
       same_fixed = cc;
