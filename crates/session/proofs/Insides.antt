@@ -17,6 +17,7 @@ use Rattle.session.specs.Session.{Session, largest_record}
 use Rattle.session.specs.Stepped.{without_oldest}
 use Rattle.session.specs.Times.{all_cells}
 use Rattle.session.specs.Inside.{records_of, with_cells, places_of, view_of, Swaps, IsReady, IsBetweenTurns}
+use Rattle.session.specs.Written.{text_of, line_of}
 use Rattle.session.proofs.Moves.{cells_undo, cells_redo, cells_older, present_cells, length-back, length-forward}
 
 -- a turn that is exchanged for one with the same part
@@ -78,13 +79,13 @@ unfolding view_of
 exchanged_view keep fuel header opening store new first turns t u entries k from to given_up lt is x fixed cells =
     same_view (view_of keep fuel header opening store first turns from given_up)
     (states_with new.fixed (all_cells new.cells (records_of (set turns k u)) to)) (places_of first (set turns k u))
-    (map (λ y. y.text.items) (set turns k u)) (map (λ y. y.line.items) (set turns k u))
+    (map (λ y. text_of y.written) (set turns k u)) (map (λ y. line_of y.written) (set turns k u))
     (map (λ y. length y.overwritten) (set turns k u)) to
     (ap (λ f. states_with f (all_cells new.cells (records_of (set turns k u)) to)) fixed
     ∙ ap (states_with store.fixed) cells)
     (ap (λ ps. first ∷ ps) (kept_by (λ y. y.place) turns k t u lt is (ap (λ (y : Turn). y.place) x.is)))
-    (kept_by (λ y. y.text.items) turns k t u lt is (ap (λ (y : Turn). y.text.items) x.is))
-    (kept_by (λ y. y.line.items) turns k t u lt is (ap (λ (y : Turn). y.line.items) x.is))
+    (kept_by (λ y. text_of y.written) turns k t u lt is (ap (λ (y : Turn). text_of y.written) x.is))
+    (kept_by (λ y. line_of y.written) turns k t u lt is (ap (λ (y : Turn). line_of y.written) x.is))
     (kept_by (λ y. length y.overwritten) turns k t u lt is (ap (λ (y : Turn). length y.overwritten) x.is ∙ x.size))
 
 ready_as : (header : Header) (f g : List ℕ) (cs ds : List (List ℕ)) (ps qs : List Place) (k : ℕ) → g ≡ f → ds ≡ cs
@@ -205,16 +206,16 @@ redo_between header store new first turns t u k stands h i =
 
 -- the text of a turn that was exchanged
 pub redone_text : (turns : List Turn) (k j : ℕ) (t u x : Turn) (entries : List (ℕ × ℕ)) → k < length turns → j ≡ k
-    → x ≡ get_or (set turns k u) j x → u ≡ record t { overwritten = entries } → x.text.items ≡ t.text.items
+    → x ≡ get_or (set turns k u) j x → u ≡ record t { overwritten = entries } → (text_of x.written) ≡ (text_of t.written)
 redone_text turns k j t u x entries lt e at is =
-    ap (λ (y : Turn). y.text.items)
+    ap (λ (y : Turn). text_of y.written)
     (at ∙ ap (λ n. get_or (set turns k u) n x) e ∙ get_or-set_same turns k u x lt ∙ is)
 
 -- The oldest turn is given up
 
 pub oldest_view : (keep : Option ℕ) (fuel : ℕ) (header : Header) (opening : List ℕ) (store : Contents)
     (first : Place) (turns rest : List Turn) (t : Turn) (done : ℕ) (given_up : List ℕ) → turns ≡ t ∷ rest → 0 < done
-    → view_of keep fuel header opening store t.place rest (done - 1) t.text.items
+    → view_of keep fuel header opening store t.place rest (done - 1) (text_of t.written)
     ≡ without_oldest (view_of keep fuel header opening store first turns done given_up)
 unfolding view_of
 oldest_view keep fuel header opening store first turns rest t done given_up is some =

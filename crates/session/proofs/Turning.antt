@@ -27,6 +27,7 @@ use Rattle.session.specs.Times.{all_cells}
 use Rattle.session.specs.Inside.{records_of, with_cells, places_of, view_of, IsReady, IsBetweenTurns}
 use Rattle.session.specs.Turned.{Turned}
 use Rattle.session.proofs.Views.{view_state, view_fuel, header_base}
+use Rattle.session.specs.Written.{text_of, line_of}
 use Rattle.session.proofs.Moves.{cells_taken, length-all_cells}
 
 -- The turn as a function
@@ -60,9 +61,9 @@ all_taken P xs k x le all p n d lt =
 -- a turn whose line was given to a waiting store
 pub record IsPlayed (header : Header) (old new : Recording Contents) (line : List ℕ) (fuel : ℕ) (t : Turn) : Type 0
   where
-    pub answers : Answers line old.store fuel (whole_of new.store t.place t.text.items)
+    pub answers : Answers line old.store fuel (whole_of new.store t.place (text_of t.written))
     pub waits : t.place ≡ places.Waiting → IsWaiting new.store
-    pub line_is : t.line.items ≡ line
+    pub line_is : (line_of t.written) ≡ line
     pub store : IsStoreOf header new.store
     pub fixed : new.store.fixed ≡ old.store.fixed
     pub size : length new.store.cells ≡ length old.store.cells
@@ -111,15 +112,15 @@ pub taken_view : (keep : Option ℕ) (units : ℕ) (header : Header) (opening : 
     (first : Place) (line : List ℕ) (turns : List Turn) (k : ℕ) (t : Turn) (given_up : List ℕ) → k ≤ length turns
     → IsPlayed header old new line units t
     → view_of keep units header opening new.store first (take k turns ++ t ∷ []) (k + 1) given_up
-    ≡ with_turn line (length t.overwritten) (whole_of new.store t.place t.text.items)
+    ≡ with_turn line (length t.overwritten) (whole_of new.store t.place (text_of t.written))
     (view_of keep units header opening old.store first turns k given_up)
 unfolding view_of
 taken_view keep units header opening old new first line turns k t given_up le h =
     let more = take k turns ++ t ∷ [] in
-    let v : Session = with_turn line (length t.overwritten) (whole_of new.store t.place t.text.items)
+    let v : Session = with_turn line (length t.overwritten) (whole_of new.store t.place (text_of t.written))
     (view_of keep units header opening old.store first turns k given_up) in
-    let texts : List (List ℕ) = map (λ x. x.text.items) more in
-    let lines : List (List ℕ) = map (λ x. x.line.items) more in
+    let texts : List (List ℕ) = map (λ x. text_of x.written) more in
+    let lines : List (List ℕ) = map (λ x. line_of x.written) more in
     let sizes : List ℕ = map (λ x. length x.overwritten) more in
     ap {A = List StateOfPlay}
     (λ x. record v { states = x; places = places_of first more; texts = texts; lines = lines; sizes = sizes })
@@ -127,10 +128,10 @@ taken_view keep units header opening old new first line turns k t given_up le h 
     ∙ ap {A = List Place} (λ x. record v { places = x; texts = texts; lines = lines; sizes = sizes })
     (taken_places first turns k t)
     ∙ ap {A = List (List ℕ)} (λ x. record v { texts = x; lines = lines; sizes = sizes })
-    (map_taken (λ x. x.text.items) turns k t)
+    (map_taken (λ x. text_of x.written) turns k t)
     ∙ ap {A = List (List ℕ)} (λ x. record v { lines = x; sizes = sizes })
-    (map_taken (λ x. x.line.items) turns k t
-    ∙ ap (λ l. take k (map (λ x. x.line.items) turns) ++ l ∷ []) h.line_is)
+    (map_taken (λ x. line_of x.written) turns k t
+    ∙ ap (λ l. take k (map (λ x. line_of x.written) turns) ++ l ∷ []) h.line_is)
     ∙ ap {A = List ℕ} (λ x. record v { sizes = x }) (map_taken (λ x. length x.overwritten) turns k t)
 
 taken_ready : (header : Header) (old new : Recording Contents) (first : Place) (line : List ℕ) (units : ℕ)
@@ -216,18 +217,18 @@ pub taken_turned : (keep : Option ℕ) (units : ℕ) (header : Header) (opening 
     → IsPlayed header old new line units t → more ≡ take k turns ++ t ∷ []
     → Turned line v (view_of keep units header opening new.store first more (k + 1) given_up)
 taken_turned keep units header opening old new first line turns more k t given_up v is le h e = record {
-  whole = whole_of new.store t.place t.text.items;
+  whole = whole_of new.store t.place (text_of t.written);
   size = length t.overwritten;
   turn = λ d.
       ap (λ p. turn_on line v.fuel p)
       (view_state keep units header opening old.store first turns k given_up v d is le)
       ∙ ap (λ n. turn_on line n (play_of old.store))
       (view_fuel keep units header opening old.store first turns k given_up v is)
-      ∙ answers_turn line old.store units (whole_of new.store t.place t.text.items) h.answers;
+      ∙ answers_turn line old.store units (whole_of new.store t.place (text_of t.written)) h.answers;
   small = omega (arith, h.small, header_base keep units header opening old.store first turns k given_up v is);
   is = ap (λ ts. view_of keep units header opening new.store first ts (k + 1) given_up) e
       ∙ taken_view keep units header opening old new first line turns k t given_up le h
-      ∙ ap {A = Session} (λ w. with_turn line (length t.overwritten) (whole_of new.store t.place t.text.items) w) is;
+      ∙ ap {A = Session} (λ w. with_turn line (length t.overwritten) (whole_of new.store t.place (text_of t.written)) w) is;
 }
 
 -- how long stores of one machine are
@@ -239,7 +240,7 @@ store_size header s h = h.sound.size ∙ ap (λ n. 72559 + n) (sym h.headed.stat
 pub played : (header : Header) (old mid new : Recording Contents) (line : List ℕ) (units : ℕ) (t : Turn)
     (before text : List ℕ) → IsStoreOf header old.store
     → TurnEnds (Answers line old.store units) old before mid text (Ok t.place)
-    → drop (length before) text ≡ t.text.items → t.line.items ≡ line → old.beginning ≡ old.store.cells
+    → drop (length before) text ≡ (text_of t.written) → (line_of t.written) ≡ line → old.beginning ≡ old.store.cells
     → (back mid.store.cells t.overwritten).cells ≡ mid.beginning
     → Fits (length mid.store.cells) bound_of t.overwritten
     → length t.overwritten ≤ length mid.store.cells

@@ -11,6 +11,7 @@ use Rattle.session.specs.declared.turns.Turn.{Turn}
 use Rattle.session.specs.Session.{Session}
 use Rattle.session.specs.Times.{all_cells}
 use Rattle.session.specs.Inside.{records_of, places_of, view_of}
+use Rattle.session.specs.Written.{text_of, line_of}
 use Rattle.session.proofs.Moves.{present_cells, length-all_cells}
 
 pub first_place : (first : Place) (turns : List Turn) (done : ℕ) → done ≡ 0
@@ -35,17 +36,17 @@ pub counted : (keep : Option ℕ) (fuel : ℕ) (header : Header) (opening : List
 unfolding view_of
 counted keep fuel header opening store first turns done given_up v is = record {
   present = ap (λ (w : Session). w.present) is;
-  size = sym (length-map turns (λ (t : Turn). t.line.items)) ∙ ap (λ (w : Session). length w.lines) is;
+  size = sym (length-map turns (λ (t : Turn). line_of t.written)) ∙ ap (λ (w : Session). length w.lines) is;
 }
 
 -- the text of a turn
 pub turn_text : (keep : Option ℕ) (fuel : ℕ) (header : Header) (opening : List ℕ) (store : Contents) (first : Place)
     (turns : List Turn) (done : ℕ) (given_up : List ℕ) (v : Session) (k : ℕ) (t : Turn)
     → view_of keep fuel header opening store first turns done given_up ≡ v → k < length turns → t ≡ get_or turns k t
-    → t.text.items ≡ get_or v.texts k []
+    → (text_of t.written) ≡ get_or v.texts k []
 unfolding view_of
 turn_text keep fuel header opening store first turns done given_up v k t is lt at =
-    ap (λ (x : Turn). x.text.items) at ∙ sym (get_or-map (λ x. x.text.items) turns k t [] lt)
+    ap (λ (x : Turn). text_of x.written) at ∙ sym (get_or-map (λ x. text_of x.written) turns k t [] lt)
     ∙ ap (λ (w : Session). get_or w.texts k []) is
 
 -- the size of a turn's record

@@ -11,6 +11,7 @@ use Rattle.machine_frames.specs.Playing.{IsWaiting}
 use Rattle.machine_frames.specs.States.{play_of, IsStoreOf}
 use Rattle.session.specs.declared.turns.Turn.{Turn}
 use Rattle.session.specs.Session.{Session, largest_record}
+use Rattle.session.specs.Written.{text_of, line_of}
 use Rattle.session.specs.Times.{all_cells}
 
 -- what the turns overwrote
@@ -53,8 +54,8 @@ view_of keep fuel header opening store first turns done given_up = record {
   opening = opening;
   states = map (λ cells. play_of (with_cells store cells)) (all_cells store.cells (records_of turns) done);
   places = places_of first turns;
-  texts = map (λ t. t.text.items) turns;
-  lines = map (λ t. t.line.items) turns;
+  texts = map (λ t. text_of t.written) turns;
+  lines = map (λ t. line_of t.written) turns;
   sizes = map (λ t. length t.overwritten) turns;
   present = done;
   given_up = given_up;

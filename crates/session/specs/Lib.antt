@@ -1,6 +1,7 @@
 pub mod Standing
 pub mod Session
 pub mod Times
+pub mod Written
 pub mod Inside
 pub mod Sessions
 pub mod Stepped

@@ -13,6 +13,7 @@ mod session;
 mod turns;
 mod typable;
 mod writing;
+mod written;
 
 pub use exit::status;
 pub use fault::{OpenFault, RunFault};

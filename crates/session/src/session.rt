@@ -20,6 +20,7 @@ use crate::fault::OpenFault;
 use crate::reply::Reply;
 use crate::turns::{Turn, do_again, make_room, put_turn, take_back};
 use crate::typable::is_typable;
+use crate::written::Written;
 use journal::{NoMemory, Recorded};
 use machine::{Machine, Store};
 use machine_frames::program_counter;
@@ -55,8 +56,8 @@ pub struct Session {
     /// How many turns are kept at most.
     keep: Option<u32>,
 
-    /// The text of the turn that was given up last.
-    given_up: Vec<u8>,
+    /// The line and the text of the turn that was given up last.
+    given_up: Written,
 
     /// Where lines, texts and turns come from.
     alloc: Global,
@@ -68,9 +69,10 @@ impl Model for Session {
     ghost Value = { Session };
 
     ghost use Rattle.session.specs.Inside.{view_of, IsBetweenTurns};
+    ghost use Rattle.session.specs.Written.{text_of};
 
     ghost view = { λ s. view_of s.keep s.fuel s.machine.header s.opening.items s.store.store
-        s.first s.turns.items s.done s.given_up.items };
+        s.first s.turns.items s.done (text_of s.given_up) };
 
     ghost invariant = { λ s. IsBetweenTurns s.machine.header s.store s.first s.turns.items s.done };
 }
@@ -121,7 +123,7 @@ impl Session {
                     done: 0,
                     fuel,
                     keep,
-                    given_up: Vec::new(alloc),
+                    given_up: Written::none(alloc),
                     alloc,
                 })
             }
@@ -197,7 +199,7 @@ impl Session {
         }
         do_again(&mut self.store, &mut self.turns[self.done]);
         self.done += 1;
-        Some(&self.turns[self.done - 1].text)
+        Some(self.turns[self.done - 1].written.text())
     }
 
     /// How many turns are kept, and how many are undone.
@@ -256,14 +258,15 @@ impl Session {
         ensures turned { OnOk result (Turned line.now self.old self.new) }
         ensures same { OnErr result (self.new ≡ self.old) }
     {
-        let copy = make_room(self.alloc, &mut self.turns, line)?;
-        let mut text = Vec::new(self.alloc);
+        let mut bytes = make_room(self.alloc, &mut self.turns, line)?;
         let place = self
             .machine
-            .turn(Some(line), self.fuel, &mut self.store, &mut text)?;
+            .turn(Some(line), self.fuel, &mut self.store, &mut bytes)?;
         let turn = Turn {
-            line: copy,
-            text,
+            written: Written {
+                bytes,
+                line: line.len(),
+            },
             place,
             overwritten: self.store.close(),
         };
@@ -293,7 +296,7 @@ impl Session {
     {
         if let Some(oldest) = self.turns.pop_front() {
             self.first = oldest.place;
-            self.given_up = oldest.into_text();
+            self.given_up = oldest.into_written();
             self.done -= 1;
         }
     }
@@ -303,9 +306,9 @@ impl Session {
         ensures { result.now ≡ latest_text self.now }
     {
         if self.done == 0 {
-            &self.given_up
+            self.given_up.text()
         } else {
-            &self.turns[self.done - 1].text
+            self.turns[self.done - 1].written.text()
         }
     }
 }

@@ -7,6 +7,7 @@ ghost use Rattle.journal.specs.Swap.{back, forward, Fits};
 ghost use Rattle.machine_frames.specs.Contents.{bound_of};
 ghost use Rattle.session.specs.Inside.{Swaps};
 
+use crate::written::Written;
 use journal::{NoMemory, Record, Recorded, swap_back, swap_forward};
 use machine::Store;
 use std::alloc::Global;
@@ -16,11 +17,8 @@ use zcore::Place;
 /// A turn that a line led to.
 #[derive(Drop)]
 pub(crate) struct Turn {
-    /// The line.
-    pub(crate) line: Vec<u8>,
-
-    /// What the turn printed.
-    pub(crate) text: Vec<u8>,
+    /// The line, and what the turn printed.
+    pub(crate) written: Written,
 
     /// Where it left the machine.
     pub(crate) place: Place,
@@ -30,12 +28,12 @@ pub(crate) struct Turn {
 }
 
 impl Turn {
-    /// What the turn printed.
-    pub(crate) fn into_text(self) -> Vec<u8>
-        ensures { result ≡ self.text }
+    /// Its line, and what it printed.
+    pub(crate) fn into_written(self) -> Written
+        ensures { result ≡ self.written }
     {
-        let Turn { text, .. } = self;
-        text
+        let Turn { written, .. } = self;
+        written
     }
 }
 

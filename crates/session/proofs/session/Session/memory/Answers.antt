@@ -2,6 +2,7 @@ use Rattle.std.proofs.Common.{ap, sym, ◌∙◌}
 use Rattle.zcore.specs.Turn.{StateOfPlay}
 use Rattle.machine_frames.specs.Contents.{memory_of}
 use Rattle.session.proofs.Views.{view_state}
+use Rattle.session.specs.Written.{text_of}
 use Rattle.session.proofs.session.Session.memory.Goals as goal
 
 pub returns : goal.returns
@@ -10,4 +11,4 @@ returns c = λ state.
     c.memory.ensures ∙ ap memory_of c.store.ensures
     ∙ ap (λ (p : StateOfPlay). p.memory)
     (sym (view_state i.keep i.fuel i.machine.header i.opening.items i.store.store i.first i.turns.items i.done
-    i.given_up.items c.args.self.now state c.self.view_is c.self.invariant.within))
+    (text_of i.given_up) c.args.self.now state c.self.view_is c.self.invariant.within))

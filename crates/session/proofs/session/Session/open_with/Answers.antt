@@ -7,6 +7,7 @@ use Rattle.machine_frames.proofs.Steps.{store_after}
 use Rattle.session.specs.Inside.{IsBetweenTurns, view_of}
 use Rattle.session.specs.Sessions.{IsSession}
 use Rattle.session.specs.Standing.{nothing}
+use Rattle.session.specs.Written.{text_of}
 use Rattle.session.proofs.Opening.{opened_between, session_opened}
 use Rattle.session.proofs.session.Session.open_with.Goals as goal
 
@@ -40,9 +41,9 @@ returns-in-Ok-turn c =
     let session = subst
     (λ s. IsSession story c.args.fuel c.args.keep nothing
     (view_of c.args.keep c.args.fuel header c.turn.new.text.items s c.in-Ok-turn.first c.new.result.items 0
-    c.new-in-Ok-turn.result.items)) (sym closed)
+    (text_of c.none.result))) (sym closed)
     (session_opened story c.args.fuel c.args.keep header c.new-store.result.store c.turn.new.store.store
     c.in-Ok-turn.first c.new.result.items (drop (length c.new-opening.result.items) c.turn.new.text.items)
-    c.turn.new.text.items c.new-in-Ok-turn.result.items
+    c.turn.new.text.items (text_of c.none.result)
     c.new.ensures.items before state c.in-Ok-turn.ensures.ends.whole words) in
     record { header = header; reads = l.header; session = session }

@@ -2,6 +2,7 @@ use Rattle.std.proofs.Common.{ap, sym, ◌∙◌}
 use Rattle.zcore.specs.Turn.{StateOfPlay}
 use Rattle.session.proofs.Insides.{ready_now}
 use Rattle.session.proofs.Views.{view_state}
+use Rattle.session.specs.Written.{text_of}
 use Rattle.session.proofs.session.Session.program_counter.Goals as goal
 
 pub program_counter-requires : goal.program_counter-requires
@@ -15,4 +16,4 @@ returns c = λ state.
     c.program_counter.ensures
     ∙ ap (λ (p : StateOfPlay). p.program_counter)
     (sym (view_state i.keep i.fuel i.machine.header i.opening.items i.store.store i.first i.turns.items i.done
-    i.given_up.items c.args.self.now state c.self.view_is c.self.invariant.within))
+    (text_of i.given_up) c.args.self.now state c.self.view_is c.self.invariant.within))

@@ -7,13 +7,14 @@ use Rattle.session.specs.Standing.{Standing, redo_of}
 use Rattle.session.proofs.Insides.{turn_fits, StandsAt, redo_view, redo_between, redone_text}
 use Rattle.session.proofs.Views.{counted, turn_text}
 use Rattle.session.proofs.Sessions.{session_redo, forward_none, forward_some, session_undone, session_again}
+use Rattle.session.specs.Written.{text_of}
 use Rattle.session.proofs.session.Session.redo.Goals as goal
 
 pub returns-then-self-len : goal.returns-then-self-len
 returns-then-self-len c =
     let i = c.self.inside in
     let n = counted i.keep i.fuel i.machine.header i.opening.items i.store.store i.first i.turns.items i.done
-    i.given_up.items c.args.self.now c.self.view_is in
+    (text_of i.given_up) c.args.self.now c.self.view_is in
     let all : length i.turns.items ≡ i.done = omega (arith, i.turns.ok.0, c.len.ensures, c.if-self-len.true) in
     let same = c.self.view_is ∙ forward_none c.args.self.now (omega (arith, all, n.present, n.size)) in (
       (
@@ -55,21 +56,21 @@ pub returns : goal.returns
 returns c =
     let i = c.self.inside in
     let n = counted i.keep i.fuel i.machine.header i.opening.items i.store.store i.first i.turns.items i.done
-    i.given_up.items c.args.self.now c.self.view_is in
+    (text_of i.given_up) c.args.self.now c.self.view_is in
     let here : i.done < length i.turns.items = omega
     (arith, i.turns.ok.0, c.len.ensures, c.if-self-len.false, c.self.invariant.within) in
     let stands : StandsAt i.turns.items i.done c.index_mut.result.now =
     record { here = here; is = c.index_mut.ensures.value } in
     let is = redo_view i.keep i.fuel i.machine.header i.opening.items i.store c.do_again.new.store i.first
-    i.turns.items c.index_mut.result.now c.do_again.new.turn i.done i.given_up.items stands c.do_again.ensures
+    i.turns.items c.index_mut.result.now c.do_again.new.turn i.done (text_of i.given_up) stands c.do_again.ensures
     ∙ ap {A = Session} (λ v. record v { present = i.done + 1 }) c.self.view_is
     ∙ ap {A = ℕ} (λ k. record c.args.self.now { present = k + 1 }) n.present
     ∙ forward_some c.args.self.now (omega (arith, here, n.present, n.size)) in
     let e : i.done + 1 - 1 ≡ i.done = omega arith in
-    let text = c.deref.ensures.value ∙ redone_text i.turns.items i.done (i.done + 1 - 1) c.index_mut.result.now
+    let text = c.text.ensures ∙ redone_text i.turns.items i.done (i.done + 1 - 1) c.index_mut.result.now
     c.do_again.new.turn c.index.result.now _ here e c.index.ensures c.do_again.ensures.turn
     ∙ turn_text i.keep i.fuel i.machine.header i.opening.items i.store.store i.first i.turns.items i.done
-    i.given_up.items c.args.self.now i.done c.index_mut.result.now c.self.view_is here c.index_mut.ensures.value in
+    (text_of i.given_up) c.args.self.now i.done c.index_mut.result.now c.self.view_is here c.index_mut.ensures.value in
     let undone = λ (story : List ℕ) (fuel : ℕ) (keep : Option ℕ) (s : Standing)
     (h : IsSession story fuel keep s c.args.self.now). (
     let u = session_undone story fuel keep s c.args.self.now i.done (length i.turns.items) n.present n.size h in

@@ -8,6 +8,7 @@ use Rattle.session.specs.Sessions.{IsSession}
 use Rattle.session.specs.Standing.{undo_of}
 use Rattle.session.proofs.Insides.{turn_fits, undo_view, undo_between}
 use Rattle.session.proofs.Sessions.{session_undo, back_none, found_none, found_some}
+use Rattle.session.specs.Written.{text_of}
 use Rattle.session.proofs.session.Session.undo.Goals as goal
 
 pub returns-then-self-eq0-clause-found : goal.returns-then-self-eq0-clause-found
@@ -56,7 +57,7 @@ returns-clause-stepped c =
     let here : i.done - 1 < length i.turns.items = omega (arith, c.self.invariant.within) in
     let e : i.done - 1 + 1 ≡ i.done = omega arith in
     undo_view i.keep i.fuel i.machine.header i.opening.items i.store c.take_back.new.store i.first i.turns.items
-    c.index_mut.result.now c.take_back.new.turn (i.done - 1) i.done i.given_up.items e
+    c.index_mut.result.now c.take_back.new.turn (i.done - 1) i.done (text_of i.given_up) e
     (record { here = here; is = c.index_mut.ensures.value }) c.take_back.ensures
     ∙ ap {A = Session} stepped_back c.self.view_is
 
