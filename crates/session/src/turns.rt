@@ -55,7 +55,11 @@ pub(crate) fn do_again(store: &mut Recorded<Store>, turn: &mut Turn)
     swap_forward(store.store_mut(), &mut turn.overwritten);
 }
 
-/// A copy of a line, and room for one more turn. At `Err` memory was refused.
+/// For how many bytes of a turn's text there is room behind its line at once: a turn that prints a
+/// few words asks for no more.
+const TEXT_ROOM: usize = 28;
+
+/// A copy of a line, with room behind it, and room for one more turn. At `Err` memory was refused.
 pub(crate) fn make_room(
     alloc: Global,
     turns: &mut VecDeque<Turn>,
@@ -65,9 +69,12 @@ pub(crate) fn make_room(
     ensures room { OnOk result (deque_len turns.new < deque_capacity turns.new) }
     ensures items { turns.new.items ≡ turns.old.items }
 {
-    let Ok(copy) = Vec::from_slice(alloc, line) else {
+    let Ok(mut copy) = Vec::with_capacity(alloc, line.len().saturating_add(TEXT_ROOM)) else {
         return Err(NoMemory);
     };
+    if copy.extend_from_slice(line).is_err() {
+        return Err(NoMemory);
+    }
     if turns.reserve(1).is_err() {
         return Err(NoMemory);
     }
