@@ -16,8 +16,8 @@ use Rattle.ztext.specs.Reading.{ReadingState, EscapeLow, Abbreviated, next, lett
 use Rattle.ztext.specs.Text.{read_with, refused}
 use Rattle.ztext.specs.Words.{unpacked_text}
 use Rattle.ztext.specs.Faults.{FailsText}
-use Rattle.ztext.specs.Fronts.{front_of}
-use Rattle.ztext.specs.TextParts.{words_of, three_at, z_character_at, state_of, Prints, after_text, PrintsInLower, ArePrintedInLower, IsReadAtOnce}
+use Rattle.ztext.specs.Fronts.{front_of, after_text}
+use Rattle.ztext.specs.TextParts.{words_of, three_at, z_character_at, state_of, Prints, PrintsInLower, ArePrintedInLower, IsReadAtOnce}
 use Rattle.ztext.specs.Expansions.{read_on, rest_of}
 use Rattle.ztext.proofs.Packing.{z_character-is, length-words_of}
 use Rattle.ztext.proofs.Fronts.{front, take_front}
@@ -104,6 +104,12 @@ pub printed_escape : (state : declared.State) (high z number : ℕ) (r : Result 
 printed_escape state high z number r e f h expand =
     subst (λ s. Prints expand (printed expand (state_of s) z) r) (sym e)
     (subst (λ k. Prints expand (escaped k) r) f (h expand))
+
+-- what is printed in a state that is known
+pub printed_in : (state is : declared.State) (z : ℕ) (r : Result Output TextFault) → state ≡ is
+    → ((expand : ℕ → Result (List ℕ) Cause) → Prints expand (printed expand (state_of is) z) r)
+    → (expand : ℕ → Result (List ℕ) Cause) → Prints expand (printed expand (state_of state) z) r
+printed_in state is z r e h expand = subst (λ s. Prints expand (printed expand (state_of s) z) r) (sym e) (h expand)
 
 printed_from_six : (expand : ℕ → Result (List ℕ) Cause) (s : ReadingState) (z : ℕ) → 6 ≤ z
     → (s ≡ Lower) ⊎ ((s ≡ Upper) ⊎ (s ≡ Punctuation)) → printed expand s z ≡ Ok (letter s z)
@@ -224,6 +230,12 @@ z_in_word bytes place k at begins lt is =
     let m : at % 3 ≡ k = omega (arith, begins, lt, is) in
     rw (d, m) refl
 
+-- the Z-character in a column of a word
+pub z_here : (bytes characters : List ℕ) (place column z : ℕ) → z ≡ slice_index characters column
+    → characters ≡ three_at bytes (place / 3) → column ≡ place % 3 → z ≡ z_character_at bytes place
+z_here bytes characters place column z e f g = e ∙ ap (λ l. slice_index l column) f
+    ∙ ap (λ k. slice_index (three_at bytes (place / 3)) k) g
+
 pub small_many : (zs cs : List ℕ) → ArePrintedInLower zs cs → length cs ≡ length zs
 small_many [] [] h = refl
 small_many (z ∷ zs) (c ∷ cs) h = omega (arith, small_many zs cs h.1)
@@ -264,17 +276,26 @@ module _ (expand : ℕ → Result (List ℕ) Cause) (most : ℕ) (bytes : List �
       ap (λ t. front most (read_from expand bytes words t Lower (place + 3))) is
       ∙ ap (λ p. front most (read_from expand bytes words three Lower p)) end ∙ third
 
-  pub word_read : (text now three : List ℕ) (state : ReadingState)
-      → IsReadAtOnce bytes place state most text three → place < 3 * words → now ≡ text ++ three
+  threes_read : (text now three : List ℕ) → place % 3 ≡ 0 → place < 3 * words → length text + 3 ≤ most
+      → ArePrintedInLower (three_at bytes (place / 3)) three → now ≡ text ++ three
+      → front most (read_from expand bytes words text Lower place) ≡ whole
+      → front most (read_from expand bytes words now Lower (place + 3)) ≡ whole
+  threes_read text now (a ∷ b ∷ c ∷ []) begins lt room prints grown so_far =
+      three_read text now a b c begins lt room prints grown so_far
+  threes_read text now [] begins lt room prints grown so_far = absurd prints
+  threes_read text now (a ∷ []) begins lt room prints grown so_far = absurd prints.1
+  threes_read text now (a ∷ b ∷ []) begins lt room prints grown so_far = absurd prints.1.1
+  threes_read text now (a ∷ b ∷ c ∷ d ∷ cs) begins lt room prints grown so_far = absurd prints.1.1.1
+
+  pub word_read : (text now characters three : List ℕ) (column : ℕ) (state : ReadingState)
+      → IsReadAtOnce characters column state most text three → column ≡ place % 3
+      → characters ≡ three_at bytes (place / 3) → place < 3 * words → now ≡ text ++ three
       → front most (read_from expand bytes words text state place) ≡ whole
       → front most (read_from expand bytes words now state (place + 3)) ≡ whole
-  word_read text now (a ∷ b ∷ c ∷ []) state h lt grown so_far = rw h.lower
-      (three_read text now a b c h.begins lt h.room h.printed grown
+  word_read text now characters three column state h at is lt grown so_far = rw h.lower
+      (threes_read text now three (sym at ∙ h.begins) lt h.room
+      (subst (λ zs. ArePrintedInLower zs three) is h.printed) grown
       (ap (λ s. front most (read_from expand bytes words text s place)) (sym h.lower) ∙ so_far))
-  word_read text now [] state h lt grown so_far = absurd h.printed
-  word_read text now (a ∷ []) state h lt grown so_far = absurd h.printed.1
-  word_read text now (a ∷ b ∷ []) state h lt grown so_far = absurd h.printed.1.1
-  word_read text now (a ∷ b ∷ c ∷ d ∷ cs) state h lt grown so_far = absurd h.printed.1.1.1
 
 -- ---- what a Z-character prints, by the code's answer
 

@@ -7,7 +7,8 @@ use Rattle.std.proofs.lemmas.List.{append-nil, get_or_append_left, get_or-append
 use Rattle.ztext.specs.Results.{◌>>=◌}
 use Rattle.ztext.specs.Reading.{Cause, End}
 use Rattle.ztext.specs.Words.{mark, word_of, packed, three_of, unpacked_text}
-use Rattle.ztext.specs.TextParts.{AreSmall, words_of, z_character_at, after_text}
+use Rattle.ztext.specs.Fronts.{after_text}
+use Rattle.ztext.specs.TextParts.{AreSmall, words_of, z_character_at}
 
 -- ---- packing
 

@@ -9,7 +9,6 @@ use Rattle.ztext.specs.declared.reading.State.TheVariants as code
 use Rattle.ztext.specs.declared.reading.State as declared
 use Rattle.ztext.specs.declared.reading.Output.{Output}
 use Rattle.ztext.specs.declared.reading.Output.TheVariants as outputs
-use Rattle.ztext.specs.Results.{◌>>=◌}
 use Rattle.ztext.specs.Reading.{Cause, Character, Lower, Upper, Punctuation, EscapeHigh, EscapeLow, Abbreviated}
 use Rattle.ztext.specs.Reading.{ReadingState, printed, next}
 use Rattle.ztext.specs.Words.{three_of}
@@ -25,6 +24,10 @@ AreSmall (z ∷ zs) = (z < 32) × AreSmall zs
 -- the Z-characters of a word of bytes
 abbrev pub three_at : List ℕ → ℕ → List ℕ
 three_at bytes n = three_of (slice_index bytes (2 * n)) (slice_index bytes (2 * n + 1))
+
+-- the Z-characters of a word, by its number
+abbrev pub three_in : ℕ → List ℕ
+three_in word = (word / 1024 % 32) ∷ (word / 32 % 32) ∷ (word % 32) ∷ []
 
 -- the Z-characters of the first words of bytes
 unfoldable pub words_of : ℕ → List ℕ → List ℕ
@@ -64,10 +67,6 @@ FindsAbbreviation story number result = MatchResult result
     (λ place. (has_abbreviations story ≡ true) × (place ≡ abbreviation_address story number))
     (λ fault. (fault ≡ faults.Abbreviation) × (has_abbreviations story ≡ false))
 
--- characters, then those of a text and the address after it
-abbrev pub after_text : List ℕ → Result (List ℕ × ℕ) Cause → Result (List ℕ × ℕ) Cause
-after_text text read = read >>= λ x. Ok (text ++ x.0, x.1)
-
 -- the first nine of Z-characters, filled with fives
 unfoldable pub filled : List ℕ → List ℕ
 filled zs = take 9 (zs ++ replicate 9 5)
@@ -96,9 +95,11 @@ ArePrintedInLower [] [] = Unit {0}
 ArePrintedInLower (z ∷ zs) (c ∷ cs) = PrintsInLower z c × ArePrintedInLower zs cs
 ArePrintedInLower _ _ = ⊥
 
--- the word at a place can be read at once: three characters are printed, for which the text has room
-pub record IsReadAtOnce (bytes : List ℕ) (place : ℕ) (state : ReadingState) (most : ℕ) (text three : List ℕ) : Type 0 where
+-- a word can be read at once: it is read from its first column on, and prints three characters, for which the text has
+-- room
+pub record IsReadAtOnce (characters : List ℕ) (column : ℕ) (state : ReadingState) (most : ℕ) (text three : List ℕ)
+    : Type 0 where
   pub lower : state ≡ Lower
-  pub begins : place % 3 ≡ 0
+  pub begins : column ≡ 0
   pub room : length text + 3 ≤ most
-  pub printed : ArePrintedInLower (three_at bytes (place / 3)) three
+  pub printed : ArePrintedInLower characters three

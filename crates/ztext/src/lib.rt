@@ -14,5 +14,5 @@ pub use abbreviations::{Abbreviations, MOST_ABBREVIATIONS, encode_with};
 pub use alphabets::spelling_length;
 pub use bytes::read_word;
 pub use fault::TextFault;
-pub use text::{decode_front, decode_text, encode_text, word_key};
+pub use text::{append_front, decode_front, decode_text, encode_text, word_key};
 pub use words::words_for;

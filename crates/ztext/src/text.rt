@@ -1,12 +1,12 @@
 //! Texts in Z-characters: written, read, and as keys of the dictionary.
 
-ghost use Rattle.std.specs.Prelude.{◌≡◌, ◌<◌, ◌≤◌, ◌^◌, ◌++◌, ℕ, List, true, IfOk, IfErr, length};
+ghost use Rattle.std.specs.Prelude.{◌≡◌, ◌<◌, ◌≤◌, ◌^◌, ◌++◌, ℕ, List, true, IfOk, IfErr, length, take};
 ghost use Rattle.std.specs.List.{list_all};
 ghost use Rattle.ztext.specs.Alphabets.{spelling_of, is_printable};
 ghost use Rattle.ztext.specs.Words as words;
 ghost use Rattle.ztext.specs.Text as spec;
 ghost use Rattle.ztext.specs.Faults.{Encodes, HasFault, GivesText};
-ghost use Rattle.ztext.specs.Fronts.{front_of};
+ghost use Rattle.ztext.specs.Fronts.{front_of, after_text};
 ghost use Rattle.ztext.specs.TextParts.{AreSmall, IsFilledKey};
 
 use crate::alphabets::{are_printable, spelled, spelling};
@@ -79,8 +79,32 @@ pub fn decode_front(
         → list_all is_printable x.0 ≡ true }
 {
     let mut text = Vec::new(alloc);
-    let after = put_text(&mut text, story, at, most)?;
+    let after = append_front(&mut text, story, at, most)?;
     Ok((text, after))
+}
+
+/// Adds the characters of the text at an address of a story to those that are there, as far as
+/// there is room for `most` in all, and answers the address after the text. As `decode_front`, it
+/// reads the text to its end all the same.
+///
+/// # Errors
+///
+/// Those of the whole text. What was there stands; of the text a part may have been added.
+pub fn append_front(
+    text: &mut Vec<u8>,
+    story: &[u8],
+    at: u32,
+    most: usize,
+) -> Result<u32, TextFault>
+    requires { length text.old.items ≤ most }
+    ensures text { GivesText (λ after. (text.new.items, after)) result
+        (front_of most (after_text text.old.items (spec.decoded story.now at))) }
+    ensures cause { IfErr result (HasFault story.now at) }
+    ensures stays { take (length text.old.items) text.new.items ≡ text.old.items }
+    ensures printable { (x : List ℕ × ℕ) → spec.decoded story.now at ≡ Ok x
+        → list_all is_printable x.0 ≡ true }
+{
+    put_text(text, story, at, most)
 }
 
 fn lower_case(c: u8) -> u8

@@ -1,12 +1,12 @@
 //! Z-characters in words of two bytes: what a text is packed into, and where it is found in a
 //! story.
 
-ghost use Rattle.std.specs.Prelude.{◌≡◌, ◌<◌, ◌≤◌, ◌+◌, ◌*◌, ◌/◌, ◌^◌, ◌++◌, ◌∷◌, ℕ, List, length, drop, MatchOption, IfOk, OnOk};
+ghost use Rattle.std.specs.Prelude.{◌≡◌, ◌<◌, ◌≤◌, ◌+◌, ◌*◌, ◌/◌, ◌^◌, ◌++◌, ◌∷◌, ℕ, List, length, drop, slice_index, MatchOption, IfOk, OnOk};
 ghost use Rattle.ztext.specs.Alphabets.{spelled};
 ghost use Rattle.ztext.specs.Text.{encoded};
 ghost use Rattle.ztext.specs.Words as spec;
 ghost use Rattle.ztext.specs.Faults.{GivesText};
-ghost use Rattle.ztext.specs.TextParts.{AreSmall, words_of, three_at, z_character_at};
+ghost use Rattle.ztext.specs.TextParts.{AreSmall, words_of, three_at, three_in};
 
 use crate::bytes::read_word;
 use crate::fault::TextFault;
@@ -118,32 +118,39 @@ pub(crate) fn word_count(bytes: &[u8], at: u32) -> Result<usize, TextFault>
     Err(TextFault::End)
 }
 
-/// The Z-character at a place, counted from 0, of the text at the front of the bytes.
-pub(crate) fn z_character(bytes: &[u8], place: usize) -> u8
-    requires { 2 * (place / 3) + 1 < length bytes.now }
-    ensures { result ≡ z_character_at bytes.now place }
+/// A word, counted from 0, of the text at the front of the bytes.
+#[inline(always)]
+pub(crate) fn text_word(bytes: &[u8], n: usize) -> u16
+    requires { 2 * n + 1 < length bytes.now }
+    ensures { three_in result ≡ three_at bytes.now n }
 {
-    let word = read_word(bytes, 2 * (place / 3));
-    // the first of three stands ten bits up, the second five
-    let shifted = match place % 3 {
-        0 => word / 1024,
-        1 => word / 32,
-        _ => word,
-    };
-    (shifted % 32) as u8
+    read_word(bytes, 2 * n)
 }
 
-/// The three Z-characters of a word, counted from 0, of the text at the front of the bytes.
+/// The three Z-characters of a word.
 #[inline(always)]
-pub(crate) fn z_characters(bytes: &[u8], n: usize) -> [u8; 3]
-    requires { 2 * n + 1 < length bytes.now }
-    ensures three { result ≡ three_at bytes.now n }
+pub(crate) fn z_characters(word: u16) -> [u8; 3]
+    ensures three { result ≡ three_in word }
     ensures small { AreSmall result }
 {
-    let word = read_word(bytes, 2 * n);
     [
         (word / 1024 % 32) as u8,
         (word / 32 % 32) as u8,
         (word % 32) as u8,
     ]
+}
+
+/// The Z-character in a column of a word, counted from 0.
+#[inline(always)]
+pub(crate) fn z_character(word: u16, column: usize) -> u8
+    requires column { column < 3 }
+    ensures is { result ≡ slice_index (three_in word) column }
+    ensures small { result < 32 }
+{
+    let shifted = match column {
+        0 => word / 1024,
+        1 => word / 32,
+        _ => word,
+    };
+    (shifted % 32) as u8
 }

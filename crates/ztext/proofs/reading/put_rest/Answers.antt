@@ -1,6 +1,8 @@
-use Rattle.std.proofs.Common.{◌∙◌, ◌*◌, refl, ap, sym}
+use Rattle.std.proofs.Common.{◌∙◌, ◌*◌, refl, ap, sym, arith}
+use Rattle.std.proofs.lemmas.List.{take_all}
 use Rattle.ztext.specs.Text.{abbreviation}
 use Rattle.ztext.specs.TextParts.{words_of}
+use Rattle.ztext.proofs.Fronts.{stays_twice}
 use Rattle.ztext.proofs.Copies.{keeps_none, keeps_still, left_of, numbered, passed, rest_is}
 use Rattle.ztext.proofs.reading.put_rest.Goals as goal
 
@@ -8,6 +10,7 @@ pub loop-named-init : goal.loop-named-init
 loop-named-init c = record {
   room = c.requires.room;
   number = c.requires.number;
+  stays = take_all _ c.args.text.now.items (omega arith);
   keeps = keeps_none c.args.story.now c.args.most c.args.text.now.items c.none-known.result c.none-known.ensures;
   so_far = refl;
 }
@@ -22,6 +25,10 @@ loop-named-preserved c =
     record {
       room = c.in_ok-named.ensures.room;
       number = numbered c.in-Some.field-0.after (3 * c.args.words) c.in_ok-named.named c.in_ok-named.ensures.named;
+      stays = stays_twice c.args.text.now.items grown c.put_plain.new.text.items
+          (stays_twice c.args.text.now.items text grown c.loop-named.invariant.stays
+          c.in_ok-put_expansion.ensures.stays)
+          c.in_ok-named.ensures.stays;
       keeps = keeps_still c.args.story.now most grown c.put_plain.new.text.items c.put_expansion.new.known
           c.in_ok-named.ensures.stays c.in_ok-put_expansion.ensures.keeps;
       so_far =

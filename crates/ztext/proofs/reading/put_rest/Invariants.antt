@@ -1,4 +1,4 @@
-use Rattle.std.proofs.Common.{◌≡◌, ◌*◌, ◌≤◌, length}
+use Rattle.std.proofs.Common.{◌≡◌, ◌*◌, ◌≤◌, length, take}
 use Rattle.ztext.specs.Text.{abbreviation}
 use Rattle.ztext.specs.TextParts.{words_of}
 use Rattle.ztext.specs.Expansions.{rest_of, Keeps}
@@ -9,6 +9,7 @@ abbrev pub invariant-loop-named : goal.invariant-loop-named
 invariant-loop-named l = record {
   room : length l.text.items ≤ l.most;
   number : IsNumbered l.named;
+  stays : take (length l.fn.text.items) l.text.items ≡ l.fn.text.items;
   keeps : Keeps l.story l.most l.text.items l.known;
   so_far : left_of (abbreviation l.story) l.most l.text.items (words_of l.words l.bytes) l.named
       ≡ rest_of (abbreviation l.story) l.most l.fn.text.items (words_of l.words l.bytes) l.fn.first;
