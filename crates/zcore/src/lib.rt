@@ -17,6 +17,6 @@ pub use operations::{OpcodeRow, OperandCount};
 pub use place::{Fault, Limit, Place};
 // texts, by the names under which the crates above know them
 pub use ztext::{
-    Abbreviations, MOST_ABBREVIATIONS, TextFault, decode_front, decode_text, encode_text,
-    encode_with, spelling_length, word_key, words_for,
+    Abbreviations, MOST_ABBREVIATIONS, TextFault, append_front, decode_front, decode_text,
+    encode_text, encode_with, spelling_length, word_key, words_for,
 };

@@ -54,9 +54,9 @@ pub struct OpcodeRow {
 /// operands, an opcode's number, its operation, what follows the operands, and the least and the
 /// greatest number of them.
 macro_rules! opcodes {
-    ($write:ident $($asked:tt)*) => {
+    ($write:ident $value:expr) => {
         $write! {
-            ($($asked)*),
+            $value,
             Two {
                 1 JumpIfEqual branching 2 4,
                 2 JumpIfLess branching 2 2,
@@ -135,25 +135,11 @@ macro_rules! opcodes {
 
 /// The row of an operation.
 macro_rules! row_in {
-    (($operation:expr), $($count:ident {
+    ($operation:expr, $($count:ident {
         $($number:literal $name:ident $kind:ident $least:literal $most:literal,)*
     })*) => {
         match $operation {
             $($(Operation::$name => $kind(OperandCount::$count, $number, $least, $most),)*)*
-        }
-    };
-}
-
-/// One column of the row of an operation. To the compiler each column is a table of its own: to ask
-/// for one takes a few host instructions, and a whole row some twenty.
-macro_rules! column_in {
-    (($operation:ident $column:ident), $($count:ident {
-        $($number:literal $name:ident $kind:ident $least:literal $most:literal,)*
-    })*) => {
-        match $operation {
-            $($(Operation::$name => {
-                $kind(OperandCount::$count, $number, $least, $most).$column
-            })*)*
         }
     };
 }
@@ -170,28 +156,28 @@ macro_rules! numbered {
 
 /// The operation with two operands that has a number.
 macro_rules! two_in {
-    (($number:expr), Two { $($row:tt)* } One { $($a:tt)* } Zero { $($b:tt)* } Several { $($c:tt)* }) => {
+    ($number:expr, Two { $($row:tt)* } One { $($a:tt)* } Zero { $($b:tt)* } Several { $($c:tt)* }) => {
         numbered!($number, $($row)*)
     };
 }
 
 /// The operation with one operand that has a number.
 macro_rules! one_in {
-    (($number:expr), Two { $($a:tt)* } One { $($row:tt)* } Zero { $($b:tt)* } Several { $($c:tt)* }) => {
+    ($number:expr, Two { $($a:tt)* } One { $($row:tt)* } Zero { $($b:tt)* } Several { $($c:tt)* }) => {
         numbered!($number, $($row)*)
     };
 }
 
 /// The operation without operands that has a number.
 macro_rules! zero_in {
-    (($number:expr), Two { $($a:tt)* } One { $($b:tt)* } Zero { $($row:tt)* } Several { $($c:tt)* }) => {
+    ($number:expr, Two { $($a:tt)* } One { $($b:tt)* } Zero { $($row:tt)* } Several { $($c:tt)* }) => {
         numbered!($number, $($row)*)
     };
 }
 
 /// The operation with any number of operands that has a number.
 macro_rules! several_in {
-    (($number:expr), Two { $($a:tt)* } One { $($b:tt)* } Zero { $($c:tt)* } Several { $($row:tt)* }) => {
+    ($number:expr, Two { $($a:tt)* } One { $($b:tt)* } Zero { $($c:tt)* } Several { $($row:tt)* }) => {
         numbered!($number, $($row)*)
     };
 }
@@ -210,7 +196,7 @@ impl Operation {
     pub fn operand_count(self) -> OperandCount
         ensures { result ≡ count_of self }
     {
-        opcodes!(column_in self count)
+        self.row().count
     }
 
     /// The number of the operation's opcode, among those of its count.
@@ -219,7 +205,7 @@ impl Operation {
         ensures number { result ≡ number_of self }
         ensures small { result < 32 }
     {
-        opcodes!(column_in self number)
+        self.row().number
     }
 
     /// The least number of operands that the operation takes.
@@ -227,7 +213,7 @@ impl Operation {
     pub fn least_operands(self) -> usize
         ensures { result ≡ table.least_operands self }
     {
-        opcodes!(column_in self least_operands)
+        self.row().least_operands
     }
 
     /// The greatest number of operands that the operation takes.
@@ -235,7 +221,7 @@ impl Operation {
     pub fn most_operands(self) -> usize
         ensures { result ≡ table.most_operands self }
     {
-        opcodes!(column_in self most_operands)
+        self.row().most_operands
     }
 
     /// Whether the operation stores a result.
@@ -243,7 +229,7 @@ impl Operation {
     pub fn has_result(self) -> bool
         ensures { result ≡ table.has_result self }
     {
-        opcodes!(column_in self has_result)
+        self.row().has_result
     }
 
     /// Whether the operation branches.
@@ -251,7 +237,7 @@ impl Operation {
     pub fn has_branch(self) -> bool
         ensures { result ≡ table.has_branch self }
     {
-        opcodes!(column_in self has_branch)
+        self.row().has_branch
     }
 
     /// Whether the operation prints the text that follows it.
@@ -259,7 +245,7 @@ impl Operation {
     pub fn has_text(self) -> bool
         ensures { result ≡ table.has_text self }
     {
-        opcodes!(column_in self has_text)
+        self.row().has_text
     }
 
     /// Whether the operation has a second byte of operand types, so up to eight operands (section
@@ -268,7 +254,7 @@ impl Operation {
     pub fn has_more_types(self) -> bool
         ensures { result ≡ table.has_more_types self }
     {
-        4 < self.most_operands()
+        4 < self.row().most_operands
     }
 
     /// The operation with two operands that has a number, where there is one.
