@@ -36,7 +36,7 @@ impl Machine {
             Err(fault) => return Err(LoadFault::Header(fault)),
         };
         match Store::new(alloc, story, header.static_base) {
-            Ok(store) => Ok((Machine { header, alloc }, store)),
+            Ok(store) => Ok((Machine { header }, store)),
             Err(_) => Err(LoadFault::Memory),
         }
     }

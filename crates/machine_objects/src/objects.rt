@@ -11,8 +11,7 @@ ghost use Rattle.machine_frames.specs.Went.{Went, Told};
 use crate::links::{read_link, test_object};
 use journal::Recorded;
 use machine_frames::{End, Store, read_byte, read_word, store_result, test_result};
-use machine_opcodes::{branch_on, give_result, print_characters, test_branch, text_at};
-use std::alloc::Global;
+use machine_opcodes::{branch_on, give_result, print_address, test_branch};
 use tables::{Link, properties_place};
 use zcore::{Branch, Header, Next};
 
@@ -163,7 +162,6 @@ pub(crate) fn property_table(
 /// end, M10 where the text holds what no text may, the limit of text. `End::Memory` where memory
 /// was refused: the turn is given up.
 pub fn print_object(
-    alloc: Global,
     header: &Header,
     store: &mut Recorded<Store>,
     text: &mut Vec<u8>,
@@ -187,6 +185,5 @@ pub fn print_object(
             fuel: here.fuel,
         });
     }
-    let (characters, _end) = text_at(alloc, store, table as u32 + 1)?;
-    print_characters(store, text, start, here, after, &characters)
+    print_address(store, text, start, here, after, table as u32 + 1)
 }

@@ -1,5 +1,6 @@
--- As much of a text as a turn can print of it.
-use Rattle.std.specs.Prelude.{◌≡◌, ◌≤◌, ℕ, List, length, Vec, Result, Ok, Err}
+-- As much of a text as a turn can print of it, added to a transcript.
+use Rattle.std.specs.Prelude.{◌≡◌, ◌≢◌, ◌≤◌, ℕ, List, length, take, drop, Result, Ok, Err}
+use Rattle.std.specs.List.{All}
 use Rattle.journal.specs.Recording.{Recording}
 use Rattle.zcore.specs.State.{State, Out}
 use Rattle.zcore.specs.Parts.{print}
@@ -12,8 +13,15 @@ pub record StandsFor (characters text : List ℕ) : Type 0 where
   pub few : length characters ≤ 65537
   pub same : (s : State) → print characters s ≡ print text s
 
--- what is answered of a text: characters that stand for it, and the address after it
-abbrev pub ReadsFront : {Z : Type 0} → Result (Vec ℕ Z × ℕ) End → Recording Contents → Recording Contents
+-- Behind a transcript stand characters for a text, as they are. Each has a byte of its own.
+pub record HasAdded (was now text : List ℕ) : Type 0 where
+  pub longer : length was ≤ length now
+  pub stays : take (length was) now ≡ was
+  pub stands : StandsFor (drop (length was) now) text
+  pub bytes : All (λ c. c ≢ 0) (drop (length was) now)
+
+-- a text was added, and the address after it is answered; or nothing was added
+abbrev pub Adds : Result ℕ End → List ℕ → List ℕ → Recording Contents → Recording Contents
     → (State → Out (List ℕ × ℕ)) → Type 0
-ReadsFront (Ok x) old new f = (text : List ℕ) × StandsFor x.0.items text × Went (Ok (text, x.1)) old new f
-ReadsFront (Err end) old new f = Went (Err end) old new f
+Adds (Ok after) was now old new f = (text : List ℕ) × HasAdded was now text × Went (Ok (text, after)) old new f
+Adds (Err end) was now old new f = (now ≡ was) × Went (Err end) old new f

@@ -21,7 +21,7 @@ pub use lines::read;
 pub use memory::{load_byte, load_word, store_byte, store_word, word_address};
 pub use printing::{
     print_address, print_character, print_characters, print_inline, print_number, print_packed,
-    print_return, text_at,
+    print_return,
 };
 pub use transcript::print;
 pub use variables::{

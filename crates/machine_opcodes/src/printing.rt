@@ -3,19 +3,21 @@
 ghost use Rattle.std.specs.Prelude.{◌≡◌, ◌≤◌, ℕ, length};
 ghost use Rattle.zcore.specs.Arithmetic.{signed_text};
 ghost use Rattle.zcore.specs.Execution.{text_at, print_characters, print_inline, print_return, print_address, print_packed, is_output, print_character};
-ghost use Rattle.machine_opcodes.specs.Fronts.{ReadsFront};
+ghost use Rattle.machine_opcodes.specs.Fronts.{Adds};
 ghost use Rattle.machine_opcodes.specs.Printed.{HasBegun, Grew, ToldFrom};
 ghost use Rattle.machine_frames.specs.States.{IsSound, IsStoreOf};
+ghost use Rattle.ztext.specs.Text.{decoded};
+ghost use Rattle.ztext.specs.Faults.{FailsText};
+ghost use Rattle.machine_frames.specs.Contents.{memory_of};
 ghost use Rattle.machine_frames.specs.Went.{Went};
 
 use crate::calls::{give_back, unpacked};
 use crate::numbers::signed_digits;
-use crate::transcript::{TEXT_LIMIT, print};
+use crate::transcript::{TEXT_LIMIT, print, print_added};
 use journal::Recorded;
 use machine_frames::{End, Store, test_return};
-use std::alloc::Global;
 use zcore::layout::NEW_LINE;
-use zcore::{Fault, Header, Next, Place, TextFault, decode_front};
+use zcore::{Fault, Header, Next, Place, TextFault, append_front};
 
 /// Prints characters, and goes on: `new_line` prints 13.
 ///
@@ -51,7 +53,6 @@ pub fn print_characters(
 /// M3 where the text runs past the end, M10 where it holds what no text may, the limit of text.
 /// `End::Memory` where memory was refused: the turn is given up.
 pub fn print_inline(
-    alloc: Global,
     store: &mut Recorded<Store>,
     text: &mut Vec<u8>,
     start: usize,
@@ -64,8 +65,9 @@ pub fn print_inline(
         (print_inline here after) }
     ensures text { Grew start text.old.items text.new.items }
 {
-    let (characters, program_counter) = text_at(alloc, store, after)?;
-    print(store, text, start, &characters)?;
+    let end = text.len();
+    let program_counter = add_text(store, text, after)?;
+    print_added(text, start, end)?;
     Ok(Next {
         program_counter,
         fuel: here.fuel,
@@ -79,7 +81,6 @@ pub fn print_inline(
 /// M3 where the text runs past the end, M10 where it holds what no text may, then the faults of a
 /// return, the limit of text. `End::Memory` where memory was refused: the turn is given up.
 pub fn print_return(
-    alloc: Global,
     header: &Header,
     store: &mut Recorded<Store>,
     text: &mut Vec<u8>,
@@ -93,9 +94,16 @@ pub fn print_return(
         (print_return here after) }
     ensures text { Grew start text.old.items text.new.items }
 {
-    let (characters, _end) = text_at(alloc, store, after)?;
-    test_return(store)?;
-    print(store, text, start, &characters)?;
+    let end = text.len();
+    let _behind = add_text(store, text, after)?;
+    match test_return(store) {
+        Ok(_) => {}
+        Err(e) => {
+            text.truncate(end);
+            return Err(e);
+        }
+    }
+    print_added(text, start, end)?;
     print(store, text, start, &[NEW_LINE])?;
     give_back(header, store, here.fuel, 1)
 }
@@ -107,13 +115,12 @@ pub fn print_return(
 /// M3 where the text runs past the end, M10 where it holds what no text may, the limit of text.
 /// `End::Memory` where memory was refused: the turn is given up.
 pub fn print_address(
-    alloc: Global,
     store: &mut Recorded<Store>,
     text: &mut Vec<u8>,
     start: usize,
     here: Next,
     after: u32,
-    address: u16,
+    address: u32,
 ) -> Result<Next, End>
     requires sound { IsSound store.old.store }
     requires text { HasBegun start text.old.items }
@@ -121,8 +128,13 @@ pub fn print_address(
         (print_address here after address) }
     ensures text { Grew start text.old.items text.new.items }
 {
-    let (characters, _end) = text_at(alloc, store, address as u32)?;
-    print_characters(store, text, start, here, after, &characters)
+    let end = text.len();
+    let _behind = add_text(store, text, address)?;
+    print_added(text, start, end)?;
+    Ok(Next {
+        program_counter: after,
+        fuel: here.fuel,
+    })
 }
 
 /// Prints the text at a packed address: `print_paddr`.
@@ -132,7 +144,6 @@ pub fn print_address(
 /// M3 where the text runs past the end, M10 where it holds what no text may, the limit of text.
 /// `End::Memory` where memory was refused: the turn is given up.
 pub fn print_packed(
-    alloc: Global,
     header: &Header,
     store: &mut Recorded<Store>,
     text: &mut Vec<u8>,
@@ -147,8 +158,8 @@ pub fn print_packed(
         (print_packed here after packed) }
     ensures text { Grew start text.old.items text.new.items }
 {
-    let (characters, _end) = text_at(alloc, store, unpacked(header, packed))?;
-    print_characters(store, text, start, here, after, &characters)
+    let address = unpacked(header, packed);
+    print_address(store, text, start, here, after, address)
 }
 
 /// Prints a character: `print_char`.
@@ -209,30 +220,44 @@ fn is_output(character: u16) -> bool
     character == 0 || character == 13 || (32 <= character && character <= 126)
 }
 
-/// The text at an address, and the address after it. Of a text that is longer than a turn may
-/// print, only so many characters are answered that it passes the limit: one of long abbreviations
-/// can have more than memory holds.
+/// Adds the text at an address to the transcript as it is, to be printed by `print_added`, and
+/// answers the address after it. Of a text that is longer than a turn may print, only so many
+/// characters are added that it passes the limit: one of long abbreviations can have more than
+/// memory holds.
 ///
 /// # Errors
 ///
 /// M3 where it does not end in the story, M10 where it has a character that cannot be printed or an
 /// abbreviation within another. `End::Memory` where memory was refused: the turn is given up.
-pub fn text_at(
-    alloc: Global,
-    store: &mut Recorded<Store>,
-    address: u32,
-) -> Result<(Vec<u8>, u32), End>
+/// Nothing is added then.
+fn add_text(store: &mut Recorded<Store>, text: &mut Vec<u8>, address: u32) -> Result<u32, End>
     requires { IsSound store.old.store }
-    ensures { ReadsFront result store.old store.new (text_at address) }
+    ensures { Adds result text.old.items text.new.items store.old store.new (text_at address) }
 {
-    match decode_front(alloc, store.store().memory(), address, TEXT_LIMIT + 1) {
-        Ok(text) => Ok(text),
-        Err(TextFault::End) => Err(End::Stop(Place::Fault(Fault::Read))),
-        Err(TextFault::Memory) => {
-            store.abandon();
-            Err(End::Memory)
+    let end = text.len();
+    let most = end + TEXT_LIMIT + 1;
+    match append_front(text, store.store().memory(), address, most) {
+        Ok(after) => Ok(after),
+        Err(fault) => {
+            text.truncate(end);
+            Err(unread(store, fault))
         }
-        Err(TextFault::Character) => Err(End::Stop(Place::Fault(Fault::Character))),
-        Err(TextFault::Abbreviation) => Err(End::Stop(Place::Fault(Fault::Character))),
+    }
+}
+
+/// How the turn ends where a text cannot be read: where memory was refused, it is given up.
+fn unread(store: &mut Recorded<Store>, fault: TextFault) -> End
+    requires { IsSound store.old.store }
+    ensures { (address : _) → FailsText fault (decoded (memory_of store.old.store) address)
+        → Went (Err result) store.old store.new (text_at address) }
+{
+    match fault {
+        TextFault::End => End::Stop(Place::Fault(Fault::Read)),
+        TextFault::Memory => {
+            store.abandon();
+            End::Memory
+        }
+        TextFault::Character => End::Stop(Place::Fault(Fault::Character)),
+        TextFault::Abbreviation => End::Stop(Place::Fault(Fault::Character)),
     }
 }

@@ -1,9 +1,7 @@
 use Rattle.std.proofs.Common.{refl}
 use Rattle.std.proofs.lemmas.Bool.{eq-eqb, ne_eqb}
-use Rattle.zcore.specs.Effects.{print_address}
 use Rattle.zcore.specs.Objects.{print_object}
 use Rattle.machine_frames.proofs.Steps.{went_then, went_no_further, told_went, told_then, told_err, told_still}
-use Rattle.machine_opcodes.proofs.Fronts.{characters_for}
 use Rattle.machine_objects.proofs.objects.print_object.Goals as goal
 
 pub returns-in_err-test_object-clause-told : goal.returns-in_err-test_object-clause-told
@@ -33,22 +31,10 @@ returns-then-words-eq0-clause-told c =
     (told_then _ (told_went _ _ c.in_ok-words.ensures)
     (rw (eq-eqb _ 0 c.if-words-eq0.true) (told_still _ _ _ c.requires.store.sound refl))))
 
-pub returns-in_err-characters-clause-told : goal.returns-in_err-characters-clause-told
-unfolding print_object print_address
-returns-in_err-characters-clause-told c =
-    told_err _ c.from_residual-in_err-characters.ensures.1
-    (told_then _ (told_went _ _ c.in_ok-test_object.ensures.tested)
-    (told_then _ (told_went _ _ c.in_ok-table.ensures)
-    (told_then _ (told_went _ _ c.in_ok-words.ensures)
-    (rw (ne_eqb _ 0 c.if-words-eq0.false) (told_went _ _ (went_no_further _ c.in_err-characters.ensures))))))
-
 pub returns-clause-told : goal.returns-clause-told
-unfolding print_object print_address
+unfolding print_object
 returns-clause-told c =
     told_then _ (told_went _ _ c.in_ok-test_object.ensures.tested)
     (told_then _ (told_went _ _ c.in_ok-table.ensures)
     (told_then _ (told_went _ _ c.in_ok-words.ensures)
-    (rw (ne_eqb _ 0 c.if-words-eq0.false)
-    (told_then _ (told_went _ _ c.in_ok-characters.ensures.2)
-    (characters_for _ _ _ _ _ c.deref.ensures.value c.in_ok-characters.ensures.1
-    c.print_characters.ensures.told)))))
+    (rw (ne_eqb _ 0 c.if-words-eq0.false) c.print_address.ensures.told)))

@@ -2,7 +2,7 @@ use Rattle.std.proofs.Common.{take, drop, Ok}
 use Rattle.zcore.specs.Parts.{print}
 use Rattle.machine_opcodes.specs.Printed.{Grew}
 use Rattle.machine_frames.specs.Went.{Told}
-use Rattle.machine_opcodes.proofs.transcript.print_each.Given as goal
+use Rattle.machine_opcodes.proofs.transcript.print.Given as goal
 
 abbrev pub invariant-loop-character : goal.invariant-loop-character
 invariant-loop-character l = record {

@@ -3,7 +3,7 @@ use Rattle.std.proofs.lemmas.List.{length-drop}
 use Rattle.machine_opcodes.proofs.Transcripts.{prints_none, prints_all, print_more, print_stop, grew_still, grew_after}
 use Rattle.machine_opcodes.proofs.Transcripts.{begun_after}
 use Rattle.machine_frames.proofs.Steps.{told_sound, told_err}
-use Rattle.machine_opcodes.proofs.transcript.print_each.Goals as goal
+use Rattle.machine_opcodes.proofs.transcript.print.Goals as goal
 
 pub loop-character-init : goal.loop-character-init
 loop-character-init c =
