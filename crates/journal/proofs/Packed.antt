@@ -121,13 +121,6 @@ bytes_read c row p count ge is =
     ap (λ (t : ℕ). page_unpacked p count (take t row)) (packed_len_bytes p count ge)
     ∙ unpacked_bytes p count (take count row) ge ∙ is
 
--- a record holds no more for a page than an array has room for
-pub packed_len-le : (p count : ℕ) → count ≤ 64 → packed_len p count ≤ 128
-packed_len-le p count le = elim (cases_lt p 1134) as (λ _. packed_len p count ≤ 128) [
-  | inl lt ↦ omega (arith, packed_len_words p count lt, le)
-  | inr ge ↦ omega (arith, packed_len_bytes p count ge, le)
-]
-
 -- what a vector has behind an append that is not refused
 pub appended : {T E : Type 0} (r : Result T E) (new was part : List ℕ)
     → new ≡ (if is_ok r then was ++ part else was) → OnOk r (new ≡ was ++ part)
@@ -135,11 +128,11 @@ appended (Ok v) new was part is = is
 appended (Err e) new was part is = tt
 
 -- one more page
-pub added : (p count width : ℕ) (was now row values : List ℕ) → count ≤ 64 → length row ≡ 128
+pub added : (p count width : ℕ) (was now row values : List ℕ) → width ≤ length row
     → width ≡ packed_len p count → length values ≡ count
     → page_unpacked p count (take (packed_len p count) row) ≡ values → now ≡ was ++ take width row
     → IsAdded p was now values
-added p count width was now row values le long wide size are is =
+added p count width was now row values long wide size are is =
     let part : List ℕ = take width row in
     let behind : drop (length was) now ≡ part = ap (λ (t : List ℕ). drop (length was) t) is
     ∙ drop_at was part (length was) refl in
@@ -147,7 +140,7 @@ added p count width was now row values le long wide size are is =
     record {
       front = is ∙ ap (λ (t : List ℕ). was ++ t) (sym behind);
       size = ap (λ (t : List ℕ). length t) behind
-          ∙ length-take-le width row (omega (arith, wide, long, packed_len-le p count le)) ∙ wide
+          ∙ length-take-le width row long ∙ wide
           ∙ ap (λ (t : ℕ). packed_len p t) (sym size);
       values_are = ap (λ (t : ℕ). page_unpacked p t (drop (length was) now)) size
           ∙ ap (λ (t : List ℕ). page_unpacked p count t) (behind ∙ part_is) ∙ are;

@@ -2,7 +2,7 @@
 //! each cell of any other page.
 
 ghost use Rattle.std.specs.Prelude.{◌≡◌, ℕ, ◌*◌, ◌+◌, ◌<◌, ◌≤◌, length, slice_index, take};
-ghost use Rattle.journal.specs.Pages.{packed_len, page_unpacked, page_values, whole_page, word_at, word_pages};
+ghost use Rattle.journal.specs.Pages.{packed_len, page_values, whole_page, word_at, word_pages};
 ghost use Rattle.journal.specs.Stores.{IsPageWithin};
 
 use crate::cells::Cells;
@@ -64,32 +64,11 @@ pub(crate) fn pack(words: &[u16; PAGE], count: usize, packed: &mut [u8])
     }
 }
 
-/// Writes the values of the first cells of a page to the front of an array, as a record holds them.
-#[inline(always)]
-pub(crate) fn read_packed<C: Cells>(
-    store: &C,
-    page: usize,
-    count: usize,
-    row: &mut [u8; PAGE_BYTES],
-)
-    requires cells { page * whole_page + count ≤ length (C.cells store.now) }
-    requires page { count ≤ whole_page }
-    ensures read { page_unpacked page count (take (packed_len page count) row.new)
-        ≡ page_values (C.cells store.now) page count }
-    ensures within { IsPageWithin C.Cells store.now page count }
-{
-    if page < WORD_PAGES {
-        read_words(store, page, count, row);
-    } else {
-        read_bytes(store, page, count, row);
-    }
-}
-
 /// Writes the words of the first cells of a page to the front of an array, two bytes for each. The
 /// loop ends by `!=`: where the compiler knows that the offsets are below `PAGE`, it drops the
 /// remainder in `cell_of` before it has used it.
 #[inline(always)]
-fn read_words<C: Cells>(store: &C, page: usize, count: usize, row: &mut [u8; PAGE_BYTES])
+pub(crate) fn read_words<C: Cells>(store: &C, page: usize, count: usize, row: &mut [u8; 2 * PAGE])
     requires cells { page * whole_page + count ≤ length (C.cells store.now) }
     requires page { count ≤ whole_page }
     ensures read { (k : ℕ) → k < count
@@ -109,7 +88,7 @@ fn read_words<C: Cells>(store: &C, page: usize, count: usize, row: &mut [u8; PAG
 /// Writes the first cells of a page of bytes to the front of an array. The loop ends by `!=`: see
 /// `read_words`.
 #[inline(always)]
-fn read_bytes<C: Cells>(store: &C, page: usize, count: usize, row: &mut [u8; PAGE_BYTES])
+pub(crate) fn read_bytes<C: Cells>(store: &C, page: usize, count: usize, row: &mut [u8; PAGE])
     requires bytes { word_pages ≤ page }
     requires cells { page * whole_page + count ≤ length (C.cells store.now) }
     requires page { count ≤ whole_page }

@@ -8,6 +8,8 @@ ghost use Rattle.journal.specs.Stores.{FitsIn, GoesBack, GoesForward, swapped};
 
 use crate::cells::Cells;
 use crate::packing::{WORD_PAGES, pack, packed_size, unpack};
+use crate::recorded::FIRST_PAGES;
+use smallvec::SmallVec;
 use std::marker::Model;
 
 /// How many cells a whole page has. Page n of a store is its cells 64n to 64n + 63, as far as they
@@ -22,7 +24,7 @@ pub struct Record {
     len: usize,
 
     /// The pages, in the order in which they were first written. No page stands twice.
-    pages: Vec<u32>,
+    pages: SmallVec<u32, FIRST_PAGES>,
 
     /// The pages' values, one page behind the other: of a page of bytes a byte for each cell, of
     /// any other two, the low one first.
@@ -42,7 +44,7 @@ impl Model for Record {
 
 impl Record {
     /// A record of these pages of a store of `len` cells, with their values.
-    pub(crate) fn of(len: usize, pages: Vec<u32>, packed: Vec<u8>) -> Record
+    pub(crate) fn of(len: usize, pages: SmallVec<u32, FIRST_PAGES>, packed: Vec<u8>) -> Record
         requires { IsPaged len pages.items packed.items }
         ensures { result ≡ entries_of len pages.items packed.items }
     {
@@ -54,7 +56,7 @@ impl Record {
     pub fn cells(&self) -> usize
         ensures { result ≡ length self.now }
     {
-        cell_count(self.len, &self.pages)
+        cell_count(self.len, self.pages.as_slice())
     }
 }
 
@@ -71,7 +73,7 @@ pub fn swap_back<C: Cells>(store: &mut C, turn: &mut Record)
     ensures bounds { C.bounds store.new ≡ C.bounds store.old }
     ensures fixed { C.fixed store.new ≡ C.fixed store.old }
 {
-    go_back(store, turn.len, &turn.pages, &mut turn.packed);
+    go_back(store, turn.len, turn.pages.as_slice(), &mut turn.packed);
 }
 
 /// Does a turn again that was taken back: exchanges the turn's values with the store's, from the
@@ -87,7 +89,7 @@ pub fn swap_forward<C: Cells>(store: &mut C, turn: &mut Record)
     ensures bounds { C.bounds store.new ≡ C.bounds store.old }
     ensures fixed { C.fixed store.new ≡ C.fixed store.old }
 {
-    go_forward(store, turn.len, &turn.pages, &mut turn.packed);
+    go_forward(store, turn.len, turn.pages.as_slice(), &mut turn.packed);
 }
 
 /// How many cells pages have, in a store of `len` cells.

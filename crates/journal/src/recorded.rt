@@ -1,18 +1,18 @@
 //! A store whose writes are recorded by pages, turn by turn.
 
-ghost use Rattle.std.specs.Prelude.{◌≡◌, ◌≢◌, ℕ, ◌+◌, ◌*◌, ◌/◌, ◌<◌, ◌≤◌, true, false, [], ◌∷◌, ◌++◌, map, length, take, AllPairs, slice_set, slice_index, slice_index_or, OnOk, OnErr, IsOk};
+ghost use Rattle.std.specs.Prelude.{◌≡◌, ◌≢◌, ◌+◌, ◌*◌, ◌/◌, ◌<◌, ◌≤◌, true, false, [], ◌∷◌, ◌++◌, map, length, take, AllPairs, slice_index, OnOk, OnErr, IsOk};
 ghost use Rattle.std.specs.Borrow.{sem, Lends};
-ghost use Rattle.std.specs.List.{range_with_len};
 ghost use Rattle.journal.specs.contracts.recorded.Recorded.{the_row};
 ghost use Rattle.journal.specs.Recording.{IsNothingKept};
 ghost use Rattle.journal.specs.Swap.{back, entry_cells, entry_values};
-ghost use Rattle.journal.specs.Pages.{IsAdded, IsMarked, keeps, page_len, page_values, with_page, whole_page};
+ghost use Rattle.journal.specs.Pages.{IsAdded, IsMarked, keeps, page_values, with_page, whole_page};
 ghost use Rattle.journal.specs.Stores.{FitsIn, IsPageWithin, Writes, begun, kept_cells};
 
 use crate::cells::Cells;
-use crate::packing::{PAGE_BYTES, packed_size, read_packed};
+use crate::packing::{PAGE_BYTES, WORD_PAGES, read_bytes, read_words};
 use crate::page_flags::PageFlags;
 use crate::record::{PAGE, Record, cell_of, go_back, page_size};
+use smallvec::SmallVec;
 use std::alloc::{AllocError, Global};
 use std::marker::Model;
 use std::mem;
@@ -23,9 +23,9 @@ use thiserror::Error;
 #[error("J1")]
 pub struct NoMemory;
 
-/// For how many pages a turn makes room when it keeps the first: a turn that reads a line and
-/// prints keeps three.
-const FIRST_PAGES: usize = 4;
+/// For how many pages a turn has room when it keeps the first: a turn that reads a line and prints
+/// keeps four. Their numbers stand in place, and their values are asked for all at once.
+pub(crate) const FIRST_PAGES: usize = 4;
 
 /// A store whose writes are recorded, turn by turn. Before the first write of a turn to a page, the
 /// whole page is kept as it was when the turn began. A turn is ended by `close`, which hands out
@@ -38,7 +38,7 @@ pub struct Recorded<C: Cells> {
     flags: PageFlags,
 
     /// The kept pages, in the order in which they were first written.
-    pages: Vec<u32>,
+    pages: SmallVec<u32, FIRST_PAGES>,
 
     /// The kept pages' values, one page behind the other, as a record holds them.
     packed: Vec<u8>,
@@ -77,7 +77,7 @@ impl<C: Cells> Recorded<C> {
         Recorded {
             store,
             flags: PageFlags::new(alloc),
-            pages: Vec::new(alloc),
+            pages: SmallVec::new(alloc),
             packed: Vec::new(alloc),
             alloc,
         }
@@ -206,8 +206,8 @@ impl<C: Cells> Recorded<C> {
     {
         let alloc = self.alloc;
         let len = self.store.len();
-        unmark(&mut self.flags, &self.pages);
-        let pages = mem::replace(&mut self.pages, Vec::new(alloc));
+        unmark(&mut self.flags, self.pages.as_slice());
+        let pages = mem::replace(&mut self.pages, SmallVec::new(alloc));
         let packed = mem::replace(&mut self.packed, Vec::new(alloc));
         Record::of(len, pages, packed)
     }
@@ -225,8 +225,9 @@ impl<C: Cells> Recorded<C> {
         ensures fixed { C.fixed self.new.store ≡ C.fixed self.old.store }
     {
         let len = self.store.len();
-        go_back(&mut self.store, len, &self.pages, &mut self.packed);
-        unmark(&mut self.flags, &self.pages);
+        let pages = self.pages.as_slice();
+        go_back(&mut self.store, len, pages, &mut self.packed);
+        unmark(&mut self.flags, pages);
         self.pages.clear();
         self.packed.clear();
     }
@@ -244,9 +245,9 @@ impl<C: Cells> Recorded<C> {
 }
 
 /// Appends the values of the first cells of a page, as a record holds them. At `Err` nothing is
-/// appended. They are gathered in an array first, since a loop that writes to a vector behind a
-/// reference takes twice the time. Room for the first page is room for `FIRST_PAGES`, as few turns
-/// keep less.
+/// appended. Room for the first page is room for `FIRST_PAGES`, as few turns keep less. All pages
+/// but the last are whole: of these the compiler knows how much it copies, and needs no call for
+/// it.
 fn copy_page<C: Cells>(
     store: &C,
     page: usize,
@@ -260,12 +261,41 @@ fn copy_page<C: Cells>(
     ensures within { OnOk result (IsPageWithin C.Cells store.now page count) }
     ensures err { OnErr result (packed.new.items ≡ packed.old.items) }
 {
-    let mut row = [0; PAGE_BYTES];
-    read_packed(store, page, count, &mut row);
     if packed.is_empty() {
         packed.reserve(FIRST_PAGES * PAGE_BYTES)?;
     }
-    packed.extend_from_slice(&row[..packed_size(page, count)])
+    if count == PAGE {
+        copy_cells(store, page, PAGE, packed)
+    } else {
+        copy_cells(store, page, count, packed)
+    }
+}
+
+/// The same, with no room beyond what is needed. The values are gathered in an array first, since a
+/// loop that writes to a vector behind a reference takes twice the time.
+#[inline(always)]
+fn copy_cells<C: Cells>(
+    store: &C,
+    page: usize,
+    count: usize,
+    packed: &mut Vec<u8>,
+) -> Result<(), AllocError>
+    requires cells { page * whole_page + count ≤ length (C.cells store.now) }
+    requires page { count ≤ whole_page }
+    ensures ok { OnOk result (IsAdded page packed.old.items packed.new.items
+        (page_values (C.cells store.now) page count)) }
+    ensures within { OnOk result (IsPageWithin C.Cells store.now page count) }
+    ensures err { OnErr result (packed.new.items ≡ packed.old.items) }
+{
+    if page < WORD_PAGES {
+        let mut row = [0; 2 * PAGE];
+        read_words(store, page, count, &mut row);
+        packed.extend_from_slice(&row[..2 * count])
+    } else {
+        let mut row = [0; PAGE];
+        read_bytes(store, page, count, &mut row);
+        packed.extend_from_slice(&row[..count])
+    }
 }
 
 /// Clears the flags of the pages, which are all that are set.

@@ -8,7 +8,7 @@ use Rattle.journal.proofs.record.Record.cells.Goals as goal
 pub cell_count-requires-clause-within : goal.cell_count-requires-clause-within
 cell_count-requires-clause-within c =
     let n : ℕ = c.self.inside.len in
-    subst (λ (t : List ℕ). length (cells_of n t) ≤ n) (sym c.deref.ensures.value)
+    subst (λ (t : List ℕ). length (cells_of n t) ≤ n) (sym c.as_slice.ensures)
     (length-cells_of-le n c.self.inside.pages.items c.self.invariant.distinct)
 
 pub returns : goal.returns
@@ -20,5 +20,5 @@ returns c =
     c.self.invariant.size in
     let e = length-entries (cells_of n pages) values long in
     let view = ap (λ t. length t) c.self.view_is in
-    let there = ap (λ (t : List ℕ). length (cells_of n t)) c.deref.ensures.value in
+    let there = ap (λ (t : List ℕ). length (cells_of n t)) c.as_slice.ensures in
     omega (arith, e, long, view, there, c.cell_count.ensures)
