@@ -1,12 +1,14 @@
 -- What a turn makes of the fields of a session.
 use Rattle.std.proofs.Common.{◌≡◌, ℕ, ◌+◌, ◌≤◌, List, [], ◌∷◌, ◌++◌, length, get_or, take, drop, map, refl, ap}
-use Rattle.std.proofs.Common.{sym, ◌∙◌, subst, arith, Option, Some, Ok, add-one, inl, inr}
+use Rattle.std.proofs.Common.{sym, ◌∙◌, subst, arith, Option, Some, Result, Ok, Err, add-one, inl, inr}
+use Rattle.std.specs.Result.{OnErr}
 use Rattle.std.specs.List.{All}
 use Rattle.std.proofs.lemmas.List.{take-map, map_push, length-map, length-take-le, length_push, get_or-take}
 use Rattle.std.proofs.lemmas.List.{get_or_append_left, get_or_push}
 use Rattle.std.proofs.Math.Nat.{eq-or-lt_of_le}
 use Rattle.journal.specs.Recording.{Recording, IsNothingKept}
 use Rattle.journal.specs.Swap.{back, Fits}
+use Rattle.journal.proofs.Held.{same_recording}
 use Rattle.zcore.specs.declared.header.Header.{Header}
 use Rattle.zcore.specs.declared.next.Next.{Next}
 use Rattle.zcore.specs.declared.place.Place.{Place}
@@ -18,7 +20,8 @@ use Rattle.zcore.proofs.Turning.{turns_is}
 use Rattle.machine_frames.specs.Contents.{Contents, bound_of}
 use Rattle.machine_frames.specs.Playing.{IsWaiting, whole_of, Follows, Answers}
 use Rattle.machine_frames.specs.States.{play_of, IsStoreOf}
-use Rattle.machine_frames.proofs.Steps.{store_after}
+use Rattle.machine_frames.specs.Went.{GivenUp, GoesOn}
+use Rattle.machine_frames.proofs.Steps.{given_up_after, store_after}
 use Rattle.machine.specs.Ended.{TurnEnds}
 use Rattle.session.specs.declared.turns.Turn.{Turn}
 use Rattle.session.specs.Session.{Session, largest_record}
@@ -236,17 +239,37 @@ pub store_size : (header : Header) (s : Contents) → IsStoreOf header s
     → length s.cells ≡ largest_record header.static_base
 store_size header s h = h.sound.size ∙ ap (λ n. 72559 + n) (sym h.headed.static_base)
 
--- what `turn` and `close` say, as a turn that was played
-pub played : (header : Header) (old mid new : Recording Contents) (line : List ℕ) (units : ℕ) (t : Turn)
+-- a text that begins with a line, as it is kept
+kept_text : (before text bytes line : List ℕ) (n : ℕ) → before ≡ line → n ≡ length line → bytes ≡ text
+    → drop (length before) text ≡ drop n bytes
+kept_text before text bytes line n is size all =
+    ap (λ (x : List ℕ). drop (length x) text) is ∙ ap (λ (k : ℕ). drop k text) (sym size)
+    ∙ ap (λ (x : List ℕ). drop n x) (sym all)
+
+kept_line : (before text bytes line : List ℕ) (n : ℕ) → before ≡ line → n ≡ length line → bytes ≡ text
+    → take (length before) text ≡ before → take n bytes ≡ line
+kept_line before text bytes line n is size all front =
+    ap (λ (k : ℕ). take k bytes) size ∙ ap (λ (x : List ℕ). take (length line) x) all
+    ∙ ap (λ (x : List ℕ). take (length x) text) (sym is) ∙ front ∙ is
+
+-- what `turn`, `keep_written` and `close` say, as a turn that was played
+pub played : (header : Header) (old ran mid new : Recording Contents) (line : List ℕ) (units : ℕ) (t : Turn)
     (before text : List ℕ) → IsStoreOf header old.store
-    → TurnEnds (Answers line old.store units) old before mid text (Ok t.place)
-    → drop (length before) text ≡ (text_of t.written) → (line_of t.written) ≡ line → old.beginning ≡ old.store.cells
+    → TurnEnds (Answers line old.store units) old before ran text (Ok t.place) → mid ≡ ran → before ≡ line
+    → t.written.line ≡ length line → t.written.bytes.items ≡ text → old.beginning ≡ old.store.cells
     → (back mid.store.cells t.overwritten).cells ≡ mid.beginning
     → Fits (length mid.store.cells) bound_of t.overwritten
     → length t.overwritten ≤ length mid.store.cells
     → new ≡ record { store = mid.store; beginning = mid.store.cells; kept = [] }
     → IsPlayed header old new line units t
-played header old mid new line units t before text o ends words is begun was fits small e =
+played header old ran mid new line units t before text o ended same first long all begun was fits small e =
+    let ends : TurnEnds (Answers line old.store units) old before mid text (Ok t.place) =
+    subst (λ (r : Recording Contents). TurnEnds (Answers line old.store units) old before r text (Ok t.place))
+    (sym same) ended in
+    let words : drop (length before) text ≡ text_of t.written =
+    kept_text before text t.written.bytes.items line t.written.line first long all in
+    let is : line_of t.written ≡ line =
+    kept_line before text t.written.bytes.items line t.written.line first long all ends.front in
     let store : IsStoreOf header mid.store = store_after o ends.goes_on in
     let size : length mid.store.cells ≡ largest_record header.static_base = store_size header mid.store store in
     let result : IsPlayed header old (record { store = mid.store; beginning = mid.store.cells; kept = [] }) line
@@ -264,3 +287,36 @@ played header old mid new line units t before text o ends words is begun was fit
       begun = refl;
     } in
     subst (λ r. IsPlayed header old r line units t) (sym e) result
+
+-- a turn that is given up leaves the store as it was between turns
+as_before : (old new : Recording Contents) → GivenUp old new → old.beginning ≡ old.store.cells → IsNothingKept old
+    → new ≡ old
+as_before old new g begun idle =
+    let cells : new.store.cells ≡ old.store.cells = g.cells ∙ begun in
+    let store : new.store ≡ old.store =
+    ap {A = List ℕ} {B = Contents} (λ x. record { cells = x; fixed = new.store.fixed }) cells
+    ∙ ap {A = List ℕ} {B = Contents} (λ x. record { cells = old.store.cells; fixed = x }) g.fixed in
+    same_recording new.store old.store new.beginning old.beginning new.kept old.kept store g.beginning
+    (g.kept ∙ sym idle)
+
+pub given_up_between : (header : Header) (old ran new : Recording Contents) (first : Place) (turns more : List Turn)
+    (k : ℕ) → IsBetweenTurns header old first turns k → GoesOn old ran → GivenUp ran new → more ≡ turns
+    → IsBetweenTurns header new first more k
+given_up_between header old ran new first turns more k i on g e =
+    subst (λ (ts : List Turn). IsBetweenTurns header new first ts k) (sym e)
+    (subst (λ (r : Recording Contents). IsBetweenTurns header r first turns k)
+    (sym (as_before old new (given_up_after on g) i.begun i.idle)) i)
+
+pub given_up_view : (keep : Option ℕ) (units : ℕ) (header : Header) (opening : List ℕ)
+    (old ran new : Recording Contents) (first : Place) (turns more : List Turn) (k : ℕ) (given_up : List ℕ)
+    (v : Session) → IsBetweenTurns header old first turns k → GoesOn old ran → GivenUp ran new → more ≡ turns
+    → view_of keep units header opening old.store first turns k given_up ≡ v
+    → view_of keep units header opening new.store first more k given_up ≡ v
+given_up_view keep units header opening old ran new first turns more k given_up v i on g e is =
+    ap (λ (ts : List Turn). view_of keep units header opening new.store first ts k given_up) e
+    ∙ ap (λ (r : Recording Contents). view_of keep units header opening r.store first turns k given_up)
+    (as_before old new (given_up_after on g) i.begun i.idle) ∙ is
+
+pub at_err : {A E : Type 0} {P : Type 0} (result : Result A E) → P → OnErr result P
+at_err (Ok a) p = tt
+at_err (Err e) p = p

@@ -18,7 +18,7 @@ ghost use Rattle.session.specs.contracts.session.Session.{the_row};
 
 use crate::fault::OpenFault;
 use crate::reply::Reply;
-use crate::turns::{Turn, do_again, make_room, put_turn, take_back};
+use crate::turns::{Turn, begin_text, do_again, keep_written, put_turn, take_back};
 use crate::typable::is_typable;
 use crate::written::Written;
 use journal::{NoMemory, Recorded};
@@ -58,6 +58,9 @@ pub struct Session {
 
     /// The line and the text of the turn that was given up last.
     given_up: Written,
+
+    /// Where a line and what its turn prints are gathered, before the turn is kept.
+    gathered: Vec<u8>,
 
     /// Where lines, texts and turns come from.
     alloc: Global,
@@ -124,6 +127,7 @@ impl Session {
                     fuel,
                     keep,
                     given_up: Written::none(alloc),
+                    gathered: Vec::new(alloc),
                     alloc,
                 })
             }
@@ -258,15 +262,13 @@ impl Session {
         ensures turned { OnOk result (Turned line.now self.old self.new) }
         ensures same { OnErr result (self.new ≡ self.old) }
     {
-        let mut bytes = make_room(self.alloc, &mut self.turns, line)?;
+        begin_text(&mut self.turns, &mut self.gathered, line)?;
         let place = self
             .machine
-            .turn(Some(line), self.fuel, &mut self.store, &mut bytes)?;
+            .turn(Some(line), self.fuel, &mut self.store, &mut self.gathered)?;
+        let written = keep_written(self.alloc, &mut self.store, &self.gathered, line.len())?;
         let turn = Turn {
-            written: Written {
-                bytes,
-                line: line.len(),
-            },
+            written,
             place,
             overwritten: self.store.close(),
         };

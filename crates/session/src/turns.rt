@@ -1,15 +1,17 @@
 //! Turns that a session keeps.
 
-ghost use Rattle.std.specs.Prelude.{◌≡◌, ◌<◌, ◌≤◌, ◌++◌, ◌∷◌, [], length, take, IfOk, OnOk};
+ghost use Rattle.std.specs.Prelude.{◌≡◌, ◌<◌, ◌≤◌, ◌++◌, ◌∷◌, [], length, take, IfOk, OnErr, OnOk};
 ghost use Rattle.std.specs.VecDeque.{deque_len, deque_capacity};
 ghost use Rattle.journal.specs.Recording.{IsNothingKept};
 ghost use Rattle.journal.specs.Swap.{back, forward, Fits};
 ghost use Rattle.machine_frames.specs.Contents.{bound_of};
+ghost use Rattle.machine_frames.specs.Went.{GivenUp};
 ghost use Rattle.session.specs.Inside.{Swaps};
 
 use crate::written::Written;
 use journal::{NoMemory, Record, Recorded, swap_back, swap_forward};
 use machine::Store;
+use smallvec::SmallVec;
 use std::alloc::Global;
 use std::collections::VecDeque;
 use zcore::Place;
@@ -55,30 +57,49 @@ pub(crate) fn do_again(store: &mut Recorded<Store>, turn: &mut Turn)
     swap_forward(store.store_mut(), &mut turn.overwritten);
 }
 
-/// For how many bytes of a turn's text there is room behind its line at once: a turn that prints a
-/// few words asks for no more.
-const TEXT_ROOM: usize = 28;
-
-/// A copy of a line, with room behind it, and room for one more turn. At `Err` memory was refused.
-pub(crate) fn make_room(
-    alloc: Global,
+/// Begins a text with a line, and makes room for one more turn. At `Err` memory was refused.
+pub(crate) fn begin_text(
     turns: &mut VecDeque<Turn>,
+    text: &mut Vec<u8>,
     line: &[u8],
-) -> Result<Vec<u8>, NoMemory>
-    ensures copy { IfOk result (λ copy. copy.items ≡ line.now) }
+) -> Result<(), NoMemory>
+    ensures line { OnOk result (text.new.items ≡ line.now) }
     ensures room { OnOk result (deque_len turns.new < deque_capacity turns.new) }
     ensures items { turns.new.items ≡ turns.old.items }
 {
-    let Ok(mut copy) = Vec::with_capacity(alloc, line.len().saturating_add(TEXT_ROOM)) else {
-        return Err(NoMemory);
-    };
-    if copy.extend_from_slice(line).is_err() {
+    text.clear();
+    if text.extend_from_slice(line).is_err() {
         return Err(NoMemory);
     }
     if turns.reserve(1).is_err() {
         return Err(NoMemory);
     }
-    Ok(copy)
+    Ok(())
+}
+
+/// A line of so many bytes, and the text of its turn behind it, as they are kept.
+///
+/// # Errors
+///
+/// Memory was refused: the turn is given up.
+pub(crate) fn keep_written(
+    alloc: Global,
+    store: &mut Recorded<Store>,
+    gathered: &[u8],
+    line: usize,
+) -> Result<Written, NoMemory>
+    ensures line { IfOk result (λ written. written.line ≡ line) }
+    ensures bytes { IfOk result (λ written. written.bytes.items ≡ gathered.now) }
+    ensures same { OnOk result (store.new ≡ store.old) }
+    ensures given_up { OnErr result (GivenUp store.old store.new) }
+{
+    match SmallVec::from_slice(alloc, gathered) {
+        Ok(bytes) => Ok(Written { bytes, line }),
+        Err(_) => {
+            store.abandon();
+            Err(NoMemory)
+        }
+    }
 }
 
 /// Puts a turn behind the first `done` turns, and gives up those after them. It takes no memory.

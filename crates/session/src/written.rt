@@ -1,15 +1,20 @@
-//! The line and the text of a turn in one vector, so that a turn asks for memory once less.
+//! The line and the text of a turn, one behind the other.
 
 ghost use Rattle.std.specs.Prelude.{◌≡◌, []};
 ghost use Rattle.session.specs.Written.{text_of};
 
+use smallvec::SmallVec;
 use std::alloc::Global;
+
+/// How many bytes of a line and a text stand in place: a turn that prints a few words asks for no
+/// memory.
+pub(crate) const SHORT: usize = 16;
 
 /// A line, and behind it what the turn of that line printed.
 #[derive(Drop)]
 pub(crate) struct Written {
     /// The line, and then the text.
-    pub(crate) bytes: Vec<u8>,
+    pub(crate) bytes: SmallVec<u8, SHORT>,
 
     /// How many bytes the line has.
     pub(crate) line: usize,
@@ -21,7 +26,7 @@ impl Written {
         ensures { text_of result ≡ [] }
     {
         Written {
-            bytes: Vec::new(alloc),
+            bytes: SmallVec::new(alloc),
             line: 0,
         }
     }
@@ -30,8 +35,9 @@ impl Written {
     pub(crate) fn text(&self) -> &[u8]
         ensures { result.now ≡ text_of self.now }
     {
-        if self.line < self.bytes.len() {
-            &self.bytes[self.line..]
+        let bytes = self.bytes.as_slice();
+        if self.line < bytes.len() {
+            &bytes[self.line..]
         } else {
             &[]
         }
