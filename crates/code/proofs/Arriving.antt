@@ -23,7 +23,7 @@ use Rattle.code.proofs.Behind.{Holds}
 use Rattle.code.specs.Bytes.{place_of}
 use Rattle.code.specs.HeldProgram.{sizes_of, HoldsProgram}
 use Rattle.code.proofs.Play.{Leads, Stored, items_in, address, frames_of, back_of, result_of, state_of, next_of, Good}
-use Rattle.code.proofs.Play.{Led, IsChosen, none_chosen}
+use Rattle.code.proofs.Play.{Led, HoldsAside, none_aside}
 use Rattle.code.proofs.Memory.{Ground}
 use Rattle.code.proofs.Parts.{Around, machine as at_words}
 use Rattle.code.proofs.Steps.{point}
@@ -49,7 +49,7 @@ pub record Running : Type 0 where
     routine = routine;
     place = place;
     stack = [];
-    chosen = None;
+    put_aside = None;
     callers = callers;
     situation = record { locals = locals; world = world };
   }) m
@@ -63,14 +63,14 @@ module _ (c : Running) where
     routine = routine;
     place = place;
     stack = words;
-    chosen = None;
+    put_aside = None;
     callers = callers;
     situation = record { locals = locals; world = world };
   }
 
-  -- and with a word of a `switch`
-  abbrev pub at_case : Option ℕ → List ℕ → stack.ItemState
-  at_case chosen words = record (at words) { chosen = chosen }
+  -- and with a word that was put aside, or none
+  abbrev pub at_aside : Option ℕ → List ℕ → stack.ItemState
+  at_aside aside words = record (at words) { put_aside = aside }
 
   abbrev pub around : Around
   around = record {
@@ -137,8 +137,8 @@ module _ (c : Running) where
       (above, (holds_append m here (flat_map bytes_of (code_here i)) (text_bytes p.abbreviations i) stands.held).0)
 
   -- The machine comes to the next item, with room on its stack, or where there is room
-  pub arrives_with : (chosen : Option ℕ) (before after m1 : List ℕ) (situation : Situation) (end : ℕ)
-      → IsChosen story m1 chosen → end ≡ address story a p routine (place + 1) → length after ≤ 48
+  pub arrives_with : (aside : Option ℕ) (before after m1 : List ℕ) (situation : Situation) (end : ℕ)
+      → HoldsAside story m1 aside → end ≡ address story a p routine (place + 1) → length after ≤ 48
       → Stored story a p situation.world.globals situation.world.arrays situation.world.objects m1
       → length situation.locals ≡ length locals
       → length situation.world.globals ≡ length world.globals
@@ -149,11 +149,11 @@ module _ (c : Running) where
         routine = routine;
         place = place + 1;
         stack = after;
-        chosen = chosen;
+        put_aside = aside;
         callers = callers;
         situation = situation;
       }))
-  arrives_with chosen before after m1 situation end kept is room stored locals_same globals_same arrays_same leads =
+  arrives_with aside before after m1 situation end kept is room stored locals_same globals_same arrays_same leads =
       record {
         memory = m1;
         count = count;
@@ -167,7 +167,7 @@ module _ (c : Running) where
           globals = globals_same ∙ good.globals;
           sizes = arrays_same ∙ good.sizes;
           stored = stored;
-          chosen = kept;
+          put_aside = kept;
         };
         leads = subst (λ x. Leads (point here world.fuel) (at_words around m locals before world.text)
             (point x situation.world.fuel) (at_words around m1 situation.locals after situation.world.text)) is leads;
@@ -185,12 +185,12 @@ module _ (c : Running) where
         routine = routine;
         place = place + 1;
         stack = after;
-        chosen = None;
+        put_aside = None;
         callers = callers;
         situation = situation;
       }))
   arrives_on before after m1 situation end is room stored locals_same globals_same arrays_same leads =
-      arrives_with None before after m1 situation end (none_chosen story m1) is room stored locals_same globals_same
+      arrives_with None before after m1 situation end (none_aside story m1) is room stored locals_same globals_same
       arrays_same leads
 
   pub arrives : (before after m1 : List ℕ) (situation : Situation) (end : ℕ)
@@ -205,7 +205,7 @@ module _ (c : Running) where
         routine = routine;
         place = place + 1;
         stack = after;
-        chosen = None;
+        put_aside = None;
         callers = callers;
         situation = situation;
       }))
@@ -217,7 +217,7 @@ module _ (c : Running) where
         routine = routine;
         place = place + 1;
         stack = after;
-        chosen = None;
+        put_aside = None;
         callers = callers;
         situation = situation;
       }

@@ -22,7 +22,7 @@ use Rattle.code_selection.specs.ItemBytes.{text_bytes}
 use Rattle.code.specs.Bytes.{place_of}
 use Rattle.code.specs.HeldProgram.{sizes_of}
 use Rattle.code.proofs.Behind.{Holds}
-use Rattle.code.proofs.Play.{Leads, address, IsChosen, none_chosen, stays}
+use Rattle.code.proofs.Play.{Leads, address, HoldsAside, none_aside, stays}
 use Rattle.code.proofs.Parts.{machine as at_words}
 use Rattle.code.proofs.Steps.{point, leads_then, landing, two_operands}
 use Rattle.code.proofs.Fitting.{held_bytes}
@@ -30,7 +30,7 @@ use Rattle.code.proofs.ItemOperands.{with_first, by_operands, gives_count, gives
 use Rattle.code.proofs.ItemOperands.{operands_length}
 use Rattle.code.proofs.Labels.{Branching, label_leads}
 use Rattle.code.proofs.Places.{rises, ends_by}
-use Rattle.code.proofs.Arriving.{Running, at, at_case, around, here, high, above, kept, LedFrom, code_here, ArrivesAt}
+use Rattle.code.proofs.Arriving.{Running, at, at_aside, around, here, high, above, kept, LedFrom, code_here, ArrivesAt}
 use Rattle.code.proofs.Arriving.{code_held, arrives_with, situation_here}
 use Rattle.code.proofs.Temporaries.{Scratch, scratch_here, held_in}
 use Rattle.code.proofs.Taking.{after_takes, taken, apart}
@@ -49,13 +49,13 @@ module _ (c : Running) where
 
   -- Behind a branch the machine is at the next item, or at the target; what there is of a word of a `switch` is there
   -- still.
-  pub lands_led : (chosen : Option ℕ) (target : ℕ) (words rest memory : List ℕ) (when holds_so : Bool)
-      → length rest ≤ 48 → Scratch c memory → IsChosen story memory chosen
+  pub lands_led : (aside : Option ℕ) (target : ℕ) (words rest memory : List ℕ) (when holds_so : Bool)
+      → length rest ≤ 48 → Scratch c memory → HoldsAside story memory aside
       → Leads (point (here c) world.fuel) (at_words (around c) m locals words world.text)
       (point (landing when holds_so (next_place c) (over target)) world.fuel)
       (at_words (around c) memory locals rest world.text)
-      → LedFrom c words (stack.by_case (agrees holds_so when) target (at_case c chosen rest))
-  lands_led chosen target words rest memory when holds_so left scratch still = go when holds_so
+      → LedFrom c words (stack.by_case (agrees holds_so when) target (at_aside c aside rest))
+  lands_led aside target words rest memory when holds_so left scratch still = go when holds_so
     where
       d : ℕ
       d = over target
@@ -63,14 +63,14 @@ module _ (c : Running) where
       -- it goes on with the next item, or leads to the target
       passes : Leads (point (here c) world.fuel) (at_words (around c) m locals words world.text)
           (point (next_place c) world.fuel) (at_words (around c) memory locals rest world.text)
-          → LedFrom c words (stack.goes (record (at_case c chosen rest) { place = place + 1 }))
-      passes l = arrives_with c chosen words rest memory (situation_here c) (next_place c) still refl left
+          → LedFrom c words (stack.goes (record (at_aside c aside rest) { place = place + 1 }))
+      passes l = arrives_with c aside words rest memory (situation_here c) (next_place c) still refl left
           scratch.stored refl refl refl l
 
       jumps : (b : Bool) → nat_lt place target ≡ b
           → Leads (point (here c) world.fuel) (at_words (around c) m locals words world.text)
           (point (next_place c + d) world.fuel) (at_words (around c) memory locals rest world.text)
-          → LedFrom c words (if b then stack.goes (record (at_case c chosen rest) { place = target })
+          → LedFrom c words (if b then stack.goes (record (at_aside c aside rest) { place = target })
           else stack.stuck)
       jumps false e l = tt
       jumps true e l =
@@ -90,7 +90,7 @@ module _ (c : Running) where
               globals = good.globals;
               sizes = good.sizes;
               stored = scratch.stored;
-              chosen = still;
+              put_aside = still;
             };
             leads = subst (λ k. Leads (point (here c) world.fuel) (at_words (around c) m locals words world.text)
                 (point k world.fuel) (at_words (around c) memory locals rest world.text)) to l;
@@ -98,14 +98,14 @@ module _ (c : Running) where
 
       go : (w h : Bool) → Leads (point (here c) world.fuel) (at_words (around c) m locals words world.text)
           (point (landing w h (next_place c) d) world.fuel) (at_words (around c) memory locals rest world.text)
-          → LedFrom c words (stack.by_case (agrees h w) target (at_case c chosen rest))
+          → LedFrom c words (stack.by_case (agrees h w) target (at_aside c aside rest))
       go true true l = jumps (nat_lt place target) refl l
       go true false l = passes l
       go false true l = passes l
       go false false l = jumps (nat_lt place target) refl l
 
   -- a branch by the words that its operands come to, behind what takes them from the stack
-  labelled_led : (test : Test) (os : List Operand) (when : Bool) (target : ℕ) (chosen : Option ℕ)
+  labelled_led : (test : Test) (os : List Operand) (when : Bool) (target : ℕ) (aside : Option ℕ)
       (words before vs rest memory : List ℕ) (q : ℕ) → TestOf test os vs → length rest ≤ 48 → Scratch c memory
       → here c ≤ q
       → Holds m q (flat_map bytes_of (labelled (test_operation test) os when (2 + over target)))
@@ -114,14 +114,14 @@ module _ (c : Running) where
       ≡ done vs (at_words (around c) memory locals rest world.text)
       → Leads (point (here c) world.fuel) (at_words (around c) m locals words world.text)
       (point q world.fuel) (at_words (around c) memory locals before world.text)
-      → LedFrom c words (stack.branch (agrees (stack.holds test vs) when) target rest (at_case c chosen words))
-  labelled_led test os when target chosen words before vs rest memory q kinds left scratch from held next values leads =
+      → LedFrom c words (stack.branch (agrees (stack.holds test vs) when) target rest (at_aside c aside words))
+  labelled_led test os when target aside words before vs rest memory q kinds left scratch from held next values leads =
       branches_to (agrees (stack.holds test vs) when)
-      (lands_led None target words rest memory when (stack.holds test vs) left scratch (none_chosen story memory) there)
+      (lands_led None target words rest memory when (stack.holds test vs) left scratch (none_aside story memory) there)
     where
       -- a branch takes its operands, and leaves no word of a `switch`
       branches_to : (b : Bool) → LedFrom c words (stack.by_case b target (at c rest))
-          → LedFrom c words (stack.branch b target rest (at_case c chosen words))
+          → LedFrom c words (stack.branch b target rest (at_aside c aside words))
       branches_to true led = led
       branches_to false led = led
 
@@ -182,12 +182,12 @@ module _ (c : Running) where
       omega (arith, stands.next, plain_length c item none, ap (λ is. length (flat_map bytes_of is)) code)
 
   ordered_led : (item : Item) (test : Test) (os : List items.Operand) (when : Bool) (target : ℕ)
-      (chosen : Option ℕ) (words vs rest : List ℕ) → All (IsOperandHere c) os → Counted test (length os)
+      (aside : Option ℕ) (words vs rest : List ℕ) → All (IsOperandHere c) os → Counted test (length os)
       → length words ≤ 48 → ArrivesAt c item → text_bytes p.abbreviations item ≡ []
       → code_here c item ≡ ordered_code test os when (2 + over target)
       → GivesOperands os (situation_here c) words vs rest
-      → LedFrom c words (stack.branch (agrees (stack.holds test vs) when) target rest (at_case c chosen words))
-  ordered_led item test os when target chosen words vs rest all is room stands none code g =
+      → LedFrom c words (stack.branch (agrees (stack.holds test vs) when) target rest (at_aside c aside words))
+  ordered_led item test os when target aside words vs rest all is room stands none code g =
       let op = test_operation test in
       let code1 = labelled op (operands os) when (2 + over target) in
       let parts = apart c os code1 (subst (λ is. Holds m (here c) (flat_map bytes_of is)) code
@@ -196,7 +196,7 @@ module _ (c : Running) where
       let t = taken c os words vs rest all (omega (arith, few, few_pushed os)) g parts.takes_held in
       let count = gives_count os (situation_here c) words vs rest g in
       let ends = item_ends item (takes os ++ code1) stands none code in
-      labelled_led test (operands os) when target chosen words (with_first os vs rest) vs rest t.memory
+      labelled_led test (operands os) when target aside words (with_first os vs rest) vs rest t.memory
       (after_takes c os)
       (test_of test (operands os) vs
       (gives_length os (situation_here c) words vs rest g ∙ sym (operands_length os))
@@ -205,23 +205,23 @@ module _ (c : Running) where
       (t.values world.text) t.leads
 
   -- two pushed words, which are taken as they stand
-  turned_led : (item : Item) (test : Test) (when : Bool) (target : ℕ) (chosen : Option ℕ)
+  turned_led : (item : Item) (test : Test) (when : Bool) (target : ℕ) (aside : Option ℕ)
       (words vs rest : List ℕ) → Counted test 2 → length words ≤ 48 → ArrivesAt c item
       → text_bytes p.abbreviations item ≡ []
       → code_here c item ≡ labelled (test_operation (turned test)) (top ∷ top ∷ []) when (2 + over target)
       → GivesOperands (items.pushed ∷ items.pushed ∷ []) (situation_here c) words vs rest
-      → LedFrom c words (stack.branch (agrees (stack.holds test vs) when) target rest (at_case c chosen words))
-  turned_led item test when target chosen words [] rest is room stands none code g = absurd g
-  turned_led item test when target chosen words (v ∷ []) rest is room stands none code g = absurd g
-  turned_led item test when target chosen words (v ∷ w ∷ u ∷ vs) rest is room stands none code g = absurd g
-  turned_led item test when target chosen words (v ∷ w ∷ []) rest is room stands none code g =
+      → LedFrom c words (stack.branch (agrees (stack.holds test vs) when) target rest (at_aside c aside words))
+  turned_led item test when target aside words [] rest is room stands none code g = absurd g
+  turned_led item test when target aside words (v ∷ []) rest is room stands none code g = absurd g
+  turned_led item test when target aside words (v ∷ w ∷ u ∷ vs) rest is room stands none code g = absurd g
+  turned_led item test when target aside words (v ∷ w ∷ []) rest is room stands none code g =
       let st = at_words (around c) m locals words world.text in
       let st1 = at_words (around c) m locals (v ∷ rest) world.text in
       let st2 = at_words (around c) m locals rest world.text in
       let code1 = labelled (test_operation (turned test)) (top ∷ top ∷ []) when (2 + over target) in
-      subst (λ b. LedFrom c words (stack.branch (agrees b when) target rest (at_case c chosen words)))
+      subst (λ b. LedFrom c words (stack.branch (agrees b when) target rest (at_aside c aside words)))
       (holds_turned test v w)
-      (labelled_led (turned test) (top ∷ top ∷ []) when target chosen words words (w ∷ v ∷ []) rest m (here c)
+      (labelled_led (turned test) (top ∷ top ∷ []) when target aside words words (w ∷ v ∷ []) rest m (here c)
       (test_of (turned test) (top ∷ top ∷ []) (w ∷ v ∷ []) refl (counted_turned test 2 is))
       (omega (arith, room, ap length g)) (scratch_here c) (omega arith)
       (subst (λ is. Holds m (here c) (flat_map bytes_of is)) code (code_held c item stands))
@@ -232,33 +232,33 @@ module _ (c : Running) where
       (stays (point (here c) world.fuel) st))
 
   branches_led : (item : Item) (test : Test) (os : List items.Operand) (when : Bool) (target : ℕ)
-      (chosen : Option ℕ) (words vs rest : List ℕ) → All (IsOperandHere c) os → Counted test (length os)
+      (aside : Option ℕ) (words vs rest : List ℕ) → All (IsOperandHere c) os → Counted test (length os)
       → length words ≤ 48 → ArrivesAt c item → text_bytes p.abbreviations item ≡ []
       → code_here c item ≡ tested_code test os when (2 + over target)
       → GivesOperands os (situation_here c) words vs rest
-      → LedFrom c words (stack.branch (agrees (stack.holds test vs) when) target rest (at_case c chosen words))
-  branches_led item test os when target chosen words vs rest all is room stands none code g =
+      → LedFrom c words (stack.branch (agrees (stack.holds test vs) when) target rest (at_aside c aside words))
+  branches_led item test os when target aside words vs rest all is room stands none code g =
       go (are_both_pushed os) refl code
     where
       go : (b : Bool) → are_both_pushed os ≡ b
           → code_here c item
           ≡ (if b then labelled (test_operation (turned test)) (top ∷ top ∷ []) when (2 + over target)
           else ordered_code test os when (2 + over target))
-          → LedFrom c words (stack.branch (agrees (stack.holds test vs) when) target rest (at_case c chosen words))
+          → LedFrom c words (stack.branch (agrees (stack.holds test vs) when) target rest (at_aside c aside words))
       go true e code =
           let both = both_pushed os e in
-          turned_led item test when target chosen words vs rest (subst (λ os. Counted test (length os)) both is) room
+          turned_led item test when target aside words vs rest (subst (λ os. Counted test (length os)) both is) room
           stands none code (subst (λ os. GivesOperands os (situation_here c) words vs rest) both g)
-      go false e code = ordered_led item test os when target chosen words vs rest all is room stands none code g
+      go false e code = ordered_led item test os when target aside words vs rest all is room stands none code g
 
-  pub branch_led : (test : Test) (os : List items.Operand) (when : Bool) (target : ℕ) (chosen : Option ℕ)
+  pub branch_led : (test : Test) (os : List items.Operand) (when : Bool) (target : ℕ) (aside : Option ℕ)
       (words : List ℕ) → All (IsOperandHere c) os → IsTestedValue test (length os) → length words ≤ 48
       → ArrivesAt c (items.branch test os when target)
       → LedFrom c words (stack.with_operands os (situation_here c) words
-      (λ vs rest. stack.branch (agrees (stack.holds test vs) when) target rest (at_case c chosen words)))
-  branch_led test os when target chosen words all is room stands =
+      (λ vs rest. stack.branch (agrees (stack.holds test vs) when) target rest (at_aside c aside words)))
+  branch_led test os when target aside words all is room stands =
       by_operands os (situation_here c) words (LedFrom c words)
-      (λ vs rest. stack.branch (agrees (stack.holds test vs) when) target rest (at_case c chosen words)) tt
+      (λ vs rest. stack.branch (agrees (stack.holds test vs) when) target rest (at_aside c aside words)) tt
       (λ vs rest g.
       let few = few_given test (length os) is in
       let k = asked p (routine_at p.routines routine).locals (situation_here c) test os words vs rest is all g in
@@ -266,6 +266,6 @@ module _ (c : Running) where
       let code : code_here c item ≡ tested_code k.test1 k.os1 when (2 + over target) =
       ap (λ os. branch_code test os when (2 + over target)) (take_all most_tested os few)
       ∙ k.code when (2 + over target) in
-      subst (λ b. LedFrom c words (stack.branch (agrees b when) target rest (at_case c chosen words))) k.holds
-      (branches_led item k.test1 k.os1 when target chosen words k.vs1 rest k.all k.counted room stands refl code
+      subst (λ b. LedFrom c words (stack.branch (agrees b when) target rest (at_aside c aside words))) k.holds
+      (branches_led item k.test1 k.os1 when target aside words k.vs1 rest k.all k.counted room stands refl code
       k.gives))

@@ -20,7 +20,7 @@ use Rattle.code_values.specs.Items as items
 use Rattle.code_items.specs.Stack.{Caller}
 use Rattle.code_items.specs.Stack as stack
 use Rattle.code_encoding.specs.Addresses.{Addresses}
-use Rattle.code_encoding.specs.Instructions.{number_of, operands, takes}
+use Rattle.code_encoding.specs.Instructions.{number_of, operands, takes, aside_variable}
 use Rattle.meaning.specs.Limits.{most_arguments}
 use Rattle.code_instructions.specs.Instructions.{call_operation, call_result, calling, call_code}
 use Rattle.code.proofs.Behind.{Holds}
@@ -158,6 +158,9 @@ call_of routine os items.push vs same most = let f =
 call_of routine os (items.into x) vs same most = let f =
     call_storing routine os vs (number_of x) (number_small x) same most (length os == 0) (nat_le (length os) 3) refl
     refl in record { shaped = f.0; performs = f.1 }
+call_of routine os items.aside vs same most = let f =
+    call_storing routine os vs aside_variable (omega arith) same most (length os == 0) (nat_le (length os) 3) refl refl
+    in record { shaped = f.0; performs = f.1 }
 call_of routine os items.nowhere vs same most = let f =
     call_dropping routine os vs same most (length os == 0) (nat_le (length os) 3) refl refl in
     record { shaped = f.0; performs = f.1 }

@@ -1,6 +1,6 @@
 -- A running routine where memory holds other objects, and a word that goes on there.
 use Rattle.std.proofs.Common.{◌≡◌, ℕ, ◌+◌, ◌-◌, ◌*◌, ◌<◌, ◌≤◌, List, [], ◌∷◌, length, drop, slice_index, refl, sym, ap}
-use Rattle.std.proofs.Common.{◌∙◌, arith}
+use Rattle.std.proofs.Common.{Some, ◌∙◌, arith}
 use Rattle.std.specs.Prelude.{map}
 use Rattle.std.specs.List.{flat_map}
 use Rattle.zcore.specs.declared.instruction.Operand.TheVariants.{Small}
@@ -15,22 +15,22 @@ use Rattle.code_values.specs.Items as items
 use Rattle.code_items.specs.Stack as stack
 use Rattle.code_object_memory.specs.Region.{HasObjects, KeepsRest}
 use Rattle.code_object_memory.specs.Tables.{PropertyTable}
-use Rattle.code_encoding.specs.Instructions.{number_of, push, store}
+use Rattle.code_encoding.specs.Instructions.{number_of, aside_variable, push, store}
 use Rattle.code_objects.specs.ObjectCode.{assigned_word, passed_on}
 use Rattle.code.proofs.Behind.{Holds, holds_on}
-use Rattle.code.proofs.Play.{Leads, Stored, none_chosen}
-use Rattle.code.proofs.Memory.{word_of}
-use Rattle.code.proofs.Parts.{machine as at_words, pushes}
+use Rattle.code.proofs.Play.{Leads, Stored, none_aside}
+use Rattle.code.proofs.Memory.{word_of, with_variable}
+use Rattle.code.proofs.Parts.{machine as at_words, pushes, global_writes}
 use Rattle.code.proofs.Steps.{point, leads_then, one_step, first_held, one_operand, two_operands, small_value}
 use Rattle.code.proofs.StoredEntries.{defaults_same, static_same}
 use Rattle.code.proofs.AddressLengths.{one_length}
 use Rattle.code.proofs.Fitting.{Shaped}
 use Rattle.code.proofs.Arriving.{Running, at, around, here, high, LedFrom, room_for, situation_here}
 use Rattle.code.proofs.Variables.{memory_with, variable_held}
-use Rattle.code.proofs.Temporaries.{Scratch, scratch_here, made}
-use Rattle.code.proofs.Delivering.{stored_step}
+use Rattle.code.proofs.Temporaries.{Scratch, scratch_here, scratch_with, made}
+use Rattle.code.proofs.Delivering.{held_aside, stored_step}
 use Rattle.code.proofs.Alone.{IsOperandHere, IsHere, next_place}
-use Rattle.code.proofs.Moving.{fuel_same, text_same, written_led, within_led}
+use Rattle.code.proofs.Moving.{fuel_same, text_same, written_with, written_led, within_led}
 use Rattle.code.proofs.Working.{HoldsWord, word_value}
 
 module _ (c : Running) where
@@ -63,7 +63,7 @@ module _ (c : Running) where
       globals = good.globals;
       sizes = good.sizes;
       stored = stored;
-      chosen = none_chosen story memory;
+      put_aside = none_aside story memory;
     };
   }
 
@@ -213,6 +213,29 @@ module _ (c : Running) where
         (one_step (point there world.fuel) (point last world.fuel) st to
         (makes ∙ stored_step next_runs (point there world.fuel) last (number_of x) v rest world.text memory m1
         situation.locals (held.writes v))))
+    passed_led o v items.aside before rest there is word is_d room from h end leads =
+        let k = store aside_variable (assigned_word o) in
+        let shaped : Shaped k =
+        record { least = omega arith; most = omega arith; result_fits = tt; branch_fits = tt } in
+        let st = at_words (around c) memory locals rest world.text in
+        let last = there + length (bytes_of k) in
+        let m1 = with_variable memory aside_variable v in
+        let to = at_words (around c) m1 locals rest world.text in
+        let after = scratch_with next_runs memory aside_variable v (scratch_here next_runs) (omega arith) (omega arith)
+        in
+        let makes = made next_runs memory rest rest world.text there k (aside_variable ∷ v ∷ [])
+        (scratch_here next_runs) from shaped (held_next (bytes_of k) there from (first_held m there k [] h))
+        (two_operands st st st (Small aside_variable) (assigned_word o) aside_variable v
+        (small_value st aside_variable)
+        (word_value next_runs 1 o v memory rest (omega arith) (scratch_here next_runs) is
+        (word_there memory objects stored o v word))) in
+        written_with c (Some v) before rest m1 next_situation last (held_aside next_runs memory v (scratch_here next_runs))
+        (omega (arith, end, one_length k)) room after.stored refl refl refl refl refl
+        (leads_then (point (here c) world.fuel) (point there world.fuel) (point last world.fuel)
+        (at_words (around c) m locals before world.text) st to leads
+        (one_step (point there world.fuel) (point last world.fuel) st to
+        (makes ∙ stored_step next_runs (point there world.fuel) last aside_variable v rest world.text memory m1 locals
+        (global_writes (around c) memory locals aside_variable v (omega arith) (omega arith)))))
     passed_led o v items.nowhere before rest there is word is_d room from h end leads =
         written_led c before rest memory next_situation there (omega (arith, end)) room stored refl refl refl refl refl
         leads

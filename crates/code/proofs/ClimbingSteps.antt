@@ -56,7 +56,7 @@ module _ (c : Running) where
       globals = good.globals;
       sizes = good.sizes;
       stored = good.stored;
-      chosen = good.chosen;
+      put_aside = good.put_aside;
     };
   }
 

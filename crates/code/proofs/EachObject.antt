@@ -23,13 +23,13 @@ use Rattle.code_objects.specs.ObjectCode.{jump_by}
 use Rattle.code.specs.Bytes.{place_of}
 use Rattle.code.specs.HeldProgram.{sizes_of}
 use Rattle.code.proofs.Behind.{Holds}
-use Rattle.code.proofs.Play.{Leads, address, base, none_chosen}
+use Rattle.code.proofs.Play.{Leads, address, base, none_aside}
 use Rattle.code.proofs.Parts.{machine as at_words, Writes}
 use Rattle.code.proofs.Steps.{point, leads_then, one_step, first_held, others_held, two_operands, small_value}
 use Rattle.code.proofs.Steps.{large_value, variable_value, landing}
 use Rattle.code.proofs.SingleSteps.{increase, increment_step}
 use Rattle.code.proofs.Places.{ends_by, offset_leads}
-use Rattle.code.proofs.Arriving.{Running, at_case, around, here, LedFrom, code_held, situation_here, ArrivesAt}
+use Rattle.code.proofs.Arriving.{Running, at_aside, around, here, LedFrom, code_held, situation_here, ArrivesAt}
 use Rattle.code.proofs.Variables.{memory_with, Held, variable_held}
 use Rattle.code.proofs.Temporaries.{scratch_here}
 use Rattle.code.proofs.Alone.{next_place, plain_length}
@@ -60,12 +60,12 @@ module _ (c : Running) where
   -- The next object
 
   abbrev Second : Bool → resolved.Variable → ℕ → Option ℕ → List ℕ → stack.Next
-  Second b x target chosen words =
+  Second b x target aside words =
       stack.after_part
       ((if b then (write_variable x (value_in x (situation_here c) + 1) >>= λ _. give true) else give false)
       (situation_here c))
       (λ so situation. stack.branch (agrees so false) target words
-      (record (at_case c chosen words) { situation = situation }))
+      (record (at_aside c aside words) { situation = situation }))
 
   -- two tests, of which the first leads to the jump between the second and what is behind it
   next_leads : (below within : Bool) (st : State) (q away : ℕ)
@@ -79,7 +79,7 @@ module _ (c : Running) where
   next_leads false false st q away e f =
       leads_then (point q world.fuel) (point (q + 4) world.fuel) (point (q + 4 + away) world.fuel) st st st e f
 
-  module _ (x : resolved.Variable) (target : ℕ) (chosen : Option ℕ) (words : List ℕ) (is : IsVariableHere c x)
+  module _ (x : resolved.Variable) (target : ℕ) (aside : Option ℕ) (words : List ℕ) (is : IsVariableHere c x)
       (room : length words ≤ 48) (stands : ArrivesAt c (items.next_object x target)) where
     abbrev variable : ℕ
     variable = number_of x
@@ -199,7 +199,7 @@ module _ (c : Running) where
 
     next_by_pieces : (away : ℕ) → Pieces away → (b : Bool) → is_next ≡ b
         → (b ≡ true → object < 2000)
-        → LedFrom c words (Second b x target chosen words)
+        → LedFrom c words (Second b x target aside words)
     unfolding bytes_of
     next_by_pieces away t true e few =
         let q = here c + 4 + away + 3 in
@@ -220,13 +220,13 @@ module _ (c : Running) where
         let q = here c + 4 + away in
         let leads = subst (λ b. Leads (point (here c) world.fuel) st
         (point (if b then q + 3 else q) world.fuel) st) e t.tests in
-        jumps_led c q ((over + 2) % 65536) target None words words room (none_chosen story m) (omega arith)
+        jumps_led c q ((over + 2) % 65536) target None words words room (none_aside story m) (omega arith)
         (jump_there q (omega arith) (omega (arith, t.end))) (omega arith) (omega (arith, t.end)) t.jumps leads
 
     stepped : LedFrom c words
-        (Second (nat_le 1 object && nat_lt object (length p.objects)) x target chosen words)
+        (Second (nat_le 1 object && nat_lt object (length p.objects)) x target aside words)
     stepped =
-        subst (λ b. LedFrom c words (Second b x target chosen words)) same
+        subst (λ b. LedFrom c words (Second b x target aside words)) same
         (go (nat_lt (objects_here c) 256) (code_held c (items.next_object x target) stands)
         (omega (arith, stands.next, plain_length c (items.next_object x target) refl)))
       where
@@ -246,11 +246,11 @@ module _ (c : Running) where
 
         go : (small : Bool) → Holds m (here c) (flat_map bytes_of (form small))
             → here c + length (flat_map bytes_of (form small)) ≡ next_place c
-            → LedFrom c words (Second is_next x target chosen words)
+            → LedFrom c words (Second is_next x target aside words)
         go true h end = next_by_pieces 4 (small_pieces h end) is_next refl low
         go false h end = next_by_pieces 6 (large_pieces h end) is_next refl low
 
-  pub next_object_led : (x : resolved.Variable) (target : ℕ) (chosen : Option ℕ) (words : List ℕ)
+  pub next_object_led : (x : resolved.Variable) (target : ℕ) (aside : Option ℕ) (words : List ℕ)
       → IsVariableHere c x → length words ≤ 48 → ArrivesAt c (items.next_object x target)
-      → LedFrom c words (stack.decides (stack.steps_object p x) false target words (at_case c chosen words))
-  next_object_led x target chosen words is room stands = stepped x target chosen words is room stands
+      → LedFrom c words (stack.decides (stack.steps_object p x) false target words (at_aside c aside words))
+  next_object_led x target aside words is room stands = stepped x target aside words is room stands

@@ -26,7 +26,7 @@ use Rattle.code_items.specs.Stack as stack
 use Rattle.code_encoding.specs.Addresses.{Addresses}
 use Rattle.code.specs.Bytes.{code_bytes}
 use Rattle.code.specs.HeldProgram.{sizes_of, HoldsProgram}
-use Rattle.code.proofs.Play.{Stored, address, frames_of, back_of, result_of, other_counts, IsCaller, Led, none_chosen}
+use Rattle.code.proofs.Play.{Stored, address, frames_of, back_of, result_of, other_counts, IsCaller, Led, none_aside}
 use Rattle.code.proofs.Memory.{holds_on}
 use Rattle.code.proofs.Steps.{point, one_step}
 use Rattle.code.proofs.Places.{starts}
@@ -216,7 +216,7 @@ module _ (story : List ℕ) (a : Addresses) (p : ProgramOf) (accepted : IsAccept
           routine = r;
           place = 0;
           stack = [];
-          chosen = None;
+          put_aside = None;
           callers = callers;
           situation = record { locals = locals_of count arguments; world = record (s.world) { fuel = fuel } };
         }
@@ -236,7 +236,7 @@ module _ (story : List ℕ) (a : Addresses) (p : ProgramOf) (accepted : IsAccept
               routine = r;
               place = 0;
               stack = [];
-              chosen = None;
+              put_aside = None;
               callers = callers;
               situation = record { locals = locals_of count arguments; world = after.world };
             }))
@@ -270,7 +270,7 @@ module _ (story : List ℕ) (a : Addresses) (p : ProgramOf) (accepted : IsAccept
                 globals = globals;
                 sizes = sizes;
                 stored = stored;
-                chosen = none_chosen story memory;
+                put_aside = none_aside story memory;
               };
               leads = one_step (point pc (suc fuel)) (point (address story a p r 0) fuel) begin
                   (many (locals_of count arguments))

@@ -22,7 +22,7 @@ use Rattle.code.proofs.Steps.{point, first_held, others_held, fits_one, fits_two
 use Rattle.code.proofs.Steps.{variable_value, landing}
 use Rattle.code.proofs.SingleSteps.{branch_step, flag_leads}
 use Rattle.code.proofs.Flags.{test_leads}
-use Rattle.code.proofs.Arriving.{Running, at_case, around, here, LedFrom, above, room_for, code_held, arrives}
+use Rattle.code.proofs.Arriving.{Running, at_aside, around, here, LedFrom, above, room_for, code_held, arrives}
 use Rattle.code.proofs.Arriving.{ArrivesAt, situation_here}
 use Rattle.code.proofs.Temporaries.{scratch_here, scratch_with, reads_written, reads_other, word_written}
 use Rattle.code.proofs.Temporaries.{word_unwritten, held_in, pull_temporary, copy_temporary}
@@ -75,12 +75,12 @@ module _ (c : Running) where
       }
 
   -- whatever word of a `switch` there is
-  pub first_equal_led : (chosen : Option ℕ) (s : List ℕ) → length s ≤ 48 → ArrivesAt c items.first_equal
-      → LedFrom c s (stack.first_equal s (at_case c chosen s))
+  pub first_equal_led : (aside : Option ℕ) (s : List ℕ) → length s ≤ 48 → ArrivesAt c items.first_equal
+      → LedFrom c s (stack.first_equal s (at_aside c aside s))
   unfolding bytes_of perform
-  first_equal_led chosen [] short stands = tt
-  first_equal_led chosen (y ∷ []) short stands = tt
-  first_equal_led chosen (y ∷ x ∷ s) short stands =
+  first_equal_led aside [] short stands = tt
+  first_equal_led aside (y ∷ []) short stands = tt
+  first_equal_led aside (y ∷ x ∷ s) short stands =
       let q0 = here c in
       let test = branching operations.JumpIfEqual (Variable 249 ∷ Variable 248 ∷ []) true 8 in
       let m1 = with_variable m 248 y in
@@ -150,13 +150,13 @@ module _ (c : Running) where
       (variable_value (around c) m1 locals (x ∷ s) world.text 249 flag_word reads))
       (λ here after st. refl) (room_for c (x ∷ s) (omega (arith, short))) above (omega arith) within h)
 
-  pub also_equal_led : (chosen : Option ℕ) (s : List ℕ) → length s ≤ 48 → ArrivesAt c items.also_equal
-      → LedFrom c s (stack.also_equal s (at_case c chosen s))
+  pub also_equal_led : (aside : Option ℕ) (s : List ℕ) → length s ≤ 48 → ArrivesAt c items.also_equal
+      → LedFrom c s (stack.also_equal s (at_aside c aside s))
   unfolding bytes_of perform
-  also_equal_led chosen [] short stands = tt
-  also_equal_led chosen (y ∷ []) short stands = tt
-  also_equal_led chosen (y ∷ v ∷ []) short stands = tt
-  also_equal_led chosen (y ∷ v ∷ x ∷ s) short stands =
+  also_equal_led aside [] short stands = tt
+  also_equal_led aside (y ∷ []) short stands = tt
+  also_equal_led aside (y ∷ v ∷ []) short stands = tt
+  also_equal_led aside (y ∷ v ∷ x ∷ s) short stands =
       let q0 = here c in
       let last = branching operations.JumpIfZero (Variable 249 ∷ []) false 8 ∷ flag in
       let test = branching operations.JumpIfEqual (Variable 250 ∷ Variable 248 ∷ []) true 11 in

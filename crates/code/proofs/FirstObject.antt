@@ -11,11 +11,11 @@ use Rattle.code_values.specs.Items.{agrees}
 use Rattle.code_values.specs.Items as items
 use Rattle.code_items.specs.Stack as stack
 use Rattle.code_encoding.specs.Instructions.{number_of, store}
-use Rattle.code.proofs.Play.{Leads, none_chosen}
+use Rattle.code.proofs.Play.{Leads, none_aside}
 use Rattle.code.proofs.Parts.{machine as at_words}
 use Rattle.code.proofs.Steps.{point, one_step, two_operands, small_value}
 use Rattle.code.proofs.Fitting.{Shaped}
-use Rattle.code.proofs.Arriving.{Running, at_case, around, here, LedFrom, situation_here, ArrivesAt}
+use Rattle.code.proofs.Arriving.{Running, at_aside, around, here, LedFrom, situation_here, ArrivesAt}
 use Rattle.code.proofs.Variables.{memory_with, variable_held}
 use Rattle.code.proofs.Temporaries.{scratch_here, made}
 use Rattle.code.proofs.Delivering.{stored_step}
@@ -32,7 +32,7 @@ module _ (c : Running) where
       → end ≡ next_place c
       → Leads (point (here c) world.fuel) (at_words (around c) m locals words world.text) (point end world.fuel)
       (at_words (around c) (memory_with c m x word) (with_value x word (situation_here c)).locals words world.text)
-      → LedFrom c words (stack.goes (stack.after (at_case c None words) words (with_value x word (situation_here c))))
+      → LedFrom c words (stack.goes (stack.after (at_aside c None words) words (with_value x word (situation_here c))))
   variable_led x word end words is room to leads =
       let held = variable_held c m x (scratch_here c) is in
       let situation = with_value x word (situation_here c) in
@@ -43,26 +43,26 @@ module _ (c : Running) where
   -- The first object
 
   abbrev First : Bool → resolved.Variable → ℕ → Option ℕ → List ℕ → stack.Next
-  First b x target chosen words =
+  First b x target aside words =
       stack.after_part
       ((if b then give false else (write_variable x 1 >>= λ _. give true)) (situation_here c))
       (λ so situation. stack.branch (agrees so false) target words
-      (record (at_case c chosen words) { situation = situation }))
+      (record (at_aside c aside words) { situation = situation }))
 
-  pub first_object_led : (x : resolved.Variable) (target : ℕ) (chosen : Option ℕ) (words : List ℕ)
+  pub first_object_led : (x : resolved.Variable) (target : ℕ) (aside : Option ℕ) (words : List ℕ)
       → IsVariableHere c x → length words ≤ 48 → ArrivesAt c (items.first_object x target)
-      → LedFrom c words (stack.decides (stack.begins_objects p x) false target words (at_case c chosen words))
+      → LedFrom c words (stack.decides (stack.begins_objects p x) false target words (at_aside c aside words))
   unfolding perform
-  first_object_led x target chosen words is room stands = go (length p.objects == 0) refl
+  first_object_led x target aside words is room stands = go (length p.objects == 0) refl
     where
       count_same : (objects_here c == 0) ≡ (length p.objects == 0)
       count_same = ap (λ (n : ℕ). n == 0) (objects_are c)
 
-      go : (b : Bool) → (length p.objects == 0) ≡ b → LedFrom c words (First b x target chosen words)
+      go : (b : Bool) → (length p.objects == 0) ≡ b → LedFrom c words (First b x target aside words)
       go true e =
           let is_jump = ap (λ (b : Bool). (if b then jump_to c target else store (number_of x) (Small 1)) ∷ [])
           (count_same ∙ e) in
-          jump_alone_led c target None words room (none_chosen story m)
+          jump_alone_led c target None words room (none_aside story m)
           (single c (items.first_object x target) (jump_to c target) is_jump refl stands)
       go false e =
           let i = store (number_of x) (Small 1) in

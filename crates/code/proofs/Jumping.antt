@@ -19,13 +19,13 @@ use Rattle.code_encoding.specs.Instructions.{plain, jump_offset}
 use Rattle.code.specs.Bytes.{code_size, place_of}
 use Rattle.code.specs.HeldProgram.{sizes_of}
 use Rattle.code.proofs.Behind.{Holds}
-use Rattle.code.proofs.Play.{Leads, stays, items_in, address, base, Good, Led, IsChosen, none_chosen}
+use Rattle.code.proofs.Play.{Leads, stays, items_in, address, base, Good, Led, HoldsAside, none_aside}
 use Rattle.code.proofs.Parts.{Around, machine as at_words}
 use Rattle.code.proofs.Steps.{point, leads_then, one_step, step_is, fits_one, one_operand, large_value}
 use Rattle.code.proofs.SingleSteps.{jump_step}
 use Rattle.code.proofs.Ends.{does_halt}
 use Rattle.code.proofs.Places.{rises, ends_by, offset_leads}
-use Rattle.code.proofs.Arriving.{Running, at, at_case, around, here, LedFrom, above, ArrivesAt}
+use Rattle.code.proofs.Arriving.{Running, at, at_aside, around, here, LedFrom, above, ArrivesAt}
 use Rattle.code.proofs.Alone.{Single, single}
 
 -- A jump that does not lead ahead costs a unit
@@ -91,17 +91,17 @@ module _ (c : Running) where
   pub target_above : (n : ℕ) → 64 ≤ address story a p routine n
   target_above n = omega (arith, (holds.routines routine good.known).above, holds.globals_above, holds.globals_below)
 
-  good_there : (n : ℕ) (stack : List ℕ) (chosen : Option ℕ) (fuel : ℕ) → length stack ≤ 48
-      → IsChosen story m chosen
+  good_there : (n : ℕ) (stack : List ℕ) (aside : Option ℕ) (fuel : ℕ) → length stack ≤ 48
+      → HoldsAside story m aside
       → Good story a p (record {
         routine = routine;
         place = n;
         stack = stack;
-        chosen = chosen;
+        put_aside = aside;
         callers = callers;
         situation = record { locals = locals; world = record world { fuel = fuel } };
       }) m
-  good_there n stack chosen fuel room kept = record {
+  good_there n stack aside fuel room kept = record {
     known = good.known;
     locals = good.locals;
     room = room;
@@ -110,7 +110,7 @@ module _ (c : Running) where
     globals = good.globals;
     sizes = good.sizes;
     stored = good.stored;
-    chosen = kept;
+    put_aside = kept;
   }
 
   -- the jump of an item that leads from the next one
@@ -139,20 +139,20 @@ module _ (c : Running) where
       (omega (arith, short, ends_by (sizes_of p) is_in target))
 
   -- a jump ahead from behind some steps; a word of a `switch` stays where it is
-  pub jumps_led : (q offset target : ℕ) (chosen : Option ℕ) (before words : List ℕ) → length words ≤ 48
-      → IsChosen story m chosen → offset < 65536
+  pub jumps_led : (q offset target : ℕ) (aside : Option ℕ) (before words : List ℕ) → length words ≤ 48
+      → HoldsAside story m aside → offset < 65536
       → jump_target (q + 3) offset ≡ address story a p routine target → here c ≤ q
       → q < address story a p routine (place + 1) → Holds m q (bytes_of (plain operations.Jump (Large offset ∷ [])))
       → Leads (point (here c) world.fuel) (at_words (around c) m locals before world.text) (point q world.fuel)
       (at_words (around c) m locals words world.text)
-      → LedFrom c before (stack.jump_forward target (at_case c chosen words))
-  jumps_led q offset target chosen before words room kept small to from low h leads = go (nat_lt place target) refl
+      → LedFrom c before (stack.jump_forward target (at_aside c aside words))
+  jumps_led q offset target aside before words room kept small to from low h leads = go (nat_lt place target) refl
     where
       st : State
       st = at_words (around c) m locals words world.text
 
       go : (b : Bool) → nat_lt place target ≡ b
-          → LedFrom c before (if b then stack.goes (record (at_case c chosen words) { place = target })
+          → LedFrom c before (if b then stack.goes (record (at_aside c aside words) { place = target })
           else stack.stuck)
       go false e = tt
       go true e =
@@ -162,7 +162,7 @@ module _ (c : Running) where
             memory = m;
             count = count;
             counts = counts;
-            good = good_there target words chosen world.fuel room kept;
+            good = good_there target words aside world.fuel room kept;
             leads = leads_then (point (here c) world.fuel) (point q world.fuel)
                 (point (address story a p routine target) world.fuel)
                 (at_words (around c) m locals before world.text) st st leads
@@ -173,18 +173,18 @@ module _ (c : Running) where
           }
 
   -- where the jump is all that an item does
-  pub jump_alone_led : (target : ℕ) (chosen : Option ℕ) (words : List ℕ) → length words ≤ 48
-      → IsChosen story m chosen
-      → Single c (jump_to target) → LedFrom c words (stack.jump_forward target (at_case c chosen words))
-  jump_alone_led target chosen words room kept there =
-      jumps_led (here c) (offset_to target) target chosen words words room kept (small_offset target)
+  pub jump_alone_led : (target : ℕ) (aside : Option ℕ) (words : List ℕ) → length words ≤ 48
+      → HoldsAside story m aside
+      → Single c (jump_to target) → LedFrom c words (stack.jump_forward target (at_aside c aside words))
+  jump_alone_led target aside words room kept there =
+      jumps_led (here c) (offset_to target) target aside words words room kept (small_offset target)
       (leads_there target there) (omega arith) (omega (arith, there.end, jump_length (offset_to target))) there.held
       (stays (point (here c) world.fuel) (at_words (around c) m locals words world.text))
 
-  pub jump_led : (target : ℕ) (chosen : Option ℕ) (words : List ℕ) → length words ≤ 48 → IsChosen story m chosen
-      → ArrivesAt c (items.jump target) → LedFrom c words (stack.jump_forward target (at_case c chosen words))
-  jump_led target chosen words room kept stands =
-      jump_alone_led target chosen words room kept
+  pub jump_led : (target : ℕ) (aside : Option ℕ) (words : List ℕ) → length words ≤ 48 → HoldsAside story m aside
+      → ArrivesAt c (items.jump target) → LedFrom c words (stack.jump_forward target (at_aside c aside words))
+  jump_led target aside words room kept stands =
+      jump_alone_led target aside words room kept
       (single c (items.jump target) (jump_to target) refl refl stands)
 
   pub back_led : (target : ℕ) (words : List ℕ) → length words ≤ 48 → ArrivesAt c (items.back target)
@@ -220,7 +220,7 @@ module _ (c : Running) where
         memory = m;
         count = count;
         counts = counts;
-        good = good_there target words None fuel room (none_chosen story m);
+        good = good_there target words None fuel room (none_aside story m);
         leads = one_step (point (here c) (suc fuel)) (point (address story a p routine target) fuel) st st
             (back_step (around c) m locals words world.text (here c) (offset_to target)
             (address story a p routine target) small (leads_there target there) (target_above target) (behind below)

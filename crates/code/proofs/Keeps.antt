@@ -20,7 +20,7 @@ use Rattle.code.proofs.KeptWorld.{NoFault, Kept, Keeps, is_read, Faultless, Boun
 use Rattle.code.proofs.KeptWorld.{keeps_faultless, faultless_by, same, put_keeps, fault_keeps, operate_keeps}
 use Rattle.code.proofs.KeptWorld.{character_keeps, read_entry_keeps, assigned_entry_keeps, value_keeps, within_keeps}
 use Rattle.code.proofs.KeptWorld.{after_keeps, delivered_keeps, gives_keeps, prints_keeps, operand_keeps, operands_keep}
-use Rattle.code.proofs.KeptWorld.{keep_keeps, first_keeps, also_keeps, below_keeps, keeps_from}
+use Rattle.code.proofs.KeptWorld.{aside_keeps, keep_keeps, first_keeps, also_keeps, below_keeps, keeps_from}
 use Rattle.code.proofs.KeptByObjects.{object_keeps, property_keeps, property_word_keeps, assigned_property_keeps}
 use Rattle.code.proofs.KeptByObjects.{assigned_property_word_keeps, attributes_keep, moves_keeps, begins_keeps}
 use Rattle.code.proofs.KeptByObjects.{steps_keeps}
@@ -40,11 +40,11 @@ if_keeps w false n m h g = g
 
 branch_keeps : (b : Bool) (target : ℕ) (words : List ℕ) (s : stack.ItemState)
     → Keeps s.situation.world (stack.branch b target words s)
-branch_keeps true target words s = forward_keeps target (record s { stack = words; chosen = None })
+branch_keeps true target words s = forward_keeps target (record s { stack = words; put_aside = None })
 branch_keeps false target words s = same s.situation.world
 
-case_keeps : (chosen : Option ℕ) (test : Test) (ns : List ℕ) (when : Bool) (target : ℕ) (s : stack.ItemState)
-    → Keeps s.situation.world (stack.test_case chosen test ns when target s)
+case_keeps : (aside : Option ℕ) (test : Test) (ns : List ℕ) (when : Bool) (target : ℕ) (s : stack.ItemState)
+    → Keeps s.situation.world (stack.test_case aside test ns when target s)
 case_keeps None test ns when target s = tt
 case_keeps (Some v) test ns when target s = go (items.agrees (stack.holds test (v ∷ ns)) when)
   where
@@ -109,6 +109,10 @@ act_keeps p full (items.apply_prefix op o d) s =
 act_keeps p full (items.operate op a b d) s =
     operand_keeps s.situation.world b s.situation s.stack _
     (λ y left. operand_keeps s.situation.world a s.situation left _
+    (λ x rest. gives_keeps (operate op x y) d rest s (operate_keeps op x y s.situation)))
+act_keeps p full (items.operate_aside op o d) s =
+    aside_keeps s.situation.world s.put_aside _
+    (λ y. operand_keeps s.situation.world o s.situation s.stack _
     (λ x rest. gives_keeps (operate op x y) d rest s (operate_keeps op x y s.situation)))
 act_keeps p full (items.step op x d) s = delivered_keeps s.situation.world d _ _ (value_keeps x _ s.situation)
 act_keeps p full (items.entry width n o d) s =
@@ -198,9 +202,7 @@ act_keeps p full (items.first_object x target) s =
     decides_keeps (stack.begins_objects p x) false target s.stack s (begins_keeps p x s.situation)
 act_keeps p full (items.next_object x target) s =
     decides_keeps (stack.steps_object p x) false target s.stack s (steps_keeps p x s.situation)
-act_keeps p full (items.choose o) s =
-    operand_keeps s.situation.world o s.situation s.stack _ (λ v rest. same s.situation.world)
-act_keeps p full (items.case test ns when target) s = case_keeps s.chosen test ns when target s
+act_keeps p full (items.case test ns when target) s = case_keeps s.put_aside test ns when target s
 act_keeps p full (items.jump target) s = forward_keeps target s
 act_keeps p full (items.back target) s = back_keeps target s
 act_keeps p full (items.call r os d) s = operands_keep s.situation.world os s.situation s.stack _

@@ -1,5 +1,5 @@
 -- Parts of items that leave the lines to come and the texts of turns before as they were.
-use Rattle.std.proofs.Common.{◌≤◌, ◌≡◌, ◌≢◌, ℕ, List, [], ◌∷◌, ◌++◌, length, Bool, true, false, refl, ◌∙◌}
+use Rattle.std.proofs.Common.{◌≤◌, ◌≡◌, ◌≢◌, ℕ, List, [], ◌∷◌, ◌++◌, length, Option, Some, None, Bool, true, false, refl, ◌∙◌}
 use Rattle.std.specs.Prelude.{nat_le, if◌then◌else◌, ◌==◌, ◌||◌}
 use Rattle.std.proofs.lemmas.Bool.{leb-true}
 use Rattle.zcore.specs.Parts.{transcribed}
@@ -176,6 +176,7 @@ pub delivered_keeps : (w : World) (d : Destination) (v : ℕ) (s : stack.ItemSta
 delivered_keeps w items.push v s h = within_keeps w (nat_le (length (v ∷ s.stack)) 48) _ h
 delivered_keeps w (items.into x) v s h =
     then_same w s.situation.world (with_value x v s.situation).world h (value_keeps x v s.situation)
+delivered_keeps w items.aside v s h = h
 delivered_keeps w items.nowhere v s h = h
 
 pub gives_keeps : (f : Part ℕ) (d : Destination) (words : List ℕ) (s : stack.ItemState)
@@ -201,6 +202,11 @@ operands_keep w [] s words k h = h [] words
 operands_keep w (o ∷ os) s words k h =
     operands_keep w os s words (λ vs rest. stack.with_operand o s rest (λ v left. k (v ∷ vs) left))
     (λ vs rest. operand_keeps w o s rest (λ v left. k (v ∷ vs) left) (λ v left. h (v ∷ vs) left))
+
+pub aside_keeps : (w : World) (aside : Option ℕ) (k : ℕ → stack.Next) → ((v : ℕ) → Keeps w (k v))
+    → Keeps w (stack.with_aside aside k)
+aside_keeps w None k h = tt
+aside_keeps w (Some v) k h = h v
 
 pub keep_keeps : (x : Variable) (words : List ℕ) (s : stack.ItemState) → Keeps s.situation.world (stack.keep x words s)
 keep_keeps x [] s = tt

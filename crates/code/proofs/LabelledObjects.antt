@@ -28,14 +28,14 @@ use Rattle.code_object_memory.proofs.Together.{region_laws}
 use Rattle.code_instructions.specs.Instructions.{labelled}
 use Rattle.code_objects.specs.ObjectCode.{assigned_word, at_label, property_address}
 use Rattle.code.specs.HeldProgram.{sizes_of}
-use Rattle.code.proofs.Play.{Leads, none_chosen}
+use Rattle.code.proofs.Play.{Leads, none_aside}
 use Rattle.code.proofs.Memory.{with_variable}
 use Rattle.code.proofs.Parts.{machine as at_words}
 use Rattle.code.proofs.Steps.{point, leads_then, landing, one_operand, two_operands, small_value, variable_value}
 use Rattle.code.proofs.Fitting.{Shaped, held_bytes}
 use Rattle.code.proofs.Labels.{Branching, label_leads}
 use Rattle.code.proofs.Places.{ends_by}
-use Rattle.code.proofs.Arriving.{Running, at, at_case, around, here, high, above, kept, LedFrom, situation_here}
+use Rattle.code.proofs.Arriving.{Running, at, at_aside, around, here, high, above, kept, LedFrom, situation_here}
 use Rattle.code.proofs.Arriving.{ArrivesAt}
 use Rattle.code.proofs.Temporaries.{reads_written, held_in}
 use Rattle.code.proofs.Alone.{by_operand, alone_count, IsOperandHere, next_place}
@@ -52,7 +52,7 @@ module _ (c : Running) where
 
   -- the machine comes to a branch to a label, and goes on with the next item or at the target
   pub label_led : (op : Operation) (os : List Operand) (values : List ℕ) (when so : Bool) (target : ℕ)
-      (chosen : Option ℕ) (before rest other : List ℕ)
+      (aside : Option ℕ) (before rest other : List ℕ)
       (r : Reached c before rest other (labelled op os when (2 + over c target)))
       → r.q + length (flat_map bytes_of (labelled op os when (2 + over c target))) ≡ next_place c → length rest ≤ 48
       → least_operands op ≤ length os → length os ≤ most_operands op → FitsResult (has_result op) None
@@ -65,13 +65,13 @@ module _ (c : Running) where
       (at_words (around c) r.memory locals rest world.text)
       ≡ branch_on from after (Some (record { when = w; offset = offset })) so
       (at_words (around c) r.memory locals rest world.text))
-      → LedFrom c before (stack.branch (agrees so when) target rest (at_case c chosen before))
-  label_led op os values when so target chosen before rest other r end room least most result branch taken performs =
+      → LedFrom c before (stack.branch (agrees so when) target rest (at_aside c aside before))
+  label_led op os values when so target aside before rest other r end room least most result branch taken performs =
       branches_to (agrees so when)
-      (lands_led c None target before rest r.memory when so room r.scratch (none_chosen story r.memory) there)
+      (lands_led c None target before rest r.memory when so room r.scratch (none_aside story r.memory) there)
     where
       branches_to : (b : Bool) → LedFrom c before (stack.by_case b target (at c rest))
-          → LedFrom c before (stack.branch b target rest (at_case c chosen before))
+          → LedFrom c before (stack.branch b target rest (at_aside c aside before))
       branches_to true led = led
       branches_to false led = led
 
@@ -121,25 +121,25 @@ module _ (c : Running) where
           (held_in c r.memory (flat_map bytes_of (labelled op os when (2 + d))) r.q r.scratch r.from r.held))
 
   -- whether an object has an attribute
-  pub has_led : (o : items.Operand) (n : ℕ) (when : Bool) (target : ℕ) (chosen : Option ℕ) (s : List ℕ) → n < 48
+  pub has_led : (o : items.Operand) (n : ℕ) (when : Bool) (target : ℕ) (aside : Option ℕ) (s : List ℕ) → n < 48
       → IsOperandHere c o → length s ≤ 48 → ArrivesAt c (items.has o n when target)
       → LedFrom c s (stack.with_operand o (situation_here c) s
-      (λ v rest. stack.decides (stack.tested_attribute p v n) when target rest (at_case c chosen s)))
+      (λ v rest. stack.decides (stack.tested_attribute p v n) when target rest (at_aside c aside s)))
   unfolding perform
-  has_led o n when target chosen s few is room stands =
+  has_led o n when target aside s few is room stands =
       let item = items.has o n when target in
       let act : Operand → List _ =
       λ x. labelled operations.TestAttribute (x ∷ Small (n % 256) ∷ []) when (2 + over c target) in
       let same : n % 256 ≡ n = omega (arith, few) in
       tests_led c o s s m act (λ v. source.has_attribute v n)
       (λ rest so situation. stack.branch (agrees so when) target rest
-      (record (at_case c chosen s) { situation = situation }))
+      (record (at_aside c aside s) { situation = situation }))
       (label_tests c o act s s m is (begins c item s stands) (begun_end c item s refl stands) stands.followed)
       (λ v rest alone object t.
       let r = t.reached in
       let st = at_words (around c) r.memory locals rest world.text in
       label_led operations.TestAttribute (t.operand ∷ Small (n % 256) ∷ []) (v ∷ n % 256 ∷ []) when
-      (world.objects.attributes v n) target chosen s rest m r t.end
+      (world.objects.attributes v n) target aside s rest m r t.end
       (omega (arith, room, alone_count o (situation_here c) s v rest alone)) (omega arith) (omega arith) tt
       (λ w offset h. h)
       (two_operands st st st t.operand (Small (n % 256)) v (n % 256) t.value (small_value st (n % 256)))
@@ -150,33 +150,33 @@ module _ (c : Running) where
       (world.objects.attributes v k) st) same))
 
   -- whether an object stands in another
-  pub is_in_led : (o q : items.Operand) (when : Bool) (target : ℕ) (chosen : Option ℕ) (s : List ℕ)
+  pub is_in_led : (o q : items.Operand) (when : Bool) (target : ℕ) (aside : Option ℕ) (s : List ℕ)
       → IsOperandHere c o → IsOperandHere c q → length s ≤ 48 → ArrivesAt c (items.is_in o q when target)
       → LedFrom c s (stack.with_operand q (situation_here c) s
       (λ w left. stack.with_operand o (situation_here c) left
-      (λ v rest. stack.decides (stack.stands_in p v w) when target rest (at_case c chosen s))))
+      (λ v rest. stack.decides (stack.stands_in p v w) when target rest (at_aside c aside s))))
   unfolding perform
-  is_in_led o q when target chosen s is is_q room stands =
+  is_in_led o q when target aside s is is_q room stands =
       let item = items.is_in o q when target in
       let act : Operand → List _ =
       λ x. labelled operations.JumpIfIn (x ∷ assigned_word q ∷ []) when (2 + over c target) in
       by_operand q (situation_here c) s (LedFrom c s)
       (λ w left. stack.with_operand o (situation_here c) left
-      (λ v rest. stack.decides (stack.stands_in p v w) when target rest (at_case c chosen s))) tt
+      (λ v rest. stack.decides (stack.stands_in p v w) when target rest (at_aside c aside s))) tt
       (λ w left first.
       let b = pulls c 1 q (at_label a (objects_here c) o act) s s m w left (omega arith) (omega arith) first
       (begins c item s stands) (begun_end c item s refl stands) in
       tests_led c o s left b.memory act
       (λ v situation. source.to (relative_in relatives.Parent v situation.world.objects.tree == w) situation)
       (λ rest so situation. stack.branch (agrees so when) target rest
-      (record (at_case c chosen s) { situation = situation }))
+      (record (at_aside c aside s) { situation = situation }))
       (label_tests c o act s left b.memory is b.reached b.end stands.followed)
       (λ v rest second object t.
       let r = t.reached in
       let st = at_words (around c) r.memory locals rest world.text in
       let word = word_still c 1 q w b.memory r.memory (r.unwritten 249 (omega arith) (omega arith)) b.word in
       label_led operations.JumpIfIn (t.operand ∷ assigned_word q ∷ []) (v ∷ w ∷ []) when
-      (world.objects.tree.parent v == w) target chosen s rest b.memory r t.end
+      (world.objects.tree.parent v == w) target aside s rest b.memory r t.end
       (omega (
         arith,
         room,
@@ -190,7 +190,7 @@ module _ (c : Running) where
       (Some (record { when = w1; offset = offset })) v w object)))
 
   -- whether an object provides a property
-  module _ (n : ℕ) (when : Bool) (target : ℕ) (chosen : Option ℕ) (before rest : List ℕ) (v : ℕ) (named : IsProperty n)
+  module _ (n : ℕ) (when : Bool) (target : ℕ) (aside : Option ℕ) (before rest : List ℕ) (v : ℕ) (named : IsProperty n)
       (room : length rest ≤ 48) (object : IsObjectHere c v)
       (t : AtIndex c v before rest m (λ x. property_address x (n % 256) 248
       ∷ labelled operations.JumpIfZero (Variable 248 ∷ []) (not when) (2 + over c target))) where
@@ -204,7 +204,7 @@ module _ (c : Running) where
     addressed : (w : ℕ)
         → ((after : ℕ) → get_property_address (point t.reached.q world.fuel) after (Some 248) v n old
         ≡ give_result (point t.reached.q world.fuel) after (Some 248) w old)
-        → LedFrom c before (stack.branch (agrees (w == 0) (not when)) target rest (at_case c chosen before))
+        → LedFrom c before (stack.branch (agrees (w == 0) (not when)) target rest (at_aside c aside before))
     unfolding perform
     addressed w does =
         let r = t.reached in
@@ -223,7 +223,7 @@ module _ (c : Running) where
         ∙ does after) (works_at c v before rest m (λ x. property_address x (n % 256) 248 ∷ test) t) in
         let m1 = with_variable r.memory 248 w in
         let st = at_words (around c) m1 locals rest world.text in
-        label_led operations.JumpIfZero (Variable 248 ∷ []) (w ∷ []) (not when) (w == 0) target chosen before rest m1
+        label_led operations.JumpIfZero (Variable 248 ∷ []) (w ∷ []) (not when) (w == 0) target aside before rest m1
         (record {
           memory = m1;
           scratch = next.scratch;
@@ -244,7 +244,7 @@ module _ (c : Running) where
     opposite false = refl
 
     provides_by : (words : Option (List ℕ)) → world.objects.properties v n ≡ words
-        → LedFrom c before (stack.branch (agrees (is_some words) when) target rest (at_case c chosen before))
+        → LedFrom c before (stack.branch (agrees (is_some words) when) target rest (at_aside c aside before))
     provides_by None e =
         addressed 0 (λ after. (acts_in c t.reached.memory rest world.text t.reached.scratch).absent
         (point t.reached.q world.fuel) after (Some 248) v n object named.0 named.1 e)
@@ -254,16 +254,16 @@ module _ (c : Running) where
         let low = ((region_laws.placed p.objects p.defaults world.objects r.scratch.stored.tables r.memory
         r.scratch.stored.has).within v n words object e).2 in
         let some : (w == 0) ≡ false = ne_eqb w 0 (λ f. omega (arith, f, low)) in
-        subst (λ b. LedFrom c before (stack.branch b target rest (at_case c chosen before)))
+        subst (λ b. LedFrom c before (stack.branch b target rest (at_aside c aside before)))
         (ap (λ b. agrees b (not when)) some ∙ opposite when)
         (addressed w (λ after. (acts_in c r.memory rest world.text r.scratch).present
         (point r.q world.fuel) after (Some 248) v n words object e))
 
-  pub provides_led : (o : items.Operand) (n : ℕ) (when : Bool) (target : ℕ) (chosen : Option ℕ) (s : List ℕ)
+  pub provides_led : (o : items.Operand) (n : ℕ) (when : Bool) (target : ℕ) (aside : Option ℕ) (s : List ℕ)
       → IsProperty n → IsOperandHere c o → length s ≤ 48 → ArrivesAt c (items.provides o n when target)
       → LedFrom c s (stack.with_operand o (situation_here c) s
-      (λ v rest. stack.decides (stack.is_provided p v n) when target rest (at_case c chosen s)))
-  provides_led o n when target chosen s named is room stands =
+      (λ v rest. stack.decides (stack.is_provided p v n) when target rest (at_aside c aside s)))
+  provides_led o n when target aside s named is room stands =
       let item = items.provides o n when target in
       let act : Operand → List Instruction =
       λ x. property_address x (n % 256) 248
@@ -271,9 +271,9 @@ module _ (c : Running) where
       tests_led c o s s m act
       (λ v situation. source.to (is_some (situation.world.objects.properties v n)) situation)
       (λ rest so situation. stack.branch (agrees so when) target rest
-      (record (at_case c chosen s) { situation = situation }))
+      (record (at_aside c aside s) { situation = situation }))
       (label_tests c o act s s m is (begins c item s stands) (begun_end c item s refl stands) stands.followed)
       (λ v rest alone object t.
-      provides_by n when target chosen s rest v named
+      provides_by n when target aside s rest v named
       (omega (arith, room, alone_count o (situation_here c) s v rest alone)) object t
       (world.objects.properties v n) refl)

@@ -27,7 +27,7 @@ use Rattle.code_selection.specs.ItemBytes.{item_bytes}
 use Rattle.code.specs.Bytes.{place_of, code_bytes}
 use Rattle.code.specs.Laws.{CodePlays}
 use Rattle.code.specs.HeldProgram.{sizes_of, HoldsProgram}
-use Rattle.code.proofs.Play.{items_in, address, next_of, state_of, Good, LedBy, none_chosen}
+use Rattle.code.proofs.Play.{items_in, address, next_of, state_of, Good, LedBy, none_aside}
 use Rattle.code.proofs.Memory.{holds_on}
 use Rattle.code.proofs.Places.{next_place, ends_by, starts, follow, item_holds}
 use Rattle.code.proofs.Ends.{quits}
@@ -38,6 +38,7 @@ use Rattle.code.proofs.PrintedTexts.{texts_printable}
 use Rattle.code.proofs.Moving.{move_led, keep_led, drop_below_led}
 use Rattle.code.proofs.Stepping.{step_led}
 use Rattle.code.proofs.Operating.{operate_led}
+use Rattle.code.proofs.OperatingAside.{operate_aside_led}
 use Rattle.code.proofs.Arithmetic.{prefix_led}
 use Rattle.code.proofs.Loading.{entry_led}
 use Rattle.code.proofs.Storing.{assign_entry_led}
@@ -45,7 +46,7 @@ use Rattle.code.proofs.Equalities.{first_equal_led, also_equal_led}
 use Rattle.code.proofs.ItemsThatPrint.{new_line_led, print_number_led, print_text_led}
 use Rattle.code.proofs.Characters.{print_character_led}
 use Rattle.code.proofs.Branching.{branch_led}
-use Rattle.code.proofs.Choosing.{choose_led, case_led}
+use Rattle.code.proofs.CaseTests.{case_led}
 use Rattle.code.proofs.Jumping.{jump_led, back_led}
 use Rattle.code.proofs.Calling.{call_led}
 use Rattle.code.proofs.Returning.{return_led}
@@ -102,7 +103,7 @@ module _ (story : List ℕ) (a : Addresses) (p : ProgramOf) (accepted : IsAccept
       globals = good.globals;
       sizes = good.sizes;
       stored = good.stored;
-      chosen = none_chosen story m;
+      put_aside = none_aside story m;
     };
   }
 
@@ -173,6 +174,11 @@ module _ (story : List ℕ) (a : Addresses) (p : ProgramOf) (accepted : IsAccept
       go (items.operate binaries.OrElse x y d) f st is text = absurd is
       go (items.operate op x y d) f st is text =
           operate_led c op x y d words is.0 is.1 is.2 (λ e. absurd (cc)) (λ e. absurd (cc)) good.room st
+      go (items.operate_aside binaries.AndAlso x d) f st is text = absurd is
+      go (items.operate_aside binaries.OrElse x d) f st is text = absurd is
+      go (items.operate_aside op x d) f st is text =
+          operate_aside_led c op x d s.put_aside words is.0 is.1 (λ e. absurd (cc)) (λ e. absurd (cc)) good.room
+          good.put_aside st
       go (items.step op x d) f st is text = step_led c op x d words is.0 is.1 good.room st
       go (items.entry width n o d) f st is text = entry_led c width n o d words is.0 is.1 is.2 good.room st
       go (items.assign_entry width n o q d) f st is text =
@@ -190,10 +196,10 @@ module _ (story : List ℕ) (a : Addresses) (p : ProgramOf) (accepted : IsAccept
       go (items.give o changes) f st is text = give_led c o changes words is.0 is.1 good.room st
       go (items.move_object o into) f st is text = move_object_led c o into words is.0 is.1 good.room st
       go (items.remove_object o) f st is text = remove_object_led c o words is good.room st
-      go (items.keep x) f st is text = keep_led c x s.chosen words is st
-      go items.first_equal f st is text = first_equal_led c s.chosen words good.room st
-      go items.also_equal f st is text = also_equal_led c s.chosen words good.room st
-      go items.drop_below f st is text = drop_below_led c s.chosen words st
+      go (items.keep x) f st is text = keep_led c x s.put_aside words is st
+      go items.first_equal f st is text = first_equal_led c s.put_aside words good.room st
+      go items.also_equal f st is text = also_equal_led c s.put_aside words good.room st
+      go items.drop_below f st is text = drop_below_led c s.put_aside words st
       go (items.print_text bytes) f st is text = print_text_led c bytes words printable.2 text good.room st
       go (items.print_character o) f st is text = print_character_led c o words is good.room st
       go (items.print_number o) f st is text = print_number_led c o words is good.room st
@@ -205,20 +211,19 @@ module _ (story : List ℕ) (a : Addresses) (p : ProgramOf) (accepted : IsAccept
           (here c) s.situation.world.fuel s.situation.world
           (single c items.quit (plain operations.Quit []) refl refl st).held
       go (items.branch test os when target) f st is text =
-          branch_led c test os when target s.chosen words is.0 is.1 good.room st
+          branch_led c test os when target s.put_aside words is.0 is.1 good.room st
       go (items.is_in o q when target) f st is text =
-          is_in_led c o q when target s.chosen words is.0 is.1 good.room st
-      go (items.has o n when target) f st is text = has_led c o n when target s.chosen words is.0 is.1 good.room st
+          is_in_led c o q when target s.put_aside words is.0 is.1 good.room st
+      go (items.has o n when target) f st is text = has_led c o n when target s.put_aside words is.0 is.1 good.room st
       go (items.provides o q when target) f st is text =
-          provides_led c o q when target s.chosen words is.0 is.1 good.room st
+          provides_led c o q when target s.put_aside words is.0 is.1 good.room st
       go (items.first_object x target) f st is text =
-          first_object_led c x target s.chosen words is.0 good.room st
+          first_object_led c x target s.put_aside words is.0 good.room st
       go (items.next_object x target) f st is text =
-          next_object_led c x target s.chosen words is.0 good.room st
-      go (items.choose o) f st is text = choose_led c o words is good.room st
+          next_object_led c x target s.put_aside words is.0 good.room st
       go (items.case test ns when target) f st is text =
-          case_led c test ns when target s.chosen words is.0 is.1 good.room good.chosen st
-      go (items.jump target) f st is text = jump_led c target s.chosen words good.room good.chosen st
+          case_led c test ns when target s.put_aside words is.0 is.1 good.room good.put_aside st
+      go (items.jump target) f st is text = jump_led c target s.put_aside words good.room good.put_aside st
       go (items.back target) f st is text = back_led c target words good.room st
       go (items.call r os d) f st is text = call_led c r os d words is.0 is.1 is.4 is.2 good.room st
       go (items.return o) f st is text = return_led c o words is st

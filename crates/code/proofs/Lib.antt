@@ -12,7 +12,7 @@ pub mod Calling
 pub mod Changing
 pub mod CharacterTests
 pub mod Characters
-pub mod Choosing
+pub mod CaseTests
 pub mod ClimbingSteps
 pub mod Climbing
 pub mod Codes
@@ -53,6 +53,7 @@ pub mod ObjectSamples
 pub mod ObjectStories
 pub mod Opening
 pub mod Operating
+pub mod OperatingAside
 pub mod Parts
 pub mod Places
 pub mod Play

@@ -14,14 +14,15 @@ use Rattle.meaning.specs.Accepted.{IsVariable}
 use Rattle.code_values.specs.Items.{Destination}
 use Rattle.code_values.specs.Items as items
 use Rattle.code_items.specs.Stack as stack
-use Rattle.code_encoding.specs.Instructions.{number_of, in_place, result_in, push, pull, copy, store}
-use Rattle.code.proofs.Play.{Leads, Stored}
+use Rattle.code_encoding.specs.Instructions.{number_of, in_place, aside_variable, result_in, push, pull, copy, store}
+use Rattle.code.proofs.Play.{Leads, Stored, HoldsAside, none_aside}
+use Rattle.code.proofs.Memory.{with_variable}
 use Rattle.code.proofs.Parts.{machine as at_words, pushes, Writes, global_writes}
 use Rattle.code.proofs.Steps.{point, one_step, one_operand, two_operands, small_value}
 use Rattle.code.proofs.SingleSteps.{pull_step, pull_below_step, copy_step}
 use Rattle.code.proofs.Fitting.{Shaped}
-use Rattle.code.proofs.Arriving.{Running, at, at_case, around, here, LedFrom, room_for, code_here, arrives, ArrivesAt}
-use Rattle.code.proofs.Arriving.{arrives_on, situation_here}
+use Rattle.code.proofs.Arriving.{Running, at, at_aside, around, here, LedFrom, room_for, code_here, arrives, ArrivesAt}
+use Rattle.code.proofs.Arriving.{arrives_with, situation_here}
 use Rattle.code.proofs.Variables.{memory_with, variable_held}
 use Rattle.code.proofs.Temporaries.{scratch_here, made}
 use Rattle.code.proofs.Delivering.{memory_after, locals_after, stack_after, delivered_led, stored_step}
@@ -115,6 +116,24 @@ module _ (c : Running) where
       (pull_step (around c) world.fuel m locals rest world.text (memory_with c m x v)
       (with_value x v (situation_here c)).locals (here c) (number_of x) v
       ((variable_held c m x (scratch_here c) is_d).writes v) there.held))
+  move_led items.pushed items.aside [] is is_d short stands = tt
+  move_led items.pushed items.aside (v ∷ rest) is is_d short stands =
+      let i = pull aside_variable in
+      let there = single c (items.move items.pushed items.aside) i refl refl stands in
+      let end = here c + length (bytes_of i) in
+      let m1 = with_variable m aside_variable v in
+      delivered_led c items.aside v end (v ∷ rest) rest m is_d (scratch_here c) (omega (arith, short)) there.end
+      (one_step (point (here c) world.fuel) (point end world.fuel)
+      (at_words (around c) m locals (v ∷ rest) world.text)
+      (at_words (around c) m1 locals rest world.text)
+      (pull_step (around c) world.fuel m locals rest world.text m1 locals (here c) aside_variable v
+      (global_writes (around c) m locals aside_variable v (omega arith) (omega arith)) there.held))
+  move_led (items.number n) items.aside s is is_d short stands =
+      store_led (items.number n) items.aside s is is_d short refl stands
+      (λ word. global_writes (around c) m locals aside_variable word (omega arith) (omega arith)) (λ word rest. refl)
+  move_led (items.variable y) items.aside s is is_d short stands =
+      store_led (items.variable y) items.aside s is is_d short refl stands
+      (λ word. global_writes (around c) m locals aside_variable word (omega arith) (omega arith)) (λ word rest. refl)
   move_led (items.number n) (items.into x) s is is_d short stands =
       store_into (items.number n) x s is is_d short refl stands
   move_led (items.variable y) (items.into x) s is is_d short stands =
@@ -134,7 +153,31 @@ module _ (c : Running) where
   abbrev pub IsVariableHere : source.Variable → Type 0
   IsVariableHere x = IsVariable p (routine_at p.routines routine).locals x
 
-  -- the machine comes to the next item, where a variable has changed
+  -- the machine comes to the next item, where a variable has changed, with a word that is put aside, or none
+  pub written_with : (aside : Option ℕ) (before after m1 : List ℕ) (situation : Situation) (end : ℕ)
+      → HoldsAside story m1 aside → end ≡ next_place c → length after ≤ 48
+      → Stored story a p situation.world.globals situation.world.arrays situation.world.objects m1
+      → length situation.locals ≡ length locals → length situation.world.globals ≡ length world.globals
+      → map length situation.world.arrays ≡ map length world.arrays
+      → situation.world.fuel ≡ world.fuel → situation.world.text ≡ world.text
+      → Leads (point (here c) world.fuel) (at_words (around c) m locals before world.text) (point end world.fuel)
+      (at_words (around c) m1 situation.locals after world.text)
+      → LedFrom c before (stack.goes (record {
+        routine = routine;
+        place = place + 1;
+        stack = after;
+        put_aside = aside;
+        callers = callers;
+        situation = situation;
+      }))
+  written_with aside before after m1 situation end kept is room stored locals_same globals_same arrays_same fuel text
+      leads =
+      let one = subst (λ f. Leads (point (here c) world.fuel) (at_words (around c) m locals before world.text)
+      (point end f) (at_words (around c) m1 situation.locals after world.text)) (sym fuel) leads in
+      let two = subst (λ t. Leads (point (here c) world.fuel) (at_words (around c) m locals before world.text)
+      (point end situation.world.fuel) (at_words (around c) m1 situation.locals after t)) (sym text) one in
+      arrives_with c aside before after m1 situation end kept is room stored locals_same globals_same arrays_same two
+
   pub written_led : (before after m1 : List ℕ) (situation : Situation) (end : ℕ) → end ≡ next_place c
       → length after ≤ 48
       → Stored story a p situation.world.globals situation.world.arrays situation.world.objects m1
@@ -147,16 +190,13 @@ module _ (c : Running) where
         routine = routine;
         place = place + 1;
         stack = after;
-        chosen = None;
+        put_aside = None;
         callers = callers;
         situation = situation;
       }))
   written_led before after m1 situation end is room stored locals_same globals_same arrays_same fuel text leads =
-      let one = subst (λ f. Leads (point (here c) world.fuel) (at_words (around c) m locals before world.text)
-      (point end f) (at_words (around c) m1 situation.locals after world.text)) (sym fuel) leads in
-      let two = subst (λ t. Leads (point (here c) world.fuel) (at_words (around c) m locals before world.text)
-      (point end situation.world.fuel) (at_words (around c) m1 situation.locals after t)) (sym text) one in
-      arrives_on c before after m1 situation end is room stored locals_same globals_same arrays_same two
+      written_with None before after m1 situation end (none_aside story m1) is room stored locals_same globals_same
+      arrays_same fuel text leads
 
   pub within_led : (before after m1 : List ℕ) (situation : Situation) (end : ℕ) → end ≡ next_place c
       → Stored story a p situation.world.globals situation.world.arrays situation.world.objects m1
@@ -169,7 +209,7 @@ module _ (c : Running) where
         routine = routine;
         place = place + 1;
         stack = after;
-        chosen = None;
+        put_aside = None;
         callers = callers;
         situation = situation;
       }))
@@ -182,7 +222,7 @@ module _ (c : Running) where
             routine = routine;
             place = place + 1;
             stack = after;
-            chosen = None;
+            put_aside = None;
             callers = callers;
             situation = situation;
           })
@@ -191,11 +231,11 @@ module _ (c : Running) where
           arrays_same fuel text leads
       go false e = tt
 
-  -- whatever word of a `switch` there is
-  pub keep_led : (x : source.Variable) (chosen : Option ℕ) (s : List ℕ) → IsVariableHere x → ArrivesAt c (items.keep x)
-      → LedFrom c s (stack.keep x s (at_case c chosen s))
-  keep_led x chosen [] is stands = tt
-  keep_led x chosen (v ∷ s) is stands =
+  -- whatever word is put aside
+  pub keep_led : (x : source.Variable) (aside : Option ℕ) (s : List ℕ) → IsVariableHere x → ArrivesAt c (items.keep x)
+      → LedFrom c s (stack.keep x s (at_aside c aside s))
+  keep_led x aside [] is stands = tt
+  keep_led x aside (v ∷ s) is stands =
       let held = variable_held c m x (scratch_here c) is in
       let i = copy (number_of x) in
       let there = single c (items.keep x) i refl refl stands in
@@ -210,11 +250,11 @@ module _ (c : Running) where
       (copy_step (around c) world.fuel m locals s world.text (memory_with c m x v) l1 (here c) (number_of x) v
       (held.writes v) there.held))
 
-  pub drop_below_led : (chosen : Option ℕ) (s : List ℕ) → ArrivesAt c items.drop_below
-      → LedFrom c s (stack.drop_below s (at_case c chosen s))
-  drop_below_led chosen [] stands = tt
-  drop_below_led chosen (v ∷ []) stands = tt
-  drop_below_led chosen (v ∷ x ∷ s) stands =
+  pub drop_below_led : (aside : Option ℕ) (s : List ℕ) → ArrivesAt c items.drop_below
+      → LedFrom c s (stack.drop_below s (at_aside c aside s))
+  drop_below_led aside [] stands = tt
+  drop_below_led aside (v ∷ []) stands = tt
+  drop_below_led aside (v ∷ x ∷ s) stands =
       let i = pull 0 in
       let there = single c items.drop_below i refl refl stands in
       let end = here c + length (bytes_of i) in

@@ -63,7 +63,7 @@ pub divides : (here : Next) (after v x y : ℕ) (s : State) → (y == 0) ≡ fal
 unfolding divide give_result
 divides here after v x y s e = let some : nat_le 1 y ≡ true = le-leb 1 y (some_is y e) in rw some refl
 
-divides_rest : (here : Next) (after v x y : ℕ) (s : State) → (y == 0) ≡ false
+pub divides_rest : (here : Next) (after v x y : ℕ) (s : State) → (y == 0) ≡ false
     → modulo here after (Some v) x y s ≡ give_result here after (Some v) (remainder x y) s
 unfolding modulo give_result
 divides_rest here after v x y s e = let some : nat_le 1 y ≡ true = le-leb 1 y (some_is y e) in rw some refl
@@ -77,7 +77,7 @@ module _ (c : Running) where
   test_of variable = branching operations.JumpIfZero (Variable variable ∷ []) false 6
 
   -- what a division comes to
-  abbrev Divided : Bool → ℕ → Destination → List ℕ → List ℕ → stack.Next
+  abbrev pub Divided : Bool → ℕ → Destination → List ℕ → List ℕ → stack.Next
   Divided faulty w d before rest =
       stack.after_part
       ((if faulty then source.fault causes.DivisionByZero else source.give w) (situation_here c))
@@ -110,7 +110,7 @@ module _ (c : Running) where
       }
 
   -- the divisor is tested, and the division done
-  divides_led : (op : Operation) (f : ℕ → ℕ
+  pub divides_led : (op : Operation) (f : ℕ → ℕ
       → ℕ) (x : items.Operand) (variable y q : ℕ) (d : Destination) (before mid other : List ℕ) → IsOperandHere c x
       → IsHere c d → Scratch c other → here c ≤ q → length mid ≤ 48
       → ReadsVariable (around c) other locals variable y → Holds m q (flat_map bytes_of (divided_by a op x variable d))

@@ -51,11 +51,19 @@ module _ (sizes : Sizes) where
       )
   operate_length a offset op x y d = refl
 
+  aside_length : (a : Addresses) (offset : ℕ) (op : Binary) (x : items.Operand) (d : Destination)
+      → length (item_bytes sizes a offset (items.operate_aside op x d)) ≡ least_size sizes (items.operate_aside op x d)
+  unfolding bytes_of
+  aside_length a offset binaries.Divide x d = refl
+  aside_length a offset binaries.Remainder x d = refl
+  aside_length a offset op x d = refl
+
   -- an item that does not branch has as many bytes wherever all stands
   pub same_length : (a : Addresses) (offset : ℕ) (i : Item) → target_of i ≡ None
       → length (item_bytes sizes a offset i) ≡ least_size sizes i
   unfolding bytes_of
   same_length a offset (items.operate op x y d) e = operate_length a offset op x y d
+  same_length a offset (items.operate_aside op x d) e = aside_length a offset op x d
   same_length a offset (items.entry width n o d) e =
       let size = slice_index sizes.arrays n % 65536 in
       let same = entry_same a no_addresses width size (slice_index a.arrays n)

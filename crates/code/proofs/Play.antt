@@ -61,13 +61,13 @@ pub record Stored (story : List ℕ) (a : Addresses) (p : ProgramOf) (globals : 
     pub tables : List PropertyTable
     pub has : HasObjects p.objects p.defaults objects tables memory
 
--- a word of a `switch` that is tested stands in the last variable
-abbrev pub IsChosen : List ℕ → List ℕ → Option ℕ → Type 0
-IsChosen story memory chosen = (v : ℕ) → chosen ≡ Some v → word_at memory (globals_of story + 478) ≡ v
+-- a word that was put aside stands in the last variable
+abbrev pub HoldsAside : List ℕ → List ℕ → Option ℕ → Type 0
+HoldsAside story memory aside = (v : ℕ) → aside ≡ Some v → word_at memory (globals_of story + 478) ≡ v
 
--- where none is tested there is nothing to show
-pub none_chosen : (story memory : List ℕ) → IsChosen story memory None
-none_chosen story memory v e = absurd (cc)
+-- where there is none there is nothing to show
+pub none_aside : (story memory : List ℕ) → HoldsAside story memory None
+none_aside story memory v e = absurd (cc)
 
 -- how many arguments the first of some calls was given, and the others
 abbrev pub first_count : List ℕ → ℕ
@@ -146,7 +146,7 @@ module _ (story : List ℕ) (a : Addresses) (p : ProgramOf) where
     pub globals : length s.situation.world.globals ≡ length p.globals
     pub sizes : map length s.situation.world.arrays ≡ (sizes_of p).arrays
     pub stored : Stored story a p s.situation.world.globals s.situation.world.arrays s.situation.world.objects memory
-    pub chosen : IsChosen story memory s.chosen
+    pub put_aside : HoldsAside story memory s.put_aside
 
   -- the machine comes to a state that stands for this one
   pub record Arrives (here : Next) (t : State) (s : stack.ItemState) : Type 0 where

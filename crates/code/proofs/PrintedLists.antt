@@ -6,7 +6,7 @@ use Rattle.std.proofs.lemmas.List.Elements.{All-nil, All-cons, All-append}
 use Rattle.syntax_lexer.specs.Printable.{IsPrintable}
 use Rattle.syntax_trees.specs.declared.tree.Step.{Step}
 use Rattle.meaning.specs.declared.resolved.Variable.{Variable}
-use Rattle.code_values.specs.Items.{Item, Operand, pushed, number, variable, Destination, push, into, nowhere}
+use Rattle.code_values.specs.Items.{Item, Operand, pushed, number, variable, Destination, push, into, aside, nowhere}
 use Rattle.code_values.specs.Items.{if_pushed, moved, truth_items, after_items, kept_items}
 use Rattle.code_values.specs.Items as items
 
@@ -44,6 +44,7 @@ either_fine false xs ys h k = k
 pub moved_fine : (o : Operand) (d : Destination) → Fine (moved o d)
 moved_fine o push = first _ _ tt nothing
 moved_fine o (into x) = first _ _ tt nothing
+moved_fine o aside = first _ _ tt nothing
 moved_fine o nowhere = nothing
 
 pub truth_fine : (at count : ℕ) (d : Destination) (f : ℕ → List Item) → ((t : ℕ) → Fine (f t))
@@ -52,16 +53,20 @@ truth_fine at count push f h =
     joined (f (at + count + 2)) _ (h (at + count + 2)) (first _ _ tt (first _ _ tt (first _ _ tt nothing)))
 truth_fine at count (into x) f h =
     joined (f (at + count + 2)) _ (h (at + count + 2)) (first _ _ tt (first _ _ tt (first _ _ tt nothing)))
+truth_fine at count aside f h =
+    joined (f (at + count + 2)) _ (h (at + count + 2)) (first _ _ tt (first _ _ tt (first _ _ tt nothing)))
 truth_fine at count nowhere f h = h (at + count)
 
 pub after_fine : (x : Variable) (op : Step) (d : Destination) → Fine (after_items x op d)
 after_fine x op push = first _ _ tt (first _ _ tt nothing)
 after_fine x op (into y) = first _ _ tt (first _ _ tt (first _ _ tt nothing))
+after_fine x op aside = first _ _ tt (first _ _ tt (first _ _ tt nothing))
 after_fine x op nowhere = first _ _ tt nothing
 
 pub kept_fine : (x : Variable) (d : Destination) (xs ys : List Item) → Fine xs → Fine ys → Fine (kept_items x d xs ys)
 kept_fine x push xs ys h k = last ys _ k tt
 kept_fine x (into y) xs ys h k = joined ys _ k (first _ _ tt (first _ _ tt nothing))
+kept_fine x aside xs ys h k = joined ys _ k (first _ _ tt (first _ _ tt nothing))
 kept_fine x nowhere xs ys h k = h
 
 pub two_fine : (oa ob : Operand) (xs ys zs : List Item) → Fine xs → Fine ys → Fine zs

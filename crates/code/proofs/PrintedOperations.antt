@@ -9,12 +9,13 @@ use Rattle.syntax_trees.specs.declared.tree.Prefix.TheVariants as prefixes
 use Rattle.syntax_trees.specs.declared.tree.Width.{Width}
 use Rattle.meaning.specs.Resolved.{Value, Values}
 use Rattle.meaning.specs.Resolved as source
-use Rattle.code_values.specs.Items.{Item, Operand, Destination, push, operand_of, operands_of, alone, left_of, if_pushed}
+use Rattle.code_values.specs.Items.{Item, Operand, pushed, number, variable, Destination, push, into, aside, nowhere}
+use Rattle.code_values.specs.Items.{right_place, operated, operand_of, operands_of, alone, left_of, if_pushed}
 use Rattle.code_values.specs.Items.{is_direct, same_count, same_items, value_count}
 use Rattle.code_values.specs.Items.{operand_count, operands_count, branch_count, many_count, value_items}
 use Rattle.code_values.specs.Items.{operands_items, branch_items, many_items, also_items}
 use Rattle.code_values.specs.Items as items
-use Rattle.code.proofs.PrintedLists.{Fine, nothing, first, joined, last, pushed_fine, either_fine, truth_fine, two_fine}
+use Rattle.code.proofs.PrintedLists.{HasPrintableText, Fine, nothing, first, joined, last, pushed_fine, either_fine, truth_fine, two_fine}
 
 -- Expressions
 
@@ -39,6 +40,16 @@ prefixed_fine op v f = record {
       (pushed_fine (alone v) _ (f.value at push)) (first _ _ tt (first _ _ tt nothing));
 }
 
+-- an operation prints no text
+no_text : (place : Destination) (op : Binary) (o q : Operand) (d : Destination)
+    → HasPrintableText (operated place op o q d)
+no_text aside op o pushed d = tt
+no_text aside op o (number n) d = tt
+no_text aside op o (variable x) d = tt
+no_text push op o q d = tt
+no_text (into x) op o q d = tt
+no_text nowhere op o q d = tt
+
 pub binary_fine : (op : Binary) (a b : Value) → ValueFine a → ValueFine b → ValueFine (source.binary op a b)
 binary_fine binaries.AndAlso a b f g = record {
   value = λ at d. truth_fine at (branch_count a false + branch_count b true) d
@@ -54,12 +65,15 @@ binary_fine binaries.OrElse a b f g = record {
   branch = λ at when t. joined (branch_items at a true _) _ (f.branch at true _)
       (g.branch (at + branch_count a true) when t);
 }
-binary_fine op a b f g = record {
-  value = λ at d. two_fine (left_of a b) (alone b) _ _ _ (f.value at push)
-      (g.value (at + operand_count a (left_of a b)) push) (first _ _ tt nothing);
-  branch = λ at when t. two_fine (left_of a b) (alone b) _ _ _ (f.value at push)
-      (g.value (at + operand_count a (left_of a b)) push) (first _ _ tt (first _ _ tt nothing));
-}
+binary_fine op a b f g =
+    let o = left_of a b in
+    let place = right_place op o in
+    record {
+      value = λ at d. two_fine o (alone b) _ _ _ (f.value at push) (g.value (at + operand_count a o) place)
+          (first _ _ (no_text place op o (alone b) d) nothing);
+      branch = λ at when t. two_fine o (alone b) _ _ _ (f.value at push) (g.value (at + operand_count a o) place)
+          (first _ _ (no_text place op o (alone b) push) (first _ _ tt nothing));
+    }
 
 pub compare_fine : (op : _) (a b : Value) → ValueFine a → ValueFine b → ValueFine (source.compare op a b)
 compare_fine op a b f g =

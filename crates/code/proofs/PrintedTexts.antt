@@ -10,10 +10,9 @@ use Rattle.meaning.specs.Resolved.{Value, Values, none, more, Printed, Action, A
 use Rattle.meaning.specs.Resolved as source
 use Rattle.meaning.specs.Meaning.{is_true}
 use Rattle.meaning.specs.Printable.{IsPrintableItem, IsPrintableAction, ArePrintableActions, ArePrintableCases}
-use Rattle.code_values.specs.Items.{Item, Operand, number, variable, push, into, nowhere, operand_of, alone, left_of}
-use Rattle.code_values.specs.Items.{if_pushed, agrees, value_count, operand_count, branch_count, value_items}
+use Rattle.code_values.specs.Items.{Item, Operand, number, variable, push, into, aside, nowhere, operand_of, alone}
+use Rattle.code_values.specs.Items.{left_of, if_pushed, agrees, value_count, operand_count, branch_count, value_items}
 use Rattle.code_values.specs.Items.{operands_items, branch_items, alone_items}
-use Rattle.code_values.specs.Items as items
 use Rattle.code_items.specs.Statements.{each_items, relative_items, children_items, printed_count, action_count}
 use Rattle.code_items.specs.Statements.{printed_items, prints_items, Exits, exits_to, action_items, actions_items}
 use Rattle.code_items.specs.Statements.{return_true, routine_items, once_count, once_items, test_count, test_items}
@@ -194,10 +193,10 @@ mutual
       (joined (action_items (exits_to done end) inside a) _ (action_fine (exits_to done end) a h inside)
       (last (once_items done behind) _ (once_fine behind done) tt)))
   action_fine x (source.switch_on v cs) h at =
-      let tested = at + operand_count v (alone v) + 1 in
+      let tested = at + value_count v aside in
       let end = tested + cases_count cs in
-      joined (alone_items at v) _ (alone_fine v at)
-      (first (items.choose (alone v)) _ tt (cases_fine (record x { breaks = end }) cs h tested end))
+      joined (value_items at v aside) _ ((value_fine v).value at aside)
+      (cases_fine (record x { breaks = end }) cs h tested end)
   action_fine x source.break_out h at = first _ _ tt nothing
   action_fine x source.continue_on h at = first _ _ tt nothing
   action_fine x (source.read_line t p) h at = first _ _ tt nothing

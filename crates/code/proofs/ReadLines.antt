@@ -26,7 +26,7 @@ use Rattle.code_items.specs.Stack as stack
 use Rattle.code_encoding.specs.Instructions.{plain, giving}
 use Rattle.code_selection.specs.ItemCode.{line_code}
 use Rattle.code.proofs.Behind.{Holds, holds_on}
-use Rattle.code.proofs.Play.{Stored, Good, next_of, state_of, none_chosen, PlaysAs}
+use Rattle.code.proofs.Play.{Stored, Good, next_of, state_of, none_aside, PlaysAs}
 use Rattle.code.proofs.Memory.{with_variable, stored_temporary}
 use Rattle.code.proofs.Regions.{KeepsOutside}
 use Rattle.code.proofs.StoredEntries.{high_kept, Inside, entry_inside, entry_keeps, stored_entry}
@@ -260,7 +260,7 @@ module _ (c : Running) where
       globals = good.globals;
       sizes = line_sizes (number_in p) world.arrays t q line other_way ∙ good.sizes;
       stored = last_stored line;
-      chosen = none_chosen story (last_memory line);
+      put_aside = none_aside story (last_memory line);
     }
 
     next_end : r.q + 6 + 7 ≡ next_place c

@@ -23,7 +23,7 @@ use Rattle.meaning.specs.World as source
 use Rattle.code_values.specs.Items.{Destination}
 use Rattle.code_values.specs.Items as items
 use Rattle.code_items.specs.Stack as stack
-use Rattle.code_encoding.specs.Instructions.{number_of, result_in}
+use Rattle.code_encoding.specs.Instructions.{number_of, aside_variable, result_in}
 use Rattle.code_objects.specs.ObjectCode.{giving_on, relative_of}
 use Rattle.code.proofs.Memory.{with_variable}
 use Rattle.code.proofs.Parts.{room_is, Around, machine as at_words, pushes, Writes, global_writes}
@@ -112,6 +112,13 @@ module _ (c : Running) where
       (memory_with c other x word) (source.with_value x word (situation_here c)).locals (held.writes word) ahead
       (omega (arith, above, ahead)) (omega (arith, within, scratch.stored.size, good.stored.size))
       (omega (arith, within, (held.stored word).size, good.stored.size))
+  object_given items.aside word after q rest other text is scratch room ahead above within =
+      let still = scratch_with c other aside_variable word scratch (omega arith) (omega arith) in
+      object_variable (point q world.fuel) after aside_variable word (around c) other locals rest text
+      (with_variable other aside_variable word) locals
+      (global_writes (around c) other locals aside_variable word (omega arith) (omega arith)) ahead
+      (omega (arith, above, ahead)) (omega (arith, within, scratch.stored.size, good.stored.size))
+      (omega (arith, within, still.stored.size, good.stored.size))
   object_given items.nowhere word after q rest other text is scratch room ahead above within =
       let still = scratch_with c other 248 word scratch (omega arith) (omega arith) in
       object_variable (point q world.fuel) after 248 word (around c) other locals rest text

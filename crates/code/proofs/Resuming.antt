@@ -1,6 +1,6 @@
 -- What is done with the word that a routine gives back.
-use Rattle.std.proofs.Common.{◌≡◌, ℕ, suc, ◌+◌, ◌<◌, ◌≤◌, List, [], ◌∷◌, ◌++◌, length, Option, None, Bool, true, false}
-use Rattle.std.proofs.Common.{refl, sym, ap, ◌∙◌, subst, arith}
+use Rattle.std.proofs.Common.{◌≡◌, ℕ, suc, ◌+◌, ◌<◌, ◌≤◌, List, [], ◌∷◌, ◌++◌, length, Option, Some, None, Bool, true}
+use Rattle.std.proofs.Common.{false, refl, sym, ap, ◌∙◌, subst, arith}
 use Rattle.std.specs.Prelude.{slice_index, nat_le, if◌then◌else◌, map}
 use Rattle.std.specs.List.{All}
 use Rattle.std.proofs.lemmas.Bool.{leb-true}
@@ -25,13 +25,14 @@ use Rattle.code_values.specs.Items as items
 use Rattle.code_items.specs.Laws.{IsDestination}
 use Rattle.code_items.specs.Stack.{Caller}
 use Rattle.code_items.specs.Stack as stack
-use Rattle.code_encoding.specs.Instructions.{plain, number_of}
+use Rattle.code_encoding.specs.Instructions.{plain, number_of, aside_variable}
 use Rattle.code_instructions.specs.Instructions.{call_result}
 use Rattle.code.specs.HeldProgram.{sizes_of}
 use Rattle.code.proofs.Behind.{Holds, holds_on}
 use Rattle.code.proofs.Play.{Leads, items_in, address, frames_of, frame_of, back_of, result_of, first_count}
-use Rattle.code.proofs.Play.{other_counts, IsCaller, Led, none_chosen}
-use Rattle.code.proofs.Parts.{Around, machine as at_words, pushes}
+use Rattle.code.proofs.Play.{other_counts, IsCaller, Led, none_aside}
+use Rattle.code.proofs.Memory.{with_variable}
+use Rattle.code.proofs.Parts.{Around, machine as at_words, pushes, global_writes}
 use Rattle.code.proofs.Steps.{point, one_step, first_held, others_held}
 use Rattle.code.proofs.Ends.{does_after, quits}
 use Rattle.code.proofs.Places.{ends_by}
@@ -39,7 +40,8 @@ use Rattle.code.proofs.Entering.{in_frames}
 use Rattle.code.proofs.HeldRoutines.{caller_words}
 use Rattle.code.proofs.Arriving.{Running, around, here, situation_here}
 use Rattle.code.proofs.Variables.{memory_with, variable_held}
-use Rattle.code.proofs.Temporaries.{scratch_here}
+use Rattle.code.proofs.Temporaries.{scratch_here, scratch_with}
+use Rattle.code.proofs.Delivering.{held_aside}
 use Rattle.code.proofs.Moving.{fuel_same, text_same}
 use Rattle.code.proofs.ReturnSteps.{inner, back_none, back_top, back_into}
 
@@ -134,7 +136,7 @@ module _ (c : Running) where
         globals = good.globals;
         sizes = good.sizes;
         stored = good.stored;
-        chosen = none_chosen story m;
+        put_aside = none_aside story m;
       };
     }
 
@@ -147,7 +149,7 @@ module _ (c : Running) where
           routine = d.routine;
           place = d.place;
           stack = words;
-          chosen = None;
+          put_aside = None;
           callers = callers;
           situation = situation;
         }
@@ -188,7 +190,7 @@ module _ (c : Running) where
             globals = good.globals;
             sizes = good.sizes;
             stored = good.stored;
-            chosen = none_chosen story m;
+            put_aside = none_aside story m;
           };
           leads = one_step (point (here c) world.fuel) (point back world.fuel) (called_by (d ∷ callers) counts words)
               end made_so;
@@ -216,7 +218,40 @@ module _ (c : Running) where
             globals = good.globals;
             sizes = good.sizes;
             stored = good.stored;
-            chosen = none_chosen story m;
+            put_aside = none_aside story m;
+          };
+          leads = one_step (point (here c) world.fuel) (point back world.fuel) (called_by (d ∷ callers) counts words)
+              end made_so;
+        }
+
+    puts_back : (words left : List ℕ) (v : ℕ) → d.destination ≡ items.aside → Backs (d ∷ callers) counts words left v
+        → LedBy (d ∷ callers) counts words
+        (stack.goes (record (resumed d.stack (situation_here caller_runs)) { put_aside = Some v }))
+    puts_back words left v to backs =
+        let w = global_writes e m d.locals aside_variable v (omega arith) (omega arith) in
+        let m1 = with_variable m aside_variable v in
+        let after = scratch_with caller_runs m aside_variable v (scratch_here caller_runs) (omega arith) (omega arith)
+        in
+        let end = at_words e m1 d.locals d.stack world.text in
+        let result = ap call_result to in
+        let made_so = backs ∙ ap (λ (r : Option ℕ). give_back world.fuel v
+        (at_words (inner count back r (g ∷ others)) m locals left world.text)) result
+        ∙ back_into m locals left world.text world.fuel v count back g others above within aside_variable w.named w.can
+        ∙ ap (λ (r : Out (Unit {0})). bound r (λ _ u. goes_on back world.fuel u)) (w.done_so d.stack world.text) in
+        record {
+          memory = m1;
+          count = first_count counts;
+          counts = other_counts counts;
+          good = record {
+            known = here_is.known;
+            locals = here_is.locals;
+            room = here_is.room;
+            callers = rest;
+            few = omega (arith, few);
+            globals = good.globals;
+            sizes = good.sizes;
+            stored = after.stored;
+            put_aside = held_aside caller_runs m v (scratch_here caller_runs);
           };
           leads = one_step (point (here c) world.fuel) (point back world.fuel) (called_by (d ∷ callers) counts words)
               end made_so;
@@ -257,7 +292,7 @@ module _ (c : Running) where
             globals = held.globals_same v ∙ good.globals;
             sizes = ap (map length) (held.arrays_same v) ∙ good.sizes;
             stored = held.stored v;
-            chosen = none_chosen story m1;
+            put_aside = none_aside story m1;
           };
           leads = subst (λ t. Leads (point (here c) world.fuel) (called_by (d ∷ callers) counts words)
               (point back situation.world.fuel) (at_words e m1 situation.locals d.stack t))
@@ -272,6 +307,7 @@ module _ (c : Running) where
             → LedBy (d ∷ callers) counts words (stack.delivered to v (resumed d.stack (situation_here caller_runs)))
         go items.push is h = pushes_back words left v is backs (nat_le (length (v ∷ d.stack)) 48) refl
         go (items.into x) is h = stores_back x words left v is h backs
+        go items.aside is h = puts_back words left v is backs
         go items.nowhere is h = goes_back words left v is backs
 
   pub returns_to : (callers : List Caller) (counts words left : List ℕ) (v : ℕ) → All (IsCaller story a p) callers

@@ -10,9 +10,9 @@ use Rattle.syntax_trees.specs.declared.tree.Step.TheVariants as steps
 use Rattle.syntax_trees.specs.declared.tree.Width.TheVariants as widths
 use Rattle.meaning.specs.declared.resolved.Variable.{Variable}
 use Rattle.meaning.specs.declared.resolved.Variable.TheVariants as variables
-use Rattle.code_values.specs.Items.{Item, pushed, number, variable, push, into, nowhere, is_zero, less, greater, same}
-use Rattle.code_values.specs.Items.{move, operate, step, entry, assign_entry, print_text, read_line, branch, choose}
-use Rattle.code_values.specs.Items.{case, jump, call, return}
+use Rattle.code_values.specs.Items.{Item, pushed, number, variable, push, into, aside, nowhere, is_zero, less, greater}
+use Rattle.code_values.specs.Items.{same, move, operate, operate_aside, step, entry, assign_entry, print_text}
+use Rattle.code_values.specs.Items.{read_line, branch, case, jump, call, return}
 use Rattle.code_branch_forms.specs.declared.layout.Form.TheVariants.{One, Two, Far}
 use Rattle.code_branch_forms.specs.declared.layout.Part.{Part}
 use Rattle.code_branch_forms.specs.declared.layout.BranchUse.{BranchUse}
@@ -149,11 +149,22 @@ compares : item_bytes sizes a 10 (branch same (variable x ∷ number 1 ∷ numbe
 unfolding bytes_of
 compares = refl
 
--- pull V; store V 7; store V x, for the word of a `switch`
-chooses : written (choose pushed) ∷ written (choose (number 7)) ∷ written (choose (variable x)) ∷ []
+-- pull V; store V 7; store V x
+puts_aside : written (move pushed aside) ∷ written (move (number 7) aside) ∷ written (move (variable x) aside) ∷ []
     ≡ (233 ∷ 127 ∷ 255 ∷ []) ∷ (13 ∷ 255 ∷ 7 ∷ []) ∷ (45 ∷ 255 ∷ 1 ∷ []) ∷ []
 unfolding bytes_of
-chooses = refl
+puts_aside = refl
+
+-- sub sp V -> sp
+subtracts_aside : written (operate_aside binaries.Subtract pushed push) ≡ 117 ∷ 0 ∷ 255 ∷ 0 ∷ []
+unfolding bytes_of
+subtracts_aside = refl
+
+-- jz V over 4 bytes; print_paddr; quit; div x V -> sp
+divides_aside : written (operate_aside binaries.Divide (variable x) push)
+    ≡ 160 ∷ 255 ∷ 70 ∷ 141 ∷ 2 ∷ 3 ∷ 186 ∷ 119 ∷ 1 ∷ 255 ∷ 0 ∷ []
+unfolding bytes_of
+divides_aside = refl
 
 -- je V 1 2 300 ?L
 cases_of_three : item_bytes sizes a 10 (case same (1 ∷ 2 ∷ 300 ∷ []) true 9)
@@ -162,7 +173,7 @@ unfolding bytes_of
 cases_of_three = refl
 
 -- switch (x) { 1 to 3, 7: y++; default: y--; }
-switches : code_bytes sizes a (choose (variable x) ∷ case less (1 ∷ []) true 3 ∷ case greater (3 ∷ []) false 4
+switches : code_bytes sizes a (move (variable x) aside ∷ case less (1 ∷ []) true 3 ∷ case greater (3 ∷ []) false 4
     ∷ case same (7 ∷ []) false 6 ∷ step steps.Increment y nowhere ∷ jump 7 ∷ step steps.Decrement y nowhere ∷ [])
     ≡ 45 ∷ 255 ∷ 1 ∷ 66 ∷ 255 ∷ 1 ∷ 198 ∷ 67 ∷ 255 ∷ 3 ∷ 70 ∷ 65 ∷ 255 ∷ 7 ∷ 71 ∷ 149 ∷ 2 ∷ 140 ∷ 0 ∷ 4 ∷ 150 ∷ 2
     ∷ []

@@ -1,5 +1,5 @@
 -- Items that step a variable.
-use Rattle.std.proofs.Common.{◌≡◌, ℕ, ◌+◌, ◌<◌, ◌≤◌, List, [], ◌∷◌, length, drop, refl, ap, ◌∙◌, subst, arith}
+use Rattle.std.proofs.Common.{◌≡◌, ℕ, ◌+◌, ◌<◌, ◌≤◌, List, [], ◌∷◌, length, drop, Some, refl, ap, ◌∙◌, subst, arith}
 use Rattle.std.proofs.Common.{length-append}
 use Rattle.std.specs.Prelude.{map}
 use Rattle.std.specs.List.{flat_map}
@@ -17,12 +17,13 @@ use Rattle.meaning.specs.Meaning.{stepped}
 use Rattle.code_values.specs.Items.{Item, Destination}
 use Rattle.code_values.specs.Items as items
 use Rattle.code_items.specs.Stack as stack
-use Rattle.code_encoding.specs.Instructions.{number_of, push, store}
+use Rattle.code_encoding.specs.Instructions.{number_of, aside_variable, push, store}
 use Rattle.code_instructions.specs.Instructions.{stepping}
 use Rattle.code_selection.specs.ItemBytes.{text_bytes}
 use Rattle.code.proofs.Behind.{Holds, holds_on}
-use Rattle.code.proofs.Play.{moves, none_chosen}
-use Rattle.code.proofs.Parts.{machine as at_words, pushes}
+use Rattle.code.proofs.Play.{moves, none_aside}
+use Rattle.code.proofs.Memory.{with_variable}
+use Rattle.code.proofs.Parts.{machine as at_words, pushes, global_writes}
 use Rattle.code.proofs.Steps.{point, one_step, first_held, others_held, one_operand, two_operands, small_value}
 use Rattle.code.proofs.Steps.{variable_value, step_is}
 use Rattle.code.proofs.SingleSteps.{increment_step, decrement_step}
@@ -30,10 +31,10 @@ use Rattle.code.proofs.Fitting.{Shaped, held_bytes, encodable}
 use Rattle.code.proofs.Arriving.{Running, at, around, here, high, kept, LedFrom, room_for, code_here, code_held}
 use Rattle.code.proofs.Arriving.{ArrivesAt, situation_here}
 use Rattle.code.proofs.Variables.{memory_with, Held, variable_held}
-use Rattle.code.proofs.Temporaries.{scratch_here}
-use Rattle.code.proofs.Delivering.{stored_step}
+use Rattle.code.proofs.Temporaries.{scratch_here, scratch_with}
+use Rattle.code.proofs.Delivering.{held_aside, stored_step}
 use Rattle.code.proofs.Alone.{IsHere, next_place, plain_length, single}
-use Rattle.code.proofs.Moving.{fuel_same, text_same, IsVariableHere, written_led, within_led}
+use Rattle.code.proofs.Moving.{fuel_same, text_same, IsVariableHere, written_with, written_led, within_led}
 
 module _ (c : Running) where
   open c use {story, a, p, accepted, holds, full, m, count, counts, routine, place, callers, locals, world, good}
@@ -88,7 +89,7 @@ module _ (c : Running) where
       globals = held.globals_same (new_word op x) ∙ good.globals;
       sizes = ap (map length) (held.arrays_same (new_word op x)) ∙ good.sizes;
       stored = held.stored (new_word op x);
-      chosen = none_chosen story (new_memory op x);
+      put_aside = none_aside story (new_memory op x);
     };
   }
 
@@ -201,11 +202,44 @@ module _ (c : Running) where
       to.locals
       (next.writes w))))
 
+  step_aside_led : (op : Step) (x : source.Variable) (s : List ℕ) → IsVariableHere c x → length s ≤ 48
+      → ArrivesAt c (items.step op x items.aside)
+      → LedFrom c s (stack.delivered items.aside (new_word op x) (stack.after (at c s) s (new_situation op x)))
+  unfolding perform
+  step_aside_led op x s is short stands =
+      let held = variable_held c m x (scratch_here c) is in
+      let w = new_word op x in
+      let m1 = new_memory op x in
+      let l1 = (new_situation op x).locals in
+      let d = with_step op x held in
+      let i = stepping op x in
+      let j = store aside_variable (Variable (number_of x)) in
+      let both = pair (items.step op x items.aside) i j refl refl refl stands in
+      let q = here c + length (bytes_of i) in
+      let shaped : Shaped j = record { least = omega arith; most = omega arith; result_fits = tt; branch_fits = tt } in
+      let st = at_words (around c) m1 l1 s world.text in
+      let makes = made_in l1 m1 s world.text q j (aside_variable ∷ w ∷ []) (held.kept w) (omega arith) shaped both.second
+      (two_operands st st st (Small aside_variable) (Variable (number_of x)) aside_variable w
+      (small_value st aside_variable) (variable_value (around c) m1 l1 s world.text (number_of x) w (held.again w))) in
+      let m2 = with_variable m1 aside_variable w in
+      let after = scratch_with d m1 aside_variable w (scratch_here d) (omega arith) (omega arith) in
+      written_with c (Some w) s s m2 (new_situation op x) (q + length (bytes_of j)) (held_aside d m1 w (scratch_here d))
+      both.end short after.stored (held.locals_same w) (held.globals_same w) (ap (map length) (held.arrays_same w))
+      (fuel_same x w (situation_here c)) (text_same x w (situation_here c))
+      (moves (point (here c) world.fuel) (point q world.fuel) (point (q + length (bytes_of j)) world.fuel)
+      (at_words (around c) m locals s world.text) st (at_words (around c) m2 l1 s world.text)
+      (step_step op x s held both.first)
+      (one_step (point q world.fuel) (point (q + length (bytes_of j)) world.fuel) st
+      (at_words (around c) m2 l1 s world.text)
+      (makes ∙ stored_step d (point q world.fuel) (q + length (bytes_of j)) aside_variable w s world.text m1 m2 l1
+      (global_writes (around c) m1 l1 aside_variable w (omega arith) (omega arith)))))
+
   pub step_led : (op : Step) (x : source.Variable) (d : Destination) (s : List ℕ) → IsVariableHere c x → IsHere c d
       → length s ≤ 48 → ArrivesAt c (items.step op x d)
       → LedFrom c s (stack.delivered d (new_word op x) (stack.after (at c s) s (new_situation op x)))
   step_led op x items.push s is is_d short stands = step_push_led op x s is short stands
   step_led op x (items.into y) s is is_d short stands = step_into_led op x y s is is_d short stands
+  step_led op x items.aside s is is_d short stands = step_aside_led op x s is short stands
   step_led op x items.nowhere s is is_d short stands =
       let held = variable_held c m x (scratch_here c) is in
       let w = new_word op x in

@@ -1,6 +1,6 @@
 -- The code that assigns an entry of an array, where the index is one of it.
-use Rattle.std.proofs.Common.{◌≡◌, ℕ, ◌+◌, ◌<◌, ◌≤◌, List, [], ◌∷◌, length, slice_index, true, refl, ap, ◌∙◌, arith}
-use Rattle.std.proofs.Common.{length-append}
+use Rattle.std.proofs.Common.{◌≡◌, ℕ, ◌+◌, ◌<◌, ◌≤◌, List, [], ◌∷◌, length, slice_index, Some, true, refl, ap, ◌∙◌}
+use Rattle.std.proofs.Common.{arith, length-append}
 use Rattle.std.specs.Prelude.{map}
 use Rattle.std.specs.List.{flat_map}
 use Rattle.zcore.specs.declared.instruction.Operand.{Operand}
@@ -16,25 +16,26 @@ use Rattle.meaning.specs.World.{Situation, to, with_value, is_index, with_entry,
 use Rattle.code_values.specs.Items.{Destination}
 use Rattle.code_values.specs.Items as items
 use Rattle.code_items.specs.Stack as stack
-use Rattle.code_encoding.specs.Instructions.{number_of, plain, push, store}
+use Rattle.code_encoding.specs.Instructions.{number_of, aside_variable, plain, push, store}
 use Rattle.code_objects.specs.ObjectCode.{assigned_word, passed_on}
 use Rattle.code_selection.specs.ItemCode.{store_operation}
 use Rattle.code.proofs.Behind.{Holds, holds_on}
-use Rattle.code.proofs.Play.{Leads, Stored, none_chosen}
+use Rattle.code.proofs.Play.{Leads, Stored, none_aside}
 use Rattle.code.proofs.Regions.{KeepsOutside}
 use Rattle.code.proofs.StoredEntries.{entry_address, written_at, last_byte, Inside, entry_inside, entry_keeps}
 use Rattle.code.proofs.StoredEntries.{sizes_kept, stored_entry, variable_kept, high_kept}
-use Rattle.code.proofs.Parts.{machine as at_words, pushes}
+use Rattle.code.proofs.Memory.{with_variable}
+use Rattle.code.proofs.Parts.{machine as at_words, pushes, global_writes}
 use Rattle.code.proofs.Steps.{point, leads_then, one_step, first_held, others_held, one_operand, two_operands}
 use Rattle.code.proofs.Steps.{three_operands, small_value, large_value}
 use Rattle.code.proofs.AddressLengths.{one_length}
 use Rattle.code.proofs.Fitting.{Shaped}
 use Rattle.code.proofs.Arriving.{Running, at, around, here, high, few, LedFrom, room_for, situation_here}
 use Rattle.code.proofs.Variables.{memory_with, variable_held}
-use Rattle.code.proofs.Temporaries.{Scratch, scratch_here, made}
-use Rattle.code.proofs.Delivering.{stored_step}
+use Rattle.code.proofs.Temporaries.{Scratch, scratch_here, scratch_with, made}
+use Rattle.code.proofs.Delivering.{held_aside, stored_step}
 use Rattle.code.proofs.Alone.{IsOperandHere, IsHere, next_place}
-use Rattle.code.proofs.Moving.{fuel_same, text_same, written_led, within_led}
+use Rattle.code.proofs.Moving.{fuel_same, text_same, written_with, written_led, within_led}
 use Rattle.code.proofs.Loading.{bytes_in, array_there, static_small}
 use Rattle.code.proofs.StoringSteps.{stores, static_same, value_same, Holding, word_value}
 
@@ -103,7 +104,7 @@ module _ (c : Running) where
         globals = good.globals;
         sizes = same_sizes ∙ good.sizes;
         stored = next_stored;
-        chosen = none_chosen story next_memory;
+        put_aside = none_aside story next_memory;
       };
     }
 
@@ -176,6 +177,28 @@ module _ (c : Running) where
         (one_step (point there world.fuel) (point last world.fuel) st to
         (makes ∙ stored_step next_runs (point there world.fuel) last (number_of x) v rest world.text next_memory m1
         situation.locals (held.writes v))))
+    passed items.aside before rest there is_d room from h end leads =
+        let k = store aside_variable (assigned_word q) in
+        let shaped : Shaped k = record { least = omega arith; most = omega arith; result_fits = tt; branch_fits = tt }
+        in
+        let st = at_words (around c) next_memory locals rest world.text in
+        let last = there + length (bytes_of k) in
+        let m1 = with_variable next_memory aside_variable v in
+        let to = at_words (around c) m1 locals rest world.text in
+        let after = scratch_with next_runs next_memory aside_variable v (scratch_here next_runs) (omega arith)
+        (omega arith) in
+        let makes = made next_runs next_memory rest rest world.text there k (aside_variable ∷ v ∷ [])
+        (scratch_here next_runs) from shaped (held_next (bytes_of k) there from (first_held m there k [] h))
+        (two_operands st st st (Small aside_variable) (assigned_word q) aside_variable v
+        (small_value st aside_variable) (next_word rest)) in
+        written_with c (Some v) before rest m1 next_situation last
+        (held_aside next_runs next_memory v (scratch_here next_runs)) (omega (arith, end, one_length k)) room
+        after.stored refl refl same_sizes refl refl
+        (leads_then (point (here c) world.fuel) (point there world.fuel) (point last world.fuel)
+        (at_words (around c) m locals before world.text) st to leads
+        (one_step (point there world.fuel) (point last world.fuel) st to
+        (makes ∙ stored_step next_runs (point there world.fuel) last aside_variable v rest world.text next_memory m1
+        locals (global_writes (around c) next_memory locals aside_variable v (omega arith) (omega arith)))))
     passed items.nowhere before rest there is_d room from h end leads =
         written_led c before rest next_memory next_situation there (omega (arith, end)) room next_stored refl refl
         same_sizes refl refl leads

@@ -1,7 +1,7 @@
 -- Instructions, and how they name operands (Z-Machine Standards Document 1.1, sections 4 and 15). Numbers and variables
 -- stand in place in an instruction; the other operands are on the stack of the routine's frame. Variables from 248 on
--- are the compiler's; none keeps its value beyond an item but the last, which holds the word of a `switch` for the
--- tests of its cases.
+-- are the compiler's; none keeps its value beyond an item but the last, which holds the word that is put aside for the
+-- next item.
 use Rattle.std.specs.Prelude.{◌+◌, ◌-◌, ◌%◌, ℕ, zero, suc, nat_lt, Bool, if◌then◌else◌, List, [], ◌∷◌, Some, None}
 use Rattle.zcore.specs.declared.instruction.Operand.{Operand}
 use Rattle.zcore.specs.declared.instruction.Operand.TheVariants.{Large, Small, Variable}
@@ -126,8 +126,13 @@ word_in n (items.variable x) = Variable (number_of x)
 abbrev pub most_tested : ℕ
 most_tested = 4
 
+-- the variable of the word that is put aside for the next item
+abbrev pub aside_variable : ℕ
+aside_variable = 255
+
 -- Where a word goes: the result of an instruction. One that goes nowhere goes to a temporary.
 abbrev pub result_in : Destination → ℕ
 result_in items.push = 0
 result_in (items.into x) = number_of x
+result_in items.aside = aside_variable
 result_in items.nowhere = temporary 0

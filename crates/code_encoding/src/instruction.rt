@@ -235,8 +235,8 @@ pub const THIRD: u8 = 250;
 
 pub const FOURTH: u8 = 251;
 
-/// The variable of the word that the cases of a `switch` are tested on.
-pub const CHOSEN: u8 = 255;
+/// The variable of the word that is put aside for the next item.
+pub const ASIDE: u8 = 255;
 
 /// The text at a packed address is printed.
 pub fn print_fault(text: u16) -> Instruction

@@ -9,7 +9,7 @@ mod operands;
 
 pub use addresses::{Addresses, Sizes, array_address, fault_address, routine_address};
 pub use instruction::{
-    CHOSEN, FIRST, FOURTH, Instruction, Operands, SECOND, ShortBranch, THIRD, branching, copy,
+    ASIDE, FIRST, FOURTH, Instruction, Operands, SECOND, ShortBranch, THIRD, branching, copy,
     giving, plain, print_fault, pull, push, put_all, put_instruction, quit, store,
 };
 pub use operands::{constant, in_place, put_named, put_takes, result_in, variable_number};

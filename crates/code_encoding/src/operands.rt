@@ -8,7 +8,7 @@ ghost use Rattle.code_encoding.specs.Bytes.{AddsCode};
 ghost use Rattle.code_encoding.specs.Written.{named_when};
 ghost use Rattle.meaning.specs.Limits.{most_arguments};
 
-use crate::instruction::{FIRST, TOP, pull, put_all};
+use crate::instruction::{ASIDE, FIRST, TOP, pull, put_all};
 use code_values::Destination;
 use meaning::Variable;
 use std::alloc::AllocError;
@@ -48,14 +48,15 @@ pub fn in_place(operand: code_values::Operand) -> Operand
     }
 }
 
-/// The variable for the result of an instruction, 0 where it is pushed; a word that goes nowhere
-/// goes to one of the compiler's.
+/// The variable for the result of an instruction, 0 where it is pushed; a word that is put aside or
+/// goes nowhere goes to one of the compiler's.
 pub fn result_in(destination: Destination) -> u8
     ensures { result ≡ spec.result_in (as_destination destination) }
 {
     match destination {
         Destination::Push => 0,
         Destination::Into(variable) => variable_number(variable),
+        Destination::Aside => ASIDE,
         Destination::Nowhere => FIRST,
     }
 }

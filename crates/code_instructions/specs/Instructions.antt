@@ -25,7 +25,7 @@ use Rattle.code_values.specs.Items.{Destination, Test}
 use Rattle.code_values.specs.Items as items
 use Rattle.code_encoding.specs.Addresses.{Addresses, fault_address}
 use Rattle.code_encoding.specs.Instructions.{plain, giving, branching, number_of, temporary, constant, push, pull, copy}
-use Rattle.code_encoding.specs.Instructions.{store, fail, in_place, takes, operands, result_in, top}
+use Rattle.code_encoding.specs.Instructions.{store, fail, in_place, takes, operands, aside_variable, result_in, top}
 
 -- 1 is pushed where a branch leads to the last of these, by 8 from the one before them, and else 0
 abbrev pub flag : List Instruction
@@ -33,11 +33,16 @@ flag = push (Small 0) ∷ plain Jump (Large 5 ∷ []) ∷ push (Small 1) ∷ []
 
 -- Words
 
+-- a word goes to the variable of a number
+abbrev pub move_to : items.Operand → ℕ → Instruction
+move_to items.pushed variable = pull variable
+move_to (items.number n) variable = store variable (constant n)
+move_to (items.variable y) variable = store variable (Variable (number_of y))
+
 abbrev pub move_code : items.Operand → Destination → Instruction
 move_code o items.push = push (in_place o)
-move_code items.pushed (items.into x) = pull (number_of x)
-move_code (items.number n) (items.into x) = store (number_of x) (constant n)
-move_code (items.variable y) (items.into x) = store (number_of x) (Variable (number_of y))
+move_code o (items.into x) = move_to o (number_of x)
+move_code o items.aside = move_to o aside_variable
 move_code o items.nowhere = store (temporary 0) (in_place o)
 
 -- `~~` is a branch, and no item
@@ -81,6 +86,22 @@ binary_code a binaries.Remainder x y d = divided a Mod x y d
 binary_code a binaries.And x y d = commuting And x y d
 binary_code a binaries.Or x y d = commuting Or x y d
 
+-- an operation whose right operand was put aside
+abbrev pub with_aside : Operation → items.Operand → Destination → List Instruction
+with_aside operation x d = giving operation (in_place x ∷ Variable aside_variable ∷ []) (result_in d) ∷ []
+
+-- the same of each operator
+abbrev pub aside_code : Addresses → Binary → items.Operand → Destination → List Instruction
+aside_code a binaries.AndAlso x d = []
+aside_code a binaries.OrElse x d = []
+aside_code a binaries.Add x d = with_aside Add x d
+aside_code a binaries.Subtract x d = with_aside Sub x d
+aside_code a binaries.Multiply x d = with_aside Mul x d
+aside_code a binaries.Divide x d = divided_by a Div x aside_variable d
+aside_code a binaries.Remainder x d = divided_by a Mod x aside_variable d
+aside_code a binaries.And x d = with_aside And x d
+aside_code a binaries.Or x d = with_aside Or x d
+
 abbrev pub step_operation : Step → Operation
 step_operation steps.Increment = Increment
 step_operation steps.Decrement = Decrement
@@ -92,6 +113,7 @@ stepping op x = plain (step_operation op) (Small (number_of x) ∷ [])
 abbrev pub step_code : Step → source.Variable → Destination → List Instruction
 step_code op x items.push = stepping op x ∷ push (Variable (number_of x)) ∷ []
 step_code op x (items.into y) = stepping op x ∷ store (number_of y) (Variable (number_of x)) ∷ []
+step_code op x items.aside = stepping op x ∷ store aside_variable (Variable (number_of x)) ∷ []
 step_code op x items.nowhere = stepping op x ∷ []
 
 -- the left side stays below; it is compared with the right side that is taken
@@ -196,21 +218,13 @@ branch_code test os when offset =
 
 -- `switch`
 
--- the variable of the word that cases are tested on
-abbrev pub chosen_variable : ℕ
-chosen_variable = 255
-
-abbrev pub choose_code : items.Operand → Instruction
-choose_code items.pushed = pull chosen_variable
-choose_code (items.number n) = store chosen_variable (constant n)
-choose_code (items.variable x) = store chosen_variable (Variable (number_of x))
-
 -- the most numbers that a word is compared with; an accepted program has no more
 abbrev pub most_compared : ℕ
 most_compared = 3
 
+-- the word that was put aside, and some numbers
 abbrev pub compared : List ℕ → List Operand
-compared ns = Variable chosen_variable ∷ map constant (take most_compared ns)
+compared ns = Variable aside_variable ∷ map constant (take most_compared ns)
 
 abbrev pub case_code : Test → List ℕ → Bool → ℕ → List Instruction
 case_code test ns when offset = labelled (test_operation test) (compared ns) when offset
@@ -226,6 +240,7 @@ call_operation n d = if n == 0 then Call1s else (if nat_le n 3 then CallVs else 
 abbrev pub call_result : Destination → Option ℕ
 call_result items.push = Some 0
 call_result (items.into x) = Some (number_of x)
+call_result items.aside = Some aside_variable
 call_result items.nowhere = None
 
 abbrev pub calling : ℕ → List items.Operand → Destination → Instruction

@@ -11,7 +11,7 @@ ghost use Rattle.code_encoding.specs.Written.{instruction_of};
 ghost use Rattle.meaning.specs.Limits.{most_arguments};
 
 use code_encoding::{
-    Instruction, Operands, constant, plain, put_all, put_instruction, put_named, put_takes,
+    ASIDE, Instruction, Operands, constant, plain, put_all, put_instruction, put_named, put_takes,
     variable_number,
 };
 use code_values::Destination;
@@ -54,6 +54,7 @@ fn call_result(destination: Destination) -> Option<u8>
     match destination {
         Destination::Push => Some(0),
         Destination::Into(variable) => Some(variable_number(variable)),
+        Destination::Aside => Some(ASIDE),
         Destination::Nowhere => None,
     }
 }

@@ -15,7 +15,7 @@ ghost use Rattle.meaning.specs.Limits.{most_arguments};
 
 use code_branch_forms::TWO_BYTE_LIMIT;
 use code_encoding::{
-    CHOSEN, Operands, constant, in_place, plain, put_all, put_instruction, put_named, put_takes,
+    ASIDE, Operands, constant, in_place, plain, put_all, put_instruction, put_named, put_takes,
 };
 use code_values::{MOST_COMPARED, Test};
 use std::alloc::{AllocError, Global};
@@ -209,7 +209,7 @@ fn compared(alloc: Global, numbers: &[u16]) -> Result<Vec<Operand>, AllocError>
     ensures { IfOk result (λ v. v.items ≡ spec.compared numbers.now) }
 {
     let mut operands = Vec::new(alloc);
-    operands.push(Operand::Variable(CHOSEN))?;
+    operands.push(Operand::Variable(ASIDE))?;
     for number in &numbers[..numbers.len().min(MOST_COMPARED)] {
         operands.push(constant(*number))?;
     }

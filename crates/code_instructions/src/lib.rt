@@ -11,10 +11,10 @@ mod words;
 
 pub use calls::{put_call, put_return};
 pub use jumps::{put_branch, put_case, put_jump, put_labelled};
-pub use operators::{put_also_equal, put_binary, put_first_equal, put_prefix};
+pub use operators::{put_also_equal, put_binary, put_first_equal, put_prefix, put_with_aside};
 pub use places::{label_size, offset_of, place, target_of};
 pub use printing::{put_character, put_text};
 pub use tested::{
     FIRST_NEGATIVE, behind_comparison, put_fail, put_pulled, put_tested_between, word_in,
 };
-pub use words::{put_choose, put_keep, put_move, put_step};
+pub use words::{put_keep, put_move, put_step};

@@ -7,11 +7,12 @@ ghost use Rattle.code_values.specs.Code.{as_operand, as_destination};
 ghost use Rattle.code_encoding.specs.Bytes.{AddsCode};
 ghost use Rattle.code_encoding.specs.Written.{addresses_of, instruction_of};
 ghost use Rattle.code_instructions.specs.Instructions.{prefix_code, arithmetic, commuting, divided, divided_by};
-ghost use Rattle.code_instructions.specs.Instructions.{binary_code, first_equal_code, also_equal_code};
+ghost use Rattle.code_instructions.specs.Instructions.{binary_code, with_aside, aside_code};
+ghost use Rattle.code_instructions.specs.Instructions.{first_equal_code, also_equal_code};
 ghost use Rattle.code_instructions.specs.Instructions.{flag};
 
 use code_encoding::{
-    Addresses, FIRST, Instruction, Operands, SECOND, THIRD, branching, constant, copy,
+    ASIDE, Addresses, FIRST, Instruction, Operands, SECOND, THIRD, branching, constant, copy,
     fault_address, giving, in_place, plain, print_fault, pull, push, put_all, put_instruction,
     put_named, put_takes, quit, result_in, variable_number,
 };
@@ -212,6 +213,53 @@ pub fn put_binary(
         Binary::Or => Operation::Or,
     };
     put_commuting(bytes, alloc, operation, left, right, destination)
+}
+
+/// An operation that has no test, with the word that was put aside as its right operand.
+fn put_untested(
+    bytes: &mut Vec<u8>,
+    operation: Operation,
+    left: code_values::Operand,
+    destination: Destination,
+) -> Result<(), AllocError>
+    ensures { OnOk result (AddsCode bytes.old bytes.new
+        (with_aside operation (as_operand left) (as_destination destination))) }
+{
+    let operands = Operands::Two(in_place(left), Operand::Variable(ASIDE));
+    put_all(
+        bytes,
+        &[giving(operation, operands, result_in(destination))],
+    )
+}
+
+/// An operator between a word and the one that was put aside; `&&` and `||`, which are branches,
+/// are none.
+pub fn put_with_aside(
+    bytes: &mut Vec<u8>,
+    addresses: &Addresses<'_>,
+    operator: Binary,
+    left: code_values::Operand,
+    destination: Destination,
+) -> Result<(), AllocError>
+    ensures { OnOk result (AddsCode bytes.old bytes.new
+        (aside_code (addresses_of addresses.now) operator (as_operand left)
+        (as_destination destination))) }
+{
+    let operation = match operator {
+        Binary::AndAlso | Binary::OrElse => return Ok(()),
+        Binary::Divide => {
+            return put_divided_by(bytes, addresses, Operation::Div, left, ASIDE, destination);
+        }
+        Binary::Remainder => {
+            return put_divided_by(bytes, addresses, Operation::Mod, left, ASIDE, destination);
+        }
+        Binary::Subtract => Operation::Sub,
+        Binary::Add => Operation::Add,
+        Binary::Multiply => Operation::Mul,
+        Binary::And => Operation::And,
+        Binary::Or => Operation::Or,
+    };
+    put_untested(bytes, operation, left, destination)
 }
 
 /// A branch over 6 bytes, and 1 or 0 that is pushed.

@@ -1,17 +1,15 @@
 //! Words that are moved, kept and stepped.
 
 ghost use Rattle.std.specs.Prelude.{◌≡◌, [], ◌∷◌, OnOk};
-ghost use Rattle.code_values.specs.Items as source_items;
 ghost use Rattle.code_values.specs.Code.{as_operand, as_destination};
 ghost use Rattle.code_encoding.specs.Instructions.{number_of};
 ghost use Rattle.code_encoding.specs.Instructions as basic;
 ghost use Rattle.code_encoding.specs.Bytes.{AddsCode};
 ghost use Rattle.code_encoding.specs.Written.{instruction_of};
-ghost use Rattle.code_instructions.specs.Instructions.{move_code, step_code, stepping, step_operation};
-ghost use Rattle.code_instructions.specs.Instructions as spec;
+ghost use Rattle.code_instructions.specs.Instructions.{move_to, move_code, step_code, stepping, step_operation};
 
 use code_encoding::{
-    CHOSEN, FIRST, Instruction, Operands, copy, in_place, plain, pull, push, put_all, store,
+    ASIDE, FIRST, Instruction, Operands, copy, in_place, plain, pull, push, put_all, store,
     variable_number,
 };
 use code_values::Destination;
@@ -20,14 +18,13 @@ use std::alloc::AllocError;
 use syntax_trees::Step;
 use zcore::{Operand, Operation};
 
-/// A word goes to a variable.
-fn moved_into(operand: code_values::Operand, variable: Variable) -> Instruction
-    ensures { instruction_of result ≡ move_code (as_operand operand) (source_items.into variable) }
+/// A word goes to the variable of a number.
+fn moved_to(operand: code_values::Operand, variable: u8) -> Instruction
+    ensures { instruction_of result ≡ move_to (as_operand operand) variable }
 {
-    let number = variable_number(variable);
     match operand {
-        code_values::Operand::Pushed => pull(number),
-        _ => store(number, in_place(operand)),
+        code_values::Operand::Pushed => pull(variable),
+        _ => store(variable, in_place(operand)),
     }
 }
 
@@ -42,19 +39,11 @@ pub fn put_move(
 {
     match destination {
         Destination::Push => put_all(bytes, &[push(in_place(operand))]),
-        Destination::Into(variable) => put_all(bytes, &[moved_into(operand, variable)]),
+        Destination::Into(variable) => {
+            put_all(bytes, &[moved_to(operand, variable_number(variable))])
+        }
+        Destination::Aside => put_all(bytes, &[moved_to(operand, ASIDE)]),
         Destination::Nowhere => put_all(bytes, &[store(FIRST, in_place(operand))]),
-    }
-}
-
-/// The word of a `switch` goes to the variable that its cases are tested on.
-pub fn put_choose(bytes: &mut Vec<u8>, operand: code_values::Operand) -> Result<(), AllocError>
-    ensures { OnOk result (AddsCode bytes.old bytes.new
-        (spec.choose_code (as_operand operand) ∷ [])) }
-{
-    match operand {
-        code_values::Operand::Pushed => put_all(bytes, &[pull(CHOSEN)]),
-        _ => put_all(bytes, &[store(CHOSEN, in_place(operand))]),
     }
 }
 
@@ -93,6 +82,7 @@ pub fn put_step(
         Destination::Into(other) => {
             put_all(bytes, &[stepped, store(variable_number(other), word)])
         }
+        Destination::Aside => put_all(bytes, &[stepped, store(ASIDE, word)]),
         Destination::Nowhere => put_all(bytes, &[stepped]),
     }
 }

@@ -9,8 +9,8 @@ use Rattle.meaning.specs.Resolved as source
 use Rattle.meaning.specs.Accepted.{need_of}
 use Rattle.meaning.specs.World.{Situation, to, Part, ◌>>=◌, give, write_variable, value_in, with_value}
 use Rattle.meaning.specs.Meaning.{stepped, evaluate}
-use Rattle.code_values.specs.Items.{pushed, variable, Destination, push, into, nowhere, value_count, after_items}
-use Rattle.code_values.specs.Items.{kept_items, value_items}
+use Rattle.code_values.specs.Items.{pushed, variable, Destination, push, into, aside, nowhere, value_count}
+use Rattle.code_values.specs.Items.{after_items, kept_items, value_items}
 use Rattle.code_values.specs.Items as items
 use Rattle.code_values.proofs.Counts.{value_length}
 use Rattle.code_items.specs.Stack.{stuck, act}
@@ -86,6 +86,11 @@ module _ (now : Running) where
           (then_to now _ (pushes s n pc words has.0 has.1.0 le)
           (λ v last _. one now (pc + 1 + 1) words (into y) (items.move pushed (into y)) (give v)
           (v ∷ words) has.1.1.0 refl (keeps_give full v) le))
+      after_does s n pc q words aside has le =
+          at_place now (λ z. lands now aside z words) (pc + 1 + 1 + 1) q has.1.1.1
+          (then_to now _ (pushes s n pc words has.0 has.1.0 le)
+          (λ v last _. one now (pc + 1 + 1) words aside (items.move pushed aside) (give v)
+          (v ∷ words) has.1.1.0 refl (keeps_give full v) le))
 
   pub assign_ok : (x : Variable) (v : Value) → ValueOk now v → ValueOk now (source.assign x v)
   assign_ok x v ok = record {
@@ -130,4 +135,11 @@ module _ (now : Running) where
           at_place now (λ z. lands now (into y) z words) (m + 1 + 1) q h.1.1.1
           (then_to now _ (topmost s n pc m words h.0 h.1.0 le)
           (λ w last _. one now (m + 1) words (into y) (items.move pushed (into y)) (give w)
+          (w ∷ words) h.1.1.0 refl (keeps_give full w) (omega (arith, le, some))))
+      assigned s n pc q words aside has le =
+          let m = pc + value_count v push in
+          let h = split (code now) pc (value_items pc v push) _ q (value_count v push) (value_length v push pc) has in
+          at_place now (λ z. lands now aside z words) (m + 1 + 1) q h.1.1.1
+          (then_to now _ (topmost s n pc m words h.0 h.1.0 le)
+          (λ w last _. one now (m + 1) words aside (items.move pushed aside) (give w)
           (w ∷ words) h.1.1.0 refl (keeps_give full w) (omega (arith, le, some))))

@@ -1,4 +1,4 @@
--- What a run does while the word of a `switch` is there, and how its cases test that word.
+-- What a run does while the word of a `switch` is put aside, and how its cases test that word.
 use Rattle.std.proofs.Common.{◌≡◌, ℕ, zero, suc, ◌+◌, ◌<◌, List, [], ◌∷◌, Option, Some, None, Bool, true, false, refl}
 use Rattle.std.proofs.Common.{ap, ◌∙◌, subst}
 use Rattle.std.specs.Prelude.{if◌then◌else◌, nat_lt, slice_get}
@@ -14,7 +14,7 @@ use Rattle.code_items.specs.Stack.{ItemState, from, exec, after_part, stands_in,
 use Rattle.code_items.specs.Stack.{begins_objects, steps_object}
 use Rattle.code_items.specs.Stack as stack
 use Rattle.code_items.proofs.Running.{steps_on, Running, code, RunsTo}
-use Rattle.code_items.proofs.Leads.{Leads, here, stands}
+use Rattle.code_items.proofs.Leads.{Leads, stands}
 
 -- what follows operands does alike
 with_operand_alike : (o : Operand) (s : Situation) (words : List ℕ) (f g : ℕ → List ℕ → Next)
@@ -31,10 +31,10 @@ with_operands_alike (o ∷ os) s words f g e = with_operands_alike os s words _ 
     (λ vs rest. with_operand_alike o s rest _ _ (λ v left. e (v ∷ vs) left))
 
 module _ (p : ProgramOf) (full r : ℕ) (callers : List Caller) where
-  -- a state that has a word of a `switch`, or none
+  -- a state with a word that was put aside, or none
   abbrev at_word : Option ℕ → ℕ → List ℕ → Situation → ItemState
   at_word w pc words s =
-      record { routine = r; place = pc; stack = words; chosen = w; callers = callers; situation = s }
+      record { routine = r; place = pc; stack = words; put_aside = w; callers = callers; situation = s }
 
   branch_alike : (b : Bool) (t : ℕ) (v pc : ℕ) (words : List ℕ) (s : Situation) (rest : List ℕ)
       → branch b t rest (at_word None pc words s) ≡ branch b t rest (at_word (Some v) pc words s)
@@ -55,7 +55,7 @@ module _ (p : ProgramOf) (full r : ℕ) (callers : List Caller) where
   jumps_alike true n t v words s o h e = h e
   jumps_alike false n t v words s o h e = e
 
-  -- what a run comes to with no word of a `switch`, it comes to with one: from an item on, if from other places with
+  -- what a run comes to with no word put aside, it comes to with one: from an item on, if from other places with
   -- one item less
   item_with_word : (v n pc : ℕ) (words : List ℕ) (s : Situation) (o : Outcome)
       → ((t : ℕ) → exec p full n (at_word None t words s) ≡ Some o
@@ -117,6 +117,7 @@ module _ (p : ProgramOf) (full r : ℕ) (callers : List Caller) where
   item_with_word v n pc words s o on (Some (items.next_object x t)) e =
       subst (λ x. from x (exec p full n) ≡ Some o)
       (decided_alike (steps_object p x s) false t v pc words words) e
+  item_with_word v n pc words s o on (Some (items.operate_aside op a d)) e = absurd (cc)
   item_with_word v n pc words s o on (Some (items.case test ns when t)) e = absurd (cc)
   item_with_word v n pc words s o on (Some (items.jump t)) e =
       jumps_alike (nat_lt pc t) n t v words s o (on t) e
@@ -132,10 +133,10 @@ module _ (p : ProgramOf) (full r : ℕ) (callers : List Caller) where
 module _ (now : Running) where
   open now use {p, full, routine, callers}
 
-  -- the word of a `switch` is there
+  -- a word is put aside
   abbrev pub has_word : ℕ → ℕ → Situation → ItemState
   has_word v pc s =
-      record { routine = routine; place = pc; stack = []; chosen = Some v; callers = callers; situation = s }
+      record { routine = routine; place = pc; stack = []; put_aside = Some v; callers = callers; situation = s }
 
   does_with_word : (v pc : ℕ) (s : Situation) (o : Outcome) → RunsTo p full (stands now pc [] s) o
       → RunsTo p full (goes (has_word v pc s)) o
@@ -175,16 +176,5 @@ module _ (now : Running) where
       record {
         does = λ k le d. steps_on p full (has_word v pc s) _ _ (ap (λ i. act p full i (has_word v pc s)) h
             ∙ ap (λ b. if b then goes (has_word v t s) else stuck) (lt-ltb pc t lt))
-            (l.does k le d);
-      }
-
-  -- one item after which it is there
-  pub chooses_word : {A : Type 0} {s : Situation} {n : ℕ} {c : Comes A} {behind : A → Situation → Next} (v pc : ℕ)
-      (words : List ℕ) (i : Item) → slice_get (code now) pc ≡ Some i
-      → act p full (Some i) (here now pc words s) ≡ goes (has_word v (pc + 1) s)
-      → Leads now s n (goes (has_word v (pc + 1) s)) c behind → Leads now s n (stands now pc words s) c behind
-  chooses_word {s = s} v pc words i h e l =
-      record {
-        does = λ k le d. steps_on p full (here now pc words s) _ _ (ap (λ x. act p full x (here now pc words s)) h ∙ e)
             (l.does k le d);
       }

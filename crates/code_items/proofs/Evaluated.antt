@@ -52,7 +52,7 @@ module _ (now : Running) where
   operand_held v later s last a e = tt
 
   -- a number that stands in place is what the value comes to, and nothing else is done
-  comes_to : (v : Value) (n : ℕ) (s : Situation) → operand_of v none ≡ number n → evaluate (setting now) v s ≡ to n s
+  pub comes_to : (v : Value) (n : ℕ) (s : Situation) → operand_of v none ≡ number n → evaluate (setting now) v s ≡ to n s
   comes_to (source.number k) n s e = let is : k ≡ n = cc in ap (λ (x : ℕ). to x s) is
   comes_to (source.read x) n s e = absurd (cc)
   comes_to (source.prefixed op v) n s e = go (operand_of v none) (λ k f. comes_to v k s f) e
@@ -144,7 +144,7 @@ module _ (now : Running) where
       (first_held, all_held vs c.between k.between k.first k.is))
 
   -- the left of two operands is what it was
-  left_held : (a b : Value) (s s1 s2 : Situation) (x y : ℕ) → evaluate (setting now) a s ≡ to x s1
+  pub left_held : (a b : Value) (s s1 s2 : Situation) (x y : ℕ) → evaluate (setting now) a s ≡ to x s1
       → evaluate (setting now) b s1
       ≡ to y s2 → Held (left_of a b) x s2
   left_held a b s s1 s2 x y ea eb =

@@ -10,7 +10,7 @@ use Rattle.meaning.specs.declared.resolved.Variable.{Variable}
 use Rattle.meaning.specs.Resolved.{Value, Values, none, more, ProgramOf}
 use Rattle.meaning.specs.Resolved as source
 use Rattle.meaning.specs.Accepted.{IsVariable, IsValue, AreValues}
-use Rattle.code_values.specs.Items.{Item, Operand, pushed, number, variable, Destination, push, into, nowhere}
+use Rattle.code_values.specs.Items.{Item, Operand, pushed, number, variable, Destination, push, into, aside, nowhere}
 use Rattle.code_values.specs.Items.{prefix_operand, operand_of, operands_of, if_pushed, change, branch_true}
 use Rattle.code_values.specs.Items.{comparison_test, same_count, same_items}
 use Rattle.code_values.specs.Items.{truth_count, kept_count, moved, truth_items, after_items, kept_items}
@@ -89,6 +89,7 @@ module _ (here : Bounds) where
   moved_fine o nowhere ho hd = nothing
   moved_fine o push ho hd = first _ _ (ho, hd) nothing
   moved_fine o (into x) ho hd = first _ _ (ho, hd) nothing
+  moved_fine o aside ho hd = first _ _ (ho, hd) nothing
 
   pub truth_fine : (at n : ℕ) (d : Destination) (f : ℕ → List Item) → IsDestination p locals d
       → at + (n + truth_count d) < count → ((t : ℕ) → t < count → Fine (f t)) → Fine (truth_items at n d f)
@@ -97,12 +98,15 @@ module _ (here : Bounds) where
       (first _ _ (tt, tt) (first _ _ (omega (arith, lt)) (first _ _ (tt, tt) nothing)))
   truth_fine at n (into x) f hd lt hf = joined (f (at + n + 2)) _ (hf (at + n + 2) (omega (arith, lt)))
       (first _ _ (tt, hd) (first _ _ (omega (arith, lt)) (first _ _ (tt, hd) nothing)))
+  truth_fine at n aside f hd lt hf = joined (f (at + n + 2)) _ (hf (at + n + 2) (omega (arith, lt)))
+      (first _ _ (tt, hd) (first _ _ (omega (arith, lt)) (first _ _ (tt, hd) nothing)))
 
   pub after_fine : (x : Variable) (op : _) (d : Destination) → IsVariable p locals x → IsDestination p locals d
       → Fine (after_items x op d)
   after_fine x op nowhere hx hd = first _ _ (hx, tt) nothing
   after_fine x op push hx hd = first _ _ (hx, tt) (first _ _ (hx, tt) nothing)
   after_fine x op (into y) hx hd = first _ _ (hx, tt) (first _ _ (hx, tt) (first _ _ (tt, hd) nothing))
+  after_fine x op aside hx hd = first _ _ (hx, tt) (first _ _ (hx, tt) (first _ _ (tt, hd) nothing))
 
   pub kept_fine : (x : Variable) (d : Destination) (xs ys : List Item) (n m at : ℕ) → IsVariable p locals x
       → IsDestination p locals d → at + kept_count d n m < count → (at + n < count → Fine xs)
@@ -110,6 +114,7 @@ module _ (here : Bounds) where
   kept_fine x nowhere xs ys n m at hx hd lt hxs hys = hxs lt
   kept_fine x push xs ys n m at hx hd lt hxs hys = last ys _ (hys (omega (arith, lt))) hx
   kept_fine x (into y) xs ys n m at hx hd lt hxs hys = last_two ys _ _ (hys (omega (arith, lt))) hx (tt, hd)
+  kept_fine x aside xs ys n m at hx hd lt hxs hys = last_two ys _ _ (hys (omega (arith, lt))) hx (tt, hd)
 
   -- a place that one of two conditions chooses
   pub chosen : (b : Bool) (x y : ℕ) → x < count → y < count → (if b then x else y) < count

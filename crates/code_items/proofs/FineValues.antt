@@ -1,5 +1,5 @@
 -- The items of values name only what is there.
-use Rattle.std.proofs.Common.{◌≡◌, ℕ, ◌+◌, ◌<◌, List, [], ◌∷◌, ◌++◌, length, Bool, true, false, arith}
+use Rattle.std.proofs.Common.{◌≡◌, ℕ, ◌+◌, ◌<◌, List, [], ◌∷◌, ◌++◌, length, Bool, true, false, refl, arith}
 use Rattle.std.specs.Prelude.{if◌then◌else◌, not}
 use Rattle.syntax_trees.specs.declared.tree.Binary.{Binary}
 use Rattle.syntax_trees.specs.declared.tree.Binary.TheVariants as binaries
@@ -12,14 +12,16 @@ use Rattle.meaning.specs.declared.resolved.Variable.{Variable}
 use Rattle.meaning.specs.Resolved.{Value, Values, none, more}
 use Rattle.meaning.specs.Resolved as source
 use Rattle.meaning.specs.Accepted.{IsVariable, IsValue, AreValues}
-use Rattle.code_values.specs.Items.{Item, Operand, pushed, Destination, push, into, operand_of, operands_of, alone}
+use Rattle.code_values.specs.Items.{Item, Operand, pushed, number, variable, Destination, push, into, right_place}
+use Rattle.code_values.specs.Items.{operated, operand_of, operands_of, alone}
 use Rattle.code_values.specs.Items.{left_of, if_pushed, is_direct, same_count, comparison_when, equality_when, truth_count}
 use Rattle.code_values.specs.Items.{value_count, operand_count, operands_count, branch_count, many_count, also_count}
 use Rattle.code_values.specs.Items.{same_items}
 use Rattle.code_values.specs.Items.{value_items, operands_items, branch_items, many_items, also_items}
 use Rattle.code_values.specs.Items as items
 use Rattle.code_values.proofs.InPlace.{operands_counted}
-use Rattle.code_items.specs.Laws.{IsDestination, IsItem}
+use Rattle.code_items.specs.Laws.{IsOperand, IsDestination, IsItem}
+use Rattle.code_items.proofs.Held.{place_is}
 use Rattle.code_items.proofs.Fine.{Bounds, Fine, same_fine, branch_two, chosen, counted_else, counted_then}
 use Rattle.code_items.proofs.Fine.{either_fine, first, joined, kept_fine, last, last_two, nothing, operand_fine}
 use Rattle.code_items.proofs.Fine.{operands_fine, pushed_fine, true_fine, truth_fine, two_fine}
@@ -88,6 +90,47 @@ module _ (here : Bounds) where
       joined here (branch_items at a wa ta) _ (fa.branch at wa ta (omega (arith, lt)) la)
       (fb.branch (at + branch_count a wa) wb tb (omega (arith, lt)) lb)
 
+  -- the right one of two operands goes where its operator finds it
+  place_fine : (op : Binary) (o : Operand) → IsDestination p locals (right_place op o)
+  place_fine op o = place_is op o (IsDestination p locals) tt tt
+
+  placed_operands : (op : Binary) (a b : Value) → FineValue a → FineValue b → (at : ℕ) (tail : List Item)
+      → at + (operand_count a (left_of a b) + if_pushed (alone b) (value_count b (right_place op (left_of a b))) 0)
+      < count
+      → Fine here tail
+      → Fine here (if_pushed (left_of a b) (value_items at a push) [] ++ (if_pushed (alone b)
+      (value_items (at + operand_count a (left_of a b)) b (right_place op (left_of a b))) [] ++ tail))
+  placed_operands op a b fa fb at tail lt ht =
+      two_fine here (left_of a b) (alone b) _ _ tail (value_count a push) (value_count b (right_place op (left_of a b)))
+      at lt (λ lt. fa.value at push tt lt)
+      (λ lt. fb.value (at + operand_count a (left_of a b)) (right_place op (left_of a b)) (place_fine op (left_of a b)) lt)
+      ht
+
+  operated_fine : (op : Binary) (o q : Operand) (d : Destination) → (op ≡ binaries.AndAlso → ⊥)
+      → (op ≡ binaries.OrElse → ⊥) → IsOperand p locals o → IsOperand p locals q → IsDestination p locals d
+      → IsItem p locals count (operated (right_place op o) op o q d)
+  operated_fine binaries.AndAlso o q d no_and no_or ho hq hd = absurd (no_and refl)
+  operated_fine binaries.OrElse o q d no_and no_or ho hq hd = absurd (no_or refl)
+  operated_fine binaries.Subtract pushed pushed d no_and no_or ho hq hd = (ho, hd)
+  operated_fine binaries.Subtract pushed (number n) d no_and no_or ho hq hd = (ho, hq, hd)
+  operated_fine binaries.Subtract pushed (variable x) d no_and no_or ho hq hd = (ho, hq, hd)
+  operated_fine binaries.Subtract (number n) q d no_and no_or ho hq hd = (ho, hq, hd)
+  operated_fine binaries.Subtract (variable x) q d no_and no_or ho hq hd = (ho, hq, hd)
+  operated_fine binaries.Divide o pushed d no_and no_or ho hq hd = (ho, hd)
+  operated_fine binaries.Divide o (number n) d no_and no_or ho hq hd = (ho, hq, hd)
+  operated_fine binaries.Divide o (variable x) d no_and no_or ho hq hd = (ho, hq, hd)
+  operated_fine binaries.Remainder o pushed d no_and no_or ho hq hd = (ho, hd)
+  operated_fine binaries.Remainder o (number n) d no_and no_or ho hq hd = (ho, hq, hd)
+  operated_fine binaries.Remainder o (variable x) d no_and no_or ho hq hd = (ho, hq, hd)
+  operated_fine op o q d no_and no_or ho hq hd = (ho, hq, hd)
+
+  operation_fine : (op : Binary) (a b : Value) (d : Destination) → (op ≡ binaries.AndAlso → ⊥)
+      → (op ≡ binaries.OrElse → ⊥) → IsValue p locals a → IsValue p locals b → IsDestination p locals d
+      → IsItem p locals count (operated (right_place op (left_of a b)) op (left_of a b) (alone b) d)
+  operation_fine op a b d no_and no_or ha hb hd =
+      operated_fine op (left_of a b) (alone b) d no_and no_or (operand_fine here a (more b none) ha)
+      (operand_fine here b none hb) hd
+
   pub binary_fine : (op : Binary) (a b : Value) → IsValue p locals a → IsValue p locals b → FineValue a → FineValue b
       → FineValue (source.binary op a b)
   binary_fine binaries.AndAlso a b ha hb fa fb = record {
@@ -107,10 +150,10 @@ module _ (here : Bounds) where
         (chosen here when _ _ le (omega (arith, lt))) le;
   }
   binary_fine op a b ha hb fa fb = record {
-    value = λ at d hd lt. two_operands a b fa fb at _ (omega (arith, lt))
-        (first here _ _ (operand_fine here a (more b none) ha, operand_fine here b none hb, hd) (nothing here));
-    branch = λ at when t lt le. two_operands a b fa fb at _ (omega (arith, lt))
-        (first here _ _ (operand_fine here a (more b none) ha, operand_fine here b none hb, tt)
+    value = λ at d hd lt. placed_operands op a b fa fb at _ (omega (arith, lt))
+        (first here _ _ (operation_fine op a b d (λ e. absurd (cc)) (λ e. absurd (cc)) ha hb hd) (nothing here));
+    branch = λ at when t lt le. placed_operands op a b fa fb at _ (omega (arith, lt))
+        (first here _ _ (operation_fine op a b push (λ e. absurd (cc)) (λ e. absurd (cc)) ha hb tt)
         (first here _ _ (true_fine here pushed when t tt le) (nothing here)));
   }
 

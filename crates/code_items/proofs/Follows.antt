@@ -105,7 +105,7 @@ module _ (p : ProgramOf) (full : ℕ) (fine : (r : ℕ) → IsRoutine p (routine
         routine = r;
         place = 0;
         stack = [];
-        chosen = None;
+        put_aside = None;
         callers = callers;
         situation = record { locals = locals_of R.locals arguments; world = last.world };
       }))

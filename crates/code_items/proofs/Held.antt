@@ -1,14 +1,16 @@
 -- Operands that are still what was evaluated.
 use Rattle.std.proofs.Common.{◌≡◌, ℕ, ◌+◌, ◌≤◌, List, [], ◌∷◌, length, Bool, true, false, refl, ap, ◌∙◌, subst, arith}
 use Rattle.std.specs.Prelude.{if◌then◌else◌}
+use Rattle.syntax_trees.specs.declared.tree.Binary.{Binary}
+use Rattle.syntax_trees.specs.declared.tree.Binary.TheVariants as binaries
 use Rattle.syntax_trees.specs.declared.tree.Prefix.{Prefix}
 use Rattle.meaning.specs.declared.resolved.Variable.{Variable}
 use Rattle.meaning.specs.Resolved.{Value, Values, none, more}
 use Rattle.meaning.specs.Resolved as source
 use Rattle.meaning.specs.World.{Situation, value_in}
 use Rattle.meaning.specs.Meaning.{with_prefix}
-use Rattle.code_values.specs.Items.{Operand, pushed, number, variable, prefix_operand, operand_of, operands_of}
-use Rattle.code_values.specs.Items.{if_pushed, change, is_in_place, all_in_place}
+use Rattle.code_values.specs.Items.{Operand, pushed, number, variable, Destination, push, aside, right_place}
+use Rattle.code_values.specs.Items.{prefix_operand, operand_of, operands_of, if_pushed, change, is_in_place, all_in_place}
 use Rattle.code_values.proofs.InPlace.{both_true, stays_placed}
 use Rattle.code_items.specs.Stack.{Next, with_operand, with_operands}
 
@@ -24,6 +26,15 @@ pub prefix_held : (op : Prefix) (o : Operand) (v w : ℕ) (s last : Situation) �
 prefix_held op pushed v w s last h is = tt
 prefix_held op (number n) v w s last h is = ap (with_prefix op) h ∙ is
 prefix_held op (variable x) v w s last h is = tt
+
+-- what holds of both places where a right operand may go holds of the one where it goes
+pub place_is : (op : Binary) (o : Operand) (P : Destination → Type 0) → P push → P aside → P (right_place op o)
+place_is binaries.Subtract pushed P on_top set_aside = set_aside
+place_is binaries.Subtract (number n) P on_top set_aside = on_top
+place_is binaries.Subtract (variable x) P on_top set_aside = on_top
+place_is binaries.Divide o P on_top set_aside = set_aside
+place_is binaries.Remainder o P on_top set_aside = set_aside
+place_is op o P on_top set_aside = on_top
 
 -- the stack with an operand
 abbrev pub onto : Operand → ℕ → List ℕ → List ℕ

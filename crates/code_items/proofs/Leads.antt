@@ -1,9 +1,9 @@
 -- A run leads from one place of a routine to another.
-use Rattle.std.proofs.Common.{◌≡◌, ℕ, ◌+◌, ◌≤◌, List, ◌∷◌, length, None, Bool, refl, ap, ◌∙◌, subst, arith}
+use Rattle.std.proofs.Common.{◌≡◌, ℕ, ◌+◌, ◌≤◌, List, ◌∷◌, length, Option, Some, None, Bool, refl, ap, ◌∙◌, subst, arith}
 use Rattle.std.specs.Prelude.{if◌then◌else◌}
 use Rattle.meaning.specs.World.{Outcome, Situation, Comes, to, Part, bound, ◌>>=◌, units, with_value}
 use Rattle.meaning.specs.Meaning.{is_true}
-use Rattle.code_values.specs.Items.{Destination, push, into, nowhere, agrees}
+use Rattle.code_values.specs.Items.{Destination, push, into, aside, nowhere, agrees}
 use Rattle.code_items.specs.Stack.{Next, goes, delivered, ItemState}
 use Rattle.code_items.proofs.Acts.{hand, hand_bound, Lower, bound_bound}
 use Rattle.code_items.proofs.Running.{fits, Running, RunsTo}
@@ -67,15 +67,20 @@ module _ (now : Running) where
 
   abbrev pub here : ℕ → List ℕ → Situation → ItemState
   here pc words s =
-      record { routine = routine; place = pc; stack = words; chosen = None; callers = callers; situation = s }
+      record { routine = routine; place = pc; stack = words; put_aside = None; callers = callers; situation = s }
 
   abbrev pub stands : ℕ → List ℕ → Situation → Next
   stands pc words s = goes (here pc words s)
+
+  -- the same with a word that was put aside, or none
+  abbrev pub here_with : Option ℕ → ℕ → List ℕ → Situation → ItemState
+  here_with w pc words s = record (here pc words s) { put_aside = w }
 
   -- a word is where it is to go
   abbrev pub lands : Destination → ℕ → List ℕ → ℕ → Situation → Next
   lands push q words v s = stands q (v ∷ words) s
   lands (into x) q words v s = stands q words (with_value x v s)
+  lands aside q words v s = goes (here_with (Some v) q words s)
   lands nowhere q words v s = stands q words s
 
   -- at the target, or at the next place
@@ -86,6 +91,7 @@ module _ (now : Running) where
       → length words + 1 ≤ 48 → RunsTo p full (lands d q words v s) o → RunsTo p full (delivered d v (here q words s)) o
   delivers push q words v s o le h = fits p full (here q (v ∷ words) s) o (omega (arith, le)) h
   delivers (into x) q words v s o le h = h
+  delivers aside q words v s o le h = h
   delivers nowhere q words v s o le h = h
 
   pub at_place : {A : Type 0} {s : Situation} {n : ℕ} {before : Next} {c : Comes A}

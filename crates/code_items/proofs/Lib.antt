@@ -11,6 +11,7 @@ mod Steps
 mod Chosen
 mod Truths
 mod Evaluated
+mod Placed
 mod Operations
 mod Equalities
 mod Logical

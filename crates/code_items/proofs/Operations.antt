@@ -12,7 +12,8 @@ use Rattle.meaning.specs.Resolved as source
 use Rattle.meaning.specs.Accepted.{need_of, needs_of}
 use Rattle.meaning.specs.World.{Situation, to, ◌>>=◌, give, value_in}
 use Rattle.meaning.specs.Meaning.{truth, is_true, operate, with_prefix, evaluate, evaluate_all}
-use Rattle.code_values.specs.Items.{Operand, pushed, number, variable, Destination, push, is_zero, same, operands_of}
+use Rattle.code_values.specs.Items.{Operand, pushed, number, variable, Destination, push, aside, right_place}
+use Rattle.code_values.specs.Items.{operated, is_zero, same, operands_of}
 use Rattle.code_values.specs.Items.{alone, left_of, if_pushed, branch_true, agrees, operand_count, operands_count}
 use Rattle.code_values.specs.Items.{branch_count, value_items, operands_items, branch_items, alone_items}
 use Rattle.code_values.specs.Items as items
@@ -24,11 +25,12 @@ use Rattle.code_items.proofs.Running.{steps_on, Running, code, setting, RunsTo}
 use Rattle.code_items.proofs.Standing.{HasAt, split}
 use Rattle.code_items.proofs.Needs.{some_needed}
 use Rattle.code_items.proofs.Conditions.{truth_back, not_not, zero_agrees}
-use Rattle.code_items.proofs.Held.{onto, with_held, AllHeld, onto_all, with_all_held}
-use Rattle.code_items.proofs.Leads.{Leads, on, as_part, here, stands, lands, goes_by, delivers, at_place}
-use Rattle.code_items.proofs.Steps.{one, jumps, decided, tests, by_word, moved_does}
+use Rattle.code_items.proofs.Held.{Held, onto, with_held, AllHeld, onto_all, with_all_held, place_is}
+use Rattle.code_items.proofs.Leads.{Leads, on, as_part, here, here_with, stands, lands, goes_by, delivers, at_place}
+use Rattle.code_items.proofs.Steps.{one, one_with, jumps, decided, tests, by_word, moved_does}
 use Rattle.code_items.proofs.Truths.{not_condition, Branches, condition}
-use Rattle.code_items.proofs.Evaluated.{ValueOk, operand_held, operand_does, ListOk, all_held, two_operands}
+use Rattle.code_items.proofs.Evaluated.{ValueOk, operand_held, operand_does, ListOk, all_held}
+use Rattle.code_items.proofs.Placed.{operated_items, placed_at, placed_end, placed_operands}
 
 module _ (now : Running) where
   open now use {p, full, callers, room, lower_calls}
@@ -59,6 +61,46 @@ module _ (now : Running) where
       ∙ with_held oa x s words
       (λ w left. gives (operate op w y) dest left (here now m (onto ob y (onto oa x words)) s)) held.0)
       (keeps_operate full op x y) le
+
+  -- an operation whose right operand was put aside
+  aside_item : (op : Binary) (oa : Operand) (x y : ℕ) (s : Situation) (n m : ℕ) (words : List ℕ)
+      (dest : Destination) → slice_get (code now) m ≡ Some (items.operate_aside op oa dest)
+      → Held oa x s → length words + 1 ≤ 48
+      → Leads now s n (lands now aside m (onto oa x words) y s) (operate op x y s) (lands now dest (m + 1) words)
+  aside_item op oa x y s n m words dest h held le =
+      one_with now (Some y) m words dest (items.operate_aside op oa dest) (operate op x y) (onto oa x words) h
+      (with_held oa x s words
+      (λ w left. gives (operate op w y) dest left (here_with now (Some y) m (onto oa x words) s)) held)
+      (keeps_operate full op x y) le
+
+  -- an operation, where its right operand went to its place
+  module _ (op : Binary) (oa : Operand) (x y : ℕ) (s : Situation) (n m : ℕ) (words : List ℕ) (dest : Destination)
+      (le : length words + 1 ≤ 48) where
+    -- by that place, and the right operand
+    abbrev FromPlace : Destination → Operand → Type 0
+    FromPlace place ob = slice_get (code now) m ≡ Some (operated place op oa ob dest)
+        → AllHeld (oa ∷ ob ∷ []) (x ∷ y ∷ []) s
+        → Leads now s n (placed_at now place ob m (onto oa x words) y s) (operate op x y s)
+        (lands now dest (m + 1) words)
+
+    from_top : (ob : Operand) → FromPlace push ob
+    from_top pushed h held = operate_item op oa pushed x y s n m words dest h held le
+    from_top (number k) h held = operate_item op oa (number k) x y s n m words dest h held le
+    from_top (variable z) h held = operate_item op oa (variable z) x y s n m words dest h held le
+
+    from_aside : (ob : Operand) → FromPlace aside ob
+    from_aside pushed h held = aside_item op oa x y s n m words dest h held.0 le
+    from_aside (number k) h held = operate_item op oa (number k) x y s n m words dest h held le
+    from_aside (variable z) h held = operate_item op oa (variable z) x y s n m words dest h held le
+
+  operated_item : (op : Binary) (oa ob : Operand) (x y : ℕ) (s : Situation) (n m : ℕ) (words : List ℕ)
+      (dest : Destination) → slice_get (code now) m ≡ Some (operated (right_place op oa) op oa ob dest)
+      → AllHeld (oa ∷ ob ∷ []) (x ∷ y ∷ []) s → length words + 1 ≤ 48
+      → Leads now s n (placed_at now (right_place op oa) ob m (onto oa x words) y s) (operate op x y s)
+      (lands now dest (m + 1) words)
+  operated_item op oa ob x y s n m words dest h held le =
+      place_is op oa (λ place. FromPlace op oa x y s n m words dest le place ob)
+      (from_top op oa x y s n m words dest le ob) (from_aside op oa x y s n m words dest le ob) h held
 
   call_piece : (rr : ℕ) (vs : Values) → ListOk now vs → (s : Situation) (n pc m : ℕ) (words : List ℕ)
       (dest : Destination) → HasAt (code now) pc (operands_items pc vs) m → slice_get (code now) m
@@ -163,31 +205,28 @@ module _ (now : Running) where
 
   pub operation_ok : (op : Binary) (a b : Value) → ValueOk now a → ValueOk now b
       → ((at : ℕ) (dest : Destination) → value_items at (source.binary op a b) dest
-      ≡ if_pushed (left_of a b) (value_items at a push) []
-      ++ (if_pushed (alone b) (value_items (at + operand_count a (left_of a b)) b push) [] ++ items.operate op
-      (left_of a b) (alone b) dest ∷ []))
+      ≡ operated_items at op a b dest [])
       → ((at t : ℕ) (when : Bool) → branch_items at (source.binary op a b) when t
-      ≡ if_pushed (left_of a b) (value_items at a push) []
-      ++ (if_pushed (alone b) (value_items (at + operand_count a (left_of a b)) b push) [] ++ items.operate op
-      (left_of a b) (alone b) push ∷ branch_true pushed when t ∷ []))
+      ≡ operated_items at op a b push (branch_true pushed when t ∷ []))
       → ((s : Situation) → (evaluate (setting now) a >>= λ x. (evaluate (setting now) b >>= λ y. operate op x y)) s
       ≡ evaluate (setting now) (source.binary op a b) s) → ValueOk now (source.binary op a b)
   operation_ok op a b oka okb ev eb means = record {
     value = λ s n pc q words dest has le.
-        let m = pc + operand_count a (left_of a b) + operand_count b (alone b) in
+        let m = placed_end op a b pc in
         as_part now _ _ (means s)
-        (two_operands now {behind = lands now dest q words} a b oka okb s n pc q words
-        (items.operate op (left_of a b) (alone b) dest ∷ []) (operate op)
+        (placed_operands now {behind = lands now dest q words} op a b oka okb s n pc q words
+        (operated (right_place op (left_of a b)) op (left_of a b) (alone b) dest ∷ []) (operate op)
         (subst (λ l. HasAt (code now) pc l q) (ev pc dest) has) le (λ x y s2 h held.
         at_place now (λ z. lands now dest z words) (m + 1) q h.1
-        (operate_item op (left_of a b) (alone b) x y s2 n m words dest h.0 held (omega (arith, le)))));
+        (operated_item op (left_of a b) (alone b) x y s2 n m words dest h.0 held (omega (arith, le)))));
     branch = λ s n pc t q words when has before le.
-        let m = pc + operand_count a (left_of a b) + operand_count b (alone b) in
+        let m = placed_end op a b pc in
         as_part now _ _ (means s)
-        (two_operands now {behind = goes_by now when t q words} a b oka okb s n pc q words
-        (items.operate op (left_of a b) (alone b) push ∷ branch_true pushed when t ∷ []) (operate op)
+        (placed_operands now {behind = goes_by now when t q words} op a b oka okb s n pc q words
+        (operated (right_place op (left_of a b)) op (left_of a b) (alone b) push ∷ branch_true pushed when t ∷ [])
+        (operate op)
         (subst (λ l. HasAt (code now) pc l q) (eb pc t when) has) le (λ x y s2 h held.
         by_word now _ (m + 1) t q words when
-        (operate_item op (left_of a b) (alone b) x y s2 n m words push h.0 held (omega (arith, le))) h.1.0
+        (operated_item op (left_of a b) (alone b) x y s2 n m words push h.0 held (omega (arith, le))) h.1.0
         (omega (arith, before, h.1.1)) h.1.1));
   }

@@ -14,8 +14,9 @@ use Rattle.meaning.specs.Resolved.{step_before, step_after, effect, if_then, if_
 use Rattle.meaning.specs.Resolved.{switch_on, one, between, return_value, next, stop, text_alone, print, print_return}
 use Rattle.meaning.specs.Resolved.{text, character_of, number_of}
 use Rattle.meaning.specs.Resolved as source
-use Rattle.code_values.specs.Items.{pushed, push, into, nowhere, less, greater, same, is_zero, move, operate, step}
-use Rattle.code_values.specs.Items.{branch, choose, jump, back, print_text, print_character, print_number, new_line}
+use Rattle.code_values.specs.Items.{pushed, push, into, aside, nowhere, less, greater, same, is_zero, move, operate}
+use Rattle.code_values.specs.Items.{operate_aside, step}
+use Rattle.code_values.specs.Items.{branch, jump, back, print_text, print_character, print_number, new_line}
 use Rattle.code_values.specs.Items.{quit, apply_prefix, keep, first_equal, also_equal, drop_below}
 use Rattle.code_values.specs.Items as items
 use Rattle.code_items.specs.Statements.{Exits, exits_to, action_items, return_true}
@@ -82,11 +83,19 @@ kept_later : action_items outside 0 (print (number_of (binary binaries.Subtract 
     ∷ []
 kept_later = refl
 
+-- print x / F(); where the divisor is tested
+divisor_aside : action_items outside 0 (print (number_of (binary binaries.Divide (read x) called) ∷ []))
+    ≡ items.call 7 [] aside
+    ∷ operate_aside binaries.Divide (items.variable x) push
+    ∷ print_number pushed
+    ∷ []
+divisor_aside = refl
+
 -- print g - F(); where it may change g
 changed_later : action_items outside 0 (print (number_of (binary binaries.Subtract (read g) called) ∷ []))
     ≡ move (items.variable g) push
-    ∷ items.call 7 [] push
-    ∷ operate binaries.Subtract pushed pushed push
+    ∷ items.call 7 [] aside
+    ∷ operate_aside binaries.Subtract pushed push
     ∷ print_number pushed
     ∷ []
 changed_later = refl
@@ -259,7 +268,7 @@ grouped : action_items outside 0
     (switch_on (read x)
     (source.case (between 1 5 ∷ one 7 ∷ one 8 ∷ one 9 ∷ one 10 ∷ []) (next (effect (step_after y steps.Increment)) stop)
     (source.default_case (next (effect called) stop))))
-    ≡ choose (items.variable x)
+    ≡ move (items.variable x) aside
     ∷ items.case less (1 ∷ []) true 3
     ∷ items.case greater (5 ∷ []) false 5
     ∷ items.case same (7 ∷ []) true 5
@@ -276,15 +285,14 @@ chosen_by_call : action_items outside 0
     (source.case (one 1 ∷ [])
     (next (if_then (read x) source.break_out) (next (effect (step_after y steps.Increment)) stop))
     (source.case (between 2 4 ∷ []) (next source.quit stop) source.no_case)))
-    ≡ items.call 7 [] push
-    ∷ choose pushed
-    ∷ items.case same (1 ∷ []) false 7
-    ∷ branch is_zero (items.variable x ∷ []) true 5
-    ∷ jump 10
+    ≡ items.call 7 [] aside
+    ∷ items.case same (1 ∷ []) false 6
+    ∷ branch is_zero (items.variable x ∷ []) true 4
+    ∷ jump 9
     ∷ step steps.Increment y nowhere
-    ∷ jump 10
-    ∷ items.case less (2 ∷ []) true 10
-    ∷ items.case greater (4 ∷ []) true 10
+    ∷ jump 9
+    ∷ items.case less (2 ∷ []) true 9
+    ∷ items.case greater (4 ∷ []) true 9
     ∷ quit
     ∷ []
 chosen_by_call = refl

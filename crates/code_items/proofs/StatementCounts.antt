@@ -6,8 +6,8 @@ use Rattle.syntax_trees.specs.declared.tree.Relative.TheVariants as relatives
 use Rattle.meaning.specs.Resolved.{Value, Printed, Action, Actions, CasesOf, stop, next}
 use Rattle.meaning.specs.Resolved as source
 use Rattle.meaning.specs.declared.resolved.Variable.{Variable}
-use Rattle.code_values.specs.Items.{Operand, variable, push, left_of, if_pushed, value_items, nowhere, alone}
-use Rattle.code_values.specs.Items.{branch_count, branch_items, operand_count, alone_items}
+use Rattle.code_values.specs.Items.{Operand, variable, push, aside, left_of, if_pushed, value_count, value_items}
+use Rattle.code_values.specs.Items.{nowhere, alone, branch_count, branch_items, operand_count, alone_items}
 use Rattle.code_values.specs.Items as items
 use Rattle.code_values.proofs.CountedForms.{joined, if_length}
 use Rattle.code_values.proofs.Counts.{value_length, branch_length, alone_length}
@@ -183,15 +183,11 @@ mutual
       (λ end. test_length test place end) (λ inside p. action_length inside a p) (λ p. once_length behind p) in
       omega (arith, f, once_length before at, length-append (once_items at before) whole)
   action_length x (source.switch_on v cs) at =
-      let place = at + operand_count v (alone v) + 1 in
+      let place = at + value_count v aside in
       let end = place + cases_count cs in
       let inside : Exits = record x { breaks = end } in
-      omega (
-        arith,
-        alone_length v at,
-        cases_length inside cs place end,
-        length-append (alone_items at v) (items.choose (alone v) ∷ cases_items inside place cs end),
-      )
+      joined (value_items at v aside) (cases_items inside place cs end) _ _ (value_length v aside at)
+      (cases_length inside cs place end)
   action_length x source.break_out at = refl
   action_length x source.continue_on at = refl
   action_length x (source.read_line t p) at = refl

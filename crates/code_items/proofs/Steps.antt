@@ -1,12 +1,12 @@
 -- What a run does at one item.
-use Rattle.std.proofs.Common.{◌≡◌, ℕ, ◌+◌, ◌<◌, ◌≤◌, List, [], ◌∷◌, length, Some, Bool, true, false, refl, sym, ap, ◌∙◌}
+use Rattle.std.proofs.Common.{◌≡◌, ℕ, ◌+◌, ◌<◌, ◌≤◌, List, [], ◌∷◌, length, Option, Some, None, Bool, true, false, refl, sym, ap, ◌∙◌}
 use Rattle.std.proofs.Common.{subst}
 use Rattle.std.specs.Prelude.{not, if◌then◌else◌, slice_get}
 use Rattle.std.proofs.lemmas.Bool.{lt-ltb}
 use Rattle.meaning.specs.World.{Outcome, Situation, Comes, to, over, Part, ◌>>=◌, give, with_value}
 use Rattle.meaning.specs.Meaning.{truth, is_true}
-use Rattle.code_values.specs.Items.{Item, Operand, pushed, number, Destination, push, into, nowhere, Test, is_zero}
-use Rattle.code_values.specs.Items.{branch_true, agrees, moved}
+use Rattle.code_values.specs.Items.{Item, Operand, pushed, number, Destination, push, into, aside, nowhere, Test}
+use Rattle.code_values.specs.Items.{is_zero, branch_true, agrees, moved}
 use Rattle.code_values.specs.Items as items
 use Rattle.code_items.specs.Stack.{Next, goes, stuck, with_operand, delivered, after_part, holds, act}
 use Rattle.code_items.specs.Stack as stack
@@ -16,21 +16,23 @@ use Rattle.code_items.proofs.Standing.{HasAt}
 use Rattle.code_items.proofs.Conditions.{zero_agrees, truth_back}
 use Rattle.code_items.proofs.Held.{AllHeld, onto_all, with_all_held}
 use Rattle.code_items.proofs.Leads.{Leads, on, given, then_to, here, stands, lands, goes_by, delivers, at_place}
-use Rattle.code_items.proofs.Leads.{begins_at}
+use Rattle.code_items.proofs.Leads.{begins_at, here_with}
 
 module _ (now : Running) where
   open now use {p, full}
 
-  -- one item that gives a word
-  pub one : {s : Situation} {n : ℕ} (m : ℕ) (words : List ℕ) (d : Destination) (i : Item) (f : Part ℕ)
-      (before : List ℕ)
+  -- one item that gives a word, from where a word was put aside, or none
+  pub one_with : {s : Situation} {n : ℕ} (w : Option ℕ) (m : ℕ) (words : List ℕ) (d : Destination) (i : Item)
+      (f : Part ℕ) (before : List ℕ)
       → slice_get (code now) m ≡ Some i
-      → act p full (Some i) (here now m before s) ≡ after_part (f s)
+      → act p full (Some i) (here_with now w m before s) ≡ after_part (f s)
       (λ v last. delivered d v (here now (m + 1) words last))
-      → Keeps full f → length words + 1 ≤ 48 → Leads now s n (stands now m before s) (f s) (lands now d (m + 1) words)
-  one {s = s} m words d i f before h e keeps le =
+      → Keeps full f → length words + 1 ≤ 48
+      → Leads now s n (goes (here_with now w m before s)) (f s) (lands now d (m + 1) words)
+  one_with {s = s} w m words d i f before h e keeps le =
       record {
-        does = λ k _ hd. steps_on p full (here now m before s) _ _ (ap (λ x. act p full x (here now m before s)) h ∙ e)
+        does = λ k _ hd. steps_on p full (here_with now w m before s) _ _
+            (ap (λ x. act p full x (here_with now w m before s)) h ∙ e)
             (reach k (f s) hd (keeps s));
       }
     where
@@ -40,6 +42,14 @@ module _ (now : Running) where
           → RunsTo p full (after_part c (λ v last. delivered d v (here now (m + 1) words last))) (hand c k)
       reach k (to v last) hd low = delivers now d (m + 1) words v last (k v last) le (hd v last refl low)
       reach k (over outcome) hd low = ends_there p full outcome
+
+  pub one : {s : Situation} {n : ℕ} (m : ℕ) (words : List ℕ) (d : Destination) (i : Item) (f : Part ℕ)
+      (before : List ℕ)
+      → slice_get (code now) m ≡ Some i
+      → act p full (Some i) (here now m before s) ≡ after_part (f s)
+      (λ v last. delivered d v (here now (m + 1) words last))
+      → Keeps full f → length words + 1 ≤ 48 → Leads now s n (stands now m before s) (f s) (lands now d (m + 1) words)
+  one m words d i f before h e keeps le = one_with None m words d i f before h e keeps le
 
   -- one item that prints
   pub puts : {s : Situation} {n : ℕ} (m : ℕ) (words : List ℕ) (i : Item) (f : Part (Unit {0})) (before : List ℕ)
@@ -131,6 +141,9 @@ module _ (now : Running) where
   moved_does o v (into x) pc q words has e le = at_place now (λ y. lands now (into x) y words) (pc + 1) q has.1
       (one pc words (into x) (items.move o (into x)) (give v) words has.0
       (e (λ v rest. delivered (into x) v (here now (pc + 1) rest _))) (keeps_give full v) le)
+  moved_does o v aside pc q words has e le = at_place now (λ y. lands now aside y words) (pc + 1) q has.1
+      (one pc words aside (items.move o aside) (give v) words has.0
+      (e (λ v rest. delivered aside v (here now (pc + 1) rest _))) (keeps_give full v) le)
 
   -- one item `move` of a number
   pub number_does : {s : Situation} {n : ℕ} (w : ℕ) (d : Destination) (m : ℕ) (words : List ℕ)
@@ -151,6 +164,14 @@ module _ (now : Running) where
             (λ v last e low. steps_on p full (here now m words (with_value x v last)) _ _
             (ap (λ i. act p full i (here now m words (with_value x v last))) h
             ∙ leads_on m t words (with_value x v last) lt)
+            (d v last e low));
+      }
+  jumps_after {c = c} aside m t words h lt l =
+      record {
+        does = λ k le d. l.does k le
+            (λ v last e low. steps_on p full (here_with now (Some v) m words last) _ _
+            (ap (λ i. act p full i (here_with now (Some v) m words last)) h
+            ∙ ap (λ b. if b then goes (here_with now (Some v) t words last) else stuck) (lt-ltb m t lt))
             (d v last e low));
       }
   jumps_after {c = c} nowhere m t words h lt l =

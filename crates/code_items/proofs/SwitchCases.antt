@@ -1,23 +1,21 @@
 -- What is written for `switch`.
 use Rattle.std.proofs.Common.{◌≡◌, ℕ, zero, suc, ◌+◌, ◌-◌, ◌<◌, List, [], ◌∷◌, ◌++◌, length, map, drop, slice_index_or}
-use Rattle.std.proofs.Common.{Option, refl, sym, ap, subst, ◌∙◌, arith, append_assoc}
+use Rattle.std.proofs.Common.{Option, refl, sym, ap, subst, ◌∙◌, arith}
 use Rattle.std.specs.Global.{Vec}
 use Rattle.meaning.specs.declared.resolved.Span.{Span}
 use Rattle.meaning.specs.declared.resolved.Action as code_action
 use Rattle.meaning.specs.Resolved.{Value, RangeOf, Action, Actions, CasesOf, case_of}
 use Rattle.meaning.specs.Resolved as source
-use Rattle.code_values.specs.Items.{Item, Operand, alone, if_pushed, push, value_items, operand_count, alone_items}
-use Rattle.code_values.specs.Items as items
+use Rattle.code_values.specs.Items.{Item, aside, value_count, value_items}
 use Rattle.code_values.specs.declared.draft.Draft.{Draft}
 use Rattle.code_values.specs.Writing.{written_in, WritesBefore}
-use Rattle.code_values.proofs.CountedForms.{joined}
 use Rattle.code_values.proofs.WrittenItems.{counted, both, as_items}
-use Rattle.code_values.proofs.Values.{pushes_length}
+use Rattle.code_values.proofs.Counts.{value_length}
 use Rattle.code_items.specs.Statements.{actions_count, cases_count, tests_count, over_count, groups_of, tests_items}
 use Rattle.code_items.specs.Statements.{over_items, action_items, actions_items, cases_items}
 use Rattle.code_items.specs.Statements as statements
 use Rattle.code_items.specs.declared.exits.Exits.{Exits}
-use Rattle.code_items.specs.Writing.{taken_items, exits_of, cases_before, LeavesCases}
+use Rattle.code_items.specs.Writing.{exits_of, cases_before, LeavesCases}
 use Rattle.code_items.proofs.StatementCounts.{actions_length, cases_length, tests_length, over_length}
 
 -- a case before others
@@ -91,33 +89,25 @@ pub cases_all : (cs : List (List RangeOf × Actions)) (other : Option (List Acti
 cases_all [] other = refl
 cases_all (c ∷ cs) other = ap (source.case c.0 c.1) (cases_all cs other)
 
-pub switch_more : (c c1 c2 : List Item) (x : Exits) (o : Operand) (v : Value) (cs : CasesOf) (inside : Exits)
-    → inside.breaks ≡ length c → inside.continues ≡ x.continues → o ≡ alone v
+pub switch_more : (c c1 c2 : List Item) (x : Exits) (v : Value) (cs : CasesOf) (inside : Exits)
+    → inside.breaks ≡ length c → inside.continues ≡ x.continues
     → WritesBefore c c1 (λ n at. cases_items (exits_of n inside) at cs (n - inside.breaks))
-    → WritesBefore c1 c2 (taken_items o (items.choose o) v)
+    → WritesBefore c1 c2 (λ n at. value_items at v aside)
     → WritesBefore c c2 (λ n at. action_items (exits_of n x) at (source.switch_on v cs))
-switch_more c c1 c2 x o v cs inside ee ec eo wc wt =
-    let k = operand_count v (alone v) in
+switch_more c c1 c2 x v cs inside ee ec wc wv =
+    let k = value_count v aside in
     let m = cases_count cs in
     let end = inside.breaks in
-    let taken : WritesBefore c1 c2 (λ n at. alone_items at v ++ items.choose (alone v) ∷ []) =
-    as_items (λ n at h. ap (λ p. if_pushed p (value_items at v push) [] ++ items.choose p ∷ []) eo) wt in
     let long_c = λ (n at : ℕ). cases_length (exits_of n inside) cs at (n - end) in
-    let long_t = λ (n at : ℕ). joined (alone_items at v) (items.choose (alone v) ∷ []) k 1
-    (pushes_length (alone v) v n at) refl in
+    let long_v = λ (n at : ℕ). value_length v aside at in
     let l1 = counted m long_c wc in
-    let l2 = counted (k + 1) long_t taken in
+    let l2 = counted k long_v wv in
     as_items (λ n at h.
-    let place : at + (k + 1) ≡ at + k + 1 = omega arith in
-    let stop : n - end ≡ at + k + 1 + m = omega (arith, h, l1, l2, ee) in
+    let stop : n - end ≡ at + k + m = omega (arith, h, l1, l2, ee) in
     let rounds : n - inside.continues ≡ n - x.continues = ap (λ i. n - i) ec in
-    append_assoc (alone_items at v) (items.choose (alone v) ∷ [])
-    (cases_items (exits_of n inside) (at + (k + 1)) cs (n - end))
-    ∙ ap (λ p. whole at (n - inside.continues) (n - end) p) place
-    ∙ ap (λ e. whole at (n - inside.continues) e (at + k + 1)) stop
-    ∙ ap (λ r. whole at r (at + k + 1 + m) (at + k + 1)) rounds)
-    (both (k + 1) long_t wc taken)
+    ap (λ e. whole at (n - inside.continues) e) stop ∙ ap (λ r. whole at r (at + k + m)) rounds)
+    (both k long_v wc wv)
   where
-    whole : ℕ → ℕ → ℕ → ℕ → List Item
-    whole at behind stop place = alone_items at v
-        ++ items.choose (alone v) ∷ cases_items (statements.exits_to behind stop) place cs stop
+    whole : ℕ → ℕ → ℕ → List Item
+    whole at behind stop = value_items at v aside
+        ++ cases_items (statements.exits_to behind stop) (at + value_count v aside) cs stop

@@ -5,29 +5,28 @@ use Rattle.std.specs.Prelude.{◌||◌, ◌&&◌, ◌==◌, not, if◌then◌els
 use Rattle.std.specs.List.{list_any}
 use Rattle.std.proofs.lemmas.Bool.{eqb-true}
 use Rattle.zcore.specs.Arithmetic.{signed_less}
-use Rattle.meaning.specs.Resolved.{Value, none, RangeOf, CasesOf}
+use Rattle.meaning.specs.Resolved.{Value, RangeOf, CasesOf}
 use Rattle.meaning.specs.Resolved as source
 use Rattle.meaning.specs.Accepted.{IsWhole}
 use Rattle.meaning.specs.World.{Situation, Comes, to, Part}
 use Rattle.meaning.specs.Meaning.{evaluate, Ending, goes_on, breaks, continues, returns, holds_for, behind_case}
 use Rattle.meaning.specs.Meaning.{run_cases}
-use Rattle.code_values.specs.Items.{Item, agrees, alone, alone_items, operand_count, same, less, greater}
+use Rattle.code_values.specs.Items.{Item, aside, agrees, value_count, value_items, same, less, greater}
 use Rattle.code_items.specs.Statements.{Group, numbers, range, groups_of, group_count, group_items, last_items}
 use Rattle.code_items.specs.Statements.{tests_count, tests_items, over_count, over_items, case_items, cases_count}
 use Rattle.code_items.specs.Statements.{cases_items, Exits}
 use Rattle.code_values.specs.Items as items
-use Rattle.code_items.specs.Stack.{Next, goes, chooses}
-use Rattle.code_values.proofs.Counts.{alone_length}
+use Rattle.code_items.specs.Stack.{Next, goes}
+use Rattle.code_values.proofs.Counts.{value_length}
 use Rattle.code_items.proofs.StatementCounts.{tests_length, over_length, cases_length}
 use Rattle.code_items.proofs.Running.{Running, code, locals, setting}
 use Rattle.code_items.proofs.Standing.{HasAt, split, long}
-use Rattle.code_items.proofs.Held.{onto, with_held}
-use Rattle.code_items.proofs.Leads.{Leads, on, given, then_to, here, stands}
+use Rattle.code_items.proofs.Leads.{Leads, on, given, then_to, stands}
 use Rattle.code_items.proofs.Steps.{jumps}
-use Rattle.code_items.proofs.Evaluated.{operand_held}
-use Rattle.code_items.proofs.Statements.{ended_at, goes_at, alone_does}
+use Rattle.code_items.proofs.EachValue.{value_ok}
+use Rattle.code_items.proofs.Statements.{ended_at, goes_at}
 use Rattle.code_items.proofs.Conditionals.{IsAhead, ActionOk}
-use Rattle.code_items.proofs.Chosen.{has_word, with_it, tests_word, jumps_word, chooses_word}
+use Rattle.code_items.proofs.Chosen.{has_word, with_it, tests_word, jumps_word}
 use Rattle.code_items.proofs.Groups.{asks, groups_hold}
 
 -- there is a test
@@ -192,19 +191,16 @@ module _ (now : Running) where
   pub switch_does : (v : Value) (cs : CasesOf) → IsWhole p (locals now) v → CasesOk cs
       → ActionOk now (source.switch_on v cs)
   switch_does v cs fine ok x s n pc q ahead has =
-      let m = pc + operand_count v (alone v) in
-      let e = m + 1 + cases_count cs in
+      let m = pc + value_count v aside in
+      let e = m + cases_count cs in
       let inner : Exits = record x { breaks = e } in
-      let h = split (code now) pc (alone_items pc v) _ q (operand_count v (alone v)) (alone_length v pc) has in
-      let all = long (code now) (m + 1) (cases_items inner (m + 1) cs e) q (cases_count cs)
-      (cases_length inner cs (m + 1) e) h.1.1 in
-      on now (evaluate (setting now) v) _ (alone_does now x v fine s n pc m h.0) (λ w s1 e1.
-      chooses_word now w m (onto (alone v) w []) (items.choose (alone v)) h.1.0
-      (with_held (alone v) w s1 [] (λ a rest. chooses a rest (here now m (onto (alone v) w []) s1))
-      (operand_held now v none s s1 w e1))
-      (on now (run_cases (setting now) w cs) _
-      (ok inner w s1 n (m + 1) e q (sym all) (omega (arith, all), ahead.1) h.1.1)
-      (λ ending s2 _. leaves e all ending s2)))
+      let h = split (code now) pc (value_items pc v aside) _ q (value_count v aside) (value_length v aside pc) has in
+      let all = long (code now) m (cases_items inner m cs e) q (cases_count cs) (cases_length inner cs m e) h.1 in
+      on now (evaluate (setting now) v) _
+      ((value_ok now v).value s n pc m [] aside h.0 (omega (arith, fine.1))) (λ w s1 e1.
+      on now (run_cases (setting now) w cs) _
+      (ok inner w s1 n m e q (sym all) (omega (arith, all), ahead.1) h.1)
+      (λ ending s2 _. leaves e all ending s2))
     where
       leaves : (e : ℕ) → e ≡ q → (ending : Ending) (last : Situation)
           → Leads now last n (ended_at now (record x { breaks = e }) q ending last) (to (behind_case ending) last)

@@ -11,7 +11,8 @@ use Rattle.meaning.specs.Resolved as source
 use Rattle.meaning.specs.Accepted.{need_of}
 use Rattle.meaning.specs.World.{Situation, Comes, to, ◌>>=◌, give}
 use Rattle.meaning.specs.Meaning.{truth, is_true, equated, compared, evaluate, evaluate_all}
-use Rattle.code_values.specs.Items.{Item, number, Destination, push, into, nowhere, agrees, truth_items}
+use Rattle.code_values.specs.Items.{Item, number, Destination, push, into, aside, nowhere, agrees}
+use Rattle.code_values.specs.Items.{truth_items}
 use Rattle.code_values.specs.Items as items
 use Rattle.code_items.proofs.Acts.{came}
 use Rattle.code_items.proofs.Running.{Running, code, setting}
@@ -82,6 +83,7 @@ module _ (now : Running) where
           (given now {behind = lands now nowhere q words} v))
       go push has = chosen push has
       go (into x) has = chosen (into x) has
+      go aside has = chosen aside has
 
   -- a condition is 1 or 0
   abbrev IsTruth : Value → Type 0

@@ -10,7 +10,7 @@ use Rattle.meaning.specs.declared.resolved.Variable.{Variable}
 use Rattle.meaning.specs.Resolved.{Value, none, more, Printed, Action, Actions, stop, next, CasesOf}
 use Rattle.meaning.specs.Resolved as source
 use Rattle.meaning.specs.Accepted.{IsVariable, IsValue, IsPart, IsPrinted, IsAction, AreActions, AreCases}
-use Rattle.code_values.specs.Items.{nowhere, alone, operand_count, branch_count, branch_items, alone_items, Test, less}
+use Rattle.code_values.specs.Items.{aside, nowhere, value_count, value_items, alone, operand_count, branch_count, branch_items, alone_items, Test, less}
 use Rattle.code_values.specs.Items.{greater, same, Item, Operand, pushed, variable}
 use Rattle.code_values.specs.Items as items
 use Rattle.code_items.specs.Statements.{printed_count, prints_count, action_count, actions_count, printed_items}
@@ -188,12 +188,11 @@ module _ (here : Bounds) where
         (action_fine inside a (omega (arith, lt), omega (arith, lt)) h.3 n (omega (arith, lt)))
         (last here (once_items m behind) _ (once_fine behind h.2 m (omega (arith, lt))) (omega (arith, lt)))))
     action_fine x (source.switch_on v cs) there h at lt =
-        let n = at + operand_count v (alone v) + 1 in
+        let n = at + value_count v aside in
         let e = n + cases_count cs in
         let inside : Exits = record x { breaks = e } in
-        joined here (alone_items at v) _ (alone_fine v h.0.0 at (omega (arith, lt)))
-        (first here _ _ (operand_fine here v none h.0.0)
-        (cases_fine inside cs (omega (arith, lt), there.1) h.1 n e (omega (arith, lt)) (omega (arith, lt))))
+        joined here (value_items at v aside) _ ((value_fine here v h.0.0).value at aside tt (omega (arith, lt)))
+        (cases_fine inside cs (omega (arith, lt), there.1) h.1 n e (omega (arith, lt)) (omega (arith, lt)))
     action_fine x source.break_out there h at lt = first here _ _ there.0 (nothing here)
     action_fine x source.continue_on there h at lt = first here _ _ there.1 (nothing here)
     action_fine x (source.read_line t q) there h at lt = first here _ _ h (nothing here)

@@ -7,8 +7,8 @@ use Rattle.meaning.specs.Resolved.{RoutineOf, ProgramOf}
 use Rattle.meaning.specs.Accepted.{IsVariable, IsRoutine, IsAccepted, IsProperty}
 use Rattle.meaning.specs.Meaning.{routine_at, meaning}
 use Rattle.code_values.specs.Items.{Operand, variable, Destination, into, Test, is_zero, less, greater, same, Item}
-use Rattle.code_values.specs.Items.{move, apply_prefix, operate, step, entry, assign_entry, keep, print_character}
-use Rattle.code_values.specs.Items.{print_number, branch, read_line, choose, case, jump, back, call, return, print_name}
+use Rattle.code_values.specs.Items.{move, apply_prefix, operate, operate_aside, step, entry, assign_entry, keep, print_character}
+use Rattle.code_values.specs.Items.{print_number, branch, read_line, case, jump, back, call, return, print_name}
 use Rattle.code_values.specs.Items.{relative, property, property_size, property_word, assign_property}
 use Rattle.code_values.specs.Items.{assign_property_word, give, has, move_object, remove_object, is_in, provides}
 use Rattle.code_values.specs.Items.{first_object, next_object}
@@ -51,6 +51,9 @@ module _ (p : ProgramOf) (locals : ℕ) where
   IsItem count (operate binaries.AndAlso a b d) = ⊥
   IsItem count (operate binaries.OrElse a b d) = ⊥
   IsItem count (operate op a b d) = IsOperand a × IsOperand b × IsDestination d
+  IsItem count (operate_aside binaries.AndAlso o d) = ⊥
+  IsItem count (operate_aside binaries.OrElse o d) = ⊥
+  IsItem count (operate_aside op o d) = IsOperand o × IsDestination d
   IsItem count (step op x d) = IsVariable p locals x × IsDestination d
   IsItem count (entry width a o d) = (a < length p.arrays) × IsOperand o × IsDestination d
   IsItem count (assign_entry width a o q d) = (a < length p.arrays) × IsOperand o × IsOperand q × IsDestination d
@@ -75,7 +78,6 @@ module _ (p : ProgramOf) (locals : ℕ) where
   IsItem count (provides o n when target) = IsProperty n × IsOperand o × (target < count)
   IsItem count (first_object x target) = IsVariable p locals x × (target < count)
   IsItem count (next_object x target) = IsVariable p locals x × (target < count)
-  IsItem count (choose o) = IsOperand o
   IsItem count (case test ns when target) = IsTestedValue test (1 + length ns) × (1 ≤ length ns) × (target < count)
   IsItem count (jump target) = target < count
   IsItem count (back target) = target < count

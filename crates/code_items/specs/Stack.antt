@@ -22,8 +22,8 @@ use Rattle.meaning.specs.Meaning.{first_world}
 use Rattle.meaning.specs.Reading.{read_next}
 use Rattle.meaning.specs.Places.{number_in}
 use Rattle.meaning.specs.Meaning as meaning
-use Rattle.code_values.specs.Items.{Item, Operand, pushed, number, variable, Destination, push, into, nowhere, Test}
-use Rattle.code_values.specs.Items.{is_zero, less, greater, same, agrees}
+use Rattle.code_values.specs.Items.{Item, Operand, pushed, number, variable, Destination, push, into, aside, nowhere}
+use Rattle.code_values.specs.Items.{Test, is_zero, less, greater, same, agrees}
 use Rattle.code_values.specs.Items as items
 use Rattle.code_items.specs.Statements.{routine_items}
 
@@ -35,13 +35,13 @@ pub record Caller : Type 0 where
   pub stack : List ℕ
   pub locals : List ℕ
 
--- a place in a routine, its stack, the word of a `switch` whose cases are tested, the calls that wait, the newest
+-- a place in a routine, its stack, the word that was put aside for the next item, the calls that wait, the newest
 -- first, and the locals with the world
 pub record ItemState : Type 0 where
   pub routine : ℕ
   pub place : ℕ
   pub stack : List ℕ
-  pub chosen : Option ℕ
+  pub put_aside : Option ℕ
   pub callers : List Caller
   pub situation : Situation
 
@@ -61,6 +61,11 @@ with_operand pushed s (v ∷ stack) k = k v stack
 with_operand (number n) s stack k = k n stack
 with_operand (variable x) s stack k = k (value_in x s) stack
 
+-- what follows gets the word that was put aside
+abbrev pub with_aside : Option ℕ → (ℕ → Next) → Next
+with_aside None k = stuck
+with_aside (Some v) k = k v
+
 -- the words of several operands
 abbrev pub with_operands : List Operand → Situation → List ℕ → (List ℕ → List ℕ → Next) → Next
 with_operands [] s stack k = k [] stack
@@ -77,6 +82,7 @@ within s = if nat_le (length s.stack) 48 then goes s else stuck
 abbrev pub delivered : Destination → ℕ → ItemState → Next
 delivered push v s = within (record s { stack = v ∷ s.stack })
 delivered (into x) v s = goes (record s { situation = with_value x v s.situation })
+delivered aside v s = goes (record s { put_aside = Some v })
 delivered nowhere v s = goes s
 
 -- a part of the meaning is done, and then what follows it, if it does not end the run
@@ -87,7 +93,7 @@ after_part (over outcome) k = ends outcome
 -- with the item after this one, where this is left of the stack
 abbrev pub after : ItemState → List ℕ → Situation → ItemState
 after s stack situation =
-    record s { place = s.place + 1; stack = stack; chosen = None; situation = situation }
+    record s { place = s.place + 1; stack = stack; put_aside = None; situation = situation }
 
 -- a part gives a word, which goes to its destination
 abbrev pub gives : Part ℕ → Destination → List ℕ → ItemState → Next
@@ -138,19 +144,15 @@ holds _ _ = false
 
 -- to the target, or to the next item
 abbrev pub branch : Bool → ℕ → List ℕ → ItemState → Next
-branch true target stack s = jump_forward target (record s { stack = stack; chosen = None })
+branch true target stack s = jump_forward target (record s { stack = stack; put_aside = None })
 branch false target stack s = goes (after s stack s.situation)
 
--- the word of a `switch` is there for the next item
-abbrev pub chooses : ℕ → List ℕ → ItemState → Next
-chooses v stack s = goes (record (after s stack s.situation) { chosen = Some v })
-
--- it stays, and the run goes on at the target, or with the next item
+-- the word that was put aside stays there, and the run goes on at the target, or with the next item
 abbrev pub by_case : Bool → ℕ → ItemState → Next
 by_case true target s = jump_forward target s
 by_case false target s = goes (record s { place = s.place + 1 })
 
--- a test of the word of a `switch`
+-- a test of that word
 abbrev pub test_case : Option ℕ → Test → List ℕ → Bool → ℕ → ItemState → Next
 test_case None test ns when target s = stuck
 test_case (Some v) test ns when target s = by_case (agrees (holds test (v ∷ ns)) when) target s
@@ -160,7 +162,7 @@ abbrev pub go_back : ℕ → ItemState → Next
 go_back target s =
     if nat_le target s.place then
     after_part (spend s.situation)
-    (λ _ situation. goes (record s { place = target; chosen = None; situation = situation }))
+    (λ _ situation. goes (record s { place = target; put_aside = None; situation = situation }))
     else stuck
 
 -- Objects: what items do with them, each with its tests first
@@ -286,7 +288,7 @@ enter p r arguments callers situation =
       routine = r;
       place = 0;
       stack = [];
-      chosen = None;
+      put_aside = None;
       callers = callers;
       situation = record { locals = locals_of (routine_at p.routines r).locals arguments; world = after.world };
     }))
@@ -299,7 +301,7 @@ return_to (c ∷ callers) v w = delivered c.destination v (record {
   routine = c.routine;
   place = c.place;
   stack = c.stack;
-  chosen = None;
+  put_aside = None;
   callers = callers;
   situation = record { locals = c.locals; world = w };
 })
@@ -321,6 +323,9 @@ act p full (Some (items.apply_prefix op o d)) s =
 act p full (Some (items.operate op a b d)) s =
     with_operand b s.situation s.stack
     (λ y rest. with_operand a s.situation rest (λ x stack. gives (meaning.operate op x y) d stack s))
+act p full (Some (items.operate_aside op o d)) s =
+    with_aside s.put_aside
+    (λ y. with_operand o s.situation s.stack (λ x stack. gives (meaning.operate op x y) d stack s))
 act p full (Some (items.step op x d)) s =
     delivered d (stepped op (value_in x s.situation))
     (after s s.stack (with_value x (stepped op (value_in x s.situation)) s.situation))
@@ -377,8 +382,7 @@ act p full (Some (items.provides o q when target)) s =
     with_operand o s.situation s.stack (λ v stack. decides (is_provided p v q) when target stack s)
 act p full (Some (items.first_object x target)) s = decides (begins_objects p x) false target s.stack s
 act p full (Some (items.next_object x target)) s = decides (steps_object p x) false target s.stack s
-act p full (Some (items.choose o)) s = with_operand o s.situation s.stack (λ v stack. chooses v stack s)
-act p full (Some (items.case test ns when target)) s = test_case s.chosen test ns when target s
+act p full (Some (items.case test ns when target)) s = test_case s.put_aside test ns when target s
 act p full (Some (items.jump target)) s = jump_forward target s
 act p full (Some (items.back target)) s = go_back target s
 act p full (Some (items.call r os d)) s =

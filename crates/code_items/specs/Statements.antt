@@ -8,8 +8,8 @@ use Rattle.meaning.specs.Resolved.{Value, Printed, RangeOf, Action, Actions, sto
 use Rattle.meaning.specs.Resolved as source
 use Rattle.code_values.specs.Items.{keep, relative, give, move_object, remove_object, print_text, print_character}
 use Rattle.code_values.specs.Items.{print_number, print_name, new_line, read_line, quit, first_object, next_object}
-use Rattle.code_values.specs.Items.{choose, case, jump, back, return, Item, Operand, alone, alone_items, branch_count}
-use Rattle.code_values.specs.Items.{branch_items, branch_true, greater, if_pushed, left_of, less, nowhere, number}
+use Rattle.code_values.specs.Items.{case, jump, back, return, Item, Operand, alone, alone_items, branch_count}
+use Rattle.code_values.specs.Items.{aside, branch_items, branch_true, greater, if_pushed, left_of, less, nowhere, number}
 use Rattle.code_values.specs.Items.{operand_count, push, pushed, same, value_count, value_items, variable}
 
 -- one thing that is printed
@@ -113,7 +113,7 @@ abbrev mutual
   action_count (source.while_do v a) = branch_count v false + action_count a + 1
   action_count (source.do_until a v) = action_count a + branch_count v true + 1
   action_count (source.for_loop x y z a) = once_count x + test_count y + action_count a + once_count z + 1
-  action_count (source.switch_on v cs) = operand_count v (alone v) + 1 + cases_count cs
+  action_count (source.switch_on v cs) = value_count v aside + cases_count cs
   action_count source.break_out = 1
   action_count (source.read_line t p) = 1
   action_count (source.give_to v changes) = operand_count v (alone v) + 1
@@ -230,10 +230,9 @@ abbrev mutual
       (λ inside place. action_items inside place a)
       (λ place. once_items place behind)
   action_items x at (source.switch_on v cs) =
-      alone_items at v
-      ++ choose (alone v)
-      ∷ cases_items (record x { breaks = at + operand_count v (alone v) + 1 + cases_count cs })
-      (at + operand_count v (alone v) + 1) cs (at + operand_count v (alone v) + 1 + cases_count cs)
+      value_items at v aside
+      ++ cases_items (record x { breaks = at + value_count v aside + cases_count cs }) (at + value_count v aside) cs
+      (at + value_count v aside + cases_count cs)
   action_items x at source.break_out = jump x.breaks ∷ []
   action_items x at (source.read_line t p) = read_line t p ∷ []
   action_items x at source.continue_on = jump x.continues ∷ []

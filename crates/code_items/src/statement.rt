@@ -274,7 +274,7 @@ fn put_each_in<'a>(
     Ok(())
 }
 
-/// `switch`: its word is chosen, and its cases follow.
+/// `switch`: its word is put aside, and its cases follow.
 #[cycle(statements)]
 fn put_switch<'a>(
     draft: &mut Draft<'a>,
@@ -293,8 +293,7 @@ fn put_switch<'a>(
     };
     put_other(draft, inside, other)?;
     put_cases(draft, inside, cases, end)?;
-    let operand = alone(value);
-    put_after(draft, value, operand, Item::Choose(operand))?;
+    put_value(draft, value, Wanted::Word(Destination::Aside))?;
     Ok(())
 }
 

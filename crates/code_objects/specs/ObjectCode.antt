@@ -20,7 +20,7 @@ use Rattle.code_values.specs.Items.{Destination}
 use Rattle.code_values.specs.Items as items
 use Rattle.code_encoding.specs.Addresses.{Addresses, Sizes, fault_address}
 use Rattle.code_encoding.specs.Instructions.{plain, giving, branching, number_of, temporary, constant, push, store}
-use Rattle.code_encoding.specs.Instructions.{fail, operands, pulled_into, word_in, result_in}
+use Rattle.code_encoding.specs.Instructions.{fail, operands, pulled_into, word_in, aside_variable, result_in}
 use Rattle.code_instructions.specs.Instructions.{is_between, behind_comparison, tested_between, labelled}
 
 -- Instructions
@@ -70,6 +70,7 @@ assigned_word o = word_in 1 o
 abbrev pub passed_on : Destination → Operand → List Instruction
 passed_on items.push word = push word ∷ []
 passed_on (items.into x) word = store (number_of x) word ∷ []
+passed_on items.aside word = store aside_variable word ∷ []
 passed_on items.nowhere word = []
 
 -- Objects, of which there are so many

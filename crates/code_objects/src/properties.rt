@@ -12,7 +12,7 @@ ghost use Rattle.code_objects.specs.Written.{objects_in};
 
 use crate::objects::{found, put_object};
 use code_encoding::{
-    Addresses, FIRST, FOURTH, Instruction, Operands, SECOND, Sizes, THIRD, branching,
+    ASIDE, Addresses, FIRST, FOURTH, Instruction, Operands, SECOND, Sizes, THIRD, branching,
     fault_address, giving, plain, print_fault, push, put_all, quit, result_in, store,
     variable_number,
 };
@@ -285,6 +285,7 @@ fn put_stored(
         Destination::Into(variable) => {
             put_all(bytes, &[written, store(variable_number(variable), word)])
         }
+        Destination::Aside => put_all(bytes, &[written, store(ASIDE, word)]),
         Destination::Nowhere => put_all(bytes, &[written]),
     }
 }

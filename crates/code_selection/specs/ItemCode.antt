@@ -18,7 +18,7 @@ use Rattle.code_encoding.specs.Instructions.{result_in}
 use Rattle.meaning.specs.Limits.{most_arguments}
 use Rattle.code_instructions.specs.Instructions.{move_code, prefix_code, binary_code, step_code, first_equal_code}
 use Rattle.code_instructions.specs.Instructions.{also_equal_code, tested_between, character_code, branch_code}
-use Rattle.code_instructions.specs.Instructions.{choose_code, case_code, call_code, return_code}
+use Rattle.code_instructions.specs.Instructions.{aside_code, case_code, call_code, return_code}
 use Rattle.code_objects.specs.ObjectCode.{at_tested, assigned_takes, assigned_word, passed_on, relative_code}
 use Rattle.code_objects.specs.ObjectCode.{is_in_code, has_code, give_code, remove_code, print_name_code}
 use Rattle.code_objects.specs.ObjectCode.{provides_code, property_code, property_size_code, property_word_code}
@@ -103,6 +103,7 @@ abbrev pub item_code : Sizes → Addresses → ℕ → Item → List Instruction
 item_code sizes a offset (items.move o d) = move_code o d ∷ []
 item_code sizes a offset (items.apply_prefix op o d) = prefix_code op o d
 item_code sizes a offset (items.operate op x y d) = binary_code a op x y d
+item_code sizes a offset (items.operate_aside op x d) = aside_code a op x d
 item_code sizes a offset (items.step op x d) = step_code op x d
 item_code sizes a offset (items.entry width n o d) =
     entry_code a width (slice_index sizes.arrays n % 65536) (slice_index a.arrays n) o d
@@ -137,7 +138,6 @@ item_code sizes a offset (items.has o n when target) = has_code a (objects_of si
 item_code sizes a offset (items.provides o q when target) = provides_code a (objects_of sizes) o (q % 256) when offset
 item_code sizes a offset (items.first_object x target) = first_object_code (objects_of sizes) x offset
 item_code sizes a offset (items.next_object x target) = next_object_code (objects_of sizes) x offset
-item_code sizes a offset (items.choose o) = choose_code o ∷ []
 item_code sizes a offset (items.case test ns when target) = case_code test ns when offset
 item_code sizes a offset (items.jump target) = jump_by offset ∷ []
 item_code sizes a offset (items.back target) = jump_by offset ∷ []

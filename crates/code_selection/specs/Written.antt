@@ -9,6 +9,7 @@ abbrev pub kind_of : Item → Kind
 kind_of (items.move o d) = Words
 kind_of (items.apply_prefix op o d) = Words
 kind_of (items.operate op x y d) = Words
+kind_of (items.operate_aside op x d) = Words
 kind_of (items.step op x d) = Words
 kind_of (items.entry width n o d) = Words
 kind_of (items.assign_entry width n o q d) = Words
@@ -16,7 +17,6 @@ kind_of (items.keep x) = Words
 kind_of items.first_equal = Words
 kind_of items.also_equal = Words
 kind_of items.drop_below = Words
-kind_of (items.choose o) = Words
 kind_of (items.print_text bytes) = Printing
 kind_of (items.print_character o) = Printing
 kind_of (items.print_number o) = Printing

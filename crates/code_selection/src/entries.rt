@@ -13,8 +13,8 @@ ghost use Rattle.code_selection.specs.ItemCode.{tested_index, at_index, entry_co
 ghost use Rattle.code_selection.specs.ItemCode as spec;
 
 use code_encoding::{
-    Addresses, FIRST, Operands, SECOND, Sizes, array_address, constant, giving, in_place, plain,
-    pull, push, put_all, result_in, store, variable_number,
+    ASIDE, Addresses, FIRST, Operands, SECOND, Sizes, array_address, constant, giving, in_place,
+    plain, pull, push, put_all, result_in, store, variable_number,
 };
 use code_instructions::{FIRST_NEGATIVE, put_fail, put_tested_between};
 use code_values::Destination;
@@ -207,6 +207,7 @@ fn put_store(
         Destination::Into(variable) => {
             put_all(bytes, &[written, store(variable_number(variable), word)])
         }
+        Destination::Aside => put_all(bytes, &[written, store(ASIDE, word)]),
         Destination::Nowhere => put_all(bytes, &[written]),
     }
 }

@@ -17,8 +17,8 @@ use crate::kind::{Kind, kind_of};
 use crate::lines::put_read;
 use code_encoding::{Addresses, Operands, Sizes, in_place, plain, pull, put_all, routine_address};
 use code_instructions::{
-    put_also_equal, put_binary, put_branch, put_call, put_case, put_character, put_choose,
-    put_first_equal, put_jump, put_keep, put_move, put_prefix, put_return, put_step, put_text,
+    put_also_equal, put_binary, put_branch, put_call, put_case, put_character, put_first_equal,
+    put_jump, put_keep, put_move, put_prefix, put_return, put_step, put_text, put_with_aside,
 };
 use code_objects::{
     put_assign_property, put_assign_property_word, put_first_object, put_give, put_has, put_is_in,
@@ -129,6 +129,9 @@ fn put_words(
             let words = (*left, *right);
             put_binary(bytes, alloc, addresses, *operator, words, *destination)?
         }
+        Item::OperateAside(operator, left, destination) => {
+            put_with_aside(bytes, addresses, *operator, *left, *destination)?
+        }
         Item::Step(step, variable, destination) => put_step(bytes, *step, *variable, *destination)?,
         Item::Entry(width, number, index, destination) => {
             let array = array_of(sizes, addresses, *width, *number);
@@ -142,7 +145,6 @@ fn put_words(
         Item::FirstEqual => put_first_equal(bytes)?,
         Item::AlsoEqual => put_also_equal(bytes)?,
         Item::DropBelow => put_drop_below(bytes)?,
-        Item::Choose(operand) => put_choose(bytes, *operand)?,
         _ => (),
     }
     Ok(())

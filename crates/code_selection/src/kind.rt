@@ -34,14 +34,14 @@ pub fn kind_of(item: &Item<'_>) -> Kind
         Item::Move(_, _)
         | Item::Prefix(_, _, _)
         | Item::Operate(_, _, _, _)
+        | Item::OperateAside(_, _, _)
         | Item::Step(_, _, _)
         | Item::Entry(_, _, _, _)
         | Item::AssignEntry(_, _, _, _, _)
         | Item::Keep(_)
         | Item::FirstEqual
         | Item::AlsoEqual
-        | Item::DropBelow
-        | Item::Choose(_) => Kind::Words,
+        | Item::DropBelow => Kind::Words,
         Item::PrintText(_)
         | Item::PrintCharacter(_)
         | Item::PrintNumber(_)

@@ -3,7 +3,7 @@ use Rattle.std.proofs.Common.{◌≡◌, ℕ, List, [], ◌∷◌, ◌++◌, Boo
 use Rattle.meaning.specs.declared.resolved.Variable.{Variable}
 use Rattle.meaning.specs.Resolved.{Value}
 use Rattle.meaning.specs.Resolved as source
-use Rattle.code_values.specs.Items.{Item, pushed, push, into, nowhere, branch_true, value_count, value_items}
+use Rattle.code_values.specs.Items.{Item, pushed, push, into, aside, nowhere, branch_true, value_count, value_items}
 use Rattle.code_values.specs.Items.{branch_items}
 use Rattle.code_values.specs.Items as items
 use Rattle.code_values.specs.declared.item.Destination.TheVariants as destinations
@@ -38,3 +38,12 @@ assign_kept c c1 c2 c3 c4 wanted x y v reduces e2 e3 w =
     (reduces (source.assign x v) (assign_word x v)).with_rest c4
     (both (value_count v push) (λ n at. value_length v push at)
     (then_one (items.keep x) (one c1 c2 (items.move pushed (into y)) e2) e3) w)
+
+pub assign_aside : (c c1 c2 c3 c4 : List Item) (wanted : Wanted) (x : Variable) (v : Value)
+    → ReducesWord c c1 wanted aside → c2 ≡ c1 ++ items.move pushed aside ∷ [] → c3 ≡ c2 ++ items.keep x ∷ []
+    → WritesBefore c3 c4 (wanted_items (Word destinations.Push) v)
+    → WritesBefore c c4 (wanted_items wanted (source.assign x v))
+assign_aside c c1 c2 c3 c4 wanted x v reduces e2 e3 w =
+    (reduces (source.assign x v) (assign_word x v)).with_rest c4
+    (both (value_count v push) (λ n at. value_length v push at)
+    (then_one (items.keep x) (one c1 c2 (items.move pushed aside) e2) e3) w)

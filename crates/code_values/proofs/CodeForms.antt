@@ -10,7 +10,8 @@ use Rattle.meaning.specs.declared.resolved.Variable.{Variable}
 use Rattle.meaning.specs.Resolved.{Value, Values}
 use Rattle.meaning.specs.Resolved as source
 use Rattle.meaning.specs.Accepted.{count_of}
-use Rattle.code_values.specs.Items.{Item, Operand, Destination, Test, pushed, into, branch_true, alone, operands_of}
+use Rattle.code_values.specs.Items.{Item, Operand, Destination, Test, pushed, into, aside, branch_true, alone}
+use Rattle.code_values.specs.Items.{operands_of, right_place, operated}
 use Rattle.code_values.specs.Items.{if_pushed, operands_items, same_items, comparison_test, comparison_when}
 use Rattle.code_values.specs.Items.{equality_when, same}
 use Rattle.code_values.specs.Items as items
@@ -21,10 +22,10 @@ use Rattle.code_values.specs.declared.item.Operand as code_operand
 use Rattle.code_values.specs.declared.wanted.Wanted.{Wanted}
 use Rattle.code_values.specs.declared.wanted.Wanted.TheVariants.{Word, Branch}
 use Rattle.code_values.specs.Writing.{wanted_items, alones, ReducesWord, ReducesTruth, WritesBefore}
-use Rattle.code_values.specs.ValueWriting.{pushes, folded_items, ReducesLink, ReducesComparison, ReducesEquality}
+use Rattle.code_values.specs.ValueWriting.{pushes, placed, folded_items, ReducesLink, ReducesComparison, ReducesEquality}
 use Rattle.code_values.proofs.OperationForms.{not_logical, operate_link, compare_link}
 use Rattle.code_values.proofs.Values.{call_more, and_link_at, or_link_at}
-use Rattle.code_values.proofs.Assigned.{assign_nowhere, assign_pushed, assign_kept}
+use Rattle.code_values.proofs.Assigned.{assign_nowhere, assign_pushed, assign_kept, assign_aside}
 use Rattle.code_values.proofs.WrittenItems.{as_items}
 use Rattle.code_values.proofs.Alternatives.{few_link, placed_link, many_link}
 
@@ -55,6 +56,15 @@ assigned_kept c c1 c2 c3 c4 wanted x y v d is reduces e2 e3 w =
     let P : code_destination.Destination → Type 0 = λ d. ReducesWord c c1 wanted (as_destination d) in
     assign_kept c c1 c2 c3 c4 wanted x y v (subst P is reduces) e2 e3 w
 
+pub assigned_aside : (c c1 c2 c3 c4 : List Item) (wanted : Wanted) (x : Variable) (v : Value)
+    (d : code_destination.Destination) → d ≡ destinations.Aside → ReducesWord c c1 wanted (as_destination d)
+    → c2 ≡ c1 ++ items.move pushed aside ∷ [] → c3 ≡ c2 ++ items.keep x ∷ []
+    → WritesBefore c3 c4 (wanted_items (Word destinations.Push) v)
+    → WritesBefore c c4 (wanted_items wanted (source.assign x v))
+assigned_aside c c1 c2 c3 c4 wanted x v d is reduces e2 e3 w =
+    let P : code_destination.Destination → Type 0 = λ d. ReducesWord c c1 wanted (as_destination d) in
+    assign_aside c c1 c2 c3 c4 wanted x v (subst P is reduces) e2 e3 w
+
 -- Calls
 
 pub call_written : (c c1 c2 c3 : List Item) (wanted : Wanted) (d : Destination) (r : ℕ) (vs : Values)
@@ -84,12 +94,15 @@ or_written c c1 c2 wanted w when target end op o b is reduces ee wb first =
     subst (λ w. ReducesLink c c2 wanted w op o b) (sym first)
     (or_link_at c c1 c2 wanted when target end _ op o b is reduces ee wb refl)
 
-pub operation_written : (c c1 c2 c3 : List Item) (wanted : Wanted) (d : Destination) (op : Binary) (o ob : Operand)
-    (b : Value) → (op ≡ binaries.AndAlso → ⊥) → (op ≡ binaries.OrElse → ⊥) → ReducesWord c c1 wanted d
-    → ob ≡ alone b → c2 ≡ c1 ++ items.operate op o ob d ∷ [] → WritesBefore c2 c3 (pushes ob b)
+pub operation_written : (c c1 c2 c3 : List Item) (wanted : Wanted) (d place : Destination) (op : Binary)
+    (o ob : Operand) (b : Value) (i : Item) → (op ≡ binaries.AndAlso → ⊥) → (op ≡ binaries.OrElse → ⊥) → ReducesWord c c1 wanted d
+    → ob ≡ alone b → place ≡ right_place op o → i ≡ operated place op o ob d → c2 ≡ c1 ++ i ∷ []
+    → WritesBefore c2 c3 (placed place ob b)
     → ReducesLink c c3 wanted (Word destinations.Push) op o b
-operation_written c c1 c2 c3 wanted d op o ob b not_and not_or reduces eb e wb =
-    operate_link c c1 c2 c3 wanted d op o ob b (not_logical op not_and not_or) reduces eb e wb
+operation_written c c1 c2 c3 wanted d place op o ob b i not_and not_or reduces eb is item e wb =
+    operate_link c c1 c2 c3 wanted d op o ob b (not_logical op not_and not_or) reduces eb
+    (e ∙ ap (λ x. c1 ++ x ∷ []) (item ∙ ap (λ p. operated p op o ob d) is))
+    (subst (λ p. WritesBefore c2 c3 (placed p ob b)) is wb)
 
 -- Comparisons
 

@@ -10,8 +10,8 @@ use Rattle.syntax_trees.specs.declared.tree.Width.{Width}
 use Rattle.meaning.specs.declared.resolved.Variable.{Variable}
 use Rattle.meaning.specs.Resolved.{Value}
 use Rattle.meaning.specs.Resolved as source
-use Rattle.code_values.specs.Items.{Item, Operand, pushed, number, variable, Destination, push, into, nowhere, alone}
-use Rattle.code_values.specs.Items.{left_of, if_pushed, branch_true, moved_count, truth_count, after_count, kept_count}
+use Rattle.code_values.specs.Items.{Item, Operand, pushed, number, variable, Destination, push, into, aside, nowhere}
+use Rattle.code_values.specs.Items.{right_place, operated, alone, left_of, if_pushed, branch_true, moved_count, truth_count, after_count, kept_count}
 use Rattle.code_values.specs.Items.{value_count, operand_count, branch_count, moved, truth_items, after_items}
 use Rattle.code_values.specs.Items.{kept_items, and_items, or_items, value_items, branch_items}
 use Rattle.code_values.specs.Items as items
@@ -27,11 +27,13 @@ if_length (variable x) xs n e = refl
 pub moved_length : (o : Operand) (d : Destination) → length (moved o d) ≡ moved_count d
 moved_length o push = refl
 moved_length o (into x) = refl
+moved_length o aside = refl
 moved_length o nowhere = refl
 
 pub after_length : (x : Variable) (op : Step) (d : Destination) → length (after_items x op d) ≡ after_count d
 after_length x op push = refl
 after_length x op (into y) = refl
+after_length x op aside = refl
 after_length x op nowhere = refl
 
 pub truth_length : (at n : ℕ) (d : Destination) (f : ℕ → List Item) → ((t : ℕ) → length (f t) ≡ n)
@@ -49,6 +51,13 @@ truth_length at n (into x) f e =
       e (at + n + 2),
       length-append (f (at + n + 2))
           (items.move (number 0) (into x) ∷ items.jump (at + n + 3) ∷ items.move (number 1) (into x) ∷ []),
+    )
+truth_length at n aside f e =
+    omega (
+      arith,
+      e (at + n + 2),
+      length-append (f (at + n + 2))
+          (items.move (number 0) aside ∷ items.jump (at + n + 3) ∷ items.move (number 1) aside ∷ []),
     )
 truth_length at n nowhere f e = omega (arith, e (at + n))
 
@@ -83,6 +92,7 @@ pub kept_length : (x : Variable) (d : Destination) (xs ys : List Item) (n m : �
 kept_length x nowhere xs ys n m ex ey = ex
 kept_length x push xs ys n m ex ey = joined ys _ m 1 ey refl
 kept_length x (into y) xs ys n m ex ey = joined ys _ m 2 ey refl
+kept_length x aside xs ys n m ex ey = joined ys _ m 2 ey refl
 
 pub known_length : (b : Bool) (t : ℕ) → length (if b then items.jump t ∷ [] else []) ≡ (if b then 1 else 0)
 known_length true t = refl
@@ -141,13 +151,14 @@ binary_counted binaries.OrElse a b ca cb = record {
       (cb.branch when (at + branch_count a true) t);
 }
 binary_counted op a b ca cb = record {
-  value = λ d at. two_length (left_of a b) (alone b) _ _ (items.operate op (left_of a b) (alone b) d ∷ []) _ _ 1
-      (ca.value push at) (cb.value push (at + operand_count a (left_of a b))) refl;
+  value = λ d at. two_length (left_of a b) (alone b) _ _
+      (operated (right_place op (left_of a b)) op (left_of a b) (alone b) d ∷ []) _ _ 1 (ca.value push at)
+      (cb.value (right_place op (left_of a b)) (at + operand_count a (left_of a b))) refl;
   branch = λ when at t. omega (
     arith,
     two_length (left_of a b) (alone b) _ _
-        (items.operate op (left_of a b) (alone b) push ∷ branch_true pushed when t ∷ []) _ _ 2 (ca.value push at)
-        (cb.value push (at + operand_count a (left_of a b))) refl,
+        (operated (right_place op (left_of a b)) op (left_of a b) (alone b) push ∷ branch_true pushed when t ∷ []) _ _
+        2 (ca.value push at) (cb.value (right_place op (left_of a b)) (at + operand_count a (left_of a b))) refl,
   );
 }
 

@@ -10,23 +10,23 @@ use Rattle.meaning.specs.Resolved.{Value, chained}
 use Rattle.meaning.specs.Resolved as source
 use Rattle.code_values.specs.Items.{Item, Operand, pushed, number, Destination, push, Test, alone, left_of}
 use Rattle.code_values.specs.Items.{if_pushed, branch_true, comparison_test, comparison_when, value_count, value_items}
-use Rattle.code_values.specs.Items.{branch_items}
+use Rattle.code_values.specs.Items.{branch_items, right_place, operated, into, aside, nowhere, variable}
 use Rattle.code_values.specs.Items as items
 use Rattle.code_values.specs.declared.item.Destination.TheVariants as destinations
 use Rattle.code_values.specs.declared.wanted.Wanted.{Wanted}
 use Rattle.code_values.specs.declared.wanted.Wanted.TheVariants.{Word}
-use Rattle.code_values.specs.Writing.{wanted_items, is_logical, ReducesWord, ReducesTruth, WritesBefore}
+use Rattle.code_values.specs.Writing.{numbered, wanted_items, is_logical, ReducesWord, ReducesTruth, WritesBefore}
 use Rattle.code_values.proofs.WrittenItems.{nothing, both, as_items, after_one}
-use Rattle.code_values.specs.ValueWriting.{pushes, first_items, ReducesLink, ReducesLinks, ReducesComparison}
+use Rattle.code_values.specs.ValueWriting.{pushes, placed, first_items, ReducesLink, ReducesLinks, ReducesComparison}
 use Rattle.code_values.specs.ValueWriting.{ReducesAssignedEntry}
-use Rattle.code_values.proofs.Values.{pushes_length}
+use Rattle.code_values.proofs.Values.{pushes_length, placed_length}
 
 -- Other operations
 
 abbrev operation : Binary → Operand → Value → Operand → Value → ℕ → Destination → List Item → List Item
 operation op o v ob b at d more = if_pushed o (value_items at v push) []
-    ++ (if_pushed ob (value_items (at + if_pushed o (value_count v push) 0) b push) []
-    ++ items.operate op o ob d ∷ more)
+    ++ (if_pushed ob (value_items (at + if_pushed o (value_count v push) 0) b (right_place op o)) []
+    ++ operated (right_place op o) op o ob d ∷ more)
 
 record IsPlain (op : Binary) (v b : Value) : Type 0 where
   value : (at : ℕ) (d : Destination) → value_items at (source.binary op v b) d
@@ -51,9 +51,19 @@ not_logical binaries.AndAlso a b = absurd (a refl)
 not_logical binaries.OrElse a b = absurd (b refl)
 not_logical op a b = refl
 
+-- an operation has no target
+number_kept : (place : Destination) (op : Binary) (o ob : Operand) (d : Destination) (n : ℕ)
+    → numbered n (operated place op o ob d) ≡ operated place op o ob d
+number_kept aside op o pushed d n = refl
+number_kept aside op o (number k) d n = refl
+number_kept aside op o (variable x) d n = refl
+number_kept push op o ob d n = refl
+number_kept (into x) op o ob d n = refl
+number_kept nowhere op o ob d n = refl
+
 pub operate_link : (c c1 c2 c3 : List Item) (wanted : Wanted) (d : Destination) (op : Binary) (o ob : Operand)
-    (b : Value) → is_logical op ≡ false → ReducesWord c c1 wanted d → ob ≡ alone b → c2
-    ≡ c1 ++ items.operate op o ob d ∷ [] → WritesBefore c2 c3 (pushes ob b)
+    (b : Value) → is_logical op ≡ false → ReducesWord c c1 wanted d → ob ≡ alone b
+    → c2 ≡ c1 ++ operated (right_place op o) op o ob d ∷ [] → WritesBefore c2 c3 (placed (right_place op o) ob b)
     → ReducesLink c c3 wanted (Word destinations.Push) op o b
 operate_link c c1 c2 c3 wanted d op o ob b other reduces eb e wb v eo =
     let is = plain op v b other in
@@ -70,7 +80,10 @@ operate_link c c1 c2 c3 wanted d op o ob b other reduces eb e wb v eo =
           (as_items (λ n at _. ap (λ x. operation op x v ob b at d []) eo
           ∙ ap (λ y. operation op (left_of v b) v y b at d []) eb ∙ sym (is.value at d))
           (both k (λ n at. pushes_length o v n at)
-          (after_one _ (items.operate op o ob d) (λ n at. pushes_length ob b n at) e wb) first));
+          (as_items (λ n at _. ap (λ i. placed (right_place op o) ob b n at ++ i ∷ [])
+          (number_kept (right_place op o) op o ob d n))
+          (after_one _ (operated (right_place op o) op o ob d)
+          (λ n at. placed_length (right_place op o) ob b n at) e wb)) first));
     }
   where
     regroup : (oa ob : Operand) (at : ℕ) (more : List Item) (d : Destination) → operation op oa v ob b at d more

@@ -3,8 +3,8 @@ use Rattle.std.proofs.Common.{◌≡◌, ℕ, ◌+◌, ◌-◌, List, [], ◌∷
 use Rattle.syntax_trees.specs.declared.tree.Step.{Step}
 use Rattle.meaning.specs.declared.resolved.Variable.{Variable}
 use Rattle.meaning.specs.Resolved as source
-use Rattle.code_values.specs.Items.{Item, pushed, number, variable, Destination, push, into, nowhere, branch_true}
-use Rattle.code_values.specs.Items.{value_count, branch_count, branch_items}
+use Rattle.code_values.specs.Items.{Item, pushed, number, variable, Destination, push, into, aside, nowhere}
+use Rattle.code_values.specs.Items.{branch_true, value_count, branch_count, branch_items}
 use Rattle.code_values.specs.Items as items
 use Rattle.code_values.specs.Code.{as_destination}
 use Rattle.code_values.specs.declared.item.Destination as code
@@ -70,6 +70,11 @@ pub truth_kept : (c c1 : List Item) (x : Variable) (left : ℕ) → ReducesChoic
 truth_kept c c1 x left r v isc =
     record { with_rest = λ end w. as_items (λ n at _. sym (isc at (into x))) ((r v).with_rest end w) }
 
+pub truth_aside : (c c1 : List Item) (left : ℕ) → ReducesChoice c c1 aside left
+    → ReducesTruth c c1 (Word destinations.Aside) true left
+truth_aside c c1 left r v isc =
+    record { with_rest = λ end w. as_items (λ n at _. sym (isc at aside)) ((r v).with_rest end w) }
+
 -- a variable that is stepped, and its old word
 
 pub stepped_nowhere : (c c1 c2 : List Item) (wanted : Wanted) (x : Variable) (op : Step)
@@ -90,6 +95,13 @@ pub stepped_kept : (c c1 c2 c3 c4 : List Item) (wanted : Wanted) (x y : Variable
     ≡ c2 ++ items.step op x nowhere ∷ []
     → c4 ≡ c3 ++ items.move (variable x) push ∷ [] → WritesBefore c c4 (wanted_items wanted (source.step_after x op))
 stepped_kept c c1 c2 c3 c4 wanted x y op r e2 e3 e4 = (r (source.step_after x op) (λ at t when. refl)).with_rest c4
+    (then_one _ (then_one _ (one c1 c2 _ e2) e3) e4)
+
+pub stepped_aside : (c c1 c2 c3 c4 : List Item) (wanted : Wanted) (x : Variable) (op : Step)
+    → ReducesWord c c1 wanted aside → c2 ≡ c1 ++ items.move pushed aside ∷ [] → c3
+    ≡ c2 ++ items.step op x nowhere ∷ []
+    → c4 ≡ c3 ++ items.move (variable x) push ∷ [] → WritesBefore c c4 (wanted_items wanted (source.step_after x op))
+stepped_aside c c1 c2 c3 c4 wanted x op r e2 e3 e4 = (r (source.step_after x op) (λ at t when. refl)).with_rest c4
     (then_one _ (then_one _ (one c1 c2 _ e2) e3) e4)
 
 -- a step before its word

@@ -18,11 +18,15 @@ use Rattle.code_values.specs.Writing.{wanted_items, ReducesWord, ReducesTruth, W
 use Rattle.code_values.proofs.CountedForms.{if_length}
 use Rattle.code_values.proofs.Counts.{value_length, branch_length, operands_length}
 use Rattle.code_values.proofs.WrittenItems.{counted, both, as_items, after_one}
-use Rattle.code_values.specs.ValueWriting.{pushes, ReducesLink}
+use Rattle.code_values.specs.ValueWriting.{pushes, placed, ReducesLink}
 
 pub pushes_length : (o : Operand) (v : Value) (n at : ℕ)
     → length (pushes o v n at) ≡ if_pushed o (value_count v push) 0
 pushes_length o v n at = if_length o (value_items at v push) (value_count v push) (value_length v push at)
+
+pub placed_length : (place : Destination) (o : Operand) (v : Value) (n at : ℕ)
+    → length (placed place o v n at) ≡ if_pushed o (value_count v place) 0
+placed_length place o v n at = if_length o (value_items at v place) (value_count v place) (value_length v place at)
 
 pub call_more : (c c1 c2 c3 : List Item) (wanted : Wanted) (d : Destination) (r : ℕ) (vs : Values)
     → ReducesWord c c1 wanted d → c2 ≡ c1 ++ items.call r (operands_of vs) d ∷ []

@@ -25,6 +25,7 @@ as_operands os = map as_operand os
 abbrev pub as_destination : code_destination.Destination → Destination
 as_destination destinations.Push = items.push
 as_destination (destinations.Into x) = items.into x
+as_destination destinations.Aside = items.aside
 as_destination destinations.Nowhere = items.nowhere
 
 -- a test of the code
@@ -40,6 +41,7 @@ item_of (variants.Move o d) = items.move (as_operand o) (as_destination d)
 item_of (variants.Prefix op o d) = items.apply_prefix op (as_operand o) (as_destination d)
 item_of (variants.Operate op a b d) =
     items.operate op (as_operand a) (as_operand b) (as_destination d)
+item_of (variants.OperateAside op o d) = items.operate_aside op (as_operand o) (as_destination d)
 item_of (variants.Step op x d) = items.step op x (as_destination d)
 item_of (variants.Entry width a o d) = items.entry width a (as_operand o) (as_destination d)
 item_of (variants.AssignEntry width a o q d) =
@@ -73,7 +75,6 @@ item_of (variants.Has o a when target) = items.has (as_operand o) a when target
 item_of (variants.Provides o p when target) = items.provides (as_operand o) p when target
 item_of (variants.FirstObject x target) = items.first_object x target
 item_of (variants.NextObject x target) = items.next_object x target
-item_of (variants.Choose o) = items.choose (as_operand o)
 item_of (variants.Case test ns when target) = items.case (as_test test) ns.items when target
 item_of (variants.Jump target) = items.jump target
 item_of (variants.Back target) = items.back target

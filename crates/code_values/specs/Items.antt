@@ -32,6 +32,8 @@ pub data Operand : Type 0 where
 pub data Destination : Type 0 where
   push : Destination
   into : Variable → Destination
+  -- it is put aside for the next item
+  aside : Destination
   nowhere : Destination
 
 -- what a branch asks of its operands: that the first is 0, is less or greater than the second, or equals one of the
@@ -50,6 +52,8 @@ pub data Item : Type 0 where
   apply_prefix : Prefix → Operand → Destination → Item
   -- none of `&&` and `||`
   operate : Binary → Operand → Operand → Destination → Item
+  -- the same, where the right operand was put aside: the left one
+  operate_aside : Binary → Operand → Destination → Item
   -- a variable is stepped, and its new word goes on
   step : Step → Variable → Destination → Item
   -- an entry of the array of this number, at an index
@@ -99,11 +103,10 @@ pub data Item : Type 0 where
   first_object : Variable → ℕ → Item
   -- a variable gets the object after the one that it has, or forward, where it has none or the last
   next_object : Variable → ℕ → Item
-  -- the word of a `switch`, which its cases test
-  choose : Operand → Item
-  -- forward, where the test holds of that word and these numbers, or where it does not
+  -- forward, where the test holds of the word that was put aside and these numbers, or where it does not; the word
+  -- stays there for the next item
   case : Test → List ℕ → Bool → ℕ → Item
-  -- forward
+  -- forward; a word that was put aside stays there
   jump : ℕ → Item
   -- back, which costs a unit
   back : ℕ → Item
@@ -190,6 +193,19 @@ if_pushed pushed a b = a
 if_pushed (number n) a b = b
 if_pushed (variable x) a b = b
 
+-- where the right operand of an operator goes that does not stand in place: aside, where it would have to be taken from
+-- the stack first, since the left one stands below it there, or since it is tested as a divisor
+abbrev pub right_place : Binary → Operand → Destination
+right_place binaries.Subtract pushed = aside
+right_place binaries.Divide left = aside
+right_place binaries.Remainder left = aside
+right_place op left = push
+
+-- an operation, where a right operand that does not stand in place went there
+abbrev pub operated : Destination → Binary → Operand → Operand → Destination → Item
+operated aside op left pushed d = operate_aside op left d
+operated place op left right d = operate op left right d
+
 -- Branches
 
 -- the test that decides a comparison
@@ -253,24 +269,28 @@ abbrev pub moved_count : Destination → ℕ
 moved_count nowhere = 0
 moved_count push = 1
 moved_count (into x) = 1
+moved_count aside = 1
 
 -- a condition as a word: beside its branch, 0, a jump and 1
 abbrev pub truth_count : Destination → ℕ
 truth_count nowhere = 0
 truth_count push = 3
 truth_count (into x) = 3
+truth_count aside = 3
 
 -- a variable is assigned: beside what puts the word there, or what pushes it
 abbrev pub kept_count : Destination → ℕ → ℕ → ℕ
 kept_count nowhere stored topmost = stored
 kept_count push stored topmost = topmost + 1
 kept_count (into y) stored topmost = topmost + 2
+kept_count aside stored topmost = topmost + 2
 
 -- a variable is stepped, and its old word goes to a destination
 abbrev pub after_count : Destination → ℕ
 after_count nowhere = 1
 after_count push = 2
 after_count (into x) = 3
+after_count aside = 3
 
 abbrev mutual
   -- an expression, whose word goes to a destination
@@ -287,7 +307,8 @@ abbrev mutual
   value_count (source.binary binaries.OrElse a b) d =
       branch_count a true + branch_count b true + truth_count d
   value_count (source.binary op a b) d =
-      if_pushed (left_of a b) (value_count a push) 0 + if_pushed (alone b) (value_count b push) 0 + 1
+      if_pushed (left_of a b) (value_count a push) 0
+      + if_pushed (alone b) (value_count b (right_place op (left_of a b))) 0 + 1
   value_count (source.compare op a b) d =
       if_pushed (left_of a b) (value_count a push) 0 + if_pushed (alone b) (value_count b push) 0 + 1
       + truth_count d
@@ -333,7 +354,8 @@ abbrev mutual
   branch_count (source.binary binaries.AndAlso a b) when = branch_count a false + branch_count b when
   branch_count (source.binary binaries.OrElse a b) when = branch_count a true + branch_count b when
   branch_count (source.binary op a b) when =
-      if_pushed (left_of a b) (value_count a push) 0 + if_pushed (alone b) (value_count b push) 0 + 1 + 1
+      if_pushed (left_of a b) (value_count a push) 0
+      + if_pushed (alone b) (value_count b (right_place op (left_of a b))) 0 + 1 + 1
   branch_count (source.compare op a b) when =
       if_pushed (left_of a b) (value_count a push) 0 + if_pushed (alone b) (value_count b push) 0 + 1
   branch_count (source.equal op a bs) when =
@@ -380,6 +402,7 @@ abbrev pub moved : Operand → Destination → List Item
 moved o nowhere = []
 moved o push = move o push ∷ []
 moved o (into x) = move o (into x) ∷ []
+moved o aside = move o aside ∷ []
 
 -- A condition as a word, where `count` items branch if it is true: 0, or 1. Only what it does is wanted where the
 -- word goes nowhere.
@@ -393,12 +416,14 @@ abbrev pub after_items : Variable → Step → Destination → List Item
 after_items x op nowhere = step op x nowhere ∷ []
 after_items x op push = move (variable x) push ∷ step op x nowhere ∷ []
 after_items x op (into y) = move (variable x) push ∷ step op x nowhere ∷ move pushed (into y) ∷ []
+after_items x op aside = move (variable x) push ∷ step op x nowhere ∷ move pushed aside ∷ []
 
 -- a variable is assigned, and its word goes on
 abbrev pub kept_items : Variable → Destination → List Item → List Item → List Item
 kept_items x nowhere stored topmost = stored
 kept_items x push stored topmost = topmost ++ keep x ∷ []
 kept_items x (into y) stored topmost = topmost ++ keep x ∷ move pushed (into y) ∷ []
+kept_items x aside stored topmost = topmost ++ keep x ∷ move pushed aside ∷ []
 
 -- items from a number on that branch, if a condition is so, to a target
 abbrev pub Branching : Type 0
@@ -443,8 +468,9 @@ abbrev mutual
       (λ at when target. branch_items at a when target) (λ at when target. branch_items at b when target))
   value_items at (source.binary op a b) d =
       if_pushed (left_of a b) (value_items at a push) []
-      ++ (if_pushed (alone b) (value_items (at + operand_count a (left_of a b)) b push) []
-      ++ operate op (left_of a b) (alone b) d ∷ [])
+      ++ (if_pushed (alone b)
+      (value_items (at + operand_count a (left_of a b)) b (right_place op (left_of a b))) []
+      ++ operated (right_place op (left_of a b)) op (left_of a b) (alone b) d ∷ [])
   value_items at (source.compare op a b) d =
       truth_items at (operand_count a (left_of a b) + operand_count b (alone b) + 1) d (λ target.
       if_pushed (left_of a b) (value_items at a push) []
@@ -527,8 +553,10 @@ abbrev mutual
       (λ at when target. branch_items at a when target) (λ at when target. branch_items at b when target)
   branch_items at (source.binary op a b) when target =
       if_pushed (left_of a b) (value_items at a push) []
-      ++ (if_pushed (alone b) (value_items (at + operand_count a (left_of a b)) b push) []
-      ++ operate op (left_of a b) (alone b) push ∷ branch_true pushed when target ∷ [])
+      ++ (if_pushed (alone b)
+      (value_items (at + operand_count a (left_of a b)) b (right_place op (left_of a b))) []
+      ++ operated (right_place op (left_of a b)) op (left_of a b) (alone b) push
+      ∷ branch_true pushed when target ∷ [])
   branch_items at (source.compare op a b) when target =
       if_pushed (left_of a b) (value_items at a push) []
       ++ (if_pushed (alone b) (value_items (at + operand_count a (left_of a b)) b push) []

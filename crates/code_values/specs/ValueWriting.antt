@@ -8,11 +8,12 @@ use Rattle.syntax_trees.specs.declared.tree.Width.{Width}
 use Rattle.meaning.specs.declared.resolved.Value as code_value
 use Rattle.meaning.specs.Resolved.{Value, Values, none, more, value_of, chained, propertied}
 use Rattle.meaning.specs.Resolved as source
-use Rattle.code_values.specs.Items.{Item, Operand, pushed, push, alone, left_of, if_pushed, value_count, value_items}
-use Rattle.code_values.specs.Items.{operands_items}
+use Rattle.code_values.specs.Items.{Item, Operand, Destination, pushed, push, alone, left_of, if_pushed, value_count}
+use Rattle.code_values.specs.Items.{value_items, operands_items}
 use Rattle.code_values.specs.Items as items
-use Rattle.code_values.specs.Code.{as_operand}
+use Rattle.code_values.specs.Code.{as_operand, as_destination}
 use Rattle.code_values.specs.declared.item.Operand as code_operand
+use Rattle.code_values.specs.declared.item.Destination as code_destination
 use Rattle.code_values.specs.declared.draft.Draft.{Draft}
 use Rattle.code_values.specs.declared.wanted.Wanted.{Wanted}
 use Rattle.code_values.specs.Writing.{written_in, Leaves, wanted_items, is_logical, link_of, first_operand}
@@ -23,6 +24,10 @@ abbrev pub pushes : Operand → Value → ℕ → ℕ → List Item
 pushes o v n at = if_pushed o (value_items at v push) []
 
 -- Operations
+
+-- the items that put a right operand where it goes
+abbrev pub placed : Destination → Operand → Value → ℕ → ℕ → List Item
+placed place o v n at = if_pushed o (value_items at v place) []
 
 -- the first operand, where something is wanted of it
 abbrev pub first_items : Binary → Operand → Wanted → Value → ℕ → ℕ → List Item
@@ -100,6 +105,11 @@ ReducesEquality old new wanted op oa ob bs =
 -- what pushes an operand
 abbrev pub WritesOperand : Draft → Draft → code_operand.Operand → code_value.Value → Type 0
 WritesOperand old new o v = Writes old new (pushes (as_operand o) (value_of v))
+
+-- what puts a right operand where it goes
+abbrev pub WritesPlaced : Draft → Draft → code_operand.Operand → code_destination.Destination → code_value.Value
+    → Type 0
+WritesPlaced old new o place v = Writes old new (placed (as_destination place) (as_operand o) (value_of v))
 
 -- what pushes the operands of a list
 abbrev pub WritesOperands : Draft → Draft → List code_value.Value → Type 0

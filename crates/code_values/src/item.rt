@@ -22,6 +22,10 @@ pub enum Destination {
     Push,
 
     Into(Variable),
+
+    /// Aside, for the next item.
+    Aside,
+
     Nowhere,
 }
 
@@ -52,6 +56,9 @@ pub enum Item<'a> {
 
     /// None of `&&` and `||`, which are branches.
     Operate(Binary, Operand, Operand, Destination),
+
+    /// The same, where the right operand was put aside: the left one.
+    OperateAside(Binary, Operand, Destination),
 
     /// A variable is stepped, and its new word goes on.
     Step(Step, Variable, Destination),
@@ -151,13 +158,11 @@ pub enum Item<'a> {
     /// last.
     NextObject(Variable, usize),
 
-    /// The word of a `switch`, which its cases test.
-    Choose(Operand),
-
-    /// Forward, where the test holds of that word and these numbers, or where it does not.
+    /// Forward, where the test holds of the word that was put aside and these numbers, or where it
+    /// does not. The word stays there for the next item.
     Case(Test, Vec<u16>, bool, usize),
 
-    /// Forward.
+    /// Forward; a word that was put aside stays there.
     Jump(usize),
 
     /// Back, which costs a unit of fuel.

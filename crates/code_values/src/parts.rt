@@ -4,7 +4,7 @@ ghost use Rattle.std.specs.Prelude.{◌≡◌, true, false, if◌then◌else◌,
 ghost use Rattle.meaning.specs.Resolved as source;
 ghost use Rattle.meaning.specs.Meaning.{is_true};
 ghost use Rattle.code_values.specs.Items as items;
-ghost use Rattle.code_values.specs.Code.{as_test};
+ghost use Rattle.code_values.specs.Code.{as_destination, as_operand, as_test, item_of};
 ghost use Rattle.code_values.specs.declared.wanted.Wanted.TheVariants.{Branch};
 ghost use Rattle.code_values.specs.Writing.{is_logical, WritesValue, WritesWord, WritesTruth};
 ghost use Rattle.code_values.specs.Writing.{WritesChoice, WritesMoved};
@@ -33,7 +33,7 @@ pub fn put_word(draft: &mut Draft<'_>, wanted: Wanted) -> Result<Destination, Al
 
 /// What follows a condition: 0, and 1 behind it, if a word is wanted. Where the condition is to
 /// branch: whether where it is true, and how many items are left there.
-#[tactic(auto, using(crate::proofs::Reductions::truth_wanted, crate::proofs::Reductions::truth_nowhere, crate::proofs::Reductions::truth_pushed, crate::proofs::Reductions::truth_kept))]
+#[tactic(auto, using(crate::proofs::Reductions::truth_wanted, crate::proofs::Reductions::truth_nowhere, crate::proofs::Reductions::truth_pushed, crate::proofs::Reductions::truth_kept, crate::proofs::Reductions::truth_aside))]
 pub fn put_truth(draft: &mut Draft<'_>, wanted: Wanted) -> Result<(bool, usize), AllocError>
     ensures { IfOk result (λ truth. WritesTruth draft.old draft.new wanted truth.0 truth.1) }
 {
@@ -49,6 +49,10 @@ pub fn put_truth(draft: &mut Draft<'_>, wanted: Wanted) -> Result<(bool, usize),
         }
         Wanted::Word(Destination::Into(variable)) => {
             let left = put_choice(draft, Destination::Into(variable))?;
+            Ok((true, left))
+        }
+        Wanted::Word(Destination::Aside) => {
+            let left = put_choice(draft, Destination::Aside)?;
             Ok((true, left))
         }
     }
@@ -159,6 +163,14 @@ pub fn put_step_after(
                 Item::Move(Operand::Variable(variable), Destination::Push),
             )?;
         }
+        Destination::Aside => {
+            put(draft, Item::Move(Operand::Pushed, Destination::Aside))?;
+            put(draft, Item::Step(step, variable, Destination::Nowhere))?;
+            put(
+                draft,
+                Item::Move(Operand::Variable(variable), Destination::Push),
+            )?;
+        }
     }
     Ok(())
 }
@@ -183,6 +195,46 @@ pub fn is_logical(operator: Binary) -> bool
     ensures { result ≡ is_logical operator }
 {
     matches!(operator, Binary::AndAlso | Binary::OrElse)
+}
+
+/// Where the right operand of an operator goes that does not stand in place: aside, where it would
+/// have to be taken from the stack first, since the left one stands below it there, or since it is
+/// tested as a divisor.
+pub fn right_place(operator: Binary, left: Operand) -> Destination
+    ensures { as_destination result ≡ items.right_place operator (as_operand left) }
+{
+    match operator {
+        Binary::Subtract => match left {
+            Operand::Pushed => Destination::Aside,
+            Operand::Number(_) | Operand::Variable(_) => Destination::Push,
+        },
+        Binary::Divide | Binary::Remainder => Destination::Aside,
+        _ => Destination::Push,
+    }
+}
+
+/// An operation, where a right operand that does not stand in place went to `place`.
+pub fn operated<'a>(
+    operator: Binary,
+    left: Operand,
+    right: Operand,
+    place: Destination,
+    destination: Destination,
+) -> Item<'a>
+    ensures { item_of result ≡ items.operated (as_destination place) operator (as_operand left)
+        (as_operand right) (as_destination destination) }
+{
+    match place {
+        Destination::Aside => match right {
+            Operand::Pushed => Item::OperateAside(operator, left, destination),
+            Operand::Number(_) | Operand::Variable(_) => {
+                Item::Operate(operator, left, right, destination)
+            }
+        },
+        Destination::Push | Destination::Into(_) | Destination::Nowhere => {
+            Item::Operate(operator, left, right, destination)
+        }
+    }
 }
 
 /// The test of a comparison.

@@ -7,7 +7,8 @@ ghost use Rattle.meaning.specs.Resolved.{compare, equal};
 ghost use Rattle.meaning.specs.Resolved.{assign_entry, contained, property_word, value_of};
 ghost use Rattle.meaning.specs.Resolved.{assign_property, assign_property_word};
 ghost use Rattle.code_values.specs.Writing.{link_of, more_in, values_in, WritesValue};
-ghost use Rattle.code_values.specs.ValueWriting.{WritesOperand, WritesOperands, WritesFolded, WritesLink};
+ghost use Rattle.code_values.specs.ValueWriting.{WritesOperand, WritesPlaced, WritesOperands, WritesFolded};
+ghost use Rattle.code_values.specs.ValueWriting.{WritesLink};
 ghost use Rattle.code_values.specs.ValueWriting.{WritesLinks, WritesComparison, WritesEquality, WritesFirst};
 ghost use Rattle.code_values.specs.ValueWriting.{WritesAssignedEntry, WritesContained, WritesPropertyWord};
 ghost use Rattle.code_values.specs.ValueWriting.{WritesAssignedProperty, WritesAssignedWord};
@@ -20,8 +21,8 @@ use crate::operand::{
 };
 use crate::parts::{
     comparison_test, comparison_when, containment_when, equality_when, first_of_and, first_of_or,
-    has_when, is_logical, put_number, put_read, put_step_after, put_step_before, put_truth,
-    put_word,
+    has_when, is_logical, operated, put_number, put_read, put_step_after, put_step_before,
+    put_truth, put_word, right_place,
 };
 use crate::several::put_each_same;
 use crate::wanted::Wanted;
@@ -82,6 +83,23 @@ pub fn put_operand<'a>(
 {
     match operand {
         Operand::Pushed => put_value(draft, value, Wanted::Word(Destination::Push))?,
+        Operand::Number(_) | Operand::Variable(_) => {}
+    }
+    Ok(())
+}
+
+/// What puts the right operand of an operator where it goes; none where it stands in place.
+#[cycle(values)]
+fn put_right<'a>(
+    draft: &mut Draft<'a>,
+    value: &Value,
+    operand: Operand,
+    place: Destination,
+) -> Result<(), AllocError>
+    ensures { OnOk result (WritesPlaced draft.old draft.new operand place value.now) }
+{
+    match operand {
+        Operand::Pushed => put_value(draft, value, Wanted::Word(place))?,
         Operand::Number(_) | Operand::Variable(_) => {}
     }
     Ok(())
@@ -164,6 +182,11 @@ fn put_assigned<'a>(
         }
         Destination::Into(other) => {
             put(draft, Item::Move(Operand::Pushed, Destination::Into(other)))?;
+            put(draft, Item::Keep(variable))?;
+            put_value(draft, value, Wanted::Word(Destination::Push))?;
+        }
+        Destination::Aside => {
+            put(draft, Item::Move(Operand::Pushed, Destination::Aside))?;
             put(draft, Item::Keep(variable))?;
             put_value(draft, value, Wanted::Word(Destination::Push))?;
         }
@@ -576,8 +599,9 @@ fn put_link<'a>(
         _ => {
             let destination = put_word(draft, wanted)?;
             let right = alone(second);
-            put(draft, Item::Operate(operator, left, right, destination))?;
-            put_operand(draft, second, right)?;
+            let place = right_place(operator, left);
+            put(draft, operated(operator, left, right, place, destination))?;
+            put_right(draft, second, right, place)?;
             Ok(Wanted::Word(Destination::Push))
         }
     }

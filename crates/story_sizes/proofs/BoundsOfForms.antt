@@ -11,13 +11,14 @@ use Rattle.syntax_trees.specs.declared.tree.Width.{Width}
 use Rattle.meaning.specs.Resolved.{Value, Values, none, more}
 use Rattle.meaning.specs.Resolved as source
 use Rattle.meaning.specs.Accepted.{count_of}
-use Rattle.code_values.specs.Items.{Item, Operand, pushed, Destination, push, operand_of, operands_of, alone, left_of}
+use Rattle.code_values.specs.Items.{Item, Operand, pushed, number, variable, Destination, push, into, aside, nowhere}
+use Rattle.code_values.specs.Items.{right_place, operated, operand_of, operands_of, alone, left_of}
 use Rattle.code_values.specs.Items.{if_pushed, branch_true, is_direct, same_count, comparison_test, comparison_when, equality_when}
 use Rattle.code_values.specs.Items.{same_items}
 use Rattle.code_values.specs.Items.{value_count, operand_count, operands_count, branch_count, many_count, truth_items}
 use Rattle.code_values.specs.Items.{value_items, operands_items, branch_items, many_items, also_items}
 use Rattle.code_values.specs.Items as items
-use Rattle.story_sizes.proofs.Most.{most_of, tokens, list_tokens, alternative_tokens, or_tokens, most_append, if_small}
+use Rattle.story_sizes.proofs.Most.{most, most_of, tokens, list_tokens, alternative_tokens, or_tokens, most_append, if_small}
 use Rattle.story_sizes.proofs.Most.{truth_small, either_small, operands_length, alternatives_are}
 
 pub record Small (v : Value) : Type 0 where
@@ -62,6 +63,15 @@ prefixed_small op v s = record {
       (arith, alone_small v s at (items.apply_prefix op (alone v) push ∷ branch_true pushed when t ∷ []));
 }
 
+operated_small : (place : Destination) (op : Binary) (o q : Operand) (d : Destination)
+    → most (operated place op o q d) ≤ 16
+operated_small aside op o pushed d = omega arith
+operated_small aside op o (number n) d = omega arith
+operated_small aside op o (variable x) d = omega arith
+operated_small push op o q d = omega arith
+operated_small (into x) op o q d = omega arith
+operated_small nowhere op o q d = omega arith
+
 pub binary_small : (op : Binary) (a b : Value) → Small a → Small b → Small (source.binary op a b)
 binary_small binaries.AndAlso a b sa sb =
     let both : (when : Bool) (at t : ℕ)
@@ -95,19 +105,23 @@ binary_small binaries.OrElse a b sa sb =
           (λ t. omega (arith, both true at t)) in omega (arith, h, both true at 0);
       branch = λ when at t. omega (arith, both when at t);
     }
-binary_small op a b sa sb = record {
-  value = λ d at. omega (
-    arith,
-    two_small (left_of a b) (alone b) _ _ (items.operate op (left_of a b) (alone b) d ∷ []) _ _ (sa.value push at)
-        (sb.value push (at + operand_count a (left_of a b))),
-  );
-  branch = λ when at t. omega (
-    arith,
-    two_small (left_of a b) (alone b) _ _
-        (items.operate op (left_of a b) (alone b) push ∷ branch_true pushed when t ∷ []) _ _ (sa.value push at)
-        (sb.value push (at + operand_count a (left_of a b))),
-  );
-}
+binary_small op a b sa sb =
+    let o = left_of a b in
+    let place = right_place op o in
+    record {
+      value = λ d at. omega (
+        arith,
+        two_small o (alone b) _ _ (operated place op o (alone b) d ∷ []) _ _ (sa.value push at)
+            (sb.value place (at + operand_count a o)),
+        operated_small place op o (alone b) d,
+      );
+      branch = λ when at t. omega (
+        arith,
+        two_small o (alone b) _ _ (operated place op o (alone b) push ∷ branch_true pushed when t ∷ []) _ _
+            (sa.value push at) (sb.value place (at + operand_count a o)),
+        operated_small place op o (alone b) push,
+      );
+    }
 
 pub list_none : AreSmall none
 list_none = record { all = λ at. omega arith; also = λ op when at t. omega arith }

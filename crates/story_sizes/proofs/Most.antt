@@ -8,7 +8,7 @@ use Rattle.meaning.specs.Resolved as source
 use Rattle.meaning.specs.Resolved.{Value, Values, none, more}
 use Rattle.meaning.specs.declared.resolved.Variable.{Variable}
 use Rattle.code_values.specs.Items as items
-use Rattle.code_values.specs.Items.{Item, Operand, pushed, number, variable, Destination, push, into, nowhere}
+use Rattle.code_values.specs.Items.{Item, Operand, pushed, number, variable, Destination, push, into, aside, nowhere}
 use Rattle.code_values.specs.Items.{operands_of, if_pushed, moved, truth_items, after_items, kept_items}
 
 -- An operand has 2 bytes, or 1 and an instruction `pull`; a label has 4 bytes at most, a fault inline 4, and the tests
@@ -18,6 +18,7 @@ abbrev pub most : Item → ℕ
 most (items.move o d) = 5
 most (items.apply_prefix op o d) = 6
 most (items.operate op a b d) = 16
+most (items.operate_aside op o d) = 16
 most (items.step op x d) = 5
 most (items.entry width a o d) = 24
 most (items.assign_entry width a o q d) = 33
@@ -40,7 +41,6 @@ most (items.has o n when target) = 26
 most (items.provides o q when target) = 30
 most (items.first_object x target) = 3
 most (items.next_object x target) = 15
-most (items.choose o) = 5
 most (items.case test ns when target) = 13
 most (items.jump target) = 3
 most (items.back target) = 3
@@ -110,11 +110,13 @@ if_small (variable x) xs n h = omega (arith, h)
 pub moved_small : (o : Operand) (d : Destination) → most_of (moved o d) ≤ 5
 moved_small o push = omega arith
 moved_small o (into x) = omega arith
+moved_small o aside = omega arith
 moved_small o nowhere = omega arith
 
 pub after_small : (x : Variable) (op : Step) (d : Destination) → most_of (after_items x op d) ≤ 15
 after_small x op push = omega arith
 after_small x op (into y) = omega arith
+after_small x op aside = omega arith
 after_small x op nowhere = omega arith
 
 pub kept_small : (x : Variable) (d : Destination) (xs ys : List Item) (n : ℕ) → most_of xs + 20 ≤ n
@@ -124,6 +126,7 @@ kept_small x nowhere xs ys n hx hy = omega (arith, hx)
 kept_small x push xs ys n hx hy = omega (arith, hy, most_append ys (items.keep x ∷ []))
 kept_small x (into y) xs ys n hx hy = omega
     (arith, hy, most_append ys (items.keep x ∷ items.move pushed (into y) ∷ []))
+kept_small x aside xs ys n hx hy = omega (arith, hy, most_append ys (items.keep x ∷ items.move pushed aside ∷ []))
 
 -- 0 or 1, beside the branch
 pub truth_small : (at count : ℕ) (d : Destination) (f : ℕ → List Item) (n : ℕ) → ((t : ℕ) → most_of (f t) ≤ n)
@@ -141,6 +144,13 @@ truth_small at count (into x) f n h =
       h (at + count + 2),
       most_append (f (at + count + 2)) (items.move (number 0) (into x) ∷ items.jump (at + count + 3) ∷ items.move
           (number 1) (into x) ∷ []),
+    )
+truth_small at count aside f n h =
+    omega (
+      arith,
+      h (at + count + 2),
+      most_append (f (at + count + 2)) (items.move (number 0) aside ∷ items.jump (at + count + 3) ∷ items.move
+          (number 1) aside ∷ []),
     )
 
 pub either_small : (b : Bool) (xs ys : List Item) (n : ℕ) → most_of xs ≤ n → most_of ys ≤ n

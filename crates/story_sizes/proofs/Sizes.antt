@@ -12,7 +12,7 @@ use Rattle.meaning.specs.Limits.{most_arguments}
 use Rattle.code_encoding.specs.Addresses.{Sizes}
 use Rattle.code_encoding.specs.Bytes.{bytes_of_all}
 use Rattle.code_instructions.specs.Instructions.{binary_code, prefix_code, move_code, step_code, character_code}
-use Rattle.code_instructions.specs.Instructions.{call_code, return_code, choose_code}
+use Rattle.code_instructions.specs.Instructions.{call_code, return_code, aside_code}
 use Rattle.code_objects.specs.ObjectCode.{objects_of, relative_code, is_in_code, has_code, provides_code, give_code}
 use Rattle.code_objects.specs.ObjectCode.{remove_code, print_name_code, property_code, property_size_code}
 use Rattle.code_objects.specs.ObjectCode.{property_word_code, assign_property_code, assign_property_word_code}
@@ -29,9 +29,9 @@ use Rattle.story_sizes.proofs.SizesOfProperties.{provides_few, property_few, pro
 use Rattle.story_sizes.proofs.SizesOfProperties.{assign_property_few, assign_property_word_few}
 use Rattle.story_sizes.proofs.SizesOfTexts.{text_few}
 use Rattle.story_sizes.proofs.SizesOfOperations.{binary_few, prefix_few, move_few, step_few, character_few, entry_few}
-use Rattle.story_sizes.proofs.SizesOfOperations.{assign_few}
+use Rattle.story_sizes.proofs.SizesOfOperations.{assign_few, aside_few}
 use Rattle.story_sizes.proofs.SizesOfCalls.{read_few, return_few, taken_length, call_few}
-use Rattle.story_sizes.proofs.SizesOfBranches.{branch_few, choose_few, case_few}
+use Rattle.story_sizes.proofs.SizesOfBranches.{branch_few, case_few}
 
 -- an item without a text
 no_text : (is : List Instruction) → length (bytes_of_all is ++ []) ≡ length (bytes_of_all is)
@@ -49,6 +49,8 @@ module _ (sizes : Sizes) where
   part_few (items.apply_prefix op o d) n rest = omega (arith, no_text (prefix_code op o d), prefix_few op o d)
   part_few (items.operate op x y d) n rest =
       omega (arith, no_text (binary_code no_addresses op x y d), binary_few op x y d)
+  part_few (items.operate_aside op x d) n rest =
+      omega (arith, no_text (aside_code no_addresses op x d), aside_few op x d)
   part_few (items.step op x d) n rest = omega (arith, no_text (step_code op x d), step_few op x d)
   part_few (items.entry width number o d) n rest =
       let size = slice_index sizes.arrays number % 65536 in
@@ -140,8 +142,6 @@ module _ (sizes : Sizes) where
       )
   part_few items.quit n rest = omega arith
   part_few (items.branch test os when target) n rest = branch_few sizes test os when target n rest
-  part_few (items.choose o) n rest = omega
-      (arith, no_text (choose_code o ∷ []), one_length (choose_code o), choose_few o)
   part_few (items.case test ns when target) n rest = case_few sizes test ns when target n rest
   part_few (items.jump target) n rest = omega arith
   part_few (items.back target) n rest = omega arith

@@ -4,25 +4,22 @@ use Rattle.std.proofs.Common.{subst, length-append}
 use Rattle.std.specs.Prelude.{nat_lt, map, if◌then◌else◌}
 use Rattle.std.specs.List.{flat_map}
 use Rattle.std.proofs.lemmas.List.{length-take}
-use Rattle.zcore.specs.declared.instruction.Operand.TheVariants.{Small, Variable}
-use Rattle.zcore.specs.declared.instruction.Operation.TheVariants as operations
 use Rattle.zcore.specs.Operations.{has_more_types}
-use Rattle.zcore.specs.Instruction.{operand_bytes, bytes_of}
+use Rattle.zcore.specs.Instruction.{operand_bytes}
 use Rattle.code_branch_forms.specs.Layout.{form_for, offset_over, part_size}
 use Rattle.code_values.specs.Items.{Test}
 use Rattle.code_values.specs.Items as items
 use Rattle.code_encoding.specs.Instructions as spec
 use Rattle.code_encoding.specs.Instructions.{constant, operands, takes, most_tested}
 use Rattle.code_instructions.specs.Instructions.{labelled, test_operation, turned, are_both_pushed, ordered_code, tested_code}
-use Rattle.code_instructions.specs.Instructions.{least_word, branch_code}
-use Rattle.code_instructions.specs.Instructions.{chosen_variable, choose_code, most_compared, compared, case_code}
+use Rattle.code_instructions.specs.Instructions.{least_word, branch_code, most_compared, compared, case_code}
 use Rattle.code_encoding.specs.Addresses.{Sizes}
 use Rattle.code_encoding.specs.Bytes.{bytes_of_all}
 use Rattle.code.specs.Bytes.{part_of}
 use Rattle.code.proofs.AddressLengths.{all_length}
 use Rattle.code.proofs.BranchLengths.{labelled_length, both_pushed}
 use Rattle.story_sizes.proofs.SizesOfInstructions.{operand_count, constant_few, taken_few}
-use Rattle.story_sizes.proofs.SizesOfOperands.{plain_few, store_few, label_few, beside_few}
+use Rattle.story_sizes.proofs.SizesOfOperands.{label_few, beside_few}
 use Rattle.story_sizes.proofs.SizesOfCalls.{taken_length}
 
 test_more : (test : Test) → has_more_types (test_operation test) ≡ false
@@ -92,11 +89,6 @@ branch_few sizes test os when target n rest =
     )
 
 -- `switch`
-
-pub choose_few : (o : items.Operand) → length (bytes_of (choose_code o)) ≤ 5
-choose_few items.pushed = omega (arith, plain_few operations.Pull (Small chosen_variable) refl)
-choose_few (items.number n) = store_few chosen_variable (constant n) (constant_few (nat_lt n 256) n)
-choose_few (items.variable x) = store_few chosen_variable (Variable (spec.number_of x)) (omega arith)
 
 constants_few : (ns : List ℕ) → operand_count (map constant ns) ≤ 2 * length ns
 constants_few [] = omega arith

@@ -73,6 +73,7 @@ return_few (items.variable x) = omega (arith, plain_few operations.Return (Varia
 result_few : (d : Destination) → length (result_bytes (call_result d)) ≤ 1
 result_few items.push = omega arith
 result_few (items.into x) = omega arith
+result_few items.aside = omega arith
 result_few items.nowhere = omega arith
 
 pub taken_length : (n : ℕ) (os : List items.Operand) → length (take n os) ≤ length os

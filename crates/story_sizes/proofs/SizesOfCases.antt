@@ -15,13 +15,13 @@ use Rattle.meaning.specs.Resolved as resolved
 use Rattle.checker_names.specs.Names.{Seen}
 use Rattle.checker_values.specs.Expressions.{resolve}
 use Rattle.checker_statements.specs.Statements.{resolve_range, resolve_statements, resolve_cases}
-use Rattle.code_values.specs.Items.{operand_count, alone, alone_items}
+use Rattle.code_values.specs.Items.{aside, value_count, value_items}
 use Rattle.code_values.specs.Items as items
 use Rattle.code_items.specs.Statements.{Group, numbers, range, with_number, groups_of, group_count, group_items}
 use Rattle.code_items.specs.Statements.{tests_count, tests_items, over_count, over_items, actions_count, cases_count}
 use Rattle.code_items.specs.Statements.{Exits, actions_items, cases_items}
 use Rattle.story_sizes.proofs.Most.{most_of, most_append}
-use Rattle.story_sizes.proofs.SizesOfExpressions.{few_alone, FitsExpression}
+use Rattle.story_sizes.proofs.SizesOfExpressions.{few_value, FitsExpression}
 use Rattle.story_sizes.proofs.SizesOfStatements.{StatementFits, BodyFits}
 
 -- The tests of a case: at most two for each of its ranges
@@ -116,13 +116,13 @@ module _ (seen : Seen) where
       let rest = resolve_cases seen cs in
       record {
         within = λ e at.
-            let n = at + operand_count v (alone v) + 1 in
+            let n = at + value_count v aside in
             let end = n + cases_count rest in
             let inside = record e { breaks = end } in
             omega (
               arith,
-              most_append (alone_items at v) (items.choose (alone v) ∷ cases_items inside n rest end),
-              few_alone seen c f at,
+              most_append (value_items at v aside) (cases_items inside n rest end),
+              few_value seen c f aside at,
               g.within inside n end,
             );
       }

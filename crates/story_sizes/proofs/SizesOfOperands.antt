@@ -73,6 +73,8 @@ passed_few items.push word h = omega
     (arith, one_length (spec.push word), plain_few operations.Push word refl, h)
 passed_few (items.into x) word h = omega
     (arith, one_length (spec.store (spec.number_of x) word), store_few (spec.number_of x) word h)
+passed_few items.aside word h =
+    omega (arith, one_length (spec.store spec.aside_variable word), store_few spec.aside_variable word h)
 passed_few items.nowhere word h = omega arith
 
 -- Tests

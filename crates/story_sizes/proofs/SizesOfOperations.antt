@@ -23,9 +23,10 @@ use Rattle.code_values.specs.Items as items
 use Rattle.code_branch_forms.specs.Layout.{first}
 use Rattle.code_encoding.specs.Instructions as spec
 use Rattle.code_encoding.specs.Instructions.{plain, giving, in_place, constant, operands, takes, result_in, fail}
+use Rattle.code_encoding.specs.Instructions.{aside_variable}
 use Rattle.code_encoding.specs.Bytes.{bytes_of_all}
-use Rattle.code_instructions.specs.Instructions.{arithmetic, commuting, divided, binary_code, prefix_code, move_code, step_code}
-use Rattle.code_instructions.specs.Instructions.{character_code}
+use Rattle.code_instructions.specs.Instructions.{arithmetic, commuting, divided_by, divided, binary_code, with_aside}
+use Rattle.code_instructions.specs.Instructions.{aside_code, prefix_code, move_code, step_code, character_code}
 use Rattle.code_objects.specs.ObjectCode.{assigned_takes, assigned_word, passed_on}
 use Rattle.code_selection.specs.ItemCode.{entries_in, load_operation, store_operation, at_index, entry_code}
 use Rattle.code_selection.specs.ItemCode.{assign_entry_code}
@@ -101,6 +102,41 @@ binary_few binaries.Remainder x y d = divided_few operations.Mod x y d refl
 binary_few binaries.And x y d = omega (arith, commuting_few operations.And x y d refl)
 binary_few binaries.Or x y d = omega (arith, commuting_few operations.Or x y d refl)
 
+with_aside_few : (op : Operation) (x : items.Operand) (d : Destination) → has_more_types op ≡ false
+    → length (bytes_of_all (with_aside op x d)) ≤ 11
+with_aside_few op x d e =
+    let i = giving op (in_place x ∷ Variable aside_variable ∷ []) (result_in d) in
+    omega (
+      arith,
+      giving_few op (in_place x) (Variable aside_variable) (result_in d) e,
+      operand_few x,
+      one_length i,
+    )
+
+divided_by_few : (op : Operation) (x : items.Operand) (d : Destination) → has_more_types op ≡ false
+    → length (bytes_of_all (divided_by no_addresses op x aside_variable d)) ≤ 16
+unfolding bytes_of
+divided_by_few op x d e =
+    let i = giving op (in_place x ∷ Variable aside_variable ∷ []) (result_in d) in
+    omega (
+      arith,
+      giving_few op (in_place x) (Variable aside_variable) (result_in d) e,
+      operand_few x,
+      one_length i,
+    )
+
+pub aside_few : (op : Binary) (x : items.Operand) (d : Destination)
+    → length (bytes_of_all (aside_code no_addresses op x d)) ≤ 16
+aside_few binaries.AndAlso x d = omega arith
+aside_few binaries.OrElse x d = omega arith
+aside_few binaries.Add x d = omega (arith, with_aside_few operations.Add x d refl)
+aside_few binaries.Subtract x d = omega (arith, with_aside_few operations.Sub x d refl)
+aside_few binaries.Multiply x d = omega (arith, with_aside_few operations.Mul x d refl)
+aside_few binaries.Divide x d = divided_by_few operations.Div x d refl
+aside_few binaries.Remainder x d = divided_by_few operations.Mod x d refl
+aside_few binaries.And x d = omega (arith, with_aside_few operations.And x d refl)
+aside_few binaries.Or x d = omega (arith, with_aside_few operations.Or x d refl)
+
 pub prefix_few : (op : Prefix) (o : items.Operand) (d : Destination) → length (bytes_of_all (prefix_code op o d)) ≤ 6
 prefix_few prefixes.Minus o d =
     let i = giving operations.Sub (Small 0 ∷ in_place o ∷ []) (result_in d) in
@@ -120,6 +156,9 @@ move_few o items.push = omega (arith, plain_few operations.Push (in_place o) ref
 move_few items.pushed (items.into x) = omega (arith, plain_few operations.Pull (Small (spec.number_of x)) refl)
 move_few (items.number n) (items.into x) = store_few _ (constant n) (constant_few (nat_lt n 256) n)
 move_few (items.variable y) (items.into x) = store_few _ (Variable _) (omega arith)
+move_few items.pushed items.aside = omega (arith, plain_few operations.Pull (Small aside_variable) refl)
+move_few (items.number n) items.aside = store_few aside_variable (constant n) (constant_few (nat_lt n 256) n)
+move_few (items.variable y) items.aside = store_few aside_variable (Variable _) (omega arith)
 move_few items.pushed items.nowhere = store_few 248 (Variable 0) (omega arith)
 move_few (items.number n) items.nowhere = store_few 248 (constant n) (constant_few (nat_lt n 256) n)
 move_few (items.variable y) items.nowhere = store_few 248 (Variable _) (omega arith)
@@ -128,9 +167,11 @@ pub step_few : (op : Step) (x : source.Variable) (d : Destination) → length (b
 unfolding bytes_of
 step_few steps.Increment x items.push = omega arith
 step_few steps.Increment x (items.into y) = omega arith
+step_few steps.Increment x items.aside = omega arith
 step_few steps.Increment x items.nowhere = omega arith
 step_few steps.Decrement x items.push = omega arith
 step_few steps.Decrement x (items.into y) = omega arith
+step_few steps.Decrement x items.aside = omega arith
 step_few steps.Decrement x items.nowhere = omega arith
 
 pub character_few : (o : items.Operand) → length (bytes_of_all (character_code no_addresses o)) ≤ 24

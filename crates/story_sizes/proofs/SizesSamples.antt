@@ -128,7 +128,7 @@ unfolding bytes_of
 loops_have = refl
 
 -- store 255 300; je with 255 and three large constants
-switches_have : least_size sizes (items.choose (items.number 300))
+switches_have : least_size sizes (items.move (items.number 300) items.aside)
     ∷ least_size sizes (items.case items.same (300 ∷ 300 ∷ 300 ∷ 300 ∷ []) true 5) ∷ []
     ≡ 5 ∷ 10 ∷ []
 unfolding bytes_of

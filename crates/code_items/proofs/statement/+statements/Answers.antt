@@ -113,11 +113,10 @@ put_switch-returns t c =
     let other = other_of c.args.other.now in
     let P : CasesOf → Type 0 = λ l. WritesBefore (written_in old) (written_in c.put_cases.new.draft)
     (λ n at. cases_items (exits_of n inside) at l (n - end)) in
-    switch_more _ _ _ c.args.exits _ (value_of c.args.value.now) (cases_of cs other) inside c.written-end.ensures refl
-    c.alone-operand.ensures
+    switch_more _ _ _ c.args.exits (value_of c.args.value.now) (cases_of cs other) inside c.written-end.ensures refl
     (subst P (cases_all cs other) (c.in_ok-put_cases.ensures (written_in old) (cases_of [] other)
     (sym c.written-end.ensures) (c.in_ok-put_other.ensures end)))
-    c.in_ok-put_after.ensures
+    c.in_ok-put_value.ensures
 
 pub put_statement-returns-in-Do : goal.put_statement-returns-in-Do
 put_statement-returns-in-Do t c = on_ok c.put_do.result (λ w.

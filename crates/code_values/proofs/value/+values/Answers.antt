@@ -6,7 +6,8 @@ use Rattle.code_values.proofs.OperationForms.{chain_more, entry_more, assigned_e
 use Rattle.code_values.proofs.OperationForms.{assigned_entry_more}
 use Rattle.code_values.proofs.Values.{prefix_more, not_more_at}
 use Rattle.code_values.proofs.Alternatives.{equal_more}
-use Rattle.code_values.proofs.CodeForms.{assigned_nowhere, assigned_pushed, assigned_kept, call_written, and_written}
+use Rattle.code_values.proofs.CodeForms.{assigned_nowhere, assigned_pushed, assigned_kept, assigned_aside}
+use Rattle.code_values.proofs.CodeForms.{call_written, and_written}
 use Rattle.code_values.proofs.CodeForms.{or_written, operation_written, comparison_written, few_written, many_written}
 use Rattle.code_values.proofs.CodeForms.{placed_written}
 use Rattle.code_values.proofs.ListRounds.{folded_round, operand_round, link_round, links_done}
@@ -34,6 +35,11 @@ pub put_assigned-returns-in_ok-put_value-in-Into : goal.put_assigned-returns-in_
 put_assigned-returns-in_ok-put_value-in-Into t c =
     assigned_kept _ _ _ _ _ c.args.wanted c.args.variable c.in-Into.other _ _ c.in-Into.is c.in_ok-put_word.ensures
     c.in_ok-put-in-Into.ensures c.in_ok-put-in-Into-2.ensures c.in_ok-put_value-in-Into.ensures
+
+pub put_assigned-returns-in_ok-put_value-in-Aside : goal.put_assigned-returns-in_ok-put_value-in-Aside
+put_assigned-returns-in_ok-put_value-in-Aside t c =
+    assigned_aside _ _ _ _ _ c.args.wanted c.args.variable _ _ c.in-Aside.is c.in_ok-put_word.ensures
+    c.in_ok-put-in-Aside.ensures c.in_ok-put-in-Aside-2.ensures c.in_ok-put_value-in-Aside.ensures
 
 pub put_call-returns : goal.put_call-returns
 put_call-returns t c = call_written _ _ _ _ c.args.wanted (as_destination c.in_ok-destination.destination)
@@ -72,10 +78,11 @@ put_link-returns-in_ok-put_value-in-OrElse t c = or_written _ _ _ c.args.wanted 
     c.in_ok-when-in-OrElse.target _ c.args.operator _ _ c.in-OrElse.is c.in_ok-when-in-OrElse.ensures
     c.written-end-in-OrElse.ensures c.in_ok-put_value-in-OrElse.ensures c.first_of_or.ensures
 
-pub put_link-returns-in_ok-put_operand-in_default : goal.put_link-returns-in_ok-put_operand-in_default
-put_link-returns-in_ok-put_operand-in_default t c = operation_written _ _ _ _ c.args.wanted _ c.args.operator _ _ _
-    c.in_default.not-AndAlso c.in_default.not-OrElse c.in_ok-destination-in_default.ensures c.alone-right.ensures
-    c.in_ok-put-in_default.ensures c.in_ok-put_operand-in_default.ensures
+pub put_link-returns-in_ok-put_right-in_default : goal.put_link-returns-in_ok-put_right-in_default
+put_link-returns-in_ok-put_right-in_default t c =
+    operation_written _ _ _ _ c.args.wanted _ _ c.args.operator _ _ _ _ c.in_default.not-AndAlso
+    c.in_default.not-OrElse c.in_ok-destination-in_default.ensures c.alone-right.ensures c.right_place-place.ensures
+    c.operated.ensures c.in_ok-put-in_default.ensures c.in_ok-put_right-in_default.ensures
 
 pub put_others-returns-in_ok-put_operands : goal.put_others-returns-in_ok-put_operands
 put_others-returns-in_ok-put_operands t c = few_written _ _ _ _ c.args.wanted c.in_ok-when.when _ _ c.in_ok-when.target

@@ -27,6 +27,9 @@ decreases-put_value l = 8 * goal.size-put_value l
 abbrev pub decreases-put_operand : goal.decreases-put_operand
 decreases-put_operand l = 8 * goal.size-put_operand l + 1
 
+abbrev pub decreases-put_right : goal.decreases-put_right
+decreases-put_right l = 8 * goal.size-put_right l + 1
+
 abbrev pub decreases-put_operands : goal.decreases-put_operands
 decreases-put_operands l = 8 * goal.size-put_operands l + 2
 
