@@ -16,6 +16,7 @@ use Rattle.zcore.specs.Execution.{step, perform, call_packed}
 use Rattle.meaning.specs.Resolved.{ProgramOf}
 use Rattle.meaning.specs.World.{World}
 use Rattle.code_values.specs.Items.{Destination}
+use Rattle.code_values.specs.Items.{Item}
 use Rattle.code_values.specs.Items as items
 use Rattle.code_items.specs.Stack.{Caller}
 use Rattle.code_items.specs.Stack as stack
@@ -38,6 +39,7 @@ use Rattle.code.proofs.Temporaries.{made}
 use Rattle.code.proofs.Taking.{after_takes, Taken, taken, Apart, apart}
 use Rattle.code.proofs.Delivering.{number_small}
 use Rattle.code.proofs.Alone.{IsOperandHere, IsHere, next_place, plain_length}
+use Rattle.code_selection.specs.ItemBytes.{text_bytes}
 
 -- what is led to from a point is led to from those before it
 led_after : (story : List ℕ) (a : Addresses) (p : ProgramOf) (full : ℕ) (before mid : Next) (s t : State) (w : World)
@@ -168,11 +170,14 @@ call_of routine os items.nowhere vs same most = let f =
 module _ (c : Running) where
   open c use {story, a, p, accepted, holds, full, m, count, counts, routine, place, callers, locals, world, good}
 
-  calls_led : (r : ℕ) (os : List items.Operand) (d : Destination) (words vs rest : List ℕ) → r < length p.routines
-      → All (IsOperandHere c) os → IsHere c d → length os ≤ 7 → length words ≤ 48
-      → ArrivesAt c (items.call r os d) → GivesOperands os (situation_here c) words vs rest
+  -- a routine is entered, whose arguments are taken
+  pub entered_led : (item : Item) (r : ℕ) (os : List items.Operand) (d : Destination) (words vs rest : List ℕ)
+      → r < length p.routines → IsHere c d → length os ≤ 7 → length rest ≤ 48 → length vs ≡ length os
+      → ArrivesAt c item → text_bytes p.abbreviations item ≡ []
+      → code_here c item ≡ takes os ++ calling (slice_index a.routines r) os d ∷ []
+      → Apart c os (calling (slice_index a.routines r) os d ∷ []) → Taken c os words vs rest
       → LedFrom c words (stack.enter p r vs (stack.caller d rest (at c words) ∷ callers) (situation_here c))
-  calls_led r os d words vs rest known all is_d few room stands g =
+  entered_led item r os d words vs rest known is_d few room same stands none code parts t =
       led_after story a p full (point (here c) world.fuel) (point q world.fuel)
       (at_words (around c) m locals words world.text) st world
       (stack.enter p r vs (waiting ∷ callers) (situation_here c))
@@ -187,16 +192,6 @@ module _ (c : Running) where
       i : Instruction
       i = calling packed os d
 
-      code : code_here c (items.call r os d) ≡ takes os ++ i ∷ []
-      code = ap (λ os. call_code packed os d) (take_all most_arguments os few)
-
-      parts : Apart c os (i ∷ [])
-      parts = apart c os (i ∷ []) (subst (λ is. Holds m (here c) (flat_map bytes_of is)) code
-          (code_held c (items.call r os d) stands))
-
-      t : Taken c os words vs rest
-      t = taken c os words vs rest all (omega (arith, few, few_pushed os)) g parts.takes_held
-
       q : ℕ
       q = after_takes c os
 
@@ -204,12 +199,7 @@ module _ (c : Running) where
       waiting = stack.caller d rest (at c words)
 
       is_caller : IsCaller story a p waiting
-      is_caller = record {
-        known = good.known;
-        locals = good.locals;
-        room = omega (arith, room, gives_count os (situation_here c) words vs rest g);
-        destination = is_d;
-      }
+      is_caller = record { known = good.known; locals = good.locals; room = room; destination = is_d }
 
       st : State
       st = at_words (around c) t.memory locals (with_first os vs rest) world.text
@@ -218,13 +208,13 @@ module _ (c : Running) where
       after = at_words (around c) t.memory locals rest world.text
 
       kinds : CallOf packed os d vs
-      kinds = call_of packed os d vs (gives_length os (situation_here c) words vs rest g) few
+      kinds = call_of packed os d vs same few
 
       behind : q + length (bytes_of i) ≡ next_place c
       behind = omega (
         arith,
         stands.next,
-        plain_length c (items.call r os d) refl,
+        plain_length c item none,
         ap (λ is. length (flat_map bytes_of is)) code,
         parts.sizes,
         one_length i,
@@ -241,6 +231,22 @@ module _ (c : Running) where
           (t.values world.text))
           ∙ kinds.performs (point q world.fuel) (q + length (bytes_of i)) after
           ∙ ap (λ (x : ℕ). call_packed (point q world.fuel) x (call_result d) packed vs after) behind
+
+  calls_led : (r : ℕ) (os : List items.Operand) (d : Destination) (words vs rest : List ℕ) → r < length p.routines
+      → All (IsOperandHere c) os → IsHere c d → length os ≤ 7 → length words ≤ 48
+      → ArrivesAt c (items.call r os d) → GivesOperands os (situation_here c) words vs rest
+      → LedFrom c words (stack.enter p r vs (stack.caller d rest (at c words) ∷ callers) (situation_here c))
+  calls_led r os d words vs rest known all is_d few room stands g =
+      let item = items.call r os d in
+      let packed = slice_index a.routines r in
+      let code : code_here c item ≡ takes os ++ calling packed os d ∷ [] =
+      ap (λ os. call_code packed os d) (take_all most_arguments os few) in
+      let parts = apart c os (calling packed os d ∷ [])
+      (subst (λ is. Holds m (here c) (flat_map bytes_of is)) code (code_held c item stands)) in
+      let t = taken c os words vs rest all (omega (arith, few, few_pushed os)) g parts.takes_held in
+      entered_led item r os d words vs rest known is_d few
+      (omega (arith, room, gives_count os (situation_here c) words vs rest g))
+      (gives_length os (situation_here c) words vs rest g) stands refl code parts t
 
   pub call_led : (r : ℕ) (os : List items.Operand) (d : Destination) (words : List ℕ) → r < length p.routines
       → All (IsOperandHere c) os → IsHere c d → length os ≤ 7 → length words ≤ 48

@@ -207,6 +207,10 @@ act_keeps p full (items.jump target) s = forward_keeps target s
 act_keeps p full (items.back target) s = back_keeps target s
 act_keeps p full (items.call r os d) s = operands_keep s.situation.world os s.situation s.stack _
     (λ vs rest. enter_keeps p r vs (stack.caller d rest s ∷ s.callers) s.situation)
+act_keeps p full (items.call_aside r os d) s =
+    aside_keeps s.situation.world s.put_aside _
+    (λ v. operands_keep s.situation.world os s.situation (v ∷ s.stack) _
+    (λ vs rest. enter_keeps p r vs (stack.caller d rest s ∷ s.callers) s.situation))
 act_keeps p full (items.return o) s =
     operand_keeps s.situation.world o s.situation s.stack _ (λ v rest. return_keeps s.callers v s.situation.world)
 

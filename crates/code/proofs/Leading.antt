@@ -39,6 +39,7 @@ use Rattle.code.proofs.Moving.{move_led, keep_led, drop_below_led}
 use Rattle.code.proofs.Stepping.{step_led}
 use Rattle.code.proofs.Operating.{operate_led}
 use Rattle.code.proofs.OperatingAside.{operate_aside_led}
+use Rattle.code.proofs.CallingAside.{call_aside_led}
 use Rattle.code.proofs.Arithmetic.{prefix_led}
 use Rattle.code.proofs.Loading.{entry_led}
 use Rattle.code.proofs.Storing.{assign_entry_led}
@@ -226,6 +227,8 @@ module _ (story : List ℕ) (a : Addresses) (p : ProgramOf) (accepted : IsAccept
       go (items.jump target) f st is text = jump_led c target s.put_aside words good.room good.put_aside st
       go (items.back target) f st is text = back_led c target words good.room st
       go (items.call r os d) f st is text = call_led c r os d words is.0 is.1 is.4 is.2 good.room st
+      go (items.call_aside r os d) f st is text =
+          call_aside_led c r os d s.put_aside words is.0 is.1 is.4 is.5 is.2 good.room good.put_aside st
       go (items.return o) f st is text = return_led c o words is st
 
 pub code_plays_by : ItemsFollow → ItemsAreWithin → CodePlays

@@ -9,6 +9,8 @@ pub mod Behind
 pub mod Bounding
 pub mod Branching
 pub mod Calling
+pub mod AsideOperands
+pub mod CallingAside
 pub mod Changing
 pub mod CharacterTests
 pub mod Characters

@@ -12,7 +12,7 @@ use Rattle.code_encoding.specs.Addresses.{Addresses, Sizes}
 use Rattle.code_encoding.specs.Instructions.{plain, number_of, temporary, result_in}
 use Rattle.meaning.specs.Limits.{most_arguments}
 use Rattle.code_encoding.specs.Bytes.{bytes_of_all}
-use Rattle.code_instructions.specs.Instructions.{divided, character_code}
+use Rattle.code_instructions.specs.Instructions.{divided, character_code, with_last_aside}
 use Rattle.code_instructions.specs.Places.{target_of}
 use Rattle.code_objects.specs.ObjectCode.{objects_of, property_address, length_at, property_value, moved_into}
 use Rattle.code_objects.specs.ObjectCode.{relative_of, changing, assigned_takes}
@@ -177,5 +177,14 @@ module _ (sizes : Sizes) where
         same,
         length-append (bytes_of_all (item_code sizes a offset (items.call r os d))) [],
         length-append (bytes_of_all (item_code sizes no_addresses 2 (items.call r os d))) [],
+      )
+  same_length a offset (items.call_aside r os d) e =
+      let same = call_same (take most_arguments (with_last_aside os)) d (slice_index a.routines r)
+      (slice_index no_addresses.routines r) in
+      omega (
+        arith,
+        same,
+        length-append (bytes_of_all (item_code sizes a offset (items.call_aside r os d))) [],
+        length-append (bytes_of_all (item_code sizes no_addresses 2 (items.call_aside r os d))) [],
       )
   same_length a offset i e = refl

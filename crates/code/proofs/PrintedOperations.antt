@@ -13,7 +13,7 @@ use Rattle.code_values.specs.Items.{Item, Operand, pushed, number, variable, Des
 use Rattle.code_values.specs.Items.{right_place, operated, operand_of, operands_of, alone, left_of, if_pushed}
 use Rattle.code_values.specs.Items.{is_direct, same_count, same_items, value_count}
 use Rattle.code_values.specs.Items.{operand_count, operands_count, branch_count, many_count, value_items}
-use Rattle.code_values.specs.Items.{operands_items, branch_items, many_items, also_items}
+use Rattle.code_values.specs.Items.{operands_items, arguments_items, branch_items, many_items, also_items}
 use Rattle.code_values.specs.Items as items
 use Rattle.code.proofs.PrintedLists.{HasPrintableText, Fine, nothing, first, joined, last, pushed_fine, either_fine, truth_fine, two_fine}
 
@@ -25,6 +25,7 @@ pub record ValueFine (v : Value) : Type 0 where
 
 pub record ValuesFine (vs : Values) : Type 0 where
   pub all : (at : ℕ) → Fine (operands_items at vs)
+  pub arguments : (several : Bool) (at : ℕ) → Fine (arguments_items several at vs)
   pub also : (at : ℕ) (op : Equality) (when : Bool) (t : ℕ) → Fine (also_items at op vs when t)
   pub many : (at : ℕ) (op : Equality) (when : Bool) (t : ℕ) → Fine (many_items at op vs when t)
 

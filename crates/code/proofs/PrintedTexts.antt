@@ -1,5 +1,5 @@
 -- The items of a routine print no texts but its own.
-use Rattle.std.proofs.Common.{ℕ, ◌+◌, List, [], ◌∷◌, ◌++◌, true, false, Option, Some, None}
+use Rattle.std.proofs.Common.{ℕ, ◌+◌, List, [], ◌∷◌, ◌++◌, Bool, true, false, Option, Some, None}
 use Rattle.std.specs.Prelude.{◌==◌}
 use Rattle.std.specs.List.{All}
 use Rattle.std.proofs.lemmas.List.Elements.{All-head, All-tail}
@@ -12,7 +12,8 @@ use Rattle.meaning.specs.Meaning.{is_true}
 use Rattle.meaning.specs.Printable.{IsPrintableItem, IsPrintableAction, ArePrintableActions, ArePrintableCases}
 use Rattle.code_values.specs.Items.{Item, Operand, number, variable, push, into, aside, nowhere, operand_of, alone}
 use Rattle.code_values.specs.Items.{left_of, if_pushed, agrees, value_count, operand_count, branch_count, value_items}
-use Rattle.code_values.specs.Items.{operands_items, branch_items, alone_items}
+use Rattle.code_values.specs.Items.{branch_items, alone_items, Destination, operands_of, is_any_pushed}
+use Rattle.code_values.specs.Items.{are_more_pushed, argument_place, called, arguments_items}
 use Rattle.code_items.specs.Statements.{each_items, relative_items, children_items, printed_count, action_count}
 use Rattle.code_items.specs.Statements.{printed_items, prints_items, Exits, exits_to, action_items, actions_items}
 use Rattle.code_items.specs.Statements.{return_true, routine_items, once_count, once_items, test_count, test_items}
@@ -30,6 +31,7 @@ use Rattle.code.proofs.PrintedObjects.{assign_property_word_fine}
 none_fine : ValuesFine none
 none_fine = record {
   all = λ at. nothing;
+  arguments = λ several at. nothing;
   also = λ at op when t. first _ _ tt (first _ _ tt nothing);
   many = λ at op when t. first _ _ tt nothing;
 }
@@ -38,11 +40,21 @@ more_fine : (v : Value) (vs : Values) → ValueFine v → ValuesFine vs → Valu
 more_fine v vs f g = record {
   all = λ at. joined (if_pushed (operand_of v vs) (value_items at v push) []) _
       (pushed_fine (operand_of v vs) _ (f.value at push)) (g.all (at + operand_count v (operand_of v vs)));
+  arguments = λ several at.
+      let o = operand_of v vs in
+      let place = argument_place several (is_any_pushed (operands_of vs)) in
+      joined (if_pushed o (value_items at v place) []) _ (pushed_fine o _ (f.value at place))
+      (g.arguments several (at + if_pushed o (value_count v place) 0));
   also = λ at op when t. joined (value_items at v push) _ (f.value at push)
       (first _ _ tt (g.also (at + value_count v push + 1) op when t));
   many = λ at op when t. joined (value_items at v push) _ (f.value at push)
       (first _ _ tt (g.also (at + value_count v push + 1) op when t));
 }
+
+-- a call prints no text itself
+call_text : (several : Bool) (r : ℕ) (os : List Operand) (d : Destination) → HasPrintableText (called several r os d)
+call_text true r os d = tt
+call_text false r os d = tt
 
 mutual
   value_fine : (v : Value) → ValueFine v
@@ -53,9 +65,14 @@ mutual
   value_fine (source.read x) =
       record { value = λ at d. moved_fine (variable x) d; branch = λ at when t. first _ _ tt nothing }
   value_fine (source.call r vs) = record {
-    value = λ at d. last (operands_items at vs) _ ((values_fine vs).all at) tt;
-    branch = λ at when t. joined (operands_items at vs) _ ((values_fine vs).all at)
-        (first _ _ tt (first _ _ tt nothing));
+    value = λ at d.
+        let several = are_more_pushed (operands_of vs) in
+        last (arguments_items several at vs) _ ((values_fine vs).arguments several at)
+        (call_text several r (operands_of vs) d);
+    branch = λ at when t.
+        let several = are_more_pushed (operands_of vs) in
+        joined (arguments_items several at vs) _ ((values_fine vs).arguments several at)
+        (first _ _ (call_text several r (operands_of vs) push) (first _ _ tt nothing));
   }
   value_fine (source.prefixed op v) = prefixed_fine op v (value_fine v)
   value_fine (source.step_before op x) =

@@ -22,6 +22,7 @@ use Rattle.code.proofs.ItemOperands.{GivesOperands, gives_count}
 use Rattle.code.proofs.Arriving.{Running, around, here, situation_here}
 use Rattle.code.proofs.Variables.{variable_held}
 use Rattle.code.proofs.Temporaries.{Scratch, scratch_here, scratch_with, word_written, word_unwritten, pull_temporary}
+use Rattle.meaning.specs.World.{Situation}
 
 pub pulls_length : (n : ℕ) → length (flat_map bytes_of (take_words n)) ≡ 3 * n
 unfolding bytes_of
@@ -117,30 +118,40 @@ module _ (c : Running) where
         → operand_values (operands os) (at_words (around c) memory locals (with_first os vs rest) text)
         ≡ done vs (at_words (around c) memory locals rest text)
 
-  pub taken : (os : List items.Operand) (words vs rest : List ℕ)
-      → All (IsOperand p (routine_at p.routines routine).locals) os → pushed_count os ≤ 8
-      → GivesOperands os (situation_here c) words vs rest
+  -- where the variables among them are read in the memory to which they are taken
+  pub taken_by : (s : Situation) (os : List items.Operand) (words vs rest : List ℕ)
+      → ((other : List ℕ) → Scratch c other
+      → ((v : ℕ) → 248 + (pushed_count os - 1) ≤ v → v < 256 → word_of other v ≡ word_of m v)
+      → VariablesRead (around c) other locals s os)
+      → pushed_count os ≤ 8 → GivesOperands os s words vs rest
       → Holds m (here c) (flat_map bytes_of (takes os)) → Taken os words vs rest
-  taken os words vs rest all few g h =
+  taken_by s os words vs rest reads few g h =
       let n = pushed_count os - 1 in
-      let count = gives_count os (situation_here c) words vs rest g in
+      let count = gives_count os s words vs rest g in
       let t = pulled n m words (here c) (omega (arith, few)) (omega (arith, count)) (scratch_here c) (omega arith) h in
-      let on_top = first_on_top os (situation_here c) words vs rest g in
+      let on_top = first_on_top os s words vs rest g in
       let each : Temporaries (around c) t.memory locals 0 n words =
       λ j l.
       let number : j ≡ 0 + j = omega arith in
       subst (λ i. ReadsVariable (around c) t.memory locals (temporary i) (slice_index words (n - 1 - j))) number
       (subst (λ x. ReadsVariable (around c) t.memory locals (temporary j) x) (t.words_are j l)
       (global_reads (around c) t.memory locals (temporary j) (omega arith) (omega (arith, l, few)))) in
-      let read = ready (around c) t.memory locals os (situation_here c) words vs rest g
-      (variables_read t.memory os t.scratch all) each in
+      let read = ready (around c) t.memory locals os s words vs rest g
+      (reads t.memory t.scratch t.unwritten) each in
       record {
         memory = t.memory;
         scratch = t.scratch;
-        leads = subst (λ s. Leads (point (here c) world.fuel) (at_words (around c) m locals words world.text)
-            (point (after_takes os) world.fuel) (at_words (around c) t.memory locals s world.text)) on_top t.leads;
+        leads = subst (λ ws. Leads (point (here c) world.fuel) (at_words (around c) m locals words world.text)
+            (point (after_takes os) world.fuel) (at_words (around c) t.memory locals ws world.text)) on_top t.leads;
         values = λ text. ready_values (around c) t.memory locals os vs rest text read;
       }
+
+  pub taken : (os : List items.Operand) (words vs rest : List ℕ)
+      → All (IsOperand p (routine_at p.routines routine).locals) os → pushed_count os ≤ 8
+      → GivesOperands os (situation_here c) words vs rest
+      → Holds m (here c) (flat_map bytes_of (takes os)) → Taken os words vs rest
+  taken os words vs rest all few g h =
+      taken_by (situation_here c) os words vs rest (λ other scratch _. variables_read other os scratch all) few g h
 
   -- what takes the operands stands here, and what follows it stands after it
   pub record Apart (os : List items.Operand) (is : List Instruction) : Type 0 where

@@ -20,8 +20,9 @@ use Rattle.syntax_trees.specs.declared.tree.Step.TheVariants as steps
 use Rattle.meaning.specs.declared.cause.Cause.{Cause}
 use Rattle.meaning.specs.declared.cause.Cause.TheVariants as causes
 use Rattle.meaning.specs.declared.resolved.Variable as source
+use Rattle.meaning.specs.declared.resolved.Variable.TheVariants as variables
 use Rattle.meaning.specs.Meaning.{is_character}
-use Rattle.code_values.specs.Items.{Destination, Test}
+use Rattle.code_values.specs.Items.{Destination, Test, is_any_pushed}
 use Rattle.code_values.specs.Items as items
 use Rattle.code_encoding.specs.Addresses.{Addresses, fault_address}
 use Rattle.code_encoding.specs.Instructions.{plain, giving, branching, number_of, temporary, constant, push, pull, copy}
@@ -253,6 +254,20 @@ calling routine os d = record {
 
 abbrev pub call_code : ℕ → List items.Operand → Destination → List Instruction
 call_code routine os d = takes os ++ calling routine os d ∷ []
+
+-- the global that would stand in the variable of the word that is put aside; a program has none of this number
+abbrev pub aside_global : source.Variable
+aside_global = variables.Global 239
+
+-- an operand that was put aside, if it is pushed
+abbrev pub read_aside : items.Operand → items.Operand
+read_aside items.pushed = items.variable aside_global
+read_aside o = o
+
+-- operands of which the last that is pushed was put aside
+abbrev pub with_last_aside : List items.Operand → List items.Operand
+with_last_aside [] = []
+with_last_aside (o ∷ os) = (if is_any_pushed os then o else read_aside o) ∷ with_last_aside os
 
 abbrev pub return_code : items.Operand → Instruction
 return_code items.pushed = plain ReturnPopped []

@@ -1,6 +1,6 @@
 //! Calls of routines, and returns.
 
-ghost use Rattle.std.specs.Prelude.{◌≡◌, [], ◌∷◌, take, OnOk};
+ghost use Rattle.std.specs.Prelude.{◌≡◌, if◌then◌else◌, [], ◌∷◌, take, IfOk, OnOk};
 ghost use Rattle.code_values.specs.Items as source_items;
 ghost use Rattle.code_values.specs.Code.{as_operand, as_operands, as_destination};
 ghost use Rattle.code_instructions.specs.Instructions.{call_code, return_code};
@@ -14,7 +14,8 @@ use code_encoding::{
     ASIDE, Instruction, Operands, constant, plain, put_all, put_instruction, put_named, put_takes,
     variable_number,
 };
-use code_values::Destination;
+use code_values::{Destination, is_any_pushed};
+use meaning::Variable;
 use meaning::limits::MOST_ARGUMENTS;
 use std::alloc::{AllocError, Global};
 use zcore::{Operand, Operation};
@@ -80,6 +81,63 @@ pub fn put_call(
     let operation = call_operation(operands.len(), destination);
     put_instruction(bytes, operation, &named, call_result(destination), None)?;
     Ok(())
+}
+
+/// The global that would stand in the variable of the word that is put aside. No program has one of
+/// this number.
+const ASIDE_GLOBAL: usize = 239;
+
+/// An operand that was put aside, if it is pushed.
+fn read_aside(operand: code_values::Operand) -> code_values::Operand
+    ensures { as_operand result ≡ spec.read_aside (as_operand operand) }
+{
+    match operand {
+        code_values::Operand::Pushed => {
+            code_values::Operand::Variable(Variable::Global(ASIDE_GLOBAL))
+        }
+        code_values::Operand::Number(number) => code_values::Operand::Number(number),
+        code_values::Operand::Variable(variable) => code_values::Operand::Variable(variable),
+    }
+}
+
+/// An operand, where one behind it is pushed, or none is.
+fn named_aside(operand: code_values::Operand, behind: bool) -> code_values::Operand
+    ensures { as_operand result
+        ≡ (if behind then as_operand operand else spec.read_aside (as_operand operand)) }
+{
+    if behind { operand } else { read_aside(operand) }
+}
+
+/// Operands of which the last that is pushed was put aside.
+fn with_last_aside(
+    alloc: Global,
+    operands: &[code_values::Operand],
+) -> Result<Vec<code_values::Operand>, AllocError>
+    ensures { IfOk result (λ v. as_operands v.items
+        ≡ spec.with_last_aside (as_operands operands.now)) }
+{
+    let mut named = Vec::new(alloc);
+    for number in 0..operands.len() {
+        let behind = is_any_pushed(&operands[number + 1..]);
+        named.push(named_aside(operands[number], behind))?;
+    }
+    Ok(named)
+}
+
+/// A call whose last pushed argument was put aside.
+pub fn put_call_aside(
+    bytes: &mut Vec<u8>,
+    alloc: Global,
+    address: u16,
+    operands: &[code_values::Operand],
+    destination: Destination,
+) -> Result<(), AllocError>
+    ensures { OnOk result (AddsCode bytes.old bytes.new
+        (call_code address (take most_arguments (spec.with_last_aside (as_operands operands.now)))
+        (as_destination destination))) }
+{
+    let named = with_last_aside(alloc, operands)?;
+    put_call(bytes, alloc, address, &named, destination)
 }
 
 /// The instruction that returns a number.

@@ -3,7 +3,9 @@ use Rattle.meaning.specs.Resolved.{Value, Values, none, more}
 use Rattle.meaning.specs.Resolved as source
 use Rattle.code_items.proofs.Running.{Running}
 use Rattle.code_items.proofs.Evaluated.{ValueOk, ListOk, list_none, list_more}
-use Rattle.code_items.proofs.Operations.{number_ok, read_ok, call_ok, prefixed_ok}
+use Rattle.code_items.proofs.Arguments.{ArgumentsOk, arguments_none, arguments_more}
+use Rattle.code_items.proofs.Calls.{call_ok}
+use Rattle.code_items.proofs.Operations.{number_ok, read_ok, prefixed_ok}
 use Rattle.code_items.proofs.Equalities.{AlsoOk, also_none, also_more, compare_ok, SeveralOk, equal_ok}
 use Rattle.code_items.proofs.Logical.{binary_ok}
 use Rattle.code_items.proofs.Assignments.{step_before_ok, step_after_ok, assign_ok}
@@ -17,7 +19,7 @@ module _ (now : Running) where
     pub value_ok : (v : Value) → ValueOk now v
     value_ok (source.number k) = number_ok now k
     value_ok (source.read x) = read_ok now x
-    value_ok (source.call rr vs) = call_ok now rr vs (list_ok vs)
+    value_ok (source.call rr vs) = call_ok now rr vs (arguments_ok vs)
     value_ok (source.prefixed op v) = prefixed_ok now op v (value_ok v)
     value_ok (source.step_before op x) = step_before_ok now op x
     value_ok (source.step_after x op) = step_after_ok now x op
@@ -41,6 +43,10 @@ module _ (now : Running) where
     list_ok : (vs : Values) → ListOk now vs
     list_ok none = list_none now
     list_ok (more v vs) = list_more now v vs (value_ok v) (list_ok vs)
+
+    arguments_ok : (vs : Values) → ArgumentsOk now vs
+    arguments_ok none = arguments_none now
+    arguments_ok (more v vs) = arguments_more now v vs (value_ok v) (arguments_ok vs)
 
     several_ok : (vs : Values) → SeveralOk now vs
     several_ok none = tt

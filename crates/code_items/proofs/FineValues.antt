@@ -16,12 +16,14 @@ use Rattle.code_values.specs.Items.{Item, Operand, pushed, number, variable, Des
 use Rattle.code_values.specs.Items.{operated, operand_of, operands_of, alone}
 use Rattle.code_values.specs.Items.{left_of, if_pushed, is_direct, same_count, comparison_when, equality_when, truth_count}
 use Rattle.code_values.specs.Items.{value_count, operand_count, operands_count, branch_count, many_count, also_count}
-use Rattle.code_values.specs.Items.{same_items}
+use Rattle.code_values.specs.Items.{same_items, is_any_pushed, are_more_pushed, argument_place, called}
+use Rattle.code_values.specs.Items.{arguments_count, arguments_items}
 use Rattle.code_values.specs.Items.{value_items, operands_items, branch_items, many_items, also_items}
 use Rattle.code_values.specs.Items as items
 use Rattle.code_values.proofs.InPlace.{operands_counted}
 use Rattle.code_items.specs.Laws.{IsOperand, IsDestination, IsItem}
 use Rattle.code_items.proofs.Held.{place_is}
+use Rattle.code_items.proofs.Calls.{any_of_more}
 use Rattle.code_items.proofs.Fine.{Bounds, Fine, same_fine, branch_two, chosen, counted_else, counted_then}
 use Rattle.code_items.proofs.Fine.{either_fine, first, joined, kept_fine, last, last_two, nothing, operand_fine}
 use Rattle.code_items.proofs.Fine.{operands_fine, pushed_fine, true_fine, truth_fine, two_fine}
@@ -37,6 +39,8 @@ module _ (here : Bounds) where
 
   pub record FineList (vs : Values) : Type 0 where
     pub list : (at : ℕ) → at + operands_count vs < count → Fine here (operands_items at vs)
+    pub arguments : (several : Bool) (at : ℕ) → at + arguments_count several vs < count
+        → Fine here (arguments_items several at vs)
     pub also : (op : Equality) (at : ℕ) (when : Bool) (t : ℕ) → at + also_count vs < count → t < count
         → Fine here (also_items at op vs when t)
     pub many : (op : Equality) (at : ℕ) (when : Bool) (t : ℕ) → at + many_count vs < count → t < count
@@ -56,15 +60,31 @@ module _ (here : Bounds) where
       (λ lt. fa.value at push tt lt) (λ lt. fb.value (at + operand_count a (left_of a b)) push tt lt) ht
 
   call_item : (r : ℕ) (vs : Values) → IsValue p locals (source.call r vs) → (d : Destination)
-      → IsDestination p locals d → IsItem p locals count (items.call r (operands_of vs) d)
-  call_item r vs h d hd = let n =
-      operands_counted vs in (h.0, operands_fine here vs h.3, omega (arith, n, h.1), omega (arith, n, h.2), hd)
+      → IsDestination p locals d
+      → IsItem p locals count (called (are_more_pushed (operands_of vs)) r (operands_of vs) d)
+  call_item r vs h d hd = go (are_more_pushed (operands_of vs)) refl
+    where
+      go : (b : Bool) → are_more_pushed (operands_of vs) ≡ b → IsItem p locals count (called b r (operands_of vs) d)
+      go true e =
+          let n = operands_counted vs in (
+            h.0,
+            operands_fine here vs h.3,
+            omega (arith, n, h.1),
+            omega (arith, n, h.2),
+            any_of_more (operands_of vs) e,
+            hd,
+          )
+      go false e =
+          let n = operands_counted vs in
+          (h.0, operands_fine here vs h.3, omega (arith, n, h.1), omega (arith, n, h.2), hd)
 
   pub call_fine : (r : ℕ) (vs : Values) → IsValue p locals (source.call r vs) → FineList vs
       → FineValue (source.call r vs)
   call_fine r vs h f = record {
-    value = λ at d hd lt. last here (operands_items at vs) _ (f.list at (omega (arith, lt))) (call_item r vs h d hd);
-    branch = λ at when t lt le. last_two here (operands_items at vs) _ _ (f.list at (omega (arith, lt)))
+    value = λ at d hd lt. last here (arguments_items (are_more_pushed (operands_of vs)) at vs) _
+        (f.arguments (are_more_pushed (operands_of vs)) at (omega (arith, lt))) (call_item r vs h d hd);
+    branch = λ at when t lt le. last_two here (arguments_items (are_more_pushed (operands_of vs)) at vs) _ _
+        (f.arguments (are_more_pushed (operands_of vs)) at (omega (arith, lt)))
         (call_item r vs h push tt) (true_fine here pushed when t tt le);
   }
 
@@ -246,9 +266,16 @@ module _ (here : Bounds) where
         (first here _ _ (true_fine here pushed when t tt le) (nothing here)));
   }
 
+  argument_fine : (several any : Bool) → IsDestination p locals (argument_place several any)
+  argument_fine true true = tt
+  argument_fine false true = tt
+  argument_fine true false = tt
+  argument_fine false false = tt
+
   pub list_none : FineList none
   list_none = record {
     list = λ at lt. nothing here;
+    arguments = λ several at lt. nothing here;
     also = λ op at when t lt le. first here _ _ tt
         (first here _ _ (true_fine here pushed (equality_when op when) t tt le) (nothing here));
     many = λ op at when t lt le. first here _ _ (true_fine here pushed when t tt le) (nothing here);
@@ -259,6 +286,13 @@ module _ (here : Bounds) where
     list = λ at lt. joined here (if_pushed (operand_of v vs) (value_items at v push) []) _
         (operand_pushed (operand_of v vs) v f at (omega (arith, lt)))
         (fs.list (at + operand_count v (operand_of v vs)) (omega (arith, lt)));
+    arguments = λ several at lt.
+        let o = operand_of v vs in
+        let place = argument_place several (is_any_pushed (operands_of vs)) in
+        joined here (if_pushed o (value_items at v place) []) _
+        (pushed_fine here o (value_items at v place) (value_count v place) at (omega (arith, lt))
+        (λ l. f.value at place (argument_fine several (is_any_pushed (operands_of vs))) l))
+        (fs.arguments several (at + if_pushed o (value_count v place) 0) (omega (arith, lt)));
     also = λ op at when t lt le. joined here (value_items at v push) _ (f.value at push tt (omega (arith, lt)))
         (first here _ _ tt (fs.also op (at + value_count v push + 1) when t (omega (arith, lt)) le));
     many = λ op at when t lt le. joined here (value_items at v push) _ (f.value at push tt (omega (arith, lt)))

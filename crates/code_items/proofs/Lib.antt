@@ -12,6 +12,8 @@ mod Chosen
 mod Truths
 mod Evaluated
 mod Placed
+mod Arguments
+mod Calls
 mod Operations
 mod Equalities
 mod Logical

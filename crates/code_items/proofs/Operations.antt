@@ -1,4 +1,4 @@
--- Numbers, variables, calls and operations.
+-- Numbers, variables and operations.
 use Rattle.std.proofs.Common.{◌≡◌, ℕ, ◌+◌, ◌≤◌, List, [], ◌∷◌, ◌++◌, length, Some, Bool, true, false, refl, sym, ap}
 use Rattle.std.proofs.Common.{◌∙◌, subst, arith}
 use Rattle.std.specs.Prelude.{◌==◌, not, if◌then◌else◌, slice_get}
@@ -7,33 +7,33 @@ use Rattle.syntax_trees.specs.declared.tree.Prefix.{Prefix}
 use Rattle.syntax_trees.specs.declared.tree.Prefix.TheVariants as prefixes
 use Rattle.meaning.specs.declared.resolved.Variable.{Variable}
 use Rattle.meaning.specs.Limits.{operands}
-use Rattle.meaning.specs.Resolved.{Value, Values, none}
+use Rattle.meaning.specs.Resolved.{Value, none}
 use Rattle.meaning.specs.Resolved as source
-use Rattle.meaning.specs.Accepted.{need_of, needs_of}
+use Rattle.meaning.specs.Accepted.{need_of}
 use Rattle.meaning.specs.World.{Situation, to, ◌>>=◌, give, value_in}
-use Rattle.meaning.specs.Meaning.{truth, is_true, operate, with_prefix, evaluate, evaluate_all}
+use Rattle.meaning.specs.Meaning.{truth, is_true, operate, with_prefix, evaluate}
 use Rattle.code_values.specs.Items.{Operand, pushed, number, variable, Destination, push, aside, right_place}
-use Rattle.code_values.specs.Items.{operated, is_zero, same, operands_of}
-use Rattle.code_values.specs.Items.{alone, left_of, if_pushed, branch_true, agrees, operand_count, operands_count}
-use Rattle.code_values.specs.Items.{branch_count, value_items, operands_items, branch_items, alone_items}
+use Rattle.code_values.specs.Items.{operated, is_zero}
+use Rattle.code_values.specs.Items.{alone, left_of, if_pushed, branch_true, agrees, operand_count}
+use Rattle.code_values.specs.Items.{branch_count, value_items, branch_items, alone_items}
 use Rattle.code_values.specs.Items as items
-use Rattle.code_values.proofs.Counts.{branch_length, operands_length, alone_length}
-use Rattle.code_items.specs.Stack.{with_operand, delivered, gives, enter, act}
+use Rattle.code_values.proofs.Counts.{branch_length, alone_length}
+use Rattle.code_items.specs.Stack.{with_operand, delivered, gives, act}
 use Rattle.code_items.specs.Stack as stack
 use Rattle.code_items.proofs.Acts.{keeps_give, keeps_operate}
-use Rattle.code_items.proofs.Running.{steps_on, Running, code, setting, RunsTo}
+use Rattle.code_items.proofs.Running.{Running, code, setting}
 use Rattle.code_items.proofs.Standing.{HasAt, split}
 use Rattle.code_items.proofs.Needs.{some_needed}
 use Rattle.code_items.proofs.Conditions.{truth_back, not_not, zero_agrees}
-use Rattle.code_items.proofs.Held.{Held, onto, with_held, AllHeld, onto_all, with_all_held, place_is}
-use Rattle.code_items.proofs.Leads.{Leads, on, as_part, here, here_with, stands, lands, goes_by, delivers, at_place}
+use Rattle.code_items.proofs.Held.{Held, onto, with_held, AllHeld, onto_all, place_is}
+use Rattle.code_items.proofs.Leads.{Leads, on, as_part, here, here_with, stands, lands, goes_by, at_place}
 use Rattle.code_items.proofs.Steps.{one, one_with, jumps, decided, tests, by_word, moved_does}
 use Rattle.code_items.proofs.Truths.{not_condition, Branches, condition}
-use Rattle.code_items.proofs.Evaluated.{ValueOk, operand_held, operand_does, ListOk, all_held}
+use Rattle.code_items.proofs.Evaluated.{ValueOk, operand_held, operand_does}
 use Rattle.code_items.proofs.Placed.{operated_items, placed_at, placed_end, placed_operands}
 
 module _ (now : Running) where
-  open now use {p, full, callers, room, lower_calls}
+  open now use {p, full}
 
   prefix_piece : (op : Prefix) (v : Value) → ValueOk now v → (s : Situation) (n pc m : ℕ) (words : List ℕ)
       (dest : Destination) → HasAt (code now) pc (if_pushed (alone v) (value_items pc v push) []) m
@@ -102,30 +102,6 @@ module _ (now : Running) where
       place_is op oa (λ place. FromPlace op oa x y s n m words dest le place ob)
       (from_top op oa x y s n m words dest le ob) (from_aside op oa x y s n m words dest le ob) h held
 
-  call_piece : (rr : ℕ) (vs : Values) → ListOk now vs → (s : Situation) (n pc m : ℕ) (words : List ℕ)
-      (dest : Destination) → HasAt (code now) pc (operands_items pc vs) m → slice_get (code now) m
-      ≡ Some (items.call rr (operands_of vs) dest) → length words + operands 0 (needs_of vs) ≤ 48
-      → Leads now s n (stands now pc words s) (evaluate (setting now) (source.call rr vs) s)
-      (lands now dest (m + 1) words)
-  call_piece rr vs ok s n pc m words dest has h le =
-      let some = some_needed 0 (needs_of vs) in
-      on now (evaluate_all (setting now) vs) _ (ok.all s n (length words) 0 pc m words has (omega arith) le)
-      (λ xs s1 e1.
-      let before = onto_all (operands_of vs) xs words in
-      record {
-        does = λ k _ hd.
-            steps_on p full (here now m before s1) _ _
-            (ap (λ i. act p full i (here now m before s1)) h
-            ∙ with_all_held (operands_of vs) xs s1 words
-            (λ taken rest. enter p rr taken (stack.caller dest rest (here now m before s1) ∷ callers) s1)
-            (all_held now vs s s1 xs e1))
-            (lower_calls rr xs (stack.caller dest words (here now m before s1) ∷ callers) s1 k (omega (arith, room))
-            (λ v last e2 same low.
-            subst (λ l. RunsTo p full
-            (delivered dest v (here now (m + 1) words (record { locals = l; world = last.world }))) (k v last)) same
-            (delivers now dest (m + 1) words v last (k v last) (omega (arith, le, some)) (hd v last e2 low))));
-      })
-
   pub number_ok : (k : ℕ) → ValueOk now (source.number k)
   number_ok k = record {
     value = λ s n pc q words dest has le. moved_does now (number k) k dest pc q words has (λ f. refl)
@@ -148,20 +124,6 @@ module _ (now : Running) where
     branch = λ s n pc t q words when has before le. tests now pc t q words is_zero (variable x ∷ [])
         (value_in x s ∷ []) (not when) when (value_in x s) has.0 (omega (arith, before, has.1)) has.1 (refl, tt)
         (sym (zero_agrees (value_in x s) when));
-  }
-
-  pub call_ok : (rr : ℕ) (vs : Values) → ListOk now vs → ValueOk now (source.call rr vs)
-  call_ok rr vs ok = record {
-    value = λ s n pc q words dest has le.
-        let m = pc + operands_count vs in
-        let h = split (code now) pc (operands_items pc vs) _ q (operands_count vs) (operands_length vs pc) has in
-        at_place now (λ x. lands now dest x words) (m + 1) q h.1.1
-        (call_piece rr vs ok s n pc m words dest h.0 h.1.0 le);
-    branch = λ s n pc t q words when has before le.
-        let m = pc + operands_count vs in
-        let h = split (code now) pc (operands_items pc vs) _ q (operands_count vs) (operands_length vs pc) has in
-        by_word now _ (m + 1) t q words when (call_piece rr vs ok s n pc m words push h.0 h.1.0 le) h.1.1.0
-        (omega (arith, before, h.1.1.1)) h.1.1.1;
   }
 
   minus_ok : (op : Prefix) (v : Value) → ValueOk now v

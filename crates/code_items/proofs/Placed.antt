@@ -1,15 +1,16 @@
 -- The right operand of an operator, where it finds it.
-use Rattle.std.proofs.Common.{◌≡◌, ℕ, ◌+◌, ◌≤◌, List, [], ◌∷◌, ◌++◌, length, refl, sym, arith}
+use Rattle.std.proofs.Common.{◌≡◌, ℕ, ◌+◌, ◌≤◌, List, [], ◌∷◌, ◌++◌, length, Bool, true, false, refl, sym, arith}
+use Rattle.std.specs.Prelude.{if◌then◌else◌}
 use Rattle.syntax_trees.specs.declared.tree.Binary.{Binary}
 use Rattle.meaning.specs.Limits.{operands}
-use Rattle.meaning.specs.Resolved.{Value, none, more}
+use Rattle.meaning.specs.Resolved.{Value, Values, none, more}
 use Rattle.meaning.specs.Resolved as source
 use Rattle.meaning.specs.Accepted.{need_of}
-use Rattle.meaning.specs.World.{Situation, Part, ◌>>=◌}
+use Rattle.meaning.specs.World.{Situation, to, Part, ◌>>=◌, value_in}
 use Rattle.meaning.specs.Meaning.{evaluate}
 use Rattle.code_values.specs.Items.{Item, Operand, pushed, number, variable, Destination, push, alone, left_of}
 use Rattle.code_values.specs.Items.{if_pushed, operand_count, value_count, value_items, right_place, operated}
-use Rattle.code_values.specs.Items.{prefix_operand, operand_of}
+use Rattle.code_values.specs.Items.{prefix_operand, operand_of, change}
 use Rattle.code_values.proofs.CountedForms.{if_length}
 use Rattle.code_values.proofs.Counts.{value_length}
 use Rattle.code_items.specs.Stack.{Next}
@@ -37,14 +38,23 @@ module _ (now : Running) where
   placed_at place (number n) q words v s = stands now q words s
   placed_at place (variable x) q words v s = stands now q words s
 
-  operand_placed : (v : Value) (place : Destination) → ValueOk now v → (s : Situation) (n pc q : ℕ) (words : List ℕ)
-      → HasAt (code now) pc (if_pushed (alone v) (value_items pc v place) []) q → length words + need_of v ≤ 48
-      → Leads now s n (stands now pc words s) (evaluate (setting now) v s) (placed_at place (alone v) q words)
-  operand_placed (source.number k) place ok s n pc q words has le =
+  pub operand_placed : (v : Value) (later : Values) (place : Destination) → ValueOk now v → (s : Situation)
+      (n pc q : ℕ) (words : List ℕ) → HasAt (code now) pc (if_pushed (operand_of v later) (value_items pc v place) []) q
+      → length words + need_of v ≤ 48
+      → Leads now s n (stands now pc words s) (evaluate (setting now) v s)
+      (placed_at place (operand_of v later) q words)
+  operand_placed (source.number k) later place ok s n pc q words has le =
       begins_at now q pc words (sym has) (given now {behind = λ a last. stands now q words last} k)
-  operand_placed (source.read x) place ok s n pc q words has le =
-      begins_at now q pc words (sym has) (given now {behind = λ a last. stands now q words last} _)
-  operand_placed (source.prefixed op v) place ok s n pc q words has le =
+  operand_placed (source.read x) later place ok s n pc q words has le = go (change x later) has
+    where
+      go : (b : Bool) → HasAt (code now) pc
+          (if_pushed (if b then pushed else variable x) (value_items pc (source.read x) place) []) q
+          → Leads now s n (stands now pc words s) (to (value_in x s) s)
+          (placed_at place (if b then pushed else variable x) q words)
+      go true has = ok.value s n pc q words place has le
+      go false has =
+          begins_at now q pc words (sym has) (given now {behind = λ a last. stands now q words last} (value_in x s))
+  operand_placed (source.prefixed op v) later place ok s n pc q words has le =
       go (prefix_operand op (operand_of v none)) refl has
     where
       go : (o : Operand) → prefix_operand op (operand_of v none) ≡ o
@@ -55,7 +65,7 @@ module _ (now : Running) where
       go (variable x) e has = absurd (no_variable op (operand_of v none) x e)
       go (number k) e has = as_part now _ _ (sym (comes_to now (source.prefixed op v) k s e))
           (begins_at now q pc words (sym has) (given now {behind = λ a last. stands now q words last} k))
-  operand_placed v place ok s n pc q words has le = ok.value s n pc q words place has le
+  operand_placed v later place ok s n pc q words has le = ok.value s n pc q words place has le
 
   -- the operands of an operator, and what follows them
   pub placed_operands : {B : Type 0} {behind : B → Situation → Next} (op : Binary) (a b : Value) → ValueOk now a
@@ -84,6 +94,6 @@ module _ (now : Running) where
       on now (evaluate (setting now) a) _ (operand_does now a (more b none) oka s n pc m words ha.0 (omega (arith, le)))
       (λ x s1 e1.
       on now (evaluate (setting now) b) (g x)
-      (operand_placed b place okb s1 n m (m + count) (onto oa x words) hb.0
+      (operand_placed b none place okb s1 n m (m + count) (onto oa x words) hb.0
       (omega (arith, le, onto_length oa x words))) (λ y s2 e2.
       hg x y s2 hb.1 (left_held now a b s s1 s2 x y e1 e2, (operand_held now b none s1 s2 y e2, tt))))

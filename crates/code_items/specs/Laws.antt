@@ -1,5 +1,5 @@
 -- The laws of items that functions of `laws` carry as their contracts.
-use Rattle.std.specs.Prelude.{◌≡◌, ◌≢◌, ◌+◌, ◌<◌, ◌≤◌, ℕ, Bool, List, length, Some}
+use Rattle.std.specs.Prelude.{◌≡◌, ◌≢◌, ◌+◌, ◌<◌, ◌≤◌, ℕ, Bool, true, List, length, Some}
 use Rattle.std.specs.List.{All}
 use Rattle.syntax_trees.specs.declared.tree.Binary.TheVariants as binaries
 use Rattle.syntax_trees.specs.declared.tree.Prefix.TheVariants as prefixes
@@ -8,8 +8,8 @@ use Rattle.meaning.specs.Accepted.{IsVariable, IsRoutine, IsAccepted, IsProperty
 use Rattle.meaning.specs.Meaning.{routine_at, meaning}
 use Rattle.code_values.specs.Items.{Operand, variable, Destination, into, Test, is_zero, less, greater, same, Item}
 use Rattle.code_values.specs.Items.{move, apply_prefix, operate, operate_aside, step, entry, assign_entry, keep, print_character}
-use Rattle.code_values.specs.Items.{print_number, branch, read_line, case, jump, back, call, return, print_name}
-use Rattle.code_values.specs.Items.{relative, property, property_size, property_word, assign_property}
+use Rattle.code_values.specs.Items.{print_number, branch, read_line, case, jump, back, call, call_aside, return}
+use Rattle.code_values.specs.Items.{is_any_pushed, print_name, relative, property, property_size, property_word, assign_property}
 use Rattle.code_values.specs.Items.{assign_property_word, give, has, move_object, remove_object, is_in, provides}
 use Rattle.code_values.specs.Items.{first_object, next_object}
 use Rattle.code_items.specs.Statements.{routine_items}
@@ -83,6 +83,8 @@ module _ (p : ProgramOf) (locals : ℕ) where
   IsItem count (back target) = target < count
   IsItem count (call r os d) = (r < length p.routines) × All IsOperand os × (length os ≤ 7)
       × (length os ≤ (routine_at p.routines r).locals) × IsDestination d
+  IsItem count (call_aside r os d) = (r < length p.routines) × All IsOperand os × (length os ≤ 7)
+      × (length os ≤ (routine_at p.routines r).locals) × (is_any_pushed os ≡ true) × IsDestination d
   IsItem count (return o) = IsOperand o
   IsItem count _ = Unit {0}
 

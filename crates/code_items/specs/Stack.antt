@@ -387,6 +387,10 @@ act p full (Some (items.jump target)) s = jump_forward target s
 act p full (Some (items.back target)) s = go_back target s
 act p full (Some (items.call r os d)) s =
     with_operands os s.situation s.stack (λ vs stack. enter p r vs (caller d stack s ∷ s.callers) s.situation)
+act p full (Some (items.call_aside r os d)) s =
+    with_aside s.put_aside
+    (λ v. with_operands os s.situation (v ∷ s.stack)
+    (λ vs stack. enter p r vs (caller d stack s ∷ s.callers) s.situation))
 act p full (Some (items.return o)) s =
     with_operand o s.situation s.stack (λ v stack. return_to s.callers v s.situation.world)
 

@@ -11,7 +11,7 @@ use Rattle.meaning.specs.Resolved.{Value, Values}
 use Rattle.meaning.specs.Resolved as source
 use Rattle.meaning.specs.Accepted.{count_of}
 use Rattle.code_values.specs.Items.{Item, Operand, Destination, Test, pushed, into, aside, branch_true, alone}
-use Rattle.code_values.specs.Items.{operands_of, right_place, operated}
+use Rattle.code_values.specs.Items.{operands_of, right_place, operated, are_more_pushed, called, arguments_items}
 use Rattle.code_values.specs.Items.{if_pushed, operands_items, same_items, comparison_test, comparison_when}
 use Rattle.code_values.specs.Items.{equality_when, same}
 use Rattle.code_values.specs.Items as items
@@ -68,13 +68,19 @@ assigned_aside c c1 c2 c3 c4 wanted x v d is reduces e2 e3 w =
 -- Calls
 
 pub call_written : (c c1 c2 c3 : List Item) (wanted : Wanted) (d : Destination) (r : ℕ) (vs : Values)
-    (none os : List code_operand.Operand) → none ≡ [] → ReducesWord c c1 wanted d
-    → as_operands os ≡ as_operands none ++ operands_of vs → c2 ≡ c1 ++ items.call r (as_operands os) d ∷ []
-    → WritesBefore c2 c3 (λ n at. operands_items at vs) → WritesBefore c c3 (wanted_items wanted (source.call r vs))
-call_written c c1 c2 c3 wanted d r vs none os empty reduces added e w =
+    (none os : List code_operand.Operand) (several : Bool) (i : Item) → none ≡ [] → ReducesWord c c1 wanted d
+    → as_operands os ≡ as_operands none ++ operands_of vs → several ≡ are_more_pushed (as_operands os)
+    → i ≡ called several r (as_operands os) d → c2 ≡ c1 ++ i ∷ []
+    → WritesBefore c2 c3 (λ n at. arguments_items several at vs)
+    → WritesBefore c c3 (wanted_items wanted (source.call r vs))
+call_written c c1 c2 c3 wanted d r vs none os several i empty reduces added counted item e w =
+    let are : as_operands os ≡ operands_of vs =
+    added ∙ ap (λ (l : List code_operand.Operand). as_operands l ++ operands_of vs) empty in
+    let so = counted ∙ ap are_more_pushed are in
     call_more c c1 c2 c3 wanted d r vs reduces
-    (e ∙ ap (λ l. c1 ++ items.call r l d ∷ [])
-    (added ∙ ap (λ (l : List code_operand.Operand). as_operands l ++ operands_of vs) empty)) w
+    (e ∙ ap (λ x. c1 ++ x ∷ [])
+    (item ∙ ap (λ l. called several r l d) are ∙ ap (λ b. called b r (operands_of vs) d) so))
+    (subst (λ b. WritesBefore c2 c3 (λ n at. arguments_items b at vs)) so w)
 
 -- Operations
 

@@ -9,7 +9,8 @@ use Rattle.code_values.specs.Items.{containment_when, first_of, operands_of, alo
 use Rattle.code_values.specs.Items.{agrees, is_direct, same_count, comparison_test, comparison_when, equality_when, truth_count}
 use Rattle.code_values.specs.Items.{value_count, operand_count, operands_count, branch_count, many_count, also_count}
 use Rattle.code_values.specs.Items.{same_items, value_items, operands_items, branch_items, many_items, also_items}
-use Rattle.code_values.specs.Items.{alone_items}
+use Rattle.code_values.specs.Items.{alone_items, is_any_pushed, are_more_pushed, argument_place, called}
+use Rattle.code_values.specs.Items.{arguments_count, arguments_items}
 use Rattle.code_values.specs.Items as items
 use Rattle.code_values.proofs.InPlace.{same_length}
 use Rattle.code_values.proofs.CountedForms.{joined, if_length, moved_length, after_length, truth_length, two_length}
@@ -62,12 +63,16 @@ mutual
       }
   counted (source.read x) = record { value = λ d at. moved_length (variable x) d; branch = λ when at t. refl }
   counted (source.call r vs) = record {
-    value = λ d at. joined (operands_items at vs) _ _ 1 (operands_length vs at) refl;
-    branch = λ when at t. omega (
-      arith,
-      joined (operands_items at vs) (items.call r (operands_of vs) push ∷ branch_true pushed when t ∷ []) _
-          2 (operands_length vs at) refl,
-    );
+    value = λ d at. joined (arguments_items (are_more_pushed (operands_of vs)) at vs) _ _ 1
+        (arguments_length (are_more_pushed (operands_of vs)) vs at) refl;
+    branch = λ when at t.
+        let several = are_more_pushed (operands_of vs) in
+        omega (
+          arith,
+          joined (arguments_items several at vs)
+              (called several r (operands_of vs) push ∷ branch_true pushed when t ∷ []) _ 2
+              (arguments_length several vs at) refl,
+        );
   }
   counted (source.prefixed op v) = prefixed_counted op v (counted v)
   counted (source.step_before op x) = record { value = λ d at. refl; branch = λ when at t. refl }
@@ -172,6 +177,15 @@ mutual
   operands_length (more v vs) at = joined (if_pushed (operand_of v vs) (value_items at v push) []) _ _ _
       (if_length (operand_of v vs) _ _ ((counted v).value push at))
       (operands_length vs (at + operand_count v (operand_of v vs)))
+
+  pub arguments_length : (several : Bool) (vs : Values) (at : ℕ)
+      → length (arguments_items several at vs) ≡ arguments_count several vs
+  arguments_length several none at = refl
+  arguments_length several (more v vs) at =
+      let place = argument_place several (is_any_pushed (operands_of vs)) in
+      joined (if_pushed (operand_of v vs) (value_items at v place) []) _ _ _
+      (if_length (operand_of v vs) _ _ ((counted v).value place at))
+      (arguments_length several vs (at + if_pushed (operand_of v vs) (value_count v place) 0))
 
   pub many_length : (vs : Values) (op : Equality) (when : Bool) (at t : ℕ) → length (many_items at op vs when t)
       ≡ many_count vs

@@ -16,4 +16,5 @@ pub mod ObjectValues
 pub mod Properties
 pub mod CodeForms
 pub mod ListRounds
+pub mod Arguments
 pub mod BoxedForms

@@ -9,14 +9,14 @@ use Rattle.syntax_trees.specs.declared.tree.Prefix.TheVariants as prefixes
 use Rattle.meaning.specs.Resolved.{Value, Values}
 use Rattle.meaning.specs.Resolved as source
 use Rattle.code_values.specs.Items.{Item, Operand, pushed, Destination, push, operands_of, alone, if_pushed}
-use Rattle.code_values.specs.Items.{branch_true, value_count, operands_count, branch_count, value_items, operands_items}
-use Rattle.code_values.specs.Items.{branch_items}
+use Rattle.code_values.specs.Items.{branch_true, value_count, branch_count, value_items}
+use Rattle.code_values.specs.Items.{branch_items, are_more_pushed, called, arguments_count, arguments_items}
 use Rattle.code_values.specs.Items as items
 use Rattle.code_values.specs.declared.wanted.Wanted.{Wanted}
 use Rattle.code_values.specs.declared.wanted.Wanted.TheVariants.{Branch}
-use Rattle.code_values.specs.Writing.{wanted_items, ReducesWord, ReducesTruth, WritesBefore}
+use Rattle.code_values.specs.Writing.{numbered, wanted_items, ReducesWord, ReducesTruth, WritesBefore}
 use Rattle.code_values.proofs.CountedForms.{if_length}
-use Rattle.code_values.proofs.Counts.{value_length, branch_length, operands_length}
+use Rattle.code_values.proofs.Counts.{value_length, branch_length, arguments_length}
 use Rattle.code_values.proofs.WrittenItems.{counted, both, as_items, after_one}
 use Rattle.code_values.specs.ValueWriting.{pushes, placed, ReducesLink}
 
@@ -28,15 +28,24 @@ pub placed_length : (place : Destination) (o : Operand) (v : Value) (n at : ℕ)
     → length (placed place o v n at) ≡ if_pushed o (value_count v place) 0
 placed_length place o v n at = if_length o (value_items at v place) (value_count v place) (value_length v place at)
 
+-- a call has no target
+call_kept : (several : Bool) (r : ℕ) (os : List Operand) (d : Destination) (n : ℕ)
+    → numbered n (called several r os d) ≡ called several r os d
+call_kept true r os d n = refl
+call_kept false r os d n = refl
+
 pub call_more : (c c1 c2 c3 : List Item) (wanted : Wanted) (d : Destination) (r : ℕ) (vs : Values)
-    → ReducesWord c c1 wanted d → c2 ≡ c1 ++ items.call r (operands_of vs) d ∷ []
-    → WritesBefore c2 c3 (λ n at. operands_items at vs)
+    → ReducesWord c c1 wanted d → c2 ≡ c1 ++ called (are_more_pushed (operands_of vs)) r (operands_of vs) d ∷ []
+    → WritesBefore c2 c3 (λ n at. arguments_items (are_more_pushed (operands_of vs)) at vs)
     → WritesBefore c c3 (wanted_items wanted (source.call r vs))
 call_more c c1 c2 c3 wanted d r vs reduces e w =
+    let several = are_more_pushed (operands_of vs) in
     (reduces (source.call r vs)
-    (λ at t when. sym (append_assoc (operands_items at vs) (items.call r (operands_of vs) push ∷ [])
+    (λ at t when. sym (append_assoc (arguments_items several at vs) (called several r (operands_of vs) push ∷ [])
     (branch_true pushed when t ∷ [])))).with_rest c3
-    (after_one (operands_count vs) (items.call r (operands_of vs) d) (λ n at. operands_length vs at) e w)
+    (as_items (λ n at _. ap (λ i. arguments_items several at vs ++ i ∷ []) (call_kept several r (operands_of vs) d n))
+    (after_one (arguments_count several vs) (called several r (operands_of vs) d)
+    (λ n at. arguments_length several vs at) e w))
 
 pub not_more : (c c1 c2 : List Item) (wanted : Wanted) (when : Bool) (left : ℕ) (v : Value)
     → ReducesTruth c c1 wanted when left → WritesBefore c1 c2 (wanted_items (Branch (not when) left) v)

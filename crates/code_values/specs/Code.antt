@@ -79,6 +79,7 @@ item_of (variants.Case test ns when target) = items.case (as_test test) ns.items
 item_of (variants.Jump target) = items.jump target
 item_of (variants.Back target) = items.back target
 item_of (variants.Call r os d) = items.call r (as_operands os.items) (as_destination d)
+item_of (variants.CallAside r os d) = items.call_aside r (as_operands os.items) (as_destination d)
 item_of (variants.Return o) = items.return (as_operand o)
 
 -- a routine of the code

@@ -111,6 +111,8 @@ pub data Item : Type 0 where
   -- back, which costs a unit
   back : ℕ → Item
   call : ℕ → List Operand → Destination → Item
+  -- the same, where the last operand that is pushed was put aside: it counts as the top of the stack
+  call_aside : ℕ → List Operand → Destination → Item
   return : Operand → Item
 
 -- Operands in place
@@ -206,6 +208,28 @@ abbrev pub operated : Destination → Binary → Operand → Operand → Destina
 operated aside op left pushed d = operate_aside op left d
 operated place op left right d = operate op left right d
 
+-- one of some operands is pushed
+abbrev pub is_any_pushed : List Operand → Bool
+is_any_pushed [] = false
+is_any_pushed (o ∷ os) = if_pushed o true (is_any_pushed os)
+
+-- more than one is
+abbrev pub are_more_pushed : List Operand → Bool
+are_more_pushed [] = false
+are_more_pushed (o ∷ os) = if_pushed o (is_any_pushed os) (are_more_pushed os)
+
+-- where an argument goes that does not stand in place, where there are several of those, and where one of those stands
+-- behind it: the last of several goes aside
+abbrev pub argument_place : Bool → Bool → Destination
+argument_place several true = push
+argument_place true false = aside
+argument_place false false = push
+
+-- a call, where there are several of those
+abbrev pub called : Bool → ℕ → List Operand → Destination → Item
+called true r os d = call_aside r os d
+called false r os d = call r os d
+
 -- Branches
 
 -- the test that decides a comparison
@@ -297,7 +321,7 @@ abbrev mutual
   pub value_count : Value → Destination → ℕ
   value_count (source.number n) d = moved_count d
   value_count (source.read x) d = moved_count d
-  value_count (source.call r vs) d = operands_count vs + 1
+  value_count (source.call r vs) d = arguments_count (are_more_pushed (operands_of vs)) vs + 1
   value_count (source.prefixed prefixes.Not v) d = branch_count v false + truth_count d
   value_count (source.prefixed op v) d = if_pushed (alone v) (value_count v push) 0 + 1
   value_count (source.step_before op x) d = 1
@@ -342,11 +366,18 @@ abbrev mutual
   operands_count none = 0
   operands_count (more v vs) = if_pushed (operand_of v vs) (value_count v push) 0 + operands_count vs
 
+  -- what puts the arguments of a call where it finds them
+  pub arguments_count : Bool → Values → ℕ
+  arguments_count several none = 0
+  arguments_count several (more v vs) =
+      if_pushed (operand_of v vs) (value_count v (argument_place several (is_any_pushed (operands_of vs)))) 0
+      + arguments_count several vs
+
   -- a branch by the value
   pub branch_count : Value → Bool → ℕ
   branch_count (source.number n) when = if agrees (is_true n) when then 1 else 0
   branch_count (source.read x) when = 1
-  branch_count (source.call r vs) when = operands_count vs + 1 + 1
+  branch_count (source.call r vs) when = arguments_count (are_more_pushed (operands_of vs)) vs + 1 + 1
   branch_count (source.prefixed prefixes.Not v) when = branch_count v (not when)
   branch_count (source.prefixed op v) when = if_pushed (alone v) (value_count v push) 0 + 1 + 1
   branch_count (source.step_before op x) when = 2
@@ -451,7 +482,9 @@ abbrev mutual
   pub value_items : ℕ → Value → Destination → List Item
   value_items at (source.number n) d = moved (number n) d
   value_items at (source.read x) d = moved (variable x) d
-  value_items at (source.call r vs) d = operands_items at vs ++ call r (operands_of vs) d ∷ []
+  value_items at (source.call r vs) d =
+      arguments_items (are_more_pushed (operands_of vs)) at vs
+      ++ called (are_more_pushed (operands_of vs)) r (operands_of vs) d ∷ []
   value_items at (source.prefixed prefixes.Not v) d =
       truth_items at (branch_count v false) d (λ target. branch_items at v false target)
   value_items at (source.prefixed op v) d =
@@ -530,13 +563,24 @@ abbrev mutual
       if_pushed (operand_of v vs) (value_items at v push) []
       ++ operands_items (at + operand_count v (operand_of v vs)) vs
 
+  -- what puts the arguments of a call where it finds them
+  pub arguments_items : Bool → ℕ → Values → List Item
+  arguments_items several at none = []
+  arguments_items several at (more v vs) =
+      if_pushed (operand_of v vs)
+      (value_items at v (argument_place several (is_any_pushed (operands_of vs)))) []
+      ++ arguments_items several
+      (at + if_pushed (operand_of v vs)
+      (value_count v (argument_place several (is_any_pushed (operands_of vs)))) 0) vs
+
   -- forward to the target if the value is true, or if it is not
   pub branch_items : ℕ → Value → Bool → ℕ → List Item
   branch_items at (source.number n) when target =
       if agrees (is_true n) when then jump target ∷ [] else []
   branch_items at (source.read x) when target = branch_true (variable x) when target ∷ []
   branch_items at (source.call r vs) when target =
-      operands_items at vs ++ call r (operands_of vs) push ∷ branch_true pushed when target ∷ []
+      arguments_items (are_more_pushed (operands_of vs)) at vs
+      ++ called (are_more_pushed (operands_of vs)) r (operands_of vs) push ∷ branch_true pushed when target ∷ []
   branch_items at (source.prefixed prefixes.Not v) when target = branch_items at v (not when) target
   branch_items at (source.prefixed op v) when target =
       if_pushed (alone v) (value_items at v push) []

@@ -1,5 +1,5 @@
 -- Words of proofs: what is written of the parts of an expression.
-use Rattle.std.specs.Prelude.{◌≡◌, ◌+◌, ℕ, if◌then◌else◌, List, [], ◌∷◌, ◌++◌, map}
+use Rattle.std.specs.Prelude.{◌≡◌, ◌+◌, ℕ, Bool, if◌then◌else◌, List, [], ◌∷◌, ◌++◌, map}
 use Rattle.syntax_trees.specs.declared.tree.Binary.{Binary}
 use Rattle.syntax_trees.specs.declared.tree.Comparison.{Comparison}
 use Rattle.syntax_trees.specs.declared.tree.Containment.{Containment}
@@ -9,7 +9,7 @@ use Rattle.meaning.specs.declared.resolved.Value as code_value
 use Rattle.meaning.specs.Resolved.{Value, Values, none, more, value_of, chained, propertied}
 use Rattle.meaning.specs.Resolved as source
 use Rattle.code_values.specs.Items.{Item, Operand, Destination, pushed, push, alone, left_of, if_pushed, value_count}
-use Rattle.code_values.specs.Items.{value_items, operands_items}
+use Rattle.code_values.specs.Items.{value_items, operands_items, arguments_items}
 use Rattle.code_values.specs.Items as items
 use Rattle.code_values.specs.Code.{as_operand, as_destination}
 use Rattle.code_values.specs.declared.item.Operand as code_operand
@@ -114,6 +114,10 @@ WritesPlaced old new o place v = Writes old new (placed (as_destination place) (
 -- what pushes the operands of a list
 abbrev pub WritesOperands : Draft → Draft → List code_value.Value → Type 0
 WritesOperands old new vs = Writes old new (λ n at. operands_items at (values_in vs))
+
+-- what puts the arguments of a call where it finds them
+abbrev pub WritesArguments : Draft → Draft → List code_value.Value → Bool → Type 0
+WritesArguments old new vs several = Writes old new (λ n at. arguments_items several at (values_in vs))
 
 -- right sides that are folded into a flag
 abbrev pub WritesFolded : Draft → Draft → List code_value.Value → Type 0

@@ -171,5 +171,9 @@ pub enum Item<'a> {
     /// A routine, its arguments, and where the word goes that it returns.
     Call(usize, Vec<Operand>, Destination),
 
+    /// The same, where the last operand that is pushed was put aside: it counts as the topmost
+    /// word of the stack.
+    CallAside(usize, Vec<Operand>, Destination),
+
     Return(Operand),
 }

@@ -11,6 +11,6 @@ mod wanted;
 
 pub use draft::{Draft, in_order, lead_back, put, put_branch, written};
 pub use item::{Destination, Item, Operand, Test};
-pub use operand::{MOST_COMPARED, alone, left_of};
+pub use operand::{MOST_COMPARED, alone, is_any_pushed, left_of};
 pub use value::{put_operand, put_value};
 pub use wanted::Wanted;

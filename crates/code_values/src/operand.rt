@@ -5,7 +5,7 @@ ghost use Rattle.meaning.specs.Resolved.{none, more, value_of};
 ghost use Rattle.meaning.specs.Accepted.{count_of};
 ghost use Rattle.meaning.specs.Meaning.{with_prefix};
 ghost use Rattle.code_values.specs.Items as items;
-ghost use Rattle.code_values.specs.Code.{as_operand};
+ghost use Rattle.code_values.specs.Code.{as_operand, as_operands};
 ghost use Rattle.code_values.specs.Writing.{change_links, link_of, values_in, more_in, left_side};
 ghost use Rattle.code_values.specs.Writing.{right_side, AddsOperands, AddsAlone};
 
@@ -282,6 +282,30 @@ pub fn is_pushed(operand: Operand) -> bool
         Operand::Pushed => true,
         Operand::Number(_) | Operand::Variable(_) => false,
     }
+}
+
+/// Whether one of some operands is pushed.
+pub fn is_any_pushed(operands: &[Operand]) -> bool
+    ensures { result ≡ items.is_any_pushed (as_operands operands.now) }
+{
+    for operand in operands {
+        if is_pushed(*operand) {
+            return true;
+        }
+    }
+    false
+}
+
+/// Whether more than one is.
+pub fn are_more_pushed(operands: &[Operand]) -> bool
+    ensures { result ≡ items.are_more_pushed (as_operands operands.now) }
+{
+    for number in 0..operands.len() {
+        if is_pushed(operands[number]) {
+            return is_any_pushed(&operands[number + 1..]);
+        }
+    }
+    false
 }
 
 fn all_in_place(values: &[Value]) -> bool

@@ -4,13 +4,14 @@ ghost use Rattle.std.specs.Prelude.{◌≡◌, true, false, if◌then◌else◌,
 ghost use Rattle.meaning.specs.Resolved as source;
 ghost use Rattle.meaning.specs.Meaning.{is_true};
 ghost use Rattle.code_values.specs.Items as items;
-ghost use Rattle.code_values.specs.Code.{as_destination, as_operand, as_test, item_of};
+ghost use Rattle.code_values.specs.Code.{as_destination, as_operand, as_operands, as_test, item_of};
 ghost use Rattle.code_values.specs.declared.wanted.Wanted.TheVariants.{Branch};
 ghost use Rattle.code_values.specs.Writing.{is_logical, WritesValue, WritesWord, WritesTruth};
 ghost use Rattle.code_values.specs.Writing.{WritesChoice, WritesMoved};
 
 use crate::draft::{Draft, put, put_branch, written};
 use crate::item::{Destination, Item, Operand, Test};
+use crate::operand::is_pushed;
 use crate::wanted::Wanted;
 use meaning::Variable;
 use std::alloc::AllocError;
@@ -235,6 +236,42 @@ pub fn operated<'a>(
             Item::Operate(operator, left, right, destination)
         }
     }
+}
+
+/// Where an argument goes that does not stand in place, where there are several of those, and where
+/// one of those stands behind it: the last of several goes aside.
+pub fn argument_place(several: bool, behind: bool) -> Destination
+    ensures { as_destination result ≡ items.argument_place several behind }
+{
+    if several && !behind {
+        Destination::Aside
+    } else {
+        Destination::Push
+    }
+}
+
+/// A call, where there are several of those.
+pub fn called<'a>(
+    routine: usize,
+    operands: Vec<Operand>,
+    several: bool,
+    destination: Destination,
+) -> Item<'a>
+    ensures { item_of result ≡ items.called several routine (as_operands operands.items)
+        (as_destination destination) }
+{
+    if several {
+        Item::CallAside(routine, operands, destination)
+    } else {
+        Item::Call(routine, operands, destination)
+    }
+}
+
+/// Whether an operand of a call is pushed, or one behind it.
+pub fn are_behind(operand: Operand, behind: bool) -> bool
+    ensures { result ≡ items.if_pushed (as_operand operand) true behind }
+{
+    is_pushed(operand) || behind
 }
 
 /// The test of a comparison.

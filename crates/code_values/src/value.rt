@@ -8,7 +8,7 @@ ghost use Rattle.meaning.specs.Resolved.{assign_entry, contained, property_word,
 ghost use Rattle.meaning.specs.Resolved.{assign_property, assign_property_word};
 ghost use Rattle.code_values.specs.Writing.{link_of, more_in, values_in, WritesValue};
 ghost use Rattle.code_values.specs.ValueWriting.{WritesOperand, WritesPlaced, WritesOperands, WritesFolded};
-ghost use Rattle.code_values.specs.ValueWriting.{WritesLink};
+ghost use Rattle.code_values.specs.ValueWriting.{WritesArguments, WritesLink};
 ghost use Rattle.code_values.specs.ValueWriting.{WritesLinks, WritesComparison, WritesEquality, WritesFirst};
 ghost use Rattle.code_values.specs.ValueWriting.{WritesAssignedEntry, WritesContained, WritesPropertyWord};
 ghost use Rattle.code_values.specs.ValueWriting.{WritesAssignedProperty, WritesAssignedWord};
@@ -17,12 +17,13 @@ ghost use Rattle.code_values.specs.ValueWriting.{WritesProperties};
 use crate::draft::{Draft, put, put_branch, written};
 use crate::item::{Destination, Item, Operand, Test};
 use crate::operand::{
-    alone, are_few, before, first_of, is_pushed, left_of, push_alone, push_operands, side_operands,
+    alone, are_few, are_more_pushed, before, first_of, is_pushed, left_of, push_alone,
+    push_operands, side_operands,
 };
 use crate::parts::{
-    comparison_test, comparison_when, containment_when, equality_when, first_of_and, first_of_or,
-    has_when, is_logical, operated, put_number, put_read, put_step_after, put_step_before,
-    put_truth, put_word, right_place,
+    are_behind, argument_place, called, comparison_test, comparison_when, containment_when,
+    equality_when, first_of_and, first_of_or, has_when, is_logical, operated, put_number, put_read,
+    put_step_after, put_step_before, put_truth, put_word, right_place,
 };
 use crate::several::put_each_same;
 use crate::wanted::Wanted;
@@ -119,6 +120,27 @@ fn put_operands<'a>(draft: &mut Draft<'a>, values: &[Value]) -> Result<(), Alloc
     Ok(())
 }
 
+/// What puts the arguments of a call where it finds them, from left to right.
+#[cycle(values)]
+fn put_arguments<'a>(
+    draft: &mut Draft<'a>,
+    values: &[Value],
+    several: bool,
+) -> Result<(), AllocError>
+    ensures { OnOk result (WritesArguments draft.old draft.new values.now several) }
+{
+    let mut behind = false;
+    for done in 0..values.len() {
+        let number = values.len() - 1 - done;
+        let value = &values[number];
+        let operand = before(value, &values[number + 1..]);
+        let place = argument_place(several, behind);
+        put_right(draft, value, operand, place)?;
+        behind = are_behind(operand, behind);
+    }
+    Ok(())
+}
+
 #[cycle(values)]
 fn put_call<'a>(
     draft: &mut Draft<'a>,
@@ -132,8 +154,9 @@ fn put_call<'a>(
     let destination = put_word(draft, wanted)?;
     let mut operands = Vec::new(draft.alloc);
     push_operands(&mut operands, arguments)?;
-    put(draft, Item::Call(routine, operands, destination))?;
-    put_operands(draft, arguments)?;
+    let several = are_more_pushed(&operands);
+    put(draft, called(routine, operands, several, destination))?;
+    put_arguments(draft, arguments, several)?;
     Ok(())
 }
 

@@ -1,5 +1,5 @@
 -- The items of an expression have 20 bytes less than 32 for each of its tokens, whatever the forms of their branches.
-use Rattle.std.proofs.Common.{ℕ, ◌+◌, ◌-◌, ◌*◌, ◌≤◌, List, [], ◌∷◌, ◌++◌, Bool, true, false, arith}
+use Rattle.std.proofs.Common.{ℕ, ◌+◌, ◌-◌, ◌*◌, ◌≤◌, List, [], ◌∷◌, ◌++◌, length, Bool, true, false, arith}
 use Rattle.std.specs.Prelude.{if◌then◌else◌}
 use Rattle.syntax_trees.specs.declared.tree.Containment.{Containment}
 use Rattle.syntax_trees.specs.declared.tree.Relative.{Relative}
@@ -7,10 +7,11 @@ use Rattle.meaning.specs.Resolved.{Value, Values, none, more}
 use Rattle.meaning.specs.Resolved as source
 use Rattle.meaning.specs.Meaning.{is_true}
 use Rattle.code_values.specs.Items.{Item, pushed, number, variable, Destination, push, into, operands_of, alone}
-use Rattle.code_values.specs.Items.{left_of, if_pushed, branch_true, agrees, operand_count, value_items, operands_items}
+use Rattle.code_values.specs.Items.{Operand, left_of, if_pushed, branch_true, agrees, operand_count, value_items}
+use Rattle.code_values.specs.Items.{are_more_pushed, called, arguments_items}
 use Rattle.code_values.specs.Items.{branch_items, first_of, containment_when}
 use Rattle.code_values.specs.Items as items
-use Rattle.story_sizes.proofs.Most.{most_of, tokens, most_append, if_small, moved_small, after_small, kept_small}
+use Rattle.story_sizes.proofs.Most.{most, most_of, tokens, most_append, if_small, moved_small, after_small, kept_small}
 use Rattle.story_sizes.proofs.Most.{truth_small, operands_length}
 use Rattle.story_sizes.proofs.BoundsOfForms.{Small, AreSmall, two_small, alone_small, prefixed_small, binary_small}
 use Rattle.story_sizes.proofs.BoundsOfForms.{list_none, list_more, compare_small, FirstSmall, equal_small, entry_small}
@@ -146,6 +147,11 @@ assign_property_word_small v p i w sv si sw =
               (sw.value push (m + operand_count i (left_of i w))),
         )
 
+call_small : (several : Bool) (r : ℕ) (os : List Operand) (d : Destination)
+    → most (called several r os d) ≤ 9 + 4 * length os
+call_small true r os d = omega arith
+call_small false r os d = omega arith
+
 mutual
   pub small : (v : Value) → Small v
   small (source.number n) = record {
@@ -159,18 +165,25 @@ mutual
   small (source.read x) =
       record { value = λ d at. omega (arith, moved_small (variable x) d); branch = λ when at t. omega arith }
   small (source.call r vs) = record {
-    value = λ d at. omega (
-      arith,
-      (are_small vs).all at,
-      operands_length vs,
-      most_append (operands_items at vs) (items.call r (operands_of vs) d ∷ []),
-    );
-    branch = λ when at t. omega (
-      arith,
-      (are_small vs).all at,
-      operands_length vs,
-      most_append (operands_items at vs) (items.call r (operands_of vs) push ∷ branch_true pushed when t ∷ []),
-    );
+    value = λ d at.
+        let several = are_more_pushed (operands_of vs) in
+        omega (
+          arith,
+          (are_small vs).arguments several at,
+          operands_length vs,
+          call_small several r (operands_of vs) d,
+          most_append (arguments_items several at vs) (called several r (operands_of vs) d ∷ []),
+        );
+    branch = λ when at t.
+        let several = are_more_pushed (operands_of vs) in
+        omega (
+          arith,
+          (are_small vs).arguments several at,
+          operands_length vs,
+          call_small several r (operands_of vs) push,
+          most_append (arguments_items several at vs)
+              (called several r (operands_of vs) push ∷ branch_true pushed when t ∷ []),
+        );
   }
   small (source.prefixed op v) = prefixed_small op v (small v)
   small (source.step_before op x) = record { value = λ d at. omega arith; branch = λ when at t. omega arith }

@@ -14,7 +14,7 @@ use Rattle.meaning.specs.Accepted.{count_of}
 use Rattle.code_values.specs.Items.{Item, Operand, pushed, number, variable, Destination, push, into, aside, nowhere}
 use Rattle.code_values.specs.Items.{right_place, operated, operand_of, operands_of, alone, left_of}
 use Rattle.code_values.specs.Items.{if_pushed, branch_true, is_direct, same_count, comparison_test, comparison_when, equality_when}
-use Rattle.code_values.specs.Items.{same_items}
+use Rattle.code_values.specs.Items.{same_items, is_any_pushed, argument_place, arguments_items}
 use Rattle.code_values.specs.Items.{value_count, operand_count, operands_count, branch_count, many_count, truth_items}
 use Rattle.code_values.specs.Items.{value_items, operands_items, branch_items, many_items, also_items}
 use Rattle.code_values.specs.Items as items
@@ -28,6 +28,8 @@ pub record Small (v : Value) : Type 0 where
 -- the items of operands, and how many operands there are
 pub record AreSmall (vs : Values) : Type 0 where
   pub all : (at : ℕ) → most_of (operands_items at vs) + 20 * count_of vs ≤ 32 * list_tokens vs
+  pub arguments : (several : Bool) (at : ℕ)
+      → most_of (arguments_items several at vs) + 20 * count_of vs ≤ 32 * list_tokens vs
   pub also : (op : Equality) (when : Bool) (at t : ℕ) → most_of (also_items at op vs when t) ≤ 32 * or_tokens vs + 13
 
 pub two_small : (oa ob : Operand) (xa xb tail : List Item) (na nb : ℕ) → most_of xa + 20 ≤ na → most_of xb + 20 ≤ nb
@@ -124,7 +126,7 @@ binary_small op a b sa sb =
     }
 
 pub list_none : AreSmall none
-list_none = record { all = λ at. omega arith; also = λ op when at t. omega arith }
+list_none = record { all = λ at. omega arith; arguments = λ several at. omega arith; also = λ op when at t. omega arith }
 
 pub list_more : (v : Value) (vs : Values) → Small v → AreSmall vs → AreSmall (more v vs)
 list_more v vs s ss = record {
@@ -135,6 +137,16 @@ list_more v vs s ss = record {
     most_append (if_pushed (operand_of v vs) (value_items at v push) [])
         (operands_items (at + operand_count v (operand_of v vs)) vs),
   );
+  arguments = λ several at.
+      let o = operand_of v vs in
+      let place = argument_place several (is_any_pushed (operands_of vs)) in
+      let rest = at + if_pushed o (value_count v place) 0 in
+      omega (
+        arith,
+        if_small o _ _ (s.value place at),
+        ss.arguments several rest,
+        most_append (if_pushed o (value_items at v place) []) (arguments_items several rest vs),
+      );
   also = λ op when at t. let rest = also_items (at + value_count v push + 1) op vs when t in
       omega (
         arith,

@@ -45,6 +45,7 @@ most (items.case test ns when target) = 13
 most (items.jump target) = 3
 most (items.back target) = 3
 most (items.call r os d) = 9 + 4 * length os
+most (items.call_aside r os d) = 9 + 4 * length os
 most (items.return o) = 4
 most (items.print_character o) = 24
 most (items.print_number o) = 4

@@ -12,7 +12,7 @@ use Rattle.meaning.specs.Limits.{most_arguments}
 use Rattle.code_encoding.specs.Addresses.{Sizes}
 use Rattle.code_encoding.specs.Bytes.{bytes_of_all}
 use Rattle.code_instructions.specs.Instructions.{binary_code, prefix_code, move_code, step_code, character_code}
-use Rattle.code_instructions.specs.Instructions.{call_code, return_code, aside_code}
+use Rattle.code_instructions.specs.Instructions.{call_code, return_code, aside_code, with_last_aside}
 use Rattle.code_objects.specs.ObjectCode.{objects_of, relative_code, is_in_code, has_code, provides_code, give_code}
 use Rattle.code_objects.specs.ObjectCode.{remove_code, print_name_code, property_code, property_size_code}
 use Rattle.code_objects.specs.ObjectCode.{property_word_code, assign_property_code, assign_property_word_code}
@@ -20,6 +20,7 @@ use Rattle.code_objects.specs.ObjectCode.{move_object_code, first_object_code, n
 use Rattle.code_selection.specs.ItemCode.{entry_code, assign_entry_code, read_code}
 use Rattle.code.specs.Bytes.{no_addresses, part_of, parts_of, code_size}
 use Rattle.code.proofs.AddressLengths.{one_length}
+use Rattle.code.proofs.AsideOperands.{aside_length}
 use Rattle.story_sizes.proofs.Most.{most, most_of}
 use Rattle.story_sizes.proofs.SizesOfInstructions.{operand_few}
 use Rattle.story_sizes.proofs.SizesOfOperands.{plain_few, label_few}
@@ -152,6 +153,15 @@ module _ (sizes : Sizes) where
         no_text (call_code (slice_index no_addresses.routines r) given d),
         call_few (slice_index no_addresses.routines r) given d,
         taken_length most_arguments os,
+      )
+  part_few (items.call_aside r os d) n rest =
+      let given = take most_arguments (with_last_aside os) in
+      omega (
+        arith,
+        no_text (call_code (slice_index no_addresses.routines r) given d),
+        call_few (slice_index no_addresses.routines r) given d,
+        taken_length most_arguments (with_last_aside os),
+        aside_length os,
       )
   part_few (items.return o) n rest = omega
       (arith, no_text (return_code o ∷ []), one_length (return_code o), return_few o)

@@ -1,6 +1,8 @@
-use Rattle.std.proofs.Common.{map}
+use Rattle.std.proofs.Common.{List, map, ap, ◌∙◌}
 use Rattle.meaning.specs.Resolved.{value_of, values_of}
-use Rattle.code_values.specs.Code.{as_destination}
+use Rattle.code_values.specs.Code.{as_destination, as_operands}
+use Rattle.code_values.specs.Items.{are_more_pushed}
+use Rattle.code_values.specs.declared.item.Operand as code_operand
 use Rattle.code_values.specs.Writing.{link_of}
 use Rattle.code_values.proofs.OperationForms.{chain_more, entry_more, assigned_entry_link, compare_more}
 use Rattle.code_values.proofs.OperationForms.{assigned_entry_more}
@@ -10,6 +12,7 @@ use Rattle.code_values.proofs.CodeForms.{assigned_nowhere, assigned_pushed, assi
 use Rattle.code_values.proofs.CodeForms.{call_written, and_written}
 use Rattle.code_values.proofs.CodeForms.{or_written, operation_written, comparison_written, few_written, many_written}
 use Rattle.code_values.proofs.CodeForms.{placed_written}
+use Rattle.code_values.proofs.Arguments.{argument_round, pushed_round}
 use Rattle.code_values.proofs.ListRounds.{folded_round, operand_round, link_round, links_done}
 use Rattle.code_values.proofs.ObjectForms.{assigned_word_link, assigned_word_more}
 use Rattle.code_values.proofs.Properties.{property_more}
@@ -43,8 +46,11 @@ put_assigned-returns-in_ok-put_value-in-Aside t c =
 
 pub put_call-returns : goal.put_call-returns
 put_call-returns t c = call_written _ _ _ _ c.args.wanted (as_destination c.in_ok-destination.destination)
-    c.args.routine (values_of (map value_of c.args.arguments.now)) _ _ c.new-operands.ensures.items
-    c.in_ok-destination.ensures c.in_ok-push_operands.ensures c.in_ok-put.ensures c.in_ok-put_operands.ensures
+    c.args.routine (values_of (map value_of c.args.arguments.now)) _ _ _ _ c.new-operands.ensures.items
+    c.in_ok-destination.ensures c.in_ok-push_operands.ensures
+    (c.are_more_pushed-several.ensures ∙ ap (λ (l : List code_operand.Operand). are_more_pushed (as_operands l))
+    c.deref.ensures.value)
+    c.called.ensures c.in_ok-put.ensures c.in_ok-put_arguments.ensures
 
 pub put_prefixed-returns-in_ok-put_value-in-Not : goal.put_prefixed-returns-in_ok-put_value-in-Not
 put_prefixed-returns-in_ok-put_value-in-Not t c = not_more_at _ _ _ c.args.wanted c.in_ok-when-in-Not.when
@@ -111,6 +117,15 @@ put_folded-loop-done-preserved t c = folded_round _ _ _ _ c.args.values.now c.lo
 pub put_operands-loop-done-preserved : goal.put_operands-loop-done-preserved
 put_operands-loop-done-preserved t c = operand_round _ _ _ c.args.values.now c.loop-done.done _ _ c.loop-done-test.true
     c.index-values-number.is c.before-operand.ensures c.loop-done.invariant c.in_ok-put_operand.ensures
+
+pub put_arguments-loop-done-preserved : goal.put_arguments-loop-done-preserved
+put_arguments-loop-done-preserved t c = (
+  argument_round c.args.values.now c.loop-done.done _ _ c.loop-done.behind c.loop-done-test.true
+      c.index-values-number.is c.before-operand.ensures c.loop-done.invariant.1 _ _ _ c.args.several _
+      c.argument_place-place.ensures c.loop-done.invariant.0 c.in_ok-put_right.ensures,
+  pushed_round c.args.values.now c.loop-done.done _ _ c.loop-done.behind c.loop-done-test.true
+      c.index-values-number.is c.before-operand.ensures c.loop-done.invariant.1 _ c.are_behind-behind.ensures,
+)
 
 pub put_links-loop-done-preserved : goal.put_links-loop-done-preserved
 put_links-loop-done-preserved t c = link_round _ _ _ c.args.wanted _ _ c.args.links.now c.loop-done.done _

@@ -1,7 +1,7 @@
-use Rattle.std.proofs.Common.{◌-◌, ◌+◌, ◌*◌, max, [], length, map, drop}
+use Rattle.std.proofs.Common.{◌≡◌, ◌-◌, ◌+◌, ◌*◌, max, [], length, map, drop}
 use Rattle.meaning.specs.declared.resolved.Value.{size-Value}
 use Rattle.meaning.specs.Resolved.{value_of, values_of}
-use Rattle.code_values.specs.Items.{operands_items}
+use Rattle.code_values.specs.Items.{operands_of, is_any_pushed, operands_items, arguments_items}
 use Rattle.code_values.specs.Writing.{written_in, link_of, WritesBefore}
 use Rattle.code_values.specs.ValueWriting.{folded_items, ReducesLinks}
 use Rattle.code_values.proofs.value.+values.Given as goal
@@ -9,6 +9,12 @@ use Rattle.code_values.proofs.value.+values.Given as goal
 abbrev pub invariant-put_operands-loop-done : goal.invariant-put_operands-loop-done
 invariant-put_operands-loop-done l = WritesBefore (written_in l.initial.draft) (written_in l.draft)
     (λ n at. operands_items at (values_of (map value_of (drop (length l.values - l.done) l.values))))
+
+abbrev pub invariant-put_arguments-loop-done : goal.invariant-put_arguments-loop-done
+invariant-put_arguments-loop-done l =
+    WritesBefore (written_in l.initial.draft) (written_in l.draft) (λ n at. arguments_items l.several at
+    (values_of (map value_of (drop (length l.values - l.done) l.values))))
+    × (l.behind ≡ is_any_pushed (operands_of (values_of (map value_of (drop (length l.values - l.done) l.values)))))
 
 abbrev pub invariant-put_folded-loop-done : goal.invariant-put_folded-loop-done
 invariant-put_folded-loop-done l = WritesBefore (written_in l.initial.draft) (written_in l.draft)
@@ -32,6 +38,9 @@ decreases-put_right l = 8 * goal.size-put_right l + 1
 
 abbrev pub decreases-put_operands : goal.decreases-put_operands
 decreases-put_operands l = 8 * goal.size-put_operands l + 2
+
+abbrev pub decreases-put_arguments : goal.decreases-put_arguments
+decreases-put_arguments l = 8 * goal.size-put_arguments l + 2
 
 abbrev pub decreases-put_call : goal.decreases-put_call
 decreases-put_call l = 8 * goal.size-put_call l + 3
