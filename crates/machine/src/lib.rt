@@ -2,6 +2,7 @@
 #![tactic(auto)]
 
 mod load;
+mod slow_bytes;
 mod turn;
 
 pub use load::LoadFault;
