@@ -1,8 +1,8 @@
 -- What a turn holds: its pages, their values and the flags.
 use Rattle.std.proofs.Common.{◌≡◌, ℕ, ◌+◌, ◌*◌, ◌/◌, ◌<◌, ◌≤◌, Bool, true, false, ◌||◌, eqb, List, [], ◌∷◌, ◌++◌}
 use Rattle.std.proofs.Common.{length, map, get_or, set, refl, ap, sym, subst, ◌∙◌, arith, slice_index}
-use Rattle.std.specs.List.{range_with_len, IsDistinct, zip}
-use Rattle.std.proofs.lemmas.List.{length-set}
+use Rattle.std.specs.List.{list_any, range_with_len, IsDistinct, zip}
+use Rattle.std.proofs.lemmas.List.{length-set, take-append-drop}
 use Rattle.std.proofs.lemmas.List.Elements.{All-nil}
 use Rattle.std.proofs.lemmas.Bool.{eq-eqb}
 use Rattle.std.proofs.lemmas.List.Folds.{list_any-append}
@@ -10,11 +10,12 @@ use Rattle.journal.specs.Recording.{Recording}
 use Rattle.std.proofs.lemmas.List.FromFn.{length-map-range_with_len}
 use Rattle.journal.specs.Swap.{back, Fits, FitsCell}
 use Rattle.journal.specs.Pages.{IsAdded, IsHeld, IsMarked, IsPaged, cells_of, keeps, packed_size, page_cells, page_len}
-use Rattle.journal.specs.Pages.{values_of}
+use Rattle.journal.specs.Pages.{KeepsCells, put_run, values_of}
 use Rattle.journal.proofs.Flags.{marked_push}
 use Rattle.journal.proofs.Packed.{has_values, length-values_of, values_push}
 use Rattle.journal.proofs.Pages.{HasValues, back_kept, back_kept_page, fits_push, kept_cell, or_true, page_len_is}
 use Rattle.journal.proofs.Pages.{paged_push}
+use Rattle.journal.proofs.Runs.{length-put_run, put_run_next}
 
 no_pages : (n : ℕ) → IsPaged n [] []
 unfolding IsDistinct
@@ -68,6 +69,32 @@ beginning_put c d pages packed i v size lt kept e =
     ∙ ap (λ (t : List ℕ). (back t (zip (cells_of (length c) pages) values)).cells) e
     ∙ back_kept c (cells_of (length c) pages) values i v (length-values_of (length c) pages packed size)
     (kept_cell (length c) pages i lt kept)
+
+-- words written to cells that are kept leave what going back gives as it was
+back_kept_run : (c cs ws vs : List ℕ) (first : ℕ) → length ws ≡ length cs → first + length vs ≤ length c
+    → ((k : ℕ) → first ≤ k → k < first + length vs → list_any (eqb k) cs ≡ true)
+    → (back (put_run c first vs) (zip cs ws)).cells ≡ (back c (zip cs ws)).cells
+back_kept_run c cs ws [] first same le kept =
+    ap (λ (t : List ℕ). (back t (zip cs ws)).cells) (take-append-drop first c)
+back_kept_run c cs ws (v ∷ vs) first same le kept =
+    ap (λ (t : List ℕ). (back t (zip cs ws)).cells) (sym (put_run_next c vs v first (omega (arith, le))))
+    ∙ back_kept_run (set c first v) cs ws vs (first + 1) same (omega (arith, le, length-set c first v))
+    (λ k low high. kept k (omega (arith, low)) (omega (arith, high)))
+    ∙ back_kept c cs ws first v same (kept first (omega arith) (omega arith))
+
+-- the beginning, after words were written to cells of pages that are kept
+pub beginning_run : (c d pages packed : List ℕ) (first : ℕ) (vs : List ℕ)
+    → length packed ≡ packed_size (length c) pages → first + length vs ≤ length c
+    → KeepsCells pages first (length vs) → d ≡ put_run c first vs
+    → (back d (zip (cells_of (length d) pages) (values_of (length d) pages packed))).cells
+    ≡ (back c (zip (cells_of (length c) pages) (values_of (length c) pages packed))).cells
+beginning_run c d pages packed first vs size le kept e =
+    let values : List ℕ = values_of (length c) pages packed in
+    let long : length d ≡ length c = ap (λ (t : List ℕ). length t) e ∙ length-put_run c vs first le in
+    ap (λ (t : ℕ). (back d (zip (cells_of t pages) (values_of t pages packed))).cells) long
+    ∙ ap (λ (t : List ℕ). (back t (zip (cells_of (length c) pages) values)).cells) e
+    ∙ back_kept_run c (cells_of (length c) pages) values vs first (length-values_of (length c) pages packed size) le
+    (λ k low high. kept_cell (length c) pages k (omega (arith, high, le)) (kept k low high))
 
 abbrev pub recording : {C : Type 0} → C → List ℕ → List ℕ → Recording C
 recording s b k = record { store = s; beginning = b; kept = k }

@@ -1,5 +1,5 @@
 -- The pages of a store: page p has the cells 64p to 64p + 63, as far as the store goes.
-use Rattle.std.specs.Prelude.{◌≡◌, ℕ, ◌+◌, ◌-◌, ◌*◌, ◌<◌, ◌≤◌, min, nat_lt, Bool, false, eqb, List, [], ◌∷◌}
+use Rattle.std.specs.Prelude.{◌≡◌, ℕ, ◌+◌, ◌-◌, ◌*◌, ◌/◌, ◌<◌, ◌≤◌, min, nat_lt, Bool, true, false, eqb, List, [], ◌∷◌}
 use Rattle.std.specs.Prelude.{◌++◌, length, map, take, drop, slice_index, slice_index_or, if◌then◌else◌}
 use Rattle.std.specs.List.{All, IsDistinct, flat_map, list_any, range_with_len, zip}
 use Rattle.journal.specs.Swap.{Fits}
@@ -39,6 +39,10 @@ put_run cells first values = take first cells ++ (values ++ drop (length values)
 -- each value is within the bound of its cell, where the first cell is this
 abbrev pub AreWithin : (ℕ → ℕ) → ℕ → List ℕ → Type 0
 AreWithin bounds first values = (k : ℕ) → k < length values → slice_index values k ≤ bounds (first + k)
+
+-- each of so many cells, from one on, may hold any word
+abbrev pub HoldWords : (ℕ → ℕ) → ℕ → ℕ → Type 0
+HoldWords bounds first count = (k : ℕ) → first ≤ k → k < first + count → bounds k ≡ 65535
 
 -- how many bytes a record holds for page p, of which the store has so many cells
 unfoldable pub packed_len : ℕ → ℕ → ℕ
@@ -89,6 +93,10 @@ page_entries p values = zip (range_with_len (p * whole_page) (length values)) va
 -- whether a page is among them
 abbrev pub keeps : List ℕ → ℕ → Bool
 keeps pages p = list_any (eqb p) pages
+
+-- the page of each of so many cells, from one on, is among them
+abbrev pub KeepsCells : List ℕ → ℕ → ℕ → Type 0
+KeepsCells pages first count = (k : ℕ) → first ≤ k → k < first + count → keeps pages (k / whole_page) ≡ true
 
 -- the first pages, whose flags stand in place
 abbrev pub pages_in_place : ℕ

@@ -1,7 +1,7 @@
 //! What a store has to offer for its writes to be recorded.
 
 ghost use Rattle.std.specs.Prelude.{◌≡◌, ℕ, ◌+◌, ◌*◌, ◌^◌, ◌<◌, ◌≤◌, List, length, slice_set, slice_index};
-ghost use Rattle.journal.specs.Pages.{AreWithin, HoldsBytes, put_run, run_of, whole_page, word_pages};
+ghost use Rattle.journal.specs.Pages.{AreWithin, HoldWords, HoldsBytes, put_run, run_of, whole_page, word_pages};
 
 /// A store of numbered cells. Each holds a number from 0 to a bound of its own, at most 65,535.
 /// How many cells there are, and their bounds, stay the same under every write. Behind the first
@@ -38,6 +38,25 @@ pub trait Cells {
         requires cell { i < length (cells self.old) }
         requires within { v ≤ bounds self.old i }
         ensures cells { cells self.new ≡ slice_set (cells self.old) i v }
+        ensures bounds { bounds self.new ≡ bounds self.old }
+        ensures fixed { fixed self.new ≡ fixed self.old };
+
+    /// Writes a word into a cell that may hold any, and changes nothing else: the store need not ask
+    /// which cell it is.
+    fn put_word(&mut self, i: usize, v: u16)
+        requires cell { i < length (cells self.old) }
+        requires word { bounds self.old i ≡ 65535 }
+        ensures cells { cells self.new ≡ slice_set (cells self.old) i v }
+        ensures bounds { bounds self.new ≡ bounds self.old }
+        ensures fixed { fixed self.new ≡ fixed self.old };
+
+    /// Writes words, at least one, into cells that follow each other and may hold any, and changes
+    /// nothing else.
+    fn put_words(&mut self, first: usize, values: &[u16])
+        requires some { 0 < length values.now }
+        requires cells { first + length values.now ≤ length (cells self.old) }
+        requires words { HoldWords (bounds self.old) first (length values.now) }
+        ensures cells { cells self.new ≡ put_run (cells self.old) first values.now }
         ensures bounds { bounds self.new ≡ bounds self.old }
         ensures fixed { fixed self.new ≡ fixed self.old };
 

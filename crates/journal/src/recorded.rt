@@ -5,7 +5,7 @@ ghost use Rattle.std.specs.Borrow.{sem, Lends};
 ghost use Rattle.journal.specs.contracts.recorded.Recorded.{the_row};
 ghost use Rattle.journal.specs.Recording.{IsNothingKept};
 ghost use Rattle.journal.specs.Swap.{back, entry_cells, entry_values};
-ghost use Rattle.journal.specs.Pages.{IsAdded, IsMarked, keeps, page_values, with_page, whole_page};
+ghost use Rattle.journal.specs.Pages.{HoldWords, IsAdded, IsMarked, KeepsCells, keeps, page_values, put_run, with_page, whole_page};
 ghost use Rattle.journal.specs.Stores.{FitsIn, IsPageWithin, Writes, begun, kept_cells};
 
 use crate::cells::Cells;
@@ -155,6 +155,40 @@ impl<C: Cells> Recorded<C> {
         ensures fixed { C.fixed self.new.store ≡ C.fixed self.old.store }
     {
         self.store.put(cell, value);
+    }
+
+    /// Writes a word into a cell that may hold any, of a page that the turn keeps. It takes no
+    /// memory.
+    #[inline(always)]
+    pub fn overwrite_word(&mut self, cell: usize, value: u16)
+        requires cell { cell < length (C.cells self.old.store) }
+        requires word { C.bounds self.old.store cell ≡ 65535 }
+        requires kept { keeps self.old.kept (cell / whole_page) ≡ true }
+        ensures cells { Writes C.Cells self.old.store self.new.store cell value }
+        ensures kept { self.new.kept ≡ self.old.kept }
+        ensures beginning { self.new.beginning ≡ self.old.beginning }
+        ensures bounds { C.bounds self.new.store ≡ C.bounds self.old.store }
+        ensures fixed { C.fixed self.new.store ≡ C.fixed self.old.store }
+    {
+        self.store.put_word(cell, value);
+    }
+
+    /// Writes words, at least one, into cells that follow each other and may hold any, of pages that
+    /// the turn keeps. It takes no memory.
+    #[inline(always)]
+    pub fn overwrite_words(&mut self, first: usize, values: &[u16])
+        requires some { 0 < length values.now }
+        requires cells { first + length values.now ≤ length (C.cells self.old.store) }
+        requires words { HoldWords (C.bounds self.old.store) first (length values.now) }
+        requires kept { KeepsCells self.old.kept first (length values.now) }
+        ensures cells { C.cells self.new.store
+            ≡ put_run (C.cells self.old.store) first values.now }
+        ensures kept { self.new.kept ≡ self.old.kept }
+        ensures beginning { self.new.beginning ≡ self.old.beginning }
+        ensures bounds { C.bounds self.new.store ≡ C.bounds self.old.store }
+        ensures fixed { C.fixed self.new.store ≡ C.fixed self.old.store }
+    {
+        self.store.put_words(first, values);
     }
 
     /// Whether the turn keeps a page: `put` then takes no memory there, and `put_kept` writes. Page

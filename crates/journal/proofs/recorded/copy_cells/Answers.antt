@@ -1,4 +1,4 @@
-use Rattle.std.proofs.Common.{◌≡◌, ◌*◌, ◌≤◌, ℕ, List, arith, length, slice_index, take}
+use Rattle.std.proofs.Common.{◌*◌, ◌≤◌, ℕ, List, arith, length, slice_index, take}
 use Rattle.std.proofs.lemmas.List.FromFn.{length-map-range_with_len}
 use Rattle.std.proofs.lemmas.Result.{on_ok_weaker}
 use Rattle.journal.specs.Pages.{page_values}
