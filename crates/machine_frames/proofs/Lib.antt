@@ -11,8 +11,4 @@ pub mod Storing
 pub mod Entering
 pub mod Leaving
 pub mod Beginning
-pub mod Lines
-pub mod Filling
-pub mod Words
-pub mod Buffers
 pub mod Exchanging

@@ -4,4 +4,3 @@ pub mod States
 pub mod Running
 pub mod Went
 pub mod Playing
-pub mod Lines

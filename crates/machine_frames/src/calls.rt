@@ -135,7 +135,7 @@ pub fn variable_cell(result_variable: Option<u8>) -> u16
 
 /// The variable of a result, by its cell.
 #[inline]
-pub(crate) fn variable_in(cell: u16) -> Option<u8>
+pub fn variable_in(cell: u16) -> Option<u8>
     ensures { result ≡ variable_of cell }
 {
     if cell < NO_VARIABLE {

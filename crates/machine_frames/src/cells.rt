@@ -30,11 +30,7 @@ pub fn long(store: &Recorded<Store>, i: usize) -> u32
 
 /// Writes values to cells that follow each other, all before memory.
 #[inline]
-pub(crate) fn put_all(
-    store: &mut Recorded<Store>,
-    at: usize,
-    values: &[u16],
-) -> Result<(), NoMemory>
+pub fn put_all(store: &mut Recorded<Store>, at: usize, values: &[u16]) -> Result<(), NoMemory>
     requires size { at + length values.now ≤ length store.old.store.cells }
     requires words { at + length values.now ≤ words_before_memory }
     ensures cells { OnOk result (Puts store.old store.new at values.now) }

@@ -4,12 +4,9 @@
 mod calls;
 mod cells;
 mod end;
-mod fill;
 pub mod layout;
-mod line;
 mod memory;
 mod operands;
-mod parse;
 mod results;
 mod stack;
 mod store;
@@ -17,10 +14,10 @@ mod variables;
 
 pub use calls::{
     enter, has_argument, is_code, leave, test_calls, test_return, test_routine, variable_cell,
+    variable_in,
 };
-pub use cells::{cell, long, program_counter, set_program_counter};
+pub use cells::{cell, long, program_counter, put_all, set_program_counter};
 pub use end::End;
-pub use line::{give_line, test_parse_buffer, test_text_buffer, wait};
 pub use memory::{
     is_readable, is_readable_word, is_writable, is_writable_word, read_byte, read_word, write_byte,
     write_word,

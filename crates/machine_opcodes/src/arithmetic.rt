@@ -11,7 +11,7 @@ use machine_frames::{End, Store, store_result, test_result};
 use zcore::{Fault, Header, Next, Place};
 
 /// From here on a word stands for itself less 65,536 (section 2.2).
-pub(crate) const NEGATIVE: u16 = 0x8000;
+pub const NEGATIVE: u16 = 0x8000;
 
 /// The condition of `je`: whether a word equals one of others.
 #[inline]

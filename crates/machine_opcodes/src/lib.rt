@@ -13,7 +13,9 @@ mod printing;
 mod transcript;
 mod variables;
 
-pub use arithmetic::{divide, equals_any, give_result, modulo, quotient, remainder, signed_less};
+pub use arithmetic::{
+    NEGATIVE, divide, equals_any, give_result, modulo, quotient, remainder, signed_less,
+};
 pub use calls::{call_packed, give_back, return_popped, unpacked};
 pub use ending::Ending;
 pub use jumps::{branch_on, branch_target, check_argument_count, jump, jump_target, test_branch};

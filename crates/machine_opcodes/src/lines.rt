@@ -5,7 +5,8 @@ ghost use Rattle.machine_frames.specs.States.{IsStoreOf};
 ghost use Rattle.machine_frames.specs.Went.{Went};
 
 use journal::Recorded;
-use machine_frames::{End, Store, test_parse_buffer, test_result, test_text_buffer, wait};
+use machine_frames::{End, Store, test_result};
+use machine_lines::{test_parse_buffer, test_text_buffer, wait};
 use zcore::{Header, Next};
 
 /// Waits for a line: `aread`.

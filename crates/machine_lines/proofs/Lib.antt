@@ -1,0 +1,4 @@
+pub mod Lines
+pub mod Filling
+pub mod Words
+pub mod Buffers

@@ -1,0 +1,24 @@
+use Rattle.std.proofs.Common.{◌≡◌, ◌*◌, ap, ◌∙◌, arith, length, slice_index}
+use Rattle.std.proofs.lemmas.List.{length-take-le}
+use Rattle.machine_frames.specs.Contents.{memory_of}
+use Rattle.machine_lines.proofs.Lines.{base_kept}
+use Rattle.machine_lines.proofs.Buffers.{line_filled}
+use Rattle.machine_lines.proofs.line.fill_buffers.Goals as goal
+
+pub fill_counted-requires-3-clause-room : goal.fill_counted-requires-3-clause-room
+fill_counted-requires-3-clause-room c =
+    let base = base_kept c.args.store.now c.fill_counted-2.new.store c.in_ok-fill_counted.ensures.filled.goes_on in
+    let size : length c.parse-words.new.bytes ≡ 1020 = c.parse-words.array_long in
+    let long = length-take-le (4 * c.parse-words.result) c.parse-words.new.bytes
+    (omega (arith, c.parse-words.type_inv)) in
+    let e = ap (λ m. slice_index m c.args.parse_buffer) (c.memory-memory.ensures ∙ ap memory_of c.store.ensures) in
+    omega (arith, base, long, e, c.parse-words.ensures.few, c.requires.words_room c.if-parse_buffer-eq0.false)
+
+pub returns-clause-filled : goal.returns-clause-filled
+returns-clause-filled c =
+    line_filled c.args.store.now c.fill_counted-2.new.store c.fill_counted-3.new.store c.memory-memory.result.now
+    c.args.header.now.dictionary.address c.args.text_buffer c.args.parse_buffer _ c.args.letters.now _
+    c.fill_counted-3.result
+    c.if-parse_buffer-eq0.false (c.memory-memory.ensures ∙ ap memory_of c.store.ensures)
+    c.requires.store.headed.dictionary c.parse-words.ensures.count c.parse-words.ensures.bytes
+    c.in_ok-fill_counted.ensures.filled c.fill_counted-3.ensures.filled

@@ -1,0 +1,10 @@
+use Rattle.std.proofs.Common.{◌≡◌, take, map, length}
+use Rattle.ztext.specs.Text.{lower_case}
+use Rattle.machine_lines.proofs.line.lower.Given as goal
+
+abbrev pub invariant-loop-i : goal.invariant-loop-i
+invariant-loop-i l = record {
+  so_far : take l.i l.letters ≡ map lower_case (take l.i l.line);
+  long : length l.letters
+      ≡ 255;
+}

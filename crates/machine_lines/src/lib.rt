@@ -1,0 +1,9 @@
+//! A line that a running story waits for, and its words: the tests of its buffers, and what is
+//! written to them.
+#![tactic(auto)]
+
+mod fill;
+mod line;
+mod parse;
+
+pub use line::{give_line, test_parse_buffer, test_text_buffer, wait};
