@@ -21,14 +21,14 @@ use Rattle.code_values.specs.Items.{Destination}
 use Rattle.code_values.specs.Items as items
 use Rattle.code_encoding.specs.Addresses.{Addresses, fault_address}
 use Rattle.code_encoding.specs.Instructions.{plain, branching, fail, takes, operands, number_of, temporary, constant}
-use Rattle.code_encoding.specs.Instructions.{giving, result_in, pulled_into, store}
+use Rattle.code_encoding.specs.Instructions.{giving, result_in, pulled_into, store, aside_variable}
 use Rattle.code_encoding.specs.Bytes.{bytes_of_all}
 use Rattle.code_instructions.specs.Instructions.{calling, call_operation, call_result, call_code, divided}
-use Rattle.code_instructions.specs.Instructions.{character_code, behind_comparison, tested_between, is_between}
+use Rattle.code_instructions.specs.Instructions.{aside_global, character_code, behind_comparison, tested_between, is_between}
 use Rattle.code_objects.specs.ObjectCode.{tests_in, tested_in, at_tested, assigned_takes, assigned_word, passed_on}
 use Rattle.code_selection.specs.ItemCode.{entries_in, load_operation, store_operation, at_index, first_byte}
 use Rattle.code_selection.specs.ItemCode.{tested_first, letters_in, words_in, line_code, read_code, entry_code}
-use Rattle.code_selection.specs.ItemCode.{assign_entry_code}
+use Rattle.code_selection.specs.ItemCode.{assign_entry_code, entry_aside_code, assign_entry_aside_code}
 
 -- Lists of instructions
 
@@ -208,21 +208,19 @@ entry_same a b width size x y o d =
     load : ℕ → Operand → List Instruction
     load place i = giving (load_operation width) (Large place ∷ i ∷ []) (result_in d) ∷ []
 
-pub assign_same : (a b : Addresses) (width : Width) (size x y : ℕ) (o q : items.Operand) (d : Destination)
-    → length (bytes_of_all (assign_entry_code a width size x o q d))
-    ≡ length (bytes_of_all (assign_entry_code b width size y o q d))
-assign_same a b width size x y o q d =
-    let count = entries_in width size in
-    omega (
-      arith,
-      all_length (assigned_takes q) (at_index a count o (store x)),
-      all_length (assigned_takes q) (at_index b count o (store y)),
-      at_same a b causes.IndexOutOfRange 0 count o (store x) (store y) stores,
-    )
-  where
-    word : Operand
-    word = assigned_word q
+-- an index that was put aside is a variable of the compiler
+pub entry_aside_same : (a b : Addresses) (width : Width) (size x y : ℕ) (d : Destination)
+    → length (bytes_of_all (entry_aside_code a width size x d)) ≡ length (bytes_of_all (entry_aside_code b width size y d))
+entry_aside_same a b width size x y d = entry_same a b width size x y (items.variable aside_global) d
 
+stored_same : (a b : Addresses) (width : Width) (size x y : ℕ) (o : items.Operand) (word : Operand) (d : Destination)
+    → length (bytes_of_all (at_index a (entries_in width size) o (λ i.
+    plain (store_operation width) (Large x ∷ i ∷ word ∷ []) ∷ passed_on d word)))
+    ≡ length (bytes_of_all (at_index b (entries_in width size) o (λ i.
+    plain (store_operation width) (Large y ∷ i ∷ word ∷ []) ∷ passed_on d word)))
+stored_same a b width size x y o word d =
+    at_same a b causes.IndexOutOfRange 0 (entries_in width size) o (store x) (store y) stores
+  where
     store : ℕ → Operand → List Instruction
     store place i = plain (store_operation width) (Large place ∷ i ∷ word ∷ []) ∷ passed_on d word
 
@@ -235,6 +233,30 @@ assign_same a b width size x y o q d =
       one_length (plain (store_operation width) (Large y ∷ i ∷ word ∷ [])),
       same_call (store_operation width) (i ∷ word ∷ []) None x y,
     )
+
+pub assign_same : (a b : Addresses) (width : Width) (size x y : ℕ) (o q : items.Operand) (d : Destination)
+    → length (bytes_of_all (assign_entry_code a width size x o q d))
+    ≡ length (bytes_of_all (assign_entry_code b width size y o q d))
+assign_same a b width size x y o q d =
+    omega (
+      arith,
+      all_length (assigned_takes q) (at_index a (entries_in width size) o (store x)),
+      all_length (assigned_takes q) (at_index b (entries_in width size) o (store y)),
+      stored_same a b width size x y o (assigned_word q) d,
+    )
+  where
+    store : ℕ → Operand → List Instruction
+    store place i =
+        plain (store_operation width) (Large place ∷ i ∷ assigned_word q ∷ []) ∷ passed_on d (assigned_word q)
+
+pub assign_aside_same : (a b : Addresses) (width : Width) (size x y : ℕ) (o q : items.Operand) (d : Destination)
+    → length (bytes_of_all (assign_entry_aside_code a width size x o q d))
+    ≡ length (bytes_of_all (assign_entry_aside_code b width size y o q d))
+assign_aside_same a b width size x y o items.pushed d = stored_same a b width size x y o (Variable aside_variable) d
+assign_aside_same a b width size x y o (items.number k) d =
+    stored_same a b width size x y (items.variable aside_global) (constant k) d
+assign_aside_same a b width size x y o (items.variable z) d =
+    stored_same a b width size x y (items.variable aside_global) (Variable (number_of z)) d
 
 -- Lines
 

@@ -1,6 +1,6 @@
 -- Calls whose last pushed argument was put aside.
 use Rattle.std.proofs.Common.{◌≡◌, ℕ, ◌+◌, ◌<◌, ◌≤◌, List, [], ◌∷◌, ◌++◌, length, slice_index, Option, Some, None, true}
-use Rattle.std.proofs.Common.{refl, sym, ap, ◌∙◌, subst, arith}
+use Rattle.std.proofs.Common.{refl, ap, subst, arith}
 use Rattle.std.specs.List.{All, flat_map}
 use Rattle.std.proofs.lemmas.List.{take_all}
 use Rattle.zcore.specs.Instruction.{bytes_of}
@@ -12,28 +12,16 @@ use Rattle.code_encoding.specs.Instructions.{takes, aside_variable}
 use Rattle.code_instructions.specs.Instructions.{calling, call_code, with_last_aside}
 use Rattle.code.proofs.Behind.{Holds}
 use Rattle.code.proofs.Play.{HoldsAside}
-use Rattle.code.proofs.Memory.{word_of}
-use Rattle.code.proofs.Parts.{global_reads, ReadsVariable}
 use Rattle.code.proofs.ItemOperands.{by_operands, gives_count, gives_length, few_pushed, GivesOperands}
-use Rattle.code.proofs.Arriving.{Running, at, around, here, LedFrom, code_here, code_held, situation_here, ArrivesAt}
-use Rattle.code.proofs.Temporaries.{scratch_here}
+use Rattle.code.proofs.Arriving.{Running, at, here, LedFrom, code_here, code_held, situation_here, ArrivesAt}
 use Rattle.code.proofs.Taking.{taken_by, apart}
-use Rattle.code.proofs.Delivering.{last_same}
+use Rattle.code.proofs.Delivering.{still_aside}
 use Rattle.code.proofs.Alone.{IsOperandHere, IsHere}
 use Rattle.code.proofs.AsideOperands.{aside_length, moved, with_aside_here, is_read, same_words, aside_variables}
 use Rattle.code.proofs.Calling.{entered_led}
 
 module _ (c : Running) where
   open c use {story, a, p, accepted, holds, full, m, count, counts, routine, place, callers, locals, world, good}
-
-  -- the word is still in its variable
-  still_aside : (y : ℕ) (other : List ℕ) → HoldsAside story m (Some y)
-      → word_of other aside_variable ≡ word_of m aside_variable
-      → ReadsVariable (around c) other locals aside_variable y
-  still_aside y other held same =
-      subst (λ w. ReadsVariable (around c) other locals aside_variable w)
-      (same ∙ sym (last_same c m (scratch_here c)) ∙ held y refl)
-      (global_reads (around c) other locals aside_variable (omega arith) (omega arith))
 
   called_aside : (r : ℕ) (os : List items.Operand) (d : Destination) (y : ℕ) (words vs rest : List ℕ)
       → r < length p.routines
@@ -54,7 +42,7 @@ module _ (c : Running) where
       (subst (λ is. Holds m (here c) (flat_map bytes_of is)) code (code_held c item stands)) in
       let taken = taken_by c s named words vs rest
       (λ other scratch unwritten. aside_variables c y other os scratch
-      (still_aside y other held (unwritten aside_variable (omega (arith, few, size, few_pushed named)) (omega arith))) all)
+      (still_aside c y other held (unwritten aside_variable (omega (arith, few, size, few_pushed named)) (omega arith))) all)
       (omega (arith, few, size, few_pushed named)) gives parts.takes_held in
       entered_led c item r named d words vs rest known is_d (omega (arith, few, size))
       (omega (arith, room, gives_count named s words vs rest gives))

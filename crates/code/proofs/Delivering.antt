@@ -75,11 +75,20 @@ module _ (c : Running) where
       last_same (with_variable other aside_variable word) written
       ∙ word_written c other aside_variable word scratch (omega arith) (omega arith) ∙ some_same word w is
 
+  -- the word that was put aside is in its variable
+  pub word_put_aside : (word : ℕ) → HoldsAside story m (Some word) → word_of m aside_variable ≡ word
+  word_put_aside word held = sym (last_same m (scratch_here c)) ∙ held word refl
+
+  -- and in that of a memory that has it too
+  pub still_aside : (word : ℕ) (other : List ℕ) → HoldsAside story m (Some word)
+      → word_of other aside_variable ≡ word_of m aside_variable
+      → ReadsVariable (around c) other locals aside_variable word
+  still_aside word other held same =
+      subst (λ w. ReadsVariable (around c) other locals aside_variable w) (same ∙ word_put_aside word held)
+      (global_reads (around c) other locals aside_variable (omega arith) (omega arith))
+
   pub reads_aside : (word : ℕ) → HoldsAside story m (Some word) → ReadsVariable (around c) m locals aside_variable word
-  reads_aside word held =
-      subst (λ w. ReadsVariable (around c) m locals aside_variable w)
-      (sym (last_same m (scratch_here c)) ∙ held word refl)
-      (global_reads (around c) m locals aside_variable (omega arith) (omega arith))
+  reads_aside word held = still_aside word m held refl
 
   abbrev IsHere : Destination → Type 0
   IsHere d = IsDestination p (routine_at p.routines routine).locals d

@@ -229,7 +229,7 @@ module _ (c : Running) where
       let next = runs_in c other world.objects scratch.stored in
       let all = given changes next rest t.reached.q v t.operand scratch.stored.tables scratch.stored.has t.reached.from
       (held_in c other (flat_map bytes_of (act t.operand)) t.reached.q scratch t.reached.from t.reached.held) known
-      small (λ words. t.stays other words scratch refl) in
+      small (λ words. t.stays other words scratch refl refl) in
       let end = t.reached.q + length (flat_map bytes_of (act t.operand)) in
       let situation = with_objects (all_given v changes world.objects) (situation_here c) in
       subst (λ (f : source.Comes (Unit {0})). LedFrom c s

@@ -1,5 +1,6 @@
 -- The tests of a word that must lie between two numbers, as an index must, lead to what is done with it, or to a fault.
 use Rattle.std.proofs.Common.{◌≡◌, ℕ, ◌+◌, ◌<◌, List, [], ◌∷◌, ◌++◌, length, Bool, true, false, sym, ◌∙◌, subst, arith}
+use Rattle.std.proofs.Common.{Some}
 use Rattle.std.specs.Prelude.{if◌then◌else◌}
 use Rattle.std.specs.List.{flat_map}
 use Rattle.zcore.specs.declared.instruction.Operand.{Operand}
@@ -10,12 +11,12 @@ use Rattle.meaning.specs.declared.cause.Cause.TheVariants as causes
 use Rattle.meaning.specs.World.{value_in}
 use Rattle.code_values.specs.Items as items
 use Rattle.code_encoding.specs.Addresses.{fault_address}
-use Rattle.code_encoding.specs.Instructions.{constant, pull, fail, number_of, pulled_into, word_in}
+use Rattle.code_encoding.specs.Instructions.{constant, pull, fail, number_of, pulled_into, word_in, aside_variable}
 use Rattle.code_instructions.specs.Instructions.{tested_between, is_between}
-use Rattle.code_selection.specs.ItemCode.{is_entry, at_index}
+use Rattle.code_selection.specs.ItemCode.{is_entry, at_index, tested_index}
 use Rattle.code_objects.specs.ObjectCode.{at_tested, tests_in}
 use Rattle.code.proofs.Behind.{holds_append}
-use Rattle.code.proofs.Play.{Leads}
+use Rattle.code.proofs.Play.{Leads, HoldsAside}
 use Rattle.code.proofs.Memory.{word_of, with_variable}
 use Rattle.code.proofs.Parts.{machine as at_words, ReadsVariable}
 use Rattle.code.proofs.Steps.{point, leads_then, one_step, first_held}
@@ -24,6 +25,7 @@ use Rattle.code.proofs.Arriving.{Running, around, here, situation_here}
 use Rattle.code.proofs.Variables.{variable_held}
 use Rattle.code.proofs.Temporaries.{Scratch, scratch_with, reads_written, word_unwritten, pull_temporary}
 use Rattle.code.proofs.Temporaries.{others_held_pull}
+use Rattle.code.proofs.Delivering.{still_aside}
 use Rattle.code.proofs.Alone.{Alone, IsOperandHere, next_place}
 use Rattle.code.proofs.TestedWords.{between_tests, entry_between, Reached, reads_still, Tested, Indexed, tested}
 
@@ -37,6 +39,7 @@ module _ (c : Running) where
       → (r : Reached c before rest other (tested_between a cause low end variable ++ act (Variable variable)))
       → ReadsVariable (around c) r.memory locals variable i
       → ((memory : List ℕ) → Scratch c memory → word_of memory 248 ≡ word_of r.memory 248
+      → word_of memory aside_variable ≡ word_of r.memory aside_variable
       → ReadsVariable (around c) memory locals variable i)
       → r.q + length (flat_map bytes_of (tested_between a cause low end variable ++ act (Variable variable)))
       ≡ next_place c
@@ -56,7 +59,7 @@ module _ (c : Running) where
     reached = r;
     end = end;
     value = constant_value (at_words (around c) r.memory locals rest world.text) n;
-    stays = λ memory words scratch same. constant_value (at_words (around c) memory locals words world.text) n;
+    stays = λ memory words scratch same _. constant_value (at_words (around c) memory locals words world.text) n;
   }
   number_tested cause n act before rest other false r end = r
 
@@ -112,7 +115,7 @@ module _ (c : Running) where
       before ws other act) alone.1
       (in_variable cause low end (number_of x) (value_in x (situation_here c)) small few act before mid other r
       (variable_held c r.memory x r.scratch is).reads
-      (λ memory scratch same. (variable_held c memory x scratch is).reads) size followed))
+      (λ memory scratch same _. (variable_held c memory x scratch is).reads) size followed))
 
   -- a number whose tests stand before what is done, which is then behind their fault
   number_labelled : (cause : Cause) (n : ℕ) (act : Operand → List Instruction) (before rest other : List ℕ) (b : Bool)
@@ -160,3 +163,17 @@ module _ (c : Running) where
   indexed number o act before mid other v rest few is alone r end followed =
       subst (λ b. Indexed c b v before rest other act) (entry_between number v)
       (between causes.IndexOutOfRange 0 number o act before mid other v rest (omega arith) few is alone r end followed)
+
+  -- an index that was put aside, and is still there
+  pub indexed_aside : (number i : ℕ) (act : Operand → List Instruction) (before rest : List ℕ) → number < 32768
+      → HoldsAside story m (Some i)
+      → (r : Reached c before rest m (tested_index a number aside_variable ++ act (Variable aside_variable)))
+      → r.q + length (flat_map bytes_of (tested_index a number aside_variable ++ act (Variable aside_variable)))
+      ≡ next_place c
+      → next_place c < length m → Indexed c (is_entry number i) i before rest m act
+  indexed_aside number i act before rest few held r end followed =
+      let here_still = r.unwritten aside_variable (omega arith) (omega arith) in
+      subst (λ b. Indexed c b i before rest m act) (entry_between number i)
+      (in_variable causes.IndexOutOfRange 0 number aside_variable i (omega arith) few act before rest m r
+      (still_aside c i r.memory held here_still)
+      (λ memory scratch same same_aside. still_aside c i memory held (same_aside ∙ here_still)) end followed)

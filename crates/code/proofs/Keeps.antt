@@ -118,11 +118,20 @@ act_keeps p full (items.step op x d) s = delivered_keeps s.situation.world d _ _
 act_keeps p full (items.entry width n o d) s =
     operand_keeps s.situation.world o s.situation s.stack _
     (λ i rest. gives_keeps (read_entry width n i) d rest s (read_entry_keeps width n i s.situation))
+act_keeps p full (items.entry_aside width n d) s =
+    aside_keeps s.situation.world s.put_aside _
+    (λ i. gives_keeps (read_entry width n i) d s.stack s (read_entry_keeps width n i s.situation))
 act_keeps p full (items.assign_entry width n o q d) s =
     operand_keeps s.situation.world q s.situation s.stack _
     (λ v left. operand_keeps s.situation.world o s.situation left _
     (λ i rest. gives_keeps (stack.assigned_entry width n i v) d rest s
     (assigned_entry_keeps width n i v s.situation)))
+act_keeps p full (items.assign_entry_aside width n o q d) s =
+    aside_keeps s.situation.world s.put_aside _
+    (λ y. operand_keeps s.situation.world q s.situation (y ∷ s.stack) _
+    (λ v left. operand_keeps s.situation.world o s.situation left _
+    (λ i rest. gives_keeps (stack.assigned_entry width n i v) d rest s
+    (assigned_entry_keeps width n i v s.situation))))
 act_keeps p full (items.relative r o d) s =
     operand_keeps s.situation.world o s.situation s.stack _
     (λ v rest. gives_keeps (stack.relative_to p r v) d rest s

@@ -41,8 +41,8 @@ use Rattle.code.proofs.Operating.{operate_led}
 use Rattle.code.proofs.OperatingAside.{operate_aside_led}
 use Rattle.code.proofs.CallingAside.{call_aside_led}
 use Rattle.code.proofs.Arithmetic.{prefix_led}
-use Rattle.code.proofs.Loading.{entry_led}
-use Rattle.code.proofs.Storing.{assign_entry_led}
+use Rattle.code.proofs.Loading.{entry_led, entry_aside_led}
+use Rattle.code.proofs.Storing.{assign_entry_led, assign_entry_aside_led}
 use Rattle.code.proofs.Equalities.{first_equal_led, also_equal_led}
 use Rattle.code.proofs.ItemsThatPrint.{new_line_led, print_number_led, print_text_led}
 use Rattle.code.proofs.Characters.{print_character_led}
@@ -182,8 +182,12 @@ module _ (story : List ℕ) (a : Addresses) (p : ProgramOf) (accepted : IsAccept
           good.put_aside st
       go (items.step op x d) f st is text = step_led c op x d words is.0 is.1 good.room st
       go (items.entry width n o d) f st is text = entry_led c width n o d words is.0 is.1 is.2 good.room st
+      go (items.entry_aside width n d) f st is text =
+          entry_aside_led c width n d s.put_aside words is.0 is.1 good.room good.put_aside st
       go (items.assign_entry width n o q d) f st is text =
           assign_entry_led c width n o q d words is.0 is.1 is.2 is.3 good.room st
+      go (items.assign_entry_aside width n o q d) f st is text =
+          assign_entry_aside_led c width n o q d s.put_aside words is.0 is.1 is.2 is.3 is.4 good.room good.put_aside st
       go (items.relative r o d) f st is text = relative_led c r o d words is.0 is.1 good.room st
       go (items.property o q d) f st is text = property_led c o q d words is.0 is.1 is.2 good.room st
       go (items.property_size o q d) f st is text =

@@ -24,7 +24,7 @@ use Rattle.code_encoding.specs.Addresses.{fault_address}
 use Rattle.code_encoding.specs.Instructions.{giving, result_in}
 use Rattle.code_selection.specs.ItemCode.{entries_in, is_entry, load_operation}
 use Rattle.code.specs.HeldProgram.{sizes_of}
-use Rattle.code.proofs.Play.{stays}
+use Rattle.code.proofs.Play.{HoldsAside}
 use Rattle.code.proofs.Flat.{size_at}
 use Rattle.code.proofs.StoredEntries.{entry_address, read_at, last_byte, entry_inside, entry_is}
 use Rattle.code.proofs.Parts.{machine as at_words}
@@ -32,13 +32,13 @@ use Rattle.code.proofs.Steps.{point, first_held, two_operands, large_value}
 use Rattle.code.proofs.AddressLengths.{one_length}
 use Rattle.code.proofs.Texts.{cause_line}
 use Rattle.code.proofs.Fitting.{Shaped}
-use Rattle.code.proofs.Arriving.{Running, at, around, here, LedFrom, code_here, code_held, situation_here, ArrivesAt}
-use Rattle.code.proofs.Temporaries.{scratch_here}
+use Rattle.code.proofs.Arriving.{Running, at, around, here, LedFrom, situation_here, ArrivesAt}
 use Rattle.code.proofs.Delivering.{result_small}
-use Rattle.code.proofs.Alone.{by_operand, alone_count, IsOperandHere, IsHere, plain_length, gives_here_led}
+use Rattle.code.proofs.Alone.{by_operand, alone_count, IsOperandHere, IsHere, gives_here_led}
 use Rattle.code.proofs.ItemsThatPrint.{fails_led}
-use Rattle.code.proofs.TestedWords.{Reached, AtIndex, Indexed}
-use Rattle.code.proofs.Indexing.{indexed}
+use Rattle.code.proofs.TestedWords.{AtIndex, Indexed}
+use Rattle.code.proofs.Indexing.{indexed, indexed_aside}
+use Rattle.code.proofs.TestedObjects.{begins, begun_end}
 
 -- an entry is loaded
 pub loads : (width : Width) (here : Next) (after : ℕ) (result : Option ℕ) (place i : ℕ) (st : State)
@@ -169,18 +169,22 @@ module _ (c : Running) where
       (λ i rest alone.
       let item = items.entry width n o d in
       let same = index_same width n i known in
-      let begin : Reached c s s m (code_here c item) = record {
-        memory = m;
-        scratch = scratch_here c;
-        q = here c;
-        from = omega arith;
-        held = code_held c item stands;
-        leads = stays (point (here c) world.fuel) (at_words (around c) m locals s world.text);
-        unwritten = λ v low small. refl;
-      } in
       let there = indexed c (entries_in width (size_in n)) o (λ i. load width n d i ∷ []) s s m i rest
-      (few_entries width n known) is alone begin (omega (arith, stands.next, plain_length c item refl))
-      stands.followed in
+      (few_entries width n known) is alone (begins c item s stands)
+      (begun_end c item s refl stands) stands.followed in
       read_led (is_index width (bytes_in n) i) width n i d s rest known is_d
       (omega (arith, short, alone_count o (situation_here c) s i rest alone)) refl
       (subst (λ b. Indexed c b i s rest m (λ i. load width n d i ∷ [])) same there))
+
+  -- at an index that was put aside
+  pub entry_aside_led : (width : Width) (n : ℕ) (d : Destination) (aside : Option ℕ) (s : List ℕ)
+      → n < length p.arrays → IsHere c d → length s ≤ 48 → HoldsAside story m aside
+      → ArrivesAt c (items.entry_aside width n d)
+      → LedFrom c s (stack.with_aside aside (λ i. stack.gives (read_entry width n i) d s (at c s)))
+  entry_aside_led width n d None s known is_d short held stands = tt
+  entry_aside_led width n d (Some i) s known is_d short held stands =
+      let item = items.entry_aside width n d in
+      let there = indexed_aside c (entries_in width (size_in n)) i (λ i. load width n d i ∷ []) s s
+      (few_entries width n known) held (begins c item s stands) (begun_end c item s refl stands) stands.followed in
+      read_led (is_index width (bytes_in n) i) width n i d s s known is_d short refl
+      (subst (λ b. Indexed c b i s s m (λ i. load width n d i ∷ [])) (index_same width n i known) there)

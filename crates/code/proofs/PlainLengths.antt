@@ -19,7 +19,7 @@ use Rattle.code_objects.specs.ObjectCode.{relative_of, changing, assigned_takes}
 use Rattle.code_selection.specs.ItemCode.{item_code}
 use Rattle.code_selection.specs.ItemBytes.{item_bytes}
 use Rattle.code.specs.Bytes.{no_addresses, least_size}
-use Rattle.code.proofs.AddressLengths.{call_same, divided_same, character_same, entry_same, assign_same, read_same}
+use Rattle.code.proofs.AddressLengths.{call_same, divided_same, character_same, entry_same, entry_aside_same, assign_same, assign_aside_same, read_same}
 use Rattle.code.proofs.ObjectLengths.{value_same, object_same, behind_same, loaded_same, single_assigned_same}
 use Rattle.code.proofs.ObjectLengths.{word_assigned_same, moved_same, first_same_jump, next_same}
 
@@ -74,6 +74,16 @@ module _ (sizes : Sizes) where
         length-append (bytes_of_all (item_code sizes a offset (items.entry width n o d))) [],
         length-append (bytes_of_all (item_code sizes no_addresses 2 (items.entry width n o d))) [],
       )
+  same_length a offset (items.entry_aside width n d) e =
+      let size = slice_index sizes.arrays n % 65536 in
+      no_text_same (item_code sizes a offset (items.entry_aside width n d))
+      (item_code sizes no_addresses 2 (items.entry_aside width n d))
+      (entry_aside_same a no_addresses width size (slice_index a.arrays n) (slice_index no_addresses.arrays n) d)
+  same_length a offset (items.assign_entry_aside width n o q d) e =
+      let size = slice_index sizes.arrays n % 65536 in
+      no_text_same (item_code sizes a offset (items.assign_entry_aside width n o q d))
+      (item_code sizes no_addresses 2 (items.assign_entry_aside width n o q d))
+      (assign_aside_same a no_addresses width size (slice_index a.arrays n) (slice_index no_addresses.arrays n) o q d)
   same_length a offset (items.assign_entry width n o q d) e =
       let size = slice_index sizes.arrays n % 65536 in
       let same = assign_same a no_addresses width size (slice_index a.arrays n)

@@ -1,6 +1,6 @@
 -- The items of an operation, and of an entry of an array, print no texts.
 use Rattle.std.proofs.Common.{ℕ, ◌+◌, List, [], ◌∷◌, ◌++◌, Bool, true, false}
-use Rattle.std.specs.Prelude.{not}
+use Rattle.std.specs.Prelude.{not, if◌then◌else◌}
 use Rattle.syntax_trees.specs.declared.tree.Binary.{Binary}
 use Rattle.syntax_trees.specs.declared.tree.Binary.TheVariants as binaries
 use Rattle.syntax_trees.specs.declared.tree.Equality.{Equality}
@@ -11,7 +11,8 @@ use Rattle.meaning.specs.Resolved.{Value, Values}
 use Rattle.meaning.specs.Resolved as source
 use Rattle.code_values.specs.Items.{Item, Operand, pushed, number, variable, Destination, push, into, aside, nowhere}
 use Rattle.code_values.specs.Items.{right_place, operated, operand_of, operands_of, alone, left_of, if_pushed}
-use Rattle.code_values.specs.Items.{is_direct, same_count, same_items, value_count}
+use Rattle.code_values.specs.Items.{is_direct, same_count, same_items, value_count, is_any_pushed}
+use Rattle.code_values.specs.Items.{loaded, index_place, stored}
 use Rattle.code_values.specs.Items.{operand_count, operands_count, branch_count, many_count, value_items}
 use Rattle.code_values.specs.Items.{operands_items, arguments_items, branch_items, many_items, also_items}
 use Rattle.code_values.specs.Items as items
@@ -126,19 +127,38 @@ equal_fine op a bs f g = record {
     several at when t = joined (value_items at a push) _ (f.value at push)
         (g.many (at + value_count a push) op when t)
 
+loaded_text : (width : Width) (n : ℕ) (o : Operand) (d : Destination) → HasPrintableText (loaded width n o d)
+loaded_text width n pushed d = tt
+loaded_text width n (number k) d = tt
+loaded_text width n (variable x) d = tt
+
+stored_text : (width : Width) (n : ℕ) (o q : Operand) (d : Destination) → HasPrintableText (stored width n o q d)
+stored_text width n o q d = go (is_any_pushed (o ∷ q ∷ []))
+  where
+    go : (b : Bool)
+        → HasPrintableText (if b then items.assign_entry_aside width n o q d else items.assign_entry width n o q d)
+    go true = tt
+    go false = tt
+
 pub entry_fine : (width : Width) (n : ℕ) (i : Value) → ValueFine i → ValueFine (source.entry width n i)
 entry_fine width n i f = record {
-  value = λ at d. last (if_pushed (alone i) (value_items at i push) []) _ (pushed_fine (alone i) _ (f.value at push))
-      tt;
-  branch = λ at when t. joined (if_pushed (alone i) (value_items at i push) []) _
-      (pushed_fine (alone i) _ (f.value at push)) (first _ _ tt (first _ _ tt nothing));
+  value = λ at d. last (if_pushed (alone i) (value_items at i aside) []) _
+      (pushed_fine (alone i) _ (f.value at aside)) (loaded_text width n (alone i) d);
+  branch = λ at when t. joined (if_pushed (alone i) (value_items at i aside) []) _
+      (pushed_fine (alone i) _ (f.value at aside))
+      (first _ _ (loaded_text width n (alone i) push) (first _ _ tt nothing));
 }
 
 pub assign_entry_fine : (width : Width) (n : ℕ) (i v : Value) → ValueFine i → ValueFine v
     → ValueFine (source.assign_entry width n i v)
-assign_entry_fine width n i v f g = record {
-  value = λ at d. two_fine (left_of i v) (alone v) _ _ _ (f.value at push)
-      (g.value (at + operand_count i (left_of i v)) push) (first _ _ tt nothing);
-  branch = λ at when t. two_fine (left_of i v) (alone v) _ _ _ (f.value at push)
-      (g.value (at + operand_count i (left_of i v)) push) (first _ _ tt (first _ _ tt nothing));
-}
+assign_entry_fine width n i v f g =
+    let o = left_of i v in
+    let place = index_place (alone v) in
+    record {
+      value = λ at d. two_fine o (alone v) _ _ _ (f.value at place)
+          (g.value (at + if_pushed o (value_count i place) 0) aside)
+          (first _ _ (stored_text width n o (alone v) d) nothing);
+      branch = λ at when t. two_fine o (alone v) _ _ _ (f.value at place)
+          (g.value (at + if_pushed o (value_count i place) 0) aside)
+          (first _ _ (stored_text width n o (alone v) push) (first _ _ tt nothing));
+    }

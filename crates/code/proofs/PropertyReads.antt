@@ -1,5 +1,5 @@
 -- Items that read a property of one word.
-use Rattle.std.proofs.Common.{◌≡◌, ℕ, suc, ◌+◌, ◌-◌, ◌*◌, ◌%◌, ◌<◌, ◌≤◌, List, [], ◌∷◌, ◌++◌, length, Option}
+use Rattle.std.proofs.Common.{◌≡◌, ◌≢◌, ℕ, suc, ◌+◌, ◌-◌, ◌*◌, ◌%◌, ◌<◌, ◌≤◌, List, [], ◌∷◌, ◌++◌, length, Option}
 use Rattle.std.proofs.Common.{slice_index, Some, None, Bool, true, false, refl, sym, ap, ◌∙◌, subst, arith}
 use Rattle.std.specs.Prelude.{◌==◌, ◌||◌, if◌then◌else◌}
 use Rattle.std.specs.List.{flat_map}
@@ -19,7 +19,7 @@ use Rattle.code_values.specs.Items as items
 use Rattle.code_items.specs.Stack as stack
 use Rattle.code_object_memory.specs.Tables.{PropertyTable}
 use Rattle.code_encoding.specs.Addresses.{fault_address}
-use Rattle.code_encoding.specs.Instructions.{giving, branching, fail, result_in}
+use Rattle.code_encoding.specs.Instructions.{giving, branching, fail, aside_variable, result_in}
 use Rattle.code_objects.specs.ObjectCode.{property_address, length_at}
 use Rattle.code.proofs.Behind.{Holds, holds_append}
 use Rattle.code.proofs.Play.{Leads}
@@ -39,7 +39,7 @@ use Rattle.code.proofs.Working.{Works, writes, branch_leads, fault_led}
 use Rattle.code.proofs.FaultTests.{Passed, tests}
 use Rattle.code.proofs.Providing.{words_at}
 use Rattle.code.proofs.CountedWords.{double_single}
-use Rattle.code.proofs.PropertySizes.{Delivered, tables, behind, none_found, some_found, some_there, operand_stays}
+use Rattle.code.proofs.PropertySizes.{Delivered, tables, behind, none_found, some_found, some_there, other_stays}
 use Rattle.code.proofs.PropertySizes.{bytes_counted}
 
 -- words of which there is one
@@ -82,6 +82,7 @@ module _ (c : Running) where
 
     -- the last instruction gives the word
     read_given : (memory : List ℕ) (q w : ℕ) → word_of memory 248 ≡ word_of t.reached.memory 248
+        → word_of memory aside_variable ≡ word_of t.reached.memory aside_variable
         → Works c read_tables before rest memory q (last_read n d t.operand ∷ [])
         → ((after : ℕ) → get_property (point q world.fuel) after (Some (result_in d)) v n
         (at_words (around c) memory locals rest world.text)
@@ -89,7 +90,7 @@ module _ (c : Running) where
         (at_words (around c) memory locals rest world.text))
         → LedFrom c before (Delivered c d before rest w (situation_here c))
     unfolding perform
-    read_given memory q w still next does =
+    read_given memory q w still still_aside next does =
         let same : n % 256 ≡ n = omega (arith, named.1) in
         let i = last_read n d t.operand in
         let st1 = at_words (around c) memory locals rest world.text in
@@ -97,7 +98,7 @@ module _ (c : Running) where
         (v ∷ n % 256 ∷ []) is_d next.scratch room next.from
         (record { least = omega arith; most = omega arith; result_fits = result_small d; branch_fits = tt })
         (first_held m q i [] next.held) (omega (arith, next.end, one_length i))
-        (two_operands st1 st1 st1 t.operand (Small (n % 256)) v (n % 256) (t.stays memory rest next.scratch still)
+        (two_operands st1 st1 st1 t.operand (Small (n % 256)) v (n % 256) (t.stays memory rest next.scratch still still_aside)
         (small_value st1 (n % 256)))
         (λ after. ap (λ (k : ℕ). get_property (point q world.fuel) after (Some (result_in d)) v k st1) same
         ∙ does after)
@@ -146,7 +147,8 @@ module _ (c : Running) where
         let next = none_found c n before rest v named object then_read t e in
         let m1 = with_variable t.reached.memory 249 0 in
         read_given m1 (from_here + 3 + 11) (slice_index p.defaults (n - 1))
-        (operand_stays c n before rest v named object then_read t 0)
+        (other_stays c n before rest v named object then_read t 0 248 (omega arith) (λ f. omega (arith, f)))
+        (other_stays c n before rest v named object then_read t 0 aside_variable (omega arith) (λ f. omega (arith, f)))
         (record {
           scratch = next.scratch;
           has = next.has;
@@ -220,9 +222,11 @@ module _ (c : Running) where
         let m1 = with_variable t.reached.memory 249 w in
         let m2 = with_variable m1 249 k in
         let found = some_found c n before rest v named object then_read t words e in
-        read_given m2 (from_here + 3 + 3 + 4 + 4) (slice_index words 0)
-        (word_unwritten c m1 249 k 248 found.scratch (omega arith) (omega arith) (omega arith) (λ f. omega (arith, f))
-        ∙ operand_stays c n before rest v named object then_read t w) next
+        let kept : (x : ℕ) → 248 ≤ x → x ≢ 249 → word_of m2 x ≡ word_of t.reached.memory x =
+        λ x low differs. word_unwritten c m1 249 k x found.scratch (omega arith) (omega arith) low differs
+        ∙ other_stays c n before rest v named object then_read t w x (omega (arith, low)) differs in
+        read_given m2 (from_here + 3 + 3 + 4 + 4) (slice_index words 0) (kept 248 (omega arith) (λ f. omega (arith, f)))
+        (kept aside_variable (omega arith) (λ f. omega (arith, f))) next
         (λ after. (acts_in c m2 rest world.text next.scratch).single (point (from_here + 3 + 3 + 4 + 4) world.fuel)
         after (Some (result_in d)) v n (slice_index words 0) object (e ∙ ap Some (only_word words one)))
     single_by false words one e next =

@@ -1,6 +1,6 @@
 -- Items that give how many bytes the words of a property have.
 use Rattle.std.proofs.Common.{◌≡◌, ℕ, ◌+◌, ◌*◌, ◌%◌, ◌≤◌, List, [], ◌∷◌, length, Option, Some, None, false, refl, sym}
-use Rattle.std.proofs.Common.{ap, ◌∙◌, arith}
+use Rattle.std.proofs.Common.{◌≢◌, ap, ◌∙◌, arith}
 use Rattle.std.specs.Prelude.{◌==◌}
 use Rattle.std.proofs.lemmas.Bool.{ne_eqb}
 use Rattle.zcore.specs.declared.instruction.Operand.{Operand}
@@ -113,10 +113,10 @@ module _ (c : Running) where
         let low = ((placed_on c tables old r.scratch.stored.has).within v n words object e).2 in
         ne_eqb _ _ (λ f. omega (arith, f, same, low))
 
-    -- the operand is what it was
-    pub operand_stays : (w : ℕ) → word_of (with_variable old 249 w) 248 ≡ word_of old 248
-    operand_stays w = word_unwritten c old 249 w 248 t.reached.scratch (omega arith) (omega arith) (omega arith)
-        (λ e. omega (arith, e))
+    -- another of the compiler's variables is what it was
+    pub other_stays : (w x : ℕ) → 248 ≤ x → x ≢ 249 → word_of (with_variable old 249 w) x ≡ word_of old x
+    other_stays w x low differs =
+        word_unwritten c old 249 w x t.reached.scratch (omega arith) (omega arith) (omega (arith, low)) differs
 
   -- how many bytes the words have
   pub bytes_counted : (tables : List PropertyTable) (before rest memory : List ℕ) (q : ℕ) (is : List Instruction)

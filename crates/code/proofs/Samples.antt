@@ -12,6 +12,7 @@ use Rattle.meaning.specs.declared.resolved.Variable.{Variable}
 use Rattle.meaning.specs.declared.resolved.Variable.TheVariants as variables
 use Rattle.code_values.specs.Items.{Item, pushed, number, variable, push, into, aside, nowhere, is_zero, less, greater}
 use Rattle.code_values.specs.Items.{same, move, operate, operate_aside, step, entry, assign_entry, print_text}
+use Rattle.code_values.specs.Items.{entry_aside, assign_entry_aside}
 use Rattle.code_values.specs.Items.{read_line, branch, case, jump, call, return}
 use Rattle.code_branch_forms.specs.declared.layout.Form.TheVariants.{One, Two, Far}
 use Rattle.code_branch_forms.specs.declared.layout.Part.{Part}
@@ -101,6 +102,33 @@ writes_byte : written (assign_entry widths.Byte 0 pushed pushed push)
     ∷ 226 ∷ 43 ∷ 2 ∷ 48 ∷ 248 ∷ 249 ∷ 232 ∷ 191 ∷ 249 ∷ []
 unfolding bytes_of
 writes_byte = refl
+
+-- jl V 0 ?fault; jl V 5 over the fault: print_paddr; quit; loadw a V -> x
+reads_aside : written (entry_aside widths.Word 0 (into x))
+    ≡ 66 ∷ 255 ∷ 0 ∷ 198 ∷ 66 ∷ 255 ∷ 5 ∷ 198 ∷ 141 ∷ 2 ∷ 5 ∷ 186 ∷ 207 ∷ 47 ∷ 2 ∷ 48 ∷ 255 ∷ 1 ∷ []
+unfolding bytes_of
+reads_aside = refl
+
+-- storew a 4 V; jl y 0 ?fault; jl y 5 over the fault: print_paddr; quit; storew a y V
+writes_aside : written (assign_entry_aside widths.Word 0 (number 4) pushed nowhere)
+    ∷ written (assign_entry_aside widths.Word 0 (variable y) pushed nowhere) ∷ []
+    ≡ (225 ∷ 27 ∷ 2 ∷ 48 ∷ 4 ∷ 255 ∷ [])
+    ∷ (66 ∷ 2 ∷ 0 ∷ 198 ∷ 66 ∷ 2 ∷ 5 ∷ 198 ∷ 141 ∷ 2 ∷ 5 ∷ 186 ∷ 225 ∷ 43 ∷ 2 ∷ 48 ∷ 2 ∷ 255 ∷ []) ∷ []
+unfolding bytes_of
+writes_aside = refl
+
+-- jl V 0 ?fault; jl V 5 over the fault: print_paddr; quit; storew a V 7
+writes_at_aside : written (assign_entry_aside widths.Word 0 pushed (number 7) nowhere)
+    ≡ 66 ∷ 255 ∷ 0 ∷ 198 ∷ 66 ∷ 255 ∷ 5 ∷ 198 ∷ 141 ∷ 2 ∷ 5 ∷ 186 ∷ 225 ∷ 39 ∷ 2 ∷ 48 ∷ 255 ∷ 7 ∷ []
+unfolding bytes_of
+writes_at_aside = refl
+
+-- pull T; jl T 0 ?fault; jl T 10 over the fault: print_paddr; quit; storeb a T V; push V
+writes_byte_aside : written (assign_entry_aside widths.Byte 0 pushed pushed push)
+    ≡ 233 ∷ 127 ∷ 248 ∷ 66 ∷ 248 ∷ 0 ∷ 198 ∷ 66 ∷ 248 ∷ 10 ∷ 198 ∷ 141 ∷ 2 ∷ 5 ∷ 186
+    ∷ 226 ∷ 43 ∷ 2 ∷ 48 ∷ 248 ∷ 255 ∷ 232 ∷ 191 ∷ 255 ∷ []
+unfolding bytes_of
+writes_byte_aside = refl
 
 -- loadb a 0 -> T; jl T 1 ?fault; jl T 9 over the fault: print_paddr; quit; the same of b, with 150 for 9; storeb a 1 0;
 -- aread a b -> T

@@ -16,8 +16,8 @@ use Rattle.meaning.specs.World.{Situation, to, with_value, is_index, with_entry,
 use Rattle.code_values.specs.Items.{Destination}
 use Rattle.code_values.specs.Items as items
 use Rattle.code_items.specs.Stack as stack
-use Rattle.code_encoding.specs.Instructions.{number_of, aside_variable, plain, push, store}
-use Rattle.code_objects.specs.ObjectCode.{assigned_word, passed_on}
+use Rattle.code_encoding.specs.Instructions.{number_of, aside_variable, plain, push, store, word_in}
+use Rattle.code_objects.specs.ObjectCode.{passed_on}
 use Rattle.code_selection.specs.ItemCode.{store_operation}
 use Rattle.code.proofs.Behind.{Holds, holds_on}
 use Rattle.code.proofs.Play.{Leads, Stored, none_aside}
@@ -37,7 +37,8 @@ use Rattle.code.proofs.Delivering.{held_aside, stored_step}
 use Rattle.code.proofs.Alone.{IsOperandHere, IsHere, next_place}
 use Rattle.code.proofs.Moving.{fuel_same, text_same, written_with, written_led, within_led}
 use Rattle.code.proofs.Loading.{bytes_in, array_there, static_small}
-use Rattle.code.proofs.StoringSteps.{stores, static_same, value_same, Holding, word_value}
+use Rattle.code.proofs.StoringSteps.{stores, static_same, value_same}
+use Rattle.code.proofs.Working.{HoldsWord, word_value}
 
 -- An entry is assigned
 
@@ -45,8 +46,8 @@ module _ (c : Running) where
   open c use {story, a, p, accepted, holds, full, m, count, counts, routine, place, callers, locals, world, good}
 
   module _ (width : Width) (n i v : ℕ) (known : n < length p.arrays) (index : is_index width (bytes_in c n) i ≡ true)
-      (q : items.Operand) (is : IsOperandHere c q) (other : List ℕ) (scratch : Scratch c other)
-      (holding : Holding c q v other) where
+      (t : ℕ) (small : t < 8) (q : items.Operand) (is : IsOperandHere c q) (other : List ℕ)
+      (scratch : Scratch c other) (holding : HoldsWord c t q v other) where
     abbrev address : ℕ
     address = entry_address width (slice_index a.arrays n) i
 
@@ -116,29 +117,30 @@ module _ (c : Running) where
         (omega (arith, high c, from)) h
 
     -- the word is still where it was
-    holding_next : (q : items.Operand) → Holding c q v other → Holding next_runs q v next_memory
+    holding_next : (q : items.Operand) → HoldsWord c t q v other → HoldsWord next_runs t q v next_memory
     holding_next items.pushed h =
         variable_kept story a p world.globals world.arrays next_situation.world.arrays world.objects other next_memory
-        scratch.stored.regions.first (defaults_of story) 249 scratch.stored next_stored keeps
-        scratch.stored.regions.above (omega arith) (omega arith) ∙ h
+        scratch.stored.regions.first (defaults_of story) (248 + t) scratch.stored next_stored keeps
+        scratch.stored.regions.above (omega arith) (omega (arith, small)) ∙ h
     holding_next (items.number k) h = h
     holding_next (items.variable x) h =
         value_same x n (with_entry width (bytes_in c n) i v) (situation_here c) ∙ h
 
-    next_word : (s : List ℕ) → operand_value (assigned_word q) (at_words (around c) next_memory locals s world.text)
+    next_word : (s : List ℕ) → operand_value (word_in t q) (at_words (around c) next_memory locals s world.text)
         ≡ done v (at_words (around c) next_memory locals s world.text)
-    next_word s = word_value next_runs q v next_memory s (scratch_here next_runs) is (holding_next q holding)
+    next_word s =
+        word_value next_runs t q v next_memory s small (scratch_here next_runs) is (holding_next q holding)
 
     -- it goes on
     passed : (d : Destination) (before rest : List ℕ) (there : ℕ) → IsHere c d → length rest ≤ 48 → here c ≤ there
-        → Holds m there (flat_map bytes_of (passed_on d (assigned_word q)))
-        → there + length (flat_map bytes_of (passed_on d (assigned_word q))) ≡ next_place c
+        → Holds m there (flat_map bytes_of (passed_on d (word_in t q)))
+        → there + length (flat_map bytes_of (passed_on d (word_in t q))) ≡ next_place c
         → Leads (point (here c) world.fuel) (at_words (around c) m locals before world.text) (point there world.fuel)
         (at_words (around c) next_memory locals rest world.text)
         → LedFrom c before (stack.delivered d v (stack.after (at c before) rest next_situation))
     unfolding perform push_word
     passed items.push before rest there is_d room from h end leads =
-        let k = push (assigned_word q) in
+        let k = push (word_in t q) in
         let shaped : Shaped k = record { least = omega arith; most = omega arith; result_fits = tt; branch_fits = tt }
         in
         let st = at_words (around c) next_memory locals rest world.text in
@@ -147,7 +149,7 @@ module _ (c : Running) where
         let makes = made next_runs next_memory rest rest world.text there k (v ∷ []) (scratch_here next_runs) from
         shaped
         (held_next (bytes_of k) there from (first_held m there k [] h))
-        (one_operand st st (assigned_word q) v (next_word rest)) in
+        (one_operand st st (word_in t q) v (next_word rest)) in
         within_led c before (v ∷ rest) next_memory next_situation last (omega (arith, end, one_length k)) next_stored
         refl refl same_sizes refl refl
         (leads_then (point (here c) world.fuel) (point there world.fuel) (point last world.fuel)
@@ -156,7 +158,7 @@ module _ (c : Running) where
         (makes ∙ rw (pushes (around c) next_memory locals world.text rest v (room_for c rest (omega (arith, room))))
         refl)))
     passed (items.into x) before rest there is_d room from h end leads =
-        let k = store (number_of x) (assigned_word q) in
+        let k = store (number_of x) (word_in t q) in
         let shaped : Shaped k = record { least = omega arith; most = omega arith; result_fits = tt; branch_fits = tt }
         in
         let st = at_words (around c) next_memory locals rest world.text in
@@ -167,7 +169,7 @@ module _ (c : Running) where
         let to = at_words (around c) m1 situation.locals rest world.text in
         let makes = made next_runs next_memory rest rest world.text there k (number_of x ∷ v ∷ [])
         (scratch_here next_runs) from shaped (held_next (bytes_of k) there from (first_held m there k [] h))
-        (two_operands st st st (Small (number_of x)) (assigned_word q) (number_of x) v
+        (two_operands st st st (Small (number_of x)) (word_in t q) (number_of x) v
         (small_value st (number_of x)) (next_word rest)) in
         written_led c before rest m1 situation last (omega (arith, end, one_length k)) room (held.stored v)
         (held.locals_same v) (held.globals_same v) (ap (map length) (held.arrays_same v) ∙ same_sizes)
@@ -178,7 +180,7 @@ module _ (c : Running) where
         (makes ∙ stored_step next_runs (point there world.fuel) last (number_of x) v rest world.text next_memory m1
         situation.locals (held.writes v))))
     passed items.aside before rest there is_d room from h end leads =
-        let k = store aside_variable (assigned_word q) in
+        let k = store aside_variable (word_in t q) in
         let shaped : Shaped k = record { least = omega arith; most = omega arith; result_fits = tt; branch_fits = tt }
         in
         let st = at_words (around c) next_memory locals rest world.text in
@@ -189,7 +191,7 @@ module _ (c : Running) where
         (omega arith) in
         let makes = made next_runs next_memory rest rest world.text there k (aside_variable ∷ v ∷ [])
         (scratch_here next_runs) from shaped (held_next (bytes_of k) there from (first_held m there k [] h))
-        (two_operands st st st (Small aside_variable) (assigned_word q) aside_variable v
+        (two_operands st st st (Small aside_variable) (word_in t q) aside_variable v
         (small_value st aside_variable) (next_word rest)) in
         written_with c (Some v) before rest m1 next_situation last
         (held_aside next_runs next_memory v (scratch_here next_runs)) (omega (arith, end, one_length k)) room
@@ -204,20 +206,20 @@ module _ (c : Running) where
         same_sizes refl refl leads
 
     abbrev assign : Operand → Instruction
-    assign o = plain (store_operation width) (Large (slice_index a.arrays n) ∷ o ∷ assigned_word q ∷ [])
+    assign o = plain (store_operation width) (Large (slice_index a.arrays n) ∷ o ∷ word_in t q ∷ [])
 
     assign_shaped : (o : Operand) → Shaped (assign o)
     assign_shaped o = go width
       where
         go : (width : Width)
-            → Shaped (plain (store_operation width) (Large (slice_index a.arrays n) ∷ o ∷ assigned_word q ∷ []))
+            → Shaped (plain (store_operation width) (Large (slice_index a.arrays n) ∷ o ∷ word_in t q ∷ []))
         go widths.Byte = record { least = omega arith; most = omega arith; result_fits = tt; branch_fits = tt }
         go widths.Word = record { least = omega arith; most = omega arith; result_fits = tt; branch_fits = tt }
 
     -- the entry is stored, and the word goes on
     pub assigned : (d : Destination) (before rest : List ℕ) (there : ℕ) (o : Operand) → IsHere c d → length rest ≤ 48
-        → here c ≤ there → Holds m there (flat_map bytes_of (assign o ∷ passed_on d (assigned_word q)))
-        → there + length (flat_map bytes_of (assign o ∷ passed_on d (assigned_word q))) ≡ next_place c
+        → here c ≤ there → Holds m there (flat_map bytes_of (assign o ∷ passed_on d (word_in t q)))
+        → there + length (flat_map bytes_of (assign o ∷ passed_on d (word_in t q))) ≡ next_place c
         → operand_value o (at_words (around c) other locals rest world.text)
         ≡ done i (at_words (around c) other locals rest world.text)
         → Leads (point (here c) world.fuel) (at_words (around c) m locals before world.text) (point there world.fuel)
@@ -231,15 +233,15 @@ module _ (c : Running) where
         let after = there + length (bytes_of k) in
         let same = static_same story other scratch.stored.header in
         let makes = made c other rest rest world.text there k (base ∷ i ∷ v ∷ []) scratch from (assign_shaped o)
-        (first_held m there k (passed_on d (assigned_word q)) h)
-        (three_operands st st st st (Large base) o (assigned_word q) base i v (large_value st base) value
-        (word_value c q v other rest scratch is holding)) in
+        (first_held m there k (passed_on d (word_in t q)) h)
+        (three_operands st st st st (Large base) o (word_in t q) base i v (large_value st base) value
+        (word_value c t q v other rest small scratch is holding)) in
         passed d before rest after is_d room (omega (arith, from))
-        (others_held m there k (passed_on d (assigned_word q)) h)
+        (others_held m there k (passed_on d (word_in t q)) h)
         (omega (
           arith,
           end,
-          length-append (bytes_of k) (flat_map bytes_of (passed_on d (assigned_word q))),
+          length-append (bytes_of k) (flat_map bytes_of (passed_on d (word_in t q))),
         ))
         (leads_then (point (here c) world.fuel) (point there world.fuel) (point after world.fuel)
         (at_words (around c) m locals before world.text) st to leads

@@ -15,7 +15,7 @@ use Rattle.zcore.specs.Execution.{perform}
 use Rattle.meaning.specs.declared.cause.Cause.{Cause}
 use Rattle.meaning.specs.declared.cause.Cause.TheVariants as causes
 use Rattle.code_encoding.specs.Addresses.{fault_address}
-use Rattle.code_encoding.specs.Instructions.{branching, fail}
+use Rattle.code_encoding.specs.Instructions.{branching, fail, aside_variable}
 use Rattle.code_instructions.specs.Instructions.{tested_between, is_between}
 use Rattle.code_selection.specs.ItemCode.{is_entry}
 use Rattle.code.proofs.Behind.{Holds, holds_append}
@@ -88,8 +88,9 @@ module _ (c : Running) where
     pub end : reached.q + length (flat_map bytes_of (act operand)) ≡ next_place c
     pub value : operand_value operand (at_words (around c) reached.memory locals rest world.text)
         ≡ done i (at_words (around c) reached.memory locals rest world.text)
-    -- and it is the same word where other variables of the compiler differ
+    -- and it is the same word where other variables of the compiler differ than the first, and that of a word put aside
     pub stays : (memory words : List ℕ) → Scratch c memory → word_of memory 248 ≡ word_of reached.memory 248
+        → word_of memory aside_variable ≡ word_of reached.memory aside_variable
         → operand_value operand (at_words (around c) memory locals words world.text)
         ≡ done i (at_words (around c) memory locals words world.text)
 
@@ -107,8 +108,10 @@ module _ (c : Running) where
 
   -- what was written to the first of the compiler's variables, where others differ
   pub reads_still : (other : List ℕ) (v : ℕ) → Scratch c other → (memory : List ℕ) → Scratch c memory
-      → word_of memory 248 ≡ word_of (with_variable other 248 v) 248 → ReadsVariable (around c) memory locals 248 v
-  reads_still other v scratch memory still same =
+      → word_of memory 248 ≡ word_of (with_variable other 248 v) 248
+      → word_of memory aside_variable ≡ word_of (with_variable other 248 v) aside_variable
+      → ReadsVariable (around c) memory locals 248 v
+  reads_still other v scratch memory still same same_aside =
       subst (λ x. ReadsVariable (around c) memory locals 248 x)
       (same ∙ word_written c other 248 v scratch (omega arith) (omega arith))
       (global_reads (around c) memory locals 248 (omega arith) (omega arith))
@@ -128,6 +131,7 @@ module _ (c : Running) where
       (r : Reached before rest other (tested_between a cause low number variable ++ act (Variable variable)))
       (reads : ReadsVariable (around c) r.memory locals variable i)
       (still : (memory : List ℕ) → Scratch c memory → word_of memory 248 ≡ word_of r.memory 248
+      → word_of memory aside_variable ≡ word_of r.memory aside_variable
       → ReadsVariable (around c) memory locals variable i)
       (end : r.q + length (flat_map bytes_of (tested_between a cause low number variable ++ act (Variable variable)))
       ≡ next_place c) (followed : next_place c < length m) where
@@ -247,8 +251,8 @@ module _ (c : Running) where
       };
       end = omega (arith, size, t.size);
       value = variable_value (around c) r.memory locals rest world.text variable i reads;
-      stays = λ memory words scratch same.
-          variable_value (around c) memory locals words world.text variable i (still memory scratch same);
+      stays = λ memory words scratch same same_aside.
+          variable_value (around c) memory locals words world.text variable i (still memory scratch same same_aside);
     }
     tested_by small away t size false e = record {
       memory = r.memory;

@@ -118,6 +118,8 @@ module _ (p : ProgramOf) (full r : ℕ) (callers : List Caller) where
       subst (λ x. from x (exec p full n) ≡ Some o)
       (decided_alike (steps_object p x s) false t v pc words words) e
   item_with_word v n pc words s o on (Some (items.operate_aside op a d)) e = absurd (cc)
+  item_with_word v n pc words s o on (Some (items.entry_aside width a d)) e = absurd (cc)
+  item_with_word v n pc words s o on (Some (items.assign_entry_aside width a i w d)) e = absurd (cc)
   item_with_word v n pc words s o on (Some (items.call_aside r os d)) e = absurd (cc)
   item_with_word v n pc words s o on (Some (items.case test ns when t)) e = absurd (cc)
   item_with_word v n pc words s o on (Some (items.jump t)) e =

@@ -12,7 +12,8 @@ use Rattle.meaning.specs.declared.resolved.Variable.{Variable}
 use Rattle.meaning.specs.Resolved.{Value, Values, none, more}
 use Rattle.meaning.specs.Resolved as source
 use Rattle.meaning.specs.Accepted.{IsVariable, IsValue, AreValues}
-use Rattle.code_values.specs.Items.{Item, Operand, pushed, number, variable, Destination, push, into, right_place}
+use Rattle.code_values.specs.Items.{Item, Operand, pushed, number, variable, Destination, push, into, aside}
+use Rattle.code_values.specs.Items.{right_place, loaded, index_place, stored}
 use Rattle.code_values.specs.Items.{operated, operand_of, operands_of, alone}
 use Rattle.code_values.specs.Items.{left_of, if_pushed, is_direct, same_count, comparison_when, equality_when, truth_count}
 use Rattle.code_values.specs.Items.{value_count, operand_count, operands_count, branch_count, many_count, also_count}
@@ -246,31 +247,71 @@ module _ (here : Bounds) where
         (true_fine here pushed when t tt le);
   }
 
-  pub entry_fine : (width : Width) (a : ℕ) (i : Value) → a < length p.arrays → IsValue p locals i → FineValue i
-      → FineValue (source.entry width a i)
-  entry_fine width a i ha h f = record {
-    value = λ at d hd lt. last here (if_pushed (alone i) (value_items at i push) []) _
-        (operand_pushed (alone i) i f at (omega (arith, lt))) (ha, operand_fine here i none h, hd);
-    branch = λ at when t lt le. last_two here (if_pushed (alone i) (value_items at i push) []) _ _
-        (operand_pushed (alone i) i f at (omega (arith, lt))) (ha, operand_fine here i none h, tt)
-        (true_fine here pushed when t tt le);
-  }
-
-  pub assign_entry_fine : (width : Width) (a : ℕ) (i v : Value) → a < length p.arrays → IsValue p locals i
-      → IsValue p locals v → FineValue i → FineValue v → FineValue (source.assign_entry width a i v)
-  assign_entry_fine width a i v ha hi hv fi fv = record {
-    value = λ at d hd lt. two_operands i v fi fv at _ (omega (arith, lt))
-        (first here _ _ (ha, operand_fine here i (more v none) hi, operand_fine here v none hv, hd) (nothing here));
-    branch = λ at when t lt le. two_operands i v fi fv at _ (omega (arith, lt))
-        (first here _ _ (ha, operand_fine here i (more v none) hi, operand_fine here v none hv, tt)
-        (first here _ _ (true_fine here pushed when t tt le) (nothing here)));
-  }
-
   argument_fine : (several any : Bool) → IsDestination p locals (argument_place several any)
   argument_fine true true = tt
   argument_fine false true = tt
   argument_fine true false = tt
   argument_fine false false = tt
+
+  loaded_fine : (width : Width) (a : ℕ) (o : Operand) (d : Destination) → a < length p.arrays → IsOperand p locals o
+      → IsDestination p locals d → IsItem p locals count (loaded width a o d)
+  loaded_fine width a pushed d ha ho hd = (ha, hd)
+  loaded_fine width a (number n) d ha ho hd = (ha, ho, hd)
+  loaded_fine width a (variable x) d ha ho hd = (ha, ho, hd)
+
+  stored_fine : (width : Width) (a : ℕ) (o q : Operand) (d : Destination) → a < length p.arrays
+      → IsOperand p locals o → IsOperand p locals q → IsDestination p locals d
+      → IsItem p locals count (stored width a o q d)
+  stored_fine width a o q d ha ho hq hd = go (is_any_pushed (o ∷ q ∷ [])) refl
+    where
+      go : (b : Bool) → is_any_pushed (o ∷ q ∷ []) ≡ b → IsItem p locals count
+          (if b then items.assign_entry_aside width a o q d else items.assign_entry width a o q d)
+      go true e = (ha, ho, hq, e, hd)
+      go false e = (ha, ho, hq, hd)
+
+  -- an operand of an entry goes where the entry finds it
+  entry_operand : (o : Operand) (v : Value) (place : Destination) → FineValue v → IsDestination p locals place
+      → (at : ℕ) → at + if_pushed o (value_count v place) 0 < count
+      → Fine here (if_pushed o (value_items at v place) [])
+  entry_operand o v place f is at lt =
+      pushed_fine here o (value_items at v place) (value_count v place) at lt (λ lt. f.value at place is lt)
+
+  pub entry_fine : (width : Width) (a : ℕ) (i : Value) → a < length p.arrays → IsValue p locals i → FineValue i
+      → FineValue (source.entry width a i)
+  entry_fine width a i ha h f = record {
+    value = λ at d hd lt. last here (if_pushed (alone i) (value_items at i aside) []) _
+        (entry_operand (alone i) i aside f tt at (omega (arith, lt)))
+        (loaded_fine width a (alone i) d ha (operand_fine here i none h) hd);
+    branch = λ at when t lt le. last_two here (if_pushed (alone i) (value_items at i aside) []) _ _
+        (entry_operand (alone i) i aside f tt at (omega (arith, lt)))
+        (loaded_fine width a (alone i) push ha (operand_fine here i none h) tt) (true_fine here pushed when t tt le);
+  }
+
+  pub assign_entry_fine : (width : Width) (a : ℕ) (i v : Value) → a < length p.arrays → IsValue p locals i
+      → IsValue p locals v → FineValue i → FineValue v → FineValue (source.assign_entry width a i v)
+  assign_entry_fine width a i v ha hi hv fi fv = record {
+    value = λ at d hd lt. operands_stored at _ (omega (arith, lt)) (first here _ _ (item d hd) (nothing here));
+    branch = λ at when t lt le. operands_stored at _ (omega (arith, lt))
+        (first here _ _ (item push tt) (first here _ _ (true_fine here pushed when t tt le) (nothing here)));
+  }
+    where
+      place : Destination
+      place = index_place (alone v)
+
+      item : (d : Destination) → IsDestination p locals d
+          → IsItem p locals count (stored width a (left_of i v) (alone v) d)
+      item d hd = stored_fine width a (left_of i v) (alone v) d ha (operand_fine here i (more v none) hi)
+          (operand_fine here v none hv) hd
+
+      operands_stored : (at : ℕ) (tail : List Item)
+          → at + (if_pushed (left_of i v) (value_count i place) 0 + if_pushed (alone v) (value_count v aside) 0) < count
+          → Fine here tail
+          → Fine here (if_pushed (left_of i v) (value_items at i place) [] ++ (if_pushed (alone v)
+          (value_items (at + if_pushed (left_of i v) (value_count i place) 0) v aside) [] ++ tail))
+      operands_stored at tail lt ht =
+          two_fine here (left_of i v) (alone v) _ _ tail (value_count i place) (value_count v aside) at lt
+          (λ lt. fi.value at place (argument_fine true (if_pushed (alone v) true false)) lt)
+          (λ lt. fv.value (at + if_pushed (left_of i v) (value_count i place) 0) aside tt lt) ht
 
   pub list_none : FineList none
   list_none = record {

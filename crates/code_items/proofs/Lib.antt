@@ -13,6 +13,7 @@ mod Truths
 mod Evaluated
 mod Placed
 mod Arguments
+mod LastAside
 mod Calls
 mod Operations
 mod Equalities

@@ -121,10 +121,53 @@ entry_operand = refl
 -- w-->g = F(); where the call may change g
 index_changed_later : action_items outside 0 (effect (source.assign_entry widths.Word 4 (read g) called))
     ≡ move (items.variable g) push
-    ∷ items.call 7 [] push
-    ∷ items.assign_entry widths.Word 4 pushed pushed nowhere
+    ∷ items.call 7 [] aside
+    ∷ items.assign_entry_aside widths.Word 4 pushed pushed nowhere
     ∷ []
 index_changed_later = refl
+
+-- x = w-->(y + 1);
+index_aside : action_items outside 0
+    (effect (assign x (source.entry widths.Word 4 (binary binaries.Add (read y) (number 1)))))
+    ≡ operate binaries.Add (items.variable y) (items.number 1) aside
+    ∷ items.entry_aside widths.Word 4 (into x)
+    ∷ []
+index_aside = refl
+
+-- x = w-->(y++); which keeps its length
+step_aside : action_items outside 0 (effect (assign x (source.entry widths.Word 4 (step_after y steps.Increment))))
+    ≡ move (items.variable y) push
+    ∷ step steps.Increment y nowhere
+    ∷ move pushed aside
+    ∷ items.entry_aside widths.Word 4 (into x)
+    ∷ []
+step_aside = refl
+
+-- w-->x = y + 1;
+word_aside : action_items outside 0
+    (effect (source.assign_entry widths.Word 4 (read x) (binary binaries.Add (read y) (number 1))))
+    ≡ operate binaries.Add (items.variable y) (items.number 1) aside
+    ∷ items.assign_entry_aside widths.Word 4 (items.variable x) pushed nowhere
+    ∷ []
+word_aside = refl
+
+-- w-->(x + 1) = 5;
+word_in_place : action_items outside 0
+    (effect (source.assign_entry widths.Word 4 (binary binaries.Add (read x) (number 1)) (number 5)))
+    ≡ operate binaries.Add (items.variable x) (items.number 1) aside
+    ∷ items.assign_entry_aside widths.Word 4 pushed (items.number 5) nowhere
+    ∷ []
+word_in_place = refl
+
+-- w-->(x + 1) = y + 1;
+last_of_both_aside : action_items outside 0
+    (effect (source.assign_entry widths.Word 4 (binary binaries.Add (read x) (number 1))
+    (binary binaries.Add (read y) (number 1))))
+    ≡ operate binaries.Add (items.variable x) (items.number 1) push
+    ∷ operate binaries.Add (items.variable y) (items.number 1) aside
+    ∷ items.assign_entry_aside widths.Word 4 pushed pushed nowhere
+    ∷ []
+last_of_both_aside = refl
 
 -- Conditions
 

@@ -1,5 +1,5 @@
 -- The laws of items that functions of `laws` carry as their contracts.
-use Rattle.std.specs.Prelude.{◌≡◌, ◌≢◌, ◌+◌, ◌<◌, ◌≤◌, ℕ, Bool, true, List, length, Some}
+use Rattle.std.specs.Prelude.{◌≡◌, ◌≢◌, ◌+◌, ◌<◌, ◌≤◌, ℕ, Bool, true, List, [], ◌∷◌, length, Some}
 use Rattle.std.specs.List.{All}
 use Rattle.syntax_trees.specs.declared.tree.Binary.TheVariants as binaries
 use Rattle.syntax_trees.specs.declared.tree.Prefix.TheVariants as prefixes
@@ -11,7 +11,7 @@ use Rattle.code_values.specs.Items.{move, apply_prefix, operate, operate_aside, 
 use Rattle.code_values.specs.Items.{print_number, branch, read_line, case, jump, back, call, call_aside, return}
 use Rattle.code_values.specs.Items.{is_any_pushed, print_name, relative, property, property_size, property_word, assign_property}
 use Rattle.code_values.specs.Items.{assign_property_word, give, has, move_object, remove_object, is_in, provides}
-use Rattle.code_values.specs.Items.{first_object, next_object}
+use Rattle.code_values.specs.Items.{entry_aside, assign_entry_aside, first_object, next_object}
 use Rattle.code_items.specs.Statements.{routine_items}
 use Rattle.code_items.specs.Stack.{from, exec, start}
 
@@ -57,6 +57,9 @@ module _ (p : ProgramOf) (locals : ℕ) where
   IsItem count (step op x d) = IsVariable p locals x × IsDestination d
   IsItem count (entry width a o d) = (a < length p.arrays) × IsOperand o × IsDestination d
   IsItem count (assign_entry width a o q d) = (a < length p.arrays) × IsOperand o × IsOperand q × IsDestination d
+  IsItem count (entry_aside width a d) = (a < length p.arrays) × IsDestination d
+  IsItem count (assign_entry_aside width a o q d) = (a < length p.arrays) × IsOperand o × IsOperand q
+      × (is_any_pushed (o ∷ q ∷ []) ≡ true) × IsDestination d
   IsItem count (relative r o d) = IsOperand o × IsDestination d
   IsItem count (property o n d) = IsProperty n × IsOperand o × IsDestination d
   IsItem count (property_size o n d) = IsProperty n × IsOperand o × IsDestination d

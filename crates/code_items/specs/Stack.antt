@@ -331,9 +331,15 @@ act p full (Some (items.step op x d)) s =
     (after s s.stack (with_value x (stepped op (value_in x s.situation)) s.situation))
 act p full (Some (items.entry width a o d)) s =
     with_operand o s.situation s.stack (λ i stack. gives (read_entry width a i) d stack s)
+act p full (Some (items.entry_aside width a d)) s =
+    with_aside s.put_aside (λ i. gives (read_entry width a i) d s.stack s)
 act p full (Some (items.assign_entry width a o q d)) s =
     with_operand q s.situation s.stack
     (λ v rest. with_operand o s.situation rest (λ i stack. gives (assigned_entry width a i v) d stack s))
+act p full (Some (items.assign_entry_aside width a o q d)) s =
+    with_aside s.put_aside
+    (λ y. with_operand q s.situation (y ∷ s.stack)
+    (λ v rest. with_operand o s.situation rest (λ i stack. gives (assigned_entry width a i v) d stack s)))
 act p full (Some (items.relative r o d)) s =
     with_operand o s.situation s.stack (λ v stack. gives (relative_to p r v) d stack s)
 act p full (Some (items.property o q d)) s =

@@ -2,7 +2,7 @@
 -- those on words and on objects.
 use Rattle.std.specs.Prelude.{◌+◌, ◌-◌, ◌/◌, ◌%◌, ◌&&◌, ℕ, nat_lt, Bool, List, [], ◌∷◌, ◌++◌, take, slice_index}
 use Rattle.zcore.specs.declared.instruction.Operand.{Operand}
-use Rattle.zcore.specs.declared.instruction.Operand.TheVariants.{Large, Small}
+use Rattle.zcore.specs.declared.instruction.Operand.TheVariants.{Large, Small, Variable}
 use Rattle.zcore.specs.declared.instruction.Operation.{Operation}
 use Rattle.zcore.specs.declared.instruction.Operation.TheVariants.{Print, Quit, NewLine, PrintNumber, LoadWord}
 use Rattle.zcore.specs.declared.instruction.Operation.TheVariants.{LoadByte, StoreWord, StoreByte, Read}
@@ -14,7 +14,7 @@ use Rattle.code_values.specs.Items.{Item, Destination}
 use Rattle.code_values.specs.Items as items
 use Rattle.code_encoding.specs.Addresses.{Addresses, Sizes}
 use Rattle.code_encoding.specs.Instructions.{plain, giving, number_of, temporary, pull, copy, in_place, most_tested}
-use Rattle.code_encoding.specs.Instructions.{result_in}
+use Rattle.code_encoding.specs.Instructions.{aside_variable, result_in}
 use Rattle.meaning.specs.Limits.{most_arguments}
 use Rattle.code_instructions.specs.Instructions.{move_code, prefix_code, binary_code, step_code, first_equal_code}
 use Rattle.code_instructions.specs.Instructions.{also_equal_code, tested_between, character_code, branch_code}
@@ -63,6 +63,24 @@ abbrev pub assign_entry_code : Addresses → Width → ℕ → ℕ → items.Ope
 assign_entry_code a width size place o q d = assigned_takes q ++ at_index a (entries_in width size) o (λ i.
     plain (store_operation width) (Large place ∷ i ∷ assigned_word q ∷ []) ∷ passed_on d (assigned_word q))
 
+-- the same where the index was put aside
+abbrev pub entry_aside_code : Addresses → Width → ℕ → ℕ → Destination → List Instruction
+entry_aside_code a width size place d =
+    tested_index a (entries_in width size) aside_variable
+    ++ giving (load_operation width) (Large place ∷ Variable aside_variable ∷ []) (result_in d) ∷ []
+
+-- and where the last of index and word that is pushed was: the word, or the index
+abbrev pub assign_entry_aside_code : Addresses → Width → ℕ → ℕ → items.Operand → items.Operand → Destination
+    → List Instruction
+assign_entry_aside_code a width size place o items.pushed d =
+    at_index a (entries_in width size) o (λ i.
+    plain (store_operation width) (Large place ∷ i ∷ Variable aside_variable ∷ [])
+    ∷ passed_on d (Variable aside_variable))
+assign_entry_aside_code a width size place o q d =
+    tested_index a (entries_in width size) aside_variable
+    ++ plain (store_operation width) (Large place ∷ Variable aside_variable ∷ in_place q ∷ [])
+    ∷ passed_on d (in_place q)
+
 -- Lines
 
 -- byte 0 of the array at an address goes to a temporary
@@ -108,8 +126,12 @@ item_code sizes a offset (items.operate_aside op x d) = aside_code a op x d
 item_code sizes a offset (items.step op x d) = step_code op x d
 item_code sizes a offset (items.entry width n o d) =
     entry_code a width (slice_index sizes.arrays n % 65536) (slice_index a.arrays n) o d
+item_code sizes a offset (items.entry_aside width n d) =
+    entry_aside_code a width (slice_index sizes.arrays n % 65536) (slice_index a.arrays n) d
 item_code sizes a offset (items.assign_entry width n o q d) =
     assign_entry_code a width (slice_index sizes.arrays n % 65536) (slice_index a.arrays n) o q d
+item_code sizes a offset (items.assign_entry_aside width n o q d) =
+    assign_entry_aside_code a width (slice_index sizes.arrays n % 65536) (slice_index a.arrays n) o q d
 item_code sizes a offset (items.relative r o d) = relative_code a (objects_of sizes) r o d
 item_code sizes a offset (items.property o q d) = property_code a (objects_of sizes) o (q % 256) d
 item_code sizes a offset (items.property_size o q d) = property_size_code a (objects_of sizes) o (q % 256) d

@@ -10,6 +10,7 @@ ghost use Rattle.code_encoding.specs.Bytes.{AddsCode};
 ghost use Rattle.code_encoding.specs.Written.{addresses_of};
 ghost use Rattle.code_objects.specs.ObjectCode.{passed_on};
 ghost use Rattle.code_selection.specs.ItemCode.{tested_index, at_index, entry_code, assign_entry_code};
+ghost use Rattle.code_selection.specs.ItemCode.{entry_aside_code, assign_entry_aside_code};
 ghost use Rattle.code_selection.specs.ItemCode as spec;
 
 use code_encoding::{
@@ -188,6 +189,20 @@ pub fn put_entry(
     }
 }
 
+/// An entry of an array, at an index that was put aside.
+pub fn put_entry_aside(
+    bytes: &mut Vec<u8>,
+    addresses: &Addresses<'_>,
+    array: Array,
+    destination: Destination,
+) -> Result<(), AllocError>
+    ensures { OnOk result (AddsCode bytes.old bytes.new
+        (entry_aside_code (addresses_of addresses.now) array.width array.size array.address
+        (as_destination destination))) }
+{
+    put_tested_entry(bytes, addresses, array, ASIDE, destination)
+}
+
 /// A word is written to the entry at an index that it has, and goes on.
 fn put_store(
     bytes: &mut Vec<u8>,
@@ -306,5 +321,27 @@ pub fn put_assign_entry(
             put_assigned(bytes, addresses, array, index, taken, destination)
         }
         _ => put_assigned(bytes, addresses, array, index, in_place(word), destination),
+    }
+}
+
+/// The same, where the last of index and word that is pushed was put aside.
+pub fn put_assign_entry_aside(
+    bytes: &mut Vec<u8>,
+    addresses: &Addresses<'_>,
+    array: Array,
+    index: code_values::Operand,
+    word: code_values::Operand,
+    destination: Destination,
+) -> Result<(), AllocError>
+    ensures { OnOk result (AddsCode bytes.old bytes.new
+        (assign_entry_aside_code (addresses_of addresses.now) array.width array.size array.address
+        (as_operand index) (as_operand word) (as_destination destination))) }
+{
+    match word {
+        code_values::Operand::Pushed => {
+            let aside = Operand::Variable(ASIDE);
+            put_assigned(bytes, addresses, array, index, aside, destination)
+        }
+        _ => put_tested_store(bytes, addresses, array, ASIDE, in_place(word), destination),
     }
 }

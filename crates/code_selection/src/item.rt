@@ -12,7 +12,9 @@ ghost use Rattle.code_selection.specs.ItemCode as spec;
 ghost use Rattle.code_selection.specs.ItemBytes.{item_bytes};
 ghost use Rattle.code_selection.specs.Written.{kind_of};
 
-use crate::entries::{array_of, put_assign_entry, put_entry};
+use crate::entries::{
+    array_of, put_assign_entry, put_assign_entry_aside, put_entry, put_entry_aside,
+};
 use crate::kind::{Kind, kind_of};
 use crate::lines::put_read;
 use code_encoding::{Addresses, Operands, Sizes, in_place, plain, pull, put_all, routine_address};
@@ -138,9 +140,17 @@ fn put_words(
             let array = array_of(sizes, addresses, *width, *number);
             put_entry(bytes, addresses, array, *index, *destination)?
         }
+        Item::EntryAside(width, number, destination) => {
+            let array = array_of(sizes, addresses, *width, *number);
+            put_entry_aside(bytes, addresses, array, *destination)?
+        }
         Item::AssignEntry(width, number, index, word, destination) => {
             let array = array_of(sizes, addresses, *width, *number);
             put_assign_entry(bytes, addresses, array, *index, *word, *destination)?
+        }
+        Item::AssignEntryAside(width, number, index, word, destination) => {
+            let array = array_of(sizes, addresses, *width, *number);
+            put_assign_entry_aside(bytes, addresses, array, *index, *word, *destination)?
         }
         Item::Keep(variable) => put_keep(bytes, *variable)?,
         Item::FirstEqual => put_first_equal(bytes)?,

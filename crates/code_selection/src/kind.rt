@@ -37,7 +37,9 @@ pub fn kind_of(item: &Item<'_>) -> Kind
         | Item::OperateAside(_, _, _)
         | Item::Step(_, _, _)
         | Item::Entry(_, _, _, _)
+        | Item::EntryAside(_, _, _)
         | Item::AssignEntry(_, _, _, _, _)
+        | Item::AssignEntryAside(_, _, _, _, _)
         | Item::Keep(_)
         | Item::FirstEqual
         | Item::AlsoEqual

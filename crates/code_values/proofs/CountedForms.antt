@@ -164,26 +164,29 @@ binary_counted op a b ca cb = record {
 
 pub entry_counted : (width : Width) (a : ℕ) (i : Value) → Counted i → Counted (source.entry width a i)
 entry_counted width a i c = record {
-  value = λ d at. joined (if_pushed (alone i) (value_items at i push) []) _ _ 1
-      (if_length (alone i) _ _ (c.value push at)) refl;
+  value = λ d at. joined (if_pushed (alone i) (value_items at i aside) []) _ _ 1
+      (if_length (alone i) _ _ (c.value aside at)) refl;
   branch = λ when at t. omega (
     arith,
-    joined (if_pushed (alone i) (value_items at i push) [])
-        (items.entry width a (alone i) push ∷ branch_true pushed when t ∷ []) _ 2
-        (if_length (alone i) _ _ (c.value push at)) refl,
+    joined (if_pushed (alone i) (value_items at i aside) [])
+        (items.loaded width a (alone i) push ∷ branch_true pushed when t ∷ []) _ 2
+        (if_length (alone i) _ _ (c.value aside at)) refl,
   );
 }
 
 pub assign_entry_counted : (width : Width) (a : ℕ) (i v : Value) → Counted i → Counted v
     → Counted (source.assign_entry width a i v)
 assign_entry_counted width a i v ci cv = record {
-  value = λ d at. two_length (left_of i v) (alone v) _ _
-      (items.assign_entry width a (left_of i v) (alone v) d ∷ []) _ _ 1 (ci.value push at)
-      (cv.value push (at + operand_count i (left_of i v))) refl;
-  branch = λ when at t. omega (
-    arith,
-    two_length (left_of i v) (alone v) _ _
-        (items.assign_entry width a (left_of i v) (alone v) push ∷ branch_true pushed when t ∷ []) _ _ 2
-        (ci.value push at) (cv.value push (at + operand_count i (left_of i v))) refl,
-  );
+  value = λ d at.
+      let place = items.index_place (alone v) in
+      two_length (left_of i v) (alone v) _ _ (items.stored width a (left_of i v) (alone v) d ∷ []) _ _ 1
+      (ci.value place at) (cv.value aside (at + if_pushed (left_of i v) (value_count i place) 0)) refl;
+  branch = λ when at t.
+      let place = items.index_place (alone v) in
+      omega (
+        arith,
+        two_length (left_of i v) (alone v) _ _
+            (items.stored width a (left_of i v) (alone v) push ∷ branch_true pushed when t ∷ []) _ _ 2
+            (ci.value place at) (cv.value aside (at + if_pushed (left_of i v) (value_count i place) 0)) refl,
+      );
 }

@@ -4,7 +4,6 @@ use Rattle.std.proofs.Common.{Bool, true, false, refl, sym, ap, ◌∙◌, arith
 use Rattle.std.proofs.lemmas.List.{map-append}
 use Rattle.std.specs.Prelude.{◌&&◌, ◌||◌, nat_lt, nat_le, if◌then◌else◌}
 use Rattle.std.proofs.lemmas.Bool.{ltb-true}
-use Rattle.syntax_trees.specs.declared.tree.Prefix.{Prefix}
 use Rattle.meaning.specs.declared.resolved.Variable.{Variable}
 use Rattle.meaning.specs.declared.resolved.Value as code_value
 use Rattle.meaning.specs.Resolved.{Value, Values, none, more, value_of, values_of}

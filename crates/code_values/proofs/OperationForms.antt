@@ -1,6 +1,6 @@
 -- What is written for operations, chains, comparisons and entries.
 use Rattle.std.proofs.Common.{◌≡◌, ℕ, ◌+◌, ◌-◌, List, [], ◌∷◌, ◌++◌, Bool, true, false, refl, sym, ap, ◌∙◌}
-use Rattle.std.proofs.Common.{append_assoc}
+use Rattle.std.proofs.Common.{append_assoc, subst}
 use Rattle.std.specs.Prelude.{if◌then◌else◌}
 use Rattle.syntax_trees.specs.declared.tree.Binary.{Binary}
 use Rattle.syntax_trees.specs.declared.tree.Binary.TheVariants as binaries
@@ -10,7 +10,8 @@ use Rattle.meaning.specs.Resolved.{Value, chained}
 use Rattle.meaning.specs.Resolved as source
 use Rattle.code_values.specs.Items.{Item, Operand, pushed, number, Destination, push, Test, alone, left_of}
 use Rattle.code_values.specs.Items.{if_pushed, branch_true, comparison_test, comparison_when, value_count, value_items}
-use Rattle.code_values.specs.Items.{branch_items, right_place, operated, into, aside, nowhere, variable}
+use Rattle.code_values.specs.Items.{branch_items, right_place, operated, into, aside, nowhere, variable, is_any_pushed}
+use Rattle.code_values.specs.Items.{loaded, index_place, stored}
 use Rattle.code_values.specs.Items as items
 use Rattle.code_values.specs.declared.item.Destination.TheVariants as destinations
 use Rattle.code_values.specs.declared.wanted.Wanted.{Wanted}
@@ -155,41 +156,68 @@ compare_more c c1 c2 wanted op o a b e link w = (link a e).with_rest c2 w
 
 -- Entries
 
+-- what reads or assigns an entry has no target
+load_kept : (width : Width) (a : ℕ) (o : Operand) (d : Destination) (n : ℕ)
+    → numbered n (loaded width a o d) ≡ loaded width a o d
+load_kept width a pushed d n = refl
+load_kept width a (number k) d n = refl
+load_kept width a (variable x) d n = refl
+
+store_kept : (width : Width) (a : ℕ) (o q : Operand) (d : Destination) (n : ℕ)
+    → numbered n (stored width a o q d) ≡ stored width a o q d
+store_kept width a o q d n = go (is_any_pushed (o ∷ q ∷ []))
+  where
+    go : (b : Bool)
+        → numbered n (if b then items.assign_entry_aside width a o q d else items.assign_entry width a o q d)
+        ≡ (if b then items.assign_entry_aside width a o q d else items.assign_entry width a o q d)
+    go true = refl
+    go false = refl
+
 pub entry_more : (c c1 c2 c3 : List Item) (wanted : Wanted) (d : Destination) (width : Width) (a : ℕ) (o : Operand)
-    (i : Value) → ReducesWord c c1 wanted d → o ≡ alone i → c2 ≡ c1 ++ items.entry width a o d ∷ []
-    → WritesBefore c2 c3 (pushes o i)
+    (i : Value) (k : Item) → ReducesWord c c1 wanted d → o ≡ alone i → k ≡ loaded width a o d → c2 ≡ c1 ++ k ∷ []
+    → WritesBefore c2 c3 (placed aside o i)
     → WritesBefore c c3 (wanted_items wanted (source.entry width a i))
-entry_more c c1 c2 c3 wanted d width a o i reduces eo e w =
+entry_more c c1 c2 c3 wanted d width a o i k reduces eo is e w =
     (reduces (source.entry width a i)
-    (λ at t when. sym (append_assoc (if_pushed (alone i) (value_items at i push) [])
-    (items.entry width a (alone i) push ∷ []) (branch_true pushed when t ∷ [])))).with_rest c3
-    (as_items (λ n at _. ap (λ o. if_pushed o (value_items at i push) [] ++ items.entry width a o d ∷ []) eo)
-    (after_one _ (items.entry width a o d) (λ n at. pushes_length o i n at) e w))
+    (λ at t when. sym (append_assoc (if_pushed (alone i) (value_items at i aside) [])
+    (loaded width a (alone i) push ∷ []) (branch_true pushed when t ∷ [])))).with_rest c3
+    (as_items (λ n at _. ap (λ k. if_pushed o (value_items at i aside) [] ++ k ∷ []) (load_kept width a o d n)
+    ∙ ap (λ o. if_pushed o (value_items at i aside) [] ++ loaded width a o d ∷ []) eo)
+    (after_one _ (loaded width a o d) (λ n at. placed_length aside o i n at) (e ∙ ap (λ k. c1 ++ k ∷ []) is) w))
 
 abbrev entry_assigned : Width → ℕ → Operand → Value → Operand → Value → ℕ → Destination → List Item → List Item
-entry_assigned width a o i ov v at d more = if_pushed o (value_items at i push) []
-    ++ (if_pushed ov (value_items (at + if_pushed o (value_count i push) 0) v push) []
-    ++ items.assign_entry width a o ov d ∷ more)
+entry_assigned width a o i ov v at d more = if_pushed o (value_items at i (index_place (alone v))) []
+    ++ (if_pushed ov (value_items (at + if_pushed o (value_count i (index_place (alone v))) 0) v aside) []
+    ++ stored width a o ov d ∷ more)
 
 pub assigned_entry_link : (c c1 c2 c3 : List Item) (wanted : Wanted) (d : Destination) (width : Width) (a : ℕ)
-    (o ov : Operand) (v : Value) → ReducesWord c c1 wanted d → ov ≡ alone v
-    → c2 ≡ c1 ++ items.assign_entry width a o ov d ∷ [] → WritesBefore c2 c3 (pushes ov v)
+    (o ov : Operand) (v : Value) (k : Item) → ReducesWord c c1 wanted d → ov ≡ alone v → k ≡ stored width a o ov d
+    → c2 ≡ c1 ++ k ∷ [] → WritesBefore c2 c3 (placed aside ov v)
     → ReducesAssignedEntry c c3 wanted width a o v
-assigned_entry_link c c1 c2 c3 wanted d width a o ov v reduces ev e wv i eo = record {
-  with_rest = λ c4 w.
-      (reduces (source.assign_entry width a i v)
-      (λ at t when. regroup (left_of i v) (alone v) at (branch_true pushed when t ∷ []) push)).with_rest c4
-      (as_items (λ n at _. ap (λ x. entry_assigned width a x i ov v at d []) eo
-      ∙ ap (λ y. entry_assigned width a (left_of i v) i y v at d []) ev)
-      (both (if_pushed o (value_count i push) 0) (λ n at. pushes_length o i n at)
-      (after_one _ (items.assign_entry width a o ov d) (λ n at. pushes_length ov v n at) e wv) w));
-}
+assigned_entry_link c c1 c2 c3 wanted d width a o ov v k reduces ev is e wv i eo =
+    let place = index_place (alone v) in
+    record {
+      with_rest = λ c4 w.
+          (reduces (source.assign_entry width a i v)
+          (λ at t when. regroup (left_of i v) (alone v) at (branch_true pushed when t ∷ []) push)).with_rest c4
+          (as_items (λ n at _.
+          ap (λ k. if_pushed o (value_items at i place) []
+          ++ (if_pushed ov (value_items (at + if_pushed o (value_count i place) 0) v aside) [] ++ k ∷ []))
+          (store_kept width a o ov d n)
+          ∙ ap (λ x. entry_assigned width a x i ov v at d []) eo
+          ∙ ap (λ y. entry_assigned width a (left_of i v) i y v at d []) ev)
+          (both (if_pushed o (value_count i place) 0) (λ n at. placed_length place o i n at)
+          (after_one _ (stored width a o ov d) (λ n at. placed_length aside ov v n at) (e ∙ ap (λ k. c1 ++ k ∷ []) is)
+          wv) w));
+    }
   where
     regroup : (oi ov : Operand) (at : ℕ) (more : List Item) (d : Destination)
         → entry_assigned width a oi i ov v at d more ≡ entry_assigned width a oi i ov v at d [] ++ more
     regroup oi ov at more d = simp append_assoc
 
-pub assigned_entry_more : (c c1 c2 : List Item) (wanted : Wanted) (width : Width) (a : ℕ) (o : Operand) (i v : Value)
-    → o ≡ left_of i v → ReducesAssignedEntry c c1 wanted width a o v → WritesBefore c1 c2 (pushes o i)
+pub assigned_entry_more : (c c1 c2 : List Item) (wanted : Wanted) (width : Width) (a : ℕ) (o word : Operand)
+    (place : Destination) (i v : Value) → o ≡ left_of i v → ReducesAssignedEntry c c1 wanted width a o v
+    → word ≡ alone v → place ≡ index_place word → WritesBefore c1 c2 (placed place o i)
     → WritesBefore c c2 (wanted_items wanted (source.assign_entry width a i v))
-assigned_entry_more c c1 c2 wanted width a o i v e link w = (link i e).with_rest c2 w
+assigned_entry_more c c1 c2 wanted width a o word place i v e link ew is w =
+    (link i e).with_rest c2 (subst (λ p. WritesBefore c1 c2 (placed p o i)) (is ∙ ap index_place ew) w)

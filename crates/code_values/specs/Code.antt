@@ -44,8 +44,11 @@ item_of (variants.Operate op a b d) =
 item_of (variants.OperateAside op o d) = items.operate_aside op (as_operand o) (as_destination d)
 item_of (variants.Step op x d) = items.step op x (as_destination d)
 item_of (variants.Entry width a o d) = items.entry width a (as_operand o) (as_destination d)
+item_of (variants.EntryAside width a d) = items.entry_aside width a (as_destination d)
 item_of (variants.AssignEntry width a o q d) =
     items.assign_entry width a (as_operand o) (as_operand q) (as_destination d)
+item_of (variants.AssignEntryAside width a o q d) =
+    items.assign_entry_aside width a (as_operand o) (as_operand q) (as_destination d)
 item_of (variants.Relative r o d) = items.relative r (as_operand o) (as_destination d)
 item_of (variants.Property o p d) = items.property (as_operand o) p (as_destination d)
 item_of (variants.PropertySize o p d) = items.property_size (as_operand o) p (as_destination d)

@@ -58,8 +58,12 @@ pub data Item : Type 0 where
   step : Step → Variable → Destination → Item
   -- an entry of the array of this number, at an index
   entry : Width → ℕ → Operand → Destination → Item
+  -- the same, where the index was put aside
+  entry_aside : Width → ℕ → Destination → Item
   -- a word is assigned to the entry at an index, and goes on: index and word
   assign_entry : Width → ℕ → Operand → Operand → Destination → Item
+  -- the same, where the last of both that is pushed was put aside: it counts as the top of the stack
+  assign_entry_aside : Width → ℕ → Operand → Operand → Destination → Item
   -- the topmost word goes to a variable, and stays
   keep : Variable → Item
   -- of an object: its parent, its first child or its sibling
@@ -230,6 +234,22 @@ abbrev pub called : Bool → ℕ → List Operand → Destination → Item
 called true r os d = call_aside r os d
 called false r os d = call r os d
 
+-- an entry is read, where an index that does not stand in place went aside
+abbrev pub loaded : Width → ℕ → Operand → Destination → Item
+loaded width a pushed d = entry_aside width a d
+loaded width a index d = entry width a index d
+
+-- where the index of an entry goes that does not stand in place, by the word that is assigned: aside, if that stands in
+-- place, since the last of both goes there
+abbrev pub index_place : Operand → Destination
+index_place word = argument_place true (if_pushed word true false)
+
+-- an entry is assigned, where the last of index and word that does not stand in place went aside
+abbrev pub stored : Width → ℕ → Operand → Operand → Destination → Item
+stored width a index word d =
+    if is_any_pushed (index ∷ word ∷ []) then assign_entry_aside width a index word d
+    else assign_entry width a index word d
+
 -- Branches
 
 -- the test that decides a comparison
@@ -342,9 +362,9 @@ abbrev mutual
       else value_count a push + many_count bs)
       + truth_count d
   value_count (source.assign x v) d = kept_count d (value_count v (into x)) (value_count v push)
-  value_count (source.entry width a i) d = if_pushed (alone i) (value_count i push) 0 + 1
+  value_count (source.entry width a i) d = if_pushed (alone i) (value_count i aside) 0 + 1
   value_count (source.assign_entry width a i v) d =
-      if_pushed (left_of i v) (value_count i push) 0 + if_pushed (alone v) (value_count v push) 0 + 1
+      if_pushed (left_of i v) (value_count i (index_place (alone v))) 0 + if_pushed (alone v) (value_count v aside) 0 + 1
   value_count (source.relative r v) d = if_pushed (alone v) (value_count v push) 0 + 1
   value_count (source.contained op a b) d =
       if_pushed (left_of a b) (value_count a push) 0 + if_pushed (alone b) (value_count b push) 0 + 1
@@ -394,9 +414,10 @@ abbrev mutual
       if_pushed (operand_of a bs) (value_count a push) 0 + operands_count bs + same_count (operands_of bs)
       else value_count a push + many_count bs
   branch_count (source.assign x v) when = value_count v push + 2
-  branch_count (source.entry width a i) when = if_pushed (alone i) (value_count i push) 0 + 1 + 1
+  branch_count (source.entry width a i) when = if_pushed (alone i) (value_count i aside) 0 + 1 + 1
   branch_count (source.assign_entry width a i v) when =
-      if_pushed (left_of i v) (value_count i push) 0 + if_pushed (alone v) (value_count v push) 0 + 1 + 1
+      if_pushed (left_of i v) (value_count i (index_place (alone v))) 0 + if_pushed (alone v) (value_count v aside) 0
+      + 1 + 1
   branch_count (source.relative r v) when = if_pushed (alone v) (value_count v push) 0 + 1 + 1
   branch_count (source.contained op a b) when =
       if_pushed (left_of a b) (value_count a push) 0 + if_pushed (alone b) (value_count b push) 0 + 1
@@ -521,11 +542,12 @@ abbrev mutual
   value_items at (source.assign x v) d =
       kept_items x d (value_items at v (into x)) (value_items at v push)
   value_items at (source.entry width a i) d =
-      if_pushed (alone i) (value_items at i push) [] ++ entry width a (alone i) d ∷ []
+      if_pushed (alone i) (value_items at i aside) [] ++ loaded width a (alone i) d ∷ []
   value_items at (source.assign_entry width a i v) d =
-      if_pushed (left_of i v) (value_items at i push) []
-      ++ (if_pushed (alone v) (value_items (at + operand_count i (left_of i v)) v push) []
-      ++ assign_entry width a (left_of i v) (alone v) d ∷ [])
+      if_pushed (left_of i v) (value_items at i (index_place (alone v))) []
+      ++ (if_pushed (alone v)
+      (value_items (at + if_pushed (left_of i v) (value_count i (index_place (alone v))) 0) v aside) []
+      ++ stored width a (left_of i v) (alone v) d ∷ [])
   value_items at (source.relative r v) d = if_pushed (alone v) (value_items at v push) [] ++ relative r (alone v) d ∷ []
   value_items at (source.contained op a b) d =
       truth_items at (operand_count a (left_of a b) + operand_count b (alone b) + 1) d (λ target.
@@ -615,12 +637,13 @@ abbrev mutual
   branch_items at (source.assign x v) when target =
       value_items at v push ++ keep x ∷ branch_true pushed when target ∷ []
   branch_items at (source.entry width a i) when target =
-      if_pushed (alone i) (value_items at i push) []
-      ++ entry width a (alone i) push ∷ branch_true pushed when target ∷ []
+      if_pushed (alone i) (value_items at i aside) []
+      ++ loaded width a (alone i) push ∷ branch_true pushed when target ∷ []
   branch_items at (source.assign_entry width a i v) when target =
-      if_pushed (left_of i v) (value_items at i push) []
-      ++ (if_pushed (alone v) (value_items (at + operand_count i (left_of i v)) v push) []
-      ++ assign_entry width a (left_of i v) (alone v) push ∷ branch_true pushed when target ∷ [])
+      if_pushed (left_of i v) (value_items at i (index_place (alone v))) []
+      ++ (if_pushed (alone v)
+      (value_items (at + if_pushed (left_of i v) (value_count i (index_place (alone v))) 0) v aside) []
+      ++ stored width a (left_of i v) (alone v) push ∷ branch_true pushed when target ∷ [])
   branch_items at (source.relative r v) when target =
       if_pushed (alone v) (value_items at v push) []
       ++ relative r (alone v) push ∷ branch_true pushed when target ∷ []

@@ -25,7 +25,7 @@ pushes o v n at = if_pushed o (value_items at v push) []
 
 -- Operations
 
--- the items that put a right operand where it goes
+-- the items that put an operand where it goes
 abbrev pub placed : Destination → Operand → Value → ℕ → ℕ → List Item
 placed place o v n at = if_pushed o (value_items at v place) []
 
@@ -64,10 +64,10 @@ abbrev pub ReducesComparison : List Item → List Item → Wanted → Comparison
 ReducesComparison old new wanted op o b = (v : Value) → o ≡ left_of v b
     → Leaves old new (wanted_items wanted (source.compare op v b)) (pushes o v)
 
--- an assignment to an entry: those that push its index
+-- an assignment to an entry: those that put its index where it goes
 abbrev pub ReducesAssignedEntry : List Item → List Item → Wanted → Width → ℕ → Operand → Value → Type 0
 ReducesAssignedEntry old new wanted width a o v = (i : Value) → o ≡ left_of i v
-    → Leaves old new (wanted_items wanted (source.assign_entry width a i v)) (pushes o i)
+    → Leaves old new (wanted_items wanted (source.assign_entry width a i v)) (placed (items.index_place (alone v)) o i)
 
 -- `in` and `notin`: those that push the object
 abbrev pub ReducesContained : List Item → List Item → Wanted → Containment → Operand → Value → Type 0
@@ -106,7 +106,7 @@ ReducesEquality old new wanted op oa ob bs =
 abbrev pub WritesOperand : Draft → Draft → code_operand.Operand → code_value.Value → Type 0
 WritesOperand old new o v = Writes old new (pushes (as_operand o) (value_of v))
 
--- what puts a right operand where it goes
+-- what puts an operand where it goes
 abbrev pub WritesPlaced : Draft → Draft → code_operand.Operand → code_destination.Destination → code_value.Value
     → Type 0
 WritesPlaced old new o place v = Writes old new (placed (as_destination place) (as_operand o) (value_of v))

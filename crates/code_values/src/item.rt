@@ -66,9 +66,16 @@ pub enum Item<'a> {
     /// An entry of the array of this number, at an index, or the fault that it has none there.
     Entry(Width, usize, Operand, Destination),
 
+    /// The same, where the index was put aside.
+    EntryAside(Width, usize, Destination),
+
     /// A word is assigned to the entry at an index, and goes on, or the fault that there is none:
     /// index and word.
     AssignEntry(Width, usize, Operand, Operand, Destination),
+
+    /// The same, where the last of both that is pushed was put aside: it counts as the topmost word
+    /// of the stack.
+    AssignEntryAside(Width, usize, Operand, Operand, Destination),
 
     /// The parent, the first child or the sibling of an object, or the fault that it is none.
     Relative(Relative, Operand, Destination),

@@ -11,11 +11,11 @@ ghost use Rattle.code_values.specs.Writing.{WritesChoice, WritesMoved};
 
 use crate::draft::{Draft, put, put_branch, written};
 use crate::item::{Destination, Item, Operand, Test};
-use crate::operand::is_pushed;
+use crate::operand::{is_any_pushed, is_pushed};
 use crate::wanted::Wanted;
 use meaning::Variable;
 use std::alloc::AllocError;
-use syntax_trees::{Binary, Comparison, Containment, Equality, Step};
+use syntax_trees::{Binary, Comparison, Containment, Equality, Step, Width};
 
 /// What follows an expression that has a word: a branch by it, if that is wanted. Where the word is
 /// to go.
@@ -264,6 +264,44 @@ pub fn called<'a>(
         Item::CallAside(routine, operands, destination)
     } else {
         Item::Call(routine, operands, destination)
+    }
+}
+
+/// An entry that is read, where an index that does not stand in place went aside.
+pub fn loaded<'a>(width: Width, array: usize, index: Operand, destination: Destination) -> Item<'a>
+    ensures { item_of result ≡ items.loaded width array (as_operand index)
+        (as_destination destination) }
+{
+    match index {
+        Operand::Pushed => Item::EntryAside(width, array, destination),
+        Operand::Number(_) | Operand::Variable(_) => Item::Entry(width, array, index, destination),
+    }
+}
+
+/// Where the index of an entry goes that does not stand in place, by the word that is assigned:
+/// aside, if that stands in place, since the last of both goes there.
+pub fn index_place(word: Operand) -> Destination
+    ensures { as_destination result ≡ items.index_place (as_operand word) }
+{
+    argument_place(true, is_pushed(word))
+}
+
+/// An entry that is assigned, where the last of index and word that does not stand in place went
+/// aside.
+pub fn stored<'a>(
+    width: Width,
+    array: usize,
+    index: Operand,
+    word: Operand,
+    destination: Destination,
+) -> Item<'a>
+    ensures { item_of result ≡ items.stored width array (as_operand index) (as_operand word)
+        (as_destination destination) }
+{
+    if is_any_pushed(&[index, word]) {
+        Item::AssignEntryAside(width, array, index, word, destination)
+    } else {
+        Item::AssignEntry(width, array, index, word, destination)
     }
 }
 

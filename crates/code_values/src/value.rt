@@ -22,8 +22,9 @@ use crate::operand::{
 };
 use crate::parts::{
     are_behind, argument_place, called, comparison_test, comparison_when, containment_when,
-    equality_when, first_of_and, first_of_or, has_when, is_logical, operated, put_number, put_read,
-    put_step_after, put_step_before, put_truth, put_word, right_place,
+    equality_when, first_of_and, first_of_or, has_when, index_place, is_logical, loaded, operated,
+    put_number, put_read, put_step_after, put_step_before, put_truth, put_word, right_place,
+    stored,
 };
 use crate::several::put_each_same;
 use crate::wanted::Wanted;
@@ -89,7 +90,7 @@ pub fn put_operand<'a>(
     Ok(())
 }
 
-/// What puts the right operand of an operator where it goes; none where it stands in place.
+/// What puts an operand where it goes; none where it stands in place.
 #[cycle(values)]
 fn put_right<'a>(
     draft: &mut Draft<'a>,
@@ -231,8 +232,8 @@ fn put_entry<'a>(
 {
     let destination = put_word(draft, wanted)?;
     let operand = alone(index);
-    put(draft, Item::Entry(width, array, operand, destination))?;
-    put_operand(draft, index, operand)?;
+    put(draft, loaded(width, array, operand, destination))?;
+    put_right(draft, index, operand, Destination::Aside)?;
     Ok(())
 }
 
@@ -251,7 +252,8 @@ fn put_assign_entry<'a>(
 {
     let left = left_of(index, value);
     put_assigned_entry(draft, value, width, array, left, wanted)?;
-    put_operand(draft, index, left)?;
+    let place = index_place(alone(value));
+    put_right(draft, index, left, place)?;
     Ok(())
 }
 
@@ -270,11 +272,8 @@ fn put_assigned_entry<'a>(
 {
     let destination = put_word(draft, wanted)?;
     let operand = alone(value);
-    put(
-        draft,
-        Item::AssignEntry(width, array, index, operand, destination),
-    )?;
-    put_operand(draft, value, operand)?;
+    put(draft, stored(width, array, index, operand, destination))?;
+    put_right(draft, value, operand, Destination::Aside)?;
     Ok(())
 }
 

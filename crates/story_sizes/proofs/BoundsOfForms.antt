@@ -259,25 +259,52 @@ equal_small op a bs sa sbs first =
     several_items : ℕ → Bool → ℕ → List Item
     several_items at when t = value_items at a push ++ many_items (at + value_count a push) op bs when t
 
+loaded_small : (width : Width) (a : ℕ) (o : Operand) (d : Destination) → most (items.loaded width a o d) ≤ 24
+loaded_small width a pushed d = omega arith
+loaded_small width a (number k) d = omega arith
+loaded_small width a (variable x) d = omega arith
+
+stored_small : (width : Width) (a : ℕ) (o q : Operand) (d : Destination) → most (items.stored width a o q d) ≤ 33
+stored_small width a o q d = go (is_any_pushed (o ∷ q ∷ []))
+  where
+    go : (b : Bool) → most (if b then items.assign_entry_aside width a o q d else items.assign_entry width a o q d) ≤ 33
+    go true = omega arith
+    go false = omega arith
+
 pub entry_small : (width : Width) (a : ℕ) (i : Value) → Small i → Small (source.entry width a i)
-entry_small width a i s = record {
-  value = λ d at. omega (arith, alone_small i s at (items.entry width a (alone i) d ∷ []));
-  branch = λ when at t. omega
-      (arith, alone_small i s at (items.entry width a (alone i) push ∷ branch_true pushed when t ∷ []));
-}
+entry_small width a i s =
+    let before : ℕ → List Item = λ at. if_pushed (alone i) (value_items at i aside) [] in
+    record {
+      value = λ d at. omega (
+        arith,
+        if_small (alone i) _ _ (s.value aside at),
+        most_append (before at) (items.loaded width a (alone i) d ∷ []),
+        loaded_small width a (alone i) d,
+      );
+      branch = λ when at t. omega (
+        arith,
+        if_small (alone i) _ _ (s.value aside at),
+        most_append (before at) (items.loaded width a (alone i) push ∷ branch_true pushed when t ∷ []),
+        loaded_small width a (alone i) push,
+      );
+    }
 
 pub assign_entry_small : (width : Width) (a : ℕ) (i v : Value) → Small i → Small v
     → Small (source.assign_entry width a i v)
-assign_entry_small width a i v si sv = record {
-  value = λ d at. omega (
-    arith,
-    two_small (left_of i v) (alone v) _ _ (items.assign_entry width a (left_of i v) (alone v) d ∷ []) _ _
-        (si.value push at) (sv.value push (at + operand_count i (left_of i v))),
-  );
-  branch = λ when at t. omega (
-    arith,
-    two_small (left_of i v) (alone v) _ _
-        (items.assign_entry width a (left_of i v) (alone v) push ∷ branch_true pushed when t ∷ []) _ _
-        (si.value push at) (sv.value push (at + operand_count i (left_of i v))),
-  );
-}
+assign_entry_small width a i v si sv =
+    let o = left_of i v in
+    let place = items.index_place (alone v) in
+    record {
+      value = λ d at. omega (
+        arith,
+        two_small o (alone v) _ _ (items.stored width a o (alone v) d ∷ []) _ _ (si.value place at)
+            (sv.value aside (at + if_pushed o (value_count i place) 0)),
+        stored_small width a o (alone v) d,
+      );
+      branch = λ when at t. omega (
+        arith,
+        two_small o (alone v) _ _ (items.stored width a o (alone v) push ∷ branch_true pushed when t ∷ []) _ _
+            (si.value place at) (sv.value aside (at + if_pushed o (value_count i place) 0)),
+        stored_small width a o (alone v) push,
+      );
+    }

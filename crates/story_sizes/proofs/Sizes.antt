@@ -17,7 +17,8 @@ use Rattle.code_objects.specs.ObjectCode.{objects_of, relative_code, is_in_code,
 use Rattle.code_objects.specs.ObjectCode.{remove_code, print_name_code, property_code, property_size_code}
 use Rattle.code_objects.specs.ObjectCode.{property_word_code, assign_property_code, assign_property_word_code}
 use Rattle.code_objects.specs.ObjectCode.{move_object_code, first_object_code, next_object_code}
-use Rattle.code_selection.specs.ItemCode.{entry_code, assign_entry_code, read_code}
+use Rattle.code_selection.specs.ItemCode.{entry_code, assign_entry_code, read_code, entry_aside_code}
+use Rattle.code_selection.specs.ItemCode.{assign_entry_aside_code}
 use Rattle.code.specs.Bytes.{no_addresses, part_of, parts_of, code_size}
 use Rattle.code.proofs.AddressLengths.{one_length}
 use Rattle.code.proofs.AsideOperands.{aside_length}
@@ -30,7 +31,7 @@ use Rattle.story_sizes.proofs.SizesOfProperties.{provides_few, property_few, pro
 use Rattle.story_sizes.proofs.SizesOfProperties.{assign_property_few, assign_property_word_few}
 use Rattle.story_sizes.proofs.SizesOfTexts.{text_few}
 use Rattle.story_sizes.proofs.SizesOfOperations.{binary_few, prefix_few, move_few, step_few, character_few, entry_few}
-use Rattle.story_sizes.proofs.SizesOfOperations.{assign_few, aside_few}
+use Rattle.story_sizes.proofs.SizesOfOperations.{assign_few, aside_few, entry_aside_few, assign_aside_few}
 use Rattle.story_sizes.proofs.SizesOfCalls.{read_few, return_few, taken_length, call_few}
 use Rattle.story_sizes.proofs.SizesOfBranches.{branch_few, case_few}
 
@@ -59,6 +60,20 @@ module _ (sizes : Sizes) where
         arith,
         no_text (entry_code no_addresses width size (slice_index no_addresses.arrays number) o d),
         entry_few width size (slice_index no_addresses.arrays number) o d,
+      )
+  part_few (items.entry_aside width number d) n rest =
+      let size = slice_index sizes.arrays number % 65536 in
+      omega (
+        arith,
+        no_text (entry_aside_code no_addresses width size (slice_index no_addresses.arrays number) d),
+        entry_aside_few width size (slice_index no_addresses.arrays number) d,
+      )
+  part_few (items.assign_entry_aside width number o q d) n rest =
+      let size = slice_index sizes.arrays number % 65536 in
+      omega (
+        arith,
+        no_text (assign_entry_aside_code no_addresses width size (slice_index no_addresses.arrays number) o q d),
+        assign_aside_few width size (slice_index no_addresses.arrays number) o q d,
       )
   part_few (items.assign_entry width number o q d) n rest =
       let size = slice_index sizes.arrays number % 65536 in

@@ -23,13 +23,13 @@ use Rattle.code_values.specs.Items as items
 use Rattle.code_branch_forms.specs.Layout.{first}
 use Rattle.code_encoding.specs.Instructions as spec
 use Rattle.code_encoding.specs.Instructions.{plain, giving, in_place, constant, operands, takes, result_in, fail}
-use Rattle.code_encoding.specs.Instructions.{aside_variable}
+use Rattle.code_encoding.specs.Instructions.{aside_variable, number_of}
 use Rattle.code_encoding.specs.Bytes.{bytes_of_all}
 use Rattle.code_instructions.specs.Instructions.{arithmetic, commuting, divided_by, divided, binary_code, with_aside}
-use Rattle.code_instructions.specs.Instructions.{aside_code, prefix_code, move_code, step_code, character_code}
+use Rattle.code_instructions.specs.Instructions.{aside_global, aside_code, prefix_code, move_code, step_code, character_code}
 use Rattle.code_objects.specs.ObjectCode.{assigned_takes, assigned_word, passed_on}
 use Rattle.code_selection.specs.ItemCode.{entries_in, load_operation, store_operation, at_index, entry_code}
-use Rattle.code_selection.specs.ItemCode.{assign_entry_code}
+use Rattle.code_selection.specs.ItemCode.{assign_entry_code, entry_aside_code, assign_entry_aside_code}
 use Rattle.code.specs.Bytes.{no_addresses}
 use Rattle.code.proofs.AddressLengths.{all_length, one_length}
 use Rattle.story_sizes.proofs.SizesOfInstructions.{few_bytes, constant_few, operand_few, one_count, three_count}
@@ -231,15 +231,44 @@ stored_few width place word d w i h =
       h,
     )
 
+-- an index that was put aside is a variable of the compiler
+pub entry_aside_few : (width : Width) (size place : ℕ) (d : Destination)
+    → length (bytes_of_all (entry_aside_code no_addresses width size place d)) ≤ 24
+entry_aside_few width size place d = entry_few width size place (items.variable aside_global) d
+
+stored_at_few : (width : Width) (size place : ℕ) (o : items.Operand) (word : Operand) (d : Destination)
+    → length (operand_bytes word) ≤ 2
+    → length (bytes_of_all (at_index no_addresses (entries_in width size) o (λ i.
+    plain (store_operation width) (Large place ∷ i ∷ word ∷ []) ∷ passed_on d word))) ≤ 30
+stored_at_few width size place o word d few = at_few causes.IndexOutOfRange 0 (entries_in width size) o
+    (λ i. plain (store_operation width) (Large place ∷ i ∷ word ∷ []) ∷ passed_on d word) 13
+    (stored_few width place word d few)
+
 pub assign_few : (width : Width) (size place : ℕ) (o q : items.Operand) (d : Destination)
     → length (bytes_of_all (assign_entry_code no_addresses width size place o q d)) ≤ 33
 assign_few width size place o q d =
     let word = assigned_word q in
-    let count = entries_in width size in
-    let act = λ (i : Operand). plain (store_operation width) (Large place ∷ i ∷ word ∷ []) ∷ passed_on d word in
     omega (
       arith,
-      all_length (assigned_takes q) (at_index no_addresses count o act),
+      all_length (assigned_takes q) (at_index no_addresses (entries_in width size) o
+          (λ i. plain (store_operation width) (Large place ∷ i ∷ word ∷ []) ∷ passed_on d word)),
       pulled_into_few 1 q,
-      at_few causes.IndexOutOfRange 0 count o act 13 (stored_few width place word d (word_in_few 1 q)),
+      stored_at_few width size place o word d (word_in_few 1 q),
+    )
+
+pub assign_aside_few : (width : Width) (size place : ℕ) (o q : items.Operand) (d : Destination)
+    → length (bytes_of_all (assign_entry_aside_code no_addresses width size place o q d)) ≤ 33
+assign_aside_few width size place o items.pushed d =
+    omega (arith, stored_at_few width size place o (Variable aside_variable) d (omega arith))
+assign_aside_few width size place o (items.number k) d =
+    omega (
+      arith,
+      stored_at_few width size place (items.variable aside_global) (constant k) d
+          (word_in_few 1 (items.number k)),
+    )
+assign_aside_few width size place o (items.variable x) d =
+    omega (
+      arith,
+      stored_at_few width size place (items.variable aside_global) (Variable (number_of x)) d
+          (word_in_few 1 (items.variable x)),
     )

@@ -92,6 +92,15 @@ accesses_have : least_size sizes (items.entry widths.Byte 1 items.pushed items.p
 unfolding bytes_of
 accesses_have = refl
 
+-- the same without the pull of what was put aside
+accesses_aside_have : least_size sizes (items.entry_aside widths.Byte 1 items.push)
+    ∷ least_size sizes (items.assign_entry_aside widths.Word 1 items.pushed items.pushed items.push)
+    ∷ least_size sizes (items.assign_entry_aside widths.Byte 1 items.pushed (items.number 300) (items.into x))
+    ∷ []
+    ≡ 20 ∷ 26 ∷ 26 ∷ []
+unfolding bytes_of
+accesses_aside_have = refl
+
 -- two first bytes tested, against small constants or large, and the line read
 lines_have : least_size sizes (items.read_line 0 1) ∷ least_size sizes (items.read_line 1 2) ∷ [] ≡ 49 ∷ 53 ∷ []
 unfolding bytes_of

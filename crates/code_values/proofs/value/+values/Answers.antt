@@ -62,12 +62,12 @@ put_prefixed-returns-in_ok-put_operand-in_default t c =
     c.alone-operand.ensures c.in_ok-put-in_default.ensures c.in_ok-put_operand-in_default.ensures
 
 pub put_entry-returns : goal.put_entry-returns
-put_entry-returns t c = entry_more _ _ _ _ c.args.wanted _ c.args.width c.args.array _ _ c.in_ok-destination.ensures
-    c.alone-operand.ensures c.in_ok-put.ensures c.in_ok-put_operand.ensures
+put_entry-returns t c = entry_more _ _ _ _ c.args.wanted _ c.args.width c.args.array _ _ _
+    c.in_ok-destination.ensures c.alone-operand.ensures c.loaded.ensures c.in_ok-put.ensures c.in_ok-put_right.ensures
 
 pub put_assigned_entry-returns : goal.put_assigned_entry-returns
-put_assigned_entry-returns t c = assigned_entry_link _ _ _ _ c.args.wanted _ c.args.width c.args.array _ _ _
-    c.in_ok-destination.ensures c.alone-operand.ensures c.in_ok-put.ensures c.in_ok-put_operand.ensures
+put_assigned_entry-returns t c = assigned_entry_link _ _ _ _ c.args.wanted _ c.args.width c.args.array _ _ _ _
+    c.in_ok-destination.ensures c.alone-operand.ensures c.stored.ensures c.in_ok-put.ensures c.in_ok-put_right.ensures
 
 pub put_comparison-returns : goal.put_comparison-returns
 put_comparison-returns t c = comparison_written _ _ _ _ c.args.wanted c.in_ok-when.when _ c.in_ok-when.target
@@ -183,8 +183,9 @@ put_compare-returns t c = compare_more _ _ _ c.args.wanted c.args.comparison _ _
     c.in_ok-put_comparison.ensures c.in_ok-put_operand.ensures
 
 pub put_assign_entry-returns : goal.put_assign_entry-returns
-put_assign_entry-returns t c = assigned_entry_more _ _ _ c.args.wanted c.args.width c.args.array _ _ _
-    c.left_of-left.ensures c.in_ok-put_assigned_entry.ensures c.in_ok-put_operand.ensures
+put_assign_entry-returns t c = assigned_entry_more _ _ _ c.args.wanted c.args.width c.args.array _ _ _ _ _
+    c.left_of-left.ensures c.in_ok-put_assigned_entry.ensures c.alone.ensures c.index_place-place.ensures
+    c.in_ok-put_right.ensures
 
 pub put_contained-returns : goal.put_contained-returns
 put_contained-returns t c = contained_more _ _ _ c.args.wanted c.args.containment _ _ _ c.left_of-left.ensures
