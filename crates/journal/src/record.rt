@@ -8,7 +8,7 @@ ghost use Rattle.journal.specs.Stores.{FitsIn, GoesBack, GoesForward, swapped};
 
 use crate::cells::Cells;
 use crate::packing::{WORD_PAGES, pack, packed_size, unpack};
-use crate::recorded::FIRST_PAGES;
+use crate::recorded::PAGES_IN_PLACE;
 use smallvec::SmallVec;
 use std::marker::Model;
 
@@ -24,7 +24,7 @@ pub struct Record {
     len: usize,
 
     /// The pages, in the order in which they were first written. No page stands twice.
-    pages: SmallVec<u32, FIRST_PAGES>,
+    pages: SmallVec<u32, PAGES_IN_PLACE>,
 
     /// The pages' values, one page behind the other: of a page of bytes a byte for each cell, of
     /// any other two, the low one first.
@@ -44,7 +44,7 @@ impl Model for Record {
 
 impl Record {
     /// A record of these pages of a store of `len` cells, with their values.
-    pub(crate) fn of(len: usize, pages: SmallVec<u32, FIRST_PAGES>, packed: Vec<u8>) -> Record
+    pub(crate) fn of(len: usize, pages: SmallVec<u32, PAGES_IN_PLACE>, packed: Vec<u8>) -> Record
         requires { IsPaged len pages.items packed.items }
         ensures { result ≡ entries_of len pages.items packed.items }
     {

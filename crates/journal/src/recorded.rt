@@ -23,9 +23,13 @@ use thiserror::Error;
 #[error("J1")]
 pub struct NoMemory;
 
-/// For how many pages a turn has room when it keeps the first: a turn that reads a line and prints
-/// keeps four. Their numbers stand in place, and their values are asked for all at once.
-pub(crate) const FIRST_PAGES: usize = 4;
+/// Of how many pages the numbers stand in place: a turn that reads a line and prints keeps four, and
+/// one that changes a global variable besides five.
+pub(crate) const PAGES_IN_PLACE: usize = 6;
+
+/// For how many bytes there is room when a turn keeps its first page: the values of four pages of
+/// words, or of eight of bytes. Few turns keep less.
+const FIRST_ROOM: usize = 4 * PAGE_BYTES;
 
 /// A store whose writes are recorded, turn by turn. Before the first write of a turn to a page, the
 /// whole page is kept as it was when the turn began. A turn is ended by `close`, which hands out
@@ -38,7 +42,7 @@ pub struct Recorded<C: Cells> {
     flags: PageFlags,
 
     /// The kept pages, in the order in which they were first written.
-    pages: SmallVec<u32, FIRST_PAGES>,
+    pages: SmallVec<u32, PAGES_IN_PLACE>,
 
     /// The kept pages' values, one page behind the other, as a record holds them.
     packed: Vec<u8>,
@@ -279,9 +283,8 @@ impl<C: Cells> Recorded<C> {
 }
 
 /// Appends the values of the first cells of a page, as a record holds them. At `Err` nothing is
-/// appended. Room for the first page is room for `FIRST_PAGES`, as few turns keep less. All pages
-/// but the last are whole: of these the compiler knows how much it copies, and needs no call for
-/// it.
+/// appended. All pages but the last are whole: of these the compiler knows how much it copies, and
+/// needs no call for it.
 fn copy_page<C: Cells>(
     store: &C,
     page: usize,
@@ -296,7 +299,7 @@ fn copy_page<C: Cells>(
     ensures err { OnErr result (packed.new.items ≡ packed.old.items) }
 {
     if packed.is_empty() {
-        packed.reserve(FIRST_PAGES * PAGE_BYTES)?;
+        packed.reserve(FIRST_ROOM)?;
     }
     if count == PAGE {
         copy_cells(store, page, PAGE, packed)
