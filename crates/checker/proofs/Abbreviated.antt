@@ -8,7 +8,8 @@ use Rattle.std.proofs.lemmas.Bool.Decides.{nat_tests}
 use Rattle.std.proofs.lemmas.List.{length-map}
 use Rattle.syntax_lexer.specs.declared.token.Position.{Position}
 use Rattle.syntax_directives.specs.declared.tree.Text.{Text}
-use Rattle.syntax_directives.specs.Tree.{TextTree, text_tree}
+use Rattle.syntax_directives.specs.Tree.{TextTree}
+use Rattle.syntax_directives.specs.Views.{text_tree}
 use Rattle.checker_names.specs.declared.breach.Breach.{Breach}
 use Rattle.checker_names.specs.Breaches.{at}
 use Rattle.checker_names.specs.Noted.{noted}

@@ -3,7 +3,8 @@ use Rattle.std.proofs.Common.{◌≡◌, List, [], ◌∷◌, ◌++◌, refl}
 use Rattle.std.specs.Prelude.{map}
 use Rattle.syntax_directives.specs.Tree.{DirectiveTree, global, constant, array, attribute, property, object, routine}
 use Rattle.checker_names.specs.Names.{File}
-use Rattle.checker.specs.Programs.{globals_of, defaults_in, routines_of, routine_trees, title}
+use Rattle.checker.specs.Programs.{globals_of, defaults_in, routines_of, routine_trees}
+use Rattle.checker.specs.Checked.{title}
 use Rattle.checker_objects.specs.Objects.{objects_in}
 
 pub globals_more : (file : File) (d : DirectiveTree) (ds : List DirectiveTree)

@@ -8,12 +8,14 @@ use Rattle.syntax_trees.specs.Tree.{NameTree}
 use Rattle.syntax_statement_parts.specs.Tree.{LiteralTree}
 use Rattle.syntax_directives.specs.declared.tree.Directive.{Directive}
 use Rattle.syntax_directives.specs.Tree.{ArrayTree, ObjectTree, RoutineTree, DirectiveTree, global, constant, array}
-use Rattle.syntax_directives.specs.Tree.{attribute, property, object, routine, directive_tree}
+use Rattle.syntax_directives.specs.Tree.{attribute, property, object, routine}
+use Rattle.syntax_directives.specs.Views.{directive_tree}
 use Rattle.meaning.specs.declared.arrays.Arrays.{Arrays}
 use Rattle.meaning.specs.declared.checked.CheckedObject.{CheckedObject}
 use Rattle.meaning.specs.declared.checked.CheckedRoutine.{CheckedRoutine}
 use Rattle.meaning.specs.Objects.{ObjectOf}
-use Rattle.meaning.specs.Resolved.{RoutineOf, object_of, routine_of, title_of}
+use Rattle.meaning.specs.Resolved.{RoutineOf}
+use Rattle.meaning.specs.Views.{object_of, routine_of, title_of}
 use Rattle.checker_names.specs.declared.breach.Breach.{Breach}
 use Rattle.checker_names.specs.declared.counts.Counts.{Counts}
 use Rattle.checker_names.specs.Names.{Table, File, counts_after, with_directive}
@@ -28,8 +30,9 @@ use Rattle.checker_arrays.proofs.ArrayLists.{bytes_more, list_step, sizes_more}
 use Rattle.checker_objects.specs.Objects.{object_in, objects_in}
 use Rattle.checker.specs.declared.directive_rules.ResolvedFile.{ResolvedFile}
 use Rattle.checker.specs.Resolving.{IsAdded, IsAdding}
-use Rattle.checker.specs.Programs.{globals_of, defaults_in, routines_of, resolve_routine, routine_trees, title}
+use Rattle.checker.specs.Programs.{globals_of, defaults_in, routines_of, resolve_routine, routine_trees}
 use Rattle.checker.specs.Programs.{directive_breaches, directives_breaches}
+use Rattle.checker.specs.Checked.{title}
 use Rattle.checker.proofs.DirectiveLists.{defaults_more, globals_more, objects_more, routines_more, titles_more}
 
 -- what one directive adds

@@ -3,7 +3,8 @@ use Rattle.std.proofs.Common.{◌≡◌, ℕ, zero, suc, ◌+◌, ◌<◌, ◌�
 use Rattle.std.proofs.Common.{slice_index_or, Option, is_some, cond, refl, sym, ap, ◌∙◌, arith}
 use Rattle.std.specs.Prelude.{map}
 use Rattle.syntax_trees.specs.declared.tree.Name.{Name}
-use Rattle.syntax_trees.specs.Tree.{NameTree, name_tree}
+use Rattle.syntax_trees.specs.Tree.{NameTree}
+use Rattle.syntax_trees.specs.Views.{name_tree}
 use Rattle.checker_names.specs.declared.breach.Breach.{Breach}
 use Rattle.checker_names.specs.Breaches.{at}
 use Rattle.checker_names.specs.Names.{Table, key_of, in_table, local_from, has_name, twice}

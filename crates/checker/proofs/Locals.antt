@@ -4,12 +4,14 @@ use Rattle.std.specs.Prelude.{map, Result, IfOk}
 use Rattle.std.specs.declared.alloc.AllocError.{AllocError}
 use Rattle.std.proofs.Math.Path.{fun_ext}
 use Rattle.syntax_trees.specs.declared.tree.Name.{Name}
-use Rattle.syntax_trees.specs.Tree.{NameTree, name_tree}
+use Rattle.syntax_trees.specs.Tree.{NameTree}
+use Rattle.syntax_trees.specs.Views.{name_tree}
 use Rattle.syntax_statements.specs.declared.tree.Statement.{Statement}
 use Rattle.syntax_directives.specs.declared.tree.Routine.{Routine}
-use Rattle.syntax_directives.specs.Tree.{routine_tree}
+use Rattle.syntax_directives.specs.Views.{routine_tree}
 use Rattle.meaning.specs.declared.checked.CheckedRoutine.{CheckedRoutine}
-use Rattle.meaning.specs.Resolved.{Action, Actions, RoutineOf, actions_of, routine_of, title_of}
+use Rattle.meaning.specs.Resolved.{Action, Actions, RoutineOf}
+use Rattle.meaning.specs.Views.{actions_of, routine_of, title_of}
 use Rattle.meaning.specs.Around.{outside}
 use Rattle.checker_names.specs.declared.binding.Binding.{Binding}
 use Rattle.checker_names.specs.declared.breach.Breach.{Breach}
@@ -23,7 +25,8 @@ use Rattle.checker_statements.specs.Statements.{statements_breaches}
 use Rattle.checker_statements.specs.StatementWalk.{AreActions}
 use Rattle.checker_statements.proofs.StatementForms.{statements_walked}
 use Rattle.checker.specs.Resolving.{IsRoutineIn, IsRoutineOf}
-use Rattle.checker.specs.Programs.{locals_breaches, title, resolve_body, resolve_routine}
+use Rattle.checker.specs.Programs.{locals_breaches, resolve_body, resolve_routine}
+use Rattle.checker.specs.Checked.{title}
 
 -- What a routine sees
 

@@ -11,6 +11,7 @@ use Rattle.syntax_directives.specs.Tree as d
 use Rattle.syntax.specs.Tree.{ProgramTree}
 use Rattle.meaning.specs.declared.resolved.Variable.TheVariants as variables
 use Rattle.meaning.specs.Resolved as r
+use Rattle.meaning.specs.Views.{actions_of}
 use Rattle.checker_names.specs.Breaches.{at}
 use Rattle.checker_names.specs.Names.{table_of, key_of, look_up}
 use Rattle.checker_objects.specs.Objects.{all_defaults}
@@ -56,14 +57,14 @@ loops_resolve : resolve_program loops ≡ record {
   abbreviations = [];
   routines = record {
     locals = 0;
-    body = r.actions_of
+    body = actions_of
         (r.for_loop (Some (r.assign (variables.Global 1) (r.number 0)))
         (Some (r.compare comparison.Less the_i (r.number 5)))
         (Some (r.step_after (variables.Global 1) steps.Increment)) r.continue_on
         ∷ r.do_until r.break_out the_i
         ∷ r.switch_on the_i
-        (r.case (r.one 1 ∷ r.between 2 4 ∷ []) (r.actions_of (r.break_out ∷ []))
-        (r.default_case (r.actions_of (r.new_line ∷ []))))
+        (r.case (r.one 1 ∷ r.between 2 4 ∷ []) (actions_of (r.break_out ∷ []))
+        (r.default_case (actions_of (r.new_line ∷ []))))
         ∷ []);
   } ∷ [];
   main = 0;

@@ -7,9 +7,10 @@ use Rattle.std.proofs.Math.Path.{fun_ext}
 use Rattle.std.proofs.lemmas.Bool.{cases_lt}
 use Rattle.tables.specs.KeyNumbers.{key_number, place_in}
 use Rattle.syntax_directives.specs.declared.tree.Directive.{Directive}
-use Rattle.syntax_directives.specs.Tree.{directive_tree}
+use Rattle.syntax_directives.specs.Views.{directive_tree}
 use Rattle.syntax.specs.declared.tree.Program.{Program}
-use Rattle.syntax.specs.Tree.{ProgramTree, program_tree}
+use Rattle.syntax.specs.Tree.{ProgramTree}
+use Rattle.syntax.specs.Views.{program_tree}
 use Rattle.meaning.specs.Objects.{ObjectOf}
 use Rattle.meaning.specs.Places.{dictionary_place, folded, table_size, objects_size, total}
 use Rattle.meaning.proofs.Folding.{fold_small, fold_great, fold_part}

@@ -3,13 +3,16 @@ use Rattle.std.proofs.Common.{◌≡◌, ℕ, List, [], ◌++◌, Option, refl, 
 use Rattle.std.specs.Prelude.{map}
 use Rattle.syntax_directives.specs.declared.tree.Directive.{Directive}
 use Rattle.syntax_directives.specs.declared.tree.Text.{Text}
-use Rattle.syntax_directives.specs.Tree.{directive_tree, TextTree, text_tree}
+use Rattle.syntax_directives.specs.Tree.{TextTree}
+use Rattle.syntax_directives.specs.Views.{directive_tree, text_tree}
 use Rattle.syntax.specs.declared.tree.Program.{Program}
-use Rattle.syntax.specs.Tree.{ProgramTree, program_tree}
+use Rattle.syntax.specs.Tree.{ProgramTree}
+use Rattle.syntax.specs.Views.{program_tree}
 use Rattle.meaning.specs.Objects.{ObjectOf}
 use Rattle.meaning.specs.Places.{machine_character}
 use Rattle.meaning.specs.declared.checked.CheckedObject.{CheckedObject}
-use Rattle.meaning.specs.Resolved.{RoutineOf, ProgramOf, CheckedProgram, object_of, routine_of, cut}
+use Rattle.meaning.specs.Resolved.{RoutineOf, ProgramOf}
+use Rattle.meaning.specs.Views.{CheckedProgram, object_of, routine_of, cut}
 use Rattle.meaning.specs.declared.checked.CheckedRoutine.{CheckedRoutine}
 use Rattle.meaning.proofs.Cutting.{cut_is}
 use Rattle.checker_names.specs.declared.breach.Breach.{Breach}
@@ -23,7 +26,8 @@ use Rattle.checker.specs.declared.directive_rules.ResolvedFile.{ResolvedFile}
 use Rattle.checker.specs.Resolving.{IsFound}
 use Rattle.checker.specs.Programs.{main_key, first_routine, main_breaches, directives_breaches, program_breaches}
 use Rattle.checker.specs.Programs.{defaults_in, globals_of, routines_of, routine_number, resolve_with, file_of}
-use Rattle.checker.specs.Programs.{abbreviations_breaches, resolve_program, IsCheckedOf}
+use Rattle.checker.specs.Programs.{abbreviations_breaches, resolve_program}
+use Rattle.checker.specs.Checked.{IsCheckedOf}
 
 -- the characters of abbreviations
 abbrev pub characters_of : TextTree → List ℕ

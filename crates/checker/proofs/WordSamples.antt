@@ -17,6 +17,7 @@ use Rattle.syntax_directives.specs.Tree as d
 use Rattle.syntax_directives.specs.Tree.{DirectiveTree}
 use Rattle.syntax.specs.Tree.{ProgramTree}
 use Rattle.meaning.specs.Resolved as r
+use Rattle.meaning.specs.Views.{actions_of}
 use Rattle.meaning.specs.Meaning.{meaning}
 use Rattle.checker_names.specs.Breaches.{at}
 use Rattle.checker_names.specs.Keys.{key_of_word}
@@ -138,7 +139,7 @@ reads_resolve : resolve_program reads ≡ record {
   abbreviations = [];
   routines = record {
     locals = 0;
-    body = r.actions_of
+    body = actions_of
         (r.read_line 0 1
         ∷ r.print
         (r.number_of (r.equal equality.Equal (r.entry widths.Word 1 (r.number 1)) (r.more (r.number 893) r.none)) ∷ [])

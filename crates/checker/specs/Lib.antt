@@ -1,4 +1,5 @@
 pub mod Programs
+pub mod Checked
 pub mod Resolving
 pub mod Laws
 pub mod Places

@@ -1,7 +1,7 @@
 -- The rules that a program can break, and what it resolves to.
-use Rattle.std.specs.Prelude.{◌≡◌, ◌==◌, ◌||◌, ◌%◌, ℕ, nat_le, nat_lt, Bool, true, false, map, if◌then◌else◌, List, []}
-use Rattle.std.specs.Prelude.{◌∷◌, ◌++◌, codes, length, Option, Some, None}
-use Rattle.ztext.specs.Abbreviations.{most_abbreviations}
+use Rattle.std.specs.Prelude.{◌==◌, ◌||◌, ◌%◌, ℕ, nat_le, nat_lt, Bool, true, false, map, if◌then◌else◌, List, [], ◌∷◌}
+use Rattle.std.specs.Prelude.{◌++◌, codes, length, Option, Some, None}
+use Rattle.ztext.specs.Bytes.{most_abbreviations}
 use Rattle.syntax_lexer.specs.FaultNumbers.{bad_abbreviation, defined_twice, no_proper_main, too_many}
 use Rattle.syntax_lexer.specs.declared.token.Position.{Position}
 use Rattle.syntax_trees.specs.Tree.{NameTree}
@@ -11,7 +11,7 @@ use Rattle.syntax_directives.specs.Tree.{object, routine, ObjectTree, TextTree}
 use Rattle.syntax.specs.Tree.{ProgramTree}
 use Rattle.meaning.specs.Places.{machine_character, number_in}
 use Rattle.meaning.specs.Around.{outside}
-use Rattle.meaning.specs.Resolved.{RoutineOf, ProgramOf, CheckedProgram, program_of, title_of}
+use Rattle.meaning.specs.Resolved.{RoutineOf, ProgramOf}
 use Rattle.meaning.specs.Limits.{most_globals, most_objects, most_properties}
 use Rattle.checker_names.specs.declared.binding.Binding.{Binding}
 use Rattle.checker_names.specs.declared.binding.Binding.TheVariants as bindings
@@ -217,8 +217,6 @@ file_of p = record { table = table_of p.directives; number = number_in (resolve_
 unfoldable pub resolve_program : ProgramTree → ProgramOf
 resolve_program p = resolve_with (file_of p) p
 
--- What a checked program is of its source
-
 -- the routines of a file in order
 abbrev pub routine_trees : List DirectiveTree → List RoutineTree
 routine_trees [] = []
@@ -229,14 +227,3 @@ routine_trees (property n v ∷ ds) = routine_trees ds
 routine_trees (object o ∷ ds) = routine_trees ds
 routine_trees (array a ∷ ds) = routine_trees ds
 routine_trees (routine r ∷ ds) = r ∷ routine_trees ds
-
--- a routine's name and weight
-abbrev pub title : RoutineTree → NameTree × ℕ
-title r = (r.name, r.weight)
-
--- it is what the source resolves to, with the source's names, weights and end
-pub record IsCheckedOf (p : ProgramTree) (c : CheckedProgram) : Type 0 where
-  pub program : program_of c ≡ resolve_program p
-  pub titles : map title_of c.routines ≡ map title (routine_trees p.directives)
-  pub weight : c.weight ≡ p.weight
-  pub end_line : c.end_line ≡ p.end.line

@@ -4,7 +4,8 @@ use Rattle.std.specs.List.{concat}
 use Rattle.syntax_trees.specs.Tree.{NameTree}
 use Rattle.syntax_directives.specs.Tree.{RoutineTree, DirectiveTree}
 use Rattle.meaning.specs.declared.checked.CheckedRoutine.{CheckedRoutine}
-use Rattle.meaning.specs.Resolved.{RoutineOf, object_of, routine_of, title_of}
+use Rattle.meaning.specs.Resolved.{RoutineOf}
+use Rattle.meaning.specs.Views.{object_of, routine_of, title_of}
 use Rattle.meaning.specs.Around.{outside}
 use Rattle.checker_names.specs.declared.breach.Breach.{Breach}
 use Rattle.checker_names.specs.Names.{File, Seen}
@@ -13,8 +14,9 @@ use Rattle.checker_statements.specs.Statements.{statements_breaches}
 use Rattle.checker_arrays.specs.Arrays.{arrays_of}
 use Rattle.checker_objects.specs.Objects.{objects_in}
 use Rattle.checker.specs.declared.directive_rules.ResolvedFile.{ResolvedFile}
-use Rattle.checker.specs.Programs.{routine_breaches, resolve_body, resolve_routine, routine_trees, title, globals_of}
+use Rattle.checker.specs.Programs.{routine_breaches, resolve_body, resolve_routine, routine_trees, globals_of}
 use Rattle.checker.specs.Programs.{defaults_in, routines_of}
+use Rattle.checker.specs.Checked.{title}
 
 -- in a routine that sees so much of the file
 module _ (seen : Seen) where

@@ -1,7 +1,8 @@
 //! Abbreviations: the rules that they can break, and their characters.
 
 ghost use Rattle.std.specs.Prelude.{◌≡◌, [], IfOk, map};
-ghost use Rattle.syntax_directives.specs.Tree.{TextTree, text_tree};
+ghost use Rattle.syntax_directives.specs.Tree.{TextTree};
+ghost use Rattle.syntax_directives.specs.Views.{text_tree};
 ghost use Rattle.checker_names.specs.Noted.{noted};
 ghost use Rattle.meaning.specs.Places as places;
 ghost use Rattle.checker.specs.Programs as spec;

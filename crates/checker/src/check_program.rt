@@ -3,13 +3,14 @@
 ghost use Rattle.std.specs.Prelude.{◌≡◌, ◌≤◌, ◌^◌, ◌⊎◌, IfErr, IfOk, OnOk, length};
 ghost use Rattle.syntax_lexer.specs.FaultNumbers.{no_memory};
 ghost use Rattle.syntax_lexer.specs.Placed.{nowhere, unplaced};
-ghost use Rattle.syntax.specs.Tree.{program_tree};
+ghost use Rattle.syntax.specs.Views.{program_tree};
 ghost use Rattle.checker_names.specs.Breaches.{AnswersBreaches};
 ghost use Rattle.checker_names.specs.Noted.{noted};
 ghost use Rattle.checker_names.specs.Scope.{file_in};
 ghost use Rattle.checker_names.specs.Keys.{keys_of};
 ghost use Rattle.checker.specs.Places.{StandsAtFirst};
-ghost use Rattle.checker.specs.Programs.{program_breaches, no_numbers, file_of, IsCheckedOf};
+ghost use Rattle.checker.specs.Programs.{program_breaches, no_numbers, file_of};
+ghost use Rattle.checker.specs.Checked.{IsCheckedOf};
 
 use crate::abbreviation_rules::{abbreviation_rules, all_abbreviations};
 use crate::directive_rules::all_directives;

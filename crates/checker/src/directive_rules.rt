@@ -2,9 +2,9 @@
 
 ghost use Rattle.std.specs.Prelude.{◌≡◌, ◌%◌, ◌∷◌, ◌++◌, [], ℕ, List, IfOk, OnOk, map, nat_le};
 ghost use Rattle.std.specs.Prelude.{if◌then◌else◌};
-ghost use Rattle.syntax_trees.specs.Tree.{name_tree};
-ghost use Rattle.syntax_directives.specs.Tree.{optional_tree, object_tree, routine_tree, directive_tree};
-ghost use Rattle.meaning.specs.Resolved.{object_of};
+ghost use Rattle.syntax_trees.specs.Views.{name_tree};
+ghost use Rattle.syntax_directives.specs.Views.{optional_tree, object_tree, routine_tree, directive_tree};
+ghost use Rattle.meaning.specs.Views.{object_of};
 ghost use Rattle.checker_names.specs.Names.{in_table, local_from, first_table, no_counts};
 ghost use Rattle.checker_names.specs.Breaches.{at};
 ghost use Rattle.checker_names.specs.Noted.{noted};

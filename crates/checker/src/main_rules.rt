@@ -2,8 +2,8 @@
 
 ghost use Rattle.std.specs.Prelude.{◌≡◌, map};
 ghost use Rattle.std.specs.Option.{option_map};
-ghost use Rattle.syntax_trees.specs.Tree.{name_tree};
-ghost use Rattle.syntax_directives.specs.Tree.{directive_tree};
+ghost use Rattle.syntax_trees.specs.Views.{name_tree};
+ghost use Rattle.syntax_directives.specs.Views.{directive_tree};
 ghost use Rattle.checker_names.specs.Names.{in_table};
 ghost use Rattle.checker_names.specs.Noted.{noted};
 ghost use Rattle.checker.specs.Programs.{main_key, position_or, main_breaches, routine_number};

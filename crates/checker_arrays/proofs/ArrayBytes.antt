@@ -6,10 +6,11 @@ use Rattle.std.specs.List.{flat_map}
 use Rattle.std.proofs.lemmas.List.{length-replicate}
 use Rattle.syntax_lexer.specs.declared.token.Position.{Position}
 use Rattle.syntax_trees.specs.declared.tree.Width.{Width}
-use Rattle.syntax_statement_parts.specs.Tree.{literal_tree}
+use Rattle.syntax_statement_parts.specs.Views.{literal_tree}
 use Rattle.syntax_directives.specs.declared.tree.ArrayKind.{ArrayKind}
 use Rattle.syntax_directives.specs.declared.tree.ArrayValue.{ArrayValue}
-use Rattle.syntax_directives.specs.Tree.{ValueTree, value_tree}
+use Rattle.syntax_directives.specs.Tree.{ValueTree}
+use Rattle.syntax_directives.specs.Views.{value_tree}
 use Rattle.meaning.specs.declared.arrays.Arrays.{Arrays}
 use Rattle.checker_names.specs.declared.breach.Breach.{Breach}
 use Rattle.checker_names.specs.declared.known.Known.{Known}

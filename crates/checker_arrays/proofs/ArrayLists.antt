@@ -5,7 +5,7 @@ use Rattle.std.specs.Prelude.{map}
 use Rattle.std.specs.List.{concat}
 use Rattle.syntax_directives.specs.declared.tree.Directive.{Directive}
 use Rattle.syntax_directives.specs.Tree.{DirectiveTree, global, constant, array, attribute, property, object, routine}
-use Rattle.syntax_directives.specs.Tree.{directive_tree}
+use Rattle.syntax_directives.specs.Views.{directive_tree}
 use Rattle.checker_names.specs.Names.{File}
 use Rattle.checker_names.proofs.Dropped.{drop_here}
 use Rattle.checker_names.proofs.Mapped.{nothing_more}

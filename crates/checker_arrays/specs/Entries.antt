@@ -5,7 +5,7 @@ use Rattle.syntax_trees.specs.declared.tree.Width.TheVariants as widths
 use Rattle.syntax_directives.specs.declared.tree.ArrayKind.{ArrayKind}
 use Rattle.syntax_directives.specs.declared.tree.ArrayKind.TheVariants as kinds
 use Rattle.syntax_directives.specs.declared.tree.ArrayValue.{ArrayValue}
-use Rattle.syntax_directives.specs.Tree.{value_tree}
+use Rattle.syntax_directives.specs.Views.{value_tree}
 use Rattle.meaning.specs.declared.arrays.Arrays.{Arrays}
 use Rattle.checker_names.specs.declared.breach.Breach.{Breach}
 use Rattle.checker_names.specs.Names.{Table, File}

@@ -3,7 +3,7 @@
 ghost use Rattle.std.specs.Prelude.{◌≡◌, ◌≢◌, ◌++◌, OnOk, map, replicate, length, Some};
 ghost use Rattle.std.specs.List.{flat_map};
 ghost use Rattle.syntax_trees.specs.declared.tree.Width.TheVariants as widths;
-ghost use Rattle.syntax_directives.specs.Tree.{value_tree, array_tree};
+ghost use Rattle.syntax_directives.specs.Views.{value_tree, array_tree};
 ghost use Rattle.checker_names.specs.Noted.{noted};
 ghost use Rattle.checker_names.specs.Scope.{file_in};
 ghost use Rattle.checker_arrays.specs.Arrays as spec;

@@ -2,7 +2,7 @@
 
 ghost use Rattle.std.specs.Prelude.{◌≡◌, ◌<◌, ◌^◌, ◌∷◌, ◌++◌, [], IfOk, OnOk, length, map};
 ghost use Rattle.std.specs.List.{concat};
-ghost use Rattle.syntax_directives.specs.Tree.{directive_tree};
+ghost use Rattle.syntax_directives.specs.Views.{directive_tree};
 ghost use Rattle.checker_names.specs.Scope.{file_in};
 ghost use Rattle.checker_arrays.specs.Arrays as spec;
 

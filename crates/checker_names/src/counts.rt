@@ -15,7 +15,7 @@ pub struct Counts {
 
 impl Counts {
     ghost use Rattle.std.specs.Prelude.{◌≡◌, ◌^◌};
-    ghost use Rattle.syntax_directives.specs.Tree.{directive_tree};
+    ghost use Rattle.syntax_directives.specs.Views.{directive_tree};
     ghost use Rattle.checker_names.specs.Names.{no_counts, AreFewer, counts_after};
 
     /// Before the first directive.

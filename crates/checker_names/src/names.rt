@@ -1,9 +1,9 @@
 //! The names of a file, in order of definition.
 
 ghost use Rattle.std.specs.Prelude.{◌≡◌, ◌^◌, IfOk, OnOk, map};
-ghost use Rattle.syntax_trees.specs.Tree.{name_tree};
-ghost use Rattle.syntax_statement_parts.specs.Tree.{literal_tree};
-ghost use Rattle.syntax_directives.specs.Tree.{directive_tree};
+ghost use Rattle.syntax_trees.specs.Views.{name_tree};
+ghost use Rattle.syntax_statement_parts.specs.Views.{literal_tree};
+ghost use Rattle.syntax_directives.specs.Views.{directive_tree};
 ghost use Rattle.checker_names.specs.Keys as keys;
 ghost use Rattle.checker_names.specs.Names as spec;
 

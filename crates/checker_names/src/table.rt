@@ -1,7 +1,7 @@
 //! Tables of names.
 
 ghost use Rattle.std.specs.Prelude.{◌≡◌, OnOk};
-ghost use Rattle.syntax_trees.specs.Tree.{name_tree};
+ghost use Rattle.syntax_trees.specs.Views.{name_tree};
 ghost use Rattle.checker_names.specs.Names.{key_of, in_table, with_name};
 ghost use Rattle.checker_names.specs.Scope.{look_in};
 

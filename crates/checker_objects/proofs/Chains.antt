@@ -7,14 +7,15 @@ use Rattle.std.proofs.lemmas.Bool.Decides.{nat_tests}
 use Rattle.syntax_directives.specs.declared.tree.Object.{Object}
 use Rattle.syntax_directives.specs.declared.tree.Directive.{Directive}
 use Rattle.syntax_directives.specs.declared.tree.Directive.TheVariants as directives
-use Rattle.syntax_directives.specs.Tree.{ObjectTree, object_tree, directive_tree}
+use Rattle.syntax_directives.specs.Tree.{ObjectTree}
+use Rattle.syntax_directives.specs.Views.{object_tree, directive_tree}
 use Rattle.checker_names.specs.declared.breach.Breach.{Breach}
 use Rattle.checker_names.specs.Names.{Table}
 use Rattle.checker_names.specs.Noted.{noted}
 use Rattle.checker_names.proofs.Dropped.{drop_here, drop_end}
 use Rattle.checker_names.proofs.Noted.{noted_none, noted_append}
 use Rattle.meaning.specs.declared.checked.CheckedObject.{CheckedObject}
-use Rattle.meaning.specs.Resolved.{object_of}
+use Rattle.meaning.specs.Views.{object_of}
 use Rattle.meaning.specs.Objects.{ObjectOf}
 use Rattle.checker_objects.specs.Objects.{object_trees, Open, open_to, opened, above_of, stand_breaches}
 use Rattle.checker_objects.specs.Objects.{standing_from, parent_number, parents_from, placed, exactly}

@@ -4,7 +4,8 @@ use Rattle.std.proofs.Common.{drop, slice_index_or, Option, Some, None, is_some,
 use Rattle.std.specs.Prelude.{map}
 use Rattle.std.specs.Cmp.Lexicographic.{same_text}
 use Rattle.syntax_trees.specs.declared.tree.Name.{Name}
-use Rattle.syntax_trees.specs.Tree.{NameTree, name_tree}
+use Rattle.syntax_trees.specs.Tree.{NameTree}
+use Rattle.syntax_trees.specs.Views.{name_tree}
 use Rattle.checker_names.specs.declared.binding.Binding.{Binding}
 use Rattle.checker_names.specs.declared.binding.Binding.TheVariants as bindings
 use Rattle.checker_names.specs.declared.breach.Breach.{Breach}

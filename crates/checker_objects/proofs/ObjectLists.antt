@@ -12,8 +12,9 @@ use Rattle.syntax_lexer.specs.declared.token.Position.{Position}
 use Rattle.checker_names.specs.Breaches.{at}
 use Rattle.checker_names.specs.Names.{File}
 use Rattle.syntax_directives.specs.declared.tree.Property.{Property}
-use Rattle.syntax_directives.specs.Tree.{PropertyTree, value_tree, property_tree}
-use Rattle.meaning.specs.Resolved.{property_of}
+use Rattle.syntax_directives.specs.Tree.{PropertyTree}
+use Rattle.syntax_directives.specs.Views.{value_tree, property_tree}
+use Rattle.meaning.specs.Views.{property_of}
 use Rattle.checker_names.specs.declared.breach.Breach.{Breach}
 use Rattle.checker_names.specs.Noted.{noted}
 use Rattle.checker_names.proofs.Noted.{noted_none, noted_append}

@@ -5,8 +5,9 @@ use Rattle.std.specs.Prelude.{◌==◌, map}
 use Rattle.std.proofs.lemmas.List.{length-map}
 use Rattle.syntax_directives.specs.declared.tree.Property.{Property}
 use Rattle.syntax_directives.specs.declared.tree.Directive.{Directive}
-use Rattle.syntax_directives.specs.Tree.{PropertyTree, ObjectTree, DirectiveTree, property_tree, directive_tree}
-use Rattle.syntax_directives.specs.Tree.{global, constant, array, attribute, property, object, routine}
+use Rattle.syntax_directives.specs.Tree.{PropertyTree, ObjectTree, DirectiveTree, global, constant, array, attribute}
+use Rattle.syntax_directives.specs.Tree.{property, object, routine}
+use Rattle.syntax_directives.specs.Views.{property_tree, directive_tree}
 use Rattle.meaning.specs.Places.{folded, name_words, objects_size, property_size, table_size, total}
 use Rattle.meaning.proofs.Folding.{fold_small}
 use Rattle.checker_names.specs.Names.{File}

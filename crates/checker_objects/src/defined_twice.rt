@@ -1,7 +1,7 @@
 //! Names that are defined twice.
 
 ghost use Rattle.std.specs.Prelude.{◌≡◌};
-ghost use Rattle.syntax_trees.specs.Tree.{name_tree};
+ghost use Rattle.syntax_trees.specs.Views.{name_tree};
 ghost use Rattle.checker_names.specs.Noted.{noted};
 ghost use Rattle.checker_names.specs.Names as spec;
 

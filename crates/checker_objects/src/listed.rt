@@ -2,7 +2,7 @@
 //! of words nor on what names stand for.
 
 ghost use Rattle.std.specs.Prelude.{◌≡◌, ◌≤◌, ◌<◌, ◌+◌, ◌*◌, ◌^◌, map};
-ghost use Rattle.syntax_directives.specs.Tree.{directive_tree, object_tree, property_tree};
+ghost use Rattle.syntax_directives.specs.Views.{directive_tree, object_tree, property_tree};
 ghost use Rattle.meaning.specs.Places.{folded, total};
 ghost use Rattle.checker_objects.specs.Objects.{short_name};
 ghost use Rattle.checker_objects.specs.Sizes as spec;

@@ -3,9 +3,9 @@
 ghost use Rattle.std.specs.Prelude.{◌≡◌, ◌≤◌, ◌++◌, [], IfOk, OnOk, length, map, take};
 ghost use Rattle.std.specs.List.{flat_map};
 ghost use Rattle.std.specs.Option.{option_map};
-ghost use Rattle.syntax_trees.specs.Tree.{name_tree};
-ghost use Rattle.syntax_directives.specs.Tree.{value_tree, text_tree, property_tree, object_tree};
-ghost use Rattle.meaning.specs.Resolved.{property_of, object_of};
+ghost use Rattle.syntax_trees.specs.Views.{name_tree};
+ghost use Rattle.syntax_directives.specs.Views.{value_tree, text_tree, property_tree, object_tree};
+ghost use Rattle.meaning.specs.Views.{property_of, object_of};
 ghost use Rattle.checker_names.specs.Noted.{noted};
 ghost use Rattle.checker_names.specs.Scope.{file_in};
 ghost use Rattle.checker_names.specs.Names.{has_name, repeated_breaches};

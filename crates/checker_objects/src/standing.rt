@@ -2,9 +2,9 @@
 
 ghost use Rattle.std.specs.Prelude.{◌≡◌, ◌%◌, ◌<◌, ◌^◌, IfOk, OnOk, length, map, slice_index_or};
 ghost use Rattle.std.specs.Option.{option_map};
-ghost use Rattle.syntax_trees.specs.Tree.{name_tree};
-ghost use Rattle.syntax_directives.specs.Tree.{object_tree, directive_tree};
-ghost use Rattle.meaning.specs.Resolved.{object_of};
+ghost use Rattle.syntax_trees.specs.Views.{name_tree};
+ghost use Rattle.syntax_directives.specs.Views.{object_tree, directive_tree};
+ghost use Rattle.meaning.specs.Views.{object_of};
 ghost use Rattle.checker_names.specs.Noted.{noted};
 ghost use Rattle.checker_objects.specs.Objects.{object_trees};
 ghost use Rattle.checker_objects.specs.Objects as spec;

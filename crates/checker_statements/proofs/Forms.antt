@@ -4,7 +4,7 @@ use Rattle.std.specs.Prelude.{map}
 use Rattle.std.specs.List.{flat_map}
 use Rattle.syntax_trees.specs.declared.tree.Name.{Name}
 use Rattle.syntax_statement_parts.specs.declared.tree.PrintItem.{PrintItem}
-use Rattle.syntax_statement_parts.specs.Tree.{flag_tree, item_tree}
+use Rattle.syntax_statement_parts.specs.Views.{flag_tree, item_tree}
 use Rattle.meaning.proofs.Mapped.{mapped_twice}
 use Rattle.meaning.specs.Resolved.{Printed}
 use Rattle.checker_names.specs.declared.breach.Breach.{Breach}

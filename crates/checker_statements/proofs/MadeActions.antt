@@ -7,7 +7,8 @@ use Rattle.meaning.specs.declared.resolved.Printed as code_printed
 use Rattle.meaning.specs.declared.resolved.Action.TheVariants as done
 use Rattle.meaning.specs.declared.resolved.Action.TheFolds.{fold-roll-Action}
 use Rattle.meaning.specs.Resolved as values
-use Rattle.meaning.specs.Resolved.{value_of, boxed_value, printed_of, Action, action_of, action_layer}
+use Rattle.meaning.specs.Resolved.{Action}
+use Rattle.meaning.specs.Views.{value_of, boxed_value, printed_of, action_of, action_layer}
 
 pub made_give : (v : code_value.Value) (changes : Vec (Bool × ℕ))
     → action_of (done.Give v changes) ≡ values.give_to (value_of v) changes.items

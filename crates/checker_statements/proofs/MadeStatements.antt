@@ -10,7 +10,8 @@ use Rattle.meaning.specs.declared.resolved.Action as code_action
 use Rattle.meaning.specs.declared.resolved.Action.TheVariants as done
 use Rattle.meaning.specs.declared.resolved.Action.TheFolds.{fold-roll-Action}
 use Rattle.meaning.specs.Resolved as values
-use Rattle.meaning.specs.Resolved.{value_of, boxed_value, Action, action_of, action_layer, case_of, other_of}
+use Rattle.meaning.specs.Resolved.{Action}
+use Rattle.meaning.specs.Views.{value_of, boxed_value, action_of, action_layer, case_of, other_of, actions_of, cases_of}
 use Rattle.meaning.proofs.Mapped.{mapped_twice}
 
 pub made_empty : action_of done.Empty ≡ values.empty
@@ -29,7 +30,7 @@ pub made_each_in : (x : Variable) (v : code_value.Value) (a : Box code_action.Ac
 made_each_in x v a = ap action_of (sym (done.rolls-EachIn x v a)) ∙ fold-roll-Action Action action_layer _
 
 pub made_block : (all : Vec code_action.Action) → action_of (done.Block all)
-    ≡ values.block (values.actions_of (map action_of all.items))
+    ≡ values.block (actions_of (map action_of all.items))
 made_block all = ap action_of (sym (done.rolls-Block all)) ∙ fold-roll-Action Action action_layer _
 
 pub made_if_then : (v : code_value.Value) (a : Box code_action.Action)
@@ -55,13 +56,13 @@ made_for x y z a = ap action_of (sym (done.rolls-For x y z a)) ∙ fold-roll-Act
 
 pub made_switch : (v : Box code_value.Value) (cases : Vec (Vec Span × Vec code_action.Action))
     (other : Option (Vec code_action.Action)) → action_of (done.Switch v cases other)
-    ≡ values.switch_on (boxed_value v) (values.cases_of (map case_of cases.items) (other_of other))
+    ≡ values.switch_on (boxed_value v) (cases_of (map case_of cases.items) (other_of other))
 unfolding case_of
 made_switch v cases None = ap action_of (sym (done.rolls-Switch v cases None))
     ∙ fold-roll-Action Action action_layer _
-    ∙ ap (λ cs. values.switch_on (boxed_value v) (values.cases_of cs None))
+    ∙ ap (λ cs. values.switch_on (boxed_value v) (cases_of cs None))
     (mapped_twice _ _ case_of (λ c. refl) cases.items)
 made_switch v cases (Some xs) = ap action_of (sym (done.rolls-Switch v cases (Some xs)))
     ∙ fold-roll-Action Action action_layer _
-    ∙ ap (λ cs. values.switch_on (boxed_value v) (values.cases_of cs (Some (map action_of xs.items))))
+    ∙ ap (λ cs. values.switch_on (boxed_value v) (cases_of cs (Some (map action_of xs.items))))
     (mapped_twice _ _ case_of (λ c. refl) cases.items)

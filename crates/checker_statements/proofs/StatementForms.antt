@@ -6,16 +6,19 @@ use Rattle.std.specs.List.{flat_map}
 use Rattle.syntax_lexer.specs.declared.token.Position.{Position}
 use Rattle.syntax_trees.specs.Tree.{ExpressionTree}
 use Rattle.syntax_statement_parts.specs.declared.tree.Range.{Range}
-use Rattle.syntax_statement_parts.specs.Tree.{range_tree}
+use Rattle.syntax_statement_parts.specs.Views.{range_tree}
 use Rattle.syntax_statements.specs.declared.tree.Statement.{Statement}
-use Rattle.syntax_statements.specs.Tree.{StatementTree, statement_tree, case_tree}
+use Rattle.syntax_statements.specs.Tree.{StatementTree}
+use Rattle.syntax_statements.specs.Views.{statement_tree, case_tree, trees_of, cases_of}
 use Rattle.syntax_statements.specs.Tree as written
 use Rattle.meaning.proofs.Mapped.{mapped_twice}
 use Rattle.meaning.specs.declared.around.Around.{Around}
 use Rattle.meaning.specs.Resolved as values
 use Rattle.meaning.specs.declared.resolved.Action as code_action
 use Rattle.meaning.specs.declared.resolved.Span.{Span}
-use Rattle.meaning.specs.Resolved.{Value, RangeOf, Action, Actions, range_of, actions_of, action_of, case_of}
+use Rattle.meaning.specs.Resolved.{Value, RangeOf, Action, Actions}
+use Rattle.meaning.specs.Views.{range_of, actions_of, action_of, case_of}
+use Rattle.meaning.specs.Views as views
 use Rattle.meaning.specs.Around.{in_switch}
 use Rattle.checker_names.specs.declared.breach.Breach.{Breach}
 use Rattle.checker_names.specs.Noted.{noted}
@@ -31,22 +34,22 @@ use Rattle.checker_statements.specs.StatementWalk.{resolved_other}
 
 module _ (seen : Seen) where
   pub statements_break : (around : Around) (ss : List Statement)
-      → statements_breaches seen.look around (written.trees_of (map statement_tree ss))
+      → statements_breaches seen.look around (trees_of (map statement_tree ss))
       ≡ flat_map (own_statement_breaches seen around) ss
   statements_break around [] = refl
   statements_break around (s ∷ ss) = ap (λ b. own_statement_breaches seen around s ++ b) (statements_break around ss)
 
   pub statements_resolve : (ss : List Statement)
-      → resolve_statements seen (written.trees_of (map statement_tree ss))
+      → resolve_statements seen (trees_of (map statement_tree ss))
       ≡ actions_of (map (resolved_statement seen) ss)
   statements_resolve [] = refl
   statements_resolve (s ∷ ss) = ap (λ r. values.next (resolved_statement seen s) r) (statements_resolve ss)
 
   pub statements_walked : (around : Around) (ss : List Statement) (found : List Action) {m n : Option Breach}
       → AreActions seen around ss m n found
-      → IsWalked (statements_breaches seen.look around (written.trees_of (map statement_tree ss))) m n
+      → IsWalked (statements_breaches seen.look around (trees_of (map statement_tree ss))) m n
       (actions_of found)
-      (resolve_statements seen (written.trees_of (map statement_tree ss)))
+      (resolve_statements seen (trees_of (map statement_tree ss)))
   statements_walked around ss found {m = m} w = record {
     value = ap actions_of w.value ∙ sym (statements_resolve ss);
     breaches = w.breaches ∙ ap (λ b. noted m b) (sym (statements_break around ss));
@@ -90,7 +93,7 @@ module _ (seen : Seen) where
   })
 
   cases_break : (around : Around) (cs : List (Vec Range × Vec Statement)) (other : Option (List StatementTree))
-      → cases_breaches seen.look around (written.cases_of (map case_tree cs) other)
+      → cases_breaches seen.look around (cases_of (map case_tree cs) other)
       ≡ flat_map (own_case_breaches seen around) cs ++ other_breaches seen around other
   cases_break around [] None = refl
   cases_break around [] (Some xs) = refl
@@ -103,13 +106,13 @@ module _ (seen : Seen) where
       ∙ sym (append_assoc (ranges ++ body) rest last)
 
   trees_resolve : (xs : List StatementTree)
-      → resolve_statements seen (written.trees_of xs) ≡ actions_of (map (resolve_statement seen) xs)
+      → resolve_statements seen (trees_of xs) ≡ actions_of (map (resolve_statement seen) xs)
   trees_resolve [] = refl
   trees_resolve (x ∷ xs) = ap (λ r. values.next (resolve_statement seen x) r) (trees_resolve xs)
 
   cases_resolve : (cs : List (Vec Range × Vec Statement)) (other : Option (List StatementTree))
-      → resolve_cases seen (written.cases_of (map case_tree cs) other)
-      ≡ values.cases_of (map (resolved_case seen) cs) (resolved_other seen other)
+      → resolve_cases seen (cases_of (map case_tree cs) other)
+      ≡ views.cases_of (map (resolved_case seen) cs) (resolved_other seen other)
   cases_resolve [] None = refl
   cases_resolve [] (Some xs) = ap values.default_case (trees_resolve xs)
   cases_resolve (c ∷ cs) other = ap
@@ -119,10 +122,10 @@ module _ (seen : Seen) where
   cases_walked : (around : Around) (cs : List (Vec Range × Vec Statement)) (other : Option (List StatementTree))
       (found : List (List RangeOf × Actions)) (last : Option (List Action)) {m n o : Option Breach}
       → AreCases seen around cs m n found → IsOther seen around other n o last
-      → IsWalked (cases_breaches seen.look around (written.cases_of (map case_tree cs) other)) m o
-      (values.cases_of found last) (resolve_cases seen (written.cases_of (map case_tree cs) other))
+      → IsWalked (cases_breaches seen.look around (cases_of (map case_tree cs) other)) m o
+      (views.cases_of found last) (resolve_cases seen (cases_of (map case_tree cs) other))
   cases_walked around cs other found last {m = m} w z =
-      let both = two values.cases_of w z in
+      let both = two views.cases_of w z in
       record {
         value = both.value ∙ sym (cases_resolve cs other);
         breaches = both.breaches ∙ ap (λ b. noted m b) (sym (cases_break around cs other));
@@ -133,10 +136,10 @@ module _ (seen : Seen) where
       (found : List (List RangeOf × Actions)) (last : Option (List Action)) {m n o q : Option Breach}
       → inside ≡ in_switch around → IsWhole seen p e m n v → AreCases seen inside cs n o found
       → IsOther seen inside other o q last
-      → IsAction seen around (written.switch_on p e (written.cases_of (map case_tree cs) other)) m q
-      (values.switch_on v (values.cases_of found last))
+      → IsAction seen around (written.switch_on p e (cases_of (map case_tree cs) other)) m q
+      (values.switch_on v (views.cases_of found last))
   switch_walked around inside p e v cs other found last {n = n} {q = q} is w x y =
-      let tree = written.cases_of (map case_tree cs) other in
+      let tree = cases_of (map case_tree cs) other in
       two values.switch_on w
-      (subst (λ (a : Around). IsWalked (cases_breaches seen.look a tree) n q (values.cases_of found last)
+      (subst (λ (a : Around). IsWalked (cases_breaches seen.look a tree) n q (views.cases_of found last)
       (resolve_cases seen tree)) is (cases_walked inside cs other found last x y))

@@ -5,7 +5,8 @@ use Rattle.std.specs.List.{flat_map}
 use Rattle.std.specs.Option.{option_map}
 use Rattle.syntax_statement_parts.specs.declared.tree.Range.{Range}
 use Rattle.syntax_statements.specs.declared.tree.Statement.{Statement}
-use Rattle.syntax_statements.specs.Tree.{StatementTree, CaseTree, trees_of, statement_tree, case_tree}
+use Rattle.syntax_statements.specs.Tree.{StatementTree}
+use Rattle.syntax_statements.specs.Views.{CaseTree, trees_of, statement_tree, case_tree}
 use Rattle.meaning.specs.declared.around.Around.{Around}
 use Rattle.meaning.specs.Resolved.{RangeOf, Action, Actions}
 use Rattle.checker_names.specs.declared.breach.Breach.{Breach}

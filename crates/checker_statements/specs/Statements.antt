@@ -6,7 +6,7 @@ use Rattle.syntax_lexer.specs.FaultNumbers.{break_outside, expression_too_large,
 use Rattle.syntax_lexer.specs.declared.token.Position.{Position}
 use Rattle.syntax_trees.specs.Tree.{NameTree, ExpressionTree}
 use Rattle.syntax_statement_parts.specs.Tree as parts
-use Rattle.syntax_statement_parts.specs.Tree.{LiteralTree, RangeTree, FlagTree, PrintItemTree, HeadingTree}
+use Rattle.syntax_statement_parts.specs.Tree.{LiteralTree, RangeTree, FlagTree, PrintItemTree}
 use Rattle.syntax_statements.specs.Tree as trees
 use Rattle.syntax_statements.specs.Tree.{StatementTree, StatementTrees, CaseTrees}
 use Rattle.meaning.specs.declared.around.Around.{Around}
@@ -39,9 +39,6 @@ part_needs (Some e) = need e ∷ []
 
 abbrev pub heading_need : Option ExpressionTree → Option ExpressionTree → Option ExpressionTree → ℕ
 heading_need a b c = operands 0 (part_needs a ++ (part_needs b ++ part_needs c))
-
-abbrev pub need_of_heading : HeadingTree → ℕ
-need_of_heading h = heading_need h.before h.test h.behind
 
 -- what the operands of a `move` need, as those of one form
 abbrev pub move_need : ExpressionTree → ExpressionTree → ℕ

@@ -8,24 +8,29 @@ use Rattle.syntax_trees.specs.declared.tree.Name.{Name}
 use Rattle.syntax_trees.specs.Tree.{ExpressionTree}
 use Rattle.syntax_statement_parts.specs.declared.tree.PrintItem.{PrintItem}
 use Rattle.syntax_statement_parts.specs.declared.tree.Range.{Range}
-use Rattle.syntax_statement_parts.specs.Tree.{HeadingTree, RangeTree, PrintItemTree, range_tree, flag_tree, item_tree}
+use Rattle.syntax_statement_parts.specs.Tree.{RangeTree, PrintItemTree}
+use Rattle.syntax_statement_parts.specs.Views.{HeadingTree, range_tree, flag_tree, item_tree}
 use Rattle.syntax_statements.specs.Tree.{StatementTree}
 use Rattle.meaning.specs.declared.around.Around.{Around}
 use Rattle.meaning.specs.declared.resolved.Value as code_value
 use Rattle.meaning.specs.declared.resolved.Action as code_action
-use Rattle.meaning.specs.Resolved.{Value, RangeOf, Printed, Action, boxed_value, action_of}
+use Rattle.meaning.specs.Resolved.{Value, RangeOf, Printed, Action}
+use Rattle.meaning.specs.Views.{boxed_value, action_of}
 use Rattle.checker_names.specs.declared.breach.Breach.{Breach}
 use Rattle.checker_names.specs.Names.{Seen}
 use Rattle.checker_values.specs.Expressions.{resolve}
 use Rattle.checker_values.specs.Temporaries.{need}
 use Rattle.checker_values.specs.Walk.{IsWalked}
-use Rattle.checker_statements.specs.Statements.{whole_breaches, part_breaches, heading_breaches, range_breaches}
-use Rattle.checker_statements.specs.Statements.{resolve_range, flag_breaches, resolve_flag, item_breaches, resolve_item}
-use Rattle.checker_statements.specs.Statements.{statement_breaches, resolve_statement}
+use Rattle.checker_statements.specs.Statements.{heading_need, whole_breaches, part_breaches, heading_breaches}
+use Rattle.checker_statements.specs.Statements.{range_breaches, resolve_range, flag_breaches, resolve_flag, item_breaches}
+use Rattle.checker_statements.specs.Statements.{resolve_item, statement_breaches, resolve_statement}
 
 abbrev pub parts_of : Option (Box code_value.Value) × Option (Box code_value.Value) × Option (Box code_value.Value)
     → Option Value × Option Value × Option Value
 parts_of x = (option_map boxed_value x.0, option_map boxed_value x.1, option_map boxed_value x.2)
+
+abbrev pub need_of_heading : HeadingTree → ℕ
+need_of_heading h = heading_need h.before h.test h.behind
 
 -- a part of a `for` that is there needs at most so many, and leaves one less to those behind it
 abbrev pub part_fits : Option ExpressionTree → ℕ → Bool

@@ -2,9 +2,9 @@
 //! to.
 
 ghost use Rattle.std.specs.Prelude.{◌≡◌};
-ghost use Rattle.syntax_trees.specs.Tree.{name_tree};
+ghost use Rattle.syntax_trees.specs.Views.{name_tree};
 ghost use Rattle.syntax_statements.specs.Tree as trees;
-ghost use Rattle.meaning.specs.Resolved.{action_of};
+ghost use Rattle.meaning.specs.Views.{action_of};
 ghost use Rattle.checker_names.specs.Noted.{noted};
 ghost use Rattle.checker_names.specs.Scope.{seen_in};
 ghost use Rattle.checker_values.specs.Expressions.{array_of_binding};

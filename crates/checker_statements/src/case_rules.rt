@@ -2,8 +2,8 @@
 
 ghost use Rattle.std.specs.Prelude.{◌≡◌, IfOk, map};
 ghost use Rattle.std.specs.Option.{option_map};
-ghost use Rattle.syntax_statement_parts.specs.Tree.{literal_tree, range_tree};
-ghost use Rattle.meaning.specs.Resolved.{range_of};
+ghost use Rattle.syntax_statement_parts.specs.Views.{literal_tree, range_tree};
+ghost use Rattle.meaning.specs.Views.{range_of};
 ghost use Rattle.checker_names.specs.Noted.{noted};
 ghost use Rattle.checker_names.specs.Scope.{look_in, seen_in};
 ghost use Rattle.checker_statements.specs.Statements as spec;

@@ -2,12 +2,13 @@
 
 ghost use Rattle.std.specs.Prelude.{◌≡◌, ◌&&◌, IfOk, nat_le};
 ghost use Rattle.std.specs.Option.{option_map};
-ghost use Rattle.syntax_statement_parts.specs.Tree.{part_tree, heading_tree};
-ghost use Rattle.meaning.specs.Resolved.{boxed_value};
+ghost use Rattle.syntax_statement_parts.specs.Views.{part_tree, heading_tree};
+ghost use Rattle.meaning.specs.Views.{boxed_value};
 ghost use Rattle.meaning.specs.Limits.{most_temporaries};
 ghost use Rattle.checker_names.specs.Noted.{noted};
 ghost use Rattle.checker_names.specs.Scope.{seen_in};
 ghost use Rattle.checker_statements.specs.Statements as spec;
+ghost use Rattle.checker_statements.specs.Walk.{need_of_heading};
 ghost use Rattle.checker_statements.specs.Walk.{part_fits, room_behind, IsPart, AreParts, IsHeading};
 ghost use Rattle.checker_statements.specs.Walk.{parts_of};
 
@@ -48,7 +49,7 @@ fn all_three(first: bool, second: bool, third: bool) -> bool
 
 // Whether the parts, as operands of one form, need at most 48 temporaries.
 fn all_fit(heading: &Heading<'_>) -> bool
-    ensures { result ≡ nat_le (spec.need_of_heading (heading_tree heading.now))
+    ensures { result ≡ nat_le (need_of_heading (heading_tree heading.now))
         most_temporaries }
 {
     let second = left_behind(&heading.before, MOST_TEMPORARIES);
@@ -62,7 +63,7 @@ fn all_fit(heading: &Heading<'_>) -> bool
 #[tactic(auto, using(checker_names::proofs::Noted::noted_none, checker_values::proofs::Needs::fits_not))]
 fn temporaries(heading: &Heading<'_>, position: Position, least: &mut Option<Breach>)
     ensures { least.new ≡ noted least.old
-        (spec.room_breaches position (spec.need_of_heading (heading_tree heading.now))) }
+        (spec.room_breaches position (need_of_heading (heading_tree heading.now))) }
 {
     if !all_fit(heading) {
         note(least, EXPRESSION_TOO_LARGE, position);

@@ -1,11 +1,11 @@
 //! Statements in which no other stands: the rules that they can break, and what they resolve to.
 
 ghost use Rattle.std.specs.Prelude.{◌≡◌, IfOk, map};
-ghost use Rattle.syntax_trees.specs.Tree.{expression_tree};
-ghost use Rattle.syntax_statement_parts.specs.Tree.{flag_tree, item_tree};
+ghost use Rattle.syntax_trees.specs.Views.{expression_tree};
+ghost use Rattle.syntax_statement_parts.specs.Views.{flag_tree, item_tree};
 ghost use Rattle.syntax_statements.specs.Tree as trees;
-ghost use Rattle.syntax_statements.specs.Tree.{simple_tree};
-ghost use Rattle.meaning.specs.Resolved.{value_of, boxed_value, printed_of};
+ghost use Rattle.syntax_statements.specs.Views.{simple_tree};
+ghost use Rattle.meaning.specs.Views.{value_of, boxed_value, printed_of};
 ghost use Rattle.checker_names.specs.Noted.{noted};
 ghost use Rattle.checker_names.specs.Scope.{seen_in};
 ghost use Rattle.checker_values.specs.Temporaries.{need};

@@ -1,12 +1,12 @@
 //! Statements, and those inside them: the rules that they can break, and what they resolve to.
 
 ghost use Rattle.std.specs.Prelude.{◌≡◌, IfOk, map};
-ghost use Rattle.syntax_trees.specs.Tree.{expression_tree, name_tree};
-ghost use Rattle.syntax_statement_parts.specs.Tree.{heading_tree, loop_tree};
+ghost use Rattle.syntax_trees.specs.Views.{expression_tree, name_tree};
+ghost use Rattle.syntax_statement_parts.specs.Views.{heading_tree, loop_tree};
 ghost use Rattle.syntax_statements.specs.Tree as trees;
-ghost use Rattle.syntax_statements.specs.Tree.{statement_tree, trees_of, case_tree, other_tree};
+ghost use Rattle.syntax_statements.specs.Views.{statement_tree, trees_of, case_tree, other_tree, cases_of};
 ghost use Rattle.meaning.specs.Around.{in_switch};
-ghost use Rattle.meaning.specs.Resolved.{action_of, case_of, other_of};
+ghost use Rattle.meaning.specs.Views.{action_of, case_of, other_of};
 ghost use Rattle.checker_names.specs.Scope.{seen_in};
 ghost use Rattle.checker_statements.specs.Walk.{IsAction, GivesAction};
 ghost use Rattle.checker_statements.specs.StatementWalk.{AreActions, IsCase, AreCases, IsOther};
@@ -421,7 +421,7 @@ fn switch_on<'a>(
     ensures { (around : _) → inside ≡ in_switch around
         → GivesAction (seen_in scope.now) around result least.old least.new
         (trees.switch_on position (expression_tree value.now)
-        (trees.cases_of (map case_tree cases.now) (other_tree other.now))) }
+        (cases_of (map case_tree cases.now) (other_tree other.now))) }
 {
     let Ok(value) = boxed_whole(value, alloc, scope, position, least) else {
         return Err(AllocError);

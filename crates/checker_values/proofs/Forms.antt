@@ -9,11 +9,13 @@ use Rattle.syntax_trees.specs.declared.tree.Expression.{Expression}
 use Rattle.syntax_trees.specs.declared.tree.Width.{Width}
 use Rattle.syntax_trees.specs.Tree as trees
 use Rattle.syntax_trees.specs.declared.tree.Name.{Name}
-use Rattle.syntax_trees.specs.Tree.{NameTree, name_tree, ExpressionTree, expression_tree, trees_of, chained, link}
-use Rattle.syntax_trees.specs.Tree.{propertied}
+use Rattle.syntax_trees.specs.Tree.{NameTree, ExpressionTree}
+use Rattle.syntax_trees.specs.Views.{name_tree, expression_tree, trees_of, chained, link, propertied}
 use Rattle.meaning.specs.Resolved as values
 use Rattle.meaning.specs.declared.resolved.Value as code_value
-use Rattle.meaning.specs.Resolved.{Value, values_of, value_of}
+use Rattle.meaning.specs.Resolved.{Value}
+use Rattle.meaning.specs.Views.{values_of, value_of}
+use Rattle.meaning.specs.Views as views
 use Rattle.meaning.specs.declared.resolved.Variable.TheVariants as variables
 use Rattle.checker_names.specs.declared.binding.Binding.{Binding}
 use Rattle.checker_names.specs.declared.breach.Breach.{Breach}
@@ -41,14 +43,14 @@ chain_name op a b (l ∷ ls) = chain_name l.0 (trees.binary op a b) l.1 ls
 
 -- nor is there an assignment to it
 pub chain_assigned : (op : Binary) (a b : Value) (ls : List (Binary × Value)) (v : Value)
-    → assigned (values.chained (values.binary op a b) ls) v ≡ values.assign (variables.Local 0) v
+    → assigned (views.chained (values.binary op a b) ls) v ≡ values.assign (variables.Local 0) v
 chain_assigned op a b [] v = refl
 chain_assigned op a b (l ∷ ls) v = chain_assigned l.0 (values.binary op a b) l.1 ls v
 
 -- an assignment to properties, one behind another, is one to the last of them
 pub last_assigned : (v : Value) (n : ℕ) (ns : List ℕ) (p : ℕ) (w : Value)
-    → assigned (values.propertied (values.property v n) (ns ++ p ∷ [])) w
-    ≡ values.assign_property (values.propertied (values.property v n) ns) p w
+    → assigned (views.propertied (values.property v n) (ns ++ p ∷ [])) w
+    ≡ values.assign_property (views.propertied (values.property v n) ns) p w
 last_assigned v n [] p w = refl
 last_assigned v n (m ∷ ns) p w = last_assigned (values.property v n) m ns p w
 
@@ -116,7 +118,7 @@ module _ (seen : Seen) where
       ∙ sym (noted_append (noted m (breaches seen.look e)) (link_breaches seen l) (flat_map (link_breaches seen) ls))
 
   pub chain_resolve : (e : ExpressionTree) (ls : List (Binary × Expression))
-      → resolve seen (chained e (map link ls)) ≡ values.chained (resolve seen e) (map (resolved_link seen) ls)
+      → resolve seen (chained e (map link ls)) ≡ views.chained (resolve seen e) (map (resolved_link seen) ls)
   chain_resolve e [] = refl
   chain_resolve e (l ∷ ls) = chain_resolve (trees.binary l.0 e (expression_tree l.1)) ls
 
@@ -133,7 +135,7 @@ module _ (seen : Seen) where
       (flat_map (own_property_breaches seen) ns))
 
   properties_resolve : (e : ExpressionTree) (ns : List Name)
-      → resolve seen (propertied e ns) ≡ values.propertied (resolve seen e) (map (resolved_property seen) ns)
+      → resolve seen (propertied e ns) ≡ views.propertied (resolve seen e) (map (resolved_property seen) ns)
   properties_resolve e [] = refl
   properties_resolve e (n ∷ ns) = properties_resolve (trees.property e (name_tree n)) ns
 
@@ -150,9 +152,9 @@ module _ (seen : Seen) where
   pub chain_walked : (e : ExpressionTree) (ls : List (Binary × Expression)) (v : Value)
       (vs : List (Binary × Value)) {m n o : Option Breach}
       → IsResolved seen e m n v → AreLinks seen ls n o vs
-      → IsResolved seen (chained e (map link ls)) m o (values.chained v vs)
+      → IsResolved seen (chained e (map link ls)) m o (views.chained v vs)
   chain_walked e ls v vs {m = m} w z = record {
-    value = ap (λ a. values.chained a vs) w.value ∙ ap (λ l. values.chained (resolve seen e) l) z.value
+    value = ap (λ a. views.chained a vs) w.value ∙ ap (λ l. views.chained (resolve seen e) l) z.value
         ∙ sym (chain_resolve e ls);
     breaches = z.breaches ∙ ap (λ q. noted q (flat_map (link_breaches seen) ls)) w.breaches
         ∙ sym (chain_break m e ls);
@@ -160,9 +162,9 @@ module _ (seen : Seen) where
 
   pub properties_walked : (e : ExpressionTree) (ns : List Name) (v : Value) (numbers : List ℕ)
       {m n o : Option Breach} → IsResolved seen e m n v → AreProperties seen ns n o numbers
-      → IsResolved seen (propertied e ns) m o (values.propertied v numbers)
+      → IsResolved seen (propertied e ns) m o (views.propertied v numbers)
   properties_walked e ns v numbers {m = m} w z = record {
-    value = ap (λ a. values.propertied a numbers) w.value ∙ ap (λ l. values.propertied (resolve seen e) l) z.value
+    value = ap (λ a. views.propertied a numbers) w.value ∙ ap (λ l. views.propertied (resolve seen e) l) z.value
         ∙ sym (properties_resolve e ns);
     breaches = z.breaches ∙ ap (λ q. noted q (flat_map (own_property_breaches seen) ns)) w.breaches
         ∙ sym (properties_break m e ns);

@@ -7,8 +7,8 @@ use Rattle.syntax_trees.specs.declared.tree.Binary.{Binary}
 use Rattle.syntax_trees.specs.declared.tree.Expression.{Expression}
 use Rattle.syntax_trees.specs.declared.tree.Name.{Name}
 use Rattle.syntax_trees.specs.Tree as trees
-use Rattle.syntax_trees.specs.Tree.{NameTree, name_tree, ExpressionTree, expression_tree, trees_of, chained}
-use Rattle.syntax_trees.specs.Tree.{propertied, link}
+use Rattle.syntax_trees.specs.Tree.{NameTree, ExpressionTree}
+use Rattle.syntax_trees.specs.Views.{name_tree, expression_tree, trees_of, chained, propertied, link}
 use Rattle.meaning.specs.Limits.{operands}
 use Rattle.checker_values.specs.Temporaries.{need, needs, greatest, left_needs}
 

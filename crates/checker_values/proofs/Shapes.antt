@@ -17,7 +17,8 @@ use Rattle.syntax_trees.specs.declared.tree.Expression.{Expression}
 use Rattle.syntax_trees.specs.declared.tree.Expression.TheVariants as from
 use Rattle.syntax_trees.specs.declared.tree.Expression.TheFolds.{fold-roll-Expression}
 use Rattle.syntax_trees.specs.Tree as trees
-use Rattle.syntax_trees.specs.Tree.{ExpressionTree, expression_tree, name_tree, trees_of, propertied, link, layer}
+use Rattle.syntax_trees.specs.Tree.{ExpressionTree}
+use Rattle.syntax_trees.specs.Views.{expression_tree, name_tree, trees_of, propertied, link, layer, chained}
 
 pub is_constant : (e : Expression) (n : ℕ) → e ≡ from.Constant n → expression_tree e ≡ trees.constant n
 is_constant e n same = ap expression_tree (same ∙ sym (from.rolls-Constant n))
@@ -82,7 +83,7 @@ is_step_after e i op p same = ap expression_tree (same ∙ sym (from.rolls-StepA
 
 pub is_chain : (e : Expression) (a : Box Expression) (op : Binary) (b : Box Expression)
     (ls : Vec (Binary × Expression)) → e ≡ from.Chain a op b ls
-    → expression_tree e ≡ trees.chained (trees.binary op (expression_tree a.value) (expression_tree b.value))
+    → expression_tree e ≡ chained (trees.binary op (expression_tree a.value) (expression_tree b.value))
     (map link ls.items)
 is_chain e a op b ls same = ap expression_tree (same ∙ sym (from.rolls-Chain a op b ls))
     ∙ fold-roll-Expression ExpressionTree layer _

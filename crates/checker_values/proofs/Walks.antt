@@ -15,7 +15,8 @@ use Rattle.meaning.specs.declared.resolved.Value as code_value
 use Rattle.meaning.specs.declared.resolved.Value.TheVariants as made
 use Rattle.meaning.specs.declared.resolved.Value.TheFolds.{fold-roll-Value}
 use Rattle.meaning.specs.Resolved as values
-use Rattle.meaning.specs.Resolved.{Value, value_of, value_layer}
+use Rattle.meaning.specs.Resolved.{Value}
+use Rattle.meaning.specs.Views.{value_of, value_layer, values_of, chained, propertied}
 use Rattle.checker_names.specs.declared.binding.Binding.{Binding}
 use Rattle.checker_names.specs.declared.breach.Breach.{Breach}
 use Rattle.checker_names.specs.Noted.{noted}
@@ -83,7 +84,7 @@ pub made_number : (n : ℕ) → value_of (made.Number n) ≡ values.number n
 made_number n = ap value_of (sym (made.rolls-Number n)) ∙ fold-roll-Value Value value_layer _
 
 pub made_call : (n : ℕ) (vs : Vec code_value.Value)
-    → value_of (made.Call n vs) ≡ values.call n (values.values_of (map value_of vs.items))
+    → value_of (made.Call n vs) ≡ values.call n (values_of (map value_of vs.items))
 made_call n vs = ap value_of (sym (made.rolls-Call n vs)) ∙ fold-roll-Value Value value_layer _
 
 pub made_prefixed : (op : Prefix) (v : Box code_value.Value)
@@ -98,7 +99,7 @@ made_step_after x op = ap value_of (sym (made.rolls-StepAfter x op)) ∙ fold-ro
 
 pub made_chain : (a : Box code_value.Value) (op : Binary) (b : Box code_value.Value)
     (ls : Vec (Binary × code_value.Value))
-    → value_of (made.Chain a op b ls) ≡ values.chained (values.binary op (value_of a.value) (value_of b.value))
+    → value_of (made.Chain a op b ls) ≡ chained (values.binary op (value_of a.value) (value_of b.value))
     (map value_link ls.items)
 made_chain a op b ls = ap value_of (sym (made.rolls-Chain a op b ls)) ∙ fold-roll-Value Value value_layer _
 
@@ -108,7 +109,7 @@ made_compare a op b = ap value_of (sym (made.rolls-Compare a op b)) ∙ fold-rol
 
 pub made_equal : (a : Box code_value.Value) (op : Equality) (b : Box code_value.Value) (vs : Vec code_value.Value)
     → value_of (made.Equal a op b vs) ≡ values.equal op (value_of a.value)
-    (values.more (value_of b.value) (values.values_of (map value_of vs.items)))
+    (values.more (value_of b.value) (values_of (map value_of vs.items)))
 made_equal a op b vs = ap value_of (sym (made.rolls-Equal a op b vs)) ∙ fold-roll-Value Value value_layer _
 
 pub made_assign : (x : Variable) (v : Box code_value.Value)
@@ -128,7 +129,7 @@ pub made_contained : (a : Box code_value.Value) (op : Containment) (b : Box code
 made_contained a op b = ap value_of (sym (made.rolls-Contained a op b)) ∙ fold-roll-Value Value value_layer _
 
 pub made_property : (v : Box code_value.Value) (n : ℕ) (ns : Vec ℕ)
-    → value_of (made.Property v n ns) ≡ values.propertied (values.property (value_of v.value) n) ns.items
+    → value_of (made.Property v n ns) ≡ propertied (values.property (value_of v.value) n) ns.items
 made_property v n ns = ap value_of (sym (made.rolls-Property v n ns)) ∙ fold-roll-Value Value value_layer _
 
 pub made_property_size : (v : Box code_value.Value) (n : ℕ)

@@ -3,9 +3,9 @@
 ghost use Rattle.std.specs.Prelude.{◌≡◌, ◌++◌, [], if◌then◌else◌, IfOk, map};
 ghost use Rattle.std.specs.Option.{option_map};
 ghost use Rattle.syntax_trees.specs.Tree as trees;
-ghost use Rattle.syntax_trees.specs.Tree.{expression_tree, name_tree, trees_of, propertied};
-ghost use Rattle.syntax_trees.specs.Tree.{link};
-ghost use Rattle.meaning.specs.Resolved.{value_of};
+ghost use Rattle.syntax_trees.specs.Views.{expression_tree, name_tree, trees_of, propertied, link, chained};
+ghost use Rattle.meaning.specs.Views.{value_of};
+ghost use Rattle.meaning.specs.Views as views;
 ghost use Rattle.meaning.specs.Resolved as meant;
 ghost use Rattle.checker_names.specs.Breaches.{at};
 ghost use Rattle.checker_names.specs.Noted.{noted};
@@ -100,7 +100,7 @@ fn assigned_property(
     mut others: Vec<usize>,
 ) -> Result<Value, AllocError>
     ensures { IfOk result (λ v. value_of v
-        ≡ assigned (meant.propertied (meant.property (value_of object.value) first) others.items)
+        ≡ assigned (views.propertied (meant.property (value_of object.value) first) others.items)
         (value_of right.value)) }
 {
     match others.pop() {
@@ -511,7 +511,7 @@ fn chain(
     least: &mut Option<Breach>,
 ) -> Result<Value, AllocError>
     ensures { GivesValue (seen_in scope.now) result least.old least.new
-        (trees.chained
+        (chained
         (trees.binary operator (expression_tree first.now) (expression_tree second.now))
         (map link links.now)) }
 {

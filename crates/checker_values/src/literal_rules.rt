@@ -1,8 +1,8 @@
 //! Values that are known before a story runs: the rules that they can break, and what they are.
 
 ghost use Rattle.std.specs.Prelude.{◌≡◌};
-ghost use Rattle.syntax_statement_parts.specs.Tree.{literal_tree};
-ghost use Rattle.syntax_directives.specs.Tree.{optional_tree};
+ghost use Rattle.syntax_statement_parts.specs.Views.{literal_tree};
+ghost use Rattle.syntax_directives.specs.Views.{optional_tree};
 ghost use Rattle.checker_names.specs.Names as names;
 ghost use Rattle.checker_names.specs.Noted.{noted};
 ghost use Rattle.checker_names.specs.Scope.{file_in};

@@ -1,7 +1,7 @@
 //! Names: the rules that they can break by what they are used for, and what they resolve to.
 
 ghost use Rattle.std.specs.Prelude.{◌≡◌, ◌++◌, if◌then◌else◌};
-ghost use Rattle.meaning.specs.Resolved.{value_of};
+ghost use Rattle.meaning.specs.Views.{value_of};
 ghost use Rattle.checker_names.specs.Breaches.{at};
 ghost use Rattle.checker_names.specs.Noted.{noted};
 ghost use Rattle.checker_names.specs.Scope.{number_at};

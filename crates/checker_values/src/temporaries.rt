@@ -1,7 +1,7 @@
 //! How many temporaries an expression needs.
 
 ghost use Rattle.std.specs.Prelude.{◌≡◌, ◌-◌, ◌++◌, ◌∷◌, ℕ, [], nat_le, length, map};
-ghost use Rattle.syntax_trees.specs.Tree.{expression_tree, trees_of};
+ghost use Rattle.syntax_trees.specs.Views.{expression_tree, trees_of};
 ghost use Rattle.meaning.specs.Limits.{operands};
 ghost use Rattle.checker_values.specs.Temporaries.{need, needs, greatest, left_needs};
 

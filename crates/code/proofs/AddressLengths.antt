@@ -12,7 +12,8 @@ use Rattle.zcore.specs.declared.operations.OperandCount.{OperandCount}
 use Rattle.zcore.specs.declared.operations.OperandCount.TheVariants.{Two, One, Zero, Several}
 use Rattle.zcore.specs.Operations.{count_of, has_more_types}
 use Rattle.zcore.specs.Operations as numbers
-use Rattle.zcore.specs.Instruction.{Instruction, opcode_bytes, operand_bytes, result_bytes, bytes_of}
+use Rattle.zcore.specs.Instruction.{Instruction}
+use Rattle.zcore.specs.InstructionBytes.{opcode_bytes, operand_bytes, result_bytes, bytes_of}
 use Rattle.syntax_trees.specs.declared.tree.Width.{Width}
 use Rattle.meaning.specs.Meaning.{is_character}
 use Rattle.meaning.specs.declared.cause.Cause.{Cause}

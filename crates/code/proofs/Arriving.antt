@@ -7,7 +7,8 @@ use Rattle.std.proofs.lemmas.Bool.{leb-true}
 use Rattle.ztext.specs.Text as text
 use Rattle.ztext.proofs.Holding.{holds_append}
 use Rattle.zcore.specs.Header.{static_base_of}
-use Rattle.zcore.specs.Instruction.{Instruction, bytes_of}
+use Rattle.zcore.specs.Instruction.{Instruction}
+use Rattle.zcore.specs.InstructionBytes.{bytes_of}
 use Rattle.zcore.specs.State.{words}
 use Rattle.meaning.specs.Resolved.{ProgramOf}
 use Rattle.meaning.specs.World.{World, Situation}

@@ -7,7 +7,7 @@ use Rattle.std.proofs.lemmas.List.{take_all, length-map}
 use Rattle.zcore.specs.declared.instruction.Operand.{Operand}
 use Rattle.zcore.specs.declared.instruction.Operand.TheVariants.{Variable}
 use Rattle.zcore.specs.declared.instruction.Operation.{Operation}
-use Rattle.zcore.specs.Instruction.{bytes_of, FitsOperand}
+use Rattle.zcore.specs.InstructionBytes.{bytes_of, FitsOperand}
 use Rattle.zcore.specs.State.{State, done}
 use Rattle.zcore.specs.Parts.{operand_values}
 use Rattle.code_values.specs.Items.{Item, Test}

@@ -6,7 +6,8 @@ use Rattle.std.specs.List.{flat_map}
 use Rattle.std.proofs.lemmas.Bool.{eqb-false}
 use Rattle.zcore.specs.declared.instruction.Operand.TheVariants.{Large, Variable}
 use Rattle.zcore.specs.declared.instruction.Operation.TheVariants as operations
-use Rattle.zcore.specs.Instruction.{Instruction, bytes_of}
+use Rattle.zcore.specs.Instruction.{Instruction}
+use Rattle.zcore.specs.InstructionBytes.{bytes_of}
 use Rattle.zcore.specs.Parts.{operand_value}
 use Rattle.zcore.specs.State.{State, done}
 use Rattle.zcore.specs.Execution.{perform}

@@ -7,7 +7,7 @@ use Rattle.std.proofs.lemmas.Bool.{ne_eqb, lt-ltb}
 use Rattle.zcore.specs.declared.instruction.Operand.{Operand}
 use Rattle.zcore.specs.declared.instruction.Operand.TheVariants.{Variable}
 use Rattle.zcore.specs.declared.instruction.Operation.TheVariants as operations
-use Rattle.zcore.specs.Instruction.{bytes_of, IsEncodable, FitsOperand}
+use Rattle.zcore.specs.InstructionBytes.{bytes_of, IsEncodable, FitsOperand}
 use Rattle.zcore.specs.Execution.{perform}
 use Rattle.meaning.specs.Meaning.{truth, is_true}
 use Rattle.code_values.specs.Items as items

@@ -8,7 +8,8 @@ use Rattle.ztext.specs.Words.{packed, unpacked_text}
 use Rattle.ztext.specs.Alphabets.{spelling_of}
 use Rattle.zcore.specs.declared.place.Place.TheVariants as places
 use Rattle.zcore.specs.declared.place.Limit.TheVariants as limits
-use Rattle.zcore.specs.Instruction.{decode, bytes_of, opcode, operands, operand, byte, large, result_variable, branch}
+use Rattle.zcore.specs.Instruction.{decode, opcode, operands, operand, byte, large, result_variable, branch}
+use Rattle.zcore.specs.InstructionBytes.{bytes_of}
 use Rattle.zcore.specs.Turn.{opening, plays, turn_from, weight}
 use Rattle.zcore.specs.Execution.{step, perform, give_result, divide, load, increment, decrement, push_word, pull}
 use Rattle.zcore.specs.Execution.{load_word, load_byte, store_word, store_byte, store, jump, call_packed, return_popped}

@@ -10,7 +10,7 @@ use Rattle.ztext.specs.Bytes.{word_at}
 use Rattle.zcore.specs.Dictionary.{entry_of}
 use Rattle.zcore.specs.Header.{globals_of, entry_count}
 use Rattle.ztext.specs.Alphabets.{is_printable, spelling_of}
-use Rattle.zcore.specs.Instruction.{bytes_of}
+use Rattle.zcore.specs.InstructionBytes.{bytes_of}
 use Rattle.ztext.specs.Text.{encoded}
 use Rattle.ztext.specs.Abbreviations.{encoded_with}
 use Rattle.ztext.specs.Words.{packed}

@@ -3,7 +3,7 @@ use Rattle.std.proofs.Common.{◌≡◌, ℕ, ◌+◌, ◌≤◌, List, [], ◌�
 use Rattle.std.proofs.Common.{arith}
 use Rattle.std.specs.Prelude.{map, ◌==◌, if◌then◌else◌}
 use Rattle.zcore.specs.declared.instruction.Operand.TheVariants.{Small}
-use Rattle.zcore.specs.Instruction.{bytes_of}
+use Rattle.zcore.specs.InstructionBytes.{bytes_of}
 use Rattle.zcore.specs.Execution.{perform}
 use Rattle.meaning.specs.declared.resolved.Variable as resolved
 use Rattle.meaning.specs.World.{with_value, write_variable, give, ◌>>=◌}

@@ -7,8 +7,9 @@ use Rattle.zcore.specs.declared.instruction.Operand.{Operand}
 use Rattle.zcore.specs.declared.instruction.Operand.TheVariants.{Large, Small, Variable}
 use Rattle.zcore.specs.Operations.{count_of, number_of, has_more_types, least_operands, most_operands, has_result}
 use Rattle.zcore.specs.Operations.{has_branch}
-use Rattle.zcore.specs.Instruction.{Instruction, opcode_bytes, operand_bytes, result_bytes, branch_bytes, bytes_of}
-use Rattle.zcore.specs.Instruction.{FitsOperand, FitsResult, FitsBranch, IsEncodable}
+use Rattle.zcore.specs.Instruction.{Instruction}
+use Rattle.zcore.specs.InstructionBytes.{opcode_bytes, operand_bytes, result_bytes, branch_bytes, bytes_of, FitsOperand}
+use Rattle.zcore.specs.InstructionBytes.{FitsResult, FitsBranch, IsEncodable}
 use Rattle.code.proofs.Behind.{Holds}
 use Rattle.code.proofs.Regions.{same_on}
 use Rattle.code.proofs.Steps.{fits_none, fits_more}

@@ -6,7 +6,7 @@ use Rattle.std.specs.List.{flat_map}
 use Rattle.zcore.specs.declared.instruction.Operand.{Operand}
 use Rattle.zcore.specs.declared.instruction.Operation.{Operation}
 use Rattle.zcore.specs.declared.next.Next.{Next}
-use Rattle.zcore.specs.Instruction.{bytes_of, IsEncodable}
+use Rattle.zcore.specs.InstructionBytes.{bytes_of, IsEncodable}
 use Rattle.zcore.specs.State.{State, done, words}
 use Rattle.zcore.specs.Parts.{operand_values, branch_on}
 use Rattle.zcore.specs.Execution.{perform}

@@ -14,7 +14,7 @@ use Rattle.zcore.specs.declared.place.Place.TheVariants as places
 use Rattle.zcore.specs.declared.place.Limit.TheVariants as limits
 use Rattle.zcore.specs.Arithmetic.{signed_text}
 use Rattle.zcore.specs.Header.{static_base_of}
-use Rattle.zcore.specs.Instruction.{bytes_of}
+use Rattle.zcore.specs.InstructionBytes.{bytes_of}
 use Rattle.zcore.specs.State.{done, halt}
 use Rattle.zcore.specs.Parts.{unpacked}
 use Rattle.zcore.specs.Execution.{perform, step, text_at, print_inline, print_packed}

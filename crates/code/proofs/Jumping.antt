@@ -7,7 +7,8 @@ use Rattle.zcore.specs.declared.instruction.Operand.TheVariants.{Large}
 use Rattle.zcore.specs.declared.instruction.Operation.TheVariants as operations
 use Rattle.zcore.specs.declared.place.Limit.TheVariants as limits
 use Rattle.zcore.specs.declared.place.Place.TheVariants as places
-use Rattle.zcore.specs.Instruction.{Instruction, bytes_of}
+use Rattle.zcore.specs.Instruction.{Instruction}
+use Rattle.zcore.specs.InstructionBytes.{bytes_of}
 use Rattle.zcore.specs.State.{State, done, halt}
 use Rattle.zcore.specs.Parts.{jump_target, test_target, go, spend}
 use Rattle.zcore.specs.Execution.{step, perform, jump}

@@ -10,7 +10,8 @@ use Rattle.zcore.specs.declared.instruction.Operation.{Operation}
 use Rattle.zcore.specs.declared.instruction.Operation.TheVariants as operations
 use Rattle.zcore.specs.declared.next.Next.{Next}
 use Rattle.zcore.specs.Operations.{least_operands, most_operands, has_result, has_branch}
-use Rattle.zcore.specs.Instruction.{Instruction, bytes_of, FitsOperand, FitsResult, FitsBranch}
+use Rattle.zcore.specs.Instruction.{Instruction}
+use Rattle.zcore.specs.InstructionBytes.{bytes_of, FitsOperand, FitsResult, FitsBranch}
 use Rattle.zcore.specs.State.{State, done}
 use Rattle.zcore.specs.ObjectProperties.{get_property_address}
 use Rattle.zcore.specs.Parts.{operand_values, branch_on}

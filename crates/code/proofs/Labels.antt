@@ -9,7 +9,8 @@ use Rattle.zcore.specs.declared.instruction.Operand.TheVariants.{Large}
 use Rattle.zcore.specs.declared.instruction.Operation.{Operation}
 use Rattle.zcore.specs.declared.instruction.Operation.TheVariants as operations
 use Rattle.zcore.specs.declared.next.Next.{Next}
-use Rattle.zcore.specs.Instruction.{Instruction, bytes_of, IsEncodable}
+use Rattle.zcore.specs.Instruction.{Instruction}
+use Rattle.zcore.specs.InstructionBytes.{bytes_of, IsEncodable}
 use Rattle.zcore.specs.State.{done}
 use Rattle.zcore.specs.Parts.{operand_values, branch_on, jump_target}
 use Rattle.zcore.specs.Execution.{perform}

@@ -4,7 +4,7 @@ use Rattle.std.proofs.Common.{None, subst, arith}
 use Rattle.std.specs.Prelude.{nat_le, if◌then◌else◌, map}
 use Rattle.std.proofs.lemmas.Bool.{leb-true}
 use Rattle.zcore.specs.declared.instruction.Operand.TheVariants.{Small}
-use Rattle.zcore.specs.Instruction.{bytes_of}
+use Rattle.zcore.specs.InstructionBytes.{bytes_of}
 use Rattle.zcore.specs.Execution.{perform, push_word}
 use Rattle.meaning.specs.declared.resolved.Variable as source
 use Rattle.meaning.specs.declared.resolved.Variable.TheVariants as variables

@@ -1,6 +1,6 @@
 -- Bytes of items on objects, computed.
 use Rattle.std.proofs.Common.{◌≡◌, ℕ, List, [], ◌∷◌, ◌++◌, refl, true, false}
-use Rattle.zcore.specs.Instruction.{bytes_of}
+use Rattle.zcore.specs.InstructionBytes.{bytes_of}
 use Rattle.syntax_trees.specs.declared.tree.Relative.TheVariants as relatives
 use Rattle.code_values.specs.Items.{Item, pushed, number, variable, push, into, nowhere, relative, property}
 use Rattle.code_values.specs.Items.{property_size, property_word, assign_property, assign_property_word, give}

@@ -6,7 +6,8 @@ use Rattle.ztext.specs.Text.{decoded, abbreviation, encoded}
 use Rattle.ztext.specs.Reading.{reads}
 use Rattle.ztext.specs.Words.{packed, unpacked_text}
 use Rattle.ztext.specs.Alphabets.{spelling_of}
-use Rattle.zcore.specs.Instruction.{decode, bytes_of, opcode, operands, operand, byte, large, result_variable, branch}
+use Rattle.zcore.specs.Instruction.{decode, opcode, operands, operand, byte, large, result_variable, branch}
+use Rattle.zcore.specs.InstructionBytes.{bytes_of}
 use Rattle.zcore.specs.Entries.{named_from}
 use Rattle.zcore.specs.Properties.{found_in}
 use Rattle.zcore.specs.Turn.{opening, plays, turn_from, weight}

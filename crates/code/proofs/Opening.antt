@@ -7,7 +7,7 @@ use Rattle.zcore.specs.declared.instruction.Operand.TheVariants.{Large}
 use Rattle.zcore.specs.declared.instruction.Operation.TheVariants.{Call1n, Quit}
 use Rattle.ztext.specs.Bytes.{word_at}
 use Rattle.zcore.specs.Header.{static_base_of}
-use Rattle.zcore.specs.Instruction.{bytes_of}
+use Rattle.zcore.specs.InstructionBytes.{bytes_of}
 use Rattle.zcore.specs.Execution.{step, perform, call_packed}
 use Rattle.zcore.specs.Turn.{Whole, first_next, first_state, opening, entries, plays_from, last_place}
 use Rattle.zcore.proofs.Turning.{turn_ends_once}

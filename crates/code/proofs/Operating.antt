@@ -12,7 +12,8 @@ use Rattle.zcore.specs.declared.instruction.Operation.TheVariants as operations
 use Rattle.zcore.specs.declared.next.Next.{Next}
 use Rattle.zcore.specs.Arithmetic.{quotient, remainder}
 use Rattle.zcore.specs.Operations.{least_operands, most_operands, has_result, has_branch}
-use Rattle.zcore.specs.Instruction.{Instruction, FitsBranch, bytes_of}
+use Rattle.zcore.specs.Instruction.{Instruction}
+use Rattle.zcore.specs.InstructionBytes.{FitsBranch, bytes_of}
 use Rattle.zcore.specs.State.{State, done}
 use Rattle.zcore.specs.Parts.{operand_value}
 use Rattle.zcore.specs.Execution.{give_result, divide, modulo, perform}

@@ -3,7 +3,8 @@ use Rattle.std.proofs.Common.{◌≡◌, ℕ, ◌%◌, List, [], ◌∷◌, ◌+
 use Rattle.std.specs.Prelude.{◌==◌, map, take, slice_index}
 use Rattle.zcore.specs.declared.instruction.Operand.{Operand}
 use Rattle.zcore.specs.declared.instruction.Operation.TheVariants as operations
-use Rattle.zcore.specs.Instruction.{Instruction, bytes_of}
+use Rattle.zcore.specs.Instruction.{Instruction}
+use Rattle.zcore.specs.InstructionBytes.{bytes_of}
 use Rattle.syntax_trees.specs.declared.tree.Binary.{Binary}
 use Rattle.syntax_trees.specs.declared.tree.Binary.TheVariants as binaries
 use Rattle.code_values.specs.Items.{Item, Destination}

@@ -9,7 +9,8 @@ use Rattle.zcore.specs.declared.instruction.Operand.TheVariants.{Large, Small}
 use Rattle.zcore.specs.declared.instruction.Operation.TheVariants as operations
 use Rattle.zcore.specs.declared.place.Place.TheVariants as places
 use Rattle.zcore.specs.declared.next.Next.{Next}
-use Rattle.zcore.specs.Instruction.{Instruction, bytes_of}
+use Rattle.zcore.specs.Instruction.{Instruction}
+use Rattle.zcore.specs.InstructionBytes.{bytes_of}
 use Rattle.zcore.specs.State.{Pending, State, Out, done, halt}
 use Rattle.zcore.specs.Parts.{is_text_buffer, is_parse_buffer, test_result, store_result}
 use Rattle.zcore.specs.Header.{defaults_of, static_base_of}

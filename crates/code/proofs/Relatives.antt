@@ -9,7 +9,8 @@ use Rattle.zcore.specs.declared.instruction.Operand.TheVariants.{Large, Small, V
 use Rattle.zcore.specs.declared.instruction.Operation.{Operation}
 use Rattle.zcore.specs.declared.instruction.Operation.TheVariants as operations
 use Rattle.zcore.specs.declared.next.Next.{Next}
-use Rattle.zcore.specs.Instruction.{Instruction, bytes_of}
+use Rattle.zcore.specs.Instruction.{Instruction}
+use Rattle.zcore.specs.InstructionBytes.{bytes_of}
 use Rattle.zcore.specs.State.{State, done}
 use Rattle.zcore.specs.State as state
 use Rattle.zcore.specs.Objects.{give_object}

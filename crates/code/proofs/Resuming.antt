@@ -10,7 +10,7 @@ use Rattle.zcore.specs.declared.instruction.Operation.TheVariants as operations
 use Rattle.zcore.specs.declared.place.Place.TheVariants as places
 use Rattle.ztext.specs.Bytes.{word_at}
 use Rattle.zcore.specs.Header.{static_base_of}
-use Rattle.zcore.specs.Instruction.{bytes_of}
+use Rattle.zcore.specs.InstructionBytes.{bytes_of}
 use Rattle.zcore.specs.State.{Frame, State, Out, done, bound}
 use Rattle.zcore.specs.State as state
 use Rattle.zcore.specs.Parts.{push, goes_on, give_back}

@@ -4,7 +4,7 @@ use Rattle.std.specs.Prelude.{codes, replicate}
 use Rattle.ztext.specs.Alphabets.{spelling_of}
 use Rattle.ztext.specs.Words.{packed}
 use Rattle.ztext.specs.Abbreviations.{encoded_with}
-use Rattle.zcore.specs.Instruction.{bytes_of}
+use Rattle.zcore.specs.InstructionBytes.{bytes_of}
 use Rattle.syntax_trees.specs.declared.tree.Binary.TheVariants as binaries
 use Rattle.syntax_trees.specs.declared.tree.Step.TheVariants as steps
 use Rattle.syntax_trees.specs.declared.tree.Width.TheVariants as widths

@@ -9,7 +9,8 @@ use Rattle.zcore.specs.declared.instruction.Operand.TheVariants.{Large, Small}
 use Rattle.zcore.specs.declared.instruction.Operation.{Operation}
 use Rattle.zcore.specs.declared.instruction.Operation.TheVariants as operations
 use Rattle.zcore.specs.declared.next.Next.{Next}
-use Rattle.zcore.specs.Instruction.{Instruction, bytes_of, IsEncodable, FitsOperand}
+use Rattle.zcore.specs.Instruction.{Instruction}
+use Rattle.zcore.specs.InstructionBytes.{bytes_of, IsEncodable, FitsOperand}
 use Rattle.zcore.specs.State.{State, done}
 use Rattle.zcore.specs.State as state
 use Rattle.zcore.specs.Parts as parts

@@ -5,7 +5,8 @@ use Rattle.std.specs.Prelude.{map}
 use Rattle.std.specs.List.{flat_map}
 use Rattle.zcore.specs.declared.instruction.Operand.TheVariants.{Small, Variable}
 use Rattle.zcore.specs.Header.{static_base_of}
-use Rattle.zcore.specs.Instruction.{Instruction, bytes_of}
+use Rattle.zcore.specs.Instruction.{Instruction}
+use Rattle.zcore.specs.InstructionBytes.{bytes_of}
 use Rattle.zcore.specs.State.{done, words}
 use Rattle.zcore.specs.Parts.{operand_values}
 use Rattle.zcore.specs.Execution.{step, perform, push_word}

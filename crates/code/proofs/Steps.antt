@@ -7,7 +7,8 @@ use Rattle.std.proofs.lemmas.Bool.{lt-ltb, le-leb, ne_eqb}
 use Rattle.zcore.specs.declared.instruction.Operand.{Operand}
 use Rattle.zcore.specs.declared.instruction.Operand.TheVariants.{Large, Small, Variable}
 use Rattle.zcore.specs.declared.next.Next.{Next}
-use Rattle.zcore.specs.Instruction.{Instruction, bytes_of, IsEncodable, FitsOperand}
+use Rattle.zcore.specs.Instruction.{Instruction}
+use Rattle.zcore.specs.InstructionBytes.{bytes_of, IsEncodable, FitsOperand}
 use Rattle.zcore.specs.State.{State, done, bound}
 use Rattle.zcore.specs.State as state
 use Rattle.zcore.specs.Parts.{read_variable, write_variable, read_in_place, write_in_place, test_variable}

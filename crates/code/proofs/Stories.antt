@@ -9,7 +9,8 @@ use Rattle.ztext.specs.Words.{packed, unpacked_text}
 use Rattle.ztext.specs.Alphabets.{spelling_of}
 use Rattle.zcore.specs.declared.place.Place.TheVariants as places
 use Rattle.zcore.specs.declared.place.Limit.TheVariants as limits
-use Rattle.zcore.specs.Instruction.{decode, bytes_of, opcode, operands, operand, byte, large, result_variable, branch}
+use Rattle.zcore.specs.Instruction.{decode, opcode, operands, operand, byte, large, result_variable, branch}
+use Rattle.zcore.specs.InstructionBytes.{bytes_of}
 use Rattle.zcore.specs.Turn.{Whole, opening, plays, last_place, turn_from, weight}
 use Rattle.zcore.specs.Execution.{step, perform, give_result, divide, load, increment, decrement, push_word, pull}
 use Rattle.zcore.specs.Execution.{load_word, load_byte, store_word, store_byte, store, jump, call_packed, return_popped}
@@ -31,6 +32,7 @@ use Rattle.meaning.specs.declared.resolved.Variable.TheVariants as variables
 use Rattle.meaning.specs.Objects.{ObjectOf}
 use Rattle.meaning.specs.Resolved as source
 use Rattle.meaning.specs.Resolved.{Action, Actions, RoutineOf, ProgramOf}
+use Rattle.meaning.specs.Views.{actions_of}
 use Rattle.meaning.specs.Meaning.{meaning}
 use Rattle.code_items.specs.Statements.{routine_items}
 use Rattle.code_object_memory.specs.Rows.{rows_of, rows_bytes}
@@ -92,7 +94,7 @@ story_of globals array main other =
     ++ (slot 160 (routine_bytes (sizes_with array) a other) ++ 0 ∷ [])))))))))
 
 abbrev pub list : List Action → Actions
-list xs = source.actions_of xs
+list xs = actions_of xs
 
 abbrev pub local : ℕ → source.Value
 local i = source.read (variables.Local i)

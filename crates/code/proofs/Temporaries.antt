@@ -2,7 +2,8 @@
 use Rattle.std.proofs.Common.{◌≡◌, ◌≢◌, ℕ, ◌+◌, ◌<◌, ◌≤◌, List, ◌∷◌, length, drop, refl, ◌∙◌, subst, arith}
 use Rattle.std.specs.List.{flat_map}
 use Rattle.zcore.specs.Header.{static_base_of}
-use Rattle.zcore.specs.Instruction.{Instruction, bytes_of}
+use Rattle.zcore.specs.Instruction.{Instruction}
+use Rattle.zcore.specs.InstructionBytes.{bytes_of}
 use Rattle.zcore.specs.State.{done}
 use Rattle.zcore.specs.Parts.{operand_values}
 use Rattle.zcore.specs.Execution.{step, perform}

@@ -11,7 +11,7 @@ use Rattle.zcore.specs.declared.instruction.Operation.{Operation}
 use Rattle.zcore.specs.declared.instruction.Operation.TheVariants as operations
 use Rattle.zcore.specs.declared.next.Next.{Next}
 use Rattle.zcore.specs.Operations.{least_operands, most_operands, has_result, has_branch}
-use Rattle.zcore.specs.Instruction.{bytes_of, FitsOperand, FitsResult, FitsBranch}
+use Rattle.zcore.specs.InstructionBytes.{bytes_of, FitsOperand, FitsResult, FitsBranch}
 use Rattle.zcore.specs.State.{State}
 use Rattle.zcore.specs.Parts.{branch_on}
 use Rattle.zcore.specs.Execution.{perform}

@@ -4,12 +4,12 @@ use Rattle.std.specs.Prelude.{slice_index}
 use Rattle.std.specs.List.{All, concat}
 use Rattle.zcore.specs.declared.instruction.Operand.TheVariants.{Large}
 use Rattle.zcore.specs.declared.instruction.Operation.TheVariants.{Call1n, Quit}
-use Rattle.ztext.specs.Bytes.{word_at}
+use Rattle.ztext.specs.Bytes.{word_at, most_abbreviations}
 use Rattle.zcore.specs.Header.{abbreviations_of, defaults_of, dictionary_of, globals_of, static_base_of}
 use Rattle.zcore.specs.Layout.{header_size, globals_size}
 use Rattle.zcore.specs.Parts.{unpacked}
 use Rattle.ztext.specs.Text.{Holds, encoded}
-use Rattle.ztext.specs.Abbreviations.{abbreviation_at, most_abbreviations}
+use Rattle.ztext.specs.Abbreviations.{abbreviation_at}
 use Rattle.tables.specs.Dictionary.{ReadsKeys}
 use Rattle.meaning.specs.Resolved.{RoutineOf, ProgramOf}
 use Rattle.meaning.specs.Meaning.{routine_at}

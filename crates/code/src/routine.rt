@@ -3,7 +3,7 @@
 ghost use Rattle.std.specs.Prelude.{◌≡◌, ◌<◌, reverse, length, IfOk, OnOk};
 ghost use Rattle.code_branch_forms.specs.Layout.{bytes_limit};
 ghost use Rattle.meaning.specs.Meaning.{routine_at};
-ghost use Rattle.meaning.specs.Resolved.{program_of};
+ghost use Rattle.meaning.specs.Views.{program_of};
 ghost use Rattle.code_values.specs.Code.{items_of};
 ghost use Rattle.code_items.specs.Statements as definitions;
 ghost use Rattle.code_encoding.specs.Bytes.{Adds};

@@ -3,7 +3,8 @@ use Rattle.std.proofs.Common.{◌≡◌, ℕ, List, [], ◌∷◌, ◌++◌, ref
 use Rattle.std.specs.List.{flat_map}
 use Rattle.code_encoding.specs.Bytes.{bytes_of_all}
 use Rattle.zcore.specs.Operations.{count_of, number_of, has_more_types}
-use Rattle.zcore.specs.Instruction.{Instruction, opcode_bytes, operand_bytes, result_bytes, branch_bytes, bytes_of}
+use Rattle.zcore.specs.Instruction.{Instruction}
+use Rattle.zcore.specs.InstructionBytes.{opcode_bytes, operand_bytes, result_bytes, branch_bytes, bytes_of}
 
 pub instruction_joined : (i : Instruction) (b b1 b2 b3 b4 : List ℕ)
     → b1 ≡ b ++ opcode_bytes (count_of i.operation) (number_of i.operation) (has_more_types i.operation) i.operands

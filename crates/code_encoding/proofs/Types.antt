@@ -3,7 +3,7 @@ use Rattle.std.proofs.Common.{◌≡◌, ℕ, zero, suc, ◌+◌, ◌*◌, ◌<�
 use Rattle.std.proofs.Common.{slice_index_or, refl, ap, ◌∙◌, arith, length-append}
 use Rattle.std.specs.Prelude.{map, replicate}
 use Rattle.zcore.specs.declared.instruction.Operand.{Operand}
-use Rattle.zcore.specs.Instruction.{type_of, types_byte, types_to_write}
+use Rattle.zcore.specs.InstructionBytes.{type_of, types_byte, types_to_write}
 
 pub type_within : (xs : List Operand) (i : ℕ) (x : Operand) → i < length xs → x ≡ slice_index_or xs i x
     → type_of x ≡ slice_index (types_to_write xs) i

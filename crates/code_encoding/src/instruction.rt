@@ -4,7 +4,7 @@ ghost use Rattle.std.specs.Prelude.{◌≡◌, ◌<◌, [], ◌∷◌, map, OnOk
 ghost use Rattle.std.specs.List.{flat_map};
 ghost use Rattle.zcore.specs.declared.instruction.Operand.TheVariants.{Large};
 ghost use Rattle.zcore.specs.declared.instruction.Operation.TheVariants.{PrintPacked, Quit};
-ghost use Rattle.zcore.specs.Instruction.{bytes_of, operand_bytes, result_bytes, branch_bytes};
+ghost use Rattle.zcore.specs.InstructionBytes.{bytes_of, operand_bytes, result_bytes, branch_bytes};
 ghost use Rattle.code_encoding.specs.Written.{branch_of, operands_of, instruction_of};
 ghost use Rattle.code_encoding.specs.Bytes.{Adds, AddsCode};
 ghost use Rattle.code_encoding.specs.Instructions as spec;

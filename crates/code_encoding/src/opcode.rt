@@ -2,9 +2,9 @@
 //! 1.1, sections 4 and 14).
 
 ghost use Rattle.std.specs.Prelude.{◌≡◌, ◌<◌, ◌≤◌, ◌+◌, drop, slice_index, OnOk};
-ghost use Rattle.zcore.specs.Instruction as definitions;
 ghost use Rattle.zcore.specs.Operations.{count_of, number_of, has_more_types};
-ghost use Rattle.zcore.specs.Instruction.{types_to_write, two_bytes, one_bytes, opcode_bytes, variable_bytes};
+ghost use Rattle.zcore.specs.InstructionBytes.{types_to_write, two_bytes, one_bytes, opcode_bytes, variable_bytes};
+ghost use Rattle.zcore.specs.InstructionBytes as views;
 ghost use Rattle.code_encoding.specs.Bytes.{Adds};
 
 use std::alloc::AllocError;
@@ -12,7 +12,7 @@ use zcore::{Operand, OperandCount, Operation};
 
 /// The type of an operand.
 fn type_of(operand: Operand) -> u8
-    ensures value { result ≡ definitions.type_of operand }
+    ensures value { result ≡ views.type_of operand }
     ensures small { result < 3 }
 {
     match operand {
@@ -38,7 +38,7 @@ fn type_at(operands: &[Operand], index: usize) -> u8
 /// The byte of the types of four operands.
 fn types_byte(operands: &[Operand], from: usize) -> u8
     requires { from ≤ 4 }
-    ensures { result ≡ definitions.types_byte (drop from (types_to_write operands.now)) }
+    ensures { result ≡ views.types_byte (drop from (types_to_write operands.now)) }
 {
     64 * type_at(operands, from)
         + 16 * type_at(operands, from + 1)

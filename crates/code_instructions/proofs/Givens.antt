@@ -5,7 +5,7 @@ use Rattle.std.proofs.lemmas.Bool.{ne_eqb}
 use Rattle.zcore.specs.declared.instruction.Operand.{Operand}
 use Rattle.zcore.specs.declared.instruction.Operand.TheVariants.{Large}
 use Rattle.zcore.specs.declared.instruction.Operation.{Operation}
-use Rattle.zcore.specs.Instruction.{bytes_of}
+use Rattle.zcore.specs.InstructionBytes.{bytes_of}
 use Rattle.code_values.specs.Items.{Destination, Test}
 use Rattle.code_values.specs.Items as items
 use Rattle.code_values.specs.declared.item.Operand as code_operand

@@ -5,7 +5,8 @@ use Rattle.std.specs.Prelude.{OnOk, Result, Ok, Err}
 use Rattle.std.proofs.Math.Seq.{set-append_seam}
 use Rattle.meaning.specs.declared.resolved.Printed as code_printed
 use Rattle.meaning.specs.declared.resolved.Action as code_action
-use Rattle.meaning.specs.Resolved.{Value, Printed, Action, Actions, actions_of, action_of, printed_of}
+use Rattle.meaning.specs.Resolved.{Value, Printed, Action, Actions}
+use Rattle.meaning.specs.Views.{actions_of, action_of, printed_of}
 use Rattle.meaning.specs.Resolved as source
 use Rattle.code_values.specs.Items.{Item, Operand, alone, if_pushed, push, branch_count, value_count, value_items}
 use Rattle.code_values.specs.Items.{branch_items, alone_items, left_of, operand_count}

@@ -12,7 +12,8 @@ use Rattle.meaning.specs.Objects.{ObjectOf}
 use Rattle.meaning.specs.Resolved.{Value, Action, ProgramOf, none, read, number, call, assign, relative, contained, has}
 use Rattle.meaning.specs.Resolved.{provides, property, property_size, property_word, assign_property}
 use Rattle.meaning.specs.Resolved.{assign_property_word, effect, if_then, Printed, print, text, number_of, name_of}
-use Rattle.meaning.specs.Resolved.{give_to, move_to, remove_from, each_object, each_where, each_in, actions_of}
+use Rattle.meaning.specs.Resolved.{give_to, move_to, remove_from, each_object, each_where, each_in}
+use Rattle.meaning.specs.Views.{actions_of}
 use Rattle.meaning.specs.Resolved as source
 use Rattle.meaning.specs.World.{Outcome}
 use Rattle.code_values.specs.Items.{pushed, push, into, nowhere, is_zero, branch, keep, back, print_number, print_name}

@@ -4,7 +4,8 @@ use Rattle.std.proofs.Common.{Option, refl, sym, ap, subst, ◌∙◌, arith}
 use Rattle.std.specs.Global.{Vec}
 use Rattle.meaning.specs.declared.resolved.Span.{Span}
 use Rattle.meaning.specs.declared.resolved.Action as code_action
-use Rattle.meaning.specs.Resolved.{Value, RangeOf, Action, Actions, CasesOf, case_of}
+use Rattle.meaning.specs.Resolved.{Value, RangeOf, Action, Actions, CasesOf}
+use Rattle.meaning.specs.Views.{case_of, actions_of, action_of, range_of, cases_of}
 use Rattle.meaning.specs.Resolved as source
 use Rattle.code_values.specs.Items.{Item, aside, value_count, value_items}
 use Rattle.code_values.specs.declared.draft.Draft.{Draft}
@@ -55,14 +56,14 @@ pub case_leaves : (old over body new : Draft) (x : Exits) (c : Vec Span × Vec c
     → behind ≡ length (written_in old)
     → WritesBefore (written_in old) (written_in over) (λ n at. over_items (length (written_in old) - end) (n - end))
     → WritesBefore (written_in over) (written_in body)
-    (λ n at. actions_items (exits_of n x) at (source.actions_of (map source.action_of c.1.items)))
+    (λ n at. actions_items (exits_of n x) at (actions_of (map action_of c.1.items)))
     → inside ≡ length (written_in body)
     → WritesBefore (written_in body) (written_in new)
-    (λ n at. tests_items at (groups_of (map source.range_of c.0.items)) (n - inside) (n - behind))
+    (λ n at. tests_items at (groups_of (map range_of c.0.items)) (n - inside) (n - behind))
     → LeavesCases old new x (c ∷ []) end
 unfolding case_of
 case_leaves old over body new x c end inside behind eb wo wa ei wt start later es w =
-    case_more start _ _ _ _ x (map source.range_of c.0.items) (source.actions_of (map source.action_of c.1.items)) later
+    case_more start _ _ _ _ x (map range_of c.0.items) (actions_of (map action_of c.1.items)) later
     end inside behind es w eb wo wa ei wt
 
 cases_from : (cs : List (Vec Span × Vec code_action.Action)) (i : ℕ) (c : Vec Span × Vec code_action.Action)
@@ -85,7 +86,7 @@ case_next old mid new x cs i c end lt is many here =
     here start (cases_before (map case_of (drop (i + 1) cs)) later) es (many start later es w))
 
 pub cases_all : (cs : List (List RangeOf × Actions)) (other : Option (List Action))
-    → cases_before cs (source.cases_of [] other) ≡ source.cases_of cs other
+    → cases_before cs (cases_of [] other) ≡ cases_of cs other
 cases_all [] other = refl
 cases_all (c ∷ cs) other = ap (source.case c.0 c.1) (cases_all cs other)
 

@@ -8,10 +8,9 @@ use Rattle.meaning.specs.declared.resolved.Value as code_value
 use Rattle.meaning.specs.declared.resolved.Action as code_action
 use Rattle.meaning.specs.declared.resolved.Action.TheVariants as s
 use Rattle.meaning.specs.declared.resolved.Action.TheFolds.{fold-roll-Action}
-use Rattle.meaning.specs.Resolved.{give_to, move_to, remove_from, each_object, each_where, each_in, Action}
-use Rattle.meaning.specs.Resolved.{text_alone, while_do, do_until, for_loop}
-use Rattle.meaning.specs.Resolved.{switch_on, return_value, cases_of, value_of, case_of}
-use Rattle.meaning.specs.Resolved.{boxed_value, other_of, action_of, action_layer}
+use Rattle.meaning.specs.Resolved.{give_to, move_to, remove_from, each_object, each_where, each_in, Action, text_alone}
+use Rattle.meaning.specs.Resolved.{while_do, do_until, for_loop, switch_on, return_value}
+use Rattle.meaning.specs.Views.{cases_of, value_of, case_of, boxed_value, other_of, action_of, action_layer}
 use Rattle.meaning.proofs.Mapped.{mapped_twice}
 
 pub text_is : (t : code_action.Action) (text : _) → t ≡ s.Text text → action_of t ≡ text_alone text.now

@@ -6,7 +6,8 @@ use Rattle.meaning.specs.declared.resolved.Printed as code_printed
 use Rattle.std.specs.Global.{Vec}
 use Rattle.meaning.specs.declared.resolved.Span.{Span}
 use Rattle.meaning.specs.declared.resolved.Action as code_action
-use Rattle.meaning.specs.Resolved.{Value, RangeOf, Action, Actions, CasesOf, value_of, printed_of, case_of}
+use Rattle.meaning.specs.Resolved.{Value, RangeOf, Action, Actions, CasesOf}
+use Rattle.meaning.specs.Views.{value_of, printed_of, case_of}
 use Rattle.meaning.specs.Resolved as source
 use Rattle.code_values.specs.Items.{Item, Operand, push, if_pushed, value_items}
 use Rattle.code_items.specs.Statements.{prints_items, Exits, action_items, cases_items}

@@ -1,7 +1,7 @@
 //! The tests of the cases of a `switch`.
 
 ghost use Rattle.std.specs.Prelude.{◌-◌, ◌∷◌, [], true, length, map, OnOk};
-ghost use Rattle.meaning.specs.Resolved.{range_of};
+ghost use Rattle.meaning.specs.Views.{range_of};
 ghost use Rattle.code_values.specs.Items.{case, same, less, greater};
 ghost use Rattle.code_values.specs.Writing.{Writes, written_in, PutsItem};
 ghost use Rattle.code_items.specs.Statements.{groups_of, group_items, last_items, tests_items};

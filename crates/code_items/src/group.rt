@@ -1,7 +1,7 @@
 //! The tests of a case, in groups that need few branches.
 
 ghost use Rattle.std.specs.Prelude.{◌≡◌, map, reverse, IfOk, OnOk};
-ghost use Rattle.meaning.specs.Resolved.{range_of};
+ghost use Rattle.meaning.specs.Views.{range_of};
 ghost use Rattle.code_items.specs.Statements as statements;
 ghost use Rattle.code_items.specs.Code.{group_of};
 

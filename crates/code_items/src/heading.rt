@@ -2,7 +2,7 @@
 
 ghost use Rattle.std.specs.Prelude.{◌-◌, OnOk};
 ghost use Rattle.std.specs.Option.{option_map};
-ghost use Rattle.meaning.specs.Resolved.{boxed_value};
+ghost use Rattle.meaning.specs.Views.{boxed_value};
 ghost use Rattle.code_items.specs.Statements.{once_items, test_items};
 ghost use Rattle.code_values.specs.Writing.{Writes};
 

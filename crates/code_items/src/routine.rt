@@ -1,7 +1,7 @@
 //! Routines as items.
 
 ghost use Rattle.std.specs.Prelude.{◌≡◌, IfOk};
-ghost use Rattle.meaning.specs.Resolved.{routine_of};
+ghost use Rattle.meaning.specs.Views.{routine_of};
 ghost use Rattle.code_items.specs.Statements as statements;
 ghost use Rattle.code_values.specs.Code.{items_of};
 

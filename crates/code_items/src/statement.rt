@@ -2,11 +2,11 @@
 
 ghost use Rattle.std.specs.Prelude.{◌-◌, [], ◌∷◌, map, IfOk, OnOk};
 ghost use Rattle.std.specs.Option.{option_map};
-ghost use Rattle.meaning.specs.Resolved.{block, if_then, if_else, while_do, do_until, for_loop};
-ghost use Rattle.meaning.specs.Resolved.{switch_on, return_value, value_of, give_to, move_to};
-ghost use Rattle.meaning.specs.Resolved.{remove_from, each_object, each_where, each_in, printed_of};
-ghost use Rattle.meaning.specs.Resolved.{action_of, actions_of, case_of, cases_of, other_of};
-ghost use Rattle.meaning.specs.Resolved.{text_alone, print_return, boxed_value};
+ghost use Rattle.meaning.specs.Resolved.{block, if_then, if_else, while_do, do_until, for_loop, switch_on};
+ghost use Rattle.meaning.specs.Resolved.{return_value, give_to, move_to, remove_from, each_object, each_where, each_in};
+ghost use Rattle.meaning.specs.Resolved.{text_alone, print_return};
+ghost use Rattle.meaning.specs.Views.{value_of, printed_of, action_of, actions_of, case_of, cases_of, other_of};
+ghost use Rattle.meaning.specs.Views.{boxed_value};
 ghost use Rattle.code_values.specs.Code.{as_operand};
 ghost use Rattle.code_values.specs.Items.{new_line};
 ghost use Rattle.code_values.specs.Writing.{Writes};

@@ -5,7 +5,8 @@ use Rattle.std.specs.Prelude.{nat_lt, if◌then◌else◌}
 use Rattle.syntax_trees.specs.declared.tree.Binary.{Binary}
 use Rattle.syntax_trees.specs.declared.tree.Equality.{Equality}
 use Rattle.meaning.specs.declared.resolved.Value as code_value
-use Rattle.meaning.specs.Resolved.{Value, Values, none, more, value_of, values_of}
+use Rattle.meaning.specs.Resolved.{Value, Values, none, more}
+use Rattle.meaning.specs.Views.{value_of, values_of}
 use Rattle.meaning.specs.Resolved as source
 use Rattle.meaning.specs.Accepted.{count_of}
 use Rattle.code_values.specs.Items.{Item, Operand, pushed, push, same, operand_of, operands_of, if_pushed}

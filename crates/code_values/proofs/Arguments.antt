@@ -4,7 +4,8 @@ use Rattle.std.proofs.Common.{slice_index_or, sym, ap, subst, ◌∙◌, arith}
 use Rattle.std.proofs.Common.{true}
 use Rattle.std.proofs.lemmas.List.{take_rest}
 use Rattle.meaning.specs.declared.resolved.Value as code_value
-use Rattle.meaning.specs.Resolved.{Values, value_of, values_of}
+use Rattle.meaning.specs.Resolved.{Values}
+use Rattle.meaning.specs.Views.{value_of, values_of}
 use Rattle.code_values.specs.Items.{Item, Operand, Destination, operand_of, operands_of, if_pushed, is_any_pushed}
 use Rattle.code_values.specs.Items.{argument_place, value_count, value_items, arguments_items}
 use Rattle.code_values.specs.Writing.{WritesBefore}

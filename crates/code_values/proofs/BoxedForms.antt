@@ -12,7 +12,8 @@ use Rattle.syntax_trees.specs.declared.tree.Width.{Width}
 use Rattle.meaning.specs.declared.resolved.Variable.{Variable}
 use Rattle.meaning.specs.declared.resolved.Value as code_value
 use Rattle.meaning.specs.declared.resolved.Value.TheVariants as forms
-use Rattle.meaning.specs.Resolved.{Value, more, value_of, values_of, chained, propertied}
+use Rattle.meaning.specs.Resolved.{Value, more}
+use Rattle.meaning.specs.Views.{value_of, values_of, chained, propertied}
 use Rattle.meaning.specs.Resolved as source
 use Rattle.code_values.specs.Items.{Item}
 use Rattle.code_values.specs.declared.wanted.Wanted.{Wanted}

@@ -6,7 +6,8 @@ use Rattle.std.specs.Prelude.{◌&&◌, ◌||◌, nat_lt, nat_le, if◌then◌el
 use Rattle.std.proofs.lemmas.Bool.{ltb-true}
 use Rattle.meaning.specs.declared.resolved.Variable.{Variable}
 use Rattle.meaning.specs.declared.resolved.Value as code_value
-use Rattle.meaning.specs.Resolved.{Value, Values, none, more, value_of, values_of}
+use Rattle.meaning.specs.Resolved.{Value, Values, none, more}
+use Rattle.meaning.specs.Views.{value_of, values_of}
 use Rattle.meaning.specs.Resolved as source
 use Rattle.meaning.specs.Accepted.{count_of}
 use Rattle.code_values.specs.Items.{Item, Operand, pushed, number, variable, push, same, prefix_operand, operand_of}

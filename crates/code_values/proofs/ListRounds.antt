@@ -4,7 +4,7 @@ use Rattle.std.proofs.Common.{ap, subst, ◌∙◌, arith}
 use Rattle.std.proofs.lemmas.List.{take_rest}
 use Rattle.syntax_trees.specs.declared.tree.Binary.{Binary}
 use Rattle.meaning.specs.declared.resolved.Value as code_value
-use Rattle.meaning.specs.Resolved.{value_of, values_of}
+use Rattle.meaning.specs.Views.{value_of, values_of}
 use Rattle.code_values.specs.Items.{Item, Operand, pushed, operand_of, operands_items}
 use Rattle.code_values.specs.Items as items
 use Rattle.code_values.specs.declared.item.Destination.TheVariants as destinations

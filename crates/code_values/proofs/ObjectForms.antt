@@ -1,7 +1,8 @@
 -- What is written for forms of one, two or three operands: those on objects.
 use Rattle.std.proofs.Common.{◌≡◌, ℕ, ◌+◌, ◌-◌, List, [], ◌∷◌, ◌++◌, Bool, sym, ap, subst, ◌∙◌, arith, append_assoc}
 use Rattle.meaning.specs.declared.resolved.Value as code_value
-use Rattle.meaning.specs.Resolved.{Value, value_of}
+use Rattle.meaning.specs.Resolved.{Value}
+use Rattle.meaning.specs.Views.{value_of}
 use Rattle.meaning.specs.Resolved as source
 use Rattle.code_values.specs.Items.{Item, Operand, pushed, Destination, push, alone, left_of, first_of, if_pushed}
 use Rattle.code_values.specs.Items.{branch_true, value_count, value_items, branch_items}

@@ -5,7 +5,8 @@ use Rattle.std.proofs.lemmas.List.{map-append}
 use Rattle.std.specs.Prelude.{if◌then◌else◌}
 use Rattle.meaning.specs.declared.resolved.Variable.{Variable}
 use Rattle.meaning.specs.declared.resolved.Value as code_value
-use Rattle.meaning.specs.Resolved.{Value, Values, none, value_of, values_of}
+use Rattle.meaning.specs.Resolved.{Value, Values, none}
+use Rattle.meaning.specs.Views.{value_of, values_of}
 use Rattle.meaning.specs.Resolved as source
 use Rattle.code_values.specs.Items.{Operand, pushed, number, variable, prefix_operand, operand_of, operands_of}
 use Rattle.code_values.specs.Items.{alone, change}

@@ -6,7 +6,8 @@ use Rattle.syntax_trees.specs.declared.tree.Binary.{Binary}
 use Rattle.syntax_trees.specs.declared.tree.Binary.TheVariants as binaries
 use Rattle.syntax_trees.specs.declared.tree.Comparison.{Comparison}
 use Rattle.syntax_trees.specs.declared.tree.Width.{Width}
-use Rattle.meaning.specs.Resolved.{Value, chained}
+use Rattle.meaning.specs.Resolved.{Value}
+use Rattle.meaning.specs.Views.{chained}
 use Rattle.meaning.specs.Resolved as source
 use Rattle.code_values.specs.Items.{Item, Operand, pushed, number, Destination, push, Test, alone, left_of}
 use Rattle.code_values.specs.Items.{if_pushed, branch_true, comparison_test, comparison_when, value_count, value_items}

@@ -2,7 +2,8 @@
 use Rattle.std.proofs.Common.{◌≡◌, ℕ, ◌+◌, ◌-◌, ◌<◌, ◌≤◌, List, [], ◌∷◌, ◌++◌, length, drop, slice_index_or, refl}
 use Rattle.std.proofs.Common.{suc, sym, ap, subst, ◌∙◌, arith}
 use Rattle.std.proofs.Math.Seq.{drop-cons}
-use Rattle.meaning.specs.Resolved.{Value, propertied}
+use Rattle.meaning.specs.Resolved.{Value}
+use Rattle.meaning.specs.Views.{propertied}
 use Rattle.meaning.specs.Resolved as source
 use Rattle.code_values.specs.Items.{Item, Operand, pushed, Destination, alone}
 use Rattle.code_values.specs.Items as items

@@ -16,8 +16,8 @@ use Rattle.meaning.specs.declared.resolved.Value.TheVariants as v
 use Rattle.meaning.specs.declared.resolved.Value.TheFolds.{fold-roll-Value}
 use Rattle.meaning.specs.Resolved.{Value, number, read, call, prefixed, step_before, step_after, binary, compare, equal}
 use Rattle.meaning.specs.Resolved.{entry, assign_entry, assign_property_word, relative, contained, has, provides}
-use Rattle.meaning.specs.Resolved.{property, property_size, property_word, assign_property, assign, more, values_of}
-use Rattle.meaning.specs.Resolved.{chained, propertied, value_of, value_layer}
+use Rattle.meaning.specs.Resolved.{property, property_size, property_word, assign_property, assign, more}
+use Rattle.meaning.specs.Views.{values_of, chained, propertied, value_of, value_layer}
 use Rattle.meaning.specs.Accepted.{count_of}
 use Rattle.code_values.specs.Items as items
 use Rattle.code_values.specs.Writing.{link_of, change_links}

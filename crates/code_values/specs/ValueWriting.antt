@@ -6,7 +6,8 @@ use Rattle.syntax_trees.specs.declared.tree.Containment.{Containment}
 use Rattle.syntax_trees.specs.declared.tree.Equality.{Equality}
 use Rattle.syntax_trees.specs.declared.tree.Width.{Width}
 use Rattle.meaning.specs.declared.resolved.Value as code_value
-use Rattle.meaning.specs.Resolved.{Value, Values, none, more, value_of, chained, propertied}
+use Rattle.meaning.specs.Resolved.{Value, Values, none, more}
+use Rattle.meaning.specs.Views.{value_of, chained, propertied}
 use Rattle.meaning.specs.Resolved as source
 use Rattle.code_values.specs.Items.{Item, Operand, Destination, pushed, push, alone, left_of, if_pushed, value_count}
 use Rattle.code_values.specs.Items.{value_items, operands_items, arguments_items}

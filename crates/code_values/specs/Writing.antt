@@ -5,7 +5,8 @@ use Rattle.syntax_trees.specs.declared.tree.Binary.{Binary}
 use Rattle.syntax_trees.specs.declared.tree.Binary.TheVariants as binaries
 use Rattle.meaning.specs.declared.resolved.Variable.{Variable}
 use Rattle.meaning.specs.declared.resolved.Value as code_value
-use Rattle.meaning.specs.Resolved.{Value, Values, none, more, value_of, values_of}
+use Rattle.meaning.specs.Resolved.{Value, Values, none, more}
+use Rattle.meaning.specs.Views.{value_of, values_of}
 use Rattle.code_values.specs.Items.{Item, Operand, pushed, changes, Destination, push, alone, operand_of, operands_of}
 use Rattle.code_values.specs.Items.{is_direct}
 use Rattle.code_values.specs.Items.{branch_true, branch_count, truth_items, value_items, branch_items, moved}

@@ -1,7 +1,8 @@
 //! Which operands stand in place.
 
 ghost use Rattle.std.specs.Prelude.{◌≡◌, ◌&&◌, ◌||◌, true, false, map, nat_lt, OnOk};
-ghost use Rattle.meaning.specs.Resolved.{none, more, value_of};
+ghost use Rattle.meaning.specs.Resolved.{none, more};
+ghost use Rattle.meaning.specs.Views.{value_of};
 ghost use Rattle.meaning.specs.Accepted.{count_of};
 ghost use Rattle.meaning.specs.Meaning.{with_prefix};
 ghost use Rattle.code_values.specs.Items as items;

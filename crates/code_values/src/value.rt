@@ -1,11 +1,10 @@
 //! Expressions as items.
 
 ghost use Rattle.std.specs.Prelude.{map, IfOk, OnOk};
-ghost use Rattle.meaning.specs.Resolved.{call, prefixed, assign, entry, relative, has, provides};
-ghost use Rattle.meaning.specs.Resolved.{property, propertied, property_size, chained, binary};
-ghost use Rattle.meaning.specs.Resolved.{compare, equal};
-ghost use Rattle.meaning.specs.Resolved.{assign_entry, contained, property_word, value_of};
+ghost use Rattle.meaning.specs.Resolved.{call, prefixed, assign, entry, relative, has, provides, property};
+ghost use Rattle.meaning.specs.Resolved.{property_size, binary, compare, equal, assign_entry, contained, property_word};
 ghost use Rattle.meaning.specs.Resolved.{assign_property, assign_property_word};
+ghost use Rattle.meaning.specs.Views.{propertied, chained, value_of};
 ghost use Rattle.code_values.specs.Writing.{link_of, more_in, values_in, WritesValue};
 ghost use Rattle.code_values.specs.ValueWriting.{WritesOperand, WritesPlaced, WritesOperands, WritesFolded};
 ghost use Rattle.code_values.specs.ValueWriting.{WritesArguments, WritesLink};

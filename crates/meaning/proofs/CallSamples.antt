@@ -9,7 +9,8 @@ use Rattle.syntax_trees.specs.declared.tree.Binary.TheVariants as op
 use Rattle.syntax_trees.specs.declared.tree.Width.TheVariants as widths
 use Rattle.meaning.specs.declared.resolved.Variable.TheVariants as variables
 use Rattle.meaning.specs.Resolved.{Action, Printed, ProgramOf, number, read, call, binary, assign, entry, assign_entry}
-use Rattle.meaning.specs.Resolved.{none, more, text, number_of, actions_of, print, return_value, effect}
+use Rattle.meaning.specs.Resolved.{none, more, text, number_of, print, return_value, effect}
+use Rattle.meaning.specs.Views.{actions_of}
 use Rattle.meaning.specs.World.{Outcome}
 use Rattle.meaning.specs.Meaning.{meaning}
 

@@ -3,7 +3,7 @@ use Rattle.std.proofs.Common.{◌≡◌, ℕ, List, [], ◌∷◌, ◌++◌, len
 use Rattle.std.proofs.Math.Seq.{take-append_seam, drop-append_seam}
 use Rattle.std.specs.Prelude.{map}
 use Rattle.std.specs.List.{concat}
-use Rattle.meaning.specs.Resolved.{cut, AreArrays}
+use Rattle.meaning.specs.Views.{cut, AreArrays}
 
 pub cut_back : (arrays : List (List ℕ)) → cut (map length arrays) (concat arrays) ≡ arrays
 cut_back [] = refl

@@ -8,7 +8,8 @@ use Rattle.std.proofs.lemmas.List.{length-append, at_drop_more, at_drop_all}
 use Rattle.ztext.specs.Alphabets.{spelling_of, spelled}
 use Rattle.meaning.specs.declared.checked.CheckedObject.{CheckedObject}
 use Rattle.meaning.specs.declared.places.Places.{Places}
-use Rattle.meaning.specs.Resolved.{ProgramOf, object_of, property_of}
+use Rattle.meaning.specs.Resolved.{ProgramOf}
+use Rattle.meaning.specs.Views.{object_of, property_of}
 use Rattle.meaning.specs.Places.{folded, machine_character, total, property_size, table_size, objects_size, text_size}
 use Rattle.meaning.specs.Places.{abbreviations_size, arrays_size, key_count, defaults_place, dictionary_place}
 use Rattle.meaning.specs.Places.{dictionary_end, filling_before, texts_place, start_place, routines_place, places_of}

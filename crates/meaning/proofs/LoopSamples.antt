@@ -9,8 +9,9 @@ use Rattle.syntax_trees.specs.declared.tree.Equality.TheVariants as equality
 use Rattle.syntax_trees.specs.declared.tree.Step.TheVariants as steps
 use Rattle.meaning.specs.declared.resolved.Variable.TheVariants as variables
 use Rattle.meaning.specs.Resolved.{Value, Action, ProgramOf, number, read, step_after, compare, equal, none, more, text}
-use Rattle.meaning.specs.Resolved.{number_of, one, between, actions_of, block, print, while_do, do_until, for_loop}
-use Rattle.meaning.specs.Resolved.{switch_on, break_out, continue_on, effect, no_case, default_case, case}
+use Rattle.meaning.specs.Resolved.{number_of, one, between, block, print, while_do, do_until, for_loop, switch_on}
+use Rattle.meaning.specs.Resolved.{break_out, continue_on, effect, no_case, default_case, case}
+use Rattle.meaning.specs.Views.{actions_of}
 use Rattle.meaning.specs.World.{Outcome}
 use Rattle.meaning.specs.Meaning.{meaning}
 

@@ -12,8 +12,9 @@ use Rattle.meaning.specs.declared.resolved.Variable.TheVariants as variables
 use Rattle.meaning.specs.Objects.{ObjectOf}
 use Rattle.meaning.specs.Resolved.{Value, Action, ProgramOf, number, read, relative, contained, has, property}
 use Rattle.meaning.specs.Resolved.{property_size, equal, more, none, block, if_then, property_word}
-use Rattle.meaning.specs.Resolved.{assign_property_word, Printed, text, number_of, name_of, actions_of, print, new_line}
-use Rattle.meaning.specs.Resolved.{effect, move_to, remove_from, each_object, each_in}
+use Rattle.meaning.specs.Resolved.{assign_property_word, Printed, text, number_of, name_of, print, new_line, effect}
+use Rattle.meaning.specs.Resolved.{move_to, remove_from, each_object, each_in}
+use Rattle.meaning.specs.Views.{actions_of}
 use Rattle.meaning.specs.World.{Outcome, Situation, test_word, fault}
 use Rattle.meaning.specs.Meaning.{meaning}
 

@@ -11,8 +11,9 @@ use Rattle.zcore.specs.declared.place.Place.TheVariants as places
 use Rattle.syntax_trees.specs.declared.tree.Step.TheVariants as steps
 use Rattle.meaning.specs.declared.resolved.Variable.TheVariants as variables
 use Rattle.meaning.specs.Objects.{first_objects}
-use Rattle.meaning.specs.Resolved.{Action, ProgramOf, number, read, step_after, text, number_of, actions_of, block}
-use Rattle.meaning.specs.Resolved.{print, while_do, read_line, effect}
+use Rattle.meaning.specs.Resolved.{Action, ProgramOf, number, read, step_after, text, number_of, block, print, while_do}
+use Rattle.meaning.specs.Resolved.{read_line, effect}
+use Rattle.meaning.specs.Views.{actions_of}
 use Rattle.meaning.specs.World.{Situation, Comes, to}
 use Rattle.meaning.specs.Reading.{words_for, read_next}
 use Rattle.meaning.specs.Meaning.{meaning}

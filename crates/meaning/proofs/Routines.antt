@@ -1,7 +1,7 @@
 -- The routine of a number.
 use Rattle.std.proofs.Common.{◌≡◌, ◌<◌, ℕ, zero, suc, List, [], ◌∷◌, length, slice_index_or, ap, arith}
 use Rattle.std.specs.Prelude.{map}
-use Rattle.meaning.specs.Resolved.{routine_of}
+use Rattle.meaning.specs.Views.{routine_of}
 use Rattle.meaning.specs.declared.checked.CheckedRoutine.{CheckedRoutine}
 use Rattle.meaning.specs.Meaning.{routine_at}
 

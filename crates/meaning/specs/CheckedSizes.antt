@@ -5,7 +5,7 @@ use Rattle.syntax_lexer.specs.declared.fault.SourceFault.{SourceFault}
 use Rattle.zcore.specs.declared.header.Version.{Version}
 use Rattle.meaning.specs.declared.checked.CheckedRoutine.{CheckedRoutine}
 use Rattle.meaning.specs.Places.{routines_place}
-use Rattle.meaning.specs.Resolved.{CheckedProgram, program_of}
+use Rattle.meaning.specs.Views.{CheckedProgram, program_of}
 use Rattle.meaning.specs.Sizes.{first_heavy, size_fault}
 
 abbrev pub weight_of : CheckedRoutine → ℕ

@@ -2,6 +2,7 @@ pub mod Limits
 pub mod Objects
 pub mod Forests
 pub mod Resolved
+pub mod Views
 pub mod World
 pub mod Reading
 pub mod Places

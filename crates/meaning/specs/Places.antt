@@ -6,7 +6,7 @@
 use Rattle.std.specs.Prelude.{◌+◌, ◌*◌, ◌/◌, ◌%◌, ◌==◌, ℕ, nat_lt, if◌then◌else◌, List, [], ◌∷◌, length, map}
 use Rattle.std.specs.List.{concat}
 use Rattle.tables.specs.KeyNumbers.{key_number, head_size, entry_size}
-use Rattle.ztext.specs.Abbreviations.{most_abbreviations}
+use Rattle.ztext.specs.Bytes.{most_abbreviations}
 use Rattle.ztext.specs.Text.{encoded}
 use Rattle.zcore.specs.Layout.{defaults_size, globals_size, header_size, object_entry_size}
 use Rattle.meaning.specs.Objects.{ObjectOf}

@@ -6,7 +6,7 @@ ghost use Rattle.std.specs.Option.{option_map};
 ghost use Rattle.std.specs.Coded.{codes};
 ghost use denote.Signature.{static_lft};
 ghost use Rattle.meaning.specs.contracts.resolved.Action as statement;
-ghost use Rattle.meaning.specs.Resolved.{CheckedProgram, routine_of, program_of, cut, AreArrays};
+ghost use Rattle.meaning.specs.Views.{CheckedProgram, routine_of, program_of, cut, AreArrays};
 ghost use Rattle.meaning.specs.Meaning.{routine_at};
 
 use crate::arrays::Arrays;

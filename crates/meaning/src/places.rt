@@ -1,7 +1,7 @@
 //! Where the parts of a story stand.
 
 ghost use Rattle.std.specs.Prelude.{◌≡◌, ◌+◌, ◌*◌, ◌<◌, ◌≤◌, ◌^◌, ℕ, length, map};
-ghost use Rattle.meaning.specs.Resolved.{program_of, object_of};
+ghost use Rattle.meaning.specs.Views.{program_of, object_of};
 ghost use Rattle.meaning.specs.Places.{folded, places_of, routines_place};
 ghost use Rattle.meaning.specs.Places as spec;
 ghost use Rattle.tables.specs.KeyNumbers.{entry_size, head_size};

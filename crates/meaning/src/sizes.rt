@@ -3,7 +3,7 @@
 ghost use Rattle.std.specs.Prelude.{◌≡◌, nat_lt};
 ghost use Rattle.syntax_lexer.specs.Placed.{nowhere, unplaced};
 ghost use Rattle.meaning.specs.Places.{routines_place};
-ghost use Rattle.meaning.specs.Resolved.{program_of};
+ghost use Rattle.meaning.specs.Views.{program_of};
 ghost use Rattle.meaning.specs.CheckedSizes.{fault_of, checked_size_fault, name_place_of, weight_of};
 ghost use Rattle.meaning.specs.Sizes as spec;
 

@@ -3,7 +3,7 @@
 
 ghost use Rattle.std.specs.Prelude.{◌≡◌, ◌+◌, ◌*◌, ◌<◌, ◌≤◌, ◌^◌, ℕ, length, map};
 ghost use Rattle.ztext.specs.Alphabets.{spelled};
-ghost use Rattle.meaning.specs.Resolved.{object_of, property_of};
+ghost use Rattle.meaning.specs.Views.{object_of, property_of};
 ghost use Rattle.meaning.specs.Places.{total};
 ghost use Rattle.meaning.specs.Places as spec;
 

@@ -7,12 +7,14 @@ use Rattle.std.specs.List.{flat_map}
 use Rattle.syntax_lexer.specs.declared.token.Position.{Position}
 use Rattle.syntax_statement_parts.specs.declared.tree.PrintItem.{PrintItem}
 use Rattle.syntax_statement_parts.specs.declared.tree.Range.{Range}
-use Rattle.syntax_statement_parts.specs.Tree.{item_tree, LoopTree, over_all, over_in, over_where}
+use Rattle.syntax_statement_parts.specs.Tree.{LoopTree, over_all, over_in, over_where}
+use Rattle.syntax_statement_parts.specs.Views.{item_tree}
 use Rattle.syntax_statements.specs.declared.tree.Statement.{Statement}
 use Rattle.syntax_statements.specs.Tree as written
-use Rattle.syntax_statements.specs.Tree.{StatementTree, statement_tree, case_tree}
+use Rattle.syntax_statements.specs.Tree.{StatementTree}
+use Rattle.syntax_statements.specs.Views.{statement_tree, case_tree, trees_of, cases_of}
 use Rattle.syntax_directives.specs.declared.tree.Directive.{Directive}
-use Rattle.syntax_directives.specs.Tree.{directive_tree}
+use Rattle.syntax_directives.specs.Views.{directive_tree}
 use Rattle.source_temporaries.specs.declared.sought.Sought.{Sought}
 use Rattle.source_temporaries.specs.Needs.{PlacedNeed, item_needs, statement_needs, statements_needs, cases_needs}
 use Rattle.source_temporaries.specs.Needs.{directive_needs}
@@ -52,7 +54,7 @@ items_need [] = refl
 items_need (i ∷ is) = ap (λ r. own_item_needs i ++ r) (items_need is)
 
 pub statements_need : (ss : List Statement)
-    → statements_needs (written.trees_of (map statement_tree ss)) ≡ flat_map own_needs ss
+    → statements_needs (trees_of (map statement_tree ss)) ≡ flat_map own_needs ss
 statements_need [] = refl
 statements_need (s ∷ ss) = ap (λ r. own_needs s ++ r) (statements_need ss)
 
@@ -62,7 +64,7 @@ unfolding case_tree
 case_need c ss is = ap (flat_map own_needs) is ∙ sym (statements_need c.1.items)
 
 pub cases_need : (cs : List (Vec Range × Vec Statement)) (other : Option (List StatementTree))
-    → cases_needs (written.cases_of (map case_tree cs) other) ≡ flat_map own_case_needs cs ++ other_needs other
+    → cases_needs (cases_of (map case_tree cs) other) ≡ flat_map own_case_needs cs ++ other_needs other
 cases_need [] None = refl
 cases_need [] (Some xs) = refl
 cases_need (c ∷ cs) other = ap (λ r. own_case_needs c ++ r) (cases_need cs other)

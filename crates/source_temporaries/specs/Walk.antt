@@ -5,11 +5,13 @@ use Rattle.std.specs.Global.{Vec}
 use Rattle.syntax_lexer.specs.declared.token.Position.{Position}
 use Rattle.syntax_statement_parts.specs.declared.tree.PrintItem.{PrintItem}
 use Rattle.syntax_statement_parts.specs.declared.tree.Range.{Range}
-use Rattle.syntax_statement_parts.specs.Tree.{LoopTree, over_all, over_in, over_where, item_tree}
+use Rattle.syntax_statement_parts.specs.Tree.{LoopTree, over_all, over_in, over_where}
+use Rattle.syntax_statement_parts.specs.Views.{item_tree}
 use Rattle.syntax_statements.specs.declared.tree.Statement.{Statement}
-use Rattle.syntax_statements.specs.Tree.{StatementTree, statement_tree, trees_of, case_tree}
+use Rattle.syntax_statements.specs.Tree.{StatementTree}
+use Rattle.syntax_statements.specs.Views.{statement_tree, trees_of, case_tree}
 use Rattle.syntax_directives.specs.declared.tree.Directive.{Directive}
-use Rattle.syntax_directives.specs.Tree.{directive_tree}
+use Rattle.syntax_directives.specs.Views.{directive_tree}
 use Rattle.checker_values.specs.Temporaries.{need}
 use Rattle.source_temporaries.specs.declared.sought.Sought.{Sought}
 use Rattle.source_temporaries.specs.declared.sought.Temporaries.{Temporaries}

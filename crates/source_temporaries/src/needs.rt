@@ -5,10 +5,11 @@
 //! as are told.
 
 ghost use Rattle.std.specs.Prelude.{◌≡◌, ◌&&◌, [], ◌∷◌, nat_le};
-ghost use Rattle.syntax_trees.specs.Tree.{expression_tree};
-ghost use Rattle.syntax_statement_parts.specs.Tree.{heading_tree};
+ghost use Rattle.syntax_trees.specs.Views.{expression_tree};
+ghost use Rattle.syntax_statement_parts.specs.Views.{heading_tree};
 ghost use Rattle.checker_values.specs.Temporaries.{need};
-ghost use Rattle.checker_statements.specs.Statements.{move_need, need_of_heading};
+ghost use Rattle.checker_statements.specs.Statements.{move_need};
+ghost use Rattle.checker_statements.specs.Walk.{need_of_heading};
 ghost use Rattle.source_temporaries.specs.Walk.{raised_all, up_to};
 
 use crate::sought::{Sought, least_of, raise, wants};

@@ -2,10 +2,10 @@
 
 ghost use Rattle.std.specs.Prelude.{◌≡◌, ◌≤◌, map};
 ghost use Rattle.std.specs.List.{All, flat_map};
-ghost use Rattle.syntax_statement_parts.specs.Tree.{item_tree, loop_tree};
-ghost use Rattle.syntax_statements.specs.Tree.{statement_tree, simple_tree, other_tree};
-ghost use Rattle.syntax_directives.specs.Tree.{directive_tree};
-ghost use Rattle.syntax.specs.Tree.{program_tree};
+ghost use Rattle.syntax_statement_parts.specs.Views.{item_tree, loop_tree};
+ghost use Rattle.syntax_statements.specs.Views.{statement_tree, simple_tree, other_tree};
+ghost use Rattle.syntax_directives.specs.Views.{directive_tree};
+ghost use Rattle.syntax.specs.Views.{program_tree};
 ghost use Rattle.source_temporaries.specs.Needs.{HasFew, IsFirstGreatest, directive_needs};
 ghost use Rattle.source_temporaries.specs.Needs.{first_at, item_needs, program_needs};
 ghost use Rattle.source_temporaries.specs.Needs.{statement_needs};

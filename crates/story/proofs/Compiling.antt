@@ -23,11 +23,12 @@ use Rattle.syntax.specs.Laws.{PrintableTrees}
 use Rattle.meaning.specs.Accepted.{IsAccepted}
 use Rattle.meaning.specs.Printable.{HasPrintableTexts}
 use Rattle.meaning.specs.Places.{routines_place}
-use Rattle.meaning.specs.Resolved.{CheckedProgram, program_of}
+use Rattle.meaning.specs.Views.{CheckedProgram, program_of}
 use Rattle.meaning.specs.CheckedSizes.{checked_size_fault}
 use Rattle.checker_names.specs.declared.breach.Breach.{Breach}
 use Rattle.checker_names.specs.Breaches.{IsAmong, IsFirst}
-use Rattle.checker.specs.Programs.{program_breaches, IsCheckedOf}
+use Rattle.checker.specs.Programs.{program_breaches}
+use Rattle.checker.specs.Checked.{IsCheckedOf}
 use Rattle.checker.specs.Laws.{AcceptedPrograms, PrintablePrograms}
 use Rattle.code.specs.Laws.{CodePlays}
 use Rattle.meaning.specs.Plays.{Plays}

@@ -10,8 +10,10 @@ use Rattle.syntax_directives.specs.Tree.{RoutineTree}
 use Rattle.syntax.specs.Tree.{ProgramTree}
 use Rattle.meaning.specs.declared.checked.CheckedRoutine.{CheckedRoutine}
 use Rattle.meaning.specs.Places.{routines_place}
-use Rattle.meaning.specs.Resolved.{ProgramOf, CheckedProgram, title_of}
-use Rattle.checker.specs.Programs.{IsCheckedOf, resolve_program, routine_trees, title}
+use Rattle.meaning.specs.Resolved.{ProgramOf}
+use Rattle.meaning.specs.Views.{CheckedProgram, title_of}
+use Rattle.checker.specs.Programs.{resolve_program, routine_trees}
+use Rattle.checker.specs.Checked.{IsCheckedOf, title}
 use Rattle.meaning.specs.Sizes.{first_heavy, size_fault}
 use Rattle.meaning.specs.CheckedSizes.{checked_size_fault}
 use Rattle.meaning.specs.CheckedSizes as checked

@@ -5,7 +5,7 @@ use Rattle.zcore.specs.declared.header.Version.TheVariants.{V5}
 use Rattle.ztext.specs.Alphabets.{spelling_of}
 use Rattle.zcore.specs.Dictionary.{number_of_key, entry_of}
 use Rattle.zcore.specs.Header.{key_at}
-use Rattle.zcore.specs.Instruction.{bytes_of}
+use Rattle.zcore.specs.InstructionBytes.{bytes_of}
 use Rattle.ztext.specs.Text.{encoded, key_of}
 use Rattle.ztext.specs.Words.{packed}
 use Rattle.meaning.specs.Resolved.{ProgramOf, number, number_of, print as prints, stop, next}

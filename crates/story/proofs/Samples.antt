@@ -8,7 +8,8 @@ use Rattle.ztext.specs.Words.{packed}
 use Rattle.zcore.specs.declared.header.Version.TheVariants.{V5, V8}
 use Rattle.zcore.specs.declared.place.Place.{Place}
 use Rattle.zcore.specs.declared.place.Place.TheVariants as places
-use Rattle.zcore.specs.Instruction.{decode, bytes_of, opcode, operands, operand, byte, large, result_variable, branch}
+use Rattle.zcore.specs.Instruction.{decode, opcode, operands, operand, byte, large, result_variable, branch}
+use Rattle.zcore.specs.InstructionBytes.{bytes_of}
 use Rattle.zcore.specs.Parts.{read_in_place, push, pop, read_variable, operand_value, operand_values, store_result}
 use Rattle.zcore.specs.Parts.{spend, go, test_routine, test_calls, enter, call, test_return, leave, give_back}
 use Rattle.zcore.specs.Execution.{step, perform, call_packed}

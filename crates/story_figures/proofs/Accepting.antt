@@ -11,8 +11,9 @@ use Rattle.syntax.specs.Tree.{ProgramTree}
 use Rattle.meaning.specs.declared.checked.CheckedObject.{CheckedObject}
 use Rattle.meaning.specs.Accepted.{IsAccepted, IsObject}
 use Rattle.meaning.specs.Objects.{ObjectOf, no_object, object_at}
-use Rattle.meaning.specs.Resolved.{CheckedProgram, program_of, object_of, property_of}
-use Rattle.checker.specs.Programs.{program_breaches, IsCheckedOf}
+use Rattle.meaning.specs.Views.{CheckedProgram, program_of, object_of, property_of}
+use Rattle.checker.specs.Programs.{program_breaches}
+use Rattle.checker.specs.Checked.{IsCheckedOf}
 use Rattle.checker.specs.Laws.{AcceptedPrograms}
 use Rattle.story_file.specs.Layout.{story_of}
 use Rattle.story.specs.Refused.{Refuses}

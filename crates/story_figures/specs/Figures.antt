@@ -9,7 +9,8 @@ use Rattle.syntax_lexer.specs.declared.fault.SourceFault.{SourceFault}
 use Rattle.syntax_directives.specs.Tree.{DirectiveTree, global, constant, array, attribute, property, object, routine}
 use Rattle.meaning.specs.declared.checked.CheckedObject.{CheckedObject}
 use Rattle.meaning.specs.declared.checked.CheckedRoutine.{CheckedRoutine}
-use Rattle.meaning.specs.Resolved.{CheckedProgram, ProgramOf, program_of, routine_of}
+use Rattle.meaning.specs.Resolved.{ProgramOf}
+use Rattle.meaning.specs.Views.{CheckedProgram, program_of, routine_of}
 use Rattle.meaning.specs.CheckedSizes.{checked_size_fault}
 use Rattle.meaning.specs.Limits.{most_property_words}
 use Rattle.meaning.specs.Places.{arrays_size, objects_size, key_count, filling_before, dictionary_end, abbreviations_size}

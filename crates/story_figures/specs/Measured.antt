@@ -3,8 +3,9 @@ use Rattle.std.specs.Prelude.{◌≡◌, ℕ, List, [], Some, None, Result, Ok, 
 use Rattle.zcore.specs.declared.header.Version.{Version}
 use Rattle.syntax_lexer.specs.declared.fault.SourceFault.{SourceFault}
 use Rattle.syntax.specs.Tree.{ProgramTree}
-use Rattle.meaning.specs.Resolved.{CheckedProgram}
-use Rattle.checker.specs.Programs.{program_breaches, resolve_program, IsCheckedOf}
+use Rattle.meaning.specs.Views.{CheckedProgram}
+use Rattle.checker.specs.Programs.{program_breaches, resolve_program}
+use Rattle.checker.specs.Checked.{IsCheckedOf}
 use Rattle.story_file.specs.Layout.{story_of}
 use Rattle.story.specs.Refused.{IsTreeOf, Refuses, tree_size_fault}
 use Rattle.story.specs.Refused.{too_large}

@@ -1,7 +1,7 @@
 //! How many attributes and properties a source defines.
 
 ghost use Rattle.std.specs.Prelude.{◌≡◌, map};
-ghost use Rattle.syntax_directives.specs.Tree.{directive_tree};
+ghost use Rattle.syntax_directives.specs.Views.{directive_tree};
 ghost use Rattle.story_figures.specs.Figures as spec;
 
 use syntax::Directive;

@@ -2,11 +2,11 @@
 
 ghost use Rattle.std.specs.Prelude.{◌≡◌, ◌≤◌, IfOk, None, length};
 ghost use Rattle.std.specs.List.{All};
-ghost use Rattle.ztext.specs.Abbreviations.{most_abbreviations};
-ghost use Rattle.syntax.specs.Tree.{program_tree};
+ghost use Rattle.ztext.specs.Bytes.{most_abbreviations};
+ghost use Rattle.syntax.specs.Views.{program_tree};
 ghost use Rattle.meaning.specs.CheckedSizes.{checked_size_fault};
 ghost use Rattle.meaning.specs.Limits.{most_objects};
-ghost use Rattle.meaning.specs.Resolved.{program_of};
+ghost use Rattle.meaning.specs.Views.{program_of};
 ghost use Rattle.story_file.specs.Written.{FitsStory};
 ghost use Rattle.source_temporaries.specs.Needs.{HasFew, IsFirstGreatest, program_needs};
 ghost use Rattle.story_figures.specs.Figures.{AreFiguresOfChecked, IsStoryOfChecked};

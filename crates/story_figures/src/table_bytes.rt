@@ -3,8 +3,8 @@
 ghost use Rattle.std.specs.Prelude.{◌≡◌, ◌+◌, ◌*◌, ◌<◌, ◌≤◌, ◌^◌, ℕ, length, map};
 ghost use Rattle.std.specs.List.{All};
 ghost use Rattle.ztext.specs.Alphabets.{spelled};
-ghost use Rattle.ztext.specs.Abbreviations.{most_abbreviations};
-ghost use Rattle.meaning.specs.Resolved.{program_of, object_of, property_of};
+ghost use Rattle.ztext.specs.Bytes.{most_abbreviations};
+ghost use Rattle.meaning.specs.Views.{program_of, object_of, property_of};
 ghost use Rattle.meaning.specs.Limits.{most_objects, most_property_words};
 ghost use Rattle.meaning.specs.Places.{total};
 ghost use Rattle.meaning.specs.Places as places;
@@ -128,8 +128,8 @@ fn filling(texts: &[Vec<u8>], end: u128) -> u128
 impl TableBytes {
     ghost use Rattle.std.specs.Prelude.{◌≡◌, ◌<◌, ◌≤◌, ◌^◌, length};
     ghost use Rattle.std.specs.List.{All};
-    ghost use Rattle.ztext.specs.Abbreviations.{most_abbreviations};
-    ghost use Rattle.meaning.specs.Resolved.{program_of};
+    ghost use Rattle.ztext.specs.Bytes.{most_abbreviations};
+    ghost use Rattle.meaning.specs.Views.{program_of};
     ghost use Rattle.meaning.specs.Limits.{most_objects};
     ghost use Rattle.story_figures.specs.Figures.{AreTables, ObjectHasFewWords, table_total, IsSummable};
 

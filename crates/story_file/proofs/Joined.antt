@@ -5,7 +5,7 @@ use Rattle.std.specs.Prelude.{◌/◌, ◌%◌, codes, replicate, slice_index_or
 use Rattle.std.proofs.lemmas.List.{length-append, length-replicate}
 use Rattle.std.specs.List.{flat_map, concat}
 use Rattle.std.specs.Global.{Vec}
-use Rattle.zcore.specs.Instruction.{bytes_of}
+use Rattle.zcore.specs.InstructionBytes.{bytes_of}
 use Rattle.ztext.specs.Text.{encoded}
 use Rattle.ztext.specs.Words.{packed}
 use Rattle.zcore.specs.declared.header.Version.{Version}

@@ -9,7 +9,7 @@ use Rattle.ztext.specs.Bytes.{word_at}
 use Rattle.ztext.specs.Text.{Holds, encoded}
 use Rattle.ztext.specs.Words.{packed}
 use Rattle.ztext.specs.Abbreviations.{abbreviation_at}
-use Rattle.zcore.specs.Instruction.{bytes_of}
+use Rattle.zcore.specs.InstructionBytes.{bytes_of}
 use Rattle.meaning.specs.Places.{arrays_place, defaults_place, dictionary_place, start_place, routines_place}
 use Rattle.meaning.specs.Places.{objects_size, dictionary_end, filling_before, texts_place, abbreviations_size}
 use Rattle.meaning.specs.Resolved.{ProgramOf}

@@ -15,7 +15,8 @@ use Rattle.meaning.specs.Objects.{ObjectOf, no_object, object_at}
 use Rattle.meaning.specs.Places.{machine_character, name_words, property_size, table_size, objects_size, total}
 use Rattle.meaning.specs.Places.{defaults_place, routines_place}
 use Rattle.meaning.specs.declared.checked.CheckedObject.{CheckedObject}
-use Rattle.meaning.specs.Resolved.{CheckedProgram, ProgramOf, object_of, program_of}
+use Rattle.meaning.specs.Resolved.{ProgramOf}
+use Rattle.meaning.specs.Views.{CheckedProgram, object_of, program_of}
 use Rattle.code_object_memory.specs.Laws.{AreProper}
 use Rattle.code_object_memory.specs.Rows.{RowOf, view_of, row_of, rows_from, rows_of, table_of, entries_bytes}
 use Rattle.code_object_memory.specs.Rows.{tables_bytes, rows_length}

@@ -2,14 +2,14 @@
 
 ghost use Rattle.std.specs.Prelude.{◌≡◌, ◌≤◌, ◌+◌, true, IfOk, OnOk, length, map, sum};
 ghost use Rattle.std.specs.List.{All, concat, flat_map, list_all};
-ghost use Rattle.ztext.specs.Abbreviations.{most_abbreviations};
+ghost use Rattle.ztext.specs.Bytes.{most_abbreviations};
 ghost use Rattle.ztext.specs.Alphabets.{is_printable};
 ghost use Rattle.ztext.specs.Text.{encoded};
 ghost use Rattle.tables.specs.Dictionary.{entry_bytes};
 ghost use Rattle.code.specs.HeldProgram.{start_code};
 ghost use Rattle.meaning.specs.Places as places;
 ghost use Rattle.zcore.specs.Layout.{global_count, greatest_word};
-ghost use Rattle.meaning.specs.Resolved.{program_of};
+ghost use Rattle.meaning.specs.Views.{program_of};
 ghost use Rattle.story_file.specs.Written.{ObjectsFit, bytes_in, half, table_bytes, encoded_length};
 ghost use Rattle.story_file.specs.Layout.{dictionary_bytes, entries_bytes, global_bytes};
 ghost use Rattle.story_file.specs.Layout.{key_bytes, low_bytes};

@@ -2,7 +2,7 @@
 
 ghost use Rattle.std.specs.Prelude.{◌≡◌, ◌≤◌, ◌<◌, IfOk, length, map, slice_index_or};
 ghost use Rattle.meaning.specs.Objects.{no_object};
-ghost use Rattle.meaning.specs.Resolved.{object_of};
+ghost use Rattle.meaning.specs.Views.{object_of};
 ghost use Rattle.story_file.specs.Linked.{AreLinked, ArePlaced};
 
 use meaning::CheckedObject;

@@ -5,7 +5,7 @@ ghost use Rattle.std.specs.List.{All};
 ghost use Rattle.tables.specs.Rows.{HasShortName, IsRow, objects_length};
 ghost use Rattle.meaning.specs.Objects.{object_at};
 ghost use Rattle.meaning.specs.Places as places;
-ghost use Rattle.meaning.specs.Resolved.{object_of, program_of, property_of};
+ghost use Rattle.meaning.specs.Views.{object_of, program_of, property_of};
 ghost use Rattle.code_object_memory.specs.Rows as rows;
 ghost use Rattle.code_object_memory.specs.Rows.{rows_bytes, rows_of, view_of};
 ghost use Rattle.story_file.specs.Layout.{object_bytes};

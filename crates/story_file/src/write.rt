@@ -4,7 +4,7 @@ ghost use Rattle.std.specs.Prelude.{◌≡◌, ◌≤◌, ◌<◌, IfOk, drop, l
 ghost use Rattle.zcore.specs.Header.{scale_of};
 ghost use Rattle.meaning.specs.Meaning.{routine_at};
 ghost use Rattle.meaning.specs.Places.{places_of};
-ghost use Rattle.meaning.specs.Resolved.{program_of};
+ghost use Rattle.meaning.specs.Views.{program_of};
 ghost use Rattle.code_encoding.specs.Written.{addresses_of};
 ghost use Rattle.code.specs.HeldProgram.{sizes_of};
 ghost use Rattle.story_file.specs.Layout as layout;

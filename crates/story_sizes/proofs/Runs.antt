@@ -22,6 +22,7 @@ use Rattle.syntax_statement_parts.specs.Tree as parts
 use Rattle.syntax_statement_parts.specs.Tree.{RangeTree}
 use Rattle.syntax_statements.specs.Tree as s
 use Rattle.syntax_statements.specs.Tree.{StatementTree, StatementTrees}
+use Rattle.syntax_statements.specs.Views.{trees_of}
 use Rattle.syntax_directives.specs.declared.tree.ArrayKind.TheVariants as kinds
 use Rattle.syntax_directives.specs.Tree as d
 use Rattle.syntax_directives.specs.Tree.{DirectiveTree}
@@ -47,7 +48,7 @@ abbrev words : List ℕ → parts.PrintItemTree
 words text = parts.text_item text
 
 abbrev body : List StatementTree → StatementTrees
-body xs = s.trees_of xs
+body xs = trees_of xs
 
 abbrev routine : List ℕ → List NameTree → List StatementTree → DirectiveTree
 routine name locals xs = d.routine (record { name = the 0 name; locals = locals; body = body xs; weight = 0 })

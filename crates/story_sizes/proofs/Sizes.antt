@@ -3,7 +3,8 @@ use Rattle.std.proofs.Common.{◌≡◌, ◌≤◌, ◌+◌, ◌-◌, ◌%◌, �
 use Rattle.std.proofs.Common.{append-nil}
 use Rattle.std.specs.Prelude.{slice_index}
 use Rattle.zcore.specs.declared.instruction.Operation.TheVariants as operations
-use Rattle.zcore.specs.Instruction.{Instruction, bytes_of}
+use Rattle.zcore.specs.Instruction.{Instruction}
+use Rattle.zcore.specs.InstructionBytes.{bytes_of}
 use Rattle.code_values.specs.Items.{Item}
 use Rattle.code_values.specs.Items as items
 use Rattle.code_branch_forms.specs.Layout.{first, form_for, offset_over, part_size, lefts}

@@ -5,7 +5,7 @@ use Rattle.std.specs.Prelude.{nat_lt, map, if◌then◌else◌}
 use Rattle.std.specs.List.{flat_map}
 use Rattle.std.proofs.lemmas.List.{length-take}
 use Rattle.zcore.specs.Operations.{has_more_types}
-use Rattle.zcore.specs.Instruction.{operand_bytes}
+use Rattle.zcore.specs.InstructionBytes.{operand_bytes}
 use Rattle.code_branch_forms.specs.Layout.{form_for, offset_over, part_size}
 use Rattle.code_values.specs.Items.{Test}
 use Rattle.code_values.specs.Items as items

@@ -5,7 +5,8 @@ use Rattle.std.proofs.lemmas.List.{length-take}
 use Rattle.zcore.specs.declared.instruction.Operand.TheVariants.{Large, Small, Variable}
 use Rattle.zcore.specs.declared.instruction.Operation.TheVariants as operations
 use Rattle.zcore.specs.Operations.{count_of, number_of, has_more_types}
-use Rattle.zcore.specs.Instruction.{Instruction, result_bytes, bytes_of}
+use Rattle.zcore.specs.Instruction.{Instruction}
+use Rattle.zcore.specs.InstructionBytes.{result_bytes, bytes_of}
 use Rattle.meaning.specs.declared.cause.Cause.TheVariants as causes
 use Rattle.code_values.specs.Items.{Destination}
 use Rattle.code_values.specs.Items as items

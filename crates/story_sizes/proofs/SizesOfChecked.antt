@@ -14,12 +14,13 @@ use Rattle.syntax_directives.specs.Tree as trees
 use Rattle.syntax.specs.Tree.{ProgramTree}
 use Rattle.meaning.specs.declared.checked.CheckedRoutine.{CheckedRoutine}
 use Rattle.meaning.specs.Places.{routines_place}
-use Rattle.meaning.specs.Resolved.{RoutineOf, ProgramOf, CheckedProgram, program_of, routine_of, title_of}
+use Rattle.meaning.specs.Resolved.{RoutineOf, ProgramOf}
+use Rattle.meaning.specs.Views.{CheckedProgram, program_of, routine_of, title_of}
 use Rattle.meaning.specs.Sizes.{greatest_weight, first_heavy, heavy_fault, fault}
 use Rattle.meaning.specs.CheckedSizes.{checked_size_fault, name_place_of, weight_of}
 use Rattle.checker_names.specs.Names.{File}
 use Rattle.checker.specs.Programs.{resolve_routine, resolve_with, file_of, resolve_program, routines_of, routine_trees}
-use Rattle.checker.specs.Programs.{title, IsCheckedOf}
+use Rattle.checker.specs.Checked.{title, IsCheckedOf}
 use Rattle.code_encoding.specs.Addresses.{Sizes}
 use Rattle.code.specs.HeldProgram.{sizes_of}
 use Rattle.code.specs.Sizes.{routine_size, routines_size}

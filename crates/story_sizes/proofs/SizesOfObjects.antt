@@ -4,7 +4,8 @@ use Rattle.std.specs.Prelude.{nat_lt, if◌then◌else◌, map, ◌==◌}
 use Rattle.zcore.specs.declared.instruction.Operand.{Operand}
 use Rattle.zcore.specs.declared.instruction.Operand.TheVariants.{Large, Small, Variable}
 use Rattle.zcore.specs.declared.instruction.Operation.TheVariants as operations
-use Rattle.zcore.specs.Instruction.{Instruction, operand_bytes, bytes_of}
+use Rattle.zcore.specs.Instruction.{Instruction}
+use Rattle.zcore.specs.InstructionBytes.{operand_bytes, bytes_of}
 use Rattle.syntax_trees.specs.declared.tree.Relative.{Relative}
 use Rattle.syntax_trees.specs.declared.tree.Relative.TheVariants as relatives
 use Rattle.meaning.specs.declared.cause.Cause.TheVariants as causes

@@ -6,7 +6,7 @@ use Rattle.zcore.specs.declared.instruction.Operand.TheVariants.{Large, Small, V
 use Rattle.zcore.specs.declared.instruction.Operation.{Operation}
 use Rattle.zcore.specs.declared.instruction.Operation.TheVariants as operations
 use Rattle.zcore.specs.Operations.{has_more_types}
-use Rattle.zcore.specs.Instruction.{operand_bytes, bytes_of}
+use Rattle.zcore.specs.InstructionBytes.{operand_bytes, bytes_of}
 use Rattle.syntax_trees.specs.declared.tree.Binary.{Binary}
 use Rattle.syntax_trees.specs.declared.tree.Binary.TheVariants as binaries
 use Rattle.syntax_trees.specs.declared.tree.Prefix.{Prefix}

@@ -4,7 +4,7 @@ use Rattle.std.specs.Prelude.{not}
 use Rattle.zcore.specs.declared.instruction.Operand.{Operand}
 use Rattle.zcore.specs.declared.instruction.Operand.TheVariants.{Large, Small, Variable}
 use Rattle.zcore.specs.declared.instruction.Operation.TheVariants as operations
-use Rattle.zcore.specs.Instruction.{operand_bytes, bytes_of}
+use Rattle.zcore.specs.InstructionBytes.{operand_bytes, bytes_of}
 use Rattle.meaning.specs.declared.cause.Cause.TheVariants as causes
 use Rattle.code_values.specs.Items.{Destination}
 use Rattle.code_values.specs.Items as items

@@ -8,7 +8,7 @@ use Rattle.ztext.specs.Alphabets.{is_printable, punctuation, upper_letters, lowe
 use Rattle.ztext.specs.Alphabets.{spelling_in_punctuation, spelling_in_upper, spelling_in_lower, spelling_of}
 use Rattle.ztext.specs.Words.{packed, missing, padded}
 use Rattle.ztext.specs.Abbreviations.{Found, longest, spelling_or, more_of, spelled_behind, encoded_with}
-use Rattle.zcore.specs.Instruction.{bytes_of}
+use Rattle.zcore.specs.InstructionBytes.{bytes_of}
 use Rattle.code_values.specs.Items as items
 use Rattle.code_encoding.specs.Addresses.{Sizes}
 use Rattle.code_encoding.specs.Bytes.{character_of}

@@ -7,8 +7,10 @@ use Rattle.syntax.specs.Tree.{ProgramTree}
 use Rattle.syntax.specs.Grammar.{IsProgram}
 use Rattle.zcore.specs.declared.header.Version.{Version}
 use Rattle.checker_names.specs.Names.{File}
-use Rattle.checker.specs.Programs.{resolve_routine, routines_of, routine_trees, IsCheckedOf}
-use Rattle.meaning.specs.Resolved.{RoutineOf, CheckedProgram, program_of}
+use Rattle.checker.specs.Programs.{resolve_routine, routines_of, routine_trees}
+use Rattle.checker.specs.Checked.{IsCheckedOf}
+use Rattle.meaning.specs.Resolved.{RoutineOf}
+use Rattle.meaning.specs.Views.{CheckedProgram, program_of}
 use Rattle.meaning.specs.Sizes.{greatest_weight}
 use Rattle.meaning.specs.CheckedSizes.{checked_size_fault}
 use Rattle.code_encoding.specs.Addresses.{Sizes}

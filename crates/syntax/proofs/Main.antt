@@ -15,7 +15,8 @@ use Rattle.syntax_parsing.specs.Parse.{◌>>=◌, Fails}
 use Rattle.syntax_directives.specs.Grammar.{weight_of}
 use Rattle.syntax_expressions.proofs.Judged.{Stands}
 use Rattle.syntax.specs.declared.tree.Program.{Program}
-use Rattle.syntax.specs.Tree.{ProgramTree, program_tree}
+use Rattle.syntax.specs.Tree.{ProgramTree}
+use Rattle.syntax.specs.Views.{program_tree}
 use Rattle.syntax.specs.Grammar.{dictionary_words, IsProgram, program as program_is, program_nesting}
 use Rattle.syntax.specs.Nesting.{DeepEntries, DeepProgram}
 use Rattle.syntax.specs.Parse.{end_alone, Parts, parts_of, whole, entries, program}

@@ -3,7 +3,8 @@ use Rattle.std.specs.Prelude.{◌≡◌, ℕ, Result, Ok, Err}
 use Rattle.syntax_lexer.specs.declared.fault.SourceFault.{SourceFault}
 use Rattle.syntax_lexer.specs.FaultNumbers.{no_memory}
 use Rattle.syntax.specs.declared.tree.Program.{Program}
-use Rattle.syntax.specs.Tree.{ProgramTree, program_tree}
+use Rattle.syntax.specs.Tree.{ProgramTree}
+use Rattle.syntax.specs.Views.{program_tree}
 
 -- P, where the answer is a fault of that number
 abbrev pub IfNumber : {X : Type 0} → Result X SourceFault → ℕ → Type 0 → Type 0

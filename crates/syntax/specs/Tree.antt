@@ -1,8 +1,7 @@
 -- Trees of programs, without where they lie in memory.
-use Rattle.std.specs.Prelude.{ℕ, List, [], ◌∷◌, ◌++◌, map}
+use Rattle.std.specs.Prelude.{ℕ, List, [], ◌∷◌, ◌++◌}
 use Rattle.syntax_lexer.specs.declared.token.Position.{Position}
-use Rattle.syntax_directives.specs.Tree.{DirectiveTree, TextTree, directive_tree, text_tree}
-use Rattle.syntax.specs.declared.tree.Program.{Program}
+use Rattle.syntax_directives.specs.Tree.{DirectiveTree, TextTree}
 
 -- what stands in a file: a directive, or the texts of an `abbreviate`
 pub data EntryTree : Type 0 where
@@ -28,14 +27,3 @@ pub record ProgramTree : Type 0 where
   pub weight : ℕ
   -- its dictionary words, in order
   pub words : List (List ℕ)
-
--- The tree of a program of the code
-
-abbrev pub program_tree : Program → ProgramTree
-program_tree p = record {
-  directives = map directive_tree p.directives.items;
-  abbreviations = map text_tree p.abbreviations.items;
-  end = p.end;
-  weight = p.weight;
-  words = map (λ w. w.now) p.words.items;
-}

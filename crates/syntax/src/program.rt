@@ -11,7 +11,8 @@ ghost use Rattle.syntax.specs.Answers.{IfNumber, AnswersProgram};
 ghost use Rattle.syntax.specs.Grammar.{IsProgram, program_nesting};
 ghost use Rattle.syntax.specs.Nesting.{DeepProgram};
 ghost use Rattle.syntax.specs.Places.{IsFirstUnfit, IsFirstDeep};
-ghost use Rattle.syntax.specs.Tree.{ProgramTree, program_tree};
+ghost use Rattle.syntax.specs.Tree.{ProgramTree};
+ghost use Rattle.syntax.specs.Views.{program_tree};
 ghost use Rattle.syntax.specs.Parse as spec;
 ghost use Rattle.syntax.specs.Parse.{parts_in};
 

@@ -6,7 +6,7 @@ use Rattle.syntax_lexer.specs.declared.token.Position.{Position}
 use Rattle.syntax_lexer.specs.declared.token.Sign.TheVariants as s
 use Rattle.syntax_lexer.specs.Token.{Lexeme, name, position_of}
 use Rattle.syntax_trees.specs.declared.tree.Name.{Name}
-use Rattle.syntax_trees.specs.Tree.{name_tree}
+use Rattle.syntax_trees.specs.Views.{name_tree}
 use Rattle.syntax_parsing.specs.Parse.{head, tail, is_sign, expect, repeated}
 use Rattle.syntax_parsing.proofs.Loops.{joined, repeated_out, repeated_done, repeated_more}
 use Rattle.syntax_expressions.specs.Parse.{is_name}

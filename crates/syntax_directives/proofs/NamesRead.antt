@@ -3,7 +3,7 @@ use Rattle.std.proofs.Common.{◌≡◌, ℕ, ◌+◌, ◌-◌, ◌<◌, List, [
 use Rattle.std.specs.Prelude.{map}
 use Rattle.syntax_lexer.specs.Token.{Lexeme, name}
 use Rattle.syntax_trees.specs.declared.tree.Name.{Name}
-use Rattle.syntax_trees.specs.Tree.{name_tree}
+use Rattle.syntax_trees.specs.Views.{name_tree}
 use Rattle.syntax_parsing.specs.Stop.{unfit}
 use Rattle.syntax_parsing.specs.Parse.{head, tail, repeated}
 use Rattle.syntax_parsing.proofs.Loops.{joined, repeated_more}

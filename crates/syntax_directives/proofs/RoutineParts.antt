@@ -8,7 +8,8 @@ use Rattle.syntax_parsing.specs.declared.error.ParseError.{ParseError}
 use Rattle.syntax_parsing.specs.declared.error.ParseError.TheVariants as errors
 use Rattle.syntax_parsing.specs.Parse.{◌>>=◌, Fails, tail, expect}
 use Rattle.syntax_expressions.specs.Parse.{expect_name}
-use Rattle.syntax_statements.specs.Tree.{StatementTree, trees_of}
+use Rattle.syntax_statements.specs.Tree.{StatementTree}
+use Rattle.syntax_statements.specs.Views.{trees_of}
 use Rattle.syntax_statements.specs.Parse.{statements}
 use Rattle.syntax_directives.specs.Grammar.{weight_of}
 use Rattle.syntax_directives.specs.Tree.{RoutineTree, routine}

@@ -13,7 +13,7 @@ use Rattle.syntax_expressions.proofs.Tokens.{at_sign, expect_ok, expect_not_deep
 use Rattle.syntax_expressions.proofs.NamesRead.{name_judged}
 use Rattle.syntax_statement_parts.specs.Grammar.{IsK}
 use Rattle.syntax_statement_parts.specs.Parse.{begins_value}
-use Rattle.syntax_statements.specs.Tree.{trees_of}
+use Rattle.syntax_statements.specs.Views.{trees_of}
 use Rattle.syntax_statements.specs.Grammar.{IsSs, body_nesting}
 use Rattle.syntax_statements.proofs.KnownValues.{known_judged}
 use Rattle.syntax_statements.proofs.Sound.{judged_Ss}

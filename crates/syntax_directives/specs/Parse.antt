@@ -12,7 +12,8 @@ use Rattle.syntax_parsing.specs.Stop.{Stop, unfit}
 use Rattle.syntax_parsing.specs.Parse.{Parse, ◌>>=◌, head, tail, is_sign, is_word, expect, as_long, repeated}
 use Rattle.syntax_expressions.specs.Parse.{is_name, expect_name}
 use Rattle.syntax_statement_parts.specs.Parse.{known_value, begins_value}
-use Rattle.syntax_statements.specs.Tree.{StatementTree, trees_of}
+use Rattle.syntax_statements.specs.Tree.{StatementTree}
+use Rattle.syntax_statements.specs.Views.{trees_of}
 use Rattle.syntax_statements.specs.Parse.{statements}
 use Rattle.syntax_directives.specs.declared.tree.ArrayKind.{ArrayKind}
 use Rattle.syntax_directives.specs.Tree.{ValueTree, ArrayTree, TextTree, PropertyTree, HeadTree, ObjectTree}

@@ -7,7 +7,8 @@ use Rattle.syntax_parsing.specs.Stop.{Stop}
 use Rattle.syntax_parsing.specs.declared.error.ParseError.{ParseError}
 use Rattle.syntax_parsing.specs.declared.parser.Parser.{Parser}
 use Rattle.syntax_directives.specs.declared.tree.Directive.{Directive}
-use Rattle.syntax_directives.specs.Tree.{DirectiveTree, directive_tree}
+use Rattle.syntax_directives.specs.Tree.{DirectiveTree}
+use Rattle.syntax_directives.specs.Views.{directive_tree}
 
 -- The same as Takes, of a directive in a box.
 abbrev pub TakesDirective : Result (Box Directive) ParseError → Parser → Result (DirectiveTree × List Lexeme) Stop

@@ -3,7 +3,7 @@
 ghost use Rattle.std.specs.Prelude.{◌≡◌, map};
 ghost use Rattle.syntax_lexer.specs.Token.{lexeme};
 ghost use Rattle.syntax_parsing.specs.Returned.{ahead, Takes};
-ghost use Rattle.syntax_directives.specs.Tree.{value_tree};
+ghost use Rattle.syntax_directives.specs.Views.{value_tree};
 ghost use Rattle.syntax_directives.specs.Returned.{TakesDirective};
 ghost use Rattle.syntax_directives.specs.Grammar as grammar;
 ghost use Rattle.syntax_directives.specs.Parse as spec;

@@ -1,7 +1,7 @@
 //! Names, read from tokens.
 
 ghost use Rattle.std.specs.Prelude.{map};
-ghost use Rattle.syntax_trees.specs.Tree.{name_tree};
+ghost use Rattle.syntax_trees.specs.Views.{name_tree};
 ghost use Rattle.syntax_parsing.specs.Returned.{ahead, Takes};
 ghost use Rattle.syntax_directives.specs.Parse as spec;
 

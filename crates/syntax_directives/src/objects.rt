@@ -3,9 +3,9 @@
 ghost use Rattle.std.specs.Prelude.{◌≡◌, map, Ok};
 ghost use Rattle.std.specs.Option.{option_map};
 ghost use Rattle.syntax_lexer.specs.Token.{lexemes};
-ghost use Rattle.syntax_trees.specs.Tree.{name_tree};
+ghost use Rattle.syntax_trees.specs.Views.{name_tree};
 ghost use Rattle.syntax_parsing.specs.Returned.{ahead, Takes};
-ghost use Rattle.syntax_directives.specs.Tree.{text_tree, head_tree, property_tree};
+ghost use Rattle.syntax_directives.specs.Views.{text_tree, head_tree, property_tree};
 ghost use Rattle.syntax_directives.specs.Returned.{TakesDirective};
 ghost use Rattle.syntax_directives.specs.Parse as spec;
 

@@ -9,11 +9,11 @@
 //! `Memory` where a growth is refused; `Fault::Grammar` at the next token: it is not `;`.
 
 ghost use Rattle.std.specs.Prelude.{Ok};
-ghost use Rattle.syntax_trees.specs.Tree.{name_tree};
+ghost use Rattle.syntax_trees.specs.Views.{name_tree};
 ghost use Rattle.syntax_parsing.specs.Returned.{ahead};
-ghost use Rattle.syntax_statement_parts.specs.Tree.{literal_tree};
+ghost use Rattle.syntax_statement_parts.specs.Views.{literal_tree};
 ghost use Rattle.syntax_directives.specs.Tree as tree;
-ghost use Rattle.syntax_directives.specs.Tree.{directive_tree, optional_tree};
+ghost use Rattle.syntax_directives.specs.Views.{directive_tree, optional_tree};
 ghost use Rattle.syntax_directives.specs.Returned.{TakesDirective};
 ghost use Rattle.syntax_directives.specs.Parse as spec;
 

@@ -1,10 +1,10 @@
 //! Definitions of routines, read from tokens.
 
 ghost use Rattle.std.specs.Prelude.{map};
-ghost use Rattle.syntax_trees.specs.Tree.{name_tree};
+ghost use Rattle.syntax_trees.specs.Views.{name_tree};
 ghost use Rattle.syntax_parsing.specs.Parse.{Gives};
 ghost use Rattle.syntax_parsing.specs.Returned.{ahead, Takes};
-ghost use Rattle.syntax_statements.specs.Tree.{statement_tree};
+ghost use Rattle.syntax_statements.specs.Views.{statement_tree};
 ghost use Rattle.syntax_directives.specs.Returned.{TakesDirective};
 ghost use Rattle.syntax_directives.specs.Parse as spec;
 

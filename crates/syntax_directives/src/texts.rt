@@ -3,7 +3,7 @@
 ghost use Rattle.std.specs.Prelude.{◌≡◌, map};
 ghost use Rattle.syntax_lexer.specs.Token.{lexeme};
 ghost use Rattle.syntax_parsing.specs.Returned.{ahead, Takes};
-ghost use Rattle.syntax_directives.specs.Tree.{text_tree};
+ghost use Rattle.syntax_directives.specs.Views.{text_tree};
 ghost use Rattle.syntax_directives.specs.Parse as spec;
 
 use crate::tree::Text;

@@ -14,7 +14,8 @@ use Rattle.syntax_trees.specs.declared.tree.Step.{Step}
 use Rattle.syntax_trees.specs.declared.tree.Width.{Width}
 use Rattle.syntax_trees.specs.Tree.{NameTree, ExpressionTree, ExpressionTrees, constant, word, named, call, index}
 use Rattle.syntax_trees.specs.Tree.{parenthesised, relative_of, property_length, property_entry, prefixed, step_before}
-use Rattle.syntax_trees.specs.Tree.{step_after, compare, equal, contained, tested, assign, none, more, trees_of}
+use Rattle.syntax_trees.specs.Tree.{step_after, compare, equal, contained, tested, assign, none, more}
+use Rattle.syntax_trees.specs.Views.{trees_of}
 use Rattle.syntax_parsing.specs.Stop.{Stop}
 use Rattle.syntax_parsing.specs.Parse.{◌>>=◌, head, is_sign, is_word, expect, list}
 use Rattle.syntax_expressions.specs.Operators.{logical, comparing, equating, containing, testing, adding, scaling}

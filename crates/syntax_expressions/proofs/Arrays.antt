@@ -5,7 +5,8 @@ use Rattle.syntax_lexer.specs.Token.{Lexeme, name, sign}
 use Rattle.syntax_trees.specs.declared.tree.Name.{Name}
 use Rattle.syntax_trees.specs.declared.tree.Step.{Step}
 use Rattle.syntax_trees.specs.declared.tree.Width.{Width}
-use Rattle.syntax_trees.specs.Tree.{ExpressionTree, name_tree}
+use Rattle.syntax_trees.specs.Tree.{ExpressionTree}
+use Rattle.syntax_trees.specs.Views.{name_tree}
 use Rattle.syntax_parsing.specs.Parse.{head, tail}
 use Rattle.syntax_expressions.specs.Operators.{stepping, indexing}
 use Rattle.syntax_expressions.specs.Parse.{is_name, array_of, array_at}

@@ -6,7 +6,8 @@ use Rattle.syntax_trees.specs.declared.tree.Expression.{Expression}
 use Rattle.syntax_trees.specs.declared.tree.Expression.TheVariants as from
 use Rattle.syntax_trees.specs.declared.tree.Expression.TheFolds.{fold-roll-Expression}
 use Rattle.syntax_trees.specs.Tree as trees
-use Rattle.syntax_trees.specs.Tree.{ExpressionTree, expression_tree, name_tree, propertied, layer}
+use Rattle.syntax_trees.specs.Tree.{ExpressionTree}
+use Rattle.syntax_trees.specs.Views.{expression_tree, name_tree, propertied, layer}
 
 pub properties_built : (e : Box Expression) (n : Name) (ns : Vec Name)
     → expression_tree (from.Property e n ns)

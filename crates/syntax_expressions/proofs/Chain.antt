@@ -7,7 +7,8 @@ use Rattle.syntax_lexer.specs.declared.token.Token.{Token}
 use Rattle.syntax_lexer.specs.Token.{Lexeme, lexeme, lexemes}
 use Rattle.syntax_trees.specs.declared.tree.Binary.{Binary}
 use Rattle.syntax_trees.specs.declared.tree.Expression.{Expression}
-use Rattle.syntax_trees.specs.Tree.{ExpressionTree, binary, chained, expression_tree, link}
+use Rattle.syntax_trees.specs.Tree.{ExpressionTree, binary}
+use Rattle.syntax_trees.specs.Views.{chained, expression_tree, link}
 use Rattle.syntax_parsing.specs.Stop.{Stop, stop_of}
 use Rattle.syntax_parsing.specs.declared.error.ParseError.{ParseError}
 use Rattle.syntax_parsing.specs.declared.error.ParseError.TheVariants as errors

@@ -11,7 +11,8 @@ use Rattle.syntax_trees.specs.declared.tree.Relative.{Relative}
 use Rattle.syntax_trees.specs.declared.tree.Step.{Step}
 use Rattle.syntax_trees.specs.declared.tree.Width.{Width}
 use Rattle.syntax_trees.specs.Tree.{NameTree, ExpressionTree, index, relative_of, step_before, compare, equal}
-use Rattle.syntax_trees.specs.Tree.{contained, call, trees_of}
+use Rattle.syntax_trees.specs.Tree.{contained, call}
+use Rattle.syntax_trees.specs.Views.{trees_of}
 use Rattle.syntax_parsing.specs.Parse.{◌>>=◌, head, is_sign, is_word, expect, list}
 use Rattle.syntax_expressions.specs.Operators.{comparing, equating, containing, stepping}
 use Rattle.syntax_expressions.specs.Operators.{prefixes, relating, indexing}

@@ -3,7 +3,7 @@ use Rattle.std.proofs.Common.{◌≡◌, false, List, [], ◌∷◌, length, Ok,
 use Rattle.syntax_lexer.specs.declared.token.Sign.TheVariants as s
 use Rattle.syntax_lexer.specs.Token.{Lexeme, name, sign, position_of}
 use Rattle.syntax_trees.specs.declared.tree.Name.{Name}
-use Rattle.syntax_trees.specs.Tree.{name_tree}
+use Rattle.syntax_trees.specs.Views.{name_tree}
 use Rattle.syntax_parsing.specs.Stop.{unfit}
 use Rattle.syntax_parsing.specs.Parse.{head, tail, expect}
 use Rattle.syntax_expressions.specs.Parse.{is_name, name_on, expect_name, entry_of}

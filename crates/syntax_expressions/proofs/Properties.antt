@@ -7,7 +7,8 @@ use Rattle.syntax_lexer.specs.declared.token.Sign.TheVariants as s
 use Rattle.syntax_lexer.specs.declared.token.Token.{Token}
 use Rattle.syntax_lexer.specs.Token.{Lexeme, name, sign, lexeme, lexemes}
 use Rattle.syntax_trees.specs.declared.tree.Name.{Name}
-use Rattle.syntax_trees.specs.Tree.{NameTree, ExpressionTree, property, property_length, name_tree, propertied}
+use Rattle.syntax_trees.specs.Tree.{NameTree, ExpressionTree, property, property_length}
+use Rattle.syntax_trees.specs.Views.{name_tree, propertied}
 use Rattle.syntax_parsing.specs.Stop.{Stop, TooDeep, stop_of}
 use Rattle.syntax_parsing.specs.declared.error.ParseError.{ParseError}
 use Rattle.syntax_parsing.specs.declared.error.ParseError.TheVariants as errors

@@ -12,7 +12,7 @@ use Rattle.syntax_trees.specs.declared.tree.Containment.{Containment}
 use Rattle.syntax_trees.specs.declared.tree.ObjectTest.{ObjectTest}
 use Rattle.syntax_trees.specs.declared.tree.Prefix.TheVariants as op
 use Rattle.syntax_trees.specs.Tree.{ExpressionTree, call, prefixed, compare, equal, contained, tested, assign, none}
-use Rattle.syntax_trees.specs.Tree.{trees_of}
+use Rattle.syntax_trees.specs.Views.{trees_of}
 use Rattle.syntax_parsing.specs.Parse.{head, tail, is_sign, is_word, expect, list}
 use Rattle.syntax_expressions.specs.Operators.{logical, comparing, equating, containing, testing, adding, scaling}
 use Rattle.syntax_expressions.specs.Nesting.{begins_expression, DeepE, deep_e_left, deep_e_first, deep_e_right, DeepE1}

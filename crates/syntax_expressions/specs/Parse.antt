@@ -17,7 +17,8 @@ use Rattle.syntax_trees.specs.declared.tree.Step.{Step}
 use Rattle.syntax_trees.specs.declared.tree.Width.{Width}
 use Rattle.syntax_trees.specs.Tree.{NameTree, ExpressionTree, constant, word, named, call, index, parenthesised}
 use Rattle.syntax_trees.specs.Tree.{prefixed, relative_of, property, property_length, property_entry, step_before}
-use Rattle.syntax_trees.specs.Tree.{step_after, binary, compare, equal, contained, tested, assign, none, trees_of}
+use Rattle.syntax_trees.specs.Tree.{step_after, binary, compare, equal, contained, tested, assign, none}
+use Rattle.syntax_trees.specs.Views.{trees_of}
 use Rattle.syntax_parsing.specs.Parse.{Parse, ◌>>=◌, head, tail, is_sign, is_word, expect, list}
 use Rattle.syntax_parsing.specs.Stop.{Stop, unfit, deep}
 use Rattle.syntax_expressions.specs.Operators.{logical, comparing, equating, containing, testing, adding, scaling}

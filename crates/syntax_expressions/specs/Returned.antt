@@ -3,7 +3,8 @@ use Rattle.std.specs.Prelude.{List, ◌∷◌, map, Result}
 use Rattle.std.specs.Global.{Box, Vec}
 use Rattle.syntax_lexer.specs.Token.{Lexeme}
 use Rattle.syntax_trees.specs.declared.tree.Expression.{Expression}
-use Rattle.syntax_trees.specs.Tree.{ExpressionTree, expression_tree}
+use Rattle.syntax_trees.specs.Tree.{ExpressionTree}
+use Rattle.syntax_trees.specs.Views.{expression_tree}
 use Rattle.syntax_parsing.specs.Stop.{Stop}
 use Rattle.syntax_parsing.specs.declared.error.ParseError.{ParseError}
 use Rattle.syntax_parsing.specs.declared.parser.Parser.{Parser}

@@ -6,7 +6,7 @@
 //! end too, at each of its ways out.
 
 ghost use Rattle.std.specs.Prelude.{map, length, Some};
-ghost use Rattle.syntax_trees.specs.Tree.{name_tree, expression_tree};
+ghost use Rattle.syntax_trees.specs.Views.{name_tree, expression_tree};
 ghost use Rattle.syntax_parsing.specs.Parse as reading;
 ghost use Rattle.syntax_parsing.specs.Parse.{tail};
 ghost use Rattle.syntax_parsing.specs.Returned.{ahead, Takes};

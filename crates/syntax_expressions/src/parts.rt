@@ -15,7 +15,7 @@
 ghost use Rattle.std.specs.Prelude.{◌≡◌, ◌∷◌, IfErr, IfOk, Ok, length, map, [], ◌++◌};
 ghost use Rattle.syntax_lexer.specs.Token.{position_of};
 ghost use Rattle.syntax_trees.specs.Tree as tree;
-ghost use Rattle.syntax_trees.specs.Tree.{chained, link, name_tree, expression_tree, trees_of};
+ghost use Rattle.syntax_trees.specs.Views.{chained, link, name_tree, expression_tree, trees_of};
 ghost use Rattle.syntax_parsing.specs.Parse as reading;
 ghost use Rattle.syntax_parsing.specs.Returned.{ahead};
 ghost use Rattle.syntax_expressions.specs.Parse as spec;

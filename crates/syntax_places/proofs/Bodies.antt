@@ -5,7 +5,8 @@ use Rattle.syntax_lexer.specs.declared.token.Word.TheVariants as w
 use Rattle.syntax_lexer.specs.Token.{Lexeme, name, reserved, sign}
 use Rattle.syntax_parsing.specs.Parse.{Parse, tail, head, as_long, repeated}
 use Rattle.syntax_statement_parts.specs.Parse.{begins_value}
-use Rattle.syntax_statements.specs.Tree.{StatementTree, trees_of}
+use Rattle.syntax_statements.specs.Tree.{StatementTree}
+use Rattle.syntax_statements.specs.Views.{trees_of}
 use Rattle.syntax_statements.specs.Nesting.{begins_statement, begins_in_case}
 use Rattle.syntax_statements.specs.Parse.{one_case, cases}
 use Rattle.syntax_token_machine.proofs.Machine.{Stack, token, value, upper_left, ranges_left, statement}

@@ -3,7 +3,8 @@ use Rattle.std.proofs.Common.{◌≡◌, ℕ, List, Ok, refl}
 use Rattle.syntax_lexer.specs.declared.token.Sign.TheVariants as s
 use Rattle.syntax_lexer.specs.Token.{Lexeme, name}
 use Rattle.syntax_trees.specs.declared.tree.Name.{Name}
-use Rattle.syntax_trees.specs.Tree.{ExpressionTree, name_tree}
+use Rattle.syntax_trees.specs.Tree.{ExpressionTree}
+use Rattle.syntax_trees.specs.Views.{name_tree}
 use Rattle.syntax_parsing.specs.Parse.{head, expect}
 use Rattle.syntax_expressions.specs.Parse.{nested, condition}
 use Rattle.syntax_expressions.proofs.NamesRead.{name_found}

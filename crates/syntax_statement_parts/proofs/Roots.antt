@@ -6,8 +6,8 @@ use Rattle.syntax_trees.specs.declared.tree.Name.{Name}
 use Rattle.syntax_trees.specs.declared.tree.Expression.{Expression}
 use Rattle.syntax_trees.specs.declared.tree.Expression.TheVariants as from
 use Rattle.syntax_trees.specs.declared.tree.Expression.TheFolds.{fold-roll-Expression}
-use Rattle.syntax_trees.specs.Tree.{NameTree, ExpressionTree, binary, property, chained, propertied}
-use Rattle.syntax_trees.specs.Tree.{expression_tree, name_tree, layer, link}
+use Rattle.syntax_trees.specs.Tree.{NameTree, ExpressionTree, binary, property}
+use Rattle.syntax_trees.specs.Views.{chained, propertied, expression_tree, name_tree, layer, link}
 use Rattle.syntax_expressions.proofs.Built.{properties_built}
 
 module _ {A : Type 0} (f : ExpressionTree → A) (x : A) where

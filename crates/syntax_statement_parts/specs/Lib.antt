@@ -1,4 +1,5 @@
 pub mod Tree
+pub mod Views
 pub mod Grammar
 pub mod Nesting
 pub mod Parse

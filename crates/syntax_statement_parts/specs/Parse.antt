@@ -15,8 +15,9 @@ use Rattle.syntax_parsing.specs.Stop.{Stop, unfit, deep}
 use Rattle.syntax_parsing.specs.Parse.{Parse, ◌>>=◌, head, tail, is_sign, is_word, expect, list, repeated}
 use Rattle.syntax_expressions.specs.Parse.{expect_name, whole, nested, condition, expression}
 use Rattle.syntax_statement_parts.specs.Tree.{LiteralTree, number_value, word_value, named_value, RangeTree}
-use Rattle.syntax_statement_parts.specs.Tree.{HeadingTree, PrintItemTree, text_item, character_item, number_item}
-use Rattle.syntax_statement_parts.specs.Tree.{FlagTree, object_item, LoopTree, over_all, over_in, over_where}
+use Rattle.syntax_statement_parts.specs.Tree.{PrintItemTree, text_item, character_item, number_item, FlagTree}
+use Rattle.syntax_statement_parts.specs.Tree.{object_item, LoopTree, over_all, over_in, over_where}
+use Rattle.syntax_statement_parts.specs.Views.{HeadingTree}
 use Rattle.syntax_statement_parts.specs.Grammar.{effect_or_none}
 
 -- ---- attributes of `give`

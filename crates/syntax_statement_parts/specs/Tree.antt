@@ -1,19 +1,7 @@
 -- Trees of what statements are made of, without where they lie in memory.
 use Rattle.std.specs.Prelude.{Bool, ℕ, List, Option}
-use Rattle.std.specs.Global.{Box}
-use Rattle.std.specs.Option.{option_map}
 use Rattle.syntax_lexer.specs.declared.token.Position.{Position}
-use Rattle.syntax_trees.specs.declared.tree.Expression.{Expression}
-use Rattle.syntax_trees.specs.declared.tree.Name.{Name}
-use Rattle.syntax_trees.specs.Tree.{NameTree, name_tree, ExpressionTree, expression_tree}
-use Rattle.syntax_statement_parts.specs.declared.tree.Literal.{Literal}
-use Rattle.syntax_statement_parts.specs.declared.tree.Literal.TheVariants as values
-use Rattle.syntax_statement_parts.specs.declared.tree.Range.{Range}
-use Rattle.syntax_statement_parts.specs.declared.tree.Heading.{Heading}
-use Rattle.syntax_statement_parts.specs.declared.tree.Loop.{Loop}
-use Rattle.syntax_statement_parts.specs.declared.tree.Loop.TheVariants as loops
-use Rattle.syntax_statement_parts.specs.declared.tree.PrintItem.{PrintItem}
-use Rattle.syntax_statement_parts.specs.declared.tree.PrintItem.TheVariants as items
+use Rattle.syntax_trees.specs.Tree.{NameTree, ExpressionTree}
 
 pub data LiteralTree : Type 0 where
   number_value : ℕ → LiteralTree
@@ -23,12 +11,6 @@ pub data LiteralTree : Type 0 where
 pub record RangeTree : Type 0 where
   pub low : LiteralTree
   pub high : Option LiteralTree
-
--- what stands in the parentheses of a `for`
-pub record HeadingTree : Type 0 where
-  pub before : Option ExpressionTree
-  pub test : Option ExpressionTree
-  pub behind : Option ExpressionTree
 
 -- what stands in the parentheses of an `objectloop`: its variable alone, over all objects; its variable, and the object
 -- whose children it goes over; its variable, and a condition that begins with it
@@ -46,31 +28,3 @@ pub data PrintItemTree : Type 0 where
   character_item : Position → ExpressionTree → PrintItemTree
   object_item : Position → ExpressionTree → PrintItemTree
   number_item : Position → ExpressionTree → PrintItemTree
-
-abbrev pub literal_tree : Literal → LiteralTree
-literal_tree (values.Number n) = number_value n
-literal_tree (values.Word s) = word_value s.now
-literal_tree (values.Named n) = named_value (name_tree n)
-
-abbrev pub range_tree : Range → RangeTree
-range_tree r = record { low = literal_tree r.low; high = option_map literal_tree r.high }
-
-abbrev pub part_tree : Option (Box Expression) → Option ExpressionTree
-part_tree e = option_map (λ x. expression_tree x.value) e
-
-abbrev pub heading_tree : Heading → HeadingTree
-heading_tree h = record { before = part_tree h.before; test = part_tree h.test; behind = part_tree h.behind }
-
-abbrev pub loop_tree : Loop → LoopTree
-loop_tree (loops.All n) = over_all (name_tree n)
-loop_tree (loops.In n e) = over_in (name_tree n) (expression_tree e.value)
-loop_tree (loops.Where n e) = over_where (name_tree n) (expression_tree e.value)
-
-abbrev pub flag_tree : Bool × Name → FlagTree
-flag_tree x = (x.0, name_tree x.1)
-
-abbrev pub item_tree : PrintItem → PrintItemTree
-item_tree (items.Text s) = text_item s.now
-item_tree (items.Character p e) = character_item p (expression_tree e.value)
-item_tree (items.Object p e) = object_item p (expression_tree e.value)
-item_tree (items.Number p e) = number_item p (expression_tree e.value)

@@ -1,7 +1,7 @@
 //! Which expressions have an effect.
 
 ghost use Rattle.std.specs.Prelude.{◌≡◌};
-ghost use Rattle.syntax_trees.specs.Tree.{expression_tree};
+ghost use Rattle.syntax_trees.specs.Views.{expression_tree};
 ghost use Rattle.syntax_statement_parts.specs.Grammar as grammar;
 
 use syntax_trees::Expression;

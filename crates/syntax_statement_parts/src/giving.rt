@@ -3,7 +3,7 @@
 ghost use Rattle.std.specs.Prelude.{◌≡◌, map};
 ghost use Rattle.syntax_lexer.specs.Token.{lexeme};
 ghost use Rattle.syntax_parsing.specs.Returned.{ahead, Takes};
-ghost use Rattle.syntax_statement_parts.specs.Tree.{flag_tree};
+ghost use Rattle.syntax_statement_parts.specs.Views.{flag_tree};
 ghost use Rattle.syntax_statement_parts.specs.Parse as parts;
 
 use syntax_expressions::expect_name;

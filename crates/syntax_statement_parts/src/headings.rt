@@ -3,7 +3,7 @@
 ghost use Rattle.std.specs.Prelude.{◌≡◌, ◌<◌, IfOk};
 ghost use Rattle.syntax_parsing.specs.Returned.{ahead, Takes};
 ghost use Rattle.syntax_statement_parts.specs.Grammar as grammar;
-ghost use Rattle.syntax_statement_parts.specs.Tree.{part_tree, heading_tree};
+ghost use Rattle.syntax_statement_parts.specs.Views.{part_tree, heading_tree};
 ghost use Rattle.syntax_statement_parts.specs.Parse as spec;
 
 use crate::effects::has_effect;

@@ -2,9 +2,9 @@
 
 ghost use Rattle.std.specs.Prelude.{◌≡◌, ◌<◌, IfOk};
 ghost use Rattle.std.specs.Option.{option_map};
-ghost use Rattle.syntax_trees.specs.Tree.{name_tree, expression_tree};
+ghost use Rattle.syntax_trees.specs.Views.{name_tree, expression_tree};
 ghost use Rattle.syntax_parsing.specs.Returned.{ahead, Takes};
-ghost use Rattle.syntax_statement_parts.specs.Tree.{part_tree, loop_tree};
+ghost use Rattle.syntax_statement_parts.specs.Views.{part_tree, loop_tree};
 ghost use Rattle.syntax_statement_parts.specs.Parse as spec;
 
 use crate::tree::Loop;

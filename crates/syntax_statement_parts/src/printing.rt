@@ -3,7 +3,7 @@
 ghost use Rattle.std.specs.Prelude.{map};
 ghost use Rattle.syntax_parsing.specs.Returned.{ahead, Takes};
 ghost use Rattle.syntax_statement_parts.specs.Tree as tree;
-ghost use Rattle.syntax_statement_parts.specs.Tree.{item_tree};
+ghost use Rattle.syntax_statement_parts.specs.Views.{item_tree};
 ghost use Rattle.syntax_statement_parts.specs.Parse as spec;
 
 use crate::tree::PrintItem;

@@ -5,7 +5,7 @@ ghost use Rattle.syntax_lexer.specs.Token.{lexeme, lexemes};
 ghost use Rattle.syntax_parsing.specs.Parse.{head};
 ghost use Rattle.syntax_parsing.specs.Returned.{ahead, Takes};
 ghost use Rattle.syntax_statement_parts.specs.Nesting as nesting;
-ghost use Rattle.syntax_statement_parts.specs.Tree.{literal_tree, range_tree};
+ghost use Rattle.syntax_statement_parts.specs.Views.{literal_tree, range_tree};
 ghost use Rattle.syntax_statement_parts.specs.Parse as spec;
 
 use crate::tree::{Literal, Range};

@@ -11,7 +11,8 @@ use Rattle.syntax_parsing.specs.Parse.{◌>>=◌, head, is_sign, is_word, expect
 use Rattle.syntax_expressions.specs.Nesting.{begins_expression}
 use Rattle.syntax_expressions.specs.Parse.{whole, nested, expression, expect_name}
 use Rattle.syntax_expressions.proofs.Limited.{Limited, bound, then, at_once, same}
-use Rattle.syntax_statement_parts.specs.Tree.{RangeTree, HeadingTree, PrintItemTree, FlagTree, LoopTree}
+use Rattle.syntax_statement_parts.specs.Tree.{RangeTree, PrintItemTree, FlagTree, LoopTree}
+use Rattle.syntax_statement_parts.specs.Views.{HeadingTree}
 use Rattle.syntax_statement_parts.specs.Grammar.{has_effect, effect_or_none}
 use Rattle.syntax_statement_parts.specs.Parse.{ranges, items, enclosed_condition, optional, optional_effect, heading}
 use Rattle.syntax_statement_parts.specs.Parse.{heading_in, enclosed_heading, flags, looped_in, enclosed_loop}

@@ -8,9 +8,11 @@ use Rattle.syntax_trees.specs.Tree.{ExpressionTree}
 use Rattle.syntax_parsing.specs.Stop.{unfit}
 use Rattle.syntax_parsing.specs.Parse.{◌>>=◌, Parse, head, tail, is_sign, is_word, expect}
 use Rattle.syntax_expressions.specs.Parse.{closed}
-use Rattle.syntax_statement_parts.specs.Tree.{HeadingTree, LoopTree}
+use Rattle.syntax_statement_parts.specs.Tree.{LoopTree}
+use Rattle.syntax_statement_parts.specs.Views.{HeadingTree}
 use Rattle.syntax_statement_parts.specs.Parse.{enclosed_condition, enclosed_heading, enclosed_loop}
-use Rattle.syntax_statements.specs.Tree.{StatementTree, CaseTree, cases_of, while_do, for_loop, switch_on, loop_over}
+use Rattle.syntax_statements.specs.Tree.{StatementTree, while_do, for_loop, switch_on, loop_over}
+use Rattle.syntax_statements.specs.Views.{CaseTree, cases_of}
 use Rattle.syntax_statements.specs.Parse.{block_of, braced, repetition, iteration, traversal, cases, switch_of}
 use Rattle.syntax_statements.specs.Parse.{otherwise, selection}
 

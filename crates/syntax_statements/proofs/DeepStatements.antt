@@ -16,10 +16,12 @@ use Rattle.syntax_expressions.proofs.Short.{short_E}
 use Rattle.syntax_expressions.proofs.Complete.{at_E}
 use Rattle.syntax_expressions.proofs.Deepened.{Deepened, deep_in, deep_behind, deep_same, deep_opened}
 use Rattle.syntax_expressions.proofs.DeepExpressions.{in_whole, deep_E, deep_E1, deep_starts_E}
-use Rattle.syntax_statement_parts.specs.Tree.{RangeTree, HeadingTree, LoopTree}
+use Rattle.syntax_statement_parts.specs.Tree.{RangeTree, LoopTree}
+use Rattle.syntax_statement_parts.specs.Views.{HeadingTree}
 use Rattle.syntax_statement_parts.specs.Parse.{begins_value, ranges, items, enclosed_condition, heading, heading_in}
 use Rattle.syntax_statement_parts.specs.Parse.{enclosed_heading, looped, looped_in, enclosed_loop}
-use Rattle.syntax_statements.specs.Tree.{StatementTree, CaseTree, trees_of, print, return_value}
+use Rattle.syntax_statements.specs.Tree.{StatementTree, print, return_value}
+use Rattle.syntax_statements.specs.Views.{CaseTree, trees_of}
 use Rattle.syntax_statements.specs.Nesting.{begins_statement, begins_in_case, DeepS, deep_s_brace, deep_s_block}
 use Rattle.syntax_statements.specs.Nesting.{deep_s_print, deep_s_print_ret, deep_s_if, deep_s_if_condition}
 use Rattle.syntax_statements.specs.Nesting.{deep_s_if_then, deep_s_if_else, deep_s_while, deep_s_while_condition}

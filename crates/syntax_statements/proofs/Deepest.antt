@@ -7,10 +7,12 @@ use Rattle.syntax_lexer.specs.Token.{Lexeme, sign}
 use Rattle.syntax_parsing.specs.Stop.{Stop}
 use Rattle.syntax_parsing.specs.Parse.{expect, as_long, repeated}
 use Rattle.syntax_expressions.proofs.Limited.{Limited}
-use Rattle.syntax_statement_parts.specs.Tree.{HeadingTree, LoopTree}
+use Rattle.syntax_statement_parts.specs.Tree.{LoopTree}
+use Rattle.syntax_statement_parts.specs.Views.{HeadingTree}
 use Rattle.syntax_statement_parts.specs.Parse.{heading, heading_in, looped, looped_in}
-use Rattle.syntax_statements.specs.Tree.{StatementTree, StatementTrees, CaseTree, CaseTrees, trees_of, cases_of, stop}
-use Rattle.syntax_statements.specs.Tree.{next, no_case, default_case, case}
+use Rattle.syntax_statements.specs.Tree.{StatementTree, StatementTrees, CaseTrees, stop, next, no_case, default_case}
+use Rattle.syntax_statements.specs.Tree.{case}
+use Rattle.syntax_statements.specs.Views.{CaseTree, trees_of, cases_of}
 use Rattle.syntax_statements.specs.Grammar.{inside_nesting, cases_nesting}
 use Rattle.syntax_statements.specs.Nesting.{begins_statement, begins_in_case}
 use Rattle.syntax_statements.specs.Parse.{ended, inside, braces, bodies, statement}

@@ -8,7 +8,7 @@ use Rattle.syntax_parsing.specs.Stop.{deep}
 use Rattle.syntax_parsing.specs.Parse.{head, as_long, repeated}
 use Rattle.syntax_parsing.proofs.Loops.{joined, joined_none}
 use Rattle.syntax_statements.specs.declared.tree.Statement.{Statement}
-use Rattle.syntax_statements.specs.Tree.{statement_tree}
+use Rattle.syntax_statements.specs.Views.{statement_tree}
 use Rattle.syntax_statements.specs.Nesting.{begins_statement, begins_in_case}
 use Rattle.syntax_statements.specs.Parse.{inside, braces, bodies, statement, statements}
 

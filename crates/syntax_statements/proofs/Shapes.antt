@@ -4,13 +4,13 @@ use Rattle.std.specs.Prelude.{map}
 use Rattle.std.specs.Global.{Vec, Box}
 use Rattle.syntax_lexer.specs.declared.token.Position.{Position}
 use Rattle.syntax_trees.specs.declared.tree.Expression.{Expression}
-use Rattle.syntax_trees.specs.Tree.{expression_tree}
+use Rattle.syntax_trees.specs.Views.{expression_tree}
 use Rattle.syntax_statement_parts.specs.declared.tree.Range.{Range}
 use Rattle.syntax_statements.specs.declared.tree.Statement.{Statement}
 use Rattle.syntax_statements.specs.declared.tree.Statement.TheVariants as said
 use Rattle.syntax_statements.specs.declared.tree.Statement.TheFolds.{fold-roll-Statement}
-use Rattle.syntax_statements.specs.Tree.{StatementTree, switch_on, cases_of, layer, statement_tree, case_tree}
-use Rattle.syntax_statements.specs.Tree.{other_tree}
+use Rattle.syntax_statements.specs.Tree.{StatementTree, switch_on}
+use Rattle.syntax_statements.specs.Views.{cases_of, layer, statement_tree, case_tree, other_tree}
 
 -- ---- lists, mapped twice
 

@@ -9,8 +9,9 @@ use Rattle.syntax_parsing.specs.Parse.{head, as_long, repeated}
 use Rattle.syntax_expressions.proofs.Judged.{Judged, judged_read, judged_deep, judged_as}
 use Rattle.syntax_expressions.proofs.SoundOperands.{Within, deeper}
 use Rattle.syntax_expressions.proofs.Sound.{no_more}
-use Rattle.syntax_statements.specs.Tree.{trees_of, empty, text_alone, print, print_return, new_line, break_at}
-use Rattle.syntax_statements.specs.Tree.{continue_at, return_true, return_false, quit}
+use Rattle.syntax_statements.specs.Tree.{empty, text_alone, print, print_return, new_line, break_at, continue_at}
+use Rattle.syntax_statements.specs.Tree.{return_true, return_false, quit}
+use Rattle.syntax_statements.specs.Views.{trees_of}
 use Rattle.syntax_statements.specs.Grammar.{IsS, s_empty, s_text, s_print, s_print_ret, s_new_line, s_break, s_continue}
 use Rattle.syntax_statements.specs.Grammar.{s_rtrue, s_rfalse, s_quit, IsSs, ss_stop, ss_next, statement_nesting}
 use Rattle.syntax_statements.specs.Grammar.{inside_nesting, body_nesting}

@@ -15,7 +15,7 @@ use Rattle.syntax_expressions.proofs.Judged.{judged_after, judged_by, judged_as}
 use Rattle.syntax_expressions.proofs.Tokens.{expect_ok, expect_not_deep}
 use Rattle.syntax_expressions.proofs.SoundOperands.{Within}
 use Rattle.syntax_expressions.proofs.Sound.{judged_E, judged_whole, no_more}
-use Rattle.syntax_statement_parts.specs.Tree.{HeadingTree}
+use Rattle.syntax_statement_parts.specs.Views.{HeadingTree}
 use Rattle.syntax_statement_parts.specs.Grammar.{effect_or_none, IsOptional, optional_none, optional_some}
 use Rattle.syntax_statement_parts.specs.Grammar.{optional_nesting}
 use Rattle.syntax_statement_parts.specs.Nesting.{DeepHeading, deep_heading_before, deep_heading_test}

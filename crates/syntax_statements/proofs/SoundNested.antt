@@ -15,8 +15,9 @@ use Rattle.syntax_expressions.proofs.SoundOperands.{Within, deeper}
 use Rattle.syntax_statement_parts.specs.Grammar.{IsRanges}
 use Rattle.syntax_statement_parts.specs.Nesting.{DeepHeading}
 use Rattle.syntax_statement_parts.specs.Parse.{begins_value, value}
-use Rattle.syntax_statements.specs.Tree.{StatementTree, CaseTree, trees_of, cases_of, block, if_then, if_else, while_do}
-use Rattle.syntax_statements.specs.Tree.{do_until, for_loop, switch_on, default_case, loop_over}
+use Rattle.syntax_statements.specs.Tree.{StatementTree, block, if_then, if_else, while_do, do_until, for_loop}
+use Rattle.syntax_statements.specs.Tree.{switch_on, default_case, loop_over}
+use Rattle.syntax_statements.specs.Views.{CaseTree, trees_of, cases_of}
 use Rattle.syntax_statements.specs.Grammar.{else_follows, IsS, s_block, s_if, s_if_else, s_while, s_do, s_for, s_switch}
 use Rattle.syntax_statements.specs.Grammar.{IsSs, IsCases, cases_none, cases_default, cases_next, statement_nesting}
 use Rattle.syntax_statements.specs.Grammar.{inside_nesting, cases_nesting, s_objectloop}

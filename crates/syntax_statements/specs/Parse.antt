@@ -14,10 +14,11 @@ use Rattle.syntax_statement_parts.specs.Parse.{flags, begins_value, ranges, item
 use Rattle.syntax_statement_parts.specs.Parse.{enclosed_loop}
 use Rattle.syntax_statement_parts.specs.Tree.{PrintItemTree}
 use Rattle.syntax_statement_parts.specs.Grammar.{has_effect}
-use Rattle.syntax_statements.specs.Tree.{StatementTree, CaseTree, trees_of, cases_of, empty, block, text_alone, print}
-use Rattle.syntax_statements.specs.Tree.{print_return, new_line, if_then, if_else, while_do, do_until, for_loop}
-use Rattle.syntax_statements.specs.Tree.{switch_on, break_at, continue_at, return_alone, return_value, return_true}
-use Rattle.syntax_statements.specs.Tree.{return_false, quit, read_line, effect, give, move, remove, loop_over}
+use Rattle.syntax_statements.specs.Tree.{StatementTree, empty, block, text_alone, print, print_return, new_line}
+use Rattle.syntax_statements.specs.Tree.{if_then, if_else, while_do, do_until, for_loop, switch_on, break_at}
+use Rattle.syntax_statements.specs.Tree.{continue_at, return_alone, return_value, return_true, return_false, quit}
+use Rattle.syntax_statements.specs.Tree.{read_line, effect, give, move, remove, loop_over}
+use Rattle.syntax_statements.specs.Views.{CaseTree, trees_of, cases_of}
 use Rattle.syntax_statements.specs.Grammar.{else_follows}
 use Rattle.syntax_statements.specs.Nesting.{begins_statement, begins_in_case}
 

@@ -8,7 +8,8 @@ use Rattle.syntax_parsing.specs.declared.error.ParseError.{ParseError}
 use Rattle.syntax_parsing.specs.declared.parser.Parser.{Parser}
 use Rattle.syntax_statements.specs.declared.tree.SimpleStatement.{SimpleStatement}
 use Rattle.syntax_statements.specs.declared.tree.Statement.{Statement}
-use Rattle.syntax_statements.specs.Tree.{StatementTree, simple_tree, statement_tree}
+use Rattle.syntax_statements.specs.Tree.{StatementTree}
+use Rattle.syntax_statements.specs.Views.{simple_tree, statement_tree}
 
 -- The same of a statement in a box.
 abbrev pub TakesStatement : Result (Box Statement) ParseError → Parser → Result (StatementTree × List Lexeme) Stop

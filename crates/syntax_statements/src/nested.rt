@@ -6,7 +6,7 @@ ghost use Rattle.syntax_parsing.specs.Parse.{tail};
 ghost use Rattle.syntax_parsing.specs.Returned.{ahead, Takes};
 ghost use Rattle.syntax_statements.specs.Grammar as grammar;
 ghost use Rattle.syntax_statements.specs.Nesting as nesting;
-ghost use Rattle.syntax_statements.specs.Tree.{statement_tree, case_tree, other_tree};
+ghost use Rattle.syntax_statements.specs.Views.{statement_tree, case_tree, other_tree};
 ghost use Rattle.syntax_statements.specs.Returned.{TakesStatement};
 ghost use Rattle.syntax_statements.specs.Parse as spec;
 
@@ -330,7 +330,7 @@ fn bodies<'t, 'a>(
 
 // A case: its ranges, and its statements behind a colon.
 #[cycle(statement)]
-#[tactic(auto, unfolding(crate::specs::Parse::one_case, crate::specs::Tree::case_tree))]
+#[tactic(auto, unfolding(crate::specs::Parse::one_case, crate::specs::Views::case_tree))]
 fn one_case<'t, 'a>(
     parser: &mut Parser<'t, 'a>,
     depth: usize,

@@ -2,12 +2,12 @@
 //! and a kind of statement is spelled here and in `simple` alone.
 
 ghost use Rattle.std.specs.Prelude.{◌≡◌, IfErr, IfOk, Ok, map, [], ◌∷◌, ◌++◌};
-ghost use Rattle.syntax_trees.specs.Tree.{expression_tree};
+ghost use Rattle.syntax_trees.specs.Views.{expression_tree};
 ghost use Rattle.syntax_parsing.specs.Parse as reading;
 ghost use Rattle.syntax_parsing.specs.Returned.{ahead};
-ghost use Rattle.syntax_statement_parts.specs.Tree.{heading_tree, loop_tree};
+ghost use Rattle.syntax_statement_parts.specs.Views.{heading_tree, loop_tree};
 ghost use Rattle.syntax_statements.specs.Tree as tree;
-ghost use Rattle.syntax_statements.specs.Tree.{statement_tree, case_tree, other_tree};
+ghost use Rattle.syntax_statements.specs.Views.{statement_tree, case_tree, other_tree};
 ghost use Rattle.syntax_statements.specs.Returned.{TakesStatement};
 ghost use Rattle.syntax_statements.specs.Parse as spec;
 

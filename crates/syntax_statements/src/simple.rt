@@ -4,7 +4,7 @@ ghost use Rattle.std.specs.Prelude.{Ok};
 ghost use Rattle.syntax_parsing.specs.Parse as reading;
 ghost use Rattle.syntax_parsing.specs.Returned.{ahead};
 ghost use Rattle.syntax_statements.specs.Tree as tree;
-ghost use Rattle.syntax_statements.specs.Tree.{simple_tree};
+ghost use Rattle.syntax_statements.specs.Views.{simple_tree};
 ghost use Rattle.syntax_statements.specs.Returned.{TakesSimple};
 ghost use Rattle.syntax_statements.specs.Parse as spec;
 

@@ -11,7 +11,8 @@ use Rattle.zcore.specs.declared.operations.OperandCount.{OperandCount}
 use Rattle.zcore.specs.declared.operations.OperandCount.TheVariants as counts
 use Rattle.zcore.specs.Operations.{two_operand, one_operand, no_operand, several_operand, count_of, number_of}
 use Rattle.zcore.specs.Operations.{least_operands, most_operands, has_more_types}
-use Rattle.zcore.specs.Instruction.{opcode, type_of, two_bytes, opcode_bytes}
+use Rattle.zcore.specs.Instruction.{opcode}
+use Rattle.zcore.specs.InstructionBytes.{type_of, two_bytes, opcode_bytes}
 use Rattle.zcore.proofs.EncodingParts.{room, none_is, one_is, long_is, VariableIs, variable_is}
 
 -- an operation has its number in the table of its count, and takes as many operands as that count allows

@@ -18,8 +18,9 @@ use Rattle.zcore.specs.Operations.{two_operand, one_operand, no_operand, several
 use Rattle.zcore.specs.Operations.{least_operands, most_operands, has_more_types}
 use Rattle.ztext.specs.Results.{◌>>=◌}
 use Rattle.zcore.specs.Instruction.{Opcode, byte, large, operand, operands, types_of, given_types, opcode_of, long_form}
-use Rattle.zcore.specs.Instruction.{short_form, variable_types, variable_form, opcode, type_of, operand_bytes}
-use Rattle.zcore.specs.Instruction.{types_byte, types_to_write, types_bytes, variable_bytes}
+use Rattle.zcore.specs.Instruction.{short_form, variable_types, variable_form, opcode}
+use Rattle.zcore.specs.InstructionBytes.{type_of, operand_bytes, types_byte, types_to_write, types_bytes}
+use Rattle.zcore.specs.InstructionBytes.{variable_bytes}
 use Rattle.ztext.proofs.Holding.{holds_byte, holds_append}
 
 -- a part that was read, and what is read after it

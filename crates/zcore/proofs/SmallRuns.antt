@@ -9,8 +9,9 @@ use Rattle.zcore.specs.declared.instruction.Operation.TheVariants.{JumpIfEqual, 
 use Rattle.zcore.specs.declared.instruction.Operation.TheVariants.{PrintNumber}
 use Rattle.zcore.specs.declared.instruction.Operand.TheVariants.{Large, Small, Variable}
 use Rattle.zcore.specs.declared.next.Next.{Next}
-use Rattle.zcore.specs.Instruction.{decode, bytes_of, opcode, operands, operand, byte, large, result_variable}
-use Rattle.zcore.specs.Instruction.{branch, variable_types, types_bytes}
+use Rattle.zcore.specs.Instruction.{decode, opcode, operands, operand, byte, large, result_variable, branch}
+use Rattle.zcore.specs.Instruction.{variable_types}
+use Rattle.zcore.specs.InstructionBytes.{bytes_of, types_bytes}
 use Rattle.zcore.specs.State.{Frame, State, done, halt}
 use Rattle.zcore.specs.Turn.{Whole, first_state, opening, turn_from, weight}
 use Rattle.zcore.specs.Execution.{step, perform, give_result, divide, modulo, load, store, increment, decrement, pull}

@@ -2,6 +2,7 @@ pub mod Layout
 pub mod Header
 pub mod Operations
 pub mod Instruction
+pub mod InstructionBytes
 pub mod Arithmetic
 pub mod State
 pub mod Parts

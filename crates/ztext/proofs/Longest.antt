@@ -6,8 +6,9 @@ use Rattle.std.specs.Prelude.{if◌then◌else◌}
 use Rattle.std.specs.Cmp.Lexicographic.{pointwise}
 use Rattle.std.proofs.lemmas.Bool.{eqb-true, lt-ltb, le-ltb, cases_lt}
 use Rattle.std.proofs.lemmas.List.{length-take, drop_more}
-use Rattle.ztext.specs.Abbreviations.{most_abbreviations, abbreviation_at, begins, Found, longer, longest_from, longest}
-use Rattle.ztext.specs.Abbreviations.{spelling_or, more_of, spelled_behind}
+use Rattle.ztext.specs.Abbreviations.{abbreviation_at, begins, Found, longer, longest_from, longest, spelling_or}
+use Rattle.ztext.specs.Abbreviations.{more_of, spelled_behind}
+use Rattle.ztext.specs.Bytes.{most_abbreviations}
 use Rattle.ztext.specs.TextParts.{at_front}
 
 -- Where a text begins with another

@@ -1,7 +1,7 @@
 -- Texts that use abbreviations (Z-Machine Standards Document 1.1, section 3.3).
 use Rattle.std.specs.Prelude.{◌≡◌, ◌+◌, ◌-◌, ◌/◌, ◌%◌, ◌^◌, ◌==◌, ◌<◌, ℕ, zero, suc, nat_lt, Bool, true, false, List}
 use Rattle.std.specs.Prelude.{[], if◌then◌else◌, ◌∷◌, ◌++◌, length, take, Option, Some, None, Ok}
-pub use Rattle.ztext.specs.Bytes.{most_abbreviations}
+use Rattle.ztext.specs.Bytes.{most_abbreviations}
 use Rattle.ztext.specs.Alphabets.{spelling_of}
 use Rattle.ztext.specs.Words.{packed, padded}
 use Rattle.ztext.specs.Text.{abbreviation, decoded, Holds}

@@ -1,6 +1,6 @@
 use Rattle.std.proofs.Common.{sym, ◌∙◌, take, refl}
 use Rattle.std.specs.Prelude.{map}
-use Rattle.syntax_directives.specs.Tree.{text_tree}
+use Rattle.syntax_directives.specs.Views.{text_tree}
 use Rattle.checker.proofs.Abbreviated.{texts_next, texts_end}
 use Rattle.checker.proofs.abbreviation_rules.abbreviation_rules.Goals as goal
 

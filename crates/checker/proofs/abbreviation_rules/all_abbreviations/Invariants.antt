@@ -1,6 +1,6 @@
 use Rattle.std.proofs.Common.{◌≡◌, ◌++◌, drop}
 use Rattle.std.specs.Prelude.{map}
-use Rattle.syntax_directives.specs.Tree.{text_tree}
+use Rattle.syntax_directives.specs.Views.{text_tree}
 use Rattle.checker.proofs.Whole.{characters_of}
 use Rattle.checker.proofs.abbreviation_rules.all_abbreviations.Given as goal
 

@@ -1,6 +1,6 @@
 use Rattle.std.proofs.Common.{◌≡◌, drop}
 use Rattle.std.specs.Prelude.{map}
-use Rattle.syntax_directives.specs.Tree.{text_tree}
+use Rattle.syntax_directives.specs.Views.{text_tree}
 use Rattle.checker.specs.Programs.{has_text}
 use Rattle.checker.proofs.abbreviation_rules.has_text.Given as goal
 

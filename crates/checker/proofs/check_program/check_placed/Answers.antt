@@ -1,5 +1,5 @@
 use Rattle.std.proofs.Common.{Some, None, inr, refl, sym, ◌∙◌}
-use Rattle.syntax.specs.Tree.{program_tree}
+use Rattle.syntax.specs.Views.{program_tree}
 use Rattle.checker.specs.Programs.{program_breaches}
 use Rattle.checker_names.proofs.Noted.{first_law}
 use Rattle.checker.proofs.check_program.check_placed.Goals as goal

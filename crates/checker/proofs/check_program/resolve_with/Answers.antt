@@ -2,10 +2,10 @@ use Rattle.std.proofs.Common.{◌≡◌, ℕ, List, [], length, ap, ◌∙◌, a
 use Rattle.std.specs.Prelude.{map}
 use Rattle.syntax_directives.specs.declared.tree.Directive.{Directive}
 use Rattle.syntax_directives.specs.declared.tree.Text.{Text}
-use Rattle.syntax_directives.specs.Tree.{directive_tree, text_tree}
-use Rattle.syntax.specs.Tree.{program_tree}
+use Rattle.syntax_directives.specs.Views.{directive_tree, text_tree}
+use Rattle.syntax.specs.Views.{program_tree}
 use Rattle.meaning.specs.declared.checked.CheckedObject.{CheckedObject}
-use Rattle.meaning.specs.Resolved.{object_of}
+use Rattle.meaning.specs.Views.{object_of}
 use Rattle.checker_names.specs.Names.{File, first_table, no_counts, in_table}
 use Rattle.checker_names.specs.Noted.{noted}
 use Rattle.checker_names.specs.Scope.{file_in}

@@ -1,8 +1,8 @@
 use Rattle.std.proofs.Common.{List, ap, ◌∙◌}
 use Rattle.std.specs.Prelude.{map}
 use Rattle.syntax_directives.specs.declared.tree.Directive.{Directive}
-use Rattle.syntax_directives.specs.Tree.{directive_tree}
-use Rattle.syntax.specs.Tree.{program_tree}
+use Rattle.syntax_directives.specs.Views.{directive_tree}
+use Rattle.syntax.specs.Views.{program_tree}
 use Rattle.checker_names.specs.Names.{table_of}
 use Rattle.checker.proofs.Numbered.{none_numbered}
 use Rattle.checker.proofs.check_program.unnumbered.Goals as goal

@@ -1,6 +1,6 @@
 use Rattle.std.proofs.Common.{◌≡◌, ◌+◌, drop}
 use Rattle.std.specs.Prelude.{map}
-use Rattle.syntax_directives.specs.Tree.{directive_tree}
+use Rattle.syntax_directives.specs.Views.{directive_tree}
 use Rattle.checker_names.specs.Names.{no_counts, AreFewer}
 use Rattle.checker_names.specs.Noted.{noted}
 use Rattle.checker.specs.Resolving.{IsAdding}

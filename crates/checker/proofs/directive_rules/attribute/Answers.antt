@@ -1,4 +1,4 @@
-use Rattle.syntax_trees.specs.Tree.{name_tree}
+use Rattle.syntax_trees.specs.Views.{name_tree}
 use Rattle.checker_names.proofs.Noted.{noted_two}
 use Rattle.checker_names.specs.Names.{twice}
 use Rattle.checker.specs.Programs.{limit_breaches}

@@ -1,8 +1,8 @@
 use Rattle.std.proofs.Common.{◌≡◌, refl, sym, ap, ◌∙◌}
-use Rattle.syntax_trees.specs.Tree.{name_tree}
-use Rattle.syntax_statement_parts.specs.Tree.{literal_tree}
+use Rattle.syntax_trees.specs.Views.{name_tree}
+use Rattle.syntax_statement_parts.specs.Views.{literal_tree}
 use Rattle.syntax_directives.specs.Tree.{DirectiveTree, global, constant, array, attribute, property, object, routine}
-use Rattle.syntax_directives.specs.Tree.{directive_tree, optional_tree, array_tree, object_tree, routine_tree}
+use Rattle.syntax_directives.specs.Views.{directive_tree, optional_tree, array_tree, object_tree, routine_tree}
 use Rattle.checker_names.specs.Noted.{noted}
 use Rattle.checker_names.specs.Scope.{file_in}
 use Rattle.checker_names.proofs.Noted.{noted_two}

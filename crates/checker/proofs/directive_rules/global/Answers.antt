@@ -1,6 +1,6 @@
 use Rattle.std.proofs.Common.{◌++◌}
-use Rattle.syntax_trees.specs.Tree.{name_tree}
-use Rattle.syntax_directives.specs.Tree.{optional_tree}
+use Rattle.syntax_trees.specs.Views.{name_tree}
+use Rattle.syntax_directives.specs.Views.{optional_tree}
 use Rattle.checker_names.proofs.Noted.{noted_two}
 use Rattle.checker_values.specs.Literals.{initial_breaches}
 use Rattle.checker_names.specs.Names.{twice}

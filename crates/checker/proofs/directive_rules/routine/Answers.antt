@@ -1,6 +1,6 @@
 use Rattle.std.proofs.Common.{List, [], ℕ, map, refl, ap, ◌∙◌}
 use Rattle.syntax_trees.specs.declared.tree.Name.{Name}
-use Rattle.syntax_trees.specs.Tree.{name_tree}
+use Rattle.syntax_trees.specs.Views.{name_tree}
 use Rattle.checker_names.specs.Names.{local_from}
 use Rattle.checker_names.specs.Noted.{noted}
 use Rattle.checker_names.specs.Scope.{local_binding, file_in}

@@ -1,7 +1,7 @@
 use Rattle.std.proofs.Common.{◌≡◌, List, ◌-◌, ◌++◌, refl, ap, ◌∙◌, length, length-append, arith}
 use Rattle.std.specs.Prelude.{map}
 use Rattle.syntax_directives.specs.declared.tree.ArrayValue.{ArrayValue}
-use Rattle.syntax_directives.specs.Tree.{value_tree, array_tree}
+use Rattle.syntax_directives.specs.Views.{value_tree, array_tree}
 use Rattle.checker_arrays.specs.Arrays.{bytes_of, entries_of, array_bytes}
 use Rattle.checker_names.specs.Scope.{file_in}
 use Rattle.checker_arrays.proofs.ArrayBytes.{array_added}

@@ -1,5 +1,5 @@
 use Rattle.std.proofs.Common.{ap, ◌∙◌}
-use Rattle.syntax_statement_parts.specs.Tree.{literal_tree}
+use Rattle.syntax_statement_parts.specs.Views.{literal_tree}
 use Rattle.checker_names.specs.declared.known.Known.{Known}
 use Rattle.checker_names.specs.Keys.{or_zero}
 use Rattle.checker_names.specs.Names.{literal_known}

@@ -2,7 +2,8 @@ use Rattle.std.proofs.Common.{List, ◌++◌, sym, ap, ◌∙◌}
 use Rattle.std.specs.Prelude.{map}
 use Rattle.std.specs.List.{concat}
 use Rattle.syntax_directives.specs.declared.tree.Directive.{Directive}
-use Rattle.syntax_directives.specs.Tree.{DirectiveTree, directive_tree}
+use Rattle.syntax_directives.specs.Tree.{DirectiveTree}
+use Rattle.syntax_directives.specs.Views.{directive_tree}
 use Rattle.checker_names.specs.Scope.{file_in}
 use Rattle.checker_arrays.specs.Arrays.{arrays_of}
 use Rattle.checker_names.proofs.Dropped.{drop_end}

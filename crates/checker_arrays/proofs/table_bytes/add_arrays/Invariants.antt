@@ -1,7 +1,7 @@
 use Rattle.std.proofs.Common.{◌≡◌, ◌++◌, drop}
 use Rattle.std.specs.Prelude.{map}
 use Rattle.std.specs.List.{concat}
-use Rattle.syntax_directives.specs.Tree.{directive_tree}
+use Rattle.syntax_directives.specs.Views.{directive_tree}
 use Rattle.checker_names.specs.Scope.{file_in}
 use Rattle.checker_arrays.specs.Arrays.{arrays_of}
 use Rattle.checker_arrays.proofs.table_bytes.add_arrays.Given as goal

@@ -1,6 +1,6 @@
 use Rattle.std.proofs.Common.{◌≡◌, ◌+◌, drop}
 use Rattle.std.specs.Prelude.{map}
-use Rattle.syntax_directives.specs.Tree.{directive_tree}
+use Rattle.syntax_directives.specs.Views.{directive_tree}
 use Rattle.checker_names.specs.Names.{first_table, no_counts, AreFewer, table_from}
 use Rattle.checker_names.proofs.names.tabulate_with.Given as goal
 

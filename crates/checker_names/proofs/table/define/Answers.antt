@@ -1,5 +1,5 @@
 use Rattle.std.proofs.Common.{ap, ◌∙◌}
-use Rattle.syntax_trees.specs.Tree.{name_tree}
+use Rattle.syntax_trees.specs.Views.{name_tree}
 use Rattle.checker_names.specs.Names.{in_table}
 use Rattle.checker_names.proofs.Tables.{define_new}
 use Rattle.checker_names.proofs.table.define.Goals as goal

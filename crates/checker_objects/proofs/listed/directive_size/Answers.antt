@@ -1,6 +1,6 @@
 use Rattle.std.proofs.Common.{ap, sym, ◌∙◌}
 use Rattle.syntax_directives.specs.declared.tree.Directive.{Directive}
-use Rattle.syntax_directives.specs.Tree.{directive_tree, object_tree}
+use Rattle.syntax_directives.specs.Views.{directive_tree, object_tree}
 use Rattle.meaning.specs.Places.{folded}
 use Rattle.meaning.proofs.Folding.{fold_part}
 use Rattle.checker_objects.specs.Sizes.{listed_directive_size, listed_table_size}

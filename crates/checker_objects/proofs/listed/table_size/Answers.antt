@@ -1,6 +1,7 @@
 use Rattle.std.proofs.Common.{◌≡◌, ℕ, ◌+◌, ◌*◌, List, length, min, take, map, ap, ◌∙◌, arith}
 use Rattle.syntax_directives.specs.declared.tree.Property.{Property}
-use Rattle.syntax_directives.specs.Tree.{PropertyTree, object_tree, property_tree}
+use Rattle.syntax_directives.specs.Tree.{PropertyTree}
+use Rattle.syntax_directives.specs.Views.{object_tree, property_tree}
 use Rattle.meaning.specs.Places.{folded, name_words, total}
 use Rattle.meaning.proofs.Folding.{fold_part}
 use Rattle.checker_objects.specs.Objects.{most_provided, short_name}

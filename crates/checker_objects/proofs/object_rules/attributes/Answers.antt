@@ -1,4 +1,4 @@
-use Rattle.syntax_trees.specs.Tree.{name_tree}
+use Rattle.syntax_trees.specs.Views.{name_tree}
 use Rattle.checker_names.specs.Scope.{file_in}
 use Rattle.checker_names.proofs.Mapped.{list_there, list_end, note_there, note_end}
 use Rattle.checker_objects.specs.Objects.{given_of, given_breaches}

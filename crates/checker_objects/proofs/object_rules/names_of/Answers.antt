@@ -1,7 +1,7 @@
 use Rattle.std.proofs.Common.{refl, ap, ◌∙◌}
 use Rattle.std.specs.Prelude.{map}
-use Rattle.syntax_trees.specs.Tree.{name_tree}
-use Rattle.syntax_directives.specs.Tree.{property_tree}
+use Rattle.syntax_trees.specs.Views.{name_tree}
+use Rattle.syntax_directives.specs.Views.{property_tree}
 use Rattle.checker_names.proofs.Mapped.{list_next, list_end, map_push}
 use Rattle.checker_objects.specs.Objects.{property_name}
 use Rattle.checker_objects.proofs.object_rules.names_of.Goals as goal

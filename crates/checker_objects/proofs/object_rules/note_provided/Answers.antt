@@ -1,4 +1,4 @@
-use Rattle.syntax_directives.specs.Tree.{property_tree}
+use Rattle.syntax_directives.specs.Views.{property_tree}
 use Rattle.checker_names.proofs.Mapped.{note_next, note_end}
 use Rattle.checker_objects.specs.Objects.{provided_breaches}
 use Rattle.checker_objects.proofs.object_rules.note_provided.Goals as goal

@@ -1,7 +1,7 @@
 use Rattle.std.proofs.Common.{◌≡◌, drop}
 use Rattle.std.specs.Prelude.{map}
 use Rattle.std.specs.List.{flat_map}
-use Rattle.syntax_directives.specs.Tree.{property_tree}
+use Rattle.syntax_directives.specs.Views.{property_tree}
 use Rattle.checker_names.specs.Noted.{noted}
 use Rattle.checker_objects.specs.Objects.{provided_breaches}
 use Rattle.checker_objects.proofs.object_rules.note_provided.Given as goal

@@ -3,9 +3,10 @@ use Rattle.std.specs.Prelude.{map}
 use Rattle.std.specs.List.{flat_map}
 use Rattle.std.specs.Option.{option_map}
 use Rattle.syntax_trees.specs.declared.tree.Name.{Name}
-use Rattle.syntax_trees.specs.Tree.{NameTree, name_tree}
+use Rattle.syntax_trees.specs.Tree.{NameTree}
+use Rattle.syntax_trees.specs.Views.{name_tree}
 use Rattle.syntax_directives.specs.declared.tree.Property.{Property}
-use Rattle.syntax_directives.specs.Tree.{text_tree, property_tree}
+use Rattle.syntax_directives.specs.Views.{text_tree, property_tree}
 use Rattle.checker_names.specs.Noted.{noted}
 use Rattle.checker_names.proofs.Noted.{noted_two}
 use Rattle.checker_names.specs.Names.{repeated_breaches}

@@ -1,6 +1,6 @@
 use Rattle.std.proofs.Common.{◌≡◌, ◌+◌, drop}
 use Rattle.std.specs.Prelude.{map}
-use Rattle.meaning.specs.Resolved.{property_of}
+use Rattle.meaning.specs.Views.{property_of}
 use Rattle.checker_objects.specs.Objects.{place_below}
 use Rattle.checker_objects.proofs.object_rules.place_below.Given as goal
 

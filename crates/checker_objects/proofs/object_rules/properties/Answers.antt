@@ -1,9 +1,9 @@
 use Rattle.std.proofs.Common.{List, ap, sym, ◌∙◌}
 use Rattle.std.specs.Prelude.{map}
 use Rattle.syntax_directives.specs.declared.tree.Property.{Property}
-use Rattle.syntax_directives.specs.Tree.{property_tree}
+use Rattle.syntax_directives.specs.Views.{property_tree}
 use Rattle.checker_names.specs.Scope.{file_in}
-use Rattle.meaning.specs.Resolved.{property_of}
+use Rattle.meaning.specs.Views.{property_of}
 use Rattle.checker_names.proofs.Dropped.{drop_end}
 use Rattle.checker_objects.specs.Objects.{with_properties, provided_breaches}
 use Rattle.checker_names.proofs.Mapped.{note_next, note_end}

@@ -1,10 +1,10 @@
 use Rattle.std.proofs.Common.{◌≡◌, [], drop}
 use Rattle.std.specs.Prelude.{map}
 use Rattle.std.specs.List.{flat_map}
-use Rattle.syntax_directives.specs.Tree.{property_tree}
+use Rattle.syntax_directives.specs.Views.{property_tree}
 use Rattle.checker_names.specs.Noted.{noted}
 use Rattle.checker_names.specs.Scope.{file_in}
-use Rattle.meaning.specs.Resolved.{property_of}
+use Rattle.meaning.specs.Views.{property_of}
 use Rattle.checker_objects.specs.Objects.{with_properties, provided_breaches}
 use Rattle.checker_objects.proofs.object_rules.properties.Given as goal
 

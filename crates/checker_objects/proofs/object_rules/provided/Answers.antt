@@ -2,7 +2,7 @@ use Rattle.std.proofs.Common.{List, Option, ◌++◌, ap, ◌∙◌}
 use Rattle.std.specs.Prelude.{map}
 use Rattle.std.specs.List.{flat_map}
 use Rattle.syntax_directives.specs.declared.tree.ArrayValue.{ArrayValue}
-use Rattle.syntax_directives.specs.Tree.{value_tree}
+use Rattle.syntax_directives.specs.Views.{value_tree}
 use Rattle.checker_names.specs.declared.binding.Binding.{Binding}
 use Rattle.checker_names.specs.Names.{key_of, in_table}
 use Rattle.checker_names.specs.Noted.{noted}

@@ -3,7 +3,8 @@ use Rattle.std.specs.Prelude.{map}
 use Rattle.std.specs.List.{flat_map}
 use Rattle.std.proofs.lemmas.List.{take_rest}
 use Rattle.syntax_directives.specs.declared.tree.Property.{Property}
-use Rattle.syntax_directives.specs.Tree.{PropertyTree, property_tree}
+use Rattle.syntax_directives.specs.Tree.{PropertyTree}
+use Rattle.syntax_directives.specs.Views.{property_tree}
 use Rattle.checker_names.specs.declared.breach.Breach.{Breach}
 use Rattle.checker_names.specs.Noted.{noted}
 use Rattle.checker_names.specs.Scope.{file_in}

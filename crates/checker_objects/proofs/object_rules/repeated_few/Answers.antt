@@ -1,6 +1,6 @@
 use Rattle.std.proofs.Common.{sym, ◌∙◌, take}
 use Rattle.std.specs.Prelude.{map}
-use Rattle.syntax_trees.specs.Tree.{name_tree}
+use Rattle.syntax_trees.specs.Views.{name_tree}
 use Rattle.checker_objects.proofs.NameTables.{few_next, repeated_end}
 use Rattle.checker_objects.proofs.object_rules.repeated_few.Goals as goal
 

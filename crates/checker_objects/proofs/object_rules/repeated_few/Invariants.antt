@@ -1,6 +1,6 @@
 use Rattle.std.proofs.Common.{◌≡◌, [], take, drop}
 use Rattle.std.specs.Prelude.{map}
-use Rattle.syntax_trees.specs.Tree.{name_tree}
+use Rattle.syntax_trees.specs.Views.{name_tree}
 use Rattle.checker_names.specs.Names.{repeated_breaches}
 use Rattle.checker_names.specs.Noted.{noted}
 use Rattle.checker_objects.proofs.object_rules.repeated_few.Given as goal

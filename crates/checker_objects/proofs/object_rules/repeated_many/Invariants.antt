@@ -1,6 +1,6 @@
 use Rattle.std.proofs.Common.{◌≡◌, ℕ, List, [], take, drop}
 use Rattle.std.specs.Prelude.{map}
-use Rattle.syntax_trees.specs.Tree.{name_tree}
+use Rattle.syntax_trees.specs.Views.{name_tree}
 use Rattle.checker_names.specs.Names.{in_table, local_from, repeated_breaches}
 use Rattle.checker_names.specs.Noted.{noted}
 use Rattle.checker_names.specs.Scope.{local_binding}

@@ -1,4 +1,4 @@
-use Rattle.syntax_directives.specs.Tree.{value_tree}
+use Rattle.syntax_directives.specs.Views.{value_tree}
 use Rattle.checker_names.specs.Scope.{file_in}
 use Rattle.checker_objects.specs.Objects.{word_of, value_breaches}
 use Rattle.checker_names.proofs.Mapped.{list_there, list_end, note_there, note_end}

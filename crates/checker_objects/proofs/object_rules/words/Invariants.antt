@@ -1,7 +1,7 @@
 use Rattle.std.proofs.Common.{◌≡◌, ◌++◌, drop}
 use Rattle.std.specs.Prelude.{map}
 use Rattle.std.specs.List.{flat_map}
-use Rattle.syntax_directives.specs.Tree.{value_tree}
+use Rattle.syntax_directives.specs.Views.{value_tree}
 use Rattle.checker_names.specs.Noted.{noted}
 use Rattle.checker_names.specs.Scope.{file_in}
 use Rattle.checker_objects.specs.Objects.{word_of, value_breaches}

@@ -1,5 +1,5 @@
 use Rattle.std.proofs.Common.{◌≡◌, length, arith}
-use Rattle.syntax_directives.specs.Tree.{object_tree}
+use Rattle.syntax_directives.specs.Views.{object_tree}
 use Rattle.checker_objects.proofs.Chains.{parents_next, standing_next, standing_end, trees_next, trees_end}
 use Rattle.checker_objects.proofs.standing.parents.Goals as goal
 

@@ -1,6 +1,6 @@
 use Rattle.std.proofs.Common.{◌≡◌, ◌++◌, length, drop}
 use Rattle.std.specs.Prelude.{map}
-use Rattle.syntax_directives.specs.Tree.{directive_tree}
+use Rattle.syntax_directives.specs.Views.{directive_tree}
 use Rattle.checker_names.specs.Noted.{noted}
 use Rattle.checker_objects.specs.Objects.{object_trees, standing_from, standing_breaches, parents_from, parents_of}
 use Rattle.checker_objects.proofs.standing.parents.Given as goal

@@ -1,6 +1,6 @@
 use Rattle.std.proofs.Common.{◌≡◌}
 use Rattle.std.specs.Prelude.{map}
-use Rattle.meaning.specs.Resolved.{object_of}
+use Rattle.meaning.specs.Views.{object_of}
 use Rattle.checker_objects.specs.Objects.{placed}
 use Rattle.checker_objects.proofs.Chains.{placing}
 use Rattle.checker_objects.proofs.standing.place.Given as goal

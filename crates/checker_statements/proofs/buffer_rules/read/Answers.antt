@@ -1,4 +1,4 @@
-use Rattle.syntax_trees.specs.Tree.{name_tree}
+use Rattle.syntax_trees.specs.Views.{name_tree}
 use Rattle.checker_names.specs.Scope.{seen_in}
 use Rattle.checker_statements.proofs.ReadNames.{read_walked}
 use Rattle.checker_statements.proofs.MadeActions.{made_read}

@@ -1,6 +1,6 @@
 use Rattle.std.proofs.Common.{ℕ, ap, ◌∙◌}
 use Rattle.std.specs.Option.{option_map}
-use Rattle.syntax_statement_parts.specs.Tree.{literal_tree}
+use Rattle.syntax_statement_parts.specs.Views.{literal_tree}
 use Rattle.meaning.specs.Resolved.{RangeOf}
 use Rattle.checker_names.specs.Scope.{seen_in}
 use Rattle.checker_values.proofs.Walks.{two, walked}

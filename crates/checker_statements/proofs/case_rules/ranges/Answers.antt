@@ -1,6 +1,6 @@
 use Rattle.std.proofs.Common.{sym, ◌∙◌}
 use Rattle.syntax_statement_parts.specs.declared.tree.Range.{Range}
-use Rattle.meaning.specs.Resolved.{range_of}
+use Rattle.meaning.specs.Views.{range_of}
 use Rattle.checker_names.specs.Scope.{seen_in}
 use Rattle.checker_names.proofs.Each.{each_there, each_end, value_there, value_end}
 use Rattle.checker_statements.specs.Walk.{own_range_breaches, resolved_range}

@@ -1,4 +1,4 @@
-use Rattle.meaning.specs.Resolved.{boxed_value}
+use Rattle.meaning.specs.Views.{boxed_value}
 use Rattle.checker_values.proofs.Walks.{before}
 use Rattle.checker_statements.proofs.simple_rules.boxed_whole.Goals as goal
 

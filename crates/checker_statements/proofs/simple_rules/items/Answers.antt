@@ -1,6 +1,6 @@
 use Rattle.std.proofs.Common.{sym, ◌∙◌}
 use Rattle.syntax_statement_parts.specs.declared.tree.PrintItem.{PrintItem}
-use Rattle.meaning.specs.Resolved.{printed_of}
+use Rattle.meaning.specs.Views.{printed_of}
 use Rattle.checker_names.specs.Scope.{seen_in}
 use Rattle.checker_names.proofs.Each.{each_next, each_end, value_next, value_end}
 use Rattle.checker_statements.specs.Walk.{own_item_breaches, resolved_item}

@@ -3,7 +3,7 @@ use Rattle.std.specs.Prelude.{map}
 use Rattle.std.specs.List.{flat_map}
 use Rattle.checker_names.specs.Noted.{noted}
 use Rattle.checker_names.specs.Scope.{seen_in}
-use Rattle.meaning.specs.Resolved.{printed_of}
+use Rattle.meaning.specs.Views.{printed_of}
 use Rattle.checker_statements.specs.Walk.{resolved_item, own_item_breaches}
 use Rattle.checker_statements.proofs.simple_rules.items.Given as goal
 

@@ -1,6 +1,6 @@
 use Rattle.std.specs.Prelude.{map}
 use Rattle.meaning.specs.Resolved as values
-use Rattle.meaning.specs.Resolved.{printed_of}
+use Rattle.meaning.specs.Views.{printed_of}
 use Rattle.checker_names.specs.Scope.{seen_in}
 use Rattle.checker_values.proofs.Walks.{one}
 use Rattle.checker_statements.proofs.MadeActions.{made_print}

@@ -1,9 +1,9 @@
 use Rattle.std.proofs.Common.{◌≡◌, refl, ap}
 use Rattle.std.specs.Prelude.{map}
-use Rattle.syntax_trees.specs.Tree.{expression_tree}
-use Rattle.syntax_statement_parts.specs.Tree.{flag_tree, item_tree}
+use Rattle.syntax_trees.specs.Views.{expression_tree}
+use Rattle.syntax_statement_parts.specs.Views.{flag_tree, item_tree}
 use Rattle.syntax_statements.specs.Tree as written
-use Rattle.syntax_statements.specs.Tree.{simple_tree}
+use Rattle.syntax_statements.specs.Views.{simple_tree}
 use Rattle.meaning.specs.declared.resolved.Value.TheVariants as made
 use Rattle.meaning.specs.Resolved as values
 use Rattle.checker_values.proofs.Walks.{leaf, made_number}

@@ -1,4 +1,4 @@
-use Rattle.meaning.specs.Resolved.{value_of}
+use Rattle.meaning.specs.Views.{value_of}
 use Rattle.checker_values.proofs.Walks.{before}
 use Rattle.checker_statements.proofs.simple_rules.whole.Goals as goal
 

@@ -1,13 +1,15 @@
 use Rattle.std.proofs.Common.{◌≡◌, Option, None, sym, ap, ◌∙◌}
 use Rattle.std.specs.Global.{Vec}
 use Rattle.std.specs.Prelude.{map}
-use Rattle.syntax_trees.specs.Tree.{name_tree, expression_tree}
+use Rattle.syntax_trees.specs.Views.{name_tree, expression_tree}
 use Rattle.syntax_statement_parts.specs.declared.tree.Range.{Range}
-use Rattle.syntax_statement_parts.specs.Tree.{loop_tree, over_in, over_where}
+use Rattle.syntax_statement_parts.specs.Tree.{over_in, over_where}
+use Rattle.syntax_statement_parts.specs.Views.{loop_tree}
 use Rattle.syntax_statements.specs.declared.tree.Statement.{Statement}
-use Rattle.syntax_statements.specs.Tree.{other_tree}
+use Rattle.syntax_statements.specs.Views.{other_tree}
 use Rattle.meaning.specs.Resolved as values
-use Rattle.meaning.specs.Resolved.{Value, Action, boxed_value, action_of, case_of, other_of}
+use Rattle.meaning.specs.Resolved.{Value, Action}
+use Rattle.meaning.specs.Views.{boxed_value, action_of, case_of, other_of}
 use Rattle.checker_names.specs.Scope.{seen_in}
 use Rattle.checker_names.proofs.Each.{each_next, each_end, value_next, value_end}
 use Rattle.checker_values.specs.Expressions.{variable_of_binding}

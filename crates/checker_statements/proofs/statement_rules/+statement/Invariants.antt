@@ -5,7 +5,7 @@ use Rattle.syntax_statements.specs.declared.tree.Statement.{size-Statement}
 use Rattle.syntax_statements.specs.declared.tree.Statement.TheViews.{weight-Statement-Switch-3}
 use Rattle.checker_names.specs.Noted.{noted}
 use Rattle.checker_names.specs.Scope.{seen_in}
-use Rattle.meaning.specs.Resolved.{action_of, case_of}
+use Rattle.meaning.specs.Views.{action_of, case_of}
 use Rattle.checker_statements.specs.StatementWalk.{resolved_statement, own_statement_breaches, resolved_case}
 use Rattle.checker_statements.specs.StatementWalk.{own_case_breaches}
 use Rattle.checker_statements.proofs.statement_rules.+statement.Given as goal

@@ -4,9 +4,10 @@ use Rattle.std.specs.Option.{option_map}
 use Rattle.syntax_trees.specs.declared.tree.Binary.{Binary}
 use Rattle.syntax_trees.specs.declared.tree.Expression.{Expression}
 use Rattle.syntax_trees.specs.Tree as trees
-use Rattle.syntax_trees.specs.Tree.{expression_tree, name_tree}
+use Rattle.syntax_trees.specs.Views.{expression_tree, name_tree}
 use Rattle.meaning.specs.Resolved as values
-use Rattle.meaning.specs.Resolved.{Value, value_of}
+use Rattle.meaning.specs.Resolved.{Value}
+use Rattle.meaning.specs.Views.{value_of}
 use Rattle.checker_names.specs.declared.binding.Binding.{Binding}
 use Rattle.checker_names.specs.Names.{name_of}
 use Rattle.checker_names.specs.Breaches.{at}

@@ -2,7 +2,7 @@ use Rattle.std.proofs.Common.{◌≡◌, ◌+◌, ◌*◌, max, take, drop}
 use Rattle.std.specs.Prelude.{map}
 use Rattle.std.specs.List.{flat_map}
 use Rattle.syntax_trees.specs.declared.tree.Expression.{size-Expression}
-use Rattle.meaning.specs.Resolved.{value_of}
+use Rattle.meaning.specs.Views.{value_of}
 use Rattle.checker_names.specs.Noted.{noted}
 use Rattle.checker_names.specs.Scope.{seen_in}
 use Rattle.checker_values.specs.Walk.{own_breaches, resolved, link_breaches, resolved_link, value_link}

@@ -1,6 +1,6 @@
 use Rattle.std.proofs.Common.{sym}
 use Rattle.std.specs.Prelude.{map}
-use Rattle.syntax_trees.specs.Tree.{expression_tree, name_tree, link}
+use Rattle.syntax_trees.specs.Views.{expression_tree, name_tree, link}
 use Rattle.checker_values.proofs.Shapes.{is_chain, is_property}
 use Rattle.checker_values.proofs.Forms.{chain_name, properties_name}
 use Rattle.checker_values.proofs.expression_rules.+name_of.Goals as goal

@@ -1,7 +1,8 @@
 use Rattle.std.proofs.Common.{ℕ, List, sym, ap, ◌∙◌}
 use Rattle.meaning.specs.declared.resolved.Value as code_value
 use Rattle.meaning.specs.Resolved as values
-use Rattle.meaning.specs.Resolved.{Value, value_of}
+use Rattle.meaning.specs.Resolved.{Value}
+use Rattle.meaning.specs.Views.{value_of, propertied}
 use Rattle.checker_values.specs.Expressions.{assigned}
 use Rattle.checker_values.proofs.Walks.{made_property, made_assign_property}
 use Rattle.checker_values.proofs.Forms.{last_assigned}
@@ -17,5 +18,5 @@ returns-in_ok-before-in-Some c =
     ∙ ap (λ (v : Value). values.assign_property v last right)
     (made_property c.args.object c.args.first c.pop.new.self)
     ∙ sym (last_assigned own c.args.first c.pop.new.self.items last right)
-    ∙ ap (λ (ns : List ℕ). assigned (values.propertied (values.property own c.args.first) ns) right)
+    ∙ ap (λ (ns : List ℕ). assigned (propertied (values.property own c.args.first) ns) right)
     (sym c.in-Some.ensures.items)

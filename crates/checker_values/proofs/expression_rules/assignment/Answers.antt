@@ -1,7 +1,8 @@
 use Rattle.std.proofs.Common.{sym, ap, ◌∙◌}
 use Rattle.std.specs.Prelude.{map}
 use Rattle.meaning.specs.declared.resolved.Variable.TheVariants as variables
-use Rattle.meaning.specs.Resolved.{Value, value_of}
+use Rattle.meaning.specs.Resolved.{Value}
+use Rattle.meaning.specs.Views.{value_of}
 use Rattle.checker_values.specs.Expressions.{assigned}
 use Rattle.checker_values.specs.Walk.{value_link}
 use Rattle.checker_values.proofs.Walks.{made_chain, made_assign}

@@ -1,7 +1,7 @@
 use Rattle.std.proofs.Common.{◌≡◌, ◌+◌, nat_le, sym, ap, ◌∙◌, arith}
 use Rattle.syntax_trees.specs.declared.tree.Expression.{Expression}
 use Rattle.syntax_trees.specs.Tree as trees
-use Rattle.syntax_trees.specs.Tree.{expression_tree, name_tree}
+use Rattle.syntax_trees.specs.Views.{expression_tree, name_tree}
 use Rattle.checker_values.specs.Temporaries.{need}
 use Rattle.checker_values.proofs.Shapes.{is_call, is_index, is_parenthesised, is_prefixed, is_step_before}
 use Rattle.checker_values.proofs.Shapes.{is_step_after, is_chain, is_compare, is_assign, is_relative_of, is_property}

@@ -1,6 +1,6 @@
 use Rattle.std.proofs.Common.{List, ℕ, length, sym, ap}
 use Rattle.std.specs.Prelude.{map}
-use Rattle.syntax_trees.specs.Tree.{expression_tree, name_tree, link}
+use Rattle.syntax_trees.specs.Views.{expression_tree, name_tree, link}
 use Rattle.checker_values.proofs.Shapes.{is_chain, is_property}
 use Rattle.checker_values.proofs.Needs.{chain_left, properties_left}
 use Rattle.checker_values.proofs.temporaries.+left_operands.Goals as goal

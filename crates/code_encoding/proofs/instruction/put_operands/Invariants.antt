@@ -1,6 +1,6 @@
 use Rattle.std.proofs.Common.{◌≡◌, ◌++◌, drop}
 use Rattle.std.specs.List.{flat_map}
-use Rattle.zcore.specs.Instruction.{operand_bytes}
+use Rattle.zcore.specs.InstructionBytes.{operand_bytes}
 use Rattle.code_encoding.proofs.instruction.put_operands.Given as goal
 
 abbrev pub invariant-loop-operand : goal.invariant-loop-operand

@@ -1,5 +1,5 @@
 use Rattle.std.proofs.Common.{◌≡◌, ◌-◌, length, map, drop, reverse}
-use Rattle.meaning.specs.Resolved.{range_of}
+use Rattle.meaning.specs.Views.{range_of}
 use Rattle.code_items.specs.Statements as statements
 use Rattle.code_items.specs.Code.{group_of}
 use Rattle.code_items.proofs.group.groups.Given as goal

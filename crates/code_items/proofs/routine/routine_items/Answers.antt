@@ -1,6 +1,6 @@
 use Rattle.std.proofs.Common.{List, [], ◌∷◌, ◌++◌, map, ap, ◌∙◌, subst}
 use Rattle.meaning.specs.declared.resolved.Action as code_action
-use Rattle.meaning.specs.Resolved.{action_of, actions_of}
+use Rattle.meaning.specs.Views.{action_of, actions_of}
 use Rattle.code_items.specs.Statements.{actions_items, return_true}
 use Rattle.code_values.specs.Code.{items_of}
 use Rattle.code_values.specs.Writing.{written_in, WritesBefore}

@@ -1,5 +1,5 @@
 use Rattle.std.proofs.Common.{◌-◌, ◌+◌, ◌*◌, max, [], length, map, drop}
-use Rattle.meaning.specs.Resolved.{action_of, actions_of}
+use Rattle.meaning.specs.Views.{action_of, actions_of}
 use Rattle.code_values.specs.Writing.{written_in, WritesBefore}
 use Rattle.code_items.specs.Statements.{actions_items}
 use Rattle.code_items.specs.Writing.{exits_of, LeavesCases}

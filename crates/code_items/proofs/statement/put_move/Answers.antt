@@ -1,4 +1,4 @@
-use Rattle.meaning.specs.Resolved.{value_of}
+use Rattle.meaning.specs.Views.{value_of}
 use Rattle.code_items.proofs.Actions.{move_more}
 use Rattle.code_items.proofs.statement.put_move.Goals as goal
 

@@ -1,5 +1,5 @@
 use Rattle.std.specs.Prelude.{map}
-use Rattle.meaning.specs.Resolved.{printed_of}
+use Rattle.meaning.specs.Views.{printed_of}
 use Rattle.code_items.proofs.Actions.{print_return_more}
 use Rattle.code_items.proofs.statement.put_print_return.Goals as goal
 

@@ -1,5 +1,5 @@
 use Rattle.std.proofs.Common.{◌≡◌, ℕ, ◌+◌, ◌-◌, ◌<◌, length, map, drop, subst, arith}
-use Rattle.meaning.specs.Resolved.{printed_of}
+use Rattle.meaning.specs.Views.{printed_of}
 use Rattle.code_values.specs.Writing.{written_in, WritesBefore}
 use Rattle.code_items.specs.Statements.{prints_items}
 use Rattle.code_items.proofs.Actions.{printed_next}

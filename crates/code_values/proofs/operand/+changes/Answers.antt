@@ -2,7 +2,7 @@ use Rattle.std.proofs.Common.{sym, ap, ◌∙◌, List}
 use Rattle.std.specs.Prelude.{◌||◌, map}
 use Rattle.syntax_trees.specs.declared.tree.Binary.{Binary}
 use Rattle.meaning.specs.declared.resolved.Value as code_value
-use Rattle.meaning.specs.Resolved.{value_of}
+use Rattle.meaning.specs.Views.{value_of}
 use Rattle.code_values.specs.Items as items
 use Rattle.code_values.specs.Writing.{change_links, link_of}
 use Rattle.code_values.proofs.Trees.{chain_changes, property_changes}

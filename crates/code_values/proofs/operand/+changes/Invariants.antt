@@ -1,5 +1,5 @@
 use Rattle.std.proofs.Common.{◌≡◌, map, drop}
-use Rattle.meaning.specs.Resolved.{value_of, values_of}
+use Rattle.meaning.specs.Views.{value_of, values_of}
 use Rattle.code_values.specs.Items as items
 use Rattle.code_values.specs.Writing.{change_links, link_of}
 use Rattle.code_values.proofs.operand.+changes.Given as goal

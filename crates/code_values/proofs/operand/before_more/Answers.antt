@@ -1,5 +1,5 @@
 use Rattle.std.proofs.Common.{sym, ap, ◌∙◌}
-use Rattle.meaning.specs.Resolved.{value_of}
+use Rattle.meaning.specs.Views.{value_of}
 use Rattle.code_values.specs.Code.{as_operand}
 use Rattle.code_values.specs.Writing.{more_in}
 use Rattle.code_values.proofs.Operands.{before_changed, before_kept}

@@ -1,5 +1,6 @@
 use Rattle.std.proofs.Common.{sym, ap, ◌∙◌}
-use Rattle.meaning.specs.Resolved.{none, more, value_of}
+use Rattle.meaning.specs.Resolved.{none, more}
+use Rattle.meaning.specs.Views.{value_of}
 use Rattle.code_values.specs.Code.{as_operand}
 use Rattle.code_values.proofs.Operands.{before_changed, before_kept}
 use Rattle.code_values.proofs.operand.first_of.Goals as goal

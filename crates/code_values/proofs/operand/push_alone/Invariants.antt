@@ -1,5 +1,5 @@
 use Rattle.std.proofs.Common.{◌≡◌, ◌++◌, map, drop}
-use Rattle.meaning.specs.Resolved.{value_of, values_of}
+use Rattle.meaning.specs.Views.{value_of, values_of}
 use Rattle.code_values.specs.Code.{as_operands}
 use Rattle.code_values.specs.Writing.{alones}
 use Rattle.code_values.proofs.operand.push_alone.Given as goal

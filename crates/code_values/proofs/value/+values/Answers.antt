@@ -1,5 +1,5 @@
 use Rattle.std.proofs.Common.{List, map, ap, ◌∙◌}
-use Rattle.meaning.specs.Resolved.{value_of, values_of}
+use Rattle.meaning.specs.Views.{value_of, values_of}
 use Rattle.code_values.specs.Code.{as_destination, as_operands}
 use Rattle.code_values.specs.Items.{are_more_pushed}
 use Rattle.code_values.specs.declared.item.Operand as code_operand

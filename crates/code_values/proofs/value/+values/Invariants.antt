@@ -1,6 +1,6 @@
 use Rattle.std.proofs.Common.{◌≡◌, ◌-◌, ◌+◌, ◌*◌, max, [], length, map, drop}
 use Rattle.meaning.specs.declared.resolved.Value.{size-Value}
-use Rattle.meaning.specs.Resolved.{value_of, values_of}
+use Rattle.meaning.specs.Views.{value_of, values_of}
 use Rattle.code_values.specs.Items.{operands_of, is_any_pushed, operands_items, arguments_items}
 use Rattle.code_values.specs.Writing.{written_in, link_of, WritesBefore}
 use Rattle.code_values.specs.ValueWriting.{folded_items, ReducesLinks}

@@ -1,6 +1,6 @@
 use Rattle.std.proofs.Common.{◌≡◌, ◌+◌, ap, refl, ◌∙◌, arith}
 use Rattle.meaning.specs.Places.{folded, table_size}
-use Rattle.meaning.specs.Resolved.{object_of}
+use Rattle.meaning.specs.Views.{object_of}
 use Rattle.meaning.proofs.Folding.{objects_total, object_part, objects_more, fold_part, sum_step, sum_end}
 use Rattle.meaning.proofs.places.objects_size.Goals as goal
 

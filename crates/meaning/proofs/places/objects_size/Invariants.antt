@@ -2,7 +2,7 @@ use Rattle.std.proofs.Common.{◌≡◌, ◌<◌, ◌+◌, drop}
 use Rattle.std.specs.Prelude.{map}
 use Rattle.meaning.specs.Places as spec
 use Rattle.meaning.specs.Places.{folded}
-use Rattle.meaning.specs.Resolved.{object_of}
+use Rattle.meaning.specs.Views.{object_of}
 use Rattle.meaning.proofs.places.objects_size.Given as goal
 
 abbrev pub invariant-loop-object : goal.invariant-loop-object

@@ -1,6 +1,6 @@
 use Rattle.std.proofs.Common.{length, map, ap, refl, ◌∙◌}
 use Rattle.meaning.specs.Places.{folded, text_size, total}
-use Rattle.meaning.specs.Resolved.{program_of}
+use Rattle.meaning.specs.Views.{program_of}
 use Rattle.meaning.proofs.Folding.{objects_total, dictionary_is, texts_folded, routines_are}
 use Rattle.meaning.proofs.places.tables_size.Goals as goal
 

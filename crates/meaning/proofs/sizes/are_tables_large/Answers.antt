@@ -1,7 +1,7 @@
 use Rattle.std.proofs.Common.{ap, ◌∙◌}
 use Rattle.std.specs.Prelude.{nat_lt}
 use Rattle.meaning.specs.Places.{routines_place}
-use Rattle.meaning.specs.Resolved.{program_of}
+use Rattle.meaning.specs.Views.{program_of}
 use Rattle.meaning.proofs.Folding.{fold_over}
 use Rattle.meaning.proofs.sizes.are_tables_large.Goals as goal
 

@@ -1,7 +1,7 @@
 use Rattle.std.proofs.Common.{◌≡◌, ◌<◌, ◌+◌, drop}
 use Rattle.std.specs.Prelude.{map}
 use Rattle.meaning.specs.Places.{folded, total, property_size}
-use Rattle.meaning.specs.Resolved.{property_of}
+use Rattle.meaning.specs.Views.{property_of}
 use Rattle.meaning.proofs.table_sizes.properties_size.Given as goal
 
 abbrev pub invariant-loop-property : goal.invariant-loop-property

@@ -1,6 +1,6 @@
 use Rattle.std.proofs.Common.{◌≡◌, ◌+◌, ◌*◌, ap, ◌∙◌, arith}
 use Rattle.meaning.specs.Places.{folded, table_size}
-use Rattle.meaning.specs.Resolved.{object_of}
+use Rattle.meaning.specs.Views.{object_of}
 use Rattle.meaning.proofs.Folding.{properties_total, fold_part}
 use Rattle.meaning.proofs.table_sizes.table_size.Goals as goal
 

@@ -1,5 +1,5 @@
 use Rattle.std.proofs.Common.{◌∙◌}
-use Rattle.syntax_statement_parts.specs.Tree.{part_tree}
+use Rattle.syntax_statement_parts.specs.Views.{part_tree}
 use Rattle.source_temporaries.proofs.Heading.{parts_fit}
 use Rattle.source_temporaries.proofs.needs.heading_fits.Goals as goal
 

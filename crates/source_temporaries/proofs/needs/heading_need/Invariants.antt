@@ -1,6 +1,6 @@
 use Rattle.std.proofs.Common.{◌-◌}
-use Rattle.syntax_statement_parts.specs.Tree.{heading_tree}
-use Rattle.checker_statements.specs.Statements.{need_of_heading}
+use Rattle.syntax_statement_parts.specs.Views.{heading_tree}
+use Rattle.checker_statements.specs.Walk.{need_of_heading}
 use Rattle.source_temporaries.proofs.Raising.{IsOnTheWay}
 use Rattle.source_temporaries.proofs.needs.heading_need.Given as goal
 

@@ -1,5 +1,5 @@
 use Rattle.std.proofs.Common.{◌-◌}
-use Rattle.syntax_trees.specs.Tree.{expression_tree}
+use Rattle.syntax_trees.specs.Views.{expression_tree}
 use Rattle.checker_values.specs.Temporaries.{need}
 use Rattle.source_temporaries.proofs.Raising.{IsOnTheWay}
 use Rattle.source_temporaries.proofs.needs.whole_need.Given as goal

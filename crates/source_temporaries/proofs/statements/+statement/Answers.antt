@@ -1,9 +1,9 @@
 use Rattle.std.proofs.Common.{List, ◌∷◌, sym, ap, ◌∙◌}
 use Rattle.std.specs.List.{flat_map}
-use Rattle.syntax_trees.specs.Tree.{expression_tree}
-use Rattle.syntax_statement_parts.specs.Tree.{loop_tree}
+use Rattle.syntax_trees.specs.Views.{expression_tree}
+use Rattle.syntax_statement_parts.specs.Views.{loop_tree}
 use Rattle.syntax_statements.specs.declared.tree.Statement.{Statement}
-use Rattle.syntax_statements.specs.Tree.{statement_tree, other_tree}
+use Rattle.syntax_statements.specs.Views.{statement_tree, other_tree}
 use Rattle.checker_values.specs.Temporaries.{need}
 use Rattle.checker_statements.proofs.Shapes.{is_block_statement, is_if_statement}
 use Rattle.checker_statements.proofs.Shapes.{is_if_else_statement, is_while_statement, is_do_statement}

@@ -1,7 +1,7 @@
 use Rattle.std.proofs.Common.{List, None, sym, ap, ◌∙◌}
 use Rattle.std.specs.List.{flat_map}
 use Rattle.syntax_directives.specs.declared.tree.Directive.{Directive}
-use Rattle.syntax.specs.Tree.{program_tree}
+use Rattle.syntax.specs.Views.{program_tree}
 use Rattle.source_temporaries.specs.Needs.{program_needs}
 use Rattle.source_temporaries.specs.Walk.{raised_all, own_directive_needs}
 use Rattle.source_temporaries.proofs.Each.{directives_need}

@@ -4,7 +4,7 @@ use Rattle.syntax_lexer.specs.Placed.{nowhere}
 use Rattle.syntax_lexer.specs.Token.{lexemes}
 use Rattle.syntax_lexer.specs.Tokens.{Lexes, EndsOnce}
 use Rattle.syntax_lexer.specs.Results.{source_tokens}
-use Rattle.syntax.specs.Tree.{program_tree}
+use Rattle.syntax.specs.Views.{program_tree}
 use Rattle.syntax.proofs.Placing.{unfit_as, deep_less}
 use Rattle.story.specs.Refused.{Refuses}
 use Rattle.story.proofs.Compiling.{is_tree, unparsed, unchecked, too_large, answered, fits, compiled}

@@ -3,7 +3,7 @@ use Rattle.syntax_lexer.specs.FaultNumbers.{no_memory}
 use Rattle.syntax_lexer.specs.Token.{lexemes}
 use Rattle.syntax_lexer.specs.Tokens.{Lexes, EndsOnce}
 use Rattle.syntax_lexer.specs.Results.{source_tokens}
-use Rattle.syntax.specs.Tree.{program_tree}
+use Rattle.syntax.specs.Views.{program_tree}
 use Rattle.story.proofs.Compiling.{is_tree, fits}
 use Rattle.source_temporaries.specs.Needs.{IsFirstGreatest, program_needs}
 use Rattle.story_figures.specs.Figures.{attributes_in, counts_in}

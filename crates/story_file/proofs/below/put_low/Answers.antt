@@ -2,7 +2,7 @@ use Rattle.std.proofs.Common.{◌≡◌, ◌++◌, ℕ, List, map, arith, ap, re
 use Rattle.std.specs.Global.{Vec}
 use Rattle.ztext.specs.Text.{encoded}
 use Rattle.meaning.specs.declared.places.Places.{Places}
-use Rattle.meaning.specs.Resolved.{program_of}
+use Rattle.meaning.specs.Views.{program_of}
 use Rattle.story_file.specs.Layout.{dictionary_bytes, global_bytes}
 use Rattle.story_file.specs.Written.{bytes_in}
 use Rattle.story_file.proofs.AbbreviationTables.{sizes_total, table_is, texts_are}

@@ -1,5 +1,5 @@
 use Rattle.std.proofs.Common.{◌≡◌, ◌++◌, map, drop}
-use Rattle.meaning.specs.Resolved.{property_of}
+use Rattle.meaning.specs.Views.{property_of}
 use Rattle.story_file.proofs.objects.copied.Given as goal
 
 abbrev pub invariant-loop-property : goal.invariant-loop-property

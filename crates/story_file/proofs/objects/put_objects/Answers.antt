@@ -1,5 +1,5 @@
 use Rattle.std.proofs.Common.{ap}
-use Rattle.meaning.specs.Resolved.{program_of}
+use Rattle.meaning.specs.Views.{program_of}
 use Rattle.story_file.proofs.ObjectRows.{placed_in}
 use Rattle.story_file.proofs.ObjectTables.{are_rows, have_short_names, rows_are, rows_end}
 use Rattle.story_file.proofs.objects.put_objects.Goals as goal

@@ -1,6 +1,6 @@
 use Rattle.std.proofs.Common.{map, arith}
 use Rattle.std.proofs.lemmas.List.{length-map}
-use Rattle.meaning.specs.Resolved.{object_of}
+use Rattle.meaning.specs.Views.{object_of}
 use Rattle.story_file.proofs.ObjectRows.{rows_step}
 use Rattle.story_file.proofs.objects.rows.Goals as goal
 

@@ -1,5 +1,5 @@
 use Rattle.std.proofs.Common.{◌≡◌, ◌+◌, ◌++◌, map, drop}
-use Rattle.meaning.specs.Resolved.{object_of}
+use Rattle.meaning.specs.Views.{object_of}
 use Rattle.code_object_memory.specs.Rows.{rows_from, rows_of, view_of}
 use Rattle.story_file.proofs.objects.rows.Given as goal
 

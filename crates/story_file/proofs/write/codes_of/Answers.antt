@@ -1,6 +1,6 @@
 use Rattle.std.proofs.Common.{◌<◌, ◌++◌, [], ◌∷◌, length, take, arith, ap, sym, ◌∙◌}
 use Rattle.std.proofs.lemmas.List.{length-map}
-use Rattle.meaning.specs.Resolved.{program_of, routine_of}
+use Rattle.meaning.specs.Views.{program_of, routine_of}
 use Rattle.code.specs.HeldProgram.{sizes_of}
 use Rattle.story_file.proofs.Laid.{code_next, codes_in}
 use Rattle.story_file.proofs.write.codes_of.Goals as goal

@@ -1,5 +1,5 @@
 use Rattle.std.proofs.Common.{◌≡◌, take}
-use Rattle.meaning.specs.Resolved.{program_of}
+use Rattle.meaning.specs.Views.{program_of}
 use Rattle.story_file.proofs.Laid.{codes_in}
 use Rattle.story_file.proofs.write.codes_of.Given as goal
 

@@ -1,6 +1,6 @@
 use Rattle.std.proofs.Common.{◌≡◌, ◌++◌, ap, sym, subst, ◌∙◌, arith}
 use Rattle.meaning.specs.declared.places.Places.{Places}
-use Rattle.meaning.specs.Resolved.{program_of}
+use Rattle.meaning.specs.Views.{program_of}
 use Rattle.story_file.specs.Layout.{body_of, header_of}
 use Rattle.story_file.specs.Written.{AreWords}
 use Rattle.story_file.proofs.Laid.{body_within, story_laid}

@@ -3,7 +3,7 @@ use Rattle.syntax_parsing.specs.Returned.{ahead}
 use Rattle.syntax_parsing.specs.Parse.{repeated}
 use Rattle.syntax_parsing.proofs.Loops.{joined}
 use Rattle.syntax_statement_parts.specs.Parse.{begins_value}
-use Rattle.syntax_directives.specs.Tree.{value_tree}
+use Rattle.syntax_directives.specs.Views.{value_tree}
 use Rattle.syntax_directives.specs.Parse as spec
 use Rattle.syntax_directives.proofs.arrays.values.Given as goal
 

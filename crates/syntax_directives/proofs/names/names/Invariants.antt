@@ -1,5 +1,5 @@
 use Rattle.std.proofs.Common.{◌≡◌, map, ◌-◌}
-use Rattle.syntax_trees.specs.Tree.{name_tree}
+use Rattle.syntax_trees.specs.Views.{name_tree}
 use Rattle.syntax_parsing.specs.Returned.{ahead}
 use Rattle.syntax_parsing.specs.Parse.{repeated}
 use Rattle.syntax_parsing.proofs.Loops.{joined}

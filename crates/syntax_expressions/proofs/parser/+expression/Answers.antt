@@ -1,7 +1,7 @@
 use Rattle.std.proofs.Common.{sym, ◌∙◌, arith, ◌∷◌}
 use Rattle.syntax_lexer.specs.declared.token.Sign.TheVariants as s
 use Rattle.syntax_lexer.specs.declared.token.Word.TheVariants as w
-use Rattle.syntax_trees.specs.Tree.{expression_tree}
+use Rattle.syntax_trees.specs.Views.{expression_tree}
 use Rattle.syntax_parsing.specs.Parse.{is_sign, is_word}
 use Rattle.syntax_parsing.specs.Returned.{ahead}
 use Rattle.syntax_parsing.proofs.Loops.{further_out, further_done, further_more, further_fails, list_fails, list_begins}

@@ -2,7 +2,8 @@ use Rattle.std.proofs.Common.{◌≡◌, ℕ, ◌+◌, ◌-◌, ◌*◌, ◌∷�
 use Rattle.std.specs.Prelude.{map}
 use Rattle.syntax_lexer.specs.declared.token.Sign.TheVariants as s
 use Rattle.syntax_lexer.specs.declared.token.Word.TheVariants as w
-use Rattle.syntax_trees.specs.Tree.{expression_tree, chained, binary, link}
+use Rattle.syntax_trees.specs.Tree.{binary}
+use Rattle.syntax_trees.specs.Views.{expression_tree, chained, link}
 use Rattle.syntax_parsing.specs.Parse as reading
 use Rattle.syntax_parsing.specs.Returned.{ahead}
 use Rattle.syntax_parsing.proofs.Loops.{joined}

@@ -1,6 +1,7 @@
 use Rattle.std.proofs.Common.{sym, ◌∙◌, arith, inl, inr}
 use Rattle.std.proofs.lemmas.Result.{err_from_is_err_and}
-use Rattle.syntax_trees.specs.Tree.{name_tree, expression_tree, property}
+use Rattle.syntax_trees.specs.Tree.{property}
+use Rattle.syntax_trees.specs.Views.{name_tree, expression_tree}
 use Rattle.syntax_parsing.specs.Returned.{ahead}
 use Rattle.syntax_expressions.proofs.Built.{properties_built}
 use Rattle.syntax_expressions.proofs.Properties.{properties_none, properties_begin, properties_begin_fails}

@@ -1,5 +1,6 @@
 use Rattle.std.proofs.Common.{◌≡◌, ◌-◌, length}
-use Rattle.syntax_trees.specs.Tree.{expression_tree, name_tree, property, propertied}
+use Rattle.syntax_trees.specs.Tree.{property}
+use Rattle.syntax_trees.specs.Views.{expression_tree, name_tree, propertied}
 use Rattle.syntax_parsing.specs.Returned.{ahead}
 use Rattle.syntax_expressions.specs.Parse as spec
 use Rattle.syntax_expressions.proofs.parts.properties.Given as goal

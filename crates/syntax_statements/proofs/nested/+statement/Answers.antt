@@ -6,7 +6,7 @@ use Rattle.syntax_parsing.proofs.Loops.{repeated_out, repeated_done, repeated_mo
 use Rattle.syntax_parsing.proofs.Loops.{as_long_fails}
 use Rattle.syntax_statement_parts.specs.Parse.{begins_value}
 use Rattle.syntax_statements.specs.Nesting.{begins_statement, begins_in_case}
-use Rattle.syntax_statements.specs.Tree.{statement_tree, case_tree}
+use Rattle.syntax_statements.specs.Views.{statement_tree, case_tree}
 use Rattle.syntax_statements.specs.Parse.{one_case, statement, inside, braces, bodies}
 use Rattle.syntax_statements.proofs.Cases.{block_behind, block_read, repetition_made, iteration_made, traversal_made}
 use Rattle.syntax_statements.proofs.Cases.{otherwise_default, otherwise_made, otherwise_uncoloned, selection_made}

@@ -4,7 +4,7 @@ use Rattle.syntax_parsing.specs.Parse as reading
 use Rattle.syntax_parsing.proofs.Loops.{joined}
 use Rattle.syntax_statement_parts.specs.Parse as parts
 use Rattle.syntax_statements.specs.Nesting.{begins_statement, begins_in_case}
-use Rattle.syntax_statements.specs.Tree.{statement_tree, case_tree}
+use Rattle.syntax_statements.specs.Views.{statement_tree, case_tree}
 use Rattle.syntax_statements.specs.Parse as spec
 use Rattle.syntax_statements.proofs.nested.+statement.Given as goal
 

@@ -1,7 +1,7 @@
 use Rattle.std.specs.Prelude.{map}
-use Rattle.syntax_trees.specs.Tree.{expression_tree}
+use Rattle.syntax_trees.specs.Views.{expression_tree}
 use Rattle.syntax_parsing.specs.Returned.{ahead}
-use Rattle.syntax_statements.specs.Tree.{case_tree, other_tree}
+use Rattle.syntax_statements.specs.Views.{case_tree, other_tree}
 use Rattle.syntax_statements.proofs.Shapes.{is_switch}
 use Rattle.syntax_statements.proofs.Cases.{switch_made}
 use Rattle.syntax_statements.proofs.parts.switch_on.Goals as goal

@@ -1,5 +1,6 @@
 use Rattle.std.proofs.Common.{◌≡◌, map, take, drop}
-use Rattle.ztext.specs.Abbreviations.{most_abbreviations, longer, longest_from, longest}
+use Rattle.ztext.specs.Abbreviations.{longer, longest_from, longest}
+use Rattle.ztext.specs.Bytes.{most_abbreviations}
 use Rattle.ztext.specs.TextParts.{found_of}
 use Rattle.ztext.proofs.abbreviations.longest.Given as goal
 

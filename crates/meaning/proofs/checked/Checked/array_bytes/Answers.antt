@@ -1,6 +1,6 @@
 use Rattle.std.proofs.Common.{ap, ◌∙◌}
 use Rattle.std.specs.List.{concat}
-use Rattle.meaning.specs.Resolved.{CheckedProgram}
+use Rattle.meaning.specs.Views.{CheckedProgram}
 use Rattle.meaning.proofs.Cutting.{cut_all}
 use Rattle.meaning.proofs.checked.Checked.array_bytes.Goals as goal
 

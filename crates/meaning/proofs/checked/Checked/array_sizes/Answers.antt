@@ -1,6 +1,6 @@
 use Rattle.std.proofs.Common.{ap, ◌∙◌, length}
 use Rattle.std.specs.Prelude.{map}
-use Rattle.meaning.specs.Resolved.{CheckedProgram}
+use Rattle.meaning.specs.Views.{CheckedProgram}
 use Rattle.meaning.proofs.Cutting.{cut_sizes}
 use Rattle.meaning.proofs.checked.Checked.array_sizes.Goals as goal
 
