@@ -21,10 +21,10 @@ use Rattle.checker_names.specs.declared.counts.Counts.{Counts}
 use Rattle.checker_names.specs.Keys.{keys_of}
 use Rattle.checker_names.specs.Names.{Table, File, key_of, same_key, in_table, first_table, no_counts, with_directive}
 use Rattle.checker_names.specs.Names.{counts_after, table_of, look_up, Seen, seen_from}
+use Rattle.checker_names.specs.Names.{twice, has_name}
 use Rattle.checker_values.specs.Literals.{initial_breaches, named_breaches, initial_value}
 use Rattle.checker_statements.specs.Statements.{statements_breaches, resolve_statements}
 use Rattle.checker_arrays.specs.Arrays.{array_breaches, arrays_of}
-use Rattle.checker_names.specs.Names.{twice, has_name}
 use Rattle.checker_objects.specs.Objects.{object_breaches, standing_breaches, all_defaults, object_trees, objects_of}
 use Rattle.zcore.specs.Layout.{attribute_count, most_locals}
 
@@ -87,29 +87,17 @@ main_key = key_of (codes "main")
 -- the name of the first routine with a key
 abbrev pub first_routine : List DirectiveTree → List ℕ → Option NameTree
 first_routine [] key = None
-first_routine (global n v ∷ ds) key = first_routine ds key
-first_routine (constant n v ∷ ds) key = first_routine ds key
-first_routine (array a ∷ ds) key = first_routine ds key
-first_routine (attribute n ∷ ds) key = first_routine ds key
-first_routine (property n v ∷ ds) key = first_routine ds key
-first_routine (object o ∷ ds) key = first_routine ds key
 first_routine (routine r ∷ ds) key = if same_key (key_of r.name.text) key then Some r.name else first_routine ds key
+first_routine (_ ∷ ds) key = first_routine ds key
 
 abbrev pub position_or : Position → Option NameTree → Position
 position_or end None = end
 position_or end (Some name) = name.position
 
 abbrev pub main_breaches : Position → Option NameTree → Option Binding → List Breach
-main_breaches end name None = at end no_proper_main
-main_breaches end name (Some (bindings.Constant n)) = at end no_proper_main
-main_breaches end name (Some (bindings.Global g)) = at end no_proper_main
-main_breaches end name (Some (bindings.Array a kind)) = at end no_proper_main
 main_breaches end name (Some (bindings.Routine r locals)) =
     if nat_le 1 locals then at (position_or end name) no_proper_main else []
-main_breaches end name (Some (bindings.Attribute a)) = at end no_proper_main
-main_breaches end name (Some (bindings.Property n)) = at end no_proper_main
-main_breaches end name (Some (bindings.Object o)) = at end no_proper_main
-main_breaches end name (Some (bindings.Local l)) = at end no_proper_main
+main_breaches end name _ = at end no_proper_main
 
 -- Abbreviations: E24 from the 97th on; else E33 at one of fewer than two characters, or that stands earlier
 
@@ -147,23 +135,13 @@ program_breaches p =
 abbrev pub globals_of : File → List DirectiveTree → List ℕ
 globals_of file [] = []
 globals_of file (global n v ∷ ds) = initial_value file v ∷ globals_of file ds
-globals_of file (constant n v ∷ ds) = globals_of file ds
-globals_of file (attribute n ∷ ds) = globals_of file ds
-globals_of file (property n v ∷ ds) = globals_of file ds
-globals_of file (object o ∷ ds) = globals_of file ds
-globals_of file (array a ∷ ds) = globals_of file ds
-globals_of file (routine r ∷ ds) = globals_of file ds
+globals_of file (_ ∷ ds) = globals_of file ds
 
 -- the defaults of the properties that are defined
 abbrev pub defaults_in : File → List DirectiveTree → List ℕ
 defaults_in file [] = []
-defaults_in file (global n v ∷ ds) = defaults_in file ds
-defaults_in file (constant n v ∷ ds) = defaults_in file ds
-defaults_in file (array a ∷ ds) = defaults_in file ds
-defaults_in file (attribute n ∷ ds) = defaults_in file ds
 defaults_in file (property n v ∷ ds) = initial_value file v % 65536 ∷ defaults_in file ds
-defaults_in file (object o ∷ ds) = defaults_in file ds
-defaults_in file (routine r ∷ ds) = defaults_in file ds
+defaults_in file (_ ∷ ds) = defaults_in file ds
 
 -- where a routine sees so much of the file
 abbrev pub resolve_body : Seen → RoutineTree → RoutineOf
@@ -174,24 +152,12 @@ resolve_routine file r = resolve_body (seen_from file r.locals) r
 
 abbrev pub routines_of : File → List DirectiveTree → List RoutineOf
 routines_of file [] = []
-routines_of file (global n v ∷ ds) = routines_of file ds
-routines_of file (constant n v ∷ ds) = routines_of file ds
-routines_of file (attribute n ∷ ds) = routines_of file ds
-routines_of file (property n v ∷ ds) = routines_of file ds
-routines_of file (object o ∷ ds) = routines_of file ds
-routines_of file (array a ∷ ds) = routines_of file ds
 routines_of file (routine r ∷ ds) = resolve_routine file r ∷ routines_of file ds
+routines_of file (_ ∷ ds) = routines_of file ds
 
 abbrev pub routine_number : Option Binding → ℕ
-routine_number None = 0
-routine_number (Some (bindings.Constant n)) = 0
-routine_number (Some (bindings.Global g)) = 0
-routine_number (Some (bindings.Array a kind)) = 0
 routine_number (Some (bindings.Routine r locals)) = r
-routine_number (Some (bindings.Attribute a)) = 0
-routine_number (Some (bindings.Property n)) = 0
-routine_number (Some (bindings.Object o)) = 0
-routine_number (Some (bindings.Local l)) = 0
+routine_number _ = 0
 
 -- with the names of a file and these numbers of keys
 unfoldable pub resolve_with : File → ProgramTree → ProgramOf
@@ -220,10 +186,5 @@ resolve_program p = resolve_with (file_of p) p
 -- the routines of a file in order
 abbrev pub routine_trees : List DirectiveTree → List RoutineTree
 routine_trees [] = []
-routine_trees (global n v ∷ ds) = routine_trees ds
-routine_trees (constant n v ∷ ds) = routine_trees ds
-routine_trees (attribute n ∷ ds) = routine_trees ds
-routine_trees (property n v ∷ ds) = routine_trees ds
-routine_trees (object o ∷ ds) = routine_trees ds
-routine_trees (array a ∷ ds) = routine_trees ds
 routine_trees (routine r ∷ ds) = r ∷ routine_trees ds
+routine_trees (_ ∷ ds) = routine_trees ds

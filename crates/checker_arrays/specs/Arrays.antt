@@ -10,8 +10,7 @@ use Rattle.syntax_trees.specs.declared.tree.Width.{Width}
 use Rattle.syntax_trees.specs.declared.tree.Width.TheVariants as widths
 use Rattle.syntax_directives.specs.declared.tree.ArrayKind.{ArrayKind}
 use Rattle.syntax_directives.specs.declared.tree.ArrayKind.TheVariants as kinds
-use Rattle.syntax_directives.specs.Tree.{ValueTree, ArrayTree, DirectiveTree, global, constant, array, attribute}
-use Rattle.syntax_directives.specs.Tree.{property, object, routine}
+use Rattle.syntax_directives.specs.Tree.{ValueTree, ArrayTree, DirectiveTree, array}
 use Rattle.checker_names.specs.declared.breach.Breach.{Breach}
 use Rattle.checker_names.specs.Breaches.{at}
 use Rattle.checker_names.specs.declared.known.Known.{Known}
@@ -38,10 +37,8 @@ array_size kinds.Table n = 2 + 2 * n
 
 -- byte 0 of a `string` can tell the number of its entries
 abbrev pub is_told : ArrayKind → ℕ → Bool
-is_told kinds.Bytes n = true
-is_told kinds.Words n = true
 is_told kinds.String n = nat_le n 255
-is_told kinds.Table n = true
+is_told _ n = true
 
 -- An array may have n entries: at least one, at most 32,000 bytes in all, and a `string` at most 255. A negative size
 -- is a word from 32,768 on.
@@ -119,10 +116,5 @@ array_bytes file a = bytes_of a.kind (entries_of file a.kind a.values)
 -- the arrays of a file, in order of definition
 abbrev pub arrays_of : File → List DirectiveTree → List (List ℕ)
 arrays_of file [] = []
-arrays_of file (global n v ∷ ds) = arrays_of file ds
-arrays_of file (constant n v ∷ ds) = arrays_of file ds
-arrays_of file (attribute n ∷ ds) = arrays_of file ds
-arrays_of file (property n v ∷ ds) = arrays_of file ds
-arrays_of file (object o ∷ ds) = arrays_of file ds
 arrays_of file (array a ∷ ds) = array_bytes file a ∷ arrays_of file ds
-arrays_of file (routine r ∷ ds) = arrays_of file ds
+arrays_of file (_ ∷ ds) = arrays_of file ds

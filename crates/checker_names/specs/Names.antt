@@ -32,47 +32,17 @@ key_of name = padded 32 name
 
 -- the name that an expression is, parentheses apart
 abbrev pub name_of : ExpressionTree → Option NameTree
-name_of (trees.constant n) = None
-name_of (trees.word s) = None
 name_of (trees.named n) = Some n
-name_of (trees.call n es) = None
-name_of (trees.index n width e) = None
 name_of (trees.parenthesised e) = name_of e
-name_of (trees.relative_of r e) = None
-name_of (trees.property e n) = None
-name_of (trees.property_length e n) = None
-name_of (trees.property_entry e n i) = None
-name_of (trees.prefixed op e) = None
-name_of (trees.step_before op p e) = None
-name_of (trees.step_after e op p) = None
-name_of (trees.binary op a b) = None
-name_of (trees.compare op a b) = None
-name_of (trees.equal op a bs) = None
-name_of (trees.contained op a b) = None
-name_of (trees.tested test e n) = None
-name_of (trees.assign a p b) = None
+name_of _ = None
 
 -- an expression is an entry of an array, a property or a word of a property, parentheses apart
 abbrev pub is_place : ExpressionTree → Bool
-is_place (trees.constant n) = false
-is_place (trees.word s) = false
-is_place (trees.named n) = false
-is_place (trees.call n es) = false
 is_place (trees.index n width e) = true
 is_place (trees.parenthesised e) = is_place e
-is_place (trees.relative_of r e) = false
 is_place (trees.property e n) = true
-is_place (trees.property_length e n) = false
 is_place (trees.property_entry e n i) = true
-is_place (trees.prefixed op e) = false
-is_place (trees.step_before op p e) = false
-is_place (trees.step_after e op p) = false
-is_place (trees.binary op a b) = false
-is_place (trees.compare op a b) = false
-is_place (trees.equal op a bs) = false
-is_place (trees.contained op a b) = false
-is_place (trees.tested test e n) = false
-is_place (trees.assign a p b) = false
+is_place _ = false
 
 abbrev pub same_key : List ℕ → List ℕ → Bool
 same_key = pointwise nat_eq
@@ -99,15 +69,9 @@ first_table = (key_of (codes "name"), bindings.Property 1) ∷ []
 
 -- what a name stands for, where it is a constant or an object, which is its number
 abbrev pub constant_known : Option Binding → Option Known
-constant_known None = None
 constant_known (Some (bindings.Constant known)) = known
-constant_known (Some (bindings.Global g)) = None
-constant_known (Some (bindings.Array a kind)) = None
-constant_known (Some (bindings.Routine r locals)) = None
-constant_known (Some (bindings.Attribute a)) = None
-constant_known (Some (bindings.Property p)) = None
 constant_known (Some (bindings.Object o)) = Some (knowns.Number (o % 65536))
-constant_known (Some (bindings.Local l)) = None
+constant_known _ = None
 
 -- what a literal is, among these names
 abbrev pub literal_known : Table → LiteralTree → Option Known
@@ -126,15 +90,8 @@ literal_value file v = value_of_known file.number (or_zero (literal_known file.t
 -- In a constant's value a constant stands earlier, but an object may stand anywhere in the file.
 
 abbrev pub is_object : Option Binding → Bool
-is_object None = false
-is_object (Some (bindings.Constant known)) = false
-is_object (Some (bindings.Global g)) = false
-is_object (Some (bindings.Array a kind)) = false
-is_object (Some (bindings.Routine r locals)) = false
-is_object (Some (bindings.Attribute a)) = false
-is_object (Some (bindings.Property p)) = false
 is_object (Some (bindings.Object o)) = true
-is_object (Some (bindings.Local l)) = false
+is_object _ = false
 
 -- what a name of a constant's value stands for: `before` there, `anywhere` in the file
 abbrev pub object_first : Option Binding → Option Binding → Option Binding

@@ -5,8 +5,7 @@ use Rattle.std.specs.List.{flat_map}
 use Rattle.syntax_lexer.specs.FaultNumbers.{defined_twice, too_many, unknown_name, wrong_kind}
 use Rattle.syntax_lexer.specs.declared.token.Position.{Position}
 use Rattle.syntax_trees.specs.Tree.{NameTree}
-use Rattle.syntax_directives.specs.Tree.{ValueTree, TextTree, PropertyTree, ObjectTree, DirectiveTree, global, constant}
-use Rattle.syntax_directives.specs.Tree.{array, attribute, property, object, routine}
+use Rattle.syntax_directives.specs.Tree.{ValueTree, TextTree, PropertyTree, ObjectTree, DirectiveTree, object}
 use Rattle.meaning.specs.Objects.{ObjectOf}
 use Rattle.meaning.specs.Places.{name_words}
 use Rattle.meaning.specs.Limits.{longest_short_name, most_properties, most_property_words}
@@ -96,14 +95,8 @@ arrow_breaches above (p ∷ ps) = if is_next above (length (p ∷ ps)) then [] e
 -- a parent that is named: one of the objects before, of which there are so many
 abbrev pub parent_breaches : Position → ℕ → Option Binding → List Breach
 parent_breaches p before None = at p unknown_name
-parent_breaches p before (Some (bindings.Constant n)) = at p wrong_kind
-parent_breaches p before (Some (bindings.Global g)) = at p wrong_kind
-parent_breaches p before (Some (bindings.Array a kind)) = at p wrong_kind
-parent_breaches p before (Some (bindings.Routine r locals)) = at p wrong_kind
-parent_breaches p before (Some (bindings.Attribute a)) = at p wrong_kind
-parent_breaches p before (Some (bindings.Property n)) = at p wrong_kind
 parent_breaches p before (Some (bindings.Object o)) = if nat_le o before then [] else at p unknown_name
-parent_breaches p before (Some (bindings.Local l)) = at p wrong_kind
+parent_breaches p before (Some _) = at p wrong_kind
 
 abbrev pub named_parent_breaches : Table → ℕ → Option NameTree → List Breach
 named_parent_breaches whole before None = []
@@ -172,15 +165,8 @@ above_number None = 0
 above_number (Some x) = x.1
 
 abbrev pub object_of_binding : Option Binding → ℕ
-object_of_binding None = 0
-object_of_binding (Some (bindings.Constant n)) = 0
-object_of_binding (Some (bindings.Global g)) = 0
-object_of_binding (Some (bindings.Array a kind)) = 0
-object_of_binding (Some (bindings.Routine r locals)) = 0
-object_of_binding (Some (bindings.Attribute a)) = 0
-object_of_binding (Some (bindings.Property n)) = 0
 object_of_binding (Some (bindings.Object o)) = o
-object_of_binding (Some (bindings.Local l)) = 0
+object_of_binding _ = 0
 
 -- the parent of an object: `above` is the one by arrows
 abbrev pub parent_number : Table → Option (ℕ × ℕ) → Option NameTree → ℕ
@@ -216,24 +202,14 @@ all_defaults words = 0 ∷ exactly most_properties words
 
 abbrev pub object_trees : List DirectiveTree → List ObjectTree
 object_trees [] = []
-object_trees (global n v ∷ ds) = object_trees ds
-object_trees (constant n v ∷ ds) = object_trees ds
-object_trees (array a ∷ ds) = object_trees ds
-object_trees (attribute n ∷ ds) = object_trees ds
-object_trees (property n v ∷ ds) = object_trees ds
 object_trees (object o ∷ ds) = o ∷ object_trees ds
-object_trees (routine r ∷ ds) = object_trees ds
+object_trees (_ ∷ ds) = object_trees ds
 
 -- the objects of a file, still without their parents
 abbrev pub objects_in : File → List DirectiveTree → List ObjectOf
 objects_in file [] = []
-objects_in file (global n v ∷ ds) = objects_in file ds
-objects_in file (constant n v ∷ ds) = objects_in file ds
-objects_in file (array a ∷ ds) = objects_in file ds
-objects_in file (attribute n ∷ ds) = objects_in file ds
-objects_in file (property n v ∷ ds) = objects_in file ds
 objects_in file (object o ∷ ds) = object_in file o ∷ objects_in file ds
-objects_in file (routine r ∷ ds) = objects_in file ds
+objects_in file (_ ∷ ds) = objects_in file ds
 
 abbrev pub objects_of : File → List DirectiveTree → List ObjectOf
 objects_of file ds = placed (parents_of file.table (object_trees ds)) (objects_in file ds)

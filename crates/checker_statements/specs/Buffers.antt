@@ -19,38 +19,18 @@ is_of_bytes kinds.Table = false
 -- E20 where a name is unknown, E23 where it is no array of bytes
 abbrev pub buffer_breaches : Position → Option Binding → List Breach
 buffer_breaches p None = at p unknown_name
-buffer_breaches p (Some (bindings.Constant n)) = at p wrong_kind
-buffer_breaches p (Some (bindings.Global g)) = at p wrong_kind
 buffer_breaches p (Some (bindings.Array a kind)) = if is_of_bytes kind then [] else at p wrong_kind
-buffer_breaches p (Some (bindings.Routine r locals)) = at p wrong_kind
-buffer_breaches p (Some (bindings.Attribute a)) = at p wrong_kind
-buffer_breaches p (Some (bindings.Property n)) = at p wrong_kind
-buffer_breaches p (Some (bindings.Object o)) = at p wrong_kind
-buffer_breaches p (Some (bindings.Local l)) = at p wrong_kind
+buffer_breaches p (Some _) = at p wrong_kind
 
 -- a name stands for the array of a number
 abbrev pub is_array : ℕ → Option Binding → Bool
-is_array number None = false
-is_array number (Some (bindings.Constant n)) = false
-is_array number (Some (bindings.Global g)) = false
 is_array number (Some (bindings.Array a kind)) = number == a
-is_array number (Some (bindings.Routine r locals)) = false
-is_array number (Some (bindings.Attribute a)) = false
-is_array number (Some (bindings.Property n)) = false
-is_array number (Some (bindings.Object o)) = false
-is_array number (Some (bindings.Local l)) = false
+is_array number _ = false
 
 -- E23 at the second name, where both are one array
 abbrev pub same_breaches : Position → Option Binding → Option Binding → List Breach
-same_breaches p None second = []
-same_breaches p (Some (bindings.Constant n)) second = []
-same_breaches p (Some (bindings.Global g)) second = []
 same_breaches p (Some (bindings.Array a kind)) second = if is_array a second then at p wrong_kind else []
-same_breaches p (Some (bindings.Routine r locals)) second = []
-same_breaches p (Some (bindings.Attribute a)) second = []
-same_breaches p (Some (bindings.Property n)) second = []
-same_breaches p (Some (bindings.Object o)) second = []
-same_breaches p (Some (bindings.Local l)) second = []
+same_breaches p _ second = []
 
 -- `look` tells what a name stands for
 abbrev pub read_breaches : (List ℕ → Option Binding) → NameTree → NameTree → List Breach

@@ -51,14 +51,9 @@ room_breaches p n = if nat_lt most_temporaries n then at p expression_too_large 
 -- the variable of an `objectloop`: E20 where it is unknown, E23 where it is no variable
 abbrev pub loop_breaches : Position → Option Binding → List Breach
 loop_breaches p None = at p unknown_name
-loop_breaches p (Some (bindings.Constant n)) = at p wrong_kind
 loop_breaches p (Some (bindings.Global g)) = []
-loop_breaches p (Some (bindings.Array a kind)) = at p wrong_kind
-loop_breaches p (Some (bindings.Routine r locals)) = at p wrong_kind
-loop_breaches p (Some (bindings.Attribute a)) = at p wrong_kind
-loop_breaches p (Some (bindings.Property n)) = at p wrong_kind
-loop_breaches p (Some (bindings.Object o)) = at p wrong_kind
 loop_breaches p (Some (bindings.Local l)) = []
+loop_breaches p (Some _) = at p wrong_kind
 
 -- `break` or `continue` where it may not stand
 abbrev pub outside_breaches : Bool → Position → List Breach
@@ -110,12 +105,9 @@ module _ (look : List ℕ → Option Binding) where
   -- of a statement that stands in what is around it
   abbrev mutual
     pub statement_breaches : Around → StatementTree → List Breach
-    statement_breaches around trees.empty = []
     statement_breaches around (trees.block xs) = statements_breaches around xs
-    statement_breaches around (trees.text_alone s) = []
     statement_breaches around (trees.print is) = flat_map item_breaches is
     statement_breaches around (trees.print_return is) = flat_map item_breaches is
-    statement_breaches around trees.new_line = []
     statement_breaches around (trees.if_then p c x) = whole_breaches p c ++ statement_breaches around x
     statement_breaches around (trees.if_else p c x y) = whole_breaches p c
         ++ (statement_breaches around x ++ statement_breaches around y)
@@ -125,11 +117,7 @@ module _ (look : List ℕ → Option Binding) where
     statement_breaches around (trees.switch_on p e cs) = whole_breaches p e ++ cases_breaches (in_switch around) cs
     statement_breaches around (trees.break_at p) = outside_breaches around.can_break p
     statement_breaches around (trees.continue_at p) = outside_breaches around.can_continue p
-    statement_breaches around trees.return_alone = []
     statement_breaches around (trees.return_value p e) = whole_breaches p e
-    statement_breaches around trees.return_true = []
-    statement_breaches around trees.return_false = []
-    statement_breaches around trees.quit = []
     statement_breaches around (trees.read_line n m) = read_breaches look n m
     statement_breaches around (trees.give p e xs) = whole_breaches p e ++ flat_map flag_breaches xs
     statement_breaches around (trees.move p a b) = move_breaches p a b
@@ -140,6 +128,7 @@ module _ (look : List ℕ → Option Binding) where
     statement_breaches around (trees.each_where p n c x) = loop_breaches n.position (look n.text)
         ++ (whole_breaches p c ++ statement_breaches in_loop x)
     statement_breaches around (trees.effect p e) = whole_breaches p e
+    statement_breaches around _ = []
 
     pub statements_breaches : Around → StatementTrees → List Breach
     statements_breaches around trees.stop = []

@@ -25,12 +25,9 @@ abbrev pub value_breaches : Position → Option Binding → List Breach
 value_breaches p None = at p unknown_name
 value_breaches p (Some (bindings.Constant n)) = []
 value_breaches p (Some (bindings.Global g)) = []
-value_breaches p (Some (bindings.Array a kind)) = at p wrong_kind
-value_breaches p (Some (bindings.Routine r locals)) = at p wrong_kind
-value_breaches p (Some (bindings.Attribute a)) = at p wrong_kind
-value_breaches p (Some (bindings.Property n)) = at p wrong_kind
 value_breaches p (Some (bindings.Object o)) = []
 value_breaches p (Some (bindings.Local l)) = []
+value_breaches p (Some _) = at p wrong_kind
 
 -- more than seven arguments are E24; more than the routine has locals are E25
 abbrev pub argument_breaches : Position → ℕ → ℕ → List Breach
@@ -40,50 +37,26 @@ argument_breaches p given locals = (if nat_lt most_arguments given then at p too
 -- a name that is called: E20 where it is unknown, E23 where it is no routine
 abbrev pub call_breaches : Position → ℕ → Option Binding → List Breach
 call_breaches p given None = at p unknown_name
-call_breaches p given (Some (bindings.Constant n)) = at p wrong_kind
-call_breaches p given (Some (bindings.Global g)) = at p wrong_kind
-call_breaches p given (Some (bindings.Array a kind)) = at p wrong_kind
 call_breaches p given (Some (bindings.Routine r locals)) = argument_breaches p given locals
-call_breaches p given (Some (bindings.Attribute a)) = at p wrong_kind
-call_breaches p given (Some (bindings.Property n)) = at p wrong_kind
-call_breaches p given (Some (bindings.Object o)) = at p wrong_kind
-call_breaches p given (Some (bindings.Local l)) = at p wrong_kind
+call_breaches p given (Some _) = at p wrong_kind
 
 -- a name before `->` or `-->`: E20 where it is unknown, E23 where it is no array
 abbrev pub array_name_breaches : Position → Option Binding → List Breach
 array_name_breaches p None = at p unknown_name
-array_name_breaches p (Some (bindings.Constant n)) = at p wrong_kind
-array_name_breaches p (Some (bindings.Global g)) = at p wrong_kind
 array_name_breaches p (Some (bindings.Array a kind)) = []
-array_name_breaches p (Some (bindings.Routine r locals)) = at p wrong_kind
-array_name_breaches p (Some (bindings.Attribute a)) = at p wrong_kind
-array_name_breaches p (Some (bindings.Property n)) = at p wrong_kind
-array_name_breaches p (Some (bindings.Object o)) = at p wrong_kind
-array_name_breaches p (Some (bindings.Local l)) = at p wrong_kind
+array_name_breaches p (Some _) = at p wrong_kind
 
 -- a name after `has` or `hasnt`, and in a `give`: E20 where it is unknown, E23 where it is no attribute
 abbrev pub attribute_breaches : Position → Option Binding → List Breach
 attribute_breaches p None = at p unknown_name
-attribute_breaches p (Some (bindings.Constant n)) = at p wrong_kind
-attribute_breaches p (Some (bindings.Global g)) = at p wrong_kind
-attribute_breaches p (Some (bindings.Array a kind)) = at p wrong_kind
-attribute_breaches p (Some (bindings.Routine r locals)) = at p wrong_kind
 attribute_breaches p (Some (bindings.Attribute a)) = []
-attribute_breaches p (Some (bindings.Property n)) = at p wrong_kind
-attribute_breaches p (Some (bindings.Object o)) = at p wrong_kind
-attribute_breaches p (Some (bindings.Local l)) = at p wrong_kind
+attribute_breaches p (Some _) = at p wrong_kind
 
 -- a name after `.`, `.#`, `.&` or `provides`: E20 where it is unknown, E23 where it is no property
 abbrev pub property_breaches : Position → Option Binding → List Breach
 property_breaches p None = at p unknown_name
-property_breaches p (Some (bindings.Constant n)) = at p wrong_kind
-property_breaches p (Some (bindings.Global g)) = at p wrong_kind
-property_breaches p (Some (bindings.Array a kind)) = at p wrong_kind
-property_breaches p (Some (bindings.Routine r locals)) = at p wrong_kind
-property_breaches p (Some (bindings.Attribute a)) = at p wrong_kind
 property_breaches p (Some (bindings.Property n)) = []
-property_breaches p (Some (bindings.Object o)) = at p wrong_kind
-property_breaches p (Some (bindings.Local l)) = at p wrong_kind
+property_breaches p (Some _) = at p wrong_kind
 
 -- what an object is tested for
 abbrev pub tested_breaches : ObjectTest → Position → Option Binding → List Breach
@@ -97,12 +70,9 @@ abbrev pub target_breaches : Position → Position → Option Binding → List B
 target_breaches p operator None = at p unknown_name
 target_breaches p operator (Some (bindings.Constant n)) = at operator not_assignable
 target_breaches p operator (Some (bindings.Global g)) = []
-target_breaches p operator (Some (bindings.Array a kind)) = at p wrong_kind ++ at operator not_assignable
-target_breaches p operator (Some (bindings.Routine r locals)) = at p wrong_kind ++ at operator not_assignable
-target_breaches p operator (Some (bindings.Attribute a)) = at p wrong_kind ++ at operator not_assignable
-target_breaches p operator (Some (bindings.Property n)) = at p wrong_kind ++ at operator not_assignable
 target_breaches p operator (Some (bindings.Object o)) = at operator not_assignable
 target_breaches p operator (Some (bindings.Local l)) = []
+target_breaches p operator (Some _) = at p wrong_kind ++ at operator not_assignable
 
 abbrev pub count : ExpressionTrees → ℕ
 count trees.none = 0
@@ -112,70 +82,32 @@ count (trees.more e es) = count es + 1
 
 -- where keys have these numbers
 abbrev pub value_of_binding : (ℕ → ℕ) → Option Binding → Value
-value_of_binding numbers None = number 0
 value_of_binding numbers (Some (bindings.Constant known)) = number (value_of_known numbers (or_zero known))
 value_of_binding numbers (Some (bindings.Global g)) = read (variables.Global g)
-value_of_binding numbers (Some (bindings.Array a kind)) = number 0
-value_of_binding numbers (Some (bindings.Routine r locals)) = number 0
-value_of_binding numbers (Some (bindings.Attribute a)) = number 0
-value_of_binding numbers (Some (bindings.Property n)) = number 0
 value_of_binding numbers (Some (bindings.Object o)) = number (o % 65536)
 value_of_binding numbers (Some (bindings.Local l)) = read (variables.Local l)
+value_of_binding numbers _ = number 0
 
 abbrev pub variable_of_binding : Option Binding → Variable
-variable_of_binding None = variables.Local 0
-variable_of_binding (Some (bindings.Constant n)) = variables.Local 0
 variable_of_binding (Some (bindings.Global g)) = variables.Global g
-variable_of_binding (Some (bindings.Array a kind)) = variables.Local 0
-variable_of_binding (Some (bindings.Routine r locals)) = variables.Local 0
-variable_of_binding (Some (bindings.Attribute a)) = variables.Local 0
-variable_of_binding (Some (bindings.Property n)) = variables.Local 0
-variable_of_binding (Some (bindings.Object o)) = variables.Local 0
 variable_of_binding (Some (bindings.Local l)) = variables.Local l
+variable_of_binding _ = variables.Local 0
 
 abbrev pub routine_of_binding : Option Binding → ℕ
-routine_of_binding None = 0
-routine_of_binding (Some (bindings.Constant n)) = 0
-routine_of_binding (Some (bindings.Global g)) = 0
-routine_of_binding (Some (bindings.Array a kind)) = 0
 routine_of_binding (Some (bindings.Routine r locals)) = r
-routine_of_binding (Some (bindings.Attribute a)) = 0
-routine_of_binding (Some (bindings.Property n)) = 0
-routine_of_binding (Some (bindings.Object o)) = 0
-routine_of_binding (Some (bindings.Local l)) = 0
+routine_of_binding _ = 0
 
 abbrev pub array_of_binding : Option Binding → ℕ
-array_of_binding None = 0
-array_of_binding (Some (bindings.Constant n)) = 0
-array_of_binding (Some (bindings.Global g)) = 0
 array_of_binding (Some (bindings.Array a kind)) = a
-array_of_binding (Some (bindings.Routine r locals)) = 0
-array_of_binding (Some (bindings.Attribute a)) = 0
-array_of_binding (Some (bindings.Property n)) = 0
-array_of_binding (Some (bindings.Object o)) = 0
-array_of_binding (Some (bindings.Local l)) = 0
+array_of_binding _ = 0
 
 abbrev pub attribute_of_binding : Option Binding → ℕ
-attribute_of_binding None = 0
-attribute_of_binding (Some (bindings.Constant n)) = 0
-attribute_of_binding (Some (bindings.Global g)) = 0
-attribute_of_binding (Some (bindings.Array a kind)) = 0
-attribute_of_binding (Some (bindings.Routine r locals)) = 0
 attribute_of_binding (Some (bindings.Attribute a)) = a
-attribute_of_binding (Some (bindings.Property n)) = 0
-attribute_of_binding (Some (bindings.Object o)) = 0
-attribute_of_binding (Some (bindings.Local l)) = 0
+attribute_of_binding _ = 0
 
 abbrev pub property_of_binding : Option Binding → ℕ
-property_of_binding None = 0
-property_of_binding (Some (bindings.Constant n)) = 0
-property_of_binding (Some (bindings.Global g)) = 0
-property_of_binding (Some (bindings.Array a kind)) = 0
-property_of_binding (Some (bindings.Routine r locals)) = 0
-property_of_binding (Some (bindings.Attribute a)) = 0
 property_of_binding (Some (bindings.Property n)) = n
-property_of_binding (Some (bindings.Object o)) = 0
-property_of_binding (Some (bindings.Local l)) = 0
+property_of_binding _ = 0
 
 abbrev pub tested_for : ObjectTest → Value → Option Binding → Value
 tested_for tests.Has v found = has true v (attribute_of_binding found)
@@ -184,27 +116,11 @@ tested_for tests.Provides v found = provides v (property_of_binding found)
 
 -- an assignment, by what its left side resolves to
 abbrev pub assigned : Value → Value → Value
-assigned (number n) v = assign (variables.Local 0) v
 assigned (read x) v = assign x v
-assigned (call r vs) v = assign (variables.Local 0) v
-assigned (prefixed op w) v = assign (variables.Local 0) v
-assigned (step_before op x) v = assign (variables.Local 0) v
-assigned (step_after x op) v = assign (variables.Local 0) v
-assigned (binary op a b) v = assign (variables.Local 0) v
-assigned (compare op a b) v = assign (variables.Local 0) v
-assigned (equal op a bs) v = assign (variables.Local 0) v
-assigned (assign x w) v = assign (variables.Local 0) v
 assigned (entry width a i) v = assign_entry width a i v
-assigned (assign_entry width a i w) v = assign (variables.Local 0) v
-assigned (relative r w) v = assign (variables.Local 0) v
-assigned (contained op a b) v = assign (variables.Local 0) v
-assigned (has positive w a) v = assign (variables.Local 0) v
-assigned (provides w n) v = assign (variables.Local 0) v
 assigned (property o n) v = assign_property o n v
-assigned (property_size w n) v = assign (variables.Local 0) v
 assigned (property_word o n i) v = assign_property_word o n i v
-assigned (assign_property o n w) v = assign (variables.Local 0) v
-assigned (assign_property_word o n i w) v = assign (variables.Local 0) v
+assigned _ v = assign (variables.Local 0) v
 
 -- `look` tells what a name stands for
 module _ (look : List ℕ → Option Binding) where

@@ -14,13 +14,8 @@ use Rattle.checker_names.specs.Names.{Table, File, key_of, in_table, literal_val
 abbrev pub constant_breaches : Position → Option Binding → List Breach
 constant_breaches p None = at p unknown_name
 constant_breaches p (Some (bindings.Constant n)) = []
-constant_breaches p (Some (bindings.Global g)) = at p wrong_kind
-constant_breaches p (Some (bindings.Array a kind)) = at p wrong_kind
-constant_breaches p (Some (bindings.Routine r locals)) = at p wrong_kind
-constant_breaches p (Some (bindings.Attribute a)) = at p wrong_kind
-constant_breaches p (Some (bindings.Property n)) = at p wrong_kind
 constant_breaches p (Some (bindings.Object o)) = []
-constant_breaches p (Some (bindings.Local l)) = at p wrong_kind
+constant_breaches p (Some _) = at p wrong_kind
 
 abbrev pub literal_breaches : Table → LiteralTree → List Breach
 literal_breaches whole (number_value n) = []
@@ -44,25 +39,14 @@ initial_value file (Some v) = literal_value file v
 abbrev pub later_breaches : Position → Option Binding → List Breach
 later_breaches p None = at p unknown_name
 later_breaches p (Some (bindings.Constant n)) = at p unknown_name
-later_breaches p (Some (bindings.Global g)) = at p wrong_kind
-later_breaches p (Some (bindings.Array a kind)) = at p wrong_kind
-later_breaches p (Some (bindings.Routine r locals)) = at p wrong_kind
-later_breaches p (Some (bindings.Attribute a)) = at p wrong_kind
-later_breaches p (Some (bindings.Property n)) = at p wrong_kind
 later_breaches p (Some (bindings.Object o)) = []
-later_breaches p (Some (bindings.Local l)) = at p wrong_kind
+later_breaches p (Some _) = at p wrong_kind
 
 -- a name in a constant's value: `before` is what it stands for there, `anywhere` what it stands for in the file
 abbrev pub earlier_breaches : Position → Option Binding → Option Binding → List Breach
-earlier_breaches p None anywhere = later_breaches p anywhere
 earlier_breaches p (Some (bindings.Constant n)) anywhere = []
-earlier_breaches p (Some (bindings.Global g)) anywhere = later_breaches p anywhere
-earlier_breaches p (Some (bindings.Array a kind)) anywhere = later_breaches p anywhere
-earlier_breaches p (Some (bindings.Routine r locals)) anywhere = later_breaches p anywhere
-earlier_breaches p (Some (bindings.Attribute a)) anywhere = later_breaches p anywhere
-earlier_breaches p (Some (bindings.Property n)) anywhere = later_breaches p anywhere
 earlier_breaches p (Some (bindings.Object o)) anywhere = []
-earlier_breaches p (Some (bindings.Local l)) anywhere = later_breaches p anywhere
+earlier_breaches p _ anywhere = later_breaches p anywhere
 
 -- `table` has the names before it, `whole` those of the file
 abbrev pub named_breaches : Table → Table → LiteralTree → List Breach

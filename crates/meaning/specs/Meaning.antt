@@ -115,13 +115,7 @@ default_of here p = slice_index here.defaults (p - 1)
 abbrev pub early : Binary → ℕ → Part ℕ → Part ℕ → Part ℕ
 early op.AndAlso x second both = if is_true x then (second >>= λ y. give (truth (is_true y))) else give 0
 early op.OrElse x second both = if is_true x then give 1 else (second >>= λ y. give (truth (is_true y)))
-early op.Add x second both = both
-early op.Subtract x second both = both
-early op.Multiply x second both = both
-early op.Divide x second both = both
-early op.Remainder x second both = both
-early op.And x second both = both
-early op.Or x second both = both
+early _ x second both = both
 
 abbrev pub contains : Containment → Bool → Bool
 contains containment.In stands = stands
@@ -481,10 +475,8 @@ routine_at (r ∷ rs) (suc n) = routine_at rs n
 -- A routine that runs off its end returns true. No routine of an accepted program breaks or continues out of its body;
 -- one that did would return true as well.
 abbrev pub word_of : Ending → ℕ
-word_of goes_on = 1
-word_of breaks = 1
-word_of continues = 1
 word_of (returns word) = word
+word_of _ = 1
 
 -- the caller goes on with its own locals
 abbrev pub to_caller : List ℕ → Comes Ending → Comes ℕ

@@ -165,10 +165,5 @@ pub data IsTexts : List Lexeme → List TextTree → List Lexeme → Type 0 wher
 -- How deep a directive is nested
 
 abbrev pub directive_nesting : DirectiveTree → ℕ
-directive_nesting (global n k) = 0
-directive_nesting (constant n k) = 0
-directive_nesting (array a) = 0
-directive_nesting (attribute n) = 0
-directive_nesting (property n k) = 0
-directive_nesting (object o) = 0
 directive_nesting (routine r) = body_nesting r.body
+directive_nesting _ = 0

@@ -103,12 +103,9 @@ mutual
 
 abbrev mutual
   pub statement_nesting : StatementTree → ℕ
-  statement_nesting empty = 0
   statement_nesting (block xs) = suc (inside_nesting xs)
-  statement_nesting (text_alone s) = 0
   statement_nesting (print is) = items_nesting is
   statement_nesting (print_return is) = items_nesting is
-  statement_nesting new_line = 0
   statement_nesting (if_then p c x) = suc (max (nesting c) (statement_nesting x))
   statement_nesting (if_else p c x y) = suc (max (nesting c) (max (statement_nesting x) (statement_nesting y)))
   statement_nesting (while_do p c x) = suc (max (nesting c) (statement_nesting x))
@@ -116,14 +113,7 @@ abbrev mutual
   statement_nesting (for_loop p a b c x) = suc
       (max (max (optional_nesting a) (max (optional_nesting b) (optional_nesting c))) (statement_nesting x))
   statement_nesting (switch_on p e cs) = suc (max (nesting e) (cases_nesting cs))
-  statement_nesting (break_at p) = 0
-  statement_nesting (continue_at p) = 0
-  statement_nesting return_alone = 0
   statement_nesting (return_value p e) = nesting e
-  statement_nesting return_true = 0
-  statement_nesting return_false = 0
-  statement_nesting quit = 0
-  statement_nesting (read_line a b) = 0
   statement_nesting (give p e xs) = nesting e
   statement_nesting (move p a b) = max (nesting a) (nesting b)
   statement_nesting (remove p e) = nesting e
@@ -131,6 +121,7 @@ abbrev mutual
   statement_nesting (each_in p n e x) = suc (max (nesting e) (statement_nesting x))
   statement_nesting (each_where p n e x) = suc (max (nesting e) (statement_nesting x))
   statement_nesting (effect p e) = nesting e
+  statement_nesting _ = 0
 
   -- of statements inside a statement
   pub inside_nesting : StatementTrees → ℕ
