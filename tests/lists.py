@@ -1,0 +1,146 @@
+"""The lists in documents that come from crates.txt, from the READMEs of crates and from the table in docs/COSTS.md:
+
+- in the README of a crate the paragraph that begins with `Stage:`: its part of crates.txt, the crates that it stands
+  on and those that stand on it; of each, only those with no other between them
+- in README.md the crates by their parts, each with the first line of its README
+- in docs/CHANGING.md the crates by their parts, and the table of what a change costs: how many crates, and minutes
+- in docs/PROVING.md the number of crates
+
+`./lists` writes them, and `tests/documents` fails where one is stale."""
+
+import re
+import textwrap
+from pathlib import Path
+
+TOP = Path(__file__).resolve().parent.parent
+COLUMNS = 100
+
+
+class Crates:
+    """The crates of crates.txt, lowest first: the parts, and for each crate its part and all crates below it."""
+
+    def __init__(self):
+        text = (TOP / "crates.txt").read_text()
+        self.parts, self.part_of, self.libraries, self.all_below = {}, {}, {}, {}
+        for heading, name, libraries in re.findall(r"^(?:# (.*)|(\w+):(.*))$", text, re.M)[1:]:
+            if heading:
+                self.parts[heading] = []
+            else:
+                self.add(name, libraries.split())
+
+    def add(self, name, libraries):
+        """Adds a crate to the latest part. Libraries that are no crates of this repository are those of the kit."""
+        part = list(self.parts)[-1]
+        self.parts[part].append(name)
+        self.part_of[name] = part
+        self.libraries[name] = [library for library in libraries if library in self.all_below]
+        below = [self.all_below[library] for library in self.libraries[name]]
+        self.all_below[name] = set(self.libraries[name]).union(*below)
+
+    def below(self, name):
+        """The crates on which one stands with no other between them."""
+        libraries = self.libraries[name]
+        return [one for one in libraries if not any(one in self.all_below[other] for other in libraries)]
+
+    def above(self, name):
+        """The crates that stand on one with no other between them."""
+        return [one for one in self.libraries if name in self.below(one)]
+
+    def with_above(self, name):
+        """A crate, and all that stand on it."""
+        return [one for one in self.libraries if one == name or name in self.all_below[one]]
+
+
+def wrapped(text, later=""):
+    """A paragraph in lines of documents."""
+    return textwrap.fill(text, COLUMNS, subsequent_indent=later, break_long_words=False, break_on_hyphens=False)
+
+
+def readme_of(name):
+    """The README of a crate."""
+    return TOP / "crates" / name / "README.md"
+
+
+def title_of(name):
+    """What the first line of a crate's README says it is."""
+    return readme_of(name).read_text().partition("\n")[0].partition(": ")[2]
+
+
+def linked(names):
+    """Links from the README of a crate to those of others."""
+    return ", ".join(f"[`{name}`](../{name}/README.md)" for name in names) or "nothing"
+
+
+def with_stage(text, crates, name):
+    """The README of a crate with its stage and neighbours."""
+    stage = crates.part_of[name]
+    below, above = linked(crates.below(name)), linked(crates.above(name))
+    line = f"Stage: {stage[0].lower()}{stage[1:]}. Below: {below}. Above: {above}."
+    title, _, rest = text.partition("\n\n")
+    if rest.startswith("Stage: "):
+        rest = rest.partition("\n\n")[2]
+    return "\n\n".join([title, wrapped(line), rest])
+
+
+def with_crates(text, crates):
+    """README.md with the crates by their parts."""
+    lines = []
+    for part, names in crates.parts.items():
+        lines.append(f"### {part}")
+        lines += [wrapped(f"- [`{name}`](crates/{name}/README.md): {title_of(name)}", "  ") for name in names]
+    return between(text, "## Crates\n", "\n## ", "\n".join(lines) + "\n")
+
+
+def between(text, first, last, new):
+    """A text with other lines between these two marks, of which the first is there once."""
+    before, _, rest = text.partition(first)
+    return before + first + new + rest[rest.index(last) :]
+
+
+def seconds_of():
+    """The seconds of each crate in the table of docs/COSTS.md, its edits among them."""
+    found = {}
+    table = (TOP / "docs" / "COSTS.md").read_text().partition("<!-- The gate table")[2].partition("<!-- End")[0]
+    for name, proof, edits in re.findall(r"^\| `(\w+)` \| (.*?) \| .*? \| (.*?) *\|$", table, re.M):
+        found[name] = sum(int(cell) for cell in (proof, edits) if cell.isdigit())
+    return found
+
+
+def with_costs(text, crates):
+    """CHANGING.md with the numbers of the table of what a change costs."""
+    seconds = seconds_of()
+
+    def row(found):
+        above = crates.with_above(found["name"])
+        minutes = max(1, round(sum(seconds.get(name, 0) for name in above) / 60))
+        return f"| {found['names']} | {len(above)} | {minutes} |"
+
+    return re.sub(r"^\| (?P<names>`(?P<name>\w+)`.*?) \| \d+ \| \d+ \|", row, text, flags=re.M)
+
+
+def with_map(text, crates):
+    """CHANGING.md with the crates by their parts."""
+    lines = []
+    for part, names in crates.parts.items():
+        lines.append(wrapped(f"- *{part}*: {', '.join(f'`{name}`' for name in names)}", "  "))
+    return between(text, "<!-- From crates.txt, by ./lists. -->\n", "<!-- End. -->", "\n".join(lines) + "\n")
+
+
+def with_number(text, crates):
+    """PROVING.md with the number of crates."""
+    return re.sub(r"\d+( crates in which every function is proved)", rf"{len(crates.libraries)}\1", text)
+
+
+def documents():
+    """Each document with a list, as it is and as it should be."""
+    crates = Crates()
+    for name in crates.libraries:
+        now = readme_of(name).read_text()
+        yield readme_of(name), now, with_stage(now, crates, name)
+    for name, change in (
+        ("README.md", with_crates),
+        ("docs/CHANGING.md", lambda text, crates: with_costs(with_map(text, crates), crates)),
+        ("docs/PROVING.md", with_number),
+    ):
+        now = (TOP / name).read_text()
+        yield TOP / name, now, change(now, crates)
