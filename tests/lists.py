@@ -1,10 +1,12 @@
-"""The lists in documents that come from crates.txt, from the READMEs of crates and from the table in docs/COSTS.md:
+"""The lists and numbers in documents that follow from crates.txt and other files of the repository:
 
 - in the README of a crate the paragraph that begins with `Stage:`: its part of crates.txt, the crates that it stands
   on and those that stand on it; of each, only those with no other between them
 - in README.md the crates by their parts, each with the first line of its README
-- in docs/CHANGING.md the crates by their parts, and the table of what a change costs: how many crates, and minutes
+- in docs/CHANGING.md the crates by their parts, and the table of what a change costs: how many crates, and minutes by
+  the table in docs/COSTS.md
 - in docs/PROVING.md the number of crates
+- in the READMEs of `rows_of_sources` and `rows_of_machine` how many rows their file `stdin` has
 
 `./lists` writes them, and `tests/documents` fails where one is stale."""
 
@@ -14,6 +16,7 @@ from pathlib import Path
 
 TOP = Path(__file__).resolve().parent.parent
 COLUMNS = 100
+ROWS = ("rows_of_sources", "rows_of_machine")
 
 
 class Crates:
@@ -131,12 +134,27 @@ def with_number(text, crates):
     return re.sub(r"\d+( crates in which every function is proved)", rf"{len(crates.libraries)}\1", text)
 
 
+def rows_of(name):
+    """How many rows the file `stdin` of a crate has in each of its parts, which begin with `# Sources`."""
+    parts = (TOP / "crates" / name / "stdin").read_text().split("\n# Sources ")
+    return [len(re.findall(r"^-- ", part, re.M)) for part in parts]
+
+
+def with_rows(text, name):
+    """The README of a program of rows with their number, and where there are several parts with that of each."""
+    rows = rows_of(name)
+    numbers = [sum(rows), *rows] if len(rows) > 1 else rows
+    ahead = iter(numbers)
+    return re.sub(r"\d[\d,]*(?=\s(?:sources|rows)\b)", lambda _: f"{next(ahead):,}", text, count=len(numbers))
+
+
 def documents():
     """Each document with a list, as it is and as it should be."""
     crates = Crates()
     for name in crates.libraries:
         now = readme_of(name).read_text()
-        yield readme_of(name), now, with_stage(now, crates, name)
+        wanted = with_stage(now, crates, name)
+        yield readme_of(name), now, with_rows(wanted, name) if name in ROWS else wanted
     for name, change in (
         ("README.md", with_crates),
         ("docs/CHANGING.md", lambda text, crates: with_costs(with_map(text, crates), crates)),
