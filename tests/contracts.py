@@ -13,6 +13,7 @@ OWNER = re.compile(r"^(?:unsafe )?impl(?:<.*?>)? (?:.* for )?(?:&mut |&)?(\w+)|^
 CLAUSE = re.compile(r"^ *(requires|ensures)\*?(?: ([\w-]+))? \{")
 DEFINED = re.compile(r"^(?:abbrev |unfoldable )?(?:pub )?(?:(record|data) )?([^\s:{}()]+)")
 PART = re.compile(r"^  (?:pub )?(\w+) :")
+EXPORT = re.compile(r"^pub use (?:[\w:]+::)?(\w+|\{[^}]*\});|^pub mod (\w+);", re.M)
 
 
 @dataclass
@@ -68,8 +69,15 @@ def add_clauses(found, lines):
             parts[name] = parts.get(name, "") + line + "\n"
 
 
-def functions_in(path):
-    """The functions of a source, methods with the name of their type or trait. Those of a trait are public."""
+def exports_of(crate):
+    """The names that the root of a crate hands out."""
+    text = re.sub(r"//.*", "", (CRATES / crate / "src" / "lib.rt").read_text())
+    return {name for found in EXPORT.findall(text) for name in re.findall(r"\w+", " ".join(found))}
+
+
+def functions_in(path, exports):
+    """The functions of a source, methods with the name of their type or trait. Those are public that users of the crate
+    can name, which hands out these names."""
     owner, is_trait, lines = None, False, (CRATES / path).read_text().splitlines()
     for place, line in enumerate(lines):
         opened, begun = OWNER.match(line), HEADING.match(line)
@@ -79,7 +87,9 @@ def functions_in(path):
             owner, is_trait = None, False
         if begun:
             _, visible, name = begun.groups()
-            found = Cited(path, f"{owner}::{name}" if owner else name, is_trait or visible == "pub ")
+            is_handed_out = (owner or name) in exports or path.stem in exports
+            is_public = (is_trait or visible == "pub ") and is_handed_out
+            found = Cited(path, f"{owner}::{name}" if owner else name, is_public)
             add_clauses(found, lines[place:])
             yield found
 
@@ -114,8 +124,10 @@ def definitions_in(path):
 
 def read_functions():
     """All functions of all crates."""
-    for path in sorted(CRATES.glob("*/src/**/*.rt")):
-        yield from functions_in(path.relative_to(CRATES))
+    for crate in sorted(path.parent.parent.name for path in CRATES.glob("*/src/lib.rt")):
+        exports = exports_of(crate)
+        for path in sorted((CRATES / crate / "src").glob("**/*.rt")):
+            yield from functions_in(path.relative_to(CRATES), exports)
 
 
 def read_definitions():

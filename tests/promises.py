@@ -7,7 +7,8 @@ A table of promises has in its second column citations, with `; ` between them:
 Each function is public and in one of the crates of the section's heading, or in the crate that is named. It ensures a
 clause of each name, and each word is in one of these clauses of each function; where no clause is named, in any. A word
 after a further `over` is in the definition of one of those before it. With `asked by` in place of `of` the clauses are
-those that it requires. In place of a function there can be a definition, whose clauses are its fields or constructors,
+those that it requires: there is such a citation of each public function that requires something, but for those of the
+crates in which the parts of a turn are. In place of a function there can be a definition, whose clauses are its fields or constructors,
 or `each function of` some crates `but` some functions: of each public function of theirs that can change what it is
 given, the contract has one of the words, but for these functions.
 
@@ -20,11 +21,12 @@ from contracts import CRATES, TOP, has_word, read_definitions, read_functions
 
 LIST = r"`[^`]+`(?:(?:, | and )`[^`]+`)*"
 CITATION = re.compile(
-    rf"(?:(?P<parts>{LIST}) (?P<way>of|asked by) )?(?P<names>{LIST})(?: in `(?P<crate>\w+)`)?"
+    rf"(?:(?P<ensured>{LIST}) of |(?P<asked>(?:{LIST} )?asked by ))?(?P<names>{LIST})(?: in `(?P<crate>\w+)`)?"
     rf"(?P<words>(?:, over {LIST})*)"
 )
 EACH = re.compile(rf"each function of (?P<crates>{LIST})(?: but (?P<names>{LIST}))?, over (?P<words>{LIST})")
 TITLES = ("Contract", "Definition", "Refused by")
+TURN = ("machine_frames", "machine_quick_steps")
 
 
 class NotThere(Exception):
@@ -57,12 +59,15 @@ def cells_of(lines, title):
 
 
 class Promises:
-    """The public functions and the definitions that there are, and how many citations were checked."""
+    """The public functions and the definitions that there are, those functions that require something and were not
+    cited yet with it, and how many citations were checked."""
 
     def __init__(self):
         self.functions = [found for found in read_functions() if found.is_public]
         self.definitions = list(read_definitions())
         self.crates = re.findall(r"^(\w+):", (TOP / "crates.txt").read_text(), re.M)
+        turn = self.crates[self.crates.index(TURN[0]) : self.crates.index(TURN[1]) + 1]
+        self.asking = {(one.crate, one.name) for one in self.functions if one.required and one.crate not in turn}
         self.count = 0
 
     def crates_of(self, heading):
@@ -84,17 +89,19 @@ class Promises:
             raise NotThere(f"{name} is {where or 'no public function and no definition'}")
         return found[0]
 
-    def texts_of(self, cited, parts, way):
-        """The text of these clauses of something, of all where none is named."""
-        clauses = cited.required if way == "asked by" else cited.parts
+    def text_of(self, cited, read):
+        """The text of the clauses of something that a citation names, of all where it names none."""
+        clauses, parts = cited.parts, quoted(read["ensured"])
+        if read["asked"]:
+            clauses, parts = cited.required, quoted(read["asked"])
+            self.asking.discard((cited.crate, cited.name))
         for part in parts:
             if part not in clauses:
                 raise NotThere(f"{cited.name} has no clause {part}")
-        texts = [text for part, text in clauses.items() if part in parts or not parts]
-        if not texts:
-            raise NotThere(f"{cited.name} has no contract")
-        self.count += len(texts) if parts else 1
-        return texts
+        if not clauses:
+            raise NotThere(f"{cited.name} has no such contract")
+        self.count += max(1, len(parts))
+        return "".join(text for part, text in clauses.items() if part in parts or not parts)
 
     def check_words(self, text, lists, crates):
         """Checks that the words of the first list are in a text, and those of each other in definitions of words before
@@ -112,8 +119,7 @@ class Promises:
         lists = [quoted(part) for part in read["words"].split(", over ")[1:]]
         for name in quoted(read["names"]):
             cited = self.find(name, {read["crate"]} if read["crate"] else crates)
-            texts = self.texts_of(cited, quoted(read["parts"]), read["way"])
-            self.check_words("".join(texts), lists, crates)
+            self.check_words(self.text_of(cited, read), lists, crates)
 
     def check_each(self, read):
         """Checks a citation of each function of crates."""
@@ -194,4 +200,5 @@ def check_promises():
         faults += faults_of_promises(promises, heading, lines)
         faults += faults_of_definitions(promises, lines)
         faults += faults_of_edits(lines)
+    faults += [f"{name} in {crate} asks for something: no table says so" for crate, name in sorted(promises.asking)]
     return faults, promises.count
