@@ -3,8 +3,8 @@
 - in the README of a crate the paragraph that begins with `Stage:`: its part of crates.txt, the crates that it stands
   on and those that stand on it; of each, only those with no other between them
 - in README.md the crates by their parts, each with the first line of its README
-- in docs/CHANGING.md the crates by their parts, and the table of what a change costs: how many crates, and minutes by
-  the table in docs/COSTS.md
+- in docs/CHANGING.md the crates by their parts, and the table of what a change costs: how many crates, and minutes
+- in docs/COSTS.md the table of the gate, by the seconds in seconds.txt
 - in docs/PROVING.md the number of crates
 - in the READMEs of `rows_of_sources` and `rows_of_machine` how many rows their file `stdin` has
 
@@ -101,21 +101,41 @@ def between(text, first, last, new):
 
 
 def seconds_of():
-    """The seconds of each crate in the table of docs/COSTS.md, its edits among them."""
-    found = {}
-    table = (TOP / "docs" / "COSTS.md").read_text().partition("<!-- The gate table")[2].partition("<!-- End")[0]
-    for name, proof, edits in re.findall(r"^\| `(\w+)` \| (.*?) \| .*? \| (.*?) *\|$", table, re.M):
-        found[name] = sum(int(cell) for cell in (proof, edits) if cell.isdigit())
-    return found
+    """What seconds.txt has of each crate: the seconds of its proof and of its edits, or the crate that has them."""
+    text = (TOP / "seconds.txt").read_text()
+    measured = {}
+    for name, proof, edits in re.findall(r"^(\w+): (\d+) (\d+)$", text, re.M):
+        measured[name] = int(proof), int(edits)
+    return measured, dict(re.findall(r"^(\w+): ([a-z]\w*)$", text, re.M))
+
+
+def edits_of(name):
+    """How many must-fail edits a crate has."""
+    return len(list((TOP / "crates" / name / "must-fail").glob("*.edit")))
+
+
+def with_seconds(text, crates):
+    """COSTS.md with the table of the gate, and the seconds of what ./build proves."""
+    measured, parts = seconds_of()
+    rows = ["", "| Crate | Proof, seconds | Edits now | Seconds of edits then |", "|---|---|---|---|"]
+    for name in crates.libraries:
+        proof, edits = measured.get(name, (f"part of `{parts[name]}`" if name in parts else "", 0))
+        rows.append(f"| `{name}` | {proof} | {edits_of(name) or ''} | {edits or ''} |")
+    sums = [sum(column) for column in zip(*measured.values())]
+    rows += [f"| all | {sums[0]} | {sum(map(edits_of, crates.libraries))} | {sums[1]} |", "", ""]
+    text = between(text, "by ./lists. -->\n", "<!-- End", "\n".join(rows))
+    built = {"inform", "play"} | crates.all_below["inform"] | crates.all_below["play"]
+    total = sum(measured[name][0] for name in built & set(measured))
+    return re.sub(r"(stand on, )[\d,]+( seconds of these)", rf"\g<1>{total:,}\2", text)
 
 
 def with_costs(text, crates):
     """CHANGING.md with the numbers of the table of what a change costs."""
-    seconds = seconds_of()
+    measured, _ = seconds_of()
 
     def row(found):
         above = crates.with_above(found["name"])
-        minutes = max(1, round(sum(seconds.get(name, 0) for name in above) / 60))
+        minutes = max(1, round(sum(sum(measured.get(name, ())) for name in above) / 60))
         return f"| {found['names']} | {len(above)} | {minutes} |"
 
     return re.sub(r"^\| (?P<names>`(?P<name>\w+)`.*?) \| \d+ \| \d+ \|", row, text, flags=re.M)
@@ -158,6 +178,7 @@ def documents():
     for name, change in (
         ("README.md", with_crates),
         ("docs/CHANGING.md", lambda text, crates: with_costs(with_map(text, crates), crates)),
+        ("docs/COSTS.md", with_seconds),
         ("docs/PROVING.md", with_number),
     ):
         now = (TOP / name).read_text()

@@ -6,11 +6,13 @@ A table of promises has in its second column citations, with `; ` between them:
 
 Each function is public and in one of the crates of the section's heading, or in the crate that is named. It ensures a
 clause of each name, and each word is in one of these clauses of each function; where no clause is named, in any. A word
-after a further `over` is in the definition of one of those before it. With `asked by` in place of `of` the clauses are
-those that it requires: there is such a citation of each public function that requires something, but for those of the
-crates in which the parts of a turn are. In place of a function there can be a definition, whose clauses are its fields or constructors,
-or `each function of` some crates `but` some functions: of each public function of theirs that can change what it is
-given, the contract has one of the words, but for these functions.
+after a further `over` is in the definition of one of those before it. In place of a function there can be
+
+- `asked by` a function: the clauses are those that it requires. There is such a citation of each public function that
+  requires something, but for those of the crates that hold the parts of a turn
+- a definition, whose clauses are its fields or constructors
+- `each function of` some crates `but` some functions: of each public function of theirs that can change what it is
+  given, the contract has one of the words, but for these functions
 
 The table of definitions has in its second column files of `specs/`, and what is defined in them. That of wrong bodies
 has edits and files."""
