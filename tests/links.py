@@ -2,7 +2,7 @@
 
 A link leads to a file that is there, and to a heading of it. A path in backticks, as `src/lib.rt` or
 `zcore/specs/Turn`, is one from the top, from crates/ or from the folder of a crate; its ending may be left out, and
-`CRATE/NAME` may also be an edit. Paths with `*`, `..` or a word in capitals stand for several and are not looked for."""
+`CRATE/NAME` may also be an edit. Paths with `*`, `..` or a word in capitals are for several, and not looked for."""
 
 import re
 from pathlib import Path

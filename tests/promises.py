@@ -6,7 +6,7 @@ A table of promises has in its second column citations, with `; ` between them:
 
 Each function is public and in one of the crates of the section's heading, or in the crate that is named. It ensures a
 clause of each name, and each word is in one of these clauses of each function; where no clause is named, in any. A word
-after a further `over` is in the definition of one of those before it. In place of a function there can be
+after a further `over` is in the definition of one of those before it, in whatever crate. In place of a function can be
 
 - `asked by` a function: the clauses are those that it requires. There is such a citation of each public function that
   requires something, but for those of the crates that hold the parts of a turn
@@ -60,6 +60,14 @@ def cells_of(lines, title):
             yield cells[-1].strip() if len(cells) == 2 else f"a row of {len(cells)} cells"
 
 
+def only(found, name):
+    """The only thing that was found for a name."""
+    if len(found) != 1:
+        where = " and ".join(f"{one.name} in {one.crate}" for one in found)
+        raise NotThere(f"{name} is {where or 'no public function and no definition here'}")
+    return found[0]
+
+
 class Promises:
     """The public functions and the definitions that there are, those functions that require something and were not
     cited yet with it, and how many citations were checked."""
@@ -82,14 +90,14 @@ class Promises:
         return found
 
     def find(self, name, crates):
-        """What a name stands for in these crates: a public function, else a definition, which may be in any crate."""
+        """What a name stands for in these crates: a public function, or else a definition."""
         functions = [one for one in self.functions if one.crate in crates and f"::{one.name}".endswith(f"::{name}")]
-        defined = [one for one in self.definitions if one.name == name]
-        found = functions or [one for one in defined if one.crate in crates] or defined
-        if len(found) != 1:
-            where = " and ".join(f"{one.name} in {one.crate}" for one in found)
-            raise NotThere(f"{name} is {where or 'no public function and no definition'}")
-        return found[0]
+        return only(functions or [one for one in self.definitions if one.crate in crates and one.name == name], name)
+
+    def define(self, word, crates):
+        """What defines a word: a definition in these crates, or else the only one in any."""
+        defined = [one for one in self.definitions if one.name == word]
+        return only([one for one in defined if one.crate in crates] or defined, word)
 
     def text_of(self, cited, read):
         """The text of the clauses of something that a citation names, of all where it names none."""
@@ -114,7 +122,7 @@ class Promises:
                     raise NotThere(f"{word} is not there")
             self.count += len(words)
             if words is not lists[-1]:
-                text = "".join(self.find(word, crates).text() for word in words)
+                text = "".join(self.define(word, crates).text() for word in words)
 
     def check_named(self, read, crates):
         """Checks a citation of functions or definitions."""
