@@ -8,7 +8,7 @@ end
 complete -c play -l fuel -x -d 'The units of fuel of a turn'
 complete -c play -l undo -x -d 'How many turns can be taken back'
 complete -c play -l explain -x -a '(__play_answers)' -d 'Explain an answer, or list all'
-complete -c play -l check -d 'Say what is in story files'
+complete -c play -l check -d 'Say whether story files load, and which opcodes outside the profile were reached'
 complete -c play -l why -d 'Say at the end where the story stands'
 complete -c play -s h -l help -d 'Print help'
 complete -c play -s V -l version -d 'Print the version'

@@ -2,6 +2,7 @@
 //! `play` do, in one program, for `./demo`.
 #![tactic(auto)]
 
+use one_line::OneLine;
 use std::fmt::Display;
 use std::fs::File;
 use std::io::{self, Read};
@@ -10,7 +11,7 @@ use std::{env, mem};
 use tools::{PairFault, Version, compile_and_run, status};
 
 /// The most bytes of a source: 64 MB.
-const MOST_BYTES: u64 = 67_108_864;
+const MOST_BYTES: usize = 67_108_864;
 
 /// The fuel of a turn, which `play` gives it too.
 const FUEL: u32 = 1_000_000;
@@ -34,7 +35,8 @@ fn main(rt: HostRuntime) -> ExitCode {
     };
     match given.as_slice() {
         [_, name] => match source_in(&rt, name.as_str()) {
-            Ok(source) => demonstrate(&rt, &source),
+            Ok(Some(source)) => demonstrate(&rt, &source),
+            Ok(None) => too_large(&rt, name.as_str()),
             Err(_) => end(&rt, MISUSED, "cannot read the source"),
         },
         _ => end(&rt, MISUSED, "name one source file"),
@@ -47,13 +49,26 @@ fn end<W: Display + Drop>(rt: &HostRuntime, status: u8, why: W) -> ExitCode {
     ExitCode::from(status)
 }
 
-/// The source in a file of this name: its first 64 MB.
-fn source_in(rt: &HostRuntime, name: &str) -> io::Result<Vec<u8>> {
+/// Says that the source of a name is too large, in the words of `inform`.
+fn too_large(rt: &HostRuntime, name: &str) -> ExitCode {
+    let name = OneLine(name);
+    end(
+        rt,
+        MISUSED,
+        format_args!("cannot read {name}: it is larger than 67,108,864 bytes"),
+    )
+}
+
+/// The source in a file of this name; `None` where it is larger than 64 MB.
+fn source_in(rt: &HostRuntime, name: &str) -> io::Result<Option<Vec<u8>>> {
     let mut source = Vec::new(rt.alloc());
     File::open(rt, name)?
-        .take(MOST_BYTES)
+        .take(MOST_BYTES as u64 + 1)
         .read_to_end(&mut source)?;
-    Ok(source)
+    if source.len() > MOST_BYTES {
+        return Ok(None);
+    }
+    Ok(Some(source))
 }
 
 /// Compiles a source for version 5, and plays its story on the lines of standard input.

@@ -2,6 +2,7 @@
 #![tactic(auto)]
 
 mod output;
+mod part;
 mod refusals;
 mod source;
 mod words;

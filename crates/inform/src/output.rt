@@ -1,5 +1,6 @@
 //! Writing a file whole or not at all.
 
+use crate::part::new_part;
 use std::fs::{self, File, Metadata, OpenOptions, Permissions};
 use std::io::{self, ErrorKind, Write};
 use std::os::unix::fs::MetadataExt;
@@ -10,9 +11,6 @@ const STANDARD_OUTPUT: &str = "/dev/stdout";
 
 /// As many links as Linux follows from one name.
 const MAX_LINKS: u32 = 40;
-
-/// As many names as are tried for a file while it is written.
-const MAX_PARTS: u32 = 10_000;
 
 /// Whether two names lead to one regular file.
 pub fn is_one_file(rt: &HostRuntime, name: &str, other: &str) -> bool {
@@ -63,7 +61,7 @@ fn is_standard_output(rt: &HostRuntime, found: &Metadata) -> bool {
 }
 
 /// Whether these are of one file.
-fn is_same(found: &Metadata, other: &Metadata) -> bool {
+pub fn is_same(found: &Metadata, other: &Metadata) -> bool {
     (found.dev(), found.ino()) == (other.dev(), other.ino())
 }
 
@@ -90,15 +88,15 @@ fn end_of_links(rt: &HostRuntime, name: &str) -> io::Result<PathBuf> {
 }
 
 /// Puts a new file of these bytes in the place of a path, with these permissions, or else those of
-/// every new file.
+/// every new file. It stays open, and so locked, until it has the place.
 fn replace(
     rt: &HostRuntime,
     path: &PathBuf,
     permissions: Option<Permissions>,
     bytes: &[u8],
 ) -> io::Result<()> {
-    let (part, file) = new_part(rt, path)?;
-    let placed = match fill(file, permissions, bytes) {
+    let (part, mut file) = new_part(rt, path)?;
+    let placed = match fill(&mut file, permissions, bytes) {
         Ok(()) => fs::rename(rt, part.as_str(), path.as_str()),
         Err(error) => Err(error),
     };
@@ -108,22 +106,8 @@ fn replace(
     placed
 }
 
-/// A new file beside a path, `inform-0.part`, or with the first number of which there is none.
-fn new_part(rt: &HostRuntime, path: &PathBuf) -> io::Result<(PathBuf, File)> {
-    for number in 0..MAX_PARTS {
-        let name = format!(in rt.alloc(); "inform-{number}.part")?;
-        let part = path.with_file_name(rt.alloc(), name.as_str())?;
-        match File::create_new(rt, part.as_str()) {
-            Ok(file) => return Ok((part, file)),
-            Err(error) if error.kind() == ErrorKind::AlreadyExists => {}
-            Err(error) => return Err(error),
-        }
-    }
-    Err(io::Error::from(ErrorKind::AlreadyExists))
-}
-
 /// Writes all bytes to a new file, and waits until the system holds them.
-fn fill(mut file: File, permissions: Option<Permissions>, bytes: &[u8]) -> io::Result<()> {
+fn fill(file: &mut File, permissions: Option<Permissions>, bytes: &[u8]) -> io::Result<()> {
     if let Some(permissions) = permissions {
         file.set_permissions(permissions)?;
     }

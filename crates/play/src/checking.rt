@@ -10,7 +10,8 @@ use survey::{Brief, Contents, Survey};
 /// The status where a story does not load.
 const REFUSED: u8 = 1;
 
-/// The status where a story loads, but something that can be reached in it is outside the profile.
+/// The status where a story loads, but an opcode outside the profile, or one with operands outside
+/// it, can be reached in it.
 const OUTSIDE: u8 = 6;
 
 /// Says what is in the file of a name, or in a line of each of several whether it plays. The status

@@ -92,7 +92,9 @@ fn check_argument<'a>(alloc: Global) -> Arg<'a>
     Arg::new(alloc, "check")
         .long("check")
         .value_name("STORY")
-        .help("Say what is in a story file, or of each of several whether it plays; none is played")
+        .help(
+            "Say of each STORY whether it loads, and which opcodes outside the profile were reached; none is played",
+        )
         .num_args(1..)
         .exclusive(true)
         .action(ArgAction::Set)

@@ -35,7 +35,7 @@ pub struct Contents {
     /// constant targets.
     pub instructions: usize,
 
-    /// Each opcode outside the profile among them.
+    /// Each opcode outside the profile among them, or with operands outside it.
     pub outside: Vec<Outside>,
 }
 

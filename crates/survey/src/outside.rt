@@ -1,51 +1,63 @@
-//! Opcodes outside the profile that were found.
+//! What was found outside the profile.
 
 ghost use Rattle.std.specs.Prelude.{◌≡◌, OnOk};
 ghost use Rattle.survey.specs.Noted.{IsNoted};
 
 use std::alloc::AllocError;
 use std::fmt;
-use survey_opcodes::Opcode;
+use survey_opcodes::{Lack, Opcode};
 
-/// An opcode outside the profile among the instructions that can be reached. `Display` writes it
-/// with its first address, as `random (VAR 7) at 1A2C, 3 times`.
+/// An opcode outside the profile among the instructions that can be reached, or an opcode with
+/// operands outside it. `Display` writes it with its first address, as `random (VAR 7) at 1A2C, 3
+/// times`, or `aread (VAR 4) with 4 operands at 1A2C, once`.
 #[derive(Clone, Copy)]
 pub struct Outside {
     /// The opcode.
     pub opcode: Opcode,
 
-    /// The lowest address at which an instruction has it.
+    /// What the machine refuses of it.
+    pub lack: Lack,
+
+    /// The lowest address at which an instruction is so.
     pub first: usize,
 
-    /// How many instructions have it.
+    /// How many instructions are so.
     pub times: usize,
 }
 
 impl fmt::Display for Outside {
     fn fmt<W: fmt::Write>(&self, f: &mut fmt::Formatter<W>) -> fmt::Result {
         let opcode = self.opcode;
+        let lack = self.lack;
         let first = self.first;
+        write!(f, "{opcode}{lack} at {first:04X}, ")?;
         match self.times {
-            1 => write!(f, "{opcode} at {first:04X}, once"),
-            2 => write!(f, "{opcode} at {first:04X}, twice"),
-            times => write!(f, "{opcode} at {first:04X}, {times} times"),
+            1 => f.write_str("once"),
+            2 => f.write_str("twice"),
+            times => write!(f, "{times} times"),
         }
     }
 }
 
-/// Notes that the instruction at an address has an opcode outside the profile.
-pub(crate) fn note(outside: &mut Vec<Outside>, opcode: Opcode, at: usize) -> Result<(), AllocError>
-    ensures noted { OnOk result (IsNoted outside.new.items opcode) }
+/// Notes that the machine refuses this of the instruction at an address, which has this opcode.
+pub(crate) fn note(
+    outside: &mut Vec<Outside>,
+    opcode: Opcode,
+    lack: Lack,
+    at: usize,
+) -> Result<(), AllocError>
+    ensures noted { OnOk result (IsNoted outside.new.items opcode lack) }
 {
     let known = outside.len();
     for i in 0..known {
-        if outside[i].opcode == opcode {
+        if outside[i].opcode == opcode && outside[i].lack == lack {
             outside[i] = again(outside[i], at);
             return Ok(());
         }
     }
     outside.push(Outside {
         opcode,
+        lack,
         first: at,
         times: 1,
     })?;
@@ -54,10 +66,12 @@ pub(crate) fn note(outside: &mut Vec<Outside>, opcode: Opcode, at: usize) -> Res
 
 /// The same at one more address.
 fn again(found: Outside, at: usize) -> Outside
-    ensures { result.opcode ≡ found.opcode }
+    ensures opcode { result.opcode ≡ found.opcode }
+    ensures lack { result.lack ≡ found.lack }
 {
     Outside {
         opcode: found.opcode,
+        lack: found.lack,
         first: found.first.min(at),
         times: found.times.saturating_add(1),
     }

@@ -1,13 +1,13 @@
 //! The instructions and routines that can be reached from the start of a story.
 
-ghost use Rattle.std.specs.Prelude.{◌≡◌, ◌*◌, ◌≤◌, length};
+ghost use Rattle.std.specs.Prelude.{◌≡◌, ◌*◌, ◌≤◌, IfSome, length};
 ghost use Rattle.zcore.specs.Header.{scale_of};
 ghost use Rattle.zcore.specs.Layout.{longest_story};
 ghost use Rattle.zcore.specs.Parts.{jump_target, branch_target};
 
 use crate::outside::{Outside, note};
 use std::alloc::{AllocError, Global};
-use survey_opcodes::{Lead, Opcode, Shape, lead_at};
+use survey_opcodes::{Lead, Opcode, Shape, lack_at, lead_at};
 use zcore::layout::{HEADER_LENGTH, MOST_LOCALS};
 use zcore::{Header, Operand, Operation, Version};
 
@@ -20,7 +20,8 @@ pub(crate) struct Reached {
     /// How many instructions.
     pub instructions: usize,
 
-    /// Each opcode outside the profile among them, in the order in which they were met.
+    /// Each opcode outside the profile among them, or with operands outside it, in the order in
+    /// which they were met.
     pub outside: Vec<Outside>,
 }
 
@@ -118,29 +119,16 @@ impl Walk {
         let Some(opcode) = Opcode::read(story, at) else {
             return Ok(());
         };
-        match opcode.operation() {
-            Some(operation) => match lead_at(story, at, Shape::known(operation)) {
-                Some(lead) => {
-                    self.count();
-                    self.follow(story, onward_of(operation), lead)
-                }
-                None => Ok(()),
-            },
-            None => self.look_outside(story, opcode, at),
+        let lack = lack_at(story, at);
+        if let Some(lack) = lack {
+            note(&mut self.found.outside, opcode, lack, at)?;
         }
-    }
-
-    /// Looks at an instruction with an opcode outside the profile.
-    fn look_outside(&mut self, story: &[u8], opcode: Opcode, at: usize) -> Result<(), AllocError>
-        requires { length story.now ≤ longest_story }
-    {
-        self.count();
-        note(&mut self.found.outside, opcode, at)?;
-        let Some(shape) = Shape::outside(opcode) else {
-            return Ok(());
-        };
-        match lead_at(story, at, shape) {
-            Some(lead) => self.follow(story, Onward::Next, lead),
+        let lead = way_on(story, opcode, at);
+        if lack.is_some() || lead.is_some() {
+            self.count();
+        }
+        match lead {
+            Some((onward, lead)) => self.follow(story, onward, lead),
             None => Ok(()),
         }
     }
@@ -214,6 +202,19 @@ impl Walk {
         }
         Ok(())
     }
+}
+
+/// How the instruction with an opcode at an address goes on, and where it leads, whether the machine
+/// knows it or not. `None` where nothing is reached from it.
+fn way_on(story: &[u8], opcode: Opcode, at: usize) -> Option<(Onward, Lead)>
+    requires { length story.now ≤ longest_story }
+    ensures { IfSome result (λ way. way.1.after ≤ length story.now) }
+{
+    let (onward, shape) = match opcode.operation() {
+        Some(operation) => (onward_of(operation), Shape::known(operation)),
+        None => (Onward::Next, Shape::outside(opcode)?),
+    };
+    Some((onward, lead_at(story, at, shape)?))
 }
 
 /// Marks an address, where there is one that was not marked.

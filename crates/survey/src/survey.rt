@@ -37,7 +37,7 @@ pub struct Survey {
     pub found: Result<Contents, HeaderFault>,
 }
 
-/// A survey in a few words: `loads`, `Z7`, or `needs random, save`.
+/// A survey in a few words: `loads`, `Z7`, or `needs random, aread with 4 operands`.
 #[derive(Clone, Copy)]
 pub struct Brief<'a>(pub &'a Survey);
 
@@ -183,6 +183,8 @@ fn write_needs<W: fmt::Write>(f: &mut fmt::Formatter<W>, contents: &Contents) ->
                 write!(f, "{number}")?;
             }
         }
+        let lack = outside.lack;
+        write!(f, "{lack}")?;
         before = ", ";
     }
     Ok(())

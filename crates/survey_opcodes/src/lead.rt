@@ -38,17 +38,15 @@ pub struct Lead {
     pub after: usize,
 }
 
-/// Where the instruction at an address leads, behind whose opcode these things stand. `None` where
-/// it leaves the story, or its operands are not those of the shape.
+/// Where the instruction at an address leads, behind whose opcode these things stand, whatever the
+/// number of its operands. `None` where it leaves the story, or where an operand stands after an
+/// omitted one.
 pub fn lead_at(story: &[u8], at: usize, shape: Shape) -> Option<Lead>
     requires { length story.now ≤ longest_story }
     ensures { IfSome result (λ lead. lead.after ≤ length story.now) }
 {
     let (kinds, from) = kinds_at(story, at, shape.has_more_types)?;
-    let count = count_given(&kinds)?;
-    if count < shape.least_operands || shape.most_operands < count {
-        return None;
-    }
+    count_given(&kinds)?;
     let behind = from + bytes_of_all(kinds);
     let behind = if shape.has_result { behind + 1 } else { behind };
     let (branch, after) = if shape.has_branch {
@@ -68,7 +66,7 @@ pub fn lead_at(story: &[u8], at: usize, shape: Shape) -> Option<Lead>
 
 /// The types of operands of the instruction at an address, and the address of the first operand
 /// (section 4.4).
-fn kinds_at(story: &[u8], at: usize, more: bool) -> Option<([u8; 8], usize)>
+pub(crate) fn kinds_at(story: &[u8], at: usize, more: bool) -> Option<([u8; 8], usize)>
     requires { length story.now ≤ longest_story }
     ensures { IfSome result (λ x. x.1 ≤ length story.now + 3) }
 {
@@ -128,7 +126,7 @@ fn joined(first: [u8; 4], second: [u8; 4]) -> [u8; 8]
 }
 
 /// How many operands are given; `None` where one stands after an omitted one (section 4.4.3).
-fn count_given(kinds: &[u8; 8]) -> Option<usize> {
+pub(crate) fn count_given(kinds: &[u8; 8]) -> Option<usize> {
     let mut count = 0;
     for i in 0..8 {
         if kinds[i] != OMITTED {

@@ -2,11 +2,13 @@
 #![tactic(auto)]
 
 mod forms;
+mod lack;
 mod lead;
 mod names;
 mod opcode;
 mod shape;
 
+pub use lack::{Lack, lack_at};
 pub use lead::{Lead, lead_at};
 pub use opcode::{Numbering, Opcode};
 pub use shape::Shape;

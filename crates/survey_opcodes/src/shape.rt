@@ -1,6 +1,6 @@
 //! What stands behind an opcode, and so where the next instruction stands.
 
-ghost use Rattle.std.specs.Prelude.{◌≡◌, Some};
+ghost use Rattle.std.specs.Prelude.{◌≡◌, ◌&&◌, nat_le, Some};
 ghost use Rattle.zcore.specs.declared.instruction.Operation.{Operation};
 ghost use Rattle.zcore.specs.Operations as table;
 ghost use Rattle.survey_opcodes.specs.Opcodes.{operation_of};
@@ -46,6 +46,13 @@ impl Shape {
             has_result: operation.has_result(),
             has_branch: operation.has_branch(),
         }
+    }
+
+    /// Whether the opcode takes so many operands.
+    pub fn takes(self, count: usize) -> bool
+        ensures { result ≡ (nat_le self.least_operands count && nat_le count self.most_operands) }
+    {
+        self.least_operands <= count && count <= self.most_operands
     }
 
     /// What stands behind an opcode outside the profile. `None` where no instruction after it is
