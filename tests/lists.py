@@ -2,7 +2,7 @@
 
 - in the README of a crate the paragraph that begins with `Stage:`: its part of crates.txt, the crates that it stands
   on and those that stand on it; of each, only those with no other between them
-- in README.md the crates by their parts, each with the first line of its README
+- in docs/ARCHITECTURE.md the crates by their parts, each with the first line of its README
 - in docs/CHANGING.md the crates by their parts, and the table of what a change costs: how many crates, and minutes
 - in docs/COSTS.md the table of the gate, by the seconds in seconds.txt
 - in docs/PROVING.md the number of crates
@@ -86,11 +86,11 @@ def with_stage(text, crates, name):
 
 
 def with_crates(text, crates):
-    """README.md with the crates by their parts."""
+    """ARCHITECTURE.md with the crates by their parts."""
     lines = []
     for part, names in crates.parts.items():
-        lines.append(f"### {part}")
-        lines += [wrapped(f"- [`{name}`](crates/{name}/README.md): {title_of(name)}", "  ") for name in names]
+        lines.append(f"\n### {part}\n")
+        lines += [wrapped(f"- [`{name}`](../crates/{name}/README.md): {title_of(name)}", "  ") for name in names]
     return between(text, "## Crates\n", "\n## ", "\n".join(lines) + "\n")
 
 
@@ -176,7 +176,7 @@ def documents():
         wanted = with_stage(now, crates, name)
         yield readme_of(name), now, with_rows(wanted, name) if name in ROWS else wanted
     for name, change in (
-        ("README.md", with_crates),
+        ("docs/ARCHITECTURE.md", with_crates),
         ("docs/CHANGING.md", lambda text, crates: with_costs(with_map(text, crates), crates)),
         ("docs/COSTS.md", with_seconds),
         ("docs/PROVING.md", with_number),
