@@ -1,12 +1,18 @@
 //! What of an instruction the machine refuses.
 
-ghost use Rattle.std.specs.Prelude.{◌≤◌, length};
+ghost use Rattle.std.specs.Prelude.{◌≡◌, ◌≤◌, ℕ, List, Some, IfSome, length};
+ghost use Rattle.zcore.specs.Instruction.{opcode, opcode_of};
 ghost use Rattle.zcore.specs.Layout.{longest_story};
+ghost use Rattle.survey_opcodes.specs.Lacks.{is_refused, is_said, typed, variable, IsLackOf, IsOperandsLack};
+ghost use Rattle.survey_opcodes.specs.Opcodes.{opcode_at};
 
-use crate::lead::{count_given, kinds_at};
-use crate::opcode::Opcode;
+use crate::forms::{EXTENDED, SHORT_FORM, SHORT_FORM_0OP, VARIABLE_FORM};
+use crate::given::count_given;
+use crate::lead::{joined, types_of};
+use crate::opcode::plain;
 use crate::shape::Shape;
 use std::fmt;
+use zcore::Operation;
 
 /// What of an instruction the machine refuses with M1. `Display` writes what is said behind the
 /// opcode: nothing, ` with 4 operands`, or ` with an operand after an omitted one`.
@@ -38,16 +44,65 @@ impl fmt::Display for Lack {
 /// nothing, and where the story does not have the bytes of the opcode and of the operands' types.
 pub fn lack_at(story: &[u8], at: usize) -> Option<Lack>
     requires { length story.now ≤ longest_story }
+    ensures said { is_said result ≡ is_refused (opcode story.now at) }
+    ensures lack { IfSome (opcode_at story.now at) (λ x. IfSome result (IsLackOf x)) }
 {
-    let opcode = Opcode::read(story, at)?;
-    let Some(operation) = opcode.operation() else {
+    if story.len() <= at {
+        return None;
+    }
+    let first = story[at];
+    if first == EXTENDED {
         return Some(Lack::Opcode);
-    };
-    let shape = Shape::known(operation);
-    let (kinds, _) = kinds_at(story, at, shape.has_more_types)?;
-    match count_given(&kinds) {
+    }
+    match plain(first).operation() {
+        None => Some(Lack::Opcode),
+        Some(operation) if first < SHORT_FORM => count_lack(operation, 2),
+        Some(operation) if first < SHORT_FORM_0OP => count_lack(operation, 1),
+        Some(operation) if first < VARIABLE_FORM => count_lack(operation, 0),
+        Some(operation) => variable_lack(story, at + 1, operation),
+    }
+}
+
+/// What is refused of so many operands of an operation.
+fn count_lack(operation: Operation, count: usize) -> Option<Lack>
+    ensures said { (types : List ℕ) → (at : ℕ) → length types ≡ count
+        → is_said result ≡ is_refused (opcode_of (Some operation) types at) }
+    ensures lack { IfSome result (IsOperandsLack operation) }
+{
+    if Shape::known(operation).takes(count) {
+        None
+    } else {
+        Some(Lack::Operands(count))
+    }
+}
+
+/// What is refused of an operation in variable form, whose operands' types lie at an address.
+fn variable_lack(story: &[u8], at: usize, operation: Operation) -> Option<Lack>
+    requires at { at ≤ longest_story }
+    ensures said { is_said result ≡ is_refused (variable story.now operation at) }
+    ensures lack { IfSome result (IsOperandsLack operation) }
+{
+    if operation.has_more_types() {
+        if story.len() <= at + 1 {
+            return None;
+        }
+        let kinds = joined(types_of(story[at]), types_of(story[at + 1]));
+        return kinds_lack(operation, &kinds);
+    }
+    if story.len() <= at {
+        return None;
+    }
+    kinds_lack(operation, &types_of(story[at]))
+}
+
+/// What is refused of an operation with these types of operands.
+fn kinds_lack(operation: Operation, kinds: &[u8]) -> Option<Lack>
+    requires { length kinds.now ≤ 8 }
+    ensures said { (at : ℕ) → is_said result ≡ is_refused (typed operation kinds.now at) }
+    ensures lack { IfSome result (IsOperandsLack operation) }
+{
+    match count_given(kinds) {
         None => Some(Lack::Gap),
-        Some(count) if shape.takes(count) => None,
-        Some(count) => Some(Lack::Operands(count)),
+        Some(count) => count_lack(operation, count),
     }
 }

@@ -5,6 +5,7 @@ ghost use Rattle.zcore.specs.Layout.{longest_story};
 ghost use Rattle.zcore.specs.Instruction.{types_of};
 
 use crate::forms::{EXTENDED, SHORT_FORM, SHORT_FORM_0OP, SHORT_OPCODE_NUMBERS, VARIABLE_FORM};
+use crate::given::count_given;
 use crate::shape::Shape;
 use zcore::Operand;
 
@@ -14,7 +15,7 @@ const LARGE: u8 = 0;
 
 const SMALL: u8 = 1;
 
-const OMITTED: u8 = 3;
+pub(crate) const OMITTED: u8 = 3;
 
 /// In long form the bit that is set where the first operand is a variable (section 4.4.2).
 const FIRST_IS_VARIABLE: u8 = 0x40;
@@ -66,7 +67,7 @@ pub fn lead_at(story: &[u8], at: usize, shape: Shape) -> Option<Lead>
 
 /// The types of operands of the instruction at an address, and the address of the first operand
 /// (section 4.4).
-pub(crate) fn kinds_at(story: &[u8], at: usize, more: bool) -> Option<([u8; 8], usize)>
+fn kinds_at(story: &[u8], at: usize, more: bool) -> Option<([u8; 8], usize)>
     requires { length story.now ≤ longest_story }
     ensures { IfSome result (λ x. x.1 ≤ length story.now + 3) }
 {
@@ -110,33 +111,19 @@ fn typed(story: &[u8], at: usize, more: bool) -> Option<([u8; 8], usize)>
 }
 
 /// The four types of operands in a byte, two bits each, the highest first.
-fn types_of(byte: u8) -> [u8; 4]
+pub(crate) fn types_of(byte: u8) -> [u8; 4]
     ensures { result ≡ types_of byte }
 {
     [byte / 64, byte / 16 % 4, byte / 4 % 4, byte % 4]
 }
 
 /// Four types and four more.
-fn joined(first: [u8; 4], second: [u8; 4]) -> [u8; 8]
+pub(crate) fn joined(first: [u8; 4], second: [u8; 4]) -> [u8; 8]
     ensures { result ≡ first ++ second }
 {
     let [a, b, c, d] = first;
     let [e, f, g, h] = second;
     [a, b, c, d, e, f, g, h]
-}
-
-/// How many operands are given; `None` where one stands after an omitted one (section 4.4.3).
-pub(crate) fn count_given(kinds: &[u8; 8]) -> Option<usize> {
-    let mut count = 0;
-    for i in 0..8 {
-        if kinds[i] != OMITTED {
-            if count < i {
-                return None;
-            }
-            count = i + 1;
-        }
-    }
-    Some(count)
 }
 
 /// How many bytes the operands of these types have.

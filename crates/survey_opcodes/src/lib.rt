@@ -2,6 +2,7 @@
 #![tactic(auto)]
 
 mod forms;
+mod given;
 mod lack;
 mod lead;
 mod names;

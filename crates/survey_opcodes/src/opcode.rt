@@ -124,7 +124,7 @@ fn extended(story: &[u8], at: usize) -> Option<Opcode>
 }
 
 /// The opcode of another first byte.
-fn plain(first: u8) -> Opcode
+pub(crate) fn plain(first: u8) -> Opcode
     ensures { result ≡ plain first }
 {
     if first < SHORT_FORM {
