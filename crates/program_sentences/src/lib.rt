@@ -5,6 +5,7 @@
 mod arguments;
 mod arrays;
 mod assignments;
+mod causes;
 mod definitions;
 mod duplicates;
 mod grammar;
@@ -12,6 +13,7 @@ mod kinds;
 mod limits;
 mod objects;
 mod operands;
+mod repairs;
 mod sentence;
 mod tokens;
 mod unknown;

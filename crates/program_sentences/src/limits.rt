@@ -2,7 +2,7 @@
 
 use crate::definitions::{Defined, Definition};
 use crate::duplicates::is_abbreviation;
-use crate::tokens::is_sign;
+use crate::tokens::ends_within;
 use meaning::limits::{
     MOST_ARGUMENTS, MOST_GLOBALS, MOST_OBJECTS, MOST_PROPERTIES, MOST_PROPERTY_WORDS,
     MOST_TEMPORARIES,
@@ -11,7 +11,7 @@ use meaning::name_words;
 use program_facts::temporaries_of;
 use source_sentences::Figure;
 use std::alloc::{AllocError, Global};
-use syntax::{Kind, Sign, Token};
+use syntax::{Kind, Token};
 use zcore::MOST_ABBREVIATIONS;
 use zcore::layout::{ATTRIBUTE_COUNT, LONGEST_SHORT_NAME, MOST_LOCALS};
 
@@ -27,17 +27,6 @@ fn definitions(what: Definition) -> Option<Limit> {
         Definition::Object => Some((MOST_OBJECTS, "objects")),
         _ => None,
     }
-}
-
-/// Whether a definition ends, or the locals of a routine, from the token of one number to that of
-/// another.
-fn ends_within(tokens: &[Token<'_>], from: usize, to: usize) -> bool {
-    for number in from..to {
-        if is_sign(tokens, number, Sign::Semicolon) {
-            return true;
-        }
-    }
-    false
 }
 
 /// The limit that is passed at the token of a number behind the name of a definition.

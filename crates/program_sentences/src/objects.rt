@@ -34,3 +34,31 @@ pub fn is_behind_has(tokens: &[Token<'_>], object: usize, at: usize) -> bool {
     }
     false
 }
+
+/// Whether a name within an object is a value of a property, or in the place of its parent, and no
+/// property is before it that has no value yet.
+fn is_after_value(tokens: &[Token<'_>], at: usize) -> bool {
+    let last = before(at, 1);
+    !is_word(tokens, last, Word::With) && !is_property(tokens, last)
+}
+
+/// Whether `has` may be missing before an attribute within the object whose name has a number: what
+/// is after it may be in a list of attributes.
+pub fn may_lack_has(tokens: &[Token<'_>], object: usize, at: usize) -> bool {
+    let next = behind(at, 1);
+    is_after_value(tokens, at)
+        && !is_behind_has(tokens, object, at)
+        && (is_name(tokens, next) || is_sign(tokens, next, Sign::Semicolon))
+}
+
+/// Whether `,` may be missing before a property within the object whose name has a number: it is
+/// after a value, and has one.
+pub fn may_lack_comma(tokens: &[Token<'_>], object: usize, at: usize) -> bool {
+    let next = behind(at, 1);
+    is_after_value(tokens, at)
+        && !is_sign(tokens, before(at, 1), Sign::Comma)
+        && !is_parent(tokens, object, at)
+        && !is_behind_has(tokens, object, at)
+        && !is_sign(tokens, next, Sign::Semicolon)
+        && !is_sign(tokens, next, Sign::Comma)
+}

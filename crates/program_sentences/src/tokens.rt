@@ -67,3 +67,40 @@ pub fn line_of(tokens: &[Token<'_>], at: usize) -> usize {
         None => 0,
     }
 }
+
+/// Whether a statement ends or begins with a sign.
+fn divides(sign: Sign) -> bool {
+    matches!(sign, Sign::Semicolon | Sign::OpenBrace | Sign::CloseBrace)
+}
+
+/// Whether a statement ends or begins with the token of a number.
+pub fn divides_at(tokens: &[Token<'_>], at: usize) -> bool {
+    match kind_at(tokens, at) {
+        Kind::Sign(sign) => divides(sign),
+        _ => false,
+    }
+}
+
+/// Whether the token of a number is in a statement after a reserved word.
+pub fn is_after_word(tokens: &[Token<'_>], at: usize, word: Word) -> bool {
+    for count in 1..at {
+        let number = before(at, count);
+        if is_word(tokens, number, word) {
+            return true;
+        }
+        if divides_at(tokens, number) {
+            return false;
+        }
+    }
+    false
+}
+
+/// Whether a `;` is among the tokens from one number to another.
+pub fn ends_within(tokens: &[Token<'_>], from: usize, to: usize) -> bool {
+    for number in from..to {
+        if is_sign(tokens, number, Sign::Semicolon) {
+            return true;
+        }
+    }
+    false
+}

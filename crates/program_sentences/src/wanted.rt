@@ -2,7 +2,7 @@
 
 use crate::objects::{is_behind_has, is_parent, is_property};
 use crate::operands::{begins_expression, ends_operand, is_step, owns_parentheses};
-use crate::tokens::{before, behind, is_sign, is_word, kind_at};
+use crate::tokens::{before, behind, divides_at, is_after_word, is_sign, is_word, kind_at};
 use syntax::{Kind, Sign, Token, Word};
 
 const ARRAY: &str = "an array";
@@ -35,33 +35,6 @@ pub fn wanted_in_object(tokens: &[Token<'_>], object: usize, at: usize) -> &'sta
     }
 }
 
-/// Whether a statement ends or begins with a sign.
-fn divides(sign: Sign) -> bool {
-    matches!(sign, Sign::Semicolon | Sign::OpenBrace | Sign::CloseBrace)
-}
-
-/// Whether a statement ends or begins with the token of a number.
-fn divides_at(tokens: &[Token<'_>], at: usize) -> bool {
-    match kind_at(tokens, at) {
-        Kind::Sign(sign) => divides(sign),
-        _ => false,
-    }
-}
-
-/// Whether a name stands in a `give`, from its word on.
-fn is_in_give(tokens: &[Token<'_>], at: usize) -> bool {
-    for count in 1..at {
-        let number = before(at, count);
-        if is_word(tokens, number, Word::Give) {
-            return true;
-        }
-        if divides_at(tokens, number) {
-            return false;
-        }
-    }
-    false
-}
-
 /// Whether a name is one of the attributes of a `give`: it stands behind an operand, as no name in
 /// an expression does.
 fn is_given(tokens: &[Token<'_>], at: usize) -> bool {
@@ -70,7 +43,7 @@ fn is_given(tokens: &[Token<'_>], at: usize) -> bool {
     } else {
         before(at, 1)
     };
-    ends_operand(tokens, last) && is_in_give(tokens, at)
+    ends_operand(tokens, last) && is_after_word(tokens, at, Word::Give)
 }
 
 /// Whether parentheses that hold an expression stand so far around a name.
@@ -161,6 +134,51 @@ fn wanted_before_token(tokens: &[Token<'_>], at: usize) -> Option<&'static str> 
     }
 }
 
+/// Whether a case of a `switch` may have the token of a number among its values.
+fn may_be_in_case(tokens: &[Token<'_>], at: usize) -> bool {
+    match kind_at(tokens, at) {
+        Kind::Sign(sign) => matches!(sign, Sign::Comma | Sign::Minus),
+        Kind::Reserved(word) => {
+            matches!(word, Word::To | Word::True | Word::False | Word::Nothing)
+        }
+        Kind::Name(_) => true,
+        Kind::Number(_) => true,
+        Kind::Character(_) => true,
+        Kind::DictionaryWord(_) => true,
+        _ => false,
+    }
+}
+
+/// Whether a `:` ends the values among which a name is.
+fn is_before_colon(tokens: &[Token<'_>], at: usize) -> bool {
+    for number in at..tokens.len() {
+        if !may_be_in_case(tokens, number) {
+            return is_sign(tokens, number, Sign::Colon);
+        }
+    }
+    false
+}
+
+/// Whether no parenthesis is before a name in its statement.
+fn is_bare(tokens: &[Token<'_>], at: usize) -> bool {
+    for count in 1..at {
+        let number = before(at, count);
+        if is_sign(tokens, number, Sign::OpenParenthesis) {
+            return false;
+        }
+        if divides_at(tokens, number) {
+            return true;
+        }
+    }
+    false
+}
+
+/// Whether a name is among the values of a case: what else is before a `:` is in the parentheses of
+/// a `for`.
+fn is_in_case(tokens: &[Token<'_>], at: usize) -> bool {
+    is_before_colon(tokens, at) && is_bare(tokens, at)
+}
+
 /// What is wanted in an expression where a name stands. A variable that cannot stand as a value
 /// stands in a case.
 fn wanted_in_expression(tokens: &[Token<'_>], at: usize, variable: bool) -> &'static str {
@@ -169,7 +187,7 @@ fn wanted_in_expression(tokens: &[Token<'_>], at: usize, variable: bool) -> &'st
         None => {
             if is_target(tokens, at) {
                 VARIABLE
-            } else if variable {
+            } else if variable || is_in_case(tokens, at) {
                 CONSTANT
             } else {
                 VALUE

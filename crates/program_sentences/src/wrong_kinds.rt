@@ -2,6 +2,7 @@
 
 use crate::definitions::{Defined, Definition, binding_in};
 use crate::kinds::{array_kind, is_variable, kind_of};
+use crate::objects::{may_lack_comma, may_lack_has};
 use crate::wanted::{CONSTANT, is_read, wanted_in_object, wanted_in_statement};
 use checker_names::{Binding, Table};
 use source_sentences::Quoted;
@@ -43,6 +44,45 @@ fn wanted(tokens: &[Token<'_>], at: usize, around: Defined, variable: bool) -> &
     }
 }
 
+/// What may be missing before a name within the object whose name has a number, if its kind tells.
+fn lacking(
+    tokens: &[Token<'_>],
+    object: usize,
+    at: usize,
+    binding: Binding,
+) -> Option<&'static str> {
+    match binding {
+        Binding::Attribute(_) if may_lack_has(tokens, object, at) => Some("has"),
+        Binding::Property(_) if may_lack_comma(tokens, object, at) => Some(","),
+        _ => None,
+    }
+}
+
+/// What may be missing before a name in a definition.
+fn lacking_in(
+    tokens: &[Token<'_>],
+    at: usize,
+    around: Defined,
+    binding: Binding,
+) -> Option<&'static str> {
+    match around.what {
+        Definition::Object => lacking(tokens, around.name, at, binding),
+        _ => None,
+    }
+}
+
+/// What is wrong with a name before which something may be missing.
+fn after_gap(
+    alloc: Global,
+    name: &[u8],
+    binding: Binding,
+    missing: &str,
+) -> Result<String, AllocError> {
+    let name = Quoted(name);
+    let kind = kind_of(binding);
+    format!(in alloc; "{name} is {kind}; '{missing}' may be missing before it")
+}
+
 /// What is wrong with a name in a definition.
 fn misnamed(
     alloc: Global,
@@ -54,6 +94,9 @@ fn misnamed(
 ) -> Result<String, AllocError> {
     if is_read(tokens, at) {
         return read(alloc, name, binding);
+    }
+    if let Some(missing) = lacking_in(tokens, at, around, binding) {
+        return after_gap(alloc, name, binding, missing);
     }
     let wanted = wanted(tokens, at, around, is_variable(binding));
     other(alloc, name, binding, wanted)

@@ -4,7 +4,7 @@ use crate::runs::{Class, byte_of_line, from, front, run_length};
 use std::alloc::{AllocError, Global};
 
 /// Where what is quoted has no end.
-const NO_END: &str = "the closing quote is missing in this line";
+const NO_END: &str = "no quote closes this one in its line";
 
 /// What is wrong with a text, from the byte behind its quote on.
 fn text(alloc: Global, rest: &[u8]) -> Result<Option<String>, AllocError> {
