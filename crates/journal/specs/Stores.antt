@@ -3,13 +3,9 @@ use Rattle.std.specs.Prelude.{◌≡◌, ℕ, ◌+◌, ◌*◌, ◌<◌, ◌≤�
 use Rattle.journal.specs.declared.cells.Cells.{Ghosts}
 use Rattle.journal.specs.Pages.{cells_of, whole_page}
 use Rattle.journal.specs.Recording.{Recording}
-use Rattle.journal.specs.Swap.{back, forward, Fits, FitsCell, Swapped}
+use Rattle.journal.specs.Swap.{back, forward, Fits, Swapped}
 
 module _ {C : Type 0} (g : Ghosts C) where
-  -- the store has such a cell, and the value is within its bound
-  abbrev pub MayHold : C → ℕ → ℕ → Type 0
-  MayHold store cell value = FitsCell (length (g.cells store)) (g.bounds store) (cell, value)
-
   -- each entry names a cell of the store, and a value within its bound
   abbrev pub FitsIn : C → List (ℕ × ℕ) → Type 0
   FitsIn store entries = Fits (length (g.cells store)) (g.bounds store) entries

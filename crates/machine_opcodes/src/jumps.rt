@@ -160,7 +160,7 @@ pub fn check_argument_count(
 /// Where a jump goes: an offset counts from the address after the instruction, and 2 more. Below 0
 /// is 0.
 #[inline(always)]
-pub fn jump_target(after: u32, offset: u16) -> u32
+fn jump_target(after: u32, offset: u16) -> u32
     requires { after ≤ longest_story }
     ensures { result ≡ jump_target after offset }
 {

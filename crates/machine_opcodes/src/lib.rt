@@ -18,7 +18,7 @@ pub use arithmetic::{
 };
 pub use calls::{call_packed, give_back, return_popped, unpacked};
 pub use ending::Ending;
-pub use jumps::{branch_on, branch_target, check_argument_count, jump, jump_target, test_branch};
+pub use jumps::{branch_on, branch_target, check_argument_count, jump, test_branch};
 pub use lines::read;
 pub use memory::{load_byte, load_word, store_byte, store_word, word_address};
 pub use printing::{
