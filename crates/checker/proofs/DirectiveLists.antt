@@ -5,7 +5,7 @@ use Rattle.syntax_directives.specs.Tree.{DirectiveTree, global, constant, array,
 use Rattle.checker_names.specs.Names.{File}
 use Rattle.checker.specs.Programs.{globals_of, defaults_in, routines_of, routine_trees}
 use Rattle.checker.specs.Checked.{title}
-use Rattle.checker_objects.specs.Objects.{objects_in}
+use Rattle.checker_objects.specs.FirstListed.{first_objects_in}
 
 pub globals_more : (file : File) (d : DirectiveTree) (ds : List DirectiveTree)
     → globals_of file (d ∷ ds) ≡ globals_of file (d ∷ []) ++ globals_of file ds
@@ -48,7 +48,7 @@ defaults_more file (object o) ds = refl
 defaults_more file (routine r) ds = refl
 
 pub objects_more : (file : File) (d : DirectiveTree) (ds : List DirectiveTree)
-    → objects_in file (d ∷ ds) ≡ objects_in file (d ∷ []) ++ objects_in file ds
+    → first_objects_in file (d ∷ ds) ≡ first_objects_in file (d ∷ []) ++ first_objects_in file ds
 objects_more file (global n v) ds = refl
 objects_more file (constant n v) ds = refl
 objects_more file (array a) ds = refl

@@ -27,7 +27,8 @@ use Rattle.checker_values.specs.Literals.{initial_value}
 use Rattle.checker_arrays.specs.Arrays.{array_bytes, arrays_of}
 use Rattle.checker_arrays.specs.Entries.{IsArrayAdded}
 use Rattle.checker_arrays.proofs.ArrayLists.{bytes_more, list_step, sizes_more}
-use Rattle.checker_objects.specs.Objects.{object_in, objects_in}
+use Rattle.checker_objects.specs.Objects.{object_in}
+use Rattle.checker_objects.specs.FirstListed.{first_listed, first_objects_in}
 use Rattle.checker.specs.declared.directive_rules.ResolvedFile.{ResolvedFile}
 use Rattle.checker.specs.Resolving.{IsAdded, IsAdding}
 use Rattle.checker.specs.Programs.{globals_of, defaults_in, routines_of, resolve_routine, routine_trees}
@@ -95,7 +96,7 @@ added_global file d n v old new x is more value keeps = rw is (record {
 -- nothing is added
 nothing_added : (file : File) (ds : List DirectiveTree) (old : ResolvedFile) → globals_of file ds ≡ []
     → concat (arrays_of file ds) ≡ [] → map length (arrays_of file ds) ≡ [] → defaults_in file ds ≡ []
-    → objects_in file ds ≡ [] → routines_of file ds ≡ [] → map title (routine_trees ds) ≡ [] → IsAdded file ds old old
+    → first_objects_in file ds ≡ [] → routines_of file ds ≡ [] → map title (routine_trees ds) ≡ [] → IsAdded file ds old old
 nothing_added file ds old g b s w o r t = record {
   globals = nothing_more old.globals.items ∙ ap (λ x. old.globals.items ++ x) (sym g);
   bytes = nothing_more old.arrays.bytes.items ∙ ap (λ x. old.arrays.bytes.items ++ x) (sym b);
@@ -150,7 +151,7 @@ added_property file d n v old new x is more value keeps = rw is (record {
 })
 
 pub added_object : (file : File) (d : DirectiveTree) (o : ObjectTree) (old new : ResolvedFile) (c : CheckedObject)
-    → d ≡ object o → new.objects.items ≡ old.objects.items ++ c ∷ [] → object_of c ≡ object_in file o
+    → d ≡ object o → new.objects.items ≡ old.objects.items ++ c ∷ [] → object_of c ≡ object_in file (first_listed o)
     → KeepsButObjects old new → IsAdded file (d ∷ []) old new
 added_object file d o old new c is more value keeps = rw is (record {
   globals = ap (λ (gs : Vec ℕ). gs.items) keeps.globals ∙ nothing_more old.globals.items;
@@ -203,7 +204,7 @@ adding_more file ds i x first old new lt is a h = record {
       old.arrays.sizes.items new.arrays.sizes.items ds i x lt is a.sizes ∙ h.sizes;
   defaults = list_step (λ (q : List DirectiveTree). defaults_in file q) (defaults_more file) old.defaults.items
       new.defaults.items ds i x lt is a.defaults ∙ h.defaults;
-  objects = list_step (λ (q : List DirectiveTree). objects_in file q) (objects_more file)
+  objects = list_step (λ (q : List DirectiveTree). first_objects_in file q) (objects_more file)
       (map object_of old.objects.items) (map object_of new.objects.items) ds i x lt is a.objects ∙ h.objects;
   routines = list_step (λ (q : List DirectiveTree). routines_of file q) (routines_more file)
       (map routine_of old.routines.items) (map routine_of new.routines.items) ds i x lt is a.routines ∙ h.routines;

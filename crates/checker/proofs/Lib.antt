@@ -21,5 +21,6 @@ mod Renumbered
 mod Bindings
 mod Placed
 mod FewDirectives
+mod FewListed
 mod Acceptance
 mod Printable

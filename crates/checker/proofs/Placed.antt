@@ -1,6 +1,6 @@
 -- Objects of a program that breaks no rule are within their limits.
 use Rattle.std.proofs.Common.{◌≡◌, ◌<◌, ◌≤◌, ◌+◌, ◌-◌, ◌%◌, ℕ, zero, suc, nat_le, nat_lt, Bool, true, false, cond, List}
-use Rattle.std.proofs.Common.{[], ◌∷◌, ◌++◌, length, take, slice_index_or, Option, Some, None, refl, sym, ap, subst}
+use Rattle.std.proofs.Common.{[], ◌∷◌, ◌++◌, length, slice_index_or, Option, Some, None, refl, sym, ap, subst}
 use Rattle.std.proofs.Common.{arith}
 use Rattle.std.specs.Prelude.{map, slice_get}
 use Rattle.std.specs.List.{flat_map, All}
@@ -24,7 +24,7 @@ use Rattle.checker_values.specs.Expressions.{property_breaches}
 use Rattle.checker_objects.specs.Objects.{excess_breaches, count_breaches, value_breaches, provided_breaches}
 use Rattle.checker_objects.specs.Objects.{property_name, given_breaches, short_breaches, object_breaches, Open, open_to}
 use Rattle.checker_objects.specs.Objects.{above_of, opened, arrow_breaches, parent_breaches, named_parent_breaches}
-use Rattle.checker_objects.specs.Objects.{most_provided, stand_breaches, standing_from, word_of, with_property}
+use Rattle.checker_objects.specs.Objects.{stand_breaches, standing_from, word_of, with_property}
 use Rattle.checker_objects.specs.Objects.{provided_of, with_properties, given_of, short_name, object_in, above_number}
 use Rattle.checker_objects.specs.Objects.{object_of_binding, parent_number, parents_from, placed, exactly, all_defaults}
 use Rattle.checker.specs.Programs.{defaults_in}
@@ -70,14 +70,6 @@ no_excess (Some v) h = absurd cc
 counted : (p : Position) (vs : List ValueTree) → count_breaches p vs ≡ [] → (1 ≤ length vs) × (length vs ≤ 32)
 counted p [] h = absurd cc
 counted p (v ∷ vs) h = (omega arith, none_behind (v ∷ vs) 32 (no_excess (slice_get (v ∷ vs) 32) h))
-
-none_taken : {A B : Type 0} (f : A → List B) (n : ℕ) (xs : List A) → flat_map f xs ≡ []
-    → flat_map f (take n xs) ≡ []
-none_taken f zero xs h = refl
-none_taken f (suc n) [] h = refl
-none_taken f (suc n) (x ∷ xs) h =
-    let own = left_empty (f x) (flat_map f xs) h in
-    rw own (none_taken f n xs (right_empty (f x) (flat_map f xs) h))
 
 put : (P : ℕ × List ℕ → Type 0) (x : ℕ × List ℕ) (ys : List (ℕ × List ℕ)) → P x → All P ys → All P (with_property x ys)
 put P x [] h all = All-cons P x [] h all
@@ -139,9 +131,7 @@ module _ (p : ProgramOf) (attributes properties : ℕ) (few : attributes ≤ 48)
       record {
         name = short_within o.short (left_empty text (twice ++ (provided ++ given)) h);
         attributes = given_within o.attributes (right_empty provided given rest);
-        properties = properties_within [] (take most_provided o.properties)
-            (none_taken (provided_breaches file.table) most_provided o.properties (left_empty provided given rest))
-            (All-nil IsProvided);
+        properties = properties_within [] o.properties (left_empty provided given rest) (All-nil IsProvided);
       }
 
 -- Parents stand earlier

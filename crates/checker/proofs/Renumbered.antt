@@ -1,6 +1,6 @@
 -- The numbers of keys: where the dictionary stands does not rest on them.
 use Rattle.std.proofs.Common.{◌≡◌, ◌==◌, ℕ, suc, nat_lt, ◌+◌, ◌*◌, Bool, true, false, cond, if◌then◌else◌, List, []}
-use Rattle.std.proofs.Common.{◌∷◌, length, take, refl, sym, ap, ◌∙◌, length-append, arith}
+use Rattle.std.proofs.Common.{◌∷◌, length, refl, sym, ap, ◌∙◌, length-append, arith}
 use Rattle.std.specs.Prelude.{map}
 use Rattle.std.specs.List.{concat}
 use Rattle.syntax_directives.specs.Tree.{DirectiveTree, global, constant, array, attribute, property, object, routine}
@@ -10,7 +10,7 @@ use Rattle.checker_names.specs.Keys.{keys_of}
 use Rattle.checker_names.specs.Names.{Table, File, table_of}
 use Rattle.checker_arrays.specs.Arrays.{array_bytes, arrays_of}
 use Rattle.checker_arrays.proofs.ArraySizes.{array_alike}
-use Rattle.checker_objects.specs.Objects.{most_provided, word_of, with_property, with_properties, provided_of}
+use Rattle.checker_objects.specs.Objects.{word_of, with_property, with_properties, provided_of}
 use Rattle.checker_objects.specs.Objects.{short_name, object_in, objects_in}
 use Rattle.checker.specs.Programs.{resolve_with, no_numbers, file_of, resolve_program}
 use Rattle.checker.proofs.Numbered.{numbered, numbers_by, place_is}
@@ -81,10 +81,10 @@ all_sizes file found (x ∷ xs) =
 
 -- the bytes of an object's table, whatever the numbers are
 abbrev tree_size : ObjectTree → ℕ
-tree_size o = 1 + 2 * name_words (short_name o.short) + values_size (take most_provided o.properties) + 1
+tree_size o = 1 + 2 * name_words (short_name o.short) + values_size o.properties + 1
 
 table_is : (file : File) (o : ObjectTree) → table_size (object_in file o) ≡ tree_size o
-table_is file o = let h = all_sizes file [] (take most_provided o.properties) in omega (arith, h)
+table_is file o = let h = all_sizes file [] o.properties in omega (arith, h)
 
 tables_alike : (table : Table) (f g : ℕ → ℕ) (ds : List DirectiveTree)
     → objects_size (objects_in (numbered table f) ds) ≡ objects_size (objects_in (numbered table g) ds)

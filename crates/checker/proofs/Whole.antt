@@ -28,6 +28,7 @@ use Rattle.checker.specs.Programs.{main_key, first_routine, main_breaches, direc
 use Rattle.checker.specs.Programs.{defaults_in, globals_of, routines_of, routine_number, resolve_with, file_of}
 use Rattle.checker.specs.Programs.{abbreviations_breaches, resolve_program}
 use Rattle.checker.specs.Checked.{IsCheckedOf}
+use Rattle.checker.proofs.FewListed.{first_objects}
 
 -- the characters of abbreviations
 abbrev pub characters_of : TextTree → List ℕ
@@ -128,9 +129,10 @@ pub program_checked : (p : Program) (file : File) (keys : List ℕ) (given again
     → n ≡ routine_number (in_table file.table main_key)
     → c ≡ checked found.globals.items (cut found.arrays.sizes.items found.arrays.bytes.items) defaults objects keys
     abbreviations found.routines.items n p.weight p.end.line
+    → program_breaches (program_tree p) ≡ []
     → IsCheckedOf (program_tree p) c
 program_checked p file keys given again texts found defaults parents objects abbreviations n c w k same twice written f
-    d ps os ts m is =
+    d ps os ts m is unbroken =
     let ds = map directive_tree p.directives.items in
     let g : IsFound file ds found = subst
     (λ (x : List Directive). IsFound file (map directive_tree x) found) same f in
@@ -144,7 +146,10 @@ program_checked p file keys given again texts found defaults parents objects abb
           (arrays_of file (map directive_tree p.directives.items)) g.sizes g.bytes)
           (d ∙ ap all_defaults g.defaults)
           (os ∙ ap (λ (x : List ℕ). placed x (map object_of found.objects.items)) stand
-          ∙ ap (λ (x : List ObjectOf). placed (parents_of file.table (object_trees ds)) x) g.objects) k
+          ∙ ap (λ (x : List ObjectOf). placed (parents_of file.table (object_trees ds)) x)
+          (g.objects
+          ∙ first_objects file (program_tree p)
+          (ap (λ (x : File). x.table) w ∙ file_table (program_tree p)) unbroken)) k
           (ts ∙ ap (λ (x : List Text). map characters_of (map text_tree x)) written) g.routines m;
       titles = g.titles;
       weight = refl;

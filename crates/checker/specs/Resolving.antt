@@ -12,7 +12,7 @@ use Rattle.checker_names.specs.Names.{File, Seen}
 use Rattle.checker_values.specs.Walk.{IsWalked}
 use Rattle.checker_statements.specs.Statements.{statements_breaches}
 use Rattle.checker_arrays.specs.Arrays.{arrays_of}
-use Rattle.checker_objects.specs.Objects.{objects_in}
+use Rattle.checker_objects.specs.FirstListed.{first_objects_in}
 use Rattle.checker.specs.declared.directive_rules.ResolvedFile.{ResolvedFile}
 use Rattle.checker.specs.Programs.{routine_breaches, resolve_body, resolve_routine, routine_trees, globals_of}
 use Rattle.checker.specs.Programs.{defaults_in, routines_of}
@@ -38,7 +38,7 @@ pub record IsFound (file : File) (ds : List DirectiveTree) (found : ResolvedFile
   pub bytes : found.arrays.bytes.items ≡ concat (arrays_of file ds)
   pub sizes : found.arrays.sizes.items ≡ map length (arrays_of file ds)
   pub defaults : found.defaults.items ≡ defaults_in file ds
-  pub objects : map object_of found.objects.items ≡ objects_in file ds
+  pub objects : map object_of found.objects.items ≡ first_objects_in file ds
   pub routines : map routine_of found.routines.items ≡ routines_of file ds
   pub titles : map title_of found.routines.items ≡ map title (routine_trees ds)
 
@@ -48,7 +48,7 @@ pub record IsAdded (file : File) (ds : List DirectiveTree) (old new : ResolvedFi
   pub bytes : new.arrays.bytes.items ≡ old.arrays.bytes.items ++ concat (arrays_of file ds)
   pub sizes : new.arrays.sizes.items ≡ old.arrays.sizes.items ++ map length (arrays_of file ds)
   pub defaults : new.defaults.items ≡ old.defaults.items ++ defaults_in file ds
-  pub objects : map object_of new.objects.items ≡ map object_of old.objects.items ++ objects_in file ds
+  pub objects : map object_of new.objects.items ≡ map object_of old.objects.items ++ first_objects_in file ds
   pub routines : map routine_of new.routines.items ≡ map routine_of old.routines.items ++ routines_of file ds
   pub titles : map title_of new.routines.items ≡ map title_of old.routines.items ++ map title (routine_trees ds)
 
@@ -60,8 +60,8 @@ pub record IsAdding (file : File) (rest all : List DirectiveTree) (first found :
   pub sizes : found.arrays.sizes.items ++ map length (arrays_of file rest) ≡ first.arrays.sizes.items
       ++ map length (arrays_of file all)
   pub defaults : found.defaults.items ++ defaults_in file rest ≡ first.defaults.items ++ defaults_in file all
-  pub objects : map object_of found.objects.items ++ objects_in file rest ≡ map object_of first.objects.items
-      ++ objects_in file all
+  pub objects : map object_of found.objects.items ++ first_objects_in file rest ≡ map object_of first.objects.items
+      ++ first_objects_in file all
   pub routines : map routine_of found.routines.items ++ routines_of file rest ≡ map routine_of first.routines.items
       ++ routines_of file all
   pub titles : map title_of found.routines.items ++ map title (routine_trees rest)

@@ -1,6 +1,6 @@
 //! The check of a program.
 
-ghost use Rattle.std.specs.Prelude.{◌≡◌, ◌≤◌, ◌^◌, ◌⊎◌, IfErr, IfOk, OnOk, length};
+ghost use Rattle.std.specs.Prelude.{◌≡◌, ◌≤◌, ◌^◌, ◌⊎◌, [], IfErr, IfOk, OnOk, length};
 ghost use Rattle.syntax_lexer.specs.FaultNumbers.{no_memory};
 ghost use Rattle.syntax_lexer.specs.Placed.{nowhere, unplaced};
 ghost use Rattle.syntax.specs.Views.{program_tree};
@@ -24,7 +24,8 @@ use syntax::{Directive, Program, Text};
 use syntax_lexer::{PlacedFault, SourceFault};
 
 // Resolves the names and words of a program, where these are those of its file, and notes the rules
-// that it breaks.
+// that it breaks. Where it breaks one, what is found may lack properties of objects that list more
+// than 63.
 fn resolve_with<'a>(
     program: &Program<'a>,
     alloc: Global,
@@ -34,7 +35,8 @@ fn resolve_with<'a>(
     requires file { file_in file ≡ file_of (program_tree program.now) }
     requires keys { file.numbers.keys.items ≡ keys_of (program_tree program.now).words }
     requires few { length file.numbers.keys.items ≤ 2 ^ 59 }
-    ensures value { IfOk result (λ c. IsCheckedOf (program_tree program.now) c) }
+    ensures value { IfOk result (λ c. program_breaches (program_tree program.now) ≡ []
+        → IsCheckedOf (program_tree program.now) c) }
     ensures breaches { OnOk result (least.new ≡ noted least.old
         (program_breaches (program_tree program.now))) }
 {
@@ -98,7 +100,8 @@ fn resolve<'a>(
     alloc: Global,
     least: &mut Option<Breach>,
 ) -> Result<Checked<'a>, AllocError>
-    ensures value { IfOk result (λ c. IsCheckedOf (program_tree program.now) c) }
+    ensures value { IfOk result (λ c. program_breaches (program_tree program.now) ≡ []
+        → IsCheckedOf (program_tree program.now) c) }
     ensures breaches { OnOk result (least.new ≡ noted least.old
         (program_breaches (program_tree program.now))) }
 {

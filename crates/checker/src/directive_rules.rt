@@ -10,6 +10,7 @@ ghost use Rattle.checker_names.specs.Breaches.{at};
 ghost use Rattle.checker_names.specs.Noted.{noted};
 ghost use Rattle.checker_names.specs.Scope.{file_in, seen_in, local_binding};
 ghost use Rattle.checker_values.specs.Literals.{initial_value};
+ghost use Rattle.checker_objects.specs.FirstListed.{first_listed};
 ghost use Rattle.checker_objects.specs.Objects.{object_in};
 ghost use Rattle.checker.specs.Resolving.{IsRoutineIn, IsRoutineOf, IsAdded, IsFound};
 ghost use Rattle.checker.specs.Programs as spec;
@@ -192,7 +193,7 @@ fn defined_object<'a>(
     least: &mut Option<Breach>,
 ) -> Result<CheckedObject<'a>, AllocError>
     ensures value { IfOk result (λ o. object_of o
-        ≡ object_in (file_in file.now) (object_tree written.now)) }
+        ≡ object_in (file_in file.now) (first_listed (object_tree written.now))) }
     ensures breaches { OnOk result (least.new ≡ noted least.old
         (spec.object_directive_breaches file.now.table.entries names.now.table.entries
         names.now.counts (object_tree written.now))) }

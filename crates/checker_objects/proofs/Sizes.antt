@@ -1,5 +1,5 @@
 -- How many bytes the objects of a file have, by what they list.
-use Rattle.std.proofs.Common.{◌≡◌, ◌+◌, ◌*◌, ℕ, suc, Bool, true, false, cond, List, [], ◌∷◌, length, take}
+use Rattle.std.proofs.Common.{◌≡◌, ◌+◌, ◌*◌, ℕ, suc, Bool, true, false, cond, List, [], ◌∷◌, length}
 use Rattle.std.proofs.Common.{nat_lt, refl, ap, ◌∙◌, arith}
 use Rattle.std.specs.Prelude.{◌==◌, map}
 use Rattle.std.proofs.lemmas.List.{length-map}
@@ -11,7 +11,7 @@ use Rattle.syntax_directives.specs.Views.{property_tree, directive_tree}
 use Rattle.meaning.specs.Places.{folded, name_words, objects_size, property_size, table_size, total}
 use Rattle.meaning.proofs.Folding.{fold_small}
 use Rattle.checker_names.specs.Names.{File}
-use Rattle.checker_objects.specs.Objects.{most_provided, object_in, objects_in, provided_of, short_name}
+use Rattle.checker_objects.specs.Objects.{object_in, objects_in, provided_of, short_name}
 use Rattle.checker_objects.specs.Objects.{with_properties, with_property, word_of}
 use Rattle.checker_objects.specs.Sizes.{listed_size, listed_table_size, listed_directive_size, listed_objects_size}
 
@@ -78,9 +78,8 @@ with_sizes file found (x ∷ xs) =
 object_size : (file : File) (o : ObjectTree) → table_size (object_in file o) ≡ listed_table_size o
 object_size file o =
     ap (λ (n : ℕ). 1 + 2 * name_words (short_name o.short) + n + 1)
-    (from_none (total (map property_size (object_in file o).properties))
-    (total (map listed_size (take most_provided o.properties)))
-    (with_sizes file [] (take most_provided o.properties)))
+    (from_none (total (map property_size (object_in file o).properties)) (total (map listed_size o.properties))
+    (with_sizes file [] o.properties))
   where
     from_none : (n m : ℕ) → n ≡ 0 + m → n ≡ m
     from_none n m h = omega (arith, h)

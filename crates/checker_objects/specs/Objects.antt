@@ -1,6 +1,6 @@
 -- Definitions of objects: the rules that they can break, and what they are.
 use Rattle.std.specs.Prelude.{◌==◌, ◌+◌, ◌-◌, ◌%◌, ℕ, zero, suc, nat_le, nat_lt, Bool, false, if◌then◌else◌, List, []}
-use Rattle.std.specs.Prelude.{◌∷◌, ◌++◌, map, length, take, slice_get, Option, Some, None}
+use Rattle.std.specs.Prelude.{◌∷◌, ◌++◌, map, length, slice_get, Option, Some, None}
 use Rattle.std.specs.List.{flat_map}
 use Rattle.syntax_lexer.specs.FaultNumbers.{defined_twice, too_many, unknown_name, wrong_kind}
 use Rattle.syntax_lexer.specs.declared.token.Position.{Position}
@@ -17,7 +17,6 @@ use Rattle.checker_names.specs.Names.{Table, File, has_name, key_of, in_table, l
 use Rattle.checker_values.specs.Literals.{literal_breaches}
 use Rattle.checker_values.specs.Expressions.{attribute_breaches, property_breaches, attribute_of_binding}
 use Rattle.checker_values.specs.Expressions.{property_of_binding}
-use Rattle.zcore.specs.Layout.{default_count}
 
 -- What an object provides
 
@@ -138,11 +137,6 @@ abbrev pub with_properties : File → List (ℕ × List ℕ) → List PropertyTr
 with_properties file found [] = found
 with_properties file found (x ∷ xs) = with_properties file (with_property (provided_of file x) found) xs
 
--- An object provides at most 63 properties: their numbers are from 1 to 63, and a name that stands twice breaks a
--- rule, as does one that is no property. So what is listed behind 63 others is not looked at.
-abbrev pub most_provided : ℕ
-most_provided = default_count
-
 abbrev pub given_of : File → NameTree → ℕ
 given_of file n = attribute_of_binding (in_table file.table (key_of n.text)) % 256
 
@@ -156,7 +150,7 @@ object_in file o = record {
   parent = 0;
   name = short_name o.short;
   attributes = map (given_of file) o.attributes;
-  properties = with_properties file [] (take most_provided o.properties);
+  properties = with_properties file [] o.properties;
 }
 
 -- the parent by arrows, 0 for none
@@ -207,9 +201,7 @@ object_trees (_ ∷ ds) = object_trees ds
 
 -- the objects of a file, still without their parents
 abbrev pub objects_in : File → List DirectiveTree → List ObjectOf
-objects_in file [] = []
-objects_in file (object o ∷ ds) = object_in file o ∷ objects_in file ds
-objects_in file (_ ∷ ds) = objects_in file ds
+objects_in file ds = map (object_in file) (object_trees ds)
 
 abbrev pub objects_of : File → List DirectiveTree → List ObjectOf
 objects_of file ds = placed (parents_of file.table (object_trees ds)) (objects_in file ds)

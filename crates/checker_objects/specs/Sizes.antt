@@ -1,11 +1,11 @@
 -- How many bytes the objects of a file have, by what they list. It rests neither on the numbers of words nor on what
 -- names stand for.
-use Rattle.std.specs.Prelude.{◌+◌, ◌*◌, ◌==◌, ℕ, if◌then◌else◌, List, length, map, take}
+use Rattle.std.specs.Prelude.{◌+◌, ◌*◌, ◌==◌, ℕ, if◌then◌else◌, List, length, map}
 use Rattle.zcore.specs.Layout.{object_entry_size}
 use Rattle.syntax_directives.specs.Tree.{PropertyTree, ObjectTree, DirectiveTree}
 use Rattle.syntax_directives.specs.Tree.{global, constant, array, attribute, property, object, routine}
 use Rattle.meaning.specs.Places.{name_words, total}
-use Rattle.checker_objects.specs.Objects.{most_provided, short_name}
+use Rattle.checker_objects.specs.Objects.{short_name}
 
 -- a size byte, and another one before a property of more than one word
 abbrev pub listed_size : PropertyTree → ℕ
@@ -13,8 +13,7 @@ listed_size x = (if length x.values == 1 then 1 else 2) + 2 * length x.values
 
 -- the number of the name's words, the name, the properties, and a byte behind them
 abbrev pub listed_table_size : ObjectTree → ℕ
-listed_table_size o =
-    1 + 2 * name_words (short_name o.short) + total (map listed_size (take most_provided o.properties)) + 1
+listed_table_size o = 1 + 2 * name_words (short_name o.short) + total (map listed_size o.properties) + 1
 
 -- the entry of an object, and its property table
 abbrev pub listed_directive_size : DirectiveTree → ℕ

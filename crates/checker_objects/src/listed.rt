@@ -10,7 +10,7 @@ ghost use Rattle.checker_objects.specs.Sizes as spec;
 use crate::object_rules::short_name;
 use meaning::name_words;
 use syntax::{Directive, Object, Property};
-use zcore::layout::{DEFAULT_COUNT, OBJECT_ENTRY_LENGTH};
+use zcore::layout::OBJECT_ENTRY_LENGTH;
 
 /// A size up to 65,535 is itself; what a greater one becomes is as well above 65,535, and has the
 /// same remainder by 65,536.
@@ -54,8 +54,7 @@ fn table_size(written: &Object<'_>) -> usize
     ensures size { result ≡ folded (spec.listed_table_size (object_tree written.now)) }
     ensures few { result < 131072 }
 {
-    let count = DEFAULT_COUNT.min(written.properties.len());
-    let properties = listed_sizes(&written.properties[..count]);
+    let properties = listed_sizes(&written.properties);
     folded(2 + 2 * name_words(short_name(&written.short)) + properties as u128)
 }
 

@@ -9,6 +9,7 @@ ghost use Rattle.meaning.specs.Views.{property_of, object_of};
 ghost use Rattle.checker_names.specs.Noted.{noted};
 ghost use Rattle.checker_names.specs.Scope.{file_in};
 ghost use Rattle.checker_names.specs.Names.{has_name, repeated_breaches};
+ghost use Rattle.checker_objects.specs.FirstListed.{first_listed, most_provided};
 ghost use Rattle.checker_objects.specs.Objects as spec;
 
 use crate::defined_twice::twice;
@@ -157,8 +158,10 @@ fn note_provided(
     Ok(())
 }
 
-// The properties that an object provides, of those that it lists. There may be any number of these,
-// so each that is put in its place has few before it.
+// The properties that an object provides, of the first 63 that it lists. It may list any number, and
+// to put each in its place among all others would take too long. Where it lists more, a rule is
+// broken: a name stands twice, or is no property, or the file defines too many. So what is found
+// here is not used then.
 fn provided_of_listed(
     written: &[Property<'_>],
     alloc: Global,
@@ -167,7 +170,7 @@ fn provided_of_listed(
 ) -> Result<Vec<(u8, Vec<u16>)>, AllocError>
     ensures value { IfOk result (λ v. map property_of v.items
         ≡ spec.with_properties (file_in file.now) []
-        (take spec.most_provided (map property_tree written.now))) }
+        (take most_provided (map property_tree written.now))) }
     ensures breaches { OnOk result (least.new ≡ noted least.old
         (flat_map (spec.provided_breaches file.now.table.entries)
         (map property_tree written.now))) }
@@ -288,7 +291,8 @@ pub(crate) fn short_name<'a>(short: &Option<Text<'a>>) -> &'a [u8]
     }
 }
 
-/// An object, still without its parent; notes the rules that its definition breaks.
+/// An object by the first 63 properties that it lists, still without its parent; notes the rules
+/// that its definition breaks. One that lists more breaks a rule.
 ///
 /// # Errors
 ///
@@ -300,7 +304,7 @@ pub fn object<'a>(
     least: &mut Option<Breach>,
 ) -> Result<CheckedObject<'a>, AllocError>
     ensures value { IfOk result (λ o. object_of o
-        ≡ spec.object_in (file_in file.now) (object_tree written.now)) }
+        ≡ spec.object_in (file_in file.now) (first_listed (object_tree written.now))) }
     ensures breaches { OnOk result (least.new ≡ noted least.old
         (spec.object_breaches file.now.table.entries (object_tree written.now))) }
 {

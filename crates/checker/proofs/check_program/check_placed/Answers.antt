@@ -5,10 +5,10 @@ use Rattle.checker_names.proofs.Noted.{first_law}
 use Rattle.checker.proofs.check_program.check_placed.Goals as goal
 
 pub returns-in-None-clause-answers : goal.returns-in-None-clause-answers
-returns-in-None-clause-answers c = (
-  first_law (program_breaches (program_tree c.args.program.now)) None (sym c.in-Ok.ensures.breaches ∙ c.in-None.is),
-  c.in-Ok.ensures.value,
-)
+returns-in-None-clause-answers c =
+    let unbroken = first_law (program_breaches (program_tree c.args.program.now)) None
+    (sym c.in-Ok.ensures.breaches ∙ c.in-None.is) in
+    (unbroken, c.in-Ok.ensures.value unbroken)
 
 pub returns-in-Ok-clause-answers : goal.returns-in-Ok-clause-answers
 returns-in-Ok-clause-answers c =

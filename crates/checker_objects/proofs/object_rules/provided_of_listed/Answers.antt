@@ -8,7 +8,8 @@ use Rattle.syntax_directives.specs.Views.{property_tree}
 use Rattle.checker_names.specs.declared.breach.Breach.{Breach}
 use Rattle.checker_names.specs.Noted.{noted}
 use Rattle.checker_names.specs.Scope.{file_in}
-use Rattle.checker_objects.specs.Objects.{with_properties, provided_breaches, most_provided}
+use Rattle.checker_objects.specs.Objects.{with_properties, provided_breaches}
+use Rattle.checker_objects.specs.FirstListed.{most_provided}
 use Rattle.checker_objects.proofs.ObjectLists.{front_mapped, noted_apart}
 use Rattle.checker_objects.proofs.object_rules.provided_of_listed.Goals as goal
 
