@@ -12,6 +12,7 @@ use Rattle.syntax_trees.specs.declared.tree.Width.TheVariants as widths
 use Rattle.syntax_directives.specs.declared.tree.ArrayKind.{ArrayKind}
 use Rattle.syntax_directives.specs.declared.tree.ArrayKind.TheVariants as kinds
 use Rattle.syntax_directives.specs.Tree.{ValueTree, ArrayTree}
+use Rattle.meaning.specs.Limits.{most_array_bytes}
 use Rattle.checker_names.specs.Breaches.{at}
 use Rattle.checker_names.specs.declared.known.Known.{Known}
 use Rattle.checker_names.specs.declared.known.Known.TheVariants as knowns
@@ -30,11 +31,11 @@ size_is kinds.Words n = grind (arith, nat_tests)
 size_is kinds.String n = grind (arith, nat_tests)
 size_is kinds.Table n = grind (arith, nat_tests)
 
-size_within : (kind : ArrayKind) (n : ℕ) → is_size kind n ≡ true → array_size kind n ≤ 32000
+size_within : (kind : ArrayKind) (n : ℕ) → is_size kind n ≡ true → array_size kind n ≤ most_array_bytes
 size_within kind n h =
-    let both = and_parts (nat_le 1 n && nat_le (array_size kind n) 32000) (is_told kind n) h in
-    let first = and_parts (nat_le 1 n) (nat_le (array_size kind n) 32000) both.0 in
-    leb-true (array_size kind n) 32000 first.1
+    let both = and_parts (nat_le 1 n && nat_le (array_size kind n) most_array_bytes) (is_told kind n) h in
+    let first = and_parts (nat_le 1 n) (nat_le (array_size kind n) most_array_bytes) both.0 in
+    leb-true (array_size kind n) most_array_bytes first.1
 
 -- Bytes
 
@@ -62,17 +63,17 @@ bytes_length kinds.Words es = let h = entry_lengths widths.Word es in omega (ari
 bytes_length kinds.String es = let h = entry_lengths widths.Byte es in omega (arith, h)
 bytes_length kinds.Table es = let h = entry_lengths widths.Word es in omega (arith, h)
 
-none_short : (kind : ArrayKind) → array_size kind 0 ≤ 32000
+none_short : (kind : ArrayKind) → array_size kind 0 ≤ most_array_bytes
 none_short kinds.Bytes = omega arith
 none_short kinds.Words = omega arith
 none_short kinds.String = omega arith
 none_short kinds.Table = omega arith
 
-number_short : (kind : ArrayKind) (n : ℕ) (c : Bool) → is_size kind n ≡ c → array_size kind (cond c n 0) ≤ 32000
+number_short : (kind : ArrayKind) (n : ℕ) (c : Bool) → is_size kind n ≡ c → array_size kind (cond c n 0) ≤ most_array_bytes
 number_short kind n true h = size_within kind n h
 number_short kind n false h = none_short kind
 
-zeros_short : (kind : ArrayKind) (size : Option Known) → array_size kind (zeros kind size) ≤ 32000
+zeros_short : (kind : ArrayKind) (size : Option Known) → array_size kind (zeros kind size) ≤ most_array_bytes
 zeros_short kind None = none_short kind
 zeros_short kind (Some (knowns.Number n)) = number_short kind n (is_size kind n) refl
 zeros_short kind (Some (knowns.Key key)) = none_short kind
@@ -81,8 +82,8 @@ pub map_length : {A B : Type 0} (f : A → B) (xs : List A) → length (map f xs
 map_length f [] = refl
 map_length f (x ∷ xs) = ap suc (map_length f xs)
 
-short_of : (kind : ArrayKind) (es : List ℕ) (n : ℕ) → length es ≡ n → array_size kind n ≤ 32000
-    → length (bytes_of kind es) ≤ 32000
+short_of : (kind : ArrayKind) (es : List ℕ) (n : ℕ) → length es ≡ n → array_size kind n ≤ most_array_bytes
+    → length (bytes_of kind es) ≤ most_array_bytes
 short_of kind es n is h =
     let long = bytes_length kind es in
     let same = ap (array_size kind) is in
@@ -93,7 +94,7 @@ is_kept true p h = refl
 is_kept false p h = absurd cc
 
 values_short : (file : File) (p : Position) (kind : ArrayKind) (vs : List ValueTree)
-    → values_breaches file.table p kind vs ≡ [] → length (bytes_of kind (entries_of file kind vs)) ≤ 32000
+    → values_breaches file.table p kind vs ≡ [] → length (bytes_of kind (entries_of file kind vs)) ≤ most_array_bytes
 values_short file p kind [] h = short_of kind [] 0 refl (none_short kind)
 values_short file p kind (v ∷ []) h =
     let n = zeros kind (literal_known file.table v.value) in
@@ -106,7 +107,7 @@ values_short file p kind (v ∷ w ∷ vs) h =
     (size_within kind n fits)
 
 pub array_short : (file : File) (a : ArrayTree) → array_breaches file.table a ≡ []
-    → length (array_bytes file a) ≤ 32000
+    → length (array_bytes file a) ≤ most_array_bytes
 array_short file a h = values_short file a.name.position a.kind a.values h
 
 -- How many bytes an array has does not rest on the numbers of keys

@@ -1,11 +1,12 @@
 -- Words of proofs: entries of arrays, and what adding one does.
-use Rattle.std.specs.Prelude.{◌≡◌, ℕ, List, [], ◌∷◌, ◌++◌, length}
+use Rattle.std.specs.Prelude.{◌≡◌, ◌/◌, ◌-◌, ℕ, List, [], ◌∷◌, ◌++◌, length}
 use Rattle.syntax_trees.specs.declared.tree.Width.{Width}
 use Rattle.syntax_trees.specs.declared.tree.Width.TheVariants as widths
 use Rattle.syntax_directives.specs.declared.tree.ArrayKind.{ArrayKind}
 use Rattle.syntax_directives.specs.declared.tree.ArrayKind.TheVariants as kinds
 use Rattle.syntax_directives.specs.declared.tree.ArrayValue.{ArrayValue}
 use Rattle.syntax_directives.specs.Views.{value_tree}
+use Rattle.meaning.specs.Limits.{most_array_bytes}
 use Rattle.meaning.specs.declared.arrays.Arrays.{Arrays}
 use Rattle.checker_names.specs.declared.breach.Breach.{Breach}
 use Rattle.checker_names.specs.Names.{Table, File}
@@ -13,10 +14,10 @@ use Rattle.checker_arrays.specs.Arrays.{entry_bytes, entry_value, entry_breaches
 
 -- the most entries that an array may have
 abbrev pub most : ArrayKind → ℕ
-most kinds.Bytes = 32000
-most kinds.Words = 16000
+most kinds.Bytes = most_array_bytes
+most kinds.Words = most_array_bytes / 2
 most kinds.String = 255
-most kinds.Table = 15999
+most kinds.Table = most_array_bytes / 2 - 1
 
 -- the number of the entries, where the kind has it in front
 abbrev pub number_bytes : ArrayKind → ℕ → List ℕ

@@ -14,6 +14,7 @@ use Rattle.zcore.specs.Parts.{jump_target, operand_value}
 use Rattle.zcore.specs.State.{State, done}
 use Rattle.zcore.specs.Execution.{perform}
 use Rattle.meaning.specs.declared.resolved.Variable as resolved
+use Rattle.meaning.specs.Sizes.{greatest_routine_weight}
 use Rattle.meaning.specs.World.{value_in, with_value, write_variable, give, ◌>>=◌}
 use Rattle.code_values.specs.Items.{agrees}
 use Rattle.code_values.specs.Items as items
@@ -51,7 +52,7 @@ next_by n o few (inr h) =
     rw (f, never (nat_le 1 o), never (nat_lt o 32768)) refl
 
 -- the offset of a jump from two bytes before a place
-two_before : (next there : ℕ) → 2 ≤ next → next ≤ 32000
+two_before : (next there : ℕ) → 2 ≤ next → next ≤ greatest_routine_weight
     → (jump_offset next there + 2) % 65536 ≡ jump_offset (next - 2) there
 two_before next there long low = omega (arith, long, low)
 
@@ -190,7 +191,7 @@ module _ (c : Running) where
         let there = place_of (sizes_of p) (is_in c) target in
         let n = next - 2 in
         let long : 2 ≤ next = omega (arith, end, from) in
-        let low : next ≤ 32000 = omega (arith, short c, ends_by (sizes_of p) (is_in c) (place + 1)) in
+        let low : next ≤ greatest_routine_weight = omega (arith, short c, ends_by (sizes_of p) (is_in c) (place + 1)) in
         let number : b + n ≡ q + 3 = omega (arith, end, long) in
         let same : (over + 2) % 65536 ≡ jump_offset n there = two_before next there long low in
         ap (λ (k : ℕ). jump_target k ((over + 2) % 65536)) (sym number)

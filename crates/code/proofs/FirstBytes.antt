@@ -11,6 +11,7 @@ use Rattle.zcore.specs.InstructionBytes.{bytes_of}
 use Rattle.zcore.specs.Header.{static_base_of}
 use Rattle.syntax_trees.specs.declared.tree.Width.TheVariants as widths
 use Rattle.meaning.specs.declared.cause.Cause.TheVariants as causes
+use Rattle.meaning.specs.Limits.{most_array_bytes}
 use Rattle.meaning.specs.Reading.{holds_letters, holds_words}
 use Rattle.meaning.specs.World.{to}
 use Rattle.code_values.specs.Items as items
@@ -66,7 +67,7 @@ IsFirst bytes v = 0 < length bytes → v ≡ slice_index bytes 0
 abbrev pub passes : ℕ → ℕ → Bool
 passes most v = not (signed_less v 1) && signed_less v (most + 1)
 
-pub letters_pass : (text : List ℕ) (v : ℕ) → length text ≤ 32000 → IsFirst text v
+pub letters_pass : (text : List ℕ) (v : ℕ) → length text ≤ most_array_bytes → IsFirst text v
     → passes (letters_in (length text)) v ≡ holds_letters text
 letters_pass text v short first =
     let most = letters_in (length text) in
@@ -86,7 +87,7 @@ letters_pass text v short first =
     let is = first (omega (arith, room)) in
     and_from _ _ (le-leb 1 v (omega (arith, is, low))) (lt-ltb v (most + 1) (omega (arith, is, room))))
 
-pub words_pass : (parse : List ℕ) (v : ℕ) → length parse ≤ 32000 → IsFirst parse v
+pub words_pass : (parse : List ℕ) (v : ℕ) → length parse ≤ most_array_bytes → IsFirst parse v
     → passes (words_in (length parse)) v ≡ holds_words parse
 words_pass parse v short first =
     let most = words_in (length parse) in

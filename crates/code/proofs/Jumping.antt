@@ -12,6 +12,7 @@ use Rattle.zcore.specs.InstructionBytes.{bytes_of}
 use Rattle.zcore.specs.State.{State, done, halt}
 use Rattle.zcore.specs.Parts.{jump_target, test_target, go, spend}
 use Rattle.zcore.specs.Execution.{step, perform, jump}
+use Rattle.meaning.specs.Sizes.{greatest_routine_weight}
 use Rattle.meaning.specs.World.{spend_from}
 use Rattle.code_values.specs.Items.{Item}
 use Rattle.code_values.specs.Items as items
@@ -82,7 +83,7 @@ module _ (c : Running) where
   is_in = items_in story a p routine
 
   -- code is short, and bytes follow it
-  pub short : code_size (sizes_of p) is_in ≤ 32000
+  pub short : code_size (sizes_of p) is_in ≤ greatest_routine_weight
   short = (holds.routines routine good.known).short
 
   pub target_within : (n : ℕ) → address story a p routine n < length m

@@ -15,6 +15,7 @@ use Rattle.zcore.specs.Execution.{perform, give_result, load_word, load_byte}
 use Rattle.syntax_trees.specs.declared.tree.Width.{Width}
 use Rattle.syntax_trees.specs.declared.tree.Width.TheVariants as widths
 use Rattle.meaning.specs.declared.cause.Cause.TheVariants as causes
+use Rattle.meaning.specs.Limits.{most_array_bytes}
 use Rattle.meaning.specs.World.{to, array_at, entry_count, is_index, entry_at, read_entry}
 use Rattle.meaning.specs.World as source
 use Rattle.code_values.specs.Items.{Destination}
@@ -65,7 +66,7 @@ entries_is : (width : Width) (bytes : List ℕ) → entries_in width (length byt
 entries_is widths.Byte bytes = refl
 entries_is widths.Word bytes = refl
 
-entries_few : (width : Width) (size : ℕ) → size ≤ 32000 → entries_in width size < 32768
+entries_few : (width : Width) (size : ℕ) → size ≤ most_array_bytes → entries_in width size < 32768
 entries_few widths.Byte size h = omega (arith, h)
 entries_few widths.Word size h = omega (arith, h)
 
@@ -85,7 +86,7 @@ module _ (c : Running) where
   pub array_size : (n : ℕ) → slice_index (sizes_of p).arrays n ≡ length (bytes_in n)
   array_size n = ap (λ ns. slice_index ns n) (sym good.sizes) ∙ size_at world.arrays n
 
-  pub array_short : (n : ℕ) → n < length p.arrays → slice_index (sizes_of p).arrays n ≤ 32000
+  pub array_short : (n : ℕ) → n < length p.arrays → slice_index (sizes_of p).arrays n ≤ most_array_bytes
   array_short n known = omega (arith, size_at p.arrays n, accepted.arrays n [] known)
 
   pub few_entries : (width : Width) (n : ℕ) → n < length p.arrays → entries_in width (size_in n) < 32768

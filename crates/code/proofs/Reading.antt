@@ -6,6 +6,7 @@ use Rattle.zcore.specs.declared.place.Place.TheVariants as places
 use Rattle.zcore.specs.Instruction.{Instruction}
 use Rattle.meaning.specs.declared.cause.Cause.{Cause}
 use Rattle.meaning.specs.declared.cause.Cause.TheVariants as causes
+use Rattle.meaning.specs.Limits.{most_array_bytes}
 use Rattle.meaning.specs.Places.{number_in}
 use Rattle.meaning.specs.Reading.{holds_letters, holds_words, next_line, read_next}
 use Rattle.meaning.specs.World.{Situation, Outcome, Comes, to, over, Part, bound}
@@ -62,7 +63,7 @@ module _ (c : Running) where
   size_is : (n : ℕ) → n < length p.arrays → size_in c n ≡ length (bytes_in c n)
   size_is n known = omega (arith, array_short c n known, array_size c n)
 
-  short_array : (n : ℕ) → n < length p.arrays → length (bytes_in c n) ≤ 32000
+  short_array : (n : ℕ) → n < length p.arrays → length (bytes_in c n) ≤ most_array_bytes
   short_array n known = omega (arith, array_short c n known, array_size c n)
 
   module _ (t q : ℕ) (text : t < length p.arrays) (parse : q < length p.arrays) (apart : t ≢ q) (s : List ℕ)

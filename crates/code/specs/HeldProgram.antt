@@ -15,6 +15,7 @@ use Rattle.meaning.specs.Resolved.{RoutineOf, ProgramOf}
 use Rattle.meaning.specs.Meaning.{routine_at}
 use Rattle.meaning.specs.World.{words_of}
 use Rattle.meaning.specs.Places.{dictionary_place}
+use Rattle.meaning.specs.Sizes.{greatest_routine_weight}
 use Rattle.meaning.specs.declared.cause.Cause.{Cause}
 use Rattle.code_items.specs.Statements.{routine_items}
 use Rattle.code_object_memory.specs.Laws.{HoldsRows}
@@ -42,7 +43,7 @@ pub record HoldsRoutine (story : List ℕ) (sizes : Sizes) (a : Addresses) (pack
   pub above : static_base_of story ≤ unpacked story packed
   pub named : 0 < packed
   pub word : packed < 65536
-  pub short : code_size sizes (routine_items r) ≤ 32000
+  pub short : code_size sizes (routine_items r) ≤ greatest_routine_weight
 
 -- a fault's text at a packed address
 pub record HoldsText (story : List ℕ) (packed : ℕ) (text : List ℕ) : Type 0 where

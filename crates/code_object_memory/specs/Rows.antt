@@ -5,6 +5,7 @@ use Rattle.std.specs.List.{list_any, flat_map}
 use Rattle.tables.specs.declared.row.ObjectRow.{ObjectRow}
 use Rattle.tables.specs.Rows.{word}
 use Rattle.syntax_trees.specs.declared.tree.Relative.TheVariants as relatives
+use Rattle.zcore.specs.Layout.{defaults_size, object_entry_size}
 use Rattle.meaning.specs.Objects.{ObjectOf, relative_in, first_objects}
 use Rattle.meaning.specs.Places.{machine_character}
 use Rattle.code_object_memory.specs.Tables.{table_bytes, PropertyTable}
@@ -81,8 +82,9 @@ tables_bytes rows = flat_map table_bytes (map table_of rows)
 -- a whole table at an address: the property defaults, the entries, the property tables
 abbrev pub rows_bytes : List RowOf → List ℕ → ℕ → List ℕ
 rows_bytes rows defaults at =
-    flat_map word defaults ++ entries_bytes (at + 126 + 14 * length rows) rows ++ tables_bytes rows
+    flat_map word defaults
+    ++ entries_bytes (at + defaults_size + object_entry_size * length rows) rows ++ tables_bytes rows
 
 -- how many bytes they are
 abbrev pub rows_length : List RowOf → ℕ
-rows_length rows = 126 + 14 * length rows + length (tables_bytes rows)
+rows_length rows = defaults_size + object_entry_size * length rows + length (tables_bytes rows)

@@ -18,5 +18,5 @@ pub use cause::Cause;
 pub use checked::{Checked, CheckedObject, CheckedRoutine};
 pub use places::{Places, dictionary_behind, objects_size, part_places, tables_size};
 pub use resolved::{Action, Printed, Span, Value, Variable};
-pub use sizes::{test_sizes, test_sizes_placed};
+pub use sizes::{greatest_weight, test_sizes, test_sizes_placed};
 pub use table_sizes::{machine_character, name_words};

@@ -18,5 +18,14 @@ pub const MOST_ARRAY_BYTES: usize = 32_000;
 /// The arguments of a call.
 pub const MOST_ARGUMENTS: usize = 7;
 
+/// What a source of version 5 weighs.
+pub const GREATEST_WEIGHT_5: u128 = 190_000;
+
+/// What a source of version 8 weighs.
+pub const GREATEST_WEIGHT_8: u128 = 450_000;
+
+/// What a routine weighs.
+pub const GREATEST_ROUTINE_WEIGHT: u128 = 32_000;
+
 /// The temporaries of an expression of a statement.
 pub const MOST_TEMPORARIES: u8 = 48;

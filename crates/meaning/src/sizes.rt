@@ -4,38 +4,42 @@ ghost use Rattle.std.specs.Prelude.{◌≡◌, nat_lt};
 ghost use Rattle.syntax_lexer.specs.Placed.{nowhere, unplaced};
 ghost use Rattle.meaning.specs.Places.{routines_place};
 ghost use Rattle.meaning.specs.Views.{program_of};
-ghost use Rattle.meaning.specs.CheckedSizes.{fault_of, checked_size_fault, name_place_of, weight_of};
+ghost use Rattle.zcore.specs.Layout.{greatest_word};
+ghost use Rattle.meaning.specs.CheckedSizes.{fault_of, checked_size_fault, name_place_of};
+ghost use Rattle.meaning.specs.CheckedSizes.{routine_weight};
 ghost use Rattle.meaning.specs.Sizes as spec;
 
 use crate::checked::{Checked, CheckedRoutine};
+use crate::limits::{GREATEST_ROUTINE_WEIGHT, GREATEST_WEIGHT_5, GREATEST_WEIGHT_8};
 use crate::places::tables_size;
 use syntax_lexer::{
     PlacedFault, Position, ROUTINE_TOO_LARGE, STORY_TOO_LARGE, SourceFault, TABLES_TOO_LARGE,
 };
 use zcore::Version;
 
-fn greatest_weight(version: Version) -> u128
+/// What a source of a version weighs at most.
+pub fn greatest_weight(version: Version) -> u128
     ensures { result ≡ spec.greatest_weight version }
 {
     match version {
-        Version::V5 => 190_000,
-        Version::V8 => 450_000,
+        Version::V5 => GREATEST_WEIGHT_5,
+        Version::V8 => GREATEST_WEIGHT_8,
     }
 }
 
 // Whether the parts before the routines pass the last address that a word names.
 fn are_tables_large(checked: &Checked<'_>) -> bool
-    ensures { result ≡ nat_lt 65535 (routines_place (program_of checked.now)) }
+    ensures { result ≡ nat_lt greatest_word (routines_place (program_of checked.now)) }
 {
     tables_size(checked) > 65_535
 }
 
 // The position of the name of the first routine that weighs too much.
 fn first_heavy(routines: &[CheckedRoutine<'_>]) -> Option<Position>
-    ensures { result ≡ spec.first_heavy weight_of name_place_of routines.now }
+    ensures { result ≡ spec.first_heavy routine_weight name_place_of routines.now }
 {
     for routine in routines {
-        if routine.weight > 32_000 {
+        if routine.weight > GREATEST_ROUTINE_WEIGHT {
             return Some(routine.name.position);
         }
     }

@@ -1,6 +1,7 @@
 //! A routine that weighs too much (E32), in the parser's weights.
 
 use crate::tokens::{before, is_sign, kind_at};
+use meaning::limits::GREATEST_ROUTINE_WEIGHT;
 use source_sentences::{Figure, Quoted};
 use std::alloc::{AllocError, Global};
 use syntax::{Kind, Sign, Token};
@@ -38,5 +39,6 @@ pub fn too_heavy(
 ) -> Result<String, AllocError> {
     let name = Quoted(token.text);
     let weight = Figure(weight(tokens, before(at, 1)).saturating_add(32));
-    format!(in alloc; "the routine {name} weighs {weight}; 32,000 is the most")
+    let most = Figure(GREATEST_ROUTINE_WEIGHT);
+    format!(in alloc; "the routine {name} weighs {weight}; {most} is the most")
 }

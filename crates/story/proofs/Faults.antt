@@ -12,16 +12,16 @@ use Rattle.meaning.specs.declared.checked.CheckedRoutine.{CheckedRoutine}
 use Rattle.meaning.specs.Places.{routines_place}
 use Rattle.meaning.specs.Resolved.{ProgramOf}
 use Rattle.meaning.specs.Views.{CheckedProgram, title_of}
-use Rattle.checker.specs.Programs.{resolve_program, routine_trees}
 use Rattle.checker.specs.Checked.{IsCheckedOf, title}
-use Rattle.meaning.specs.Sizes.{first_heavy, size_fault}
+use Rattle.checker.specs.Programs.{resolve_program, routine_trees}
+use Rattle.meaning.specs.Sizes.{greatest_routine_weight, first_heavy, size_fault}
 use Rattle.meaning.specs.CheckedSizes.{checked_size_fault}
 use Rattle.meaning.specs.CheckedSizes as checked
 use Rattle.story.specs.Refused.{tree_name_place, tree_size_fault, tree_weight}
 
 -- the first heavy routine of a checked program is that of its tree
 abbrev checked_heavy : List CheckedRoutine → Option Position
-checked_heavy cs = first_heavy checked.weight_of checked.name_place_of cs
+checked_heavy cs = first_heavy checked.routine_weight checked.name_place_of cs
 
 abbrev tree_heavy : List RoutineTree → Option Position
 tree_heavy rs = first_heavy tree_weight tree_name_place rs
@@ -35,9 +35,9 @@ heavy_same (r ∷ rs) (c ∷ cs) e =
     let first : title_of c ≡ title r = ap (λ ts. slice_index_or ts 0 (title r)) e in
     let weight : c.weight ≡ r.weight = ap (λ t. t.1) first in
     let position : c.name.position ≡ r.name.position = ap (λ t. t.0.position) first in
-    ap (λ w. if nat_lt 32000 w then Some c.name.position else checked_heavy cs) weight
-    ∙ ap (λ q. if nat_lt 32000 r.weight then Some q else checked_heavy cs) position
-    ∙ ap (λ q. if nat_lt 32000 r.weight then Some r.name.position else q) (heavy_same rs cs (ap (drop 1) e))
+    ap (λ w. if nat_lt greatest_routine_weight w then Some c.name.position else checked_heavy cs) weight
+    ∙ ap (λ q. if nat_lt greatest_routine_weight r.weight then Some q else checked_heavy cs) position
+    ∙ ap (λ q. if nat_lt greatest_routine_weight r.weight then Some r.name.position else q) (heavy_same rs cs (ap (drop 1) e))
 
 pub size_faults : (version : Version) (p : ProgramTree) (c : CheckedProgram) → IsCheckedOf p c
     → checked_size_fault c version ≡ tree_size_fault version p

@@ -15,6 +15,7 @@ use Rattle.tables.specs.Dictionary.{ReadsKeys}
 use Rattle.meaning.specs.Resolved.{ProgramOf}
 use Rattle.meaning.specs.Accepted.{IsAccepted}
 use Rattle.meaning.specs.Places.{arrays_place, start_place, routines_place, texts_place}
+use Rattle.meaning.specs.Sizes.{greatest_routine_weight}
 use Rattle.meaning.specs.Meaning.{routine_at}
 use Rattle.meaning.specs.World.{words_of}
 use Rattle.code_items.specs.Statements.{routine_items}
@@ -151,7 +152,7 @@ module _ (version : Version) (p : ProgramOf) (story : List ℕ)
       }
 
   routine_lies : (k : ℕ) → k < length p.routines
-      → code_size (sizes_of p) (routine_items (routine_at p.routines k)) ≤ 32000
+      → code_size (sizes_of p) (routine_items (routine_at p.routines k)) ≤ greatest_routine_weight
       → HoldsRoutine story (sizes_of p) (addresses_in (scale_of version) p) (slice_index (packed_in version p) k)
       (routine_at p.routines k)
   routine_lies k within small =

@@ -10,6 +10,7 @@ use Rattle.ztext.specs.Words.{packed}
 use Rattle.zcore.specs.declared.header.Version.{Version}
 use Rattle.zcore.specs.declared.header.Version.TheVariants.{V5, V8}
 use Rattle.zcore.specs.Header.{scale_of, version_number}
+use Rattle.zcore.specs.Layout.{header_size}
 use Rattle.zcore.specs.Parts.{scale_in}
 use Rattle.meaning.specs.Resolved.{RoutineOf}
 use Rattle.meaning.specs.Meaning.{routine_at}
@@ -41,7 +42,8 @@ pub record IsPacked (version : Version) (address : ℕ) : Type 0 where
   pub named : 0 < address / scale_of version
   pub word : address / scale_of version < 65536
 
-pub is_packed : (version : Version) (address end : ℕ) → whole version address → 875 ≤ address → address ≤ end
+pub is_packed : (version : Version) (address end : ℕ) → whole version address → header_size ≤ address
+    → address ≤ end
     → end ≤ 65535 * scale_of version → IsPacked version address
 is_packed V5 address end multiple low below within =
     record { back = omega (arith, multiple); named = omega (arith, low); word = omega (arith, below, within) }

@@ -8,7 +8,7 @@ use Rattle.zcore.specs.Header.{scale_of}
 use Rattle.meaning.specs.Resolved.{RoutineOf, ProgramOf}
 use Rattle.meaning.specs.Accepted.{IsAccepted}
 use Rattle.meaning.specs.Places.{routines_place}
-use Rattle.meaning.specs.Sizes.{greatest_weight}
+use Rattle.meaning.specs.Sizes.{greatest_weight, greatest_routine_weight}
 use Rattle.code_encoding.specs.Addresses.{Sizes}
 use Rattle.code.specs.HeldProgram.{sizes_of}
 use Rattle.code.specs.Sizes.{routine_size, routines_size}
@@ -56,14 +56,14 @@ stories_are_short version p accepted placed light =
 
 -- routines that weigh at most 32,000 have code that jumps reach
 pub all_short : (sizes : Sizes) (rs : List RoutineOf)
-    → All (λ (r : RoutineOf). routine_size sizes r + 7 ≤ 32000) rs → All (IsShortRoutine sizes) rs
+    → All (λ (r : RoutineOf). routine_size sizes r + 7 ≤ greatest_routine_weight) rs → All (IsShortRoutine sizes) rs
 all_short sizes rs small k d within =
-    let h : routine_size sizes (slice_index_or rs k d) + 7 ≤ 32000 = small k d within in
+    let h : routine_size sizes (slice_index_or rs k d) + 7 ≤ greatest_routine_weight = small k d within in
     omega (arith, h)
 
 -- what the law of stories asks for, from the limits of a source's weight
 pub is_story : (version : Version) (p : ProgramOf) → IsAccepted p → routines_place p ≤ greatest_word
-    → All (λ (r : RoutineOf). routine_size (sizes_of p) r + 7 ≤ 32000) p.routines
+    → All (λ (r : RoutineOf). routine_size (sizes_of p) r + 7 ≤ greatest_routine_weight) p.routines
     → routines_size (sizes_of p) p.routines ≤ greatest_weight version → All (λ b. b < 256) (story_of version p)
     → IsStory version p
 is_story version p accepted placed small light bytes =

@@ -6,7 +6,7 @@ use Rattle.zcore.specs.declared.header.Header.{Header}
 use Rattle.zcore.specs.Header.{Reads, scale_of}
 use Rattle.meaning.specs.Resolved.{RoutineOf, ProgramOf}
 use Rattle.meaning.specs.Accepted.{IsAccepted}
-use Rattle.meaning.specs.Sizes.{greatest_weight}
+use Rattle.meaning.specs.Sizes.{greatest_weight, greatest_routine_weight}
 use Rattle.meaning.specs.Places.{routines_place}
 use Rattle.code_items.specs.Statements.{routine_items}
 use Rattle.code_encoding.specs.Addresses.{Sizes}
@@ -18,7 +18,7 @@ use Rattle.zcore.specs.Layout.{greatest_word}
 
 -- the code of a routine of a program of these sizes can be reached by jumps
 abbrev pub IsShortRoutine : Sizes → RoutineOf → Type 0
-IsShortRoutine sizes r = code_size sizes (routine_items r) ≤ 32000
+IsShortRoutine sizes r = code_size sizes (routine_items r) ≤ greatest_routine_weight
 
 -- a story whose addresses and packed addresses are words, and whose bytes are bytes
 pub record IsStory (version : Version) (p : ProgramOf) : Type 0 where

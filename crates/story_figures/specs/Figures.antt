@@ -3,7 +3,8 @@ use Rattle.std.specs.Prelude.{◌≡◌, ◌+◌, ◌*◌, ◌≤◌, ◌^◌, �
 use Rattle.std.specs.Prelude.{List, [], ◌∷◌, length, map, take, Some, None, Result, Ok, Err}
 use Rattle.std.specs.Global.{Vec}
 use Rattle.std.specs.List.{All}
-use Rattle.tables.specs.KeyNumbers.{entry_size}
+use Rattle.tables.specs.KeyNumbers.{entry_size, head_size}
+use Rattle.zcore.specs.Layout.{defaults_size}
 use Rattle.zcore.specs.declared.header.Version.{Version}
 use Rattle.syntax_lexer.specs.declared.fault.SourceFault.{SourceFault}
 use Rattle.syntax_directives.specs.Tree.{DirectiveTree, global, constant, array, attribute, property, object, routine}
@@ -14,7 +15,7 @@ use Rattle.meaning.specs.Views.{CheckedProgram, program_of, routine_of}
 use Rattle.meaning.specs.CheckedSizes.{checked_size_fault}
 use Rattle.meaning.specs.Limits.{most_property_words}
 use Rattle.meaning.specs.Places.{arrays_size, objects_size, key_count, filling_before, dictionary_end, abbreviations_size}
-use Rattle.meaning.specs.Places.{routines_place, total}
+use Rattle.meaning.specs.Places.{arrays_place, routines_place, start_size, total}
 use Rattle.code.specs.Sizes.{routine_size}
 use Rattle.code.specs.HeldProgram.{sizes_of}
 use Rattle.story_file.specs.Layout.{story_of}
@@ -71,13 +72,18 @@ counts_in c attributes properties = record {
 abbrev pub table_total : TableBytes → ℕ
 table_total t = t.arrays + t.objects + t.words + t.abbreviations
 
--- the bytes of each table that grows with a source; 875 bytes stand beside them before the routines
+-- how many bytes stand before the routines beside these tables: the header, the table of abbreviations, the empty text,
+-- the globals, the property defaults, the head of the dictionary, and the code that begins the story
+abbrev pub fixed_size : ℕ
+fixed_size = arrays_place + defaults_size + head_size + start_size
+
+-- the bytes of each table that grows with a source
 pub record AreTables (p : ProgramOf) (t : TableBytes) : Type 0 where
   pub arrays : t.arrays ≡ arrays_size p
   pub objects : t.objects ≡ objects_size p.objects
   pub words : t.words ≡ entry_size * key_count p
   pub abbreviations : t.abbreviations ≡ filling_before p.abbreviations (dictionary_end p) + abbreviations_size p
-  pub all : 875 + table_total t ≡ routines_place p
+  pub all : fixed_size + table_total t ≡ routines_place p
 
 -- Routines
 

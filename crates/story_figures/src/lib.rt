@@ -9,4 +9,4 @@ mod table_bytes;
 
 pub use measuring::{Counts, Figures, measure};
 pub use routine_figures::RoutineFigures;
-pub use table_bytes::TableBytes;
+pub use table_bytes::{MOST_TABLE_BYTES, TableBytes};

@@ -2,30 +2,18 @@
 
 use crate::measuring::{Counts, Figures};
 use crate::routine_figures::RoutineFigures;
-use crate::table_bytes::{FIXED_LENGTH, TableBytes};
-use meaning::limits::{MOST_GLOBALS, MOST_OBJECTS, MOST_PROPERTIES, MOST_TEMPORARIES};
+use crate::table_bytes::{FIXED_LENGTH, MOST_TABLE_BYTES, TableBytes};
+use meaning::greatest_weight;
+use meaning::limits::{
+    GREATEST_ROUTINE_WEIGHT, MOST_GLOBALS, MOST_OBJECTS, MOST_PROPERTIES, MOST_TEMPORARIES,
+};
 use source_temporaries::Temporaries;
 use std::fmt::{self, Display, Formatter};
+use zcore::MOST_ABBREVIATIONS;
 use zcore::layout::ATTRIBUTE_COUNT;
-use zcore::{MOST_ABBREVIATIONS, Version};
-
-/// The most bytes of all tables that grow with a source: what stands before the routines ends at
-/// 65,535 at most.
-const MOST_TABLE_BYTES: u128 = 64_660;
-
-/// What a routine may weigh.
-const MOST_ROUTINE_WEIGHT: u32 = 32_000;
 
 /// The bytes of the longest name.
 const LONGEST_NAME: usize = 32;
-
-/// What a source may weigh.
-fn most_weight(version: Version) -> u32 {
-    match version {
-        Version::V5 => 190_000,
-        Version::V8 => 450_000,
-    }
-}
 
 /// A figure.
 #[derive(Clone, Copy)]
@@ -62,7 +50,7 @@ impl Display for RoutineFigures<'_> {
         let size = self.size;
         writeln!(
             f,
-            "weight of {name}{weight:>11} of {MOST_ROUTINE_WEIGHT}, {size} bytes"
+            "weight of {name}{weight:>11} of {GREATEST_ROUTINE_WEIGHT}, {size} bytes"
         )
     }
 }
@@ -129,8 +117,8 @@ impl Figures<'_> {
 impl Display for Figures<'_> {
     fn fmt<W: fmt::Write>(&self, f: &mut Formatter<W>) -> fmt::Result {
         let weight = Line("weight of the source", self.weight);
-        let most_weight = most_weight(self.version);
-        writeln!(f, "{weight} of {most_weight}")?;
+        let most = greatest_weight(self.version);
+        writeln!(f, "{weight} of {most}")?;
         for routine in &self.heaviest {
             write!(f, "{routine}")?;
         }

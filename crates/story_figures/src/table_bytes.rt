@@ -4,6 +4,7 @@ ghost use Rattle.std.specs.Prelude.{◌≡◌, ◌+◌, ◌*◌, ◌<◌, ◌≤
 ghost use Rattle.std.specs.List.{All};
 ghost use Rattle.ztext.specs.Alphabets.{spelled};
 ghost use Rattle.ztext.specs.Bytes.{most_abbreviations};
+ghost use Rattle.zcore.specs.Layout.{object_entry_size};
 ghost use Rattle.meaning.specs.Views.{program_of, object_of, property_of};
 ghost use Rattle.meaning.specs.Limits.{most_objects, most_property_words};
 ghost use Rattle.meaning.specs.Places.{total};
@@ -15,8 +16,8 @@ use tables::layout::DICTIONARY_ENTRY_LENGTH;
 use zcore::layout::OBJECT_ENTRY_LENGTH;
 use zcore::{spelling_length, words_for};
 
-/// The bytes of the tables that grow with a source. A story has 875 bytes beside them before its
-/// routines.
+/// The bytes of the tables that grow with a source. A story has [`FIXED_LENGTH`] bytes beside them
+/// before its routines.
 #[derive(Clone, Copy)]
 pub struct TableBytes {
     pub arrays: usize,
@@ -35,6 +36,10 @@ pub struct TableBytes {
 /// table of abbreviations, the empty text, the globals, the property defaults, the head of the
 /// dictionary, and the code that begins the story.
 pub const FIXED_LENGTH: u128 = 875;
+
+/// The most bytes of all tables that grow with a source: what stands before the routines ends at
+/// 65,535 at most.
+pub const MOST_TABLE_BYTES: u128 = 65_535 - FIXED_LENGTH;
 
 /// The bytes of a property of these words.
 fn property_bytes(words: &[u16]) -> u128
@@ -62,7 +67,7 @@ fn properties_bytes(properties: &[(u8, Vec<u16>)]) -> u128
 /// The bytes of an object's entry and property table.
 fn object_bytes(object: &CheckedObject<'_>) -> u128
     requires { ObjectHasFewWords object.now }
-    ensures size { result ≡ 14 + places.table_size (object_of object.now) }
+    ensures size { result ≡ object_entry_size + places.table_size (object_of object.now) }
     ensures few { result ≤ 75 * 2 ^ 64 }
 {
     let properties = properties_bytes(&object.properties);

@@ -1,16 +1,14 @@
 //! The sentence of a diagnosis.
 
+use meaning::greatest_weight;
 use program_sentences::program_sentence;
 use source_places::Diagnosis;
 use source_sentences::{Figure, source_sentence};
 use std::alloc::{AllocError, Global};
-use story_figures::measure;
+use story_figures::{MOST_TABLE_BYTES, measure};
 use syntax_directives::weight_of;
 use syntax_lexer::{NAME_TOO_LONG, NO_MEMORY, STORY_TOO_LARGE, TABLES_TOO_LARGE, lex};
 use zcore::Version;
-
-/// What a source of version 8 weighs at most.
-const GREATEST_WEIGHT: u128 = 450_000;
 
 /// The figures of a source that is too large as a whole: the bytes of its tables, and whether it is
 /// a story of version 8.
@@ -44,7 +42,7 @@ fn weight_of_source(alloc: Global, source: &[u8]) -> Result<Option<u128>, AllocE
 /// Whether a source of that weight is a story of version 8. To measure one takes longer than to
 /// compile it, so it is not done where the weight says all.
 fn is_large_story(alloc: Global, source: &[u8], weight: u128) -> Result<bool, AllocError> {
-    if weight > GREATEST_WEIGHT {
+    if weight > greatest_weight(Version::V8) {
         return Ok(false);
     }
     match figures_of(alloc, source)? {
@@ -59,15 +57,16 @@ fn heavy(alloc: Global, source: &[u8], version: Version) -> Result<Option<String
         return Ok(None);
     };
     let weight = Figure(found);
+    let most = Figure(greatest_weight(version));
     let sentence = match version {
         Version::V5 if is_large_story(alloc, source, found)? => format!(in alloc;
-            "the source weighs {weight}; 190,000 is the most for version 5, and -v 8 would do"
+            "the source weighs {weight}; {most} is the most for version 5, and -v 8 would do"
         ),
         Version::V5 => {
-            format!(in alloc; "the source weighs {weight}; 190,000 is the most for version 5")
+            format!(in alloc; "the source weighs {weight}; {most} is the most for version 5")
         }
         Version::V8 => {
-            format!(in alloc; "the source weighs {weight}; 450,000 is the most for version 8")
+            format!(in alloc; "the source weighs {weight}; {most} is the most for version 8")
         }
     };
     Ok(Some(sentence?))
@@ -79,8 +78,9 @@ fn large_tables(alloc: Global, source: &[u8]) -> Result<Option<String>, AllocErr
         return Ok(None);
     };
     let bytes = Figure(whole.tables);
+    let most = Figure(MOST_TABLE_BYTES);
     Ok(Some(format!(in alloc;
-        "arrays, objects, words and abbreviations have {bytes} bytes; 64,660 is the most"
+        "arrays, objects, words and abbreviations have {bytes} bytes; {most} is the most"
     )?))
 }
 

@@ -16,8 +16,8 @@ use Rattle.meaning.specs.declared.checked.CheckedRoutine.{CheckedRoutine}
 use Rattle.meaning.specs.Places.{routines_place}
 use Rattle.meaning.specs.Resolved.{RoutineOf, ProgramOf}
 use Rattle.meaning.specs.Views.{CheckedProgram, program_of, routine_of, title_of}
-use Rattle.meaning.specs.Sizes.{greatest_weight, first_heavy, heavy_fault, fault}
-use Rattle.meaning.specs.CheckedSizes.{checked_size_fault, name_place_of, weight_of}
+use Rattle.meaning.specs.Sizes.{greatest_weight, greatest_routine_weight, first_heavy, heavy_fault, fault}
+use Rattle.meaning.specs.CheckedSizes.{checked_size_fault, name_place_of, routine_weight}
 use Rattle.checker_names.specs.Names.{File}
 use Rattle.checker.specs.Programs.{resolve_routine, resolve_with, file_of, resolve_program, routines_of, routine_trees}
 use Rattle.checker.specs.Checked.{title, IsCheckedOf}
@@ -34,16 +34,16 @@ light_first : (heavy : Bool) (p : Position) (rest : Option Position) → (if hea
 light_first true p rest e = absurd cc
 light_first false p rest e = (refl, e)
 
-light : (cs : List CheckedRoutine) → first_heavy weight_of name_place_of cs ≡ None
-    → All (λ (c : CheckedRoutine). c.weight ≤ 32000) cs
-light [] e = All-nil (λ (c : CheckedRoutine). c.weight ≤ 32000)
+light : (cs : List CheckedRoutine) → first_heavy routine_weight name_place_of cs ≡ None
+    → All (λ (c : CheckedRoutine). c.weight ≤ greatest_routine_weight) cs
+light [] e = All-nil (λ (c : CheckedRoutine). c.weight ≤ greatest_routine_weight)
 light (c ∷ cs) e =
-    let f = light_first (nat_lt 32000 c.weight) c.name.position (first_heavy weight_of name_place_of cs) e in
-    All-cons (λ (c : CheckedRoutine). c.weight ≤ 32000) c cs (ltb-false 32000 c.weight f.0) (light cs f.1)
+    let f = light_first (nat_lt greatest_routine_weight c.weight) c.name.position (first_heavy routine_weight name_place_of cs) e in
+    All-cons (λ (c : CheckedRoutine). c.weight ≤ greatest_routine_weight) c cs (ltb-false greatest_routine_weight c.weight f.0) (light cs f.1)
 
 record Tests (c : CheckedProgram) (version : Version) : Type 0 where
   weight : c.weight ≤ greatest_weight version
-  light : All (λ (r : CheckedRoutine). r.weight ≤ 32000) c.routines
+  light : All (λ (r : CheckedRoutine). r.weight ≤ greatest_routine_weight) c.routines
 
 small_first : (large : Bool) (f : SourceFault) (rest : Option SourceFault) → (if large then Some f else rest) ≡ None
     → (large ≡ false) × (rest ≡ None)
@@ -56,14 +56,14 @@ no_heavy (Some p) e = absurd cc
 
 tests : (c : CheckedProgram) (version : Version) → checked_size_fault c version ≡ None → Tests c version
 tests c version e =
-    let heavy = heavy_fault (first_heavy weight_of name_place_of c.routines) in
+    let heavy = heavy_fault (first_heavy routine_weight name_place_of c.routines) in
     let large = nat_lt (greatest_weight version) c.weight in
     let parts = small_first (nat_lt 65535 (routines_place (program_of c))) (fault 30 0) (if large then Some (fault 31 0)
     else heavy) e in
     let whole = small_first large (fault 31 0) heavy parts.1 in
     record {
       weight = ltb-false (greatest_weight version) c.weight whole.0;
-      light = light c.routines (no_heavy (first_heavy weight_of name_place_of c.routines) whole.1);
+      light = light c.routines (no_heavy (first_heavy routine_weight name_place_of c.routines) whole.1);
     }
 
 -- the routines of a checked program
@@ -80,7 +80,7 @@ module _ (file : File) (sizes : Sizes) where
   resolved_trees (trees.routine r ∷ ds) = ap (λ rs. resolve_routine file r ∷ rs) (resolved_trees ds)
 
   one_small : (c : CheckedRoutine) (r : RoutineTree) → routine_of c ≡ resolve_routine file r → title_of c ≡ title r
-      → IsRoutineShort file sizes r → c.weight ≤ 32000 → routine_size sizes (routine_of c) + 7 ≤ 32000
+      → IsRoutineShort file sizes r → c.weight ≤ greatest_routine_weight → routine_size sizes (routine_of c) + 7 ≤ greatest_routine_weight
   one_small c r e t h k =
       let size : routine_size sizes (routine_of c) ≡ routine_size sizes (resolve_routine file r) =
       ap (routine_size sizes) e in
@@ -89,17 +89,17 @@ module _ (file : File) (sizes : Sizes) where
 
   all_small : (cs : List CheckedRoutine) (rs : List RoutineTree) → map routine_of cs ≡ map (resolve_routine file) rs
       → map title_of cs ≡ map title rs
-      → All (IsRoutineShort file sizes) rs → All (λ (c : CheckedRoutine). c.weight ≤ 32000) cs
-      → All (λ (r : RoutineOf). routine_size sizes r + 7 ≤ 32000) (map routine_of cs)
-  all_small [] rs e t h k = All-nil (λ (r : RoutineOf). routine_size sizes r + 7 ≤ 32000)
+      → All (IsRoutineShort file sizes) rs → All (λ (c : CheckedRoutine). c.weight ≤ greatest_routine_weight) cs
+      → All (λ (r : RoutineOf). routine_size sizes r + 7 ≤ greatest_routine_weight) (map routine_of cs)
+  all_small [] rs e t h k = All-nil (λ (r : RoutineOf). routine_size sizes r + 7 ≤ greatest_routine_weight)
   all_small (c ∷ cs) [] e t h k = absurd cc
   all_small (c ∷ cs) (r ∷ rs) e t h k =
-      let P = λ (c : CheckedRoutine). c.weight ≤ 32000 in
+      let P = λ (c : CheckedRoutine). c.weight ≤ greatest_routine_weight in
       let first : routine_of c ≡ resolve_routine file r = cc in
       let more : map routine_of cs ≡ map (resolve_routine file) rs = cc in
       let name : title_of c ≡ title r = cc in
       let names : map title_of cs ≡ map title rs = cc in
-      All-cons (λ (r : RoutineOf). routine_size sizes r + 7 ≤ 32000) (routine_of c) (map routine_of cs)
+      All-cons (λ (r : RoutineOf). routine_size sizes r + 7 ≤ greatest_routine_weight) (routine_of c) (map routine_of cs)
       (one_small c r first name (All-head (IsRoutineShort file sizes) r rs h) (All-head P c cs k))
       (all_small cs rs more names (All-tail (IsRoutineShort file sizes) r rs h) (All-tail P c cs k))
 

@@ -11,7 +11,7 @@ use Rattle.checker.specs.Programs.{resolve_routine, routines_of, routine_trees}
 use Rattle.checker.specs.Checked.{IsCheckedOf}
 use Rattle.meaning.specs.Resolved.{RoutineOf}
 use Rattle.meaning.specs.Views.{CheckedProgram, program_of}
-use Rattle.meaning.specs.Sizes.{greatest_weight}
+use Rattle.meaning.specs.Sizes.{greatest_weight, greatest_routine_weight}
 use Rattle.meaning.specs.CheckedSizes.{checked_size_fault}
 use Rattle.code_encoding.specs.Addresses.{Sizes}
 use Rattle.code.specs.HeldProgram.{sizes_of}
@@ -30,10 +30,11 @@ abbrev pub CodeIsShort : Type 0
 CodeIsShort = (tokens : List Lexeme) (p : ProgramTree) → IsProgram tokens p → (file : File)
     → (sizes : Sizes) → HasShortCode p file sizes
 
--- the code of a checked program is within the limits of a source's weight: 32,000 for a routine, and the version's
--- for all
+-- the code of a checked program is within the limits of a source's weight: that of a routine, and the version's for
+-- all
 pub record IsSmall (c : CheckedProgram) (version : Version) : Type 0 where
-  pub each : All (λ (r : RoutineOf). routine_size (sizes_of (program_of c)) r + 7 ≤ 32000) (program_of c).routines
+  pub each : All (λ (r : RoutineOf). routine_size (sizes_of (program_of c)) r + 7 ≤ greatest_routine_weight)
+      (program_of c).routines
   pub all : routines_size (sizes_of (program_of c)) (program_of c).routines ≤ greatest_weight version
 
 -- so is that of each source that is not too large for a version
