@@ -2,6 +2,7 @@
 
 ghost use Rattle.std.specs.Prelude.{◌≡◌, ◌<◌, ◌≤◌, ◌+◌, ℕ, length};
 ghost use Rattle.ztext.specs.Bytes.{word_at};
+ghost use Rattle.zcore.specs.Layout.{object_entry_size};
 ghost use Rattle.zcore.specs.Entries.{Parent, Sibling, Child, object_entry, has_entry, place_of, properties_place, attribute_place, is_set};
 ghost use Rattle.tables.specs.Links.{as_link};
 ghost use Rattle.tables.specs.Objects.{word_of_entry, link_of, attribute_of};
@@ -96,7 +97,7 @@ pub(crate) fn read_word(story: &[u8], at: usize) -> u16
 
 /// The word at a place of an object's entry.
 fn entry_word(story: &[u8], table: u16, object: u16, place: usize) -> Result<u16, TableRead>
-    requires { place + 1 < 14 }
+    requires { place + 1 < object_entry_size }
     ensures { result ≡ word_of_entry story.now table object place }
 {
     if !is_object(story, table, object) {
