@@ -89,4 +89,10 @@ pub trait Cells {
         ensures within { AreWithin (bounds self.old) (page * whole_page) values.new }
         ensures bounds { bounds self.new ≡ bounds self.old }
         ensures fixed { fixed self.new ≡ fixed self.old };
+
+    /// Tells the store of a place, of which it may remember what saves time when it is met again. What
+    /// the store holds stays the same.
+    fn learn(&mut self, _place: usize)
+        ensures { self.new ≡ self.old }
+    {}
 }

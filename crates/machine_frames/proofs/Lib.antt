@@ -12,3 +12,4 @@ pub mod Entering
 pub mod Leaving
 pub mod Beginning
 pub mod Exchanging
+pub mod SilentWords

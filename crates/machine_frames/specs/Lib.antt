@@ -1,5 +1,6 @@
 pub mod Layout
 pub mod Contents
+pub mod Silence
 pub mod States
 pub mod Running
 pub mod Went

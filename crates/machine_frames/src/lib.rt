@@ -8,6 +8,7 @@ pub mod layout;
 mod memory;
 mod operands;
 mod results;
+mod silence;
 mod stack;
 mod store;
 mod variables;

@@ -5,7 +5,7 @@ use Rattle.std.specs.Prelude.{◌≢◌, nat_le, min, slice_index_or}
 use Rattle.std.specs.List.{All, flat_map, list_all}
 use Rattle.std.proofs.lemmas.Bool.{and_parts, lt-leb, cases_lt}
 use Rattle.std.proofs.lemmas.Grind.{flat_map-append}
-use Rattle.std.proofs.lemmas.List.{length-append, length-take-le, length-take, take-append-drop, take_all, drop-take}
+use Rattle.std.proofs.lemmas.List.{append-nil, length-append, length-take-le, length-take, take-append-drop, take_all, drop-take}
 use Rattle.std.proofs.lemmas.List.Folds.{list_all-append}
 use Rattle.std.proofs.lemmas.List.Sums.{AllPass-from_list_all}
 use Rattle.std.proofs.Math.Seq.{drop-append_seam}
@@ -95,6 +95,11 @@ has_added was now text h stays is =
       stands = front_stands (drop (length was) now) text h front;
       bytes = subst (All (λ c. c ≢ 0)) (sym front) (bytes_all (take 65537 text) (front_printable 65537 text h));
     }
+
+-- the empty text
+pub added_nothing : (was : List ℕ) → HasAdded was was []
+added_nothing was = has_added was was [] refl (take_all (length was) was (omega arith))
+    (sym (take_all (length was + 65537) was (omega arith)) ∙ ap (take (length was + 65537)) (sym (append-nil was)))
 
 module _ (start end : ℕ) (was now text : List ℕ) (is : end ≡ length was) (added : HasAdded was now text) where
   back : take end now ≡ was

@@ -223,7 +223,8 @@ fn is_output(character: u16) -> bool
 /// Adds the text at an address to the transcript as it is, to be printed by `print_added`, and
 /// answers the address after it. Of a text that is longer than a turn may print, only so many
 /// characters are added that it passes the limit: one of long abbreviations can have more than
-/// memory holds.
+/// memory holds. One that prints nothing is remembered where its bytes never change, since a turn
+/// may come to it without end.
 ///
 /// # Errors
 ///
@@ -234,10 +235,18 @@ fn add_text(store: &mut Recorded<Store>, text: &mut Vec<u8>, address: u32) -> Re
     requires { IsSound store.old.store }
     ensures { Adds result text.old.items text.new.items store.old store.new (text_at address) }
 {
+    if let Some(after) = store.store().after_silence(address) {
+        return Ok(after);
+    }
     let end = text.len();
     let most = end + TEXT_LIMIT + 1;
     match append_front(text, store.store().memory(), address, most) {
-        Ok(after) => Ok(after),
+        Ok(after) => {
+            if text.len() == end {
+                store.learn(address as usize);
+            }
+            Ok(after)
+        }
         Err(fault) => {
             text.truncate(end);
             Err(unread(store, fault))
