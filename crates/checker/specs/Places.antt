@@ -4,7 +4,8 @@ use Rattle.syntax_lexer.specs.declared.fault.PlacedFault.{PlacedFault}
 use Rattle.checker_names.specs.declared.breach.Breach.{Breach}
 use Rattle.checker_names.specs.Breaches.{IsAmong, IsFirst}
 
--- at the first of the broken rules
+-- at the first of the broken rules, whose number and line are told
 abbrev pub StandsAtFirst : PlacedFault → List Breach → Type 0
 StandsAtFirst e breaches =
-    (b : Breach) × IsAmong b breaches × IsFirst b breaches × (e.offset ≡ Some b.position.offset)
+    (b : Breach) × IsAmong b breaches × IsFirst b breaches × (e.fault.number ≡ b.number)
+    × (e.fault.line ≡ b.position.line) × (e.offset ≡ Some b.position.offset)

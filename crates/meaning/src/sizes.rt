@@ -1,12 +1,12 @@
 //! Which programs are too large.
 
-ghost use Rattle.std.specs.Prelude.{◌≡◌, nat_lt};
+ghost use Rattle.std.specs.Prelude.{◌≡◌, nat_lt, IfErr};
 ghost use Rattle.syntax_lexer.specs.Placed.{nowhere, unplaced};
 ghost use Rattle.meaning.specs.Places.{routines_place};
 ghost use Rattle.meaning.specs.Views.{program_of};
 ghost use Rattle.zcore.specs.Layout.{greatest_word};
 ghost use Rattle.meaning.specs.CheckedSizes.{fault_of, checked_size_fault, name_place_of};
-ghost use Rattle.meaning.specs.CheckedSizes.{routine_weight};
+ghost use Rattle.meaning.specs.CheckedSizes.{routine_weight, StandsBySize};
 ghost use Rattle.meaning.specs.Sizes as spec;
 
 use crate::checked::{Checked, CheckedRoutine};
@@ -78,7 +78,8 @@ pub fn test_sizes(checked: &Checked<'_>, version: Version) -> Result<(), SourceF
 ///
 /// Those of [`test_sizes`]. The offset of E32 is that of the routine's name; E30 and E31 have none.
 pub fn test_sizes_placed(checked: &Checked<'_>, version: Version) -> Result<(), PlacedFault>
-    ensures { fault_of (unplaced result) ≡ checked_size_fault checked.now version }
+    ensures fault { fault_of (unplaced result) ≡ checked_size_fault checked.now version }
+    ensures stands { IfErr result (λ e. StandsBySize e checked.now) }
 {
     if are_tables_large(checked) {
         return Err(whole(TABLES_TOO_LARGE));

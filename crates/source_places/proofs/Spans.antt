@@ -3,7 +3,8 @@ use Rattle.std.proofs.Common.{ℕ, ◌≡◌, ◌≤◌, ◌<◌, ◌≢◌, Lis
 use Rattle.std.proofs.Common.{◌∙◌, arith, take-take}
 use Rattle.std.proofs.Common.{length-drop, length-take-le}
 use Rattle.std.proofs.lemmas.List.Elements.{All-take}
-use Rattle.source_places.specs.Lines.{IsPlaceIn, line_behind, column_behind}
+use Rattle.syntax_lexer.specs.Placed.{line_behind}
+use Rattle.source_places.specs.Lines.{IsPlaceIn, column_behind}
 
 -- what holds of the elements of a span holds of those of a shorter one
 shorter : {X : Type 0} (P : X → Type 0) (m n : ℕ) (xs : List X) → m ≤ n → All P (take n xs) → All P (take m xs)

@@ -2,18 +2,9 @@
 use Rattle.std.specs.Prelude.{◌≡◌, ◌≢◌, ◌==◌, ◌+◌, ◌≤◌, ◌<◌, ℕ, if◌then◌else◌, List, [], ◌∷◌, take}
 use Rattle.std.specs.Prelude.{drop, length, IfSome}
 use Rattle.std.specs.List.{All}
-use Rattle.syntax_lexer.specs.Tokens.{line_after}
+use Rattle.syntax_lexer.specs.Placed.{line_at}
 use Rattle.source_places.specs.declared.place.Place.{Place}
 use Rattle.source_places.specs.declared.diagnosis.Diagnosis.{Diagnosis}
-
--- the line behind these bytes, which begin in a line
-abbrev pub line_behind : ℕ → List ℕ → ℕ
-line_behind line [] = line
-line_behind line (b ∷ bs) = line_behind (line_after line b) bs
-
--- Lines count from 1, and each byte 10 ends one.
-abbrev pub line_at : List ℕ → ℕ → ℕ
-line_at source offset = line_behind 1 (take offset source)
 
 abbrev pub column_after : ℕ → ℕ → ℕ
 column_after column b = if b == 10 then 1 else column + 1

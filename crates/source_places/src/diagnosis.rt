@@ -1,6 +1,7 @@
 //! Why a source is refused, and where.
 
-ghost use Rattle.std.specs.Prelude.{◌≡◌, IfSome, Some};
+ghost use Rattle.std.specs.Prelude.{◌≡◌, ◌≢◌, ℕ, IfSome, Some, None};
+ghost use Rattle.syntax_lexer.specs.Placed.{IsInLine};
 ghost use Rattle.source_places.specs.Lines.{IsLocatedIn};
 
 use crate::place::{Place, place_of};
@@ -22,6 +23,8 @@ pub fn located(source: &[u8], placed: PlacedFault) -> Diagnosis
     ensures fault { result.fault ≡ placed.fault }
     ensures place { IsLocatedIn source.now result }
     ensures begins { IfSome result.place (λ p. placed.offset ≡ Some p.offset) }
+    ensures there { (at : ℕ) → placed.offset ≡ Some at → IsInLine source.now placed.fault.line at
+        → result.place ≢ None }
 {
     Diagnosis {
         fault: placed.fault,

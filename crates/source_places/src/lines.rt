@@ -1,8 +1,10 @@
 //! Lines, columns and parts of a source.
 
-ghost use Rattle.std.specs.Prelude.{◌≡◌, ◌≢◌, ◌≤◌, ◌+◌, length, take, drop};
+ghost use Rattle.std.specs.Prelude.{◌≡◌, ◌≢◌, ◌≤◌, ◌<◌, ◌+◌, false, length, slice_index, take, drop};
 ghost use Rattle.std.specs.List.{All};
-ghost use Rattle.source_places.specs.Lines.{line_behind, column_behind};
+ghost use Rattle.syntax_lexer.specs.Bytes.{is_divider};
+ghost use Rattle.syntax_lexer.specs.Placed.{line_behind};
+ghost use Rattle.source_places.specs.Lines.{column_behind};
 
 /// The line behind some bytes, which begin in line 1.
 pub fn line_behind(bytes: &[u8]) -> usize
@@ -36,6 +38,7 @@ pub fn column_behind(bytes: &[u8]) -> usize
 pub fn line_length(bytes: &[u8]) -> usize
     ensures within { result ≤ length bytes.now }
     ensures one_line { All (λ b. b ≢ 10) (take result bytes.now) }
+    ensures some { 0 < length bytes.now → is_divider (slice_index bytes.now 0) ≡ false → 0 < result }
 {
     let mut length = 0;
     while length < bytes.len() && bytes[length] != b'\n' && bytes[length] != b'\r' {

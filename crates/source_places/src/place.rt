@@ -1,6 +1,7 @@
 //! The place of a fault in its source.
 
-ghost use Rattle.std.specs.Prelude.{◌≡◌, ◌≤◌, IfSome, Some, length};
+ghost use Rattle.std.specs.Prelude.{◌≡◌, ◌≢◌, ◌≤◌, ◌<◌, ℕ, IfSome, Some, None, length};
+ghost use Rattle.syntax_lexer.specs.Placed.{IsInLine};
 ghost use Rattle.source_places.specs.Lines.{IsPlaceIn};
 
 use crate::lines::{column_behind, from, front, line_behind, line_length};
@@ -49,22 +50,27 @@ fn quoted_length(line: &[u8]) -> usize
     line.len()
 }
 
-// How many bytes are at fault at the front of a line, by the broken rule.
+// How many bytes are at fault at the front of a line, by the broken rule: at least one, if the line
+// has one.
 fn span(number: u8, line: &[u8]) -> usize
-    ensures { result ≤ length line.now }
+    ensures within { result ≤ length line.now }
+    ensures some { 0 < length line.now → 0 < result }
 {
-    match number {
-        STRAY_BYTE => line.len().min(1),
+    let length = match number {
+        STRAY_BYTE => 1,
         BAD_TEXT => quoted_length(line),
         BAD_NUMBER | NAME_TOO_LONG => word_length(line),
         _ => token_length(line),
-    }
+    };
+    length.max(1).min(line.len())
 }
 
 /// The place of a fault, if it has one.
 pub fn place_of(source: &[u8], placed: PlacedFault) -> Option<Place>
     ensures place { IfSome result (IsPlaceIn source.now placed.fault.line) }
     ensures begins { IfSome result (λ p. placed.offset ≡ Some p.offset) }
+    ensures there { (at : ℕ) → placed.offset ≡ Some at → IsInLine source.now placed.fault.line at
+        → result ≢ None }
 {
     let offset = placed.offset?;
     if offset > source.len() {
@@ -78,6 +84,7 @@ fn place_at(source: &[u8], offset: usize, fault: SourceFault) -> Option<Place>
     requires { offset ≤ length source.now }
     ensures place { IfSome result (IsPlaceIn source.now fault.line) }
     ensures begins { IfSome result (λ p. p.offset ≡ offset) }
+    ensures there { IsInLine source.now fault.line offset → result ≢ None }
 {
     let before = front(source, offset);
     let rest = from(source, offset);

@@ -5,7 +5,7 @@ use Rattle.std.specs.Prelude.{◌++◌}
 use Rattle.std.specs.List.{All}
 use Rattle.std.specs.Result.{IsErr, IsErrAnd}
 use Rattle.zcore.specs.declared.header.Version.{Version}
-use Rattle.zcore.specs.Header.{scale_of, Reads}
+use Rattle.zcore.specs.Header.{IsOfVersion, scale_of, Reads}
 use Rattle.zcore.specs.declared.header.Header.{Header}
 use Rattle.syntax_lexer.specs.declared.fault.SourceFault.{SourceFault}
 use Rattle.syntax_lexer.specs.declared.fault.PlacedFault.{PlacedFault}
@@ -43,6 +43,7 @@ use Rattle.story.specs.Laws.{StoriesHold}
 use Rattle.story.proofs.Faults.{size_faults, placed_of}
 use Rattle.story.proofs.Sizes.{stories_are_short, is_story}
 use Rattle.story.proofs.Numbered.{keys_numbered}
+use Rattle.story.proofs.Reading.{version_told}
 
 -- Faults
 
@@ -72,7 +73,7 @@ module _ (source : List ℕ) (ts : List Token) (lexed : Lexes 0 1 source (Ok (so
   -- what is not parsed
   pub unparsed : (version : Version) (f : SourceFault)
       → (f.number ≡ 10 → ((p : ProgramTree) → IsProgram (lexemes ts) p → ⊥))
-      → (f.number ≡ 10 → IsFirstUnfit (lexemes ts) (λ place. place.line ≡ f.line))
+      → (f.number ≡ 10 → IsFirstUnfit 100 (lexemes ts) (λ place. place.line ≡ f.line))
       → (f.number ≡ 5 → ((p : ProgramTree) → IsProgram (lexemes ts) p → 100 < program_nesting p))
       → (f.number ≡ 5 → IsFirstDeep 100 (lexemes ts) (λ place. place.line ≡ f.line))
       → (f.number ≡ 5) ⊎ (f.number ≡ 10) ⊎ (f ≡ no_memory)
@@ -83,7 +84,7 @@ module _ (source : List ℕ) (ts : List Token) (lexed : Lexes 0 1 source (Ok (so
     | inr others ↦ elim others [
       | inl ten ↦ spec.not_in_grammar (source_tokens ts) lexed
           (λ p parsed. grammar ten p (program_of_tokens p parsed))
-          (subst (λ ls. IsFirstUnfit ls (λ place. place.line ≡ f.line)) (sym (same_lexemes ts)) (place ten)) ten
+          (subst (λ ls. IsFirstUnfit 100 ls (λ place. place.line ≡ f.line)) (sym (same_lexemes ts)) (place ten)) ten
       | inr refused ↦ spec.no_memory refused
     ]
   ]
@@ -150,6 +151,7 @@ module _ (accepted_programs : AcceptedPrograms) (printable_tokens : PrintableTok
           is_tree = is_tree source ts lexed p parsed nested;
           lawful = lawful;
           fits = sym (size_faults version p c is) ∙ sized;
+          of_version = subst (λ b. IsOfVersion b version) (sym laid) (version_told version q);
           reads = subst (λ b. (header : Header) × Reads b (Ok header)) (sym laid) held.0;
           plays = λ full lines. subst (λ r. Plays bytes r full lines) is.program
               (subst (λ b. Plays b q full lines) (sym laid) (plays full lines));

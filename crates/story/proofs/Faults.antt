@@ -17,6 +17,7 @@ use Rattle.checker.specs.Programs.{resolve_program, routine_trees}
 use Rattle.meaning.specs.Sizes.{greatest_routine_weight, first_heavy, size_fault}
 use Rattle.meaning.specs.CheckedSizes.{checked_size_fault}
 use Rattle.meaning.specs.CheckedSizes as checked
+use Rattle.story.specs.FaultPlaces.{heavy_place}
 use Rattle.story.specs.Refused.{tree_name_place, tree_size_fault, tree_weight}
 
 -- the first heavy routine of a checked program is that of its tree
@@ -38,6 +39,9 @@ heavy_same (r ∷ rs) (c ∷ cs) e =
     ap (λ w. if nat_lt greatest_routine_weight w then Some c.name.position else checked_heavy cs) weight
     ∙ ap (λ q. if nat_lt greatest_routine_weight r.weight then Some q else checked_heavy cs) position
     ∙ ap (λ q. if nat_lt greatest_routine_weight r.weight then Some r.name.position else q) (heavy_same rs cs (ap (drop 1) e))
+
+pub heavy_places : (p : ProgramTree) (c : CheckedProgram) → IsCheckedOf p c → checked.heavy_place c ≡ heavy_place p
+heavy_places p c is = heavy_same (routine_trees p.directives) c.routines is.titles
 
 pub size_faults : (version : Version) (p : ProgramTree) (c : CheckedProgram) → IsCheckedOf p c
     → checked_size_fault c version ≡ tree_size_fault version p

@@ -8,5 +8,4 @@ pub mod Sizes
 pub mod Faults
 mod Numbered
 pub mod Compiling
-pub mod Unfit
-pub mod TooDeep
+pub mod Standing

@@ -8,7 +8,7 @@ use Rattle.std.proofs.lemmas.List.{length-append, length-map, drop_at}
 use Rattle.ztext.specs.Bytes.{word_at}
 use Rattle.zcore.specs.declared.header.Version.{Version}
 use Rattle.zcore.specs.declared.header.Header.{Header}
-use Rattle.zcore.specs.Header.{IsDictionary, IsDictionaryOf, IsPlaced, Reads, StatesSum, abbreviations_of, defaults_of}
+use Rattle.zcore.specs.Header.{IsDictionary, IsDictionaryOf, IsOfVersion, IsPlaced, Reads, StatesSum, abbreviations_of, defaults_of}
 use Rattle.zcore.specs.Header.{dictionary_of, first_instruction_of, globals_of, high_memory_of, scale_of}
 use Rattle.zcore.specs.Header.{separator_count, entry_length_of, entry_count, static_base_of, version_number}
 use Rattle.tables.specs.Dictionary.{ReadsKeys}
@@ -16,7 +16,7 @@ use Rattle.meaning.specs.Accepted.{IsAccepted}
 use Rattle.meaning.specs.Places.{defaults_place, dictionary_place, start_place, routines_place, places_of}
 use Rattle.meaning.specs.Resolved.{ProgramOf}
 use Rattle.code.specs.HeldProgram.{start_code}
-use Rattle.story_file.specs.Layout.{abbreviation_texts, header_of, low_bytes, key_bytes}
+use Rattle.story_file.specs.Layout.{abbreviation_texts, header_of, low_bytes, key_bytes, story_of}
 use Rattle.zcore.specs.Layout.{greatest_word}
 use Rattle.story_file.specs.Layout.{dictionary_bytes, parts_from}
 use Rattle.story_file.proofs.Parts.{whole, holds_first, parts_end}
@@ -84,6 +84,10 @@ module _ (story rest keys : List ℕ) (at : ℕ) (stands : drop at story ≡ dic
   keys_stand small ascending long low =
       keys_read story at keys small ascending (omega (arith, low))
       (holds_first at story (dictionary_bytes keys) rest stands) (omega (arith, long, low))
+
+pub version_told : (version : Version) (p : ProgramOf) → IsOfVersion (story_of version p) version
+unfolding story_of
+version_told version p = refl
 
 -- Reading
 

@@ -50,7 +50,7 @@ pub data Refuses (version : Version) (source : List ℕ) (f : SourceFault) : Typ
   in_tokens : Lexes 0 1 source (Err f) → Refuses version source f
   not_in_grammar : (tokens : List SourceToken) → Lexes 0 1 source (Ok tokens)
       → ((p : ProgramTree) → IsProgram (lexemes_of tokens) p → ⊥)
-      → IsFirstUnfit (lexemes_of tokens) (λ place. place.line ≡ f.line)
+      → IsFirstUnfit greatest_nesting (lexemes_of tokens) (λ place. place.line ≡ f.line)
       → f.number ≡ fault_numbers.not_in_grammar → Refuses version source f
   too_deep : (tokens : List SourceToken) → Lexes 0 1 source (Ok tokens)
       → ((p : ProgramTree) → IsProgram (lexemes_of tokens) p → greatest_nesting < program_nesting p)

@@ -1,10 +1,10 @@
 //! From a source to its story.
 
-ghost use Rattle.std.specs.Prelude.{◌≡◌};
+ghost use Rattle.std.specs.Prelude.{IfErr};
 ghost use Rattle.zcore.specs.declared.header.Version.TheVariants.{V5};
 ghost use Rattle.syntax_lexer.specs.Placed.{unplaced};
 ghost use Rattle.story.specs.Compiled.{Compiles};
-ghost use Rattle.story.specs.FaultPlaces.{PlacesUnfit, PlacesTooDeep};
+ghost use Rattle.story.specs.FaultPlaces.{Stands};
 
 use crate::laws::{stories_are_short, stories_hold};
 use checker::{accepted_programs, check_placed, printable_programs};
@@ -122,8 +122,7 @@ fn compile_in(
     trees: Trees,
 ) -> Result<Story, PlacedFault>
     ensures compiles { Compiles version source.now (unplaced result) }
-    ensures unfit { PlacesUnfit source.now result }
-    ensures too_deep { PlacesTooDeep source.now result }
+    ensures stands { IfErr result (Stands source.now) }
 {
     accepted_programs();
     printable_tokens();
@@ -152,10 +151,8 @@ fn compile_in(
 /// is at fault; E30, E31 and E99 have none.
 pub fn compile_placed(alloc: Global, source: &[u8], version: Version) -> Result<Story, PlacedFault>
     ensures compiles { Compiles version source.now (unplaced result) }
-    // A fault of the grammar stands at the first token with which no program begins.
-    ensures unfit { PlacesUnfit source.now result }
-    // A fault of nesting stands at the first token that is nested too deep.
-    ensures too_deep { PlacesTooDeep source.now result }
+    // The place of a fault is that of the byte, the token or the name at fault.
+    ensures stands { IfErr result (Stands source.now) }
 {
     compile_in(alloc, source, version, Trees::GivenBack)
 }
@@ -169,8 +166,7 @@ pub fn compile_placed(alloc: Global, source: &[u8], version: Version) -> Result<
 /// Those of [`compile_placed`].
 pub fn compile_once(alloc: Global, source: &[u8], version: Version) -> Result<Story, PlacedFault>
     ensures compiles { Compiles version source.now (unplaced result) }
-    ensures unfit { PlacesUnfit source.now result }
-    ensures too_deep { PlacesTooDeep source.now result }
+    ensures stands { IfErr result (Stands source.now) }
 {
     compile_in(alloc, source, version, Trees::Left)
 }

@@ -42,7 +42,7 @@ module _ (source : List ℕ) (ts : List Token) (lexed : Lexes 0 1 source (Ok (so
 
   pub unparsed : (version : Version) (f : SourceFault)
       → (f.number ≡ 10 → ((p : ProgramTree) → IsProgram (lexemes ts) p → ⊥))
-      → (f.number ≡ 10 → IsFirstUnfit (lexemes ts) (λ place. place.line ≡ f.line))
+      → (f.number ≡ 10 → IsFirstUnfit 100 (lexemes ts) (λ place. place.line ≡ f.line))
       → (f.number ≡ 5 → ((p : ProgramTree) → IsProgram (lexemes ts) p → 100 < program_nesting p))
       → (f.number ≡ 5 → IsFirstDeep 100 (lexemes ts) (λ place. place.line ≡ f.line))
       → (f.number ≡ 5) ⊎ (f.number ≡ 10) ⊎ (f ≡ no_memory)
@@ -58,7 +58,7 @@ module _ (source : List ℕ) (ts : List Token) (lexed : Lexes 0 1 source (Ok (so
       | inl ten ↦ (
         spec.not_in_grammar (source_tokens ts) lexed
             (λ p parsed. grammar ten p (program_of_tokens p parsed))
-            (subst (λ ls. IsFirstUnfit ls (λ place. place.line ≡ f.line)) (sym (same_lexemes ts)) (place ten)) ten,
+            (subst (λ ls. IsFirstUnfit 100 ls (λ place. place.line ≡ f.line)) (sym (same_lexemes ts)) (place ten)) ten,
         tt,
       )
       | inr refused ↦ without_memory version source f refused

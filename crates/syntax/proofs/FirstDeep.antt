@@ -4,7 +4,7 @@ use Rattle.std.proofs.Common.{inl, inr, Err, subst}
 use Rattle.std.proofs.lemmas.Bool.{cases_lt}
 use Rattle.syntax_lexer.specs.declared.token.Word.TheVariants as w
 use Rattle.syntax_lexer.specs.Token.{Lexeme}
-use Rattle.syntax_parsing.specs.Stop.{deep, TooDeep}
+use Rattle.syntax_parsing.specs.Stop.{unfit, deep, TooDeep}
 use Rattle.syntax_parsing.specs.Parse.{◌>>=◌, head, is_word, repeated}
 use Rattle.syntax_expressions.proofs.Limited.{Limited, deep_before}
 use Rattle.syntax_expressions.proofs.Deepened.{Deepened, deep_in, deep_same}
@@ -14,7 +14,7 @@ use Rattle.syntax_directives.specs.Parse.{directive}
 use Rattle.syntax_directives.proofs.DeepDirectives.{deep_Directive}
 use Rattle.syntax_directives.proofs.DeepEnds.{EndsAt, over, ends_Directive}
 use Rattle.syntax.specs.Tree.{EntryTree, entry}
-use Rattle.syntax.specs.Nesting.{DeepEntries, deep_entries_first, deep_entries_next}
+use Rattle.syntax.specs.Nesting.{DeepEntries, deep_entries_first, deep_entries_next, DeepProgram}
 use Rattle.syntax.specs.Parse.{goes_on, one_entry, all_entries, entries, program}
 use Rattle.syntax.proofs.Complete.{short_Entry, first_Entry, at_Entry}
 use Rattle.syntax.proofs.Suffixes.{ends_Entry}
@@ -88,6 +88,16 @@ none_before d n ts h k u x less = elim (cases_lt d k) [
   | inl far ↦ (
       let t = deep_program x d far in
       absurd (omega (arith, less, t.enough, one_place n t.left (sym h ∙ t.stops))))
+  | inr le ↦ le
+]
+
+-- where a token fits nowhere, none that stands before it is too deep
+pub none_deeper : (d n : ℕ) (ts : List Lexeme) → program d ts ≡ Err (unfit n) → (k : ℕ) → DeepProgram k ts → k ≤ d
+none_deeper d n ts h k x = elim (cases_lt d k) [
+  | inl far ↦ (
+      let t = deep_program x.1 d far in
+      let never = sym h ∙ t.stops in
+      absurd cc)
   | inr le ↦ le
 ]
 

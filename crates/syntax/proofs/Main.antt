@@ -3,8 +3,10 @@ use Rattle.std.proofs.Common.{◌≡◌, ℕ, suc, ◌<◌, ◌≤◌, ◌⊎◌
 use Rattle.std.proofs.Common.{sym, ap, subst, ◌∙◌, inl, inr, arith}
 use Rattle.std.proofs.lemmas.Bool.{cases_lt}
 use Rattle.syntax_lexer.specs.declared.fault.SourceFault.{SourceFault}
+use Rattle.syntax_lexer.specs.declared.fault.PlacedFault.{PlacedFault}
 use Rattle.syntax_lexer.specs.declared.token.Position.{Position}
 use Rattle.syntax_lexer.specs.FaultNumbers.{no_memory}
+use Rattle.syntax_lexer.specs.Placed.{nowhere}
 use Rattle.syntax_lexer.specs.Token.{Lexeme, end}
 use Rattle.syntax_parsing.specs.Stop.{Stop, unfit, deep}
 use Rattle.syntax_parsing.specs.declared.error.Fault.TheVariants.{Grammar, Deep}
@@ -119,11 +121,21 @@ pub err_only : (e : ParseError) (f : SourceFault) (ts : List Lexeme) → Fails e
 err_only errors.Memory f ts h is p a le = is
 err_only (errors.Fault g count) f ts h is p a le = let never = sym h ∙ within 100 a le in absurd cc
 
-pub err_numbers : (e : ParseError) (f : SourceFault) (ts : List Lexeme) → f ≡ (placed_fault ts e).fault
-    → (f.number ≡ 5) ⊎ (f.number ≡ 10) ⊎ (f ≡ no_memory)
+pub err_numbers : (e : ParseError) (f : PlacedFault) (ts : List Lexeme) → f ≡ placed_fault ts e
+    → (f.fault.number ≡ 5) ⊎ (f.fault.number ≡ 10) ⊎ (f ≡ nowhere no_memory)
 err_numbers errors.Memory f ts is = inr (inr is)
-err_numbers (errors.Fault Grammar count) f ts is = inr (inl (ap (λ (x : SourceFault). x.number) is))
-err_numbers (errors.Fault Deep count) f ts is = inl (ap (λ (x : SourceFault). x.number) is)
+err_numbers (errors.Fault Grammar count) f ts is = inr (inl (ap (λ (x : PlacedFault). x.fault.number) is))
+err_numbers (errors.Fault Deep count) f ts is = inl (ap (λ (x : PlacedFault). x.fault.number) is)
+
+pub unplaced_numbers : (f : PlacedFault) → (f.fault.number ≡ 5) ⊎ (f.fault.number ≡ 10) ⊎ (f ≡ nowhere no_memory)
+    → (f.fault.number ≡ 5) ⊎ (f.fault.number ≡ 10) ⊎ (f.fault ≡ no_memory)
+unplaced_numbers f number = elim number [
+  | inl five ↦ inl five
+  | inr others ↦ elim others [
+    | inl ten ↦ inr (inl ten)
+    | inr refused ↦ inr (inr (ap (λ (x : PlacedFault). x.fault) refused))
+  ]
+]
 
 pub ok_only : (q : Program) (ts : List Lexeme) → program 100 ts ≡ Ok (program_tree q) → (p : ProgramTree)
     → IsProgram ts p → program_nesting p ≤ 100 → program_tree q ≡ p

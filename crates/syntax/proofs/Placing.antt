@@ -12,7 +12,7 @@ use Rattle.syntax_parsing.specs.Errors.{placed_fault}
 use Rattle.syntax_parsing.specs.Parse.{Fails}
 use Rattle.syntax.specs.Parse.{program}
 use Rattle.syntax.specs.Places.{IsFirstUnfit, IsFirstDeep}
-use Rattle.syntax.proofs.FirstDeep.{first_deep}
+use Rattle.syntax.proofs.FirstDeep.{first_deep, none_deeper}
 use Rattle.syntax.proofs.FirstUnfit.{first_unfit, place_found}
 
 -- a fault stands at that position
@@ -20,7 +20,7 @@ abbrev pub At : PlacedFault → Position → Type 0
 At f p = (p.line ≡ f.fault.line) × (f.offset ≡ Some p.offset)
 
 unfit_at : (n : ℕ) (f : PlacedFault) (ts : List Lexeme) → program 100 ts ≡ Err (unfit n)
-    → f ≡ placed_fault ts (errors.Fault Grammar n) → EndsOnce ts → IsFirstUnfit ts (At f)
+    → f ≡ placed_fault ts (errors.Fault Grammar n) → EndsOnce ts → IsFirstUnfit 100 ts (At f)
 unfit_at n f ts h is once =
     let a = first_unfit 100 n ts once h in
     let there = place_found ts a.front a.token a.behind n a.is a.counts in
@@ -31,6 +31,7 @@ unfit_at n f ts h is once =
       is = a.is;
       fits = a.fits;
       does_not = a.does_not;
+      none_deeper = none_deeper 100 n ts h;
       stands = (
         sym (ap (λ (x : PlacedFault). x.fault.line) is ∙ ap (λ (p : Position). p.line) there),
         ap (λ (x : PlacedFault). x.offset) is ∙ ap (λ (p : Position). Some p.offset) there,
@@ -38,7 +39,7 @@ unfit_at n f ts h is once =
     }
 
 pub err_place : (e : ParseError) (f : PlacedFault) (ts : List Lexeme) → Fails e (program 100 ts)
-    → f ≡ placed_fault ts e → f.fault.number ≡ 10 → EndsOnce ts → IsFirstUnfit ts (At f)
+    → f ≡ placed_fault ts e → f.fault.number ≡ 10 → EndsOnce ts → IsFirstUnfit 100 ts (At f)
 err_place errors.Memory f ts h is n = absurd (omega (arith, n, ap (λ (x : PlacedFault). x.fault.number) is))
 err_place (errors.Fault Grammar left) f ts h is n = unfit_at left f ts h is
 err_place (errors.Fault Deep left) f ts h is n =
@@ -85,8 +86,8 @@ deep_less a less = record {
   stands = less (position_of a.token) a.stands;
 }
 
-pub unfit_as : {P Q : Position → Type 0} {ts : List Lexeme} → IsFirstUnfit ts P → ((p : Position) → P p → Q p)
-    → IsFirstUnfit ts Q
+pub unfit_as : {P Q : Position → Type 0} {most : ℕ} {ts : List Lexeme} → IsFirstUnfit most ts P
+    → ((p : Position) → P p → Q p) → IsFirstUnfit most ts Q
 unfit_as a less = record {
   front = a.front;
   token = a.token;
@@ -94,5 +95,6 @@ unfit_as a less = record {
   is = a.is;
   fits = a.fits;
   does_not = a.does_not;
+  none_deeper = a.none_deeper;
   stands = less (position_of a.token) a.stands;
 }

@@ -4,20 +4,22 @@ use Rattle.syntax_lexer.specs.declared.token.Position.{Position}
 use Rattle.syntax_lexer.specs.Token.{Lexeme, position_of}
 use Rattle.syntax.specs.Tree.{ProgramTree}
 use Rattle.syntax.specs.Grammar.{IsProgram}
-use Rattle.syntax.specs.Nesting.{DeepEntries}
+use Rattle.syntax.specs.Nesting.{DeepEntries, DeepProgram}
 
 -- some program begins with these tokens, whatever its nesting and its names
 abbrev pub Begins : List Lexeme → Type 0
 Begins front = (back : List Lexeme) × (p : ProgramTree) × IsProgram (front ++ back) p
 
--- of the position of the first token with which no program begins, P holds
-pub record IsFirstUnfit (ts : List Lexeme) (P : Position → Type 0) : Type 0 where
+-- of the position of the first token with which no program begins, P holds; and no token stands more than that many
+-- nestings deep, as far as they can be read
+pub record IsFirstUnfit (most : ℕ) (ts : List Lexeme) (P : Position → Type 0) : Type 0 where
   pub front : List Lexeme
   pub token : Lexeme
   pub behind : List Lexeme
   pub is : ts ≡ front ++ token ∷ behind
   pub fits : Begins front
   pub does_not : Begins (front ++ token ∷ []) → ⊥
+  pub none_deeper : (n : ℕ) → DeepProgram n ts → n ≤ most
   pub stands : P (position_of token)
 
 -- of the position of the first token that stands more than that many nestings deep, P holds

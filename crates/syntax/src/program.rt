@@ -2,7 +2,7 @@
 
 ghost use Rattle.std.specs.Prelude.{◌≡◌, ◌≤◌, ◌<◌, ◌⊎◌, ◌∷◌, [], IfOk, IfErr, List, Some};
 ghost use Rattle.syntax_lexer.specs.FaultNumbers.{no_memory};
-ghost use Rattle.syntax_lexer.specs.Placed.{unplaced};
+ghost use Rattle.syntax_lexer.specs.Placed.{nowhere, unplaced};
 ghost use Rattle.syntax_lexer.specs.Token.{Lexeme, lexeme, lexemes};
 ghost use Rattle.syntax_lexer.specs.Tokens.{EndsOnce};
 ghost use Rattle.syntax_parsing.specs.Parse.{Gives};
@@ -116,7 +116,7 @@ pub fn parse<'a>(alloc: Global, tokens: &[Token<'a>]) -> Result<Program<'a>, Sou
     ensures grammar { IfNumber result 10
         ((p : ProgramTree) → IsProgram (lexemes tokens.now) p → ⊥) }
     ensures place { IfErr result (λ f. f.number ≡ 10 → EndsOnce (lexemes tokens.now)
-        → IsFirstUnfit (lexemes tokens.now) (λ p. p.line ≡ f.line)) }
+        → IsFirstUnfit 100 (lexemes tokens.now) (λ p. p.line ≡ f.line)) }
     ensures deep { IfNumber result 5 (DeepProgram 101 (lexemes tokens.now)
         × ((p : ProgramTree) → IsProgram (lexemes tokens.now) p → 100 < program_nesting p)) }
     ensures deep_place { IfErr result (λ f. f.number ≡ 5
@@ -142,15 +142,15 @@ pub fn parse_placed<'a>(alloc: Global, tokens: &[Token<'a>]) -> Result<Program<'
     ensures grammar { IfNumber (unplaced result) 10
         ((p : ProgramTree) → IsProgram (lexemes tokens.now) p → ⊥) }
     ensures place { IfErr result (λ f. f.fault.number ≡ 10 → EndsOnce (lexemes tokens.now)
-        → IsFirstUnfit (lexemes tokens.now)
+        → IsFirstUnfit 100 (lexemes tokens.now)
         (λ p. (p.line ≡ f.fault.line) × (f.offset ≡ Some p.offset))) }
     ensures deep { IfNumber (unplaced result) 5 (DeepProgram 101 (lexemes tokens.now)
         × ((p : ProgramTree) → IsProgram (lexemes tokens.now) p → 100 < program_nesting p)) }
     ensures deep_place { IfErr result (λ f. f.fault.number ≡ 5
         → IsFirstDeep 100 (lexemes tokens.now)
         (λ p. (p.line ≡ f.fault.line) × (f.offset ≡ Some p.offset))) }
-    ensures numbers { IfErr (unplaced result) (λ f. (f.number ≡ 5) ⊎ (f.number ≡ 10)
-        ⊎ (f ≡ no_memory)) }
+    ensures numbers { IfErr result (λ f. (f.fault.number ≡ 5) ⊎ (f.fault.number ≡ 10)
+        ⊎ (f ≡ nowhere no_memory)) }
 {
     match program(alloc, tokens) {
         Ok(found) => Ok(found),

@@ -13,3 +13,4 @@ pub mod Loop
 pub mod Unique
 pub mod Samples
 pub mod Printable
+pub mod Lines

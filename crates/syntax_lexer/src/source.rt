@@ -3,7 +3,7 @@
 ghost use Rattle.std.specs.Prelude.{◌≡◌, ◌≤◌, ◌+◌, ◌-◌, ◌<◌, ◌==◌, ◌⊎◌, length, slice_index, List, ℕ, Err, false};
 ghost use Rattle.std.specs.Prelude.{IfOk, IfErr};
 ghost use Rattle.syntax_lexer.specs.FaultNumbers.{no_memory};
-ghost use Rattle.syntax_lexer.specs.Placed.{unplaced, nowhere, IsFaultIn};
+ghost use Rattle.syntax_lexer.specs.Placed.{unplaced, nowhere, line_at, IsFaultIn};
 ghost use Rattle.syntax_lexer.specs.Bytes.{is_divider};
 ghost use Rattle.syntax_lexer.specs.Token.{Lexeme, lexemes};
 ghost use Rattle.syntax_lexer.specs.Tokens.{IsLongest, Lexes, LexesFrom, line_after, put, EndsOnce, TokenOutcome};
@@ -28,10 +28,12 @@ fn token_at<'a>(source: &'a [u8], position: Position) -> Result<Token<'a>, Place
     requires within { position.offset < length source.now }
     requires no_divider { is_divider (slice_index source.now position.offset) ≡ false }
     requires no_comment { (slice_index source.now position.offset == 33) ≡ false }
+    requires in_line { line_at source.now position.offset ≡ position.line }
     ensures first { IfOk result (λ t. (o : TokenOutcome)
         → LexesFrom t.end position.line source.now o
         → LexesFrom position.offset position.line source.now (put (source_token t) o)) }
     ensures moves { IfOk result (λ t. (position.offset < t.end) × (t.end ≤ length source.now)) }
+    ensures in_line { IfOk result (λ t. line_at source.now t.end ≡ position.line) }
     ensures broken { IfErr result
         (λ e. LexesFrom position.offset position.line source.now (Err e.fault)) }
     ensures stands { IfErr result (λ e. IsFaultIn source.now e) }

@@ -20,4 +20,4 @@ pub returns-in-Ok-clause-stands : goal.returns-in-Ok-clause-stands
 returns-in-Ok-clause-stands c =
     let l = first_law (program_breaches (program_tree c.args.program.now)) (Some c.in-Some.breach)
     (sym c.in-Ok.ensures.breaches ∙ c.in-Some.is) in
-    inr (c.in-Some.breach, l.0, l.1, refl)
+    inr (c.in-Some.breach, l.0, l.1, c.fault.ensures.number, c.fault.ensures.line, refl)

@@ -1,5 +1,5 @@
 use Rattle.std.proofs.Common.{◌≡◌, ◌+◌, ◌≤◌, drop}
-use Rattle.source_places.specs.Lines.{line_behind}
+use Rattle.syntax_lexer.specs.Placed.{line_behind}
 use Rattle.source_places.proofs.lines.line_behind.Given as goal
 
 abbrev pub invariant-loop-byte : goal.invariant-loop-byte

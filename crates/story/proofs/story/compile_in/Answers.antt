@@ -1,15 +1,16 @@
-use Rattle.std.proofs.Common.{sym, subst, ◌∙◌, Ok}
+use Rattle.std.proofs.Common.{refl, sym, subst, ◌∙◌, Ok}
 use Rattle.syntax_lexer.specs.FaultNumbers.{no_memory}
 use Rattle.syntax_lexer.specs.Placed.{nowhere}
 use Rattle.syntax_lexer.specs.Token.{lexemes}
 use Rattle.syntax_lexer.specs.Tokens.{Lexes, EndsOnce}
 use Rattle.syntax_lexer.specs.Results.{source_tokens}
 use Rattle.syntax.specs.Views.{program_tree}
+use Rattle.syntax.proofs.Main.{unplaced_numbers}
 use Rattle.syntax.proofs.Placing.{unfit_as, deep_less}
 use Rattle.story.specs.Refused.{Refuses}
 use Rattle.story.proofs.Compiling.{is_tree, unparsed, unchecked, too_large, answered, fits, compiled}
-use Rattle.story.proofs.Unfit.{unfit_answered, unfit_unlexed, unfit_parsed, unfit_derived}
-use Rattle.story.proofs.TooDeep.{deep_answered, deep_unlexed, deep_parsed, deep_derived}
+use Rattle.story.proofs.Standing.{stands_answered, refused_stands, unlexed_stands, unparsed_stands, unchecked_stands}
+use Rattle.story.proofs.Standing.{too_large_stands}
 use Rattle.story.proofs.story.compile_in.Goals as goal
 
 pub returns-in_err-program-clause-compiles : goal.returns-in_err-program-clause-compiles
@@ -25,7 +26,7 @@ returns-in_err-program-clause-compiles c =
     (λ ten. unfit_as (c.in_err-program.ensures.place ten once) (λ place at. at.0))
     (λ five. (c.in_err-program.ensures.deep five).1)
     (λ five. deep_less (c.in_err-program.ensures.deep_place five) (λ place at. at.0))
-    c.in_err-program.ensures.numbers in
+    (unplaced_numbers c.in_err-program.field-0.0 c.in_err-program.ensures.numbers) in
     answered c.args.version c.args.source.now c.from_residual-in_err-program.result c.in_err-program.field-0.0
     c.from_residual-in_err-program.ensures refused
 
@@ -53,7 +54,7 @@ returns-in_err-test_sizes_placed-clause-compiles c =
     let refused : Refuses c.args.version c.args.source.now c.in_err-test_sizes_placed.field-0.0.fault =
     too_large c.args.version c.args.source.now p c.in_ok-checked.checked c.in_err-test_sizes_placed.field-0.0.fault
     (is_tree c.args.source.now c.deref.result.now lexed p found.0 found.1) checked.0 checked.1
-    c.in_err-test_sizes_placed.ensures in
+    c.in_err-test_sizes_placed.ensures.fault in
     answered c.args.version c.args.source.now c.from_residual-in_err-test_sizes_placed.result
     c.in_err-test_sizes_placed.field-0.0
     c.from_residual-in_err-test_sizes_placed.ensures refused
@@ -68,7 +69,7 @@ write_story-requires c =
     fits c.accepted_programs.ensures c.printable_tokens.ensures c.printable_trees.ensures c.printable_programs.ensures
     c.small_sources_have_small_code.ensures
     c.args.version c.args.source.now c.deref.result.now (program_tree c.in_ok-program.program) c.in_ok-checked.checked
-    lexed found.0 checked.0 checked.1 (sym c.in_ok-test_sizes_placed.ensures)
+    lexed found.0 checked.0 checked.1 (sym c.in_ok-test_sizes_placed.ensures.fault)
 
 pub returns-clause-compiles : goal.returns-clause-compiles
 returns-clause-compiles c =
@@ -80,102 +81,56 @@ returns-clause-compiles c =
     compiled c.accepted_programs.ensures c.printable_tokens.ensures c.printable_trees.ensures
     c.printable_programs.ensures c.small_sources_have_small_code.ensures
     c.args.version c.args.source.now c.deref.result.now (program_tree c.in_ok-program.program) c.in_ok-checked.checked
-    lexed found.0 checked.0 checked.1 (sym c.in_ok-test_sizes_placed.ensures)
+    lexed found.0 checked.0 checked.1 (sym c.in_ok-test_sizes_placed.ensures.fault)
     c.stories_hold.ensures c.code_plays.ensures c.of_bytes.result c.of_bytes.ensures.small (c.of_bytes.ensures.value
     ∙ c.in_ok-bytes.ensures) found.1
 
--- ---- the place of a fault of the grammar
+-- ---- the place of a fault
 
-pub returns-in_err-tokens-clause-unfit : goal.returns-in_err-tokens-clause-unfit
-returns-in_err-tokens-clause-unfit c =
-    unfit_answered c.args.source.now c.from_residual.result c.in_err-tokens.field-0.0 c.from_residual.ensures
-    (unfit_unlexed c.args.source.now c.in_err-tokens.field-0.0.fault c.in_err-tokens.ensures.meets)
+pub returns-in_err-tokens-clause-stands : goal.returns-in_err-tokens-clause-stands
+returns-in_err-tokens-clause-stands c =
+    stands_answered c.args.source.now c.from_residual.result c.in_err-tokens.field-0.0 c.from_residual.ensures
+    (unlexed_stands c.args.source.now c.in_err-tokens.field-0.0 c.in_err-tokens.ensures.stands)
 
-pub returns-in_err-program-clause-unfit : goal.returns-in_err-program-clause-unfit
-returns-in_err-program-clause-unfit c =
+pub returns-in_err-program-clause-stands : goal.returns-in_err-program-clause-stands
+returns-in_err-program-clause-stands c =
     let lexed : Lexes 0 1 c.args.source.now (Ok (source_tokens c.deref.result.now)) =
     subst (λ ts. Lexes 0 1 c.args.source.now (Ok (source_tokens ts))) (sym c.deref.ensures.value)
     c.in_ok-tokens.ensures.meets in
     let once : EndsOnce (lexemes c.deref.result.now) =
     subst (λ ts. EndsOnce (lexemes ts)) (sym c.deref.ensures.value) c.in_ok-tokens.ensures.ends_once in
-    unfit_answered c.args.source.now c.from_residual-in_err-program.result c.in_err-program.field-0.0
+    stands_answered c.args.source.now c.from_residual-in_err-program.result c.in_err-program.field-0.0
     c.from_residual-in_err-program.ensures
-    (λ ten. unfit_parsed c.args.source.now c.deref.result.now lexed c.in_err-program.field-0.0
-    (c.in_err-program.ensures.place ten once))
+    (unparsed_stands c.args.source.now c.deref.result.now lexed c.in_err-program.field-0.0
+    (λ ten. c.in_err-program.ensures.place ten once) c.in_err-program.ensures.deep_place
+    c.in_err-program.ensures.numbers)
 
-pub returns-in_err-checked-clause-unfit : goal.returns-in_err-checked-clause-unfit
-returns-in_err-checked-clause-unfit c =
+pub returns-in_err-checked-clause-stands : goal.returns-in_err-checked-clause-stands
+returns-in_err-checked-clause-stands c =
     let lexed : Lexes 0 1 c.args.source.now (Ok (source_tokens c.deref.result.now)) =
     subst (λ ts. Lexes 0 1 c.args.source.now (Ok (source_tokens ts))) (sym c.deref.ensures.value)
     c.in_ok-tokens.ensures.meets in
-    unfit_answered c.args.source.now c.from_residual-in_err-checked.result c.in_err-checked.field-0.0
+    let found = c.in_ok-program.ensures.found in
+    let p = program_tree c.in_ok-program.program in
+    stands_answered c.args.source.now c.from_residual-in_err-checked.result c.in_err-checked.field-0.0
     c.from_residual-in_err-checked.ensures
-    (λ ten. unfit_derived c.args.source.now c.deref.result.now lexed (program_tree c.in_ok-program.program)
-    c.in_ok-program.ensures.found.0)
+    (unchecked_stands c.args.source.now p c.in_err-checked.field-0.0
+    (is_tree c.args.source.now c.deref.result.now lexed p found.0 found.1) c.in_err-checked.ensures.stands)
 
-pub returns-in_err-test_sizes_placed-clause-unfit : goal.returns-in_err-test_sizes_placed-clause-unfit
-returns-in_err-test_sizes_placed-clause-unfit c =
+pub returns-in_err-test_sizes_placed-clause-stands : goal.returns-in_err-test_sizes_placed-clause-stands
+returns-in_err-test_sizes_placed-clause-stands c =
     let lexed : Lexes 0 1 c.args.source.now (Ok (source_tokens c.deref.result.now)) =
     subst (λ ts. Lexes 0 1 c.args.source.now (Ok (source_tokens ts))) (sym c.deref.ensures.value)
     c.in_ok-tokens.ensures.meets in
-    unfit_answered c.args.source.now c.from_residual-in_err-test_sizes_placed.result
+    let found = c.in_ok-program.ensures.found in
+    let p = program_tree c.in_ok-program.program in
+    stands_answered c.args.source.now c.from_residual-in_err-test_sizes_placed.result
     c.in_err-test_sizes_placed.field-0.0 c.from_residual-in_err-test_sizes_placed.ensures
-    (λ ten. unfit_derived c.args.source.now c.deref.result.now lexed (program_tree c.in_ok-program.program)
-    c.in_ok-program.ensures.found.0)
+    (too_large_stands c.args.source.now p c.in_ok-checked.checked c.in_err-test_sizes_placed.field-0.0
+    (is_tree c.args.source.now c.deref.result.now lexed p found.0 found.1) c.in_ok-checked.ensures.answers.1
+    c.in_err-test_sizes_placed.ensures.stands)
 
-pub returns-in_err-bytes-clause-unfit : goal.returns-in_err-bytes-clause-unfit
-returns-in_err-bytes-clause-unfit c =
-    let lexed : Lexes 0 1 c.args.source.now (Ok (source_tokens c.deref.result.now)) =
-    subst (λ ts. Lexes 0 1 c.args.source.now (Ok (source_tokens ts))) (sym c.deref.ensures.value)
-    c.in_ok-tokens.ensures.meets in
-    unfit_answered c.args.source.now c.from_residual-in_err-bytes.result (nowhere no_memory)
-    c.from_residual-in_err-bytes.ensures
-    (λ ten. unfit_derived c.args.source.now c.deref.result.now lexed (program_tree c.in_ok-program.program)
-    c.in_ok-program.ensures.found.0)
-
--- ---- the place of a fault of nesting
-
-pub returns-in_err-tokens-clause-too_deep : goal.returns-in_err-tokens-clause-too_deep
-returns-in_err-tokens-clause-too_deep c =
-    deep_answered c.args.source.now c.from_residual.result c.in_err-tokens.field-0.0 c.from_residual.ensures
-    (deep_unlexed c.args.source.now c.in_err-tokens.field-0.0.fault c.in_err-tokens.ensures.meets)
-
-pub returns-in_err-program-clause-too_deep : goal.returns-in_err-program-clause-too_deep
-returns-in_err-program-clause-too_deep c =
-    let lexed : Lexes 0 1 c.args.source.now (Ok (source_tokens c.deref.result.now)) =
-    subst (λ ts. Lexes 0 1 c.args.source.now (Ok (source_tokens ts))) (sym c.deref.ensures.value)
-    c.in_ok-tokens.ensures.meets in
-    deep_answered c.args.source.now c.from_residual-in_err-program.result c.in_err-program.field-0.0
-    c.from_residual-in_err-program.ensures
-    (λ five. deep_parsed c.args.source.now c.deref.result.now lexed c.in_err-program.field-0.0
-    (c.in_err-program.ensures.deep_place five))
-
-pub returns-in_err-checked-clause-too_deep : goal.returns-in_err-checked-clause-too_deep
-returns-in_err-checked-clause-too_deep c =
-    let lexed : Lexes 0 1 c.args.source.now (Ok (source_tokens c.deref.result.now)) =
-    subst (λ ts. Lexes 0 1 c.args.source.now (Ok (source_tokens ts))) (sym c.deref.ensures.value)
-    c.in_ok-tokens.ensures.meets in
-    deep_answered c.args.source.now c.from_residual-in_err-checked.result c.in_err-checked.field-0.0
-    c.from_residual-in_err-checked.ensures
-    (λ five. deep_derived c.args.source.now c.deref.result.now lexed (program_tree c.in_ok-program.program)
-    c.in_ok-program.ensures.found.0 c.in_ok-program.ensures.found.1)
-
-pub returns-in_err-test_sizes_placed-clause-too_deep : goal.returns-in_err-test_sizes_placed-clause-too_deep
-returns-in_err-test_sizes_placed-clause-too_deep c =
-    let lexed : Lexes 0 1 c.args.source.now (Ok (source_tokens c.deref.result.now)) =
-    subst (λ ts. Lexes 0 1 c.args.source.now (Ok (source_tokens ts))) (sym c.deref.ensures.value)
-    c.in_ok-tokens.ensures.meets in
-    deep_answered c.args.source.now c.from_residual-in_err-test_sizes_placed.result
-    c.in_err-test_sizes_placed.field-0.0 c.from_residual-in_err-test_sizes_placed.ensures
-    (λ five. deep_derived c.args.source.now c.deref.result.now lexed (program_tree c.in_ok-program.program)
-    c.in_ok-program.ensures.found.0 c.in_ok-program.ensures.found.1)
-
-pub returns-in_err-bytes-clause-too_deep : goal.returns-in_err-bytes-clause-too_deep
-returns-in_err-bytes-clause-too_deep c =
-    let lexed : Lexes 0 1 c.args.source.now (Ok (source_tokens c.deref.result.now)) =
-    subst (λ ts. Lexes 0 1 c.args.source.now (Ok (source_tokens ts))) (sym c.deref.ensures.value)
-    c.in_ok-tokens.ensures.meets in
-    deep_answered c.args.source.now c.from_residual-in_err-bytes.result (nowhere no_memory)
-    c.from_residual-in_err-bytes.ensures
-    (λ five. deep_derived c.args.source.now c.deref.result.now lexed (program_tree c.in_ok-program.program)
-    c.in_ok-program.ensures.found.0 c.in_ok-program.ensures.found.1)
+pub returns-in_err-bytes-clause-stands : goal.returns-in_err-bytes-clause-stands
+returns-in_err-bytes-clause-stands c =
+    stands_answered c.args.source.now c.from_residual-in_err-bytes.result (nowhere no_memory)
+    c.from_residual-in_err-bytes.ensures (refused_stands c.args.source.now (nowhere no_memory) refl)

@@ -30,8 +30,7 @@ returns-in-Err-clause-deep_place c =
 
 pub returns-in-Err-clause-numbers : goal.returns-in-Err-clause-numbers
 returns-in-Err-clause-numbers c =
-    err_numbers c.in-Err.e c.placed.result.fault (lexemes c.args.tokens.now)
-    (ap (λ (x : PlacedFault). x.fault) c.placed.ensures)
+    err_numbers c.in-Err.e c.placed.result (lexemes c.args.tokens.now) c.placed.ensures
 
 pub returns-in-Ok-clause-found : goal.returns-in-Ok-clause-found
 returns-in-Ok-clause-found c = found 100 (lexemes c.args.tokens.now) _ c.in-Ok.ensures

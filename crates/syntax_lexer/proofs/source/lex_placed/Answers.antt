@@ -1,20 +1,24 @@
-use Rattle.std.proofs.Common.{◌+◌, ◌∷◌, length, drop, [], Ok, Err, inr, sym, ap, subst, ◌∙◌, arith}
+use Rattle.std.proofs.Common.{◌+◌, ◌∷◌, get_or, length, drop, [], Ok, Err, inr, sym, ap, subst, ◌∙◌, arith}
 use Rattle.std.proofs.lemmas.List.{length-drop}
 use Rattle.std.proofs.lemmas.Result.{err_from_is_err_and}
 use Rattle.syntax_lexer.specs.Bytes.{run, is_comment_byte}
 use Rattle.syntax_lexer.specs.Token.{end}
-use Rattle.syntax_lexer.specs.Tokens.{Lexes, put, EndsOnce}
+use Rattle.syntax_lexer.specs.Tokens.{Lexes, put, EndsOnce, line_after}
 use Rattle.syntax_lexer.specs.Results.{source_token, source_tokens}
 use Rattle.syntax_lexer.specs.declared.fault.PlacedFault.{PlacedFault}
 use Rattle.syntax_lexer.specs.Placed.{unplaced, IsFaultIn}
 use Rattle.syntax_lexer.proofs.Loop.{puts, puts_push, puts_last, puts_err, meets_fault, at_divider, at_comment}
 use Rattle.syntax_lexer.proofs.Loop.{at_the_end, ends_once, lexemes_are}
+use Rattle.syntax_lexer.proofs.Lines.{line_next, line_behind_comment}
 use Rattle.syntax_lexer.proofs.source.lex_placed.Goals as goal
 
 pub loop-offset-preserved-then-is_divider : goal.loop-offset-preserved-then-is_divider
 loop-offset-preserved-then-is_divider c = record {
   within = omega arith;
   lines = omega (arith, c.next_line-line.ensures.grows);
+  in_line = line_next c.args.source.now c.loop-offset.offset c.loop-offset-test.true
+      ∙ ap (λ n. line_after n (get_or c.args.source.now c.loop-offset.offset 0)) c.loop-offset.invariant.in_line
+      ∙ sym c.next_line-line.ensures.value;
   rest = λ o h. c.loop-offset.invariant.rest o
       (at_divider c.args.source.now c.loop-offset.offset c.loop-offset.line o c.loop-offset-test.true
       (sym c.is_divider.ensures ∙ c.if-is_divider.true)
@@ -32,6 +36,9 @@ loop-offset-preserved-then-first-eq33 c = record {
         c.args.source.now,
   );
   lines = omega arith;
+  in_line = line_behind_comment c.args.source.now c.loop-offset.offset c.run_length.result c.loop-offset-test.true
+      c.if-first-eq33.true (c.run_length.ensures.value ∙ ap (run is_comment_byte) c.from.ensures)
+      ∙ c.loop-offset.invariant.in_line;
   rest = λ o h. c.loop-offset.invariant.rest o
       (at_comment c.args.source.now c.loop-offset.offset c.loop-offset.line c.run_length.result o
       c.loop-offset-test.true c.if-first-eq33.true
@@ -56,6 +63,7 @@ pub loop-offset-preserved : goal.loop-offset-preserved
 loop-offset-preserved c = record {
   within = c.in_ok-token.ensures.moves.1;
   lines = omega (arith, c.in_ok-token.ensures.moves);
+  in_line = c.in_ok-token.ensures.in_line;
   rest = λ o h. subst (λ ts. Lexes 0 1 c.args.source.now (puts ts o)) (sym c.in_ok-push.ensures.items)
       (subst (Lexes 0 1 c.args.source.now) (sym (puts_push c.loop-offset.tokens.items c.in_ok-token.token o))
       (c.loop-offset.invariant.rest (put (source_token c.in_ok-token.token) o) (c.in_ok-token.ensures.first o h)));

@@ -1,0 +1,3 @@
+pub mod Sounds
+pub mod Names
+pub mod Expressions
