@@ -3,7 +3,7 @@
 use Rattle.std.proofs.Common.{ℕ, nat_lt, nat_le, Bool, true, false, cond, List, [], ◌∷◌, ◌++◌, length, Option, Some}
 use Rattle.std.proofs.Common.{None, refl}
 use Rattle.std.specs.Prelude.{◌||◌, IfSome}
-use Rattle.ztext.specs.Abbreviations.{most_abbreviations}
+use Rattle.ztext.specs.Bytes.{most_abbreviations}
 use Rattle.syntax_lexer.specs.declared.token.Position.{Position}
 use Rattle.syntax_lexer.specs.Token.{Lexeme}
 use Rattle.syntax_trees.specs.Tree.{NameTree}

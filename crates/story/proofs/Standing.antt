@@ -11,10 +11,11 @@ use Rattle.syntax_lexer.specs.Token.{lexemes}
 use Rattle.syntax_lexer.specs.Tokens.{Lexes}
 use Rattle.syntax.specs.Tree.{ProgramTree}
 use Rattle.syntax.specs.Places.{IsFirstUnfit, IsFirstDeep}
-use Rattle.meaning.specs.Resolved.{CheckedProgram}
+use Rattle.meaning.specs.Views.{CheckedProgram}
 use Rattle.meaning.specs.CheckedSizes.{IsOfWhole, StandsBySize}
 use Rattle.checker.specs.Places.{StandsAtFirst}
-use Rattle.checker.specs.Programs.{IsCheckedOf, program_breaches}
+use Rattle.checker.specs.Checked.{IsCheckedOf}
+use Rattle.checker.specs.Programs.{program_breaches}
 use Rattle.story.specs.Refused.{IsTreeOf}
 use Rattle.story.specs.FaultPlaces.{StandsAt, Stands}
 use Rattle.story.specs.FaultPlaces as spec
