@@ -12,14 +12,14 @@ use crate::refusals::{refused, show};
 use crate::source::read_source;
 use crate::words::{Asked, Words, command, words_of};
 use clap::{ArgMatches, Error};
-use explanations::Program;
+use messages_diagnosis::diagnose;
+use messages_explanations::Program;
+use messages_figures::{Figures, measure};
 use one_line::OneLine;
 use std::fmt::Display;
 use std::fs::File;
 use std::process::ExitCode;
 use std::{env, io};
-use story_diagnosis::diagnose;
-use story_figures::{Figures, measure};
 use zcore::Version;
 
 /// The exit status where the words of the command line or the files cannot be used.

@@ -1,9 +1,9 @@
 //! Why and where a source is refused, on standard error.
 
+use messages_diagnosis::{Diagnosis, Shown};
+use messages_sentences::sentence;
 use one_line::OneLine;
 use std::process::ExitCode;
-use story_diagnosis::{Diagnosis, Shown};
-use story_sentences::sentence;
 use syntax_lexer::SourceFault;
 use zcore::Version;
 

@@ -13,7 +13,7 @@ use crate::checking::check;
 use crate::reading::read_story;
 use crate::standing::Standing;
 use crate::words::{Asked, Words, words_of};
-use explanations::Program;
+use messages_explanations::Program;
 use one_line::OneLine;
 use session::{RunFault, Session, run, status};
 use std::fmt::Display;

@@ -1,6 +1,6 @@
 //! Where a story stands at the end, and why it was stopped.
 
-use explanations::Program;
+use messages_explanations::Program;
 use session::{Place, Session};
 use std::fmt;
 use survey_opcodes::Opcode;

@@ -1,0 +1,23 @@
+-- What a source is compiled to, or why and where it is refused.
+use Rattle.std.specs.Prelude.{◌≡◌, ◌↔◌, ℕ, List, None, Result, Ok, Err}
+use Rattle.std.specs.Option.{option_map}
+use Rattle.zcore.specs.declared.header.Version.{Version}
+use Rattle.syntax_lexer.specs.declared.fault.PlacedFault.{PlacedFault}
+use Rattle.story.specs.Compiled.{Compiles}
+use Rattle.story.specs.FaultPlaces.{IsUnplaced, Stands}
+use Rattle.messages_places.specs.declared.diagnosis.Diagnosis.{Diagnosis}
+use Rattle.messages_places.specs.Lines.{IsLocatedIn}
+
+-- the fault, with the offset at which its place begins
+abbrev pub placed_of : Diagnosis → PlacedFault
+placed_of d = record { fault = d.fault; offset = option_map (λ place. place.offset) d.place }
+
+-- no place is named of E30, E31 and E99, and of each other fault one is
+abbrev pub IsToldExactly : Diagnosis → Type 0
+IsToldExactly d = (d.place ≡ None) ↔ IsUnplaced d.fault.number
+
+-- what the compiler answers, and a place in the line that the fault names, at which the fault stands
+abbrev pub Diagnoses : Version → List ℕ → Result (List ℕ) Diagnosis → Type 0
+Diagnoses version source (Ok bytes) = Compiles version source (Ok bytes)
+Diagnoses version source (Err d) =
+    Compiles version source (Err d.fault) × IsLocatedIn source d × Stands source (placed_of d) × IsToldExactly d

@@ -1,0 +1,125 @@
+//! Too many of something (E24, E29). The tokens are those of a program.
+
+use crate::definitions::{Defined, Definition};
+use crate::duplicates::is_abbreviation;
+use crate::tokens::ends_within;
+use meaning::limits::{
+    MOST_ARGUMENTS, MOST_GLOBALS, MOST_OBJECTS, MOST_PROPERTIES, MOST_PROPERTY_WORDS,
+    MOST_TEMPORARIES,
+};
+use meaning::name_words;
+use messages_facts::temporaries_of;
+use messages_tokens::Figure;
+use std::alloc::{AllocError, Global};
+use syntax::{Kind, Token};
+use zcore::MOST_ABBREVIATIONS;
+use zcore::layout::{ATTRIBUTE_COUNT, LONGEST_SHORT_NAME, MOST_LOCALS};
+
+/// A limit: how many there may be, and of what.
+type Limit = (usize, &'static str);
+
+/// The limit of definitions of a kind.
+fn definitions(what: Definition) -> Option<Limit> {
+    match what {
+        Definition::Global => Some((MOST_GLOBALS, "globals")),
+        Definition::Attribute => Some((ATTRIBUTE_COUNT as usize, "attributes")),
+        Definition::Property => Some((MOST_PROPERTIES, "properties beside name")),
+        Definition::Object => Some((MOST_OBJECTS, "objects")),
+        _ => None,
+    }
+}
+
+/// The limit that is passed at the token of a number behind the name of a definition.
+fn within(tokens: &[Token<'_>], at: usize, around: Defined) -> Option<Limit> {
+    match around.what {
+        Definition::Object => Some((MOST_PROPERTY_WORDS, "words of a property")),
+        Definition::Routine => {
+            if ends_within(tokens, around.name, at) {
+                Some((MOST_ARGUMENTS, "arguments of a call"))
+            } else {
+                Some((MOST_LOCALS, "locals of a routine"))
+            }
+        }
+        _ => None,
+    }
+}
+
+/// The limit that is passed at the token of a number.
+fn passed(tokens: &[Token<'_>], at: usize, around: Option<Defined>) -> Option<Limit> {
+    match around {
+        None => None,
+        Some(found) => {
+            if found.name == at {
+                definitions(found.what)
+            } else {
+                within(tokens, at, found)
+            }
+        }
+    }
+}
+
+/// What is wrong with a short name.
+fn long_name(alloc: Global, text: &[u8]) -> Result<Option<String>, AllocError> {
+    let words = Figure(name_words(text));
+    Ok(Some(format!(in alloc;
+        "a short name of {words} words of Z-text; {LONGEST_SHORT_NAME} is the most"
+    )?))
+}
+
+/// What is wrong where a limit is passed.
+fn beyond(alloc: Global, limit: Option<Limit>) -> Result<Option<String>, AllocError> {
+    match limit {
+        None => Ok(None),
+        Some((most, what)) => {
+            let most = Figure(most as u128);
+            Ok(Some(format!(in alloc; "more than {most} {what}")?))
+        }
+    }
+}
+
+/// What there is too much of at a token, which has a number. A text there that is no abbreviation
+/// is a short name.
+///
+/// # Errors
+///
+/// `AllocError` where memory is refused.
+pub fn too_many(
+    alloc: Global,
+    tokens: &[Token<'_>],
+    at: usize,
+    token: Token<'_>,
+    around: Option<Defined>,
+) -> Result<Option<String>, AllocError> {
+    if is_abbreviation(tokens, at) {
+        return beyond(alloc, Some((MOST_ABBREVIATIONS, "abbreviations")));
+    }
+    match token.kind {
+        Kind::Text(text) => long_name(alloc, text),
+        _ => beyond(alloc, passed(tokens, at, around)),
+    }
+}
+
+/// What is wrong with an expression that needs so many temporaries; 255 where it needs more.
+fn needs_many(alloc: Global, number: u8) -> Result<String, AllocError> {
+    let or_more = if number == u8::MAX { " or more" } else { "" };
+    format!(in alloc;
+        "the expression needs {number}{or_more} temporaries; {MOST_TEMPORARIES} is the most"
+    )
+}
+
+/// What is wrong with the expression of a statement or of a print item that begins at a token.
+///
+/// # Errors
+///
+/// `AllocError` where memory is refused.
+pub fn too_large(
+    alloc: Global,
+    tokens: &[Token<'_>],
+    token: Token<'_>,
+) -> Result<Option<String>, AllocError> {
+    match temporaries_of(alloc, tokens, token.position.offset) {
+        Err(refused) => Err(refused),
+        Ok(None) => Ok(None),
+        Ok(Some(number)) => Ok(Some(needs_many(alloc, number)?)),
+    }
+}

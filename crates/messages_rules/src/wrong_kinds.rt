@@ -1,0 +1,125 @@
+//! A name of the wrong kind (E23): what it is, and what is wanted where it stands.
+
+use crate::definitions::{Defined, Definition, binding_in};
+use crate::kinds::{array_kind, is_variable, kind_of};
+use crate::objects::{may_lack_comma, may_lack_has};
+use crate::wanted::{CONSTANT, is_read, wanted_in_object, wanted_in_statement};
+use checker_names::{Binding, Table};
+use messages_tokens::Quoted;
+use std::alloc::{AllocError, Global};
+use syntax::{ArrayKind, Token};
+
+/// What a name of a `read` is, where that is wrong of itself. `None` for an array of bytes.
+fn misread(binding: Binding) -> Option<&'static str> {
+    match binding {
+        Binding::Array(_, ArrayKind::Bytes) => None,
+        Binding::Array(_, ArrayKind::String) => None,
+        Binding::Array(_, kind) => Some(array_kind(kind)),
+        other => Some(kind_of(other)),
+    }
+}
+
+/// What is wrong with a name of a `read`.
+fn read(alloc: Global, name: &[u8], binding: Binding) -> Result<String, AllocError> {
+    let name = Quoted(name);
+    match misread(binding) {
+        None => format!(in alloc; "{name} is read into already; another array is wanted here"),
+        Some(kind) => format!(in alloc; "{name} is {kind}; an array of bytes is wanted here"),
+    }
+}
+
+/// What is wrong with a name, if it is not what is wanted.
+fn other(alloc: Global, name: &[u8], binding: Binding, wanted: &str) -> Result<String, AllocError> {
+    let name = Quoted(name);
+    let kind = kind_of(binding);
+    format!(in alloc; "{name} is {kind}; {wanted} is wanted here")
+}
+
+/// What is wanted in a definition where a name stands, which may be a variable.
+fn wanted(tokens: &[Token<'_>], at: usize, around: Defined, variable: bool) -> &'static str {
+    match around.what {
+        Definition::Object => wanted_in_object(tokens, around.name, at),
+        Definition::Routine => wanted_in_statement(tokens, at, variable),
+        _ => CONSTANT,
+    }
+}
+
+/// What may be missing before a name within the object whose name has a number, if its kind tells.
+fn lacking(
+    tokens: &[Token<'_>],
+    object: usize,
+    at: usize,
+    binding: Binding,
+) -> Option<&'static str> {
+    match binding {
+        Binding::Attribute(_) if may_lack_has(tokens, object, at) => Some("has"),
+        Binding::Property(_) if may_lack_comma(tokens, object, at) => Some(","),
+        _ => None,
+    }
+}
+
+/// What may be missing before a name in a definition.
+fn lacking_in(
+    tokens: &[Token<'_>],
+    at: usize,
+    around: Defined,
+    binding: Binding,
+) -> Option<&'static str> {
+    match around.what {
+        Definition::Object => lacking(tokens, around.name, at, binding),
+        _ => None,
+    }
+}
+
+/// What is wrong with a name before which something may be missing.
+fn after_gap(
+    alloc: Global,
+    name: &[u8],
+    binding: Binding,
+    missing: &str,
+) -> Result<String, AllocError> {
+    let name = Quoted(name);
+    let kind = kind_of(binding);
+    format!(in alloc; "{name} is {kind}; '{missing}' may be missing before it")
+}
+
+/// What is wrong with a name in a definition.
+fn misnamed(
+    alloc: Global,
+    tokens: &[Token<'_>],
+    at: usize,
+    name: &[u8],
+    around: Defined,
+    binding: Binding,
+) -> Result<String, AllocError> {
+    if is_read(tokens, at) {
+        return read(alloc, name, binding);
+    }
+    if let Some(missing) = lacking_in(tokens, at, around, binding) {
+        return after_gap(alloc, name, binding, missing);
+    }
+    let wanted = wanted(tokens, at, around, is_variable(binding));
+    other(alloc, name, binding, wanted)
+}
+
+/// What is wrong with a name of the wrong kind, a token that has a number. `None` where it is not
+/// defined.
+///
+/// # Errors
+///
+/// `AllocError` where memory is refused.
+pub fn wrong_kind(
+    alloc: Global,
+    tokens: &[Token<'_>],
+    at: usize,
+    token: Token<'_>,
+    around: Option<Defined>,
+    table: &Table,
+) -> Result<Option<String>, AllocError> {
+    match (around, binding_in(tokens, around, table, token.text)) {
+        (Some(found), Some(binding)) => {
+            Ok(Some(misnamed(alloc, tokens, at, token.text, found, binding)?))
+        }
+        _ => Ok(None),
+    }
+}

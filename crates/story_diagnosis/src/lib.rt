@@ -1,7 +1,0 @@
-//! The story of a source, or why and where the source is refused.
-#![tactic(auto)]
-
-mod diagnosis;
-
-pub use diagnosis::diagnose;
-pub use source_places::{Diagnosis, Place, Shown};
