@@ -1,7 +1,7 @@
 -- Lists of expressions, chains, calls and assignments: what they break and what they resolve to, part by part.
 use Rattle.std.proofs.Common.{◌≡◌, ℕ, List, [], ◌∷◌, ◌++◌, length, Bool, true, false, cond, Option, Some, None, refl}
 use Rattle.std.proofs.Common.{sym, ap, ◌∙◌, arith}
-use Rattle.std.specs.Prelude.{map, Result, Ok, Err, IfOk}
+use Rattle.std.specs.Prelude.{map}
 use Rattle.std.specs.List.{flat_map}
 use Rattle.syntax_lexer.specs.declared.token.Position.{Position}
 use Rattle.syntax_trees.specs.declared.tree.Binary.{Binary}
@@ -12,7 +12,6 @@ use Rattle.syntax_trees.specs.declared.tree.Name.{Name}
 use Rattle.syntax_trees.specs.Tree.{NameTree, ExpressionTree}
 use Rattle.syntax_trees.specs.Views.{name_tree, expression_tree, trees_of, chained, link, propertied}
 use Rattle.meaning.specs.Resolved as values
-use Rattle.meaning.specs.declared.resolved.Value as code_value
 use Rattle.meaning.specs.Resolved.{Value}
 use Rattle.meaning.specs.Views.{values_of, value_of}
 use Rattle.meaning.specs.Views as views

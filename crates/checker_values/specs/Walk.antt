@@ -1,11 +1,12 @@
 -- Words of proofs: what a walk over a name or an expression finds, and what it notes.
-use Rattle.std.specs.Prelude.{◌≡◌, ℕ, List, [], ◌∷◌, Option, map, Result, IfOk}
+use Rattle.std.specs.Prelude.{◌≡◌, ℕ, List, Option, map, Result, IfOk}
+use Rattle.std.specs.Global.{Box}
 use Rattle.std.specs.List.{flat_map}
 use Rattle.syntax_lexer.specs.declared.token.Position.{Position}
 use Rattle.syntax_trees.specs.declared.tree.Binary.{Binary}
 use Rattle.syntax_trees.specs.declared.tree.Expression.{Expression}
 use Rattle.syntax_trees.specs.declared.tree.Name.{Name}
-use Rattle.syntax_trees.specs.Tree.{ExpressionTree}
+use Rattle.syntax_trees.specs.Tree.{ExpressionTree, NameTree}
 use Rattle.syntax_trees.specs.Views.{expression_tree, name_tree}
 use Rattle.meaning.specs.declared.resolved.Variable.{Variable}
 use Rattle.meaning.specs.declared.resolved.Value as code_value
@@ -15,7 +16,8 @@ use Rattle.checker_names.specs.declared.breach.Breach.{Breach}
 use Rattle.checker_names.specs.Names.{name_of, is_place, Seen}
 use Rattle.checker_names.specs.Noted.{noted}
 use Rattle.checker_values.specs.Expressions.{breaches, property_breaches, left_breaches, assigned_breaches, target}
-use Rattle.checker_values.specs.Expressions.{property_of_binding, resolve}
+use Rattle.checker_values.specs.Expressions.{property_of_binding, resolve, call_breaches, routine_of_binding}
+use Rattle.checker_values.specs.Expressions.{array_name_breaches, array_of_binding}
 
 -- what is found is what is meant, and the broken rules are noted over what was noted before
 pub record IsWalked {A : Type 0} (broken : List Breach) (before after : Option Breach) (found meant : A) : Type 0
@@ -58,11 +60,32 @@ module _ (seen : Seen) where
       → Type 0
   GivesValue result before after e = IfOk result (λ v. IsResolved e before after (value_of v))
 
+  -- the same, in a box
+  abbrev pub GivesBoxed : {E : Type 0} → Result (Box code_value.Value) E → Option Breach → Option Breach
+      → ExpressionTree → Type 0
+  GivesBoxed result before after e = IfOk result (λ v. IsResolved e before after (value_of v.value))
+
   abbrev pub AreResolved : List Expression → Option Breach → Option Breach → List Value → Type 0
   AreResolved es before after vs = IsWalked (flat_map own_breaches es) before after vs (map resolved es)
 
   abbrev pub AreLinks : List (Binary × Expression) → Option Breach → Option Breach → List (Binary × Value) → Type 0
   AreLinks ls before after vs = IsWalked (flat_map link_breaches ls) before after vs (map resolved_link ls)
+
+  -- the number of the routine that a name stands for, which is called with so many arguments
+  abbrev pub IsRoutine : NameTree → ℕ → Option Breach → Option Breach → ℕ → Type 0
+  IsRoutine n given before after number =
+      IsWalked (call_breaches n.position given (seen.look n.text)) before after number
+      (routine_of_binding (seen.look n.text))
+
+  -- that of an array
+  abbrev pub IsArray : NameTree → Option Breach → Option Breach → ℕ → Type 0
+  IsArray n before after number =
+      IsWalked (array_name_breaches n.position (seen.look n.text)) before after number
+      (array_of_binding (seen.look n.text))
+
+  -- that of a property
+  abbrev pub IsProperty : Name → Option Breach → Option Breach → ℕ → Type 0
+  IsProperty n before after number = IsWalked (own_property_breaches n) before after number (resolved_property n)
 
   -- the numbers of properties
   abbrev pub AreProperties : List Name → Option Breach → Option Breach → List ℕ → Type 0

@@ -1,4 +1,8 @@
 //! Expressions: the rules that they can break, and what they resolve to.
+//!
+//! What an expression resolves to goes on in a box, and what walks one kind of expression is no part
+//! of `boxed` in machine code: a walk over a tree then takes little stack for each kind on its way,
+//! and none for others.
 
 ghost use Rattle.std.specs.Prelude.{◌≡◌, ◌++◌, [], if◌then◌else◌, IfOk, map};
 ghost use Rattle.std.specs.Option.{option_map};
@@ -9,11 +13,14 @@ ghost use Rattle.meaning.specs.Views as views;
 ghost use Rattle.meaning.specs.Resolved as meant;
 ghost use Rattle.checker_names.specs.Breaches.{at};
 ghost use Rattle.checker_names.specs.Noted.{noted};
-ghost use Rattle.checker_names.specs.Scope.{seen_in};
+ghost use Rattle.checker_names.specs.Keys.{key_of_word};
+ghost use Rattle.checker_names.specs.Scope.{look_in, number_at, seen_in};
 ghost use Rattle.checker_names.specs.Names as names;
 ghost use Rattle.checker_values.specs.Expressions.{tested_breaches, tested_for, assigned};
-ghost use Rattle.checker_values.specs.Walk.{IsResolved, GivesValue, AreResolved, AreLinks};
-ghost use Rattle.checker_values.specs.Walk.{AreProperties, IsTarget, IsAssigned, value_link};
+ghost use Rattle.checker_values.specs.Expressions.{target_breaches, value_of_binding};
+ghost use Rattle.checker_values.specs.Walk.{IsResolved, GivesValue, GivesBoxed, AreResolved, AreLinks};
+ghost use Rattle.checker_values.specs.Walk.{IsRoutine, IsArray, IsProperty, AreProperties};
+ghost use Rattle.checker_values.specs.Walk.{IsTarget, IsAssigned, IsWalked, value_link};
 
 use crate::name_rules::{array, attribute, named, property, routine, target_of, value};
 use checker_names::{Binding, Breach, Scope, key_of_word, note};
@@ -145,6 +152,14 @@ fn assignment(left: Value, right: Box<Value>, alloc: Global) -> Result<Value, Al
     }
 }
 
+// A value in a box. Where memory is refused it is dropped here.
+#[inline(never)]
+fn in_box(value: Value, alloc: Global) -> Result<Box<Value>, AllocError>
+    ensures { IfOk result (λ b. b.value ≡ value) }
+{
+    Ok(Box::new(alloc, value)?)
+}
+
 // What an object is tested for, by a name there that stands for this.
 #[tactic(auto, using(checker_names::proofs::Noted::noted_none))]
 fn tested_value(
@@ -165,16 +180,77 @@ fn tested_value(
     }
 }
 
+// A number as an expression.
+#[inline(never)]
+fn constant(number: u16, alloc: Global) -> Result<Box<Value>, AllocError>
+    ensures { IfOk result (λ v. value_of v.value ≡ meant.number number) }
+{
+    in_box(Value::Number(number), alloc)
+}
+
+// A dictionary word as an expression.
+#[inline(never)]
+fn word(text: &[u8], alloc: Global, scope: &Scope<'_>) -> Result<Box<Value>, AllocError>
+    ensures { IfOk result (λ v. value_of v.value
+        ≡ meant.number (number_at scope.now.file.now.numbers (key_of_word text.now))) }
+{
+    in_box(
+        Value::Number(scope.file.numbers.number(key_of_word(text))),
+        alloc,
+    )
+}
+
 // A name as an expression.
-fn named_value(name: Name<'_>, scope: &Scope<'_>, least: &mut Option<Breach>) -> Value
-    ensures { IsResolved (seen_in scope.now) (trees.named (name_tree name.entry))
+#[inline(never)]
+fn named_value(name: &Name<'_>, scope: &Scope<'_>, least: &mut Option<Breach>) -> Value
+    ensures { IsResolved (seen_in scope.now) (trees.named (name_tree name.now))
         least.old least.new (value_of result) }
 {
     let found = scope.look(name.text);
-    value(name, &scope.file.numbers, found, least)
+    value(*name, &scope.file.numbers, found, least)
+}
+
+// The same, in a box.
+#[inline(never)]
+fn boxed_name(
+    name: &Name<'_>,
+    alloc: Global,
+    scope: &Scope<'_>,
+    least: &mut Option<Breach>,
+) -> Result<Box<Value>, AllocError>
+    ensures { GivesBoxed (seen_in scope.now) result least.old least.new
+        (trees.named (name_tree name.now)) }
+{
+    in_box(named_value(name, scope, least), alloc)
+}
+
+// The number of the routine that a name stands for, which is called with so many arguments.
+#[inline(never)]
+fn routine_of(name: &Name<'_>, given: usize, scope: &Scope<'_>, least: &mut Option<Breach>) -> usize
+    ensures { IsRoutine (seen_in scope.now) (name_tree name.now) given
+        least.old least.new result }
+{
+    routine(*name, given, scope.look(name.text), least)
+}
+
+// The number of the array that a name stands for.
+#[inline(never)]
+fn array_of(name: &Name<'_>, scope: &Scope<'_>, least: &mut Option<Breach>) -> usize
+    ensures { IsArray (seen_in scope.now) (name_tree name.now) least.old least.new result }
+{
+    array(*name, scope.look(name.text), least)
+}
+
+// The number of the property that a name stands for.
+#[inline(never)]
+fn property_of(name: &Name<'_>, scope: &Scope<'_>, least: &mut Option<Breach>) -> usize
+    ensures { IsProperty (seen_in scope.now) name.now least.old least.new result }
+{
+    property(*name, scope.look(name.text), least)
 }
 
 // The numbers of the properties behind the first.
+#[inline(never)]
 fn property_numbers(
     others: &[Name<'_>],
     alloc: Global,
@@ -186,18 +262,20 @@ fn property_numbers(
 {
     let mut numbers = Vec::new(alloc);
     for name in others {
-        let number = property(*name, scope.look(name.text), least);
+        let number = property_of(name, scope, least);
         numbers.push(number)?;
     }
     Ok(numbers)
 }
 
-/// Resolves the names of an expression, and notes the rules that it breaks.
+/// Resolves the names of an expression, and notes the rules that it breaks. What most statements and
+/// lists hold, an assignment, a name or a number, is made without a box.
 ///
 /// # Errors
 ///
 /// `AllocError` where memory is refused.
 #[cycle(expression)]
+#[inline(never)]
 pub fn expression(
     e: &Expression<'_>,
     alloc: Global,
@@ -208,18 +286,46 @@ pub fn expression(
 {
     match e {
         Expression::Constant(number) => Ok(Value::Number(*number)),
-        Expression::Word(word) => Ok(Value::Number(scope.file.numbers.number(key_of_word(word)))),
-        Expression::Named(name) => Ok(named_value(*name, scope, least)),
-        Expression::Call(name, given) => call(given, *name, alloc, scope, least),
-        Expression::Index(name, width, inside) => index(inside, *name, alloc, scope, *width, least),
-        Expression::Parenthesised(inside) => expression(inside, alloc, scope, least),
+        Expression::Word(text) => Ok(Value::Number(scope.file.numbers.number(key_of_word(text)))),
+        Expression::Named(name) => Ok(named_value(name, scope, least)),
+        Expression::Assign(left, at, right) => assign(left, right, alloc, scope, *at, least),
+        _ => {
+            let Ok(found) = boxed(e, alloc, scope, least) else {
+                return Err(AllocError);
+            };
+            Ok(Box::into_inner(found))
+        }
+    }
+}
+
+/// The same, in a box.
+///
+/// # Errors
+///
+/// `AllocError` where memory is refused.
+#[cycle(expression)]
+pub fn boxed(
+    e: &Expression<'_>,
+    alloc: Global,
+    scope: &Scope<'_>,
+    least: &mut Option<Breach>,
+) -> Result<Box<Value>, AllocError>
+    ensures { GivesBoxed (seen_in scope.now) result least.old least.new (expression_tree e.now) }
+{
+    match e {
+        Expression::Constant(number) => constant(*number, alloc),
+        Expression::Word(text) => word(text, alloc, scope),
+        Expression::Named(name) => boxed_name(name, alloc, scope, least),
+        Expression::Call(name, given) => call(given, name, alloc, scope, least),
+        Expression::Index(name, width, inside) => index(inside, name, alloc, scope, *width, least),
+        Expression::Parenthesised(inside) => boxed(inside, alloc, scope, least),
         Expression::RelativeOf(which, object) => relative_of(object, alloc, scope, *which, least),
         Expression::Property(object, name, others) => {
-            properties(object, *name, others, alloc, scope, least)
+            properties(object, name, others, alloc, scope, least)
         }
-        Expression::PropertyLength(object, name) => length_of(object, *name, alloc, scope, least),
+        Expression::PropertyLength(object, name) => length_of(object, name, alloc, scope, least),
         Expression::PropertyEntry(object, name, index) => {
-            property_entry(object, *name, index, alloc, scope, least)
+            property_entry(object, name, index, alloc, scope, least)
         }
         Expression::Prefixed(prefix, operand) => prefixed(operand, alloc, scope, *prefix, least),
         Expression::StepBefore(step, position, operand) => {
@@ -240,33 +346,15 @@ pub fn expression(
         Expression::Contained(left, containment, right) => {
             contained(left, right, alloc, scope, *containment, least)
         }
-        Expression::Tested(object, test, name) => tested(object, *name, alloc, scope, *test, least),
-        Expression::Assign(left, at, right) => assign(left, right, alloc, scope, *at, least),
+        Expression::Tested(object, test, name) => tested(object, name, alloc, scope, *test, least),
+        Expression::Assign(left, at, right) => {
+            boxed_assignment(left, right, alloc, scope, *at, least)
+        }
     }
 }
 
-/// The same, in a box.
-///
-/// # Errors
-///
-/// `AllocError` where memory is refused.
 #[cycle(expression)]
-pub fn boxed(
-    e: &Expression<'_>,
-    alloc: Global,
-    scope: &Scope<'_>,
-    least: &mut Option<Breach>,
-) -> Result<Box<Value>, AllocError>
-    ensures { IfOk result (λ v. IsResolved (seen_in scope.now) (expression_tree e.now)
-        least.old least.new (value_of v.value)) }
-{
-    let Ok(found) = expression(e, alloc, scope, least) else {
-        return Err(AllocError);
-    };
-    Ok(Box::new(alloc, found)?)
-}
-
-#[cycle(expression)]
+#[inline(never)]
 fn all_expressions(
     given: &[Expression<'_>],
     alloc: Global,
@@ -288,6 +376,7 @@ fn all_expressions(
 
 // The operators and operands that follow in a chain.
 #[cycle(expression)]
+#[inline(never)]
 fn chain_links(
     links: &[(Binary, Expression<'_>)],
     alloc: Global,
@@ -309,6 +398,7 @@ fn chain_links(
 
 // What is stepped, by an operator at this position.
 #[cycle(expression)]
+#[inline(never)]
 fn variable(
     e: &Expression<'_>,
     alloc: Global,
@@ -322,7 +412,7 @@ fn variable(
     match name_of(e) {
         Some(name) => Ok(target_of(name, operator, scope.look(name.text), least)),
         None => {
-            drop(expression(e, alloc, scope, least)?);
+            drop(boxed(e, alloc, scope, least)?);
             note(least, NOT_ASSIGNABLE, operator);
             Ok(Variable::Local(0))
         }
@@ -330,141 +420,149 @@ fn variable(
 }
 
 #[cycle(expression)]
+#[inline(never)]
 fn call(
     given: &[Expression<'_>],
-    name: Name<'_>,
+    name: &Name<'_>,
     alloc: Global,
     scope: &Scope<'_>,
     least: &mut Option<Breach>,
-) -> Result<Value, AllocError>
-    ensures { GivesValue (seen_in scope.now) result least.old least.new
-        (trees.call (name_tree name.entry) (trees_of (map expression_tree given.now))) }
+) -> Result<Box<Value>, AllocError>
+    ensures { GivesBoxed (seen_in scope.now) result least.old least.new
+        (trees.call (name_tree name.now) (trees_of (map expression_tree given.now))) }
 {
-    let number = routine(name, given.len(), scope.look(name.text), least);
+    let number = routine_of(name, given.len(), scope, least);
     let Ok(given) = all_expressions(given, alloc, scope, least) else {
         return Err(AllocError);
     };
-    Ok(Value::Call(number, given))
+    in_box(Value::Call(number, given), alloc)
 }
 
 #[cycle(expression)]
+#[inline(never)]
 fn index(
     operand: &Expression<'_>,
-    name: Name<'_>,
+    name: &Name<'_>,
     alloc: Global,
     scope: &Scope<'_>,
     width: Width,
     least: &mut Option<Breach>,
-) -> Result<Value, AllocError>
-    ensures { GivesValue (seen_in scope.now) result least.old least.new
-        (trees.index (name_tree name.entry) width (expression_tree operand.now)) }
+) -> Result<Box<Value>, AllocError>
+    ensures { GivesBoxed (seen_in scope.now) result least.old least.new
+        (trees.index (name_tree name.now) width (expression_tree operand.now)) }
 {
-    let number = array(name, scope.look(name.text), least);
+    let number = array_of(name, scope, least);
     let Ok(operand) = boxed(operand, alloc, scope, least) else {
         return Err(AllocError);
     };
-    Ok(Value::Entry(width, number, operand))
+    in_box(Value::Entry(width, number, operand), alloc)
 }
 
 #[cycle(expression)]
+#[inline(never)]
 fn relative_of(
     object: &Expression<'_>,
     alloc: Global,
     scope: &Scope<'_>,
     relative: Relative,
     least: &mut Option<Breach>,
-) -> Result<Value, AllocError>
-    ensures { GivesValue (seen_in scope.now) result least.old least.new
+) -> Result<Box<Value>, AllocError>
+    ensures { GivesBoxed (seen_in scope.now) result least.old least.new
         (trees.relative_of relative (expression_tree object.now)) }
 {
     let Ok(object) = boxed(object, alloc, scope, least) else {
         return Err(AllocError);
     };
-    Ok(Value::Relative(relative, object))
+    in_box(Value::Relative(relative, object), alloc)
 }
 
 #[cycle(expression)]
+#[inline(never)]
 fn properties(
     object: &Expression<'_>,
-    name: Name<'_>,
+    name: &Name<'_>,
     others: &[Name<'_>],
     alloc: Global,
     scope: &Scope<'_>,
     least: &mut Option<Breach>,
-) -> Result<Value, AllocError>
-    ensures { GivesValue (seen_in scope.now) result least.old least.new
-        (propertied (trees.property (expression_tree object.now) (name_tree name.entry))
+) -> Result<Box<Value>, AllocError>
+    ensures { GivesBoxed (seen_in scope.now) result least.old least.new
+        (propertied (trees.property (expression_tree object.now) (name_tree name.now))
         others.now) }
 {
     let Ok(object) = boxed(object, alloc, scope, least) else {
         return Err(AllocError);
     };
-    let number = property(name, scope.look(name.text), least);
+    let number = property_of(name, scope, least);
     let Ok(others) = property_numbers(others, alloc, scope, least) else {
         return Err(AllocError);
     };
-    Ok(Value::Property(object, number, others))
+    in_box(Value::Property(object, number, others), alloc)
 }
 
 #[cycle(expression)]
+#[inline(never)]
 fn length_of(
     object: &Expression<'_>,
-    name: Name<'_>,
+    name: &Name<'_>,
     alloc: Global,
     scope: &Scope<'_>,
     least: &mut Option<Breach>,
-) -> Result<Value, AllocError>
-    ensures { GivesValue (seen_in scope.now) result least.old least.new
-        (trees.property_length (expression_tree object.now) (name_tree name.entry)) }
+) -> Result<Box<Value>, AllocError>
+    ensures { GivesBoxed (seen_in scope.now) result least.old least.new
+        (trees.property_length (expression_tree object.now) (name_tree name.now)) }
 {
     let Ok(object) = boxed(object, alloc, scope, least) else {
         return Err(AllocError);
     };
-    let number = property(name, scope.look(name.text), least);
-    Ok(Value::PropertySize(object, number))
+    let number = property_of(name, scope, least);
+    in_box(Value::PropertySize(object, number), alloc)
 }
 
 #[cycle(expression)]
+#[inline(never)]
 fn property_entry(
     object: &Expression<'_>,
-    name: Name<'_>,
+    name: &Name<'_>,
     index: &Expression<'_>,
     alloc: Global,
     scope: &Scope<'_>,
     least: &mut Option<Breach>,
-) -> Result<Value, AllocError>
-    ensures { GivesValue (seen_in scope.now) result least.old least.new
-        (trees.property_entry (expression_tree object.now) (name_tree name.entry)
+) -> Result<Box<Value>, AllocError>
+    ensures { GivesBoxed (seen_in scope.now) result least.old least.new
+        (trees.property_entry (expression_tree object.now) (name_tree name.now)
         (expression_tree index.now)) }
 {
     let Ok(object) = boxed(object, alloc, scope, least) else {
         return Err(AllocError);
     };
-    let number = property(name, scope.look(name.text), least);
+    let number = property_of(name, scope, least);
     let Ok(index) = boxed(index, alloc, scope, least) else {
         return Err(AllocError);
     };
-    Ok(Value::PropertyWord(object, number, index))
+    in_box(Value::PropertyWord(object, number, index), alloc)
 }
 
 #[cycle(expression)]
+#[inline(never)]
 fn prefixed(
     operand: &Expression<'_>,
     alloc: Global,
     scope: &Scope<'_>,
     prefix: Prefix,
     least: &mut Option<Breach>,
-) -> Result<Value, AllocError>
-    ensures { GivesValue (seen_in scope.now) result least.old least.new
+) -> Result<Box<Value>, AllocError>
+    ensures { GivesBoxed (seen_in scope.now) result least.old least.new
         (trees.prefixed prefix (expression_tree operand.now)) }
 {
     let Ok(operand) = boxed(operand, alloc, scope, least) else {
         return Err(AllocError);
     };
-    Ok(Value::Prefixed(prefix, operand))
+    in_box(Value::Prefixed(prefix, operand), alloc)
 }
 
 #[cycle(expression)]
+#[inline(never)]
 fn step_before(
     operand: &Expression<'_>,
     alloc: Global,
@@ -472,17 +570,18 @@ fn step_before(
     step: Step,
     position: Position,
     least: &mut Option<Breach>,
-) -> Result<Value, AllocError>
-    ensures { GivesValue (seen_in scope.now) result least.old least.new
+) -> Result<Box<Value>, AllocError>
+    ensures { GivesBoxed (seen_in scope.now) result least.old least.new
         (trees.step_before step position (expression_tree operand.now)) }
 {
     let Ok(variable) = variable(operand, alloc, scope, position, least) else {
         return Err(AllocError);
     };
-    Ok(Value::StepBefore(step, variable))
+    in_box(Value::StepBefore(step, variable), alloc)
 }
 
 #[cycle(expression)]
+#[inline(never)]
 fn step_after(
     operand: &Expression<'_>,
     alloc: Global,
@@ -490,17 +589,18 @@ fn step_after(
     step: Step,
     position: Position,
     least: &mut Option<Breach>,
-) -> Result<Value, AllocError>
-    ensures { GivesValue (seen_in scope.now) result least.old least.new
+) -> Result<Box<Value>, AllocError>
+    ensures { GivesBoxed (seen_in scope.now) result least.old least.new
         (trees.step_after (expression_tree operand.now) step position) }
 {
     let Ok(variable) = variable(operand, alloc, scope, position, least) else {
         return Err(AllocError);
     };
-    Ok(Value::StepAfter(variable, step))
+    in_box(Value::StepAfter(variable, step), alloc)
 }
 
 #[cycle(expression)]
+#[inline(never)]
 fn chain(
     links: &[(Binary, Expression<'_>)],
     first: &Expression<'_>,
@@ -509,8 +609,8 @@ fn chain(
     scope: &Scope<'_>,
     operator: Binary,
     least: &mut Option<Breach>,
-) -> Result<Value, AllocError>
-    ensures { GivesValue (seen_in scope.now) result least.old least.new
+) -> Result<Box<Value>, AllocError>
+    ensures { GivesBoxed (seen_in scope.now) result least.old least.new
         (chained
         (trees.binary operator (expression_tree first.now) (expression_tree second.now))
         (map link links.now)) }
@@ -524,10 +624,11 @@ fn chain(
     let Ok(links) = chain_links(links, alloc, scope, least) else {
         return Err(AllocError);
     };
-    Ok(Value::Chain(first, operator, second, links))
+    in_box(Value::Chain(first, operator, second, links), alloc)
 }
 
 #[cycle(expression)]
+#[inline(never)]
 fn compare(
     left: &Expression<'_>,
     right: &Expression<'_>,
@@ -535,8 +636,8 @@ fn compare(
     scope: &Scope<'_>,
     comparison: Comparison,
     least: &mut Option<Breach>,
-) -> Result<Value, AllocError>
-    ensures { GivesValue (seen_in scope.now) result least.old least.new
+) -> Result<Box<Value>, AllocError>
+    ensures { GivesBoxed (seen_in scope.now) result least.old least.new
         (trees.compare comparison (expression_tree left.now) (expression_tree right.now)) }
 {
     let Ok(left) = boxed(left, alloc, scope, least) else {
@@ -545,10 +646,11 @@ fn compare(
     let Ok(right) = boxed(right, alloc, scope, least) else {
         return Err(AllocError);
     };
-    Ok(Value::Compare(left, comparison, right))
+    in_box(Value::Compare(left, comparison, right), alloc)
 }
 
 #[cycle(expression)]
+#[inline(never)]
 fn equal(
     others: &[Expression<'_>],
     left: &Expression<'_>,
@@ -557,8 +659,8 @@ fn equal(
     scope: &Scope<'_>,
     equality: Equality,
     least: &mut Option<Breach>,
-) -> Result<Value, AllocError>
-    ensures { GivesValue (seen_in scope.now) result least.old least.new
+) -> Result<Box<Value>, AllocError>
+    ensures { GivesBoxed (seen_in scope.now) result least.old least.new
         (trees.equal equality (expression_tree left.now)
         (trees.more (expression_tree right.now) (trees_of (map expression_tree others.now)))) }
 {
@@ -571,10 +673,11 @@ fn equal(
     let Ok(others) = all_expressions(others, alloc, scope, least) else {
         return Err(AllocError);
     };
-    Ok(Value::Equal(left, equality, right, others))
+    in_box(Value::Equal(left, equality, right, others), alloc)
 }
 
 #[cycle(expression)]
+#[inline(never)]
 fn contained(
     left: &Expression<'_>,
     right: &Expression<'_>,
@@ -582,8 +685,8 @@ fn contained(
     scope: &Scope<'_>,
     containment: Containment,
     least: &mut Option<Breach>,
-) -> Result<Value, AllocError>
-    ensures { GivesValue (seen_in scope.now) result least.old least.new
+) -> Result<Box<Value>, AllocError>
+    ensures { GivesBoxed (seen_in scope.now) result least.old least.new
         (trees.contained containment (expression_tree left.now) (expression_tree right.now)) }
 {
     let Ok(left) = boxed(left, alloc, scope, least) else {
@@ -592,29 +695,51 @@ fn contained(
     let Ok(right) = boxed(right, alloc, scope, least) else {
         return Err(AllocError);
     };
-    Ok(Value::Contained(left, containment, right))
+    in_box(Value::Contained(left, containment, right), alloc)
 }
 
 #[cycle(expression)]
+#[inline(never)]
 fn tested(
     object: &Expression<'_>,
-    name: Name<'_>,
+    name: &Name<'_>,
     alloc: Global,
     scope: &Scope<'_>,
     test: ObjectTest,
     least: &mut Option<Breach>,
-) -> Result<Value, AllocError>
-    ensures { GivesValue (seen_in scope.now) result least.old least.new
-        (trees.tested test (expression_tree object.now) (name_tree name.entry)) }
+) -> Result<Box<Value>, AllocError>
+    ensures { GivesBoxed (seen_in scope.now) result least.old least.new
+        (trees.tested test (expression_tree object.now) (name_tree name.now)) }
 {
     let Ok(object) = boxed(object, alloc, scope, least) else {
         return Err(AllocError);
     };
-    Ok(tested_value(name, object, test, scope.look(name.text), least))
+    let found = scope.look(name.text);
+    in_box(tested_value(*name, object, test, found, least), alloc)
+}
+
+// A name as the left side of an assignment, whose operator stands at this position.
+#[inline(never)]
+fn left_name(
+    name: Name<'_>,
+    scope: &Scope<'_>,
+    operator: Position,
+    least: &mut Option<Breach>,
+) -> Value
+    ensures { IsWalked
+        (target_breaches name.entry.position operator (look_in scope.now name.entry.text.now))
+        least.old least.new (value_of result)
+        (value_of_binding (number_at scope.now.file.now.numbers)
+        (look_in scope.now name.entry.text.now)) }
+{
+    let found = scope.look(name.text);
+    target_of(name, operator, found, least);
+    named(&scope.file.numbers, found)
 }
 
 // The left side of an assignment, whose operator stands at this position.
 #[cycle(expression)]
+#[inline(never)]
 fn left_side(
     e: &Expression<'_>,
     alloc: Global,
@@ -626,20 +751,17 @@ fn left_side(
         least.old least.new (value_of v)) }
 {
     match name_of(e) {
-        Some(name) => {
-            let found = scope.look(name.text);
-            target_of(name, operator, found, least);
-            Ok(named(&scope.file.numbers, found))
-        }
+        Some(name) => Ok(left_name(name, scope, operator, least)),
         None => {
-            let left = expression(e, alloc, scope, least)?;
+            let left = boxed(e, alloc, scope, least)?;
             not_place(is_place(e), operator, least);
-            Ok(left)
+            Ok(Box::into_inner(left))
         }
     }
 }
 
 #[cycle(expression)]
+#[inline(never)]
 fn assign(
     left: &Expression<'_>,
     right: &Expression<'_>,
@@ -659,4 +781,24 @@ fn assign(
         return Err(AllocError);
     };
     assignment(left, right, alloc)
+}
+
+// The same, in a box.
+#[cycle(expression)]
+#[inline(never)]
+fn boxed_assignment(
+    left: &Expression<'_>,
+    right: &Expression<'_>,
+    alloc: Global,
+    scope: &Scope<'_>,
+    position: Position,
+    least: &mut Option<Breach>,
+) -> Result<Box<Value>, AllocError>
+    ensures { GivesBoxed (seen_in scope.now) result least.old least.new
+        (trees.assign (expression_tree left.now) position (expression_tree right.now)) }
+{
+    let Ok(value) = assign(left, right, alloc, scope, position, least) else {
+        return Err(AllocError);
+    };
+    in_box(value, alloc)
 }

@@ -8,17 +8,20 @@ use Rattle.checker_names.specs.Scope.{seen_in}
 use Rattle.checker_values.specs.Walk.{own_breaches, resolved, link_breaches, resolved_link, value_link}
 use Rattle.checker_values.proofs.expression_rules.+expression.Given as goal
 
-abbrev pub decreases-expression : goal.decreases-expression
-decreases-expression l = 4 * goal.size-expression l
-
 abbrev pub decreases-boxed : goal.decreases-boxed
-decreases-boxed l = 4 * goal.size-boxed l + 1
+decreases-boxed l = 4 * goal.size-boxed l
+
+abbrev pub decreases-expression : goal.decreases-expression
+decreases-expression l = 4 * goal.size-expression l + 1
+
+abbrev pub decreases-boxed_assignment : goal.decreases-boxed_assignment
+decreases-boxed_assignment l = 4 * max (size-Expression l.left.now) (size-Expression l.right.now) + 3
 
 abbrev pub decreases-all_expressions : goal.decreases-all_expressions
-decreases-all_expressions l = 4 * goal.size-all_expressions l + 1
+decreases-all_expressions l = 4 * goal.size-all_expressions l + 2
 
 abbrev pub decreases-chain_links : goal.decreases-chain_links
-decreases-chain_links l = 4 * goal.size-chain_links l + 1
+decreases-chain_links l = 4 * goal.size-chain_links l + 2
 
 abbrev pub decreases-variable : goal.decreases-variable
 decreases-variable l = 4 * goal.size-variable l + 1
@@ -30,7 +33,7 @@ abbrev pub decreases-index : goal.decreases-index
 decreases-index l = 4 * goal.size-index l + 2
 
 abbrev pub decreases-call : goal.decreases-call
-decreases-call l = 4 * goal.size-call l + 2
+decreases-call l = 4 * goal.size-call l + 3
 
 abbrev pub decreases-relative_of : goal.decreases-relative_of
 decreases-relative_of l = 4 * goal.size-relative_of l + 2
@@ -66,10 +69,10 @@ abbrev pub decreases-assign : goal.decreases-assign
 decreases-assign l = 4 * max (size-Expression l.left.now) (size-Expression l.right.now) + 2
 
 abbrev pub decreases-chain : goal.decreases-chain
-decreases-chain l = 4 * max (goal.size-chain l) (max (size-Expression l.first.now) (size-Expression l.second.now)) + 2
+decreases-chain l = 4 * max (goal.size-chain l) (max (size-Expression l.first.now) (size-Expression l.second.now)) + 3
 
 abbrev pub decreases-equal : goal.decreases-equal
-decreases-equal l = 4 * max (goal.size-equal l) (max (size-Expression l.left.now) (size-Expression l.right.now)) + 2
+decreases-equal l = 4 * max (goal.size-equal l) (max (size-Expression l.left.now) (size-Expression l.right.now)) + 3
 
 abbrev pub invariant-all_expressions-loop-e : goal.invariant-all_expressions-loop-e
 invariant-all_expressions-loop-e l = record {

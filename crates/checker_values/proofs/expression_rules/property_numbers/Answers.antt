@@ -2,9 +2,7 @@ use Rattle.std.proofs.Common.{ℕ, sym, ◌∙◌}
 use Rattle.syntax_trees.specs.declared.tree.Name.{Name}
 use Rattle.checker_names.specs.Scope.{seen_in}
 use Rattle.checker_names.proofs.Each.{each_there, each_end, value_end}
-use Rattle.checker_values.specs.Expressions.{property_breaches, property_of_binding}
 use Rattle.checker_values.specs.Walk.{own_property_breaches, resolved_property}
-use Rattle.checker_values.proofs.Walks.{named_part}
 use Rattle.checker_values.proofs.Mapping.{more_there}
 use Rattle.checker_values.proofs.expression_rules.property_numbers.Goals as goal
 
@@ -12,11 +10,10 @@ pub loop-name-preserved : goal.loop-name-preserved
 loop-name-preserved c =
     let f = λ (x : Name). own_property_breaches (seen_in c.args.scope.now) x in
     let g = λ (x : Name). resolved_property (seen_in c.args.scope.now) x in
-    let part = named_part property_of_binding (property_breaches _) c.look.result _ c.property-number.result
-    c.look.ensures c.property-number.ensures.value c.property-number.ensures.breaches in
+    let part = c.property_of-number.ensures in
     record {
       value = rw c.in_ok-push.ensures.items
-          (more_there g c.loop-name.numbers.items c.property-number.result c.args.others.now c.loop-name.name-index _
+          (more_there g c.loop-name.numbers.items c.property_of-number.result c.args.others.now c.loop-name.name-index _
           c.loop-name-test.true c.loop-name.invariant.value part.value);
       least = each_there f g (λ (n : ℕ). n) c.loop-name.least _ c.args.others.now c.loop-name.name-index _
           c.loop-name-test.true part.breaches ∙ c.loop-name.invariant.least;
