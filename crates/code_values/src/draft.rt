@@ -18,6 +18,7 @@ pub struct Draft<'a> {
 }
 
 /// One more item, before those that are written.
+#[inline(never)]
 pub fn put<'a>(draft: &mut Draft<'a>, item: Item<'a>) -> Result<(), AllocError>
     ensures { OnOk result (PutsItem draft.old draft.new (item_of item.entry)) }
 {
@@ -26,6 +27,7 @@ pub fn put<'a>(draft: &mut Draft<'a>, item: Item<'a>) -> Result<(), AllocError>
 }
 
 /// A branch by whether a word is true, to where so many items are left.
+#[inline(never)]
 pub fn put_branch<'a>(
     draft: &mut Draft<'a>,
     operand: Operand,

@@ -34,6 +34,7 @@ pub fn put_word(draft: &mut Draft<'_>, wanted: Wanted) -> Result<Destination, Al
 
 /// What follows a condition: 0, and 1 behind it, if a word is wanted. Where the condition is to
 /// branch: whether where it is true, and how many items are left there.
+#[inline(never)]
 #[tactic(auto, using(crate::proofs::Reductions::truth_wanted, crate::proofs::Reductions::truth_nowhere, crate::proofs::Reductions::truth_pushed, crate::proofs::Reductions::truth_kept, crate::proofs::Reductions::truth_aside))]
 pub fn put_truth(draft: &mut Draft<'_>, wanted: Wanted) -> Result<(bool, usize), AllocError>
     ensures { IfOk result (λ truth. WritesTruth draft.old draft.new wanted truth.0 truth.1) }
@@ -72,6 +73,7 @@ fn put_choice(draft: &mut Draft<'_>, destination: Destination) -> Result<usize, 
     Ok(left)
 }
 
+#[inline(never)]
 pub fn put_number(draft: &mut Draft<'_>, number: u16, wanted: Wanted) -> Result<(), AllocError>
     ensures { OnOk result (WritesValue draft.old draft.new wanted (source.number number)) }
 {
@@ -93,6 +95,7 @@ fn is_known(number: u16, when: bool) -> bool
     if number == 0 { !when } else { when }
 }
 
+#[inline(never)]
 pub fn put_read(draft: &mut Draft<'_>, variable: Variable, wanted: Wanted) -> Result<(), AllocError>
     ensures { OnOk result (WritesValue draft.old draft.new wanted (source.read variable)) }
 {
@@ -120,6 +123,7 @@ fn put_moved(
 }
 
 /// A variable is stepped, and its new word goes on.
+#[inline(never)]
 #[tactic(auto, using(crate::proofs::Reductions::step_more))]
 pub fn put_step_before(
     draft: &mut Draft<'_>,
@@ -136,6 +140,7 @@ pub fn put_step_before(
 }
 
 /// A variable is stepped, and its old word goes on.
+#[inline(never)]
 pub fn put_step_after(
     draft: &mut Draft<'_>,
     variable: Variable,

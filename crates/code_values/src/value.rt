@@ -1,4 +1,7 @@
 //! Expressions as items.
+//!
+//! What writes a kind of expression is no part of `put_value` in machine code: what walks a tree then
+//! takes stack for the kinds on its way alone, and not for all kinds at each step.
 
 ghost use Rattle.std.specs.Prelude.{map, IfOk, OnOk};
 ghost use Rattle.meaning.specs.Resolved.{call, prefixed, assign, entry, relative, has, provides, property};
@@ -91,6 +94,7 @@ pub fn put_operand<'a>(
 
 /// What puts an operand where it goes; none where it stands in place.
 #[cycle(values)]
+#[inline(never)]
 fn put_right<'a>(
     draft: &mut Draft<'a>,
     value: &Value,
@@ -108,6 +112,7 @@ fn put_right<'a>(
 
 /// What pushes the operands of a list, from left to right.
 #[cycle(values)]
+#[inline(never)]
 fn put_operands<'a>(draft: &mut Draft<'a>, values: &[Value]) -> Result<(), AllocError>
     ensures { OnOk result (WritesOperands draft.old draft.new values.now) }
 {
@@ -122,6 +127,7 @@ fn put_operands<'a>(draft: &mut Draft<'a>, values: &[Value]) -> Result<(), Alloc
 
 /// What puts the arguments of a call where it finds them, from left to right.
 #[cycle(values)]
+#[inline(never)]
 fn put_arguments<'a>(
     draft: &mut Draft<'a>,
     values: &[Value],
@@ -142,6 +148,7 @@ fn put_arguments<'a>(
 }
 
 #[cycle(values)]
+#[inline(never)]
 fn put_call<'a>(
     draft: &mut Draft<'a>,
     arguments: &[Value],
@@ -161,6 +168,7 @@ fn put_call<'a>(
 }
 
 #[cycle(values)]
+#[inline(never)]
 fn put_prefixed<'a>(
     draft: &mut Draft<'a>,
     value: &Value,
@@ -186,6 +194,7 @@ fn put_prefixed<'a>(
 }
 
 #[cycle(values)]
+#[inline(never)]
 fn put_assigned<'a>(
     draft: &mut Draft<'a>,
     value: &Value,
@@ -219,6 +228,7 @@ fn put_assigned<'a>(
 
 /// An entry of an array.
 #[cycle(values)]
+#[inline(never)]
 fn put_entry<'a>(
     draft: &mut Draft<'a>,
     index: &Value,
@@ -238,6 +248,7 @@ fn put_entry<'a>(
 
 /// An entry that is assigned.
 #[cycle(values)]
+#[inline(never)]
 fn put_assign_entry<'a>(
     draft: &mut Draft<'a>,
     index: &Value,
@@ -258,6 +269,7 @@ fn put_assign_entry<'a>(
 
 /// An entry that is assigned, where the operand for its index is known.
 #[cycle(values)]
+#[inline(never)]
 fn put_assigned_entry<'a>(
     draft: &mut Draft<'a>,
     value: &Value,
@@ -278,6 +290,7 @@ fn put_assigned_entry<'a>(
 
 /// The parent, the first child or the sibling of an object.
 #[cycle(values)]
+#[inline(never)]
 fn put_relative<'a>(
     draft: &mut Draft<'a>,
     object: &Value,
@@ -296,6 +309,7 @@ fn put_relative<'a>(
 
 /// Whether an object stands in another, or whether it does not.
 #[cycle(values)]
+#[inline(never)]
 fn put_contained<'a>(
     draft: &mut Draft<'a>,
     object: &Value,
@@ -314,6 +328,7 @@ fn put_contained<'a>(
 
 /// `in` or `notin` and the word at its right, where the operand for the object is known.
 #[cycle(values)]
+#[inline(never)]
 fn put_containment<'a>(
     draft: &mut Draft<'a>,
     parent: &Value,
@@ -334,6 +349,7 @@ fn put_containment<'a>(
 
 /// Whether an object has an attribute.
 #[cycle(values)]
+#[inline(never)]
 fn put_has<'a>(
     draft: &mut Draft<'a>,
     object: &Value,
@@ -354,6 +370,7 @@ fn put_has<'a>(
 
 /// Whether an object provides a property.
 #[cycle(values)]
+#[inline(never)]
 fn put_provides<'a>(
     draft: &mut Draft<'a>,
     object: &Value,
@@ -373,6 +390,7 @@ fn put_provides<'a>(
 /// The word of a property, or of the last of several of which each is one of the word before it.
 /// They are written from the last one to the object.
 #[cycle(values)]
+#[inline(never)]
 fn put_property<'a>(
     draft: &mut Draft<'a>,
     object: &Value,
@@ -393,6 +411,7 @@ fn put_property<'a>(
 
 /// Properties of which each is one of the word before it, from the last one on: what is then wanted
 /// of what stands before them.
+#[inline(never)]
 fn put_properties(
     draft: &mut Draft<'_>,
     numbers: &[usize],
@@ -412,6 +431,7 @@ fn put_properties(
 
 /// How many bytes a property has.
 #[cycle(values)]
+#[inline(never)]
 fn put_property_size<'a>(
     draft: &mut Draft<'a>,
     object: &Value,
@@ -430,6 +450,7 @@ fn put_property_size<'a>(
 
 /// A word of a property.
 #[cycle(values)]
+#[inline(never)]
 fn put_property_word<'a>(
     draft: &mut Draft<'a>,
     object: &Value,
@@ -448,6 +469,7 @@ fn put_property_word<'a>(
 
 /// A word of a property, where the operand for the object is known.
 #[cycle(values)]
+#[inline(never)]
 fn put_indexed_property<'a>(
     draft: &mut Draft<'a>,
     index: &Value,
@@ -469,6 +491,7 @@ fn put_indexed_property<'a>(
 
 /// A property that is assigned.
 #[cycle(values)]
+#[inline(never)]
 fn put_assign_property<'a>(
     draft: &mut Draft<'a>,
     object: &Value,
@@ -487,6 +510,7 @@ fn put_assign_property<'a>(
 
 /// A property that is assigned, where the operand for the object is known.
 #[cycle(values)]
+#[inline(never)]
 fn put_assigned_property<'a>(
     draft: &mut Draft<'a>,
     value: &Value,
@@ -509,6 +533,7 @@ fn put_assigned_property<'a>(
 
 /// A word of a property that is assigned.
 #[cycle(values)]
+#[inline(never)]
 fn put_assign_property_word<'a>(
     draft: &mut Draft<'a>,
     object: &Value,
@@ -532,6 +557,7 @@ fn put_assign_property_word<'a>(
 /// A word of a property that is assigned, where the operands for the object and the index are
 /// known.
 #[cycle(values)]
+#[inline(never)]
 fn put_assigned_word<'a>(
     draft: &mut Draft<'a>,
     value: &Value,
@@ -554,6 +580,7 @@ fn put_assigned_word<'a>(
 
 /// Operations that group to the left, from the last one to the first operand.
 #[cycle(values)]
+#[inline(never)]
 fn put_chain<'a>(
     draft: &mut Draft<'a>,
     first: &Value,
@@ -576,6 +603,7 @@ fn put_chain<'a>(
 /// Operations that group to the left, from the last one on: what is then wanted of what stands
 /// before them.
 #[cycle(values)]
+#[inline(never)]
 fn put_links<'a>(
     draft: &mut Draft<'a>,
     links: &[(Binary, Value)],
@@ -594,6 +622,7 @@ fn put_links<'a>(
 /// An operator and its second operand, where the operand for the first one is known: what is then
 /// wanted of the first.
 #[cycle(values)]
+#[inline(never)]
 fn put_link<'a>(
     draft: &mut Draft<'a>,
     second: &Value,
@@ -630,6 +659,7 @@ fn put_link<'a>(
 
 /// The first operand of an operation.
 #[cycle(values)]
+#[inline(never)]
 fn put_first<'a>(
     draft: &mut Draft<'a>,
     first: &Value,
@@ -652,6 +682,7 @@ fn put_first<'a>(
 
 /// A comparison of two words.
 #[cycle(values)]
+#[inline(never)]
 fn put_compare<'a>(
     draft: &mut Draft<'a>,
     left: &Value,
@@ -670,6 +701,7 @@ fn put_compare<'a>(
 
 /// A comparison and its right side, where the operand for the left one is known.
 #[cycle(values)]
+#[inline(never)]
 fn put_comparison<'a>(
     draft: &mut Draft<'a>,
     right: &Value,
@@ -691,6 +723,7 @@ fn put_comparison<'a>(
 
 /// `==` or `~=` with all its right sides.
 #[cycle(values)]
+#[inline(never)]
 fn put_equal<'a>(
     draft: &mut Draft<'a>,
     left: &Value,
@@ -712,6 +745,7 @@ fn put_equal<'a>(
 /// `==` or `~=` with the right sides behind the first, where the operands for the left side and the
 /// first right side are known.
 #[cycle(values)]
+#[inline(never)]
 fn put_others<'a>(
     draft: &mut Draft<'a>,
     others: &[Value],
@@ -744,6 +778,7 @@ fn put_others<'a>(
 
 /// Right sides that are folded into a flag one after another.
 #[cycle(values)]
+#[inline(never)]
 fn put_folded<'a>(draft: &mut Draft<'a>, values: &[Value]) -> Result<(), AllocError>
     ensures { OnOk result (WritesFolded draft.old draft.new values.now) }
 {
