@@ -6,7 +6,7 @@ import re
 
 KINDS = ("routines", "objects", "texts", "words", "mixed")
 
-# Weights of docs/LANGUAGE.md, "Definitions": of a token, and of a byte between the quotes of a text.
+# Weights of docs/LANGUAGE.md, "Limits": of a token, and of a byte between the quotes of a text.
 TOKEN = 32
 TEXT_BYTE = 3
 
