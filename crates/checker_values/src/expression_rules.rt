@@ -719,7 +719,6 @@ fn tested(
 }
 
 // A name as the left side of an assignment, whose operator stands at this position.
-#[inline(never)]
 fn left_name(
     name: Name<'_>,
     scope: &Scope<'_>,
@@ -739,7 +738,6 @@ fn left_name(
 
 // The left side of an assignment, whose operator stands at this position.
 #[cycle(expression)]
-#[inline(never)]
 fn left_side(
     e: &Expression<'_>,
     alloc: Global,

@@ -94,7 +94,6 @@ pub fn put_operand<'a>(
 
 /// What puts an operand where it goes; none where it stands in place.
 #[cycle(values)]
-#[inline(never)]
 fn put_right<'a>(
     draft: &mut Draft<'a>,
     value: &Value,
@@ -603,7 +602,6 @@ fn put_chain<'a>(
 /// Operations that group to the left, from the last one on: what is then wanted of what stands
 /// before them.
 #[cycle(values)]
-#[inline(never)]
 fn put_links<'a>(
     draft: &mut Draft<'a>,
     links: &[(Binary, Value)],
@@ -659,7 +657,6 @@ fn put_link<'a>(
 
 /// The first operand of an operation.
 #[cycle(values)]
-#[inline(never)]
 fn put_first<'a>(
     draft: &mut Draft<'a>,
     first: &Value,
@@ -701,7 +698,6 @@ fn put_compare<'a>(
 
 /// A comparison and its right side, where the operand for the left one is known.
 #[cycle(values)]
-#[inline(never)]
 fn put_comparison<'a>(
     draft: &mut Draft<'a>,
     right: &Value,
