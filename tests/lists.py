@@ -117,7 +117,7 @@ def edits_of(name):
 def with_seconds(text, crates):
     """COSTS.md with the table of the gate, and the seconds of what ./build proves."""
     measured, parts = seconds_of()
-    rows = ["", "| Crate | Proof, seconds | Edits now | Seconds of edits then |", "|---|---|---|---|"]
+    rows = ["", "| Crate | Proof, seconds | Edits | Seconds of edits |", "|---|---|---|---|"]
     for name in crates.libraries:
         proof, edits = measured.get(name, (f"part of `{parts[name]}`" if name in parts else "", 0))
         rows.append(f"| `{name}` | {proof} | {edits_of(name) or ''} | {edits or ''} |")
@@ -126,7 +126,7 @@ def with_seconds(text, crates):
     text = between(text, "by ./lists. -->\n", "<!-- End", "\n".join(rows))
     built = {"inform", "play"} | crates.all_below["inform"] | crates.all_below["play"]
     total = sum(measured[name][0] for name in built & set(measured))
-    return re.sub(r"(stand on, )[\d,]+( seconds of these)", rf"\g<1>{total:,}\2", text)
+    return re.sub(r"(need, )[\d,]+( seconds of these)", rf"\g<1>{total:,}\2", text)
 
 
 def with_costs(text, crates):
