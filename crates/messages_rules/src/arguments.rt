@@ -1,7 +1,7 @@
 //! A call with more arguments than the routine has locals (E25).
 
-use crate::tokens::{behind, is_sign};
 use checker_names::{Binding, Table, find};
+use messages_contexts::{behind, is_sign};
 use messages_tokens::{Counted, Quoted};
 use std::alloc::{AllocError, Global};
 use syntax::{Sign, Token};

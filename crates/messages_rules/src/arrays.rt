@@ -1,9 +1,8 @@
 //! The entry or the size of an array (E28). The tokens are those of a program.
 
-use crate::definitions::Defined;
 use crate::kinds::{array_kind, most_entries};
-use crate::tokens::{behind, is_sign, is_word, kind_at};
 use checker_names::{Known, Table, constant_known, find};
+use messages_contexts::{Defined, behind, is_sign, is_word, kind_at};
 use messages_tokens::{Figure, Quoted};
 use std::alloc::{AllocError, Global};
 use syntax::{ArrayKind, Kind, Sign, Token, Word};

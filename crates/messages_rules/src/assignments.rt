@@ -1,10 +1,10 @@
 //! What cannot be assigned (E26), and `break` and `continue` where none may stand (E27).
 
-use crate::definitions::{Defined, binding_in};
 use crate::kinds::{is_variable, kind_of};
-use crate::operands::{begins_expression, is_step};
-use crate::tokens::{before, behind, is_name, is_sign, is_word};
 use checker_names::{Binding, Table};
+use messages_contexts::{
+    Defined, before, begins_expression, behind, binding_in, is_name, is_sign, is_step, is_word,
+};
 use messages_tokens::Quoted;
 use std::alloc::{AllocError, Global};
 use syntax::{Sign, Token, Word};

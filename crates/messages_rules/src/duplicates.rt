@@ -1,9 +1,10 @@
 //! What stands a second time: a name (E22), and an abbreviation (E33). The tokens are those of a
 //! program.
 
-use crate::definitions::{Defined, Definition, first_definition, first_local};
-use crate::objects::first_given;
-use crate::tokens::{before, is_text, is_word, kind_at, line_of};
+use messages_contexts::{
+    Defined, Definition, before, first_definition, first_given, first_local, is_text, is_word,
+    kind_at, line_of,
+};
 use messages_tokens::{Counted, Cut, Quoted};
 use std::alloc::{AllocError, Global};
 use syntax::{Kind, Token, Word};

@@ -5,17 +5,10 @@
 mod arguments;
 mod arrays;
 mod assignments;
-mod causes;
-mod definitions;
 mod duplicates;
-mod grammar;
 mod kinds;
 mod limits;
-mod objects;
-mod operands;
-mod repairs;
 mod sentence;
-mod tokens;
 mod unknown;
 mod wanted;
 mod weights;

@@ -1,13 +1,12 @@
 //! Too many of something (E24, E29). The tokens are those of a program.
 
-use crate::definitions::{Defined, Definition};
 use crate::duplicates::is_abbreviation;
-use crate::tokens::ends_within;
 use meaning::limits::{
     MOST_ARGUMENTS, MOST_GLOBALS, MOST_OBJECTS, MOST_PROPERTIES, MOST_PROPERTY_WORDS,
     MOST_TEMPORARIES,
 };
 use meaning::name_words;
+use messages_contexts::{Defined, Definition, ends_within};
 use messages_facts::temporaries_of;
 use messages_tokens::Figure;
 use std::alloc::{AllocError, Global};

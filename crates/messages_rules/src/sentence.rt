@@ -3,15 +3,15 @@
 use crate::arguments::too_many_arguments;
 use crate::arrays::bad_array;
 use crate::assignments::{not_assignable, outside};
-use crate::definitions::around;
 use crate::duplicates::{bad_abbreviation, defined_twice};
-use crate::grammar::{misfit, too_deep};
 use crate::limits::{too_large, too_many};
 use crate::unknown::{no_main, unknown};
 use crate::weights::too_heavy;
 use crate::wrong_kinds::wrong_kind;
 use checker_names::Table;
+use messages_contexts::around;
 use messages_facts::table_of;
+use messages_grammar::{misfit, too_deep};
 use std::alloc::{AllocError, Global};
 use syntax::{Token, lex};
 use syntax_lexer::{

@@ -1,9 +1,8 @@
 //! A name that is not known (E20), and a program without a proper Main (E21).
 
-use crate::definitions::first_definition;
 use crate::kinds::kind_of;
-use crate::tokens::{behind, is_sign, line_of};
 use checker_names::{Binding, Table, find};
+use messages_contexts::{behind, first_definition, is_sign, line_of};
 use messages_tokens::{Counted, Figure, Quoted};
 use std::alloc::{AllocError, Global};
 use syntax::{Kind, Sign, Token};

@@ -1,8 +1,9 @@
 //! What is wanted in the place of a name (E23). The tokens are those of a program.
 
-use crate::objects::{is_behind_has, is_parent, is_property};
-use crate::operands::{begins_expression, ends_operand, is_step, owns_parentheses};
-use crate::tokens::{before, behind, divides_at, is_after_word, is_sign, is_word, kind_at};
+use messages_contexts::{
+    before, begins_expression, behind, divides_at, ends_operand, is_after_word, is_behind_has,
+    is_parent, is_property, is_sign, is_step, is_word, kind_at, owns_parentheses,
+};
 use syntax::{Kind, Sign, Token, Word};
 
 const ARRAY: &str = "an array";

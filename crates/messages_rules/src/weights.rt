@@ -1,7 +1,7 @@
 //! A routine that weighs too much (E32), in the parser's weights.
 
-use crate::tokens::{before, is_sign, kind_at};
 use meaning::limits::GREATEST_ROUTINE_WEIGHT;
+use messages_contexts::{before, is_sign, kind_at};
 use messages_tokens::{Figure, Quoted};
 use std::alloc::{AllocError, Global};
 use syntax::{Kind, Sign, Token};

@@ -1,10 +1,9 @@
 //! A name of the wrong kind (E23): what it is, and what is wanted where it stands.
 
-use crate::definitions::{Defined, Definition, binding_in};
 use crate::kinds::{array_kind, is_variable, kind_of};
-use crate::objects::{may_lack_comma, may_lack_has};
 use crate::wanted::{CONSTANT, is_read, wanted_in_object, wanted_in_statement};
 use checker_names::{Binding, Table};
+use messages_contexts::{Defined, Definition, binding_in, may_lack_comma, may_lack_has};
 use messages_tokens::Quoted;
 use std::alloc::{AllocError, Global};
 use syntax::{ArrayKind, Token};

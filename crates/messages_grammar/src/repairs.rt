@@ -1,6 +1,6 @@
 //! Changes at a token that does not fit, which are tried with the parser.
 
-use crate::tokens::{is_sign, kind_at};
+use messages_contexts::{is_sign, kind_at};
 use messages_facts::reach;
 use std::alloc::{AllocError, Global};
 use syntax::{Kind, Sign, Token};

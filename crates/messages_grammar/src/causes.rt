@@ -1,12 +1,9 @@
 //! What may be the cause of a token that does not fit.
 
-use crate::definitions::{Definition, around};
-use crate::objects::is_behind_has;
-use crate::operands::owns_parentheses;
 use crate::repairs::{end_of_routine_helps, fits_after_semicolon, name_helps, sign_helps};
-use crate::tokens::{
-    before, behind, ends_within, is_after_word, is_name, is_named, is_sign, is_text, is_word,
-    kind_at, line_of,
+use messages_contexts::{
+    Definition, around, before, behind, ends_within, is_after_word, is_behind_has, is_name,
+    is_named, is_sign, is_text, is_word, kind_at, line_of, owns_parentheses,
 };
 use std::alloc::{AllocError, Global};
 use syntax::{Kind, Sign, Token, Word};

@@ -1,0 +1,20 @@
+//! Where a token is: what is before and after it, the definition or the object around it, and the
+//! operands beside it. All of it is read from the tokens.
+#![tactic(auto)]
+
+mod definitions;
+mod objects;
+mod operands;
+mod tokens;
+
+pub use definitions::{
+    Defined, Definition, around, binding_in, defined_at, first_definition, first_local,
+};
+pub use objects::{
+    first_given, is_behind_has, is_parent, is_property, may_lack_comma, may_lack_has,
+};
+pub use operands::{begins_expression, ends_operand, is_step, owns_parentheses};
+pub use tokens::{
+    before, behind, divides_at, ends_within, is_after_word, is_name, is_named, is_sign, is_text,
+    is_word, kind_at, line_of,
+};
