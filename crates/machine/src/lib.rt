@@ -7,5 +7,5 @@ mod turn;
 
 pub use load::LoadFault;
 pub use machine_frames::Store;
-pub use turn::Machine;
+pub use turn::{Machine, end, go_quickly, keep_stack};
 pub use zcore::{Fault, Limit, Place};

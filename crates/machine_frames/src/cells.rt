@@ -2,12 +2,13 @@
 
 ghost use Rattle.std.specs.Prelude.{◌≡◌, ◌<◌, ◌≤◌, ◌+◌, length, slice_index, OnOk, OnErr};
 ghost use Rattle.machine_frames.specs.Layout.{words_before_memory};
-ghost use Rattle.machine_frames.specs.States.{long_at, two_cells, program_counter_of, IsSound};
-ghost use Rattle.machine_frames.specs.Went.{Abandons, GivenUp, KeepsCounter, Puts};
+ghost use Rattle.machine_frames.specs.States.{long_at, two_cells, program_counter_of, beside_of, IsSound};
+ghost use Rattle.machine_frames.specs.Went.{Abandons, GivenUp, KeepsBeside, KeepsCounter, Puts};
 
-use crate::layout::PROGRAM_COUNTER;
+use crate::layout::{COUNTER, INTERVAL, PROGRAM_COUNTER, RANDOM, WINDOW};
 use crate::store::Store;
 use journal::{Cells, NoMemory, Recorded};
+use zcore::Beside;
 
 /// The value of a cell before dynamic memory.
 #[inline(always)]
@@ -83,5 +84,42 @@ pub fn set_program_counter(
     ensures given_up { OnErr result (GivenUp store.old store.new) }
 {
     put_long(store, PROGRAM_COUNTER, program_counter)?;
+    Ok(())
+}
+
+/// What is kept beside the state, in its registers.
+pub fn beside(store: &Recorded<Store>) -> Beside
+    requires { IsSound store.now.store }
+    ensures { result ≡ beside_of (slice_index store.now.store.cells) }
+{
+    Beside {
+        window: cell(store, WINDOW),
+        random: long(store, RANDOM),
+        interval: cell(store, INTERVAL),
+        counter: cell(store, COUNTER),
+    }
+}
+
+/// Keeps this beside the state in its registers, at the end of a turn. Where they hold it already
+/// nothing is written.
+///
+/// # Errors
+///
+/// Memory was refused.
+pub fn set_beside(store: &mut Recorded<Store>, kept: Beside) -> Result<(), NoMemory>
+    requires { IsSound store.old.store }
+    ensures kept { OnOk result (KeepsBeside store.old store.new kept) }
+    ensures given_up { OnErr result (GivenUp store.old store.new) }
+{
+    if beside(store) == kept {
+        return Ok(());
+    }
+    let high = (kept.random / 65_536) as u16;
+    let low = (kept.random % 65_536) as u16;
+    put_all(
+        store,
+        WINDOW,
+        &[kept.window, high, low, kept.interval, kept.counter],
+    )?;
     Ok(())
 }

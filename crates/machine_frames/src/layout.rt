@@ -25,6 +25,19 @@ pub const RESULT_VARIABLE: usize = 8;
 /// Where the machine goes on with the line (two cells).
 pub const RETURN_ADDRESS: usize = 9;
 
+/// What is kept beside the state between turns: the window, the 32 bits of the dice (two cells), the
+/// range that they count, and the number that comes next in it.
+pub const WINDOW: usize = 11;
+
+/// The 32 bits of the dice (two cells).
+pub const RANDOM: usize = 12;
+
+/// The range that the dice count.
+pub const INTERVAL: usize = 14;
+
+/// The number that comes next in it.
+pub const COUNTER: usize = 15;
+
 /// The first frame record.
 pub const RECORDS: usize = 16;
 

@@ -17,7 +17,7 @@ pub use calls::{
     enter, has_argument, is_code, leave, test_calls, test_return, test_routine, variable_cell,
     variable_in,
 };
-pub use cells::{cell, long, program_counter, put_all, set_program_counter};
+pub use cells::{beside, cell, long, program_counter, put_all, set_beside, set_program_counter};
 pub use end::End;
 pub use memory::{
     is_readable, is_readable_word, is_writable, is_writable_word, read_byte, read_word, write_byte,

@@ -8,7 +8,10 @@ mod inside;
 mod instruction;
 mod perform;
 
-pub use decode::{LARGE, OMITTED, SMALL, TYPES, VARIABLE, byte_operand, far_jump};
+pub use decode::{
+    LARGE, OMITTED, OPERANDS, SMALL, TYPES, VARIABLE, byte_operand, far_jump, read_byte, read_each,
+    read_types,
+};
 pub use inside::{branch_inside, branching_inside, result_inside};
-pub use instruction::step;
+pub use instruction::{operand_values, step};
 pub use perform::{condition_of, word_of};

@@ -2,7 +2,7 @@
 use Rattle.std.proofs.Common.{Option, None, Some, ◌≡◌, ℕ, zero, suc, ◌+◌, ◌<◌, Bool, true, false, List, [], ◌∷◌, ◌++◌}
 use Rattle.std.proofs.Common.{length, get_or, take, refl, ap, sym, ◌∙◌, subst, arith, if◌then◌else◌, add-one}
 use Rattle.std.proofs.lemmas.List.{get_or_default}
-use Rattle.zcore.specs.Turn.{Whole, opening, turn_on, is_waiting, entries, plays_from, plays, last_text, last_place}
+use Rattle.zcore.specs.Turn.{StateOfPlay, Whole, Play, is_waiting, entries, follow, plays_of, last_text, last_place}
 
 front_next : (o : Option Whole) (f g : Whole → List Whole) (n k : ℕ)
     → ((v : Whole) → length (g v) ≡ n + k → f v ≡ take n (g v)) → length (entries o g) ≡ suc n + k
@@ -15,25 +15,25 @@ front_turn : (b : Bool) (x y : List Whole) (n k : ℕ) → (length y ≡ suc n +
 front_turn true x y n k ih e = ih e
 front_turn false x y n k ih e = absurd (omega arith)
 
-front_from : (fuel : ℕ) (xs ys : List (List ℕ)) (w : Whole)
-    → length (plays_from fuel w (xs ++ ys)) ≡ length xs + length ys
-    → plays_from fuel w xs ≡ take (length xs) (plays_from fuel w (xs ++ ys))
-front_from fuel [] ys w e = refl
-front_from fuel (x ∷ xs) ys w e =
-    let o = turn_on x fuel w.state in
-    front_turn (is_waiting w.place) (entries o (λ v. plays_from fuel v xs))
-    (entries o (λ v. plays_from fuel v (xs ++ ys))) (length xs) (length ys)
-    (front_next o (λ v. plays_from fuel v xs) (λ v. plays_from fuel v (xs ++ ys)) (length xs) (length ys)
-    (λ v. front_from fuel xs ys v)) e
+front_from : (turn : List ℕ → StateOfPlay → Option Whole) (xs ys : List (List ℕ)) (w : Whole)
+    → length (follow turn w (xs ++ ys)) ≡ length xs + length ys
+    → follow turn w xs ≡ take (length xs) (follow turn w (xs ++ ys))
+front_from turn [] ys w e = refl
+front_from turn (x ∷ xs) ys w e =
+    let o = turn x w.state in
+    front_turn (is_waiting w.place) (entries o (λ v. follow turn v xs))
+    (entries o (λ v. follow turn v (xs ++ ys))) (length xs) (length ys)
+    (front_next o (λ v. follow turn v xs) (λ v. follow turn v (xs ++ ys)) (length xs) (length ys)
+    (λ v. front_from turn xs ys v)) e
 
 -- the front of the lines leads to the front of the whole states
-pub plays_front : (story : List ℕ) (fuel : ℕ) (xs ys : List (List ℕ))
-    → length (plays story fuel (xs ++ ys)) ≡ length xs + length ys + 1
-    → plays story fuel xs ≡ take (length xs + 1) (plays story fuel (xs ++ ys))
-plays_front story fuel xs ys e =
-    front_next (opening story fuel) (λ w. plays_from fuel w xs) (λ w. plays_from fuel w (xs ++ ys)) (length xs)
-    (length ys) (λ v. front_from fuel xs ys v) (omega arith)
-    ∙ ap (λ n. take n (plays story fuel (xs ++ ys))) (sym (add-one (length xs)))
+pub plays_front : (play : Play) (xs ys : List (List ℕ))
+    → length (plays_of play (xs ++ ys)) ≡ length xs + length ys + 1
+    → plays_of play xs ≡ take (length xs + 1) (plays_of play (xs ++ ys))
+plays_front play xs ys e =
+    front_next (play.opening) (λ w. follow play.turn_on w xs) (λ w. follow play.turn_on w (xs ++ ys)) (length xs)
+    (length ys) (λ v. front_from play.turn_on xs ys v) (omega arith)
+    ∙ ap (λ n. take n (plays_of play (xs ++ ys))) (sym (add-one (length xs)))
 
 abbrev pub last_of : Whole → List Whole → Whole
 last_of w [] = w
@@ -44,9 +44,9 @@ last_at [] k d lt = absurd (omega arith)
 last_at (w ∷ ws) zero d lt = refl
 last_at (w ∷ ws) (suc k) d lt = last_at ws k w (omega arith) ∙ get_or_default ws k w d (omega arith)
 
-more_at : (fuel : ℕ) (l : List ℕ) (w v : Whole) → is_waiting w.place ≡ true → turn_on l fuel w.state ≡ Some v
-    → plays_from fuel w (l ∷ []) ≡ v ∷ []
-more_at fuel l w v e f = ap (λ b. if b then entries (turn_on l fuel w.state) (λ u. []) else []) e
+more_at : (turn : List ℕ → StateOfPlay → Option Whole) (l : List ℕ) (w v : Whole) → is_waiting w.place ≡ true → turn l w.state ≡ Some v
+    → follow turn w (l ∷ []) ≡ v ∷ []
+more_at turn l w v e f = ap (λ b. if b then entries (turn l w.state) (λ u. []) else []) e
     ∙ ap (λ o. entries o (λ u. [])) f
 
 more_next : (o : Option Whole) (f g : Whole → List Whole) (n : ℕ) (v w : Whole)
@@ -62,25 +62,25 @@ more_turn : (b : Bool) (x y : List Whole) (n : ℕ) (v w d : Whole)
 more_turn true x y n v w d ih e h = ih e h
 more_turn false x y n v w d ih e h = absurd (omega arith)
 
-more_from : (fuel : ℕ) (l : List ℕ) (v w : Whole) → is_waiting w.place ≡ true → turn_on l fuel w.state ≡ Some v
-    → (xs : List (List ℕ)) (d : Whole) → length (plays_from fuel d xs) ≡ length xs
-    → last_of d (plays_from fuel d xs) ≡ w → plays_from fuel d (xs ++ l ∷ []) ≡ plays_from fuel d xs ++ v ∷ []
-more_from fuel l v w wait turn [] d e h = subst (λ u. plays_from fuel u (l ∷ []) ≡ v ∷ []) (sym h)
-    (more_at fuel l w v wait turn)
-more_from fuel l v w wait turn (x ∷ xs) d e h =
-    let o = turn_on x fuel d.state in
-    more_turn (is_waiting d.place) (entries o (λ u. plays_from fuel u xs))
-    (entries o (λ u. plays_from fuel u (xs ++ l ∷ []))) (length xs) v w d
-    (more_next o (λ u. plays_from fuel u xs) (λ u. plays_from fuel u (xs ++ l ∷ [])) (length xs) v w
-    (λ u. more_from fuel l v w wait turn xs u) d) e h
+more_from : (turn : List ℕ → StateOfPlay → Option Whole) (l : List ℕ) (v w : Whole) → is_waiting w.place ≡ true → turn l w.state ≡ Some v
+    → (xs : List (List ℕ)) (d : Whole) → length (follow turn d xs) ≡ length xs
+    → last_of d (follow turn d xs) ≡ w → follow turn d (xs ++ l ∷ []) ≡ follow turn d xs ++ v ∷ []
+more_from turn l v w wait now [] d e h = subst (λ u. follow turn u (l ∷ []) ≡ v ∷ []) (sym h)
+    (more_at turn l w v wait now)
+more_from turn l v w wait now (x ∷ xs) d e h =
+    let o = turn x d.state in
+    more_turn (is_waiting d.place) (entries o (λ u. follow turn u xs))
+    (entries o (λ u. follow turn u (xs ++ l ∷ []))) (length xs) v w d
+    (more_next o (λ u. follow turn u xs) (λ u. follow turn u (xs ++ l ∷ [])) (length xs) v w
+    (λ u. more_from turn l v w wait now xs u) d) e h
 
 -- one line more leads to one whole state more
-pub plays_more : (story : List ℕ) (fuel : ℕ) (xs : List (List ℕ)) (l : List ℕ) (d v w : Whole)
-    → length (plays story fuel xs) ≡ length xs + 1 → last_of d (plays story fuel xs) ≡ w → is_waiting w.place ≡ true
-    → turn_on l fuel w.state ≡ Some v → plays story fuel (xs ++ l ∷ []) ≡ plays story fuel xs ++ v ∷ []
-plays_more story fuel xs l d v w e h wait turn =
-    more_next (opening story fuel) (λ u. plays_from fuel u xs) (λ u. plays_from fuel u (xs ++ l ∷ [])) (length xs) v
-    w (λ u. more_from fuel l v w wait turn xs u) d (omega arith) h
+pub plays_more : (play : Play) (xs : List (List ℕ)) (l : List ℕ) (d v w : Whole)
+    → length (plays_of play xs) ≡ length xs + 1 → last_of d (plays_of play xs) ≡ w → is_waiting w.place ≡ true
+    → play.turn_on l w.state ≡ Some v → plays_of play (xs ++ l ∷ []) ≡ plays_of play xs ++ v ∷ []
+plays_more play xs l d v w e h wait turn =
+    more_next (play.opening) (λ u. follow play.turn_on u xs) (λ u. follow play.turn_on u (xs ++ l ∷ [])) (length xs) v
+    w (λ u. more_from play.turn_on l v w wait turn xs u) d (omega arith) h
 
 pub last_text_at : (ws : List Whole) (k : ℕ) (d : Whole) → k < length ws
     → last_text (take (suc k) ws) ≡ (get_or ws k d).text

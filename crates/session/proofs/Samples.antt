@@ -2,7 +2,7 @@
 use Rattle.std.proofs.Common.{◌≡◌, ℕ, List, [], ◌∷◌, Some, None, true, false, refl}
 use Rattle.std.specs.Prelude.{codes, replicate}
 use Rattle.zcore.specs.declared.place.Place.TheVariants as places
-use Rattle.zcore.specs.Turn.{StateOfPlay, Whole}
+use Rattle.zcore.specs.Turn.{StateOfPlay, Whole, at_rest}
 use Rattle.session.specs.Standing.{nothing, is_typable, undo_of, redo_of, taken, reached}
 use Rattle.session.specs.Session.{Session}
 use Rattle.session.specs.Stepped.{stepped_back, stepped_forward, with_turn, bounded, latest_text}
@@ -86,7 +86,7 @@ all_times = refl
 -- a session that keeps one turn
 
 abbrev state : ℕ → StateOfPlay
-state n = record { memory = []; frames = []; pending = None; program_counter = n }
+state n = record { memory = []; frames = []; pending = None; program_counter = n; beside = at_rest }
 
 abbrev at_start : Session
 at_start = record {

@@ -8,7 +8,7 @@ use Rattle.std.proofs.lemmas.List.{length-take-le, length-drop, get_or-map, get_
 use Rattle.zcore.specs.Header.{static_base_of}
 use Rattle.zcore.specs.declared.place.Place.{Place}
 use Rattle.zcore.specs.declared.place.Place.TheVariants as places
-use Rattle.zcore.specs.Turn.{StateOfPlay, Whole, plays, last_text, last_place}
+use Rattle.zcore.specs.Turn.{StateOfPlay, Whole, Play, plays_of, last_text, last_place, at_rest}
 use Rattle.session.specs.Standing.{Standing, undo_of, undo_from, redo_of, redo_from, reached}
 use Rattle.session.specs.Session.{Session, largest_record}
 use Rattle.session.specs.Stepped.{stepped_back, stepped_forward, without_oldest, bounded}
@@ -20,32 +20,32 @@ use Rattle.session.proofs.Plays.{plays_front, last_text_at, last_place_at}
 abbrev pub some_whole : Whole
 some_whole =
     record {
-      state = record { memory = []; frames = []; pending = None; program_counter = 0 };
+      state = record { memory = []; frames = []; pending = None; program_counter = 0; beside = at_rest };
       place = places.Quit;
       text = [];
     }
 
 -- the entry of the lines done
-unfoldable pub present_of : List ℕ → ℕ → Standing → Whole
-present_of story units s = get_or (plays story units (all_lines s)) (length s.done) some_whole
+unfoldable pub present_of : List ℕ → ℕ → Play → Standing → Whole
+present_of story units play s = get_or (plays_of play (all_lines s)) (length s.done) some_whole
 
 -- a session, but for the bound
-pub record Unbounded (story : List ℕ) (units : ℕ) (s : Standing) (v : Session) : Type 0 where
-  pub whole : length (plays story units (all_lines s)) ≡ length s.done + length s.undone + 1
+pub record Unbounded (story : List ℕ) (units : ℕ) (play : Play) (s : Standing) (v : Session) : Type 0 where
+  pub whole : length (plays_of play (all_lines s)) ≡ length s.done + length s.undone + 1
   pub reach : s.kept ≤ length s.done
   pub fuel : v.fuel ≡ units
   pub static_base : v.static_base ≡ static_base_of story
-  pub opening : v.opening ≡ last_text (plays story units [])
-  pub states : v.states ≡ map (λ (w : Whole). w.state) (reached s (plays story units (all_lines s)))
-  pub places : v.places ≡ map (λ (w : Whole). w.place) (reached s (plays story units (all_lines s)))
-  pub texts : v.texts ≡ map (λ (w : Whole). w.text) (drop 1 (reached s (plays story units (all_lines s))))
+  pub opening : v.opening ≡ last_text (plays_of play [])
+  pub states : v.states ≡ map (λ (w : Whole). w.state) (reached s (plays_of play (all_lines s)))
+  pub places : v.places ≡ map (λ (w : Whole). w.place) (reached s (plays_of play (all_lines s)))
+  pub texts : v.texts ≡ map (λ (w : Whole). w.text) (drop 1 (reached s (plays_of play (all_lines s))))
   pub lines : v.lines ≡ reached s (all_lines s)
   pub records : length v.sizes ≡ s.kept + length s.undone
   pub small : All (λ size. size ≤ largest_record (static_base_of story)) v.sizes
   pub present : v.present ≡ s.kept
 
-pub unbounded : {story : List ℕ} {units : ℕ} {most : Option ℕ} {s : Standing} {v : Session}
-    → IsSession story units most s v → Unbounded story units s v
+pub unbounded : {story : List ℕ} {units : ℕ} {play : Play} {most : Option ℕ} {s : Standing} {v : Session}
+    → IsSession story units play most s v → Unbounded story units play s v
 unbounded h = record {
   whole = h.whole;
   reach = h.reach;
@@ -61,8 +61,8 @@ unbounded h = record {
   present = h.present;
 }
 
-pub with_bound : {story : List ℕ} {units : ℕ} {most : Option ℕ} {s : Standing} {v : Session} → v.keep ≡ most
-    → IfSome most (λ n. s.kept + length s.undone ≤ n) → Unbounded story units s v → IsSession story units most s v
+pub with_bound : {story : List ℕ} {units : ℕ} {play : Play} {most : Option ℕ} {s : Standing} {v : Session} → v.keep ≡ most
+    → IfSome most (λ n. s.kept + length s.undone ≤ n) → Unbounded story units play s v → IsSession story units play most s v
 with_bound keep bound h = record {
   whole = h.whole;
   reach = h.reach;
@@ -88,63 +88,63 @@ reached_at f ws b kept n d e is lt =
     get_or-map f (drop b ws) kept d e (omega (arith, length-drop b ws))
     ∙ ap f (get_or-drop b ws kept d ∙ ap (λ k. get_or ws k d) is)
 
-pub present_state : (story : List ℕ) (units : ℕ) (s : Standing) (v : Session) (e : StateOfPlay)
-    → Unbounded story units s v → get_or v.states v.present e ≡ (present_of story units s).state
+pub present_state : (story : List ℕ) (units : ℕ) (play : Play) (s : Standing) (v : Session) (e : StateOfPlay)
+    → Unbounded story units play s v → get_or v.states v.present e ≡ (present_of story units play s).state
 unfolding present_of
-present_state story units s v e h =
+present_state story units play s v e h =
     ap (λ k. get_or v.states k e) h.present ∙ ap (λ xs. get_or xs s.kept e) h.states
-    ∙ reached_at (λ (w : Whole). w.state) (plays story units (all_lines s)) (length s.done - s.kept) s.kept
+    ∙ reached_at (λ (w : Whole). w.state) (plays_of play (all_lines s)) (length s.done - s.kept) s.kept
     (length s.done) some_whole e (omega (arith, h.reach)) (omega (arith, h.whole))
 
-pub present_place : (story : List ℕ) (units : ℕ) (s : Standing) (v : Session) (e : Place) → Unbounded story units s v
-    → get_or v.places v.present e ≡ (present_of story units s).place
+pub present_place : (story : List ℕ) (units : ℕ) (play : Play) (s : Standing) (v : Session) (e : Place) → Unbounded story units play s v
+    → get_or v.places v.present e ≡ (present_of story units play s).place
 unfolding present_of
-present_place story units s v e h =
+present_place story units play s v e h =
     ap (λ k. get_or v.places k e) h.present ∙ ap (λ xs. get_or xs s.kept e) h.places
-    ∙ reached_at (λ (w : Whole). w.place) (plays story units (all_lines s)) (length s.done - s.kept) s.kept
+    ∙ reached_at (λ (w : Whole). w.place) (plays_of play (all_lines s)) (length s.done - s.kept) s.kept
     (length s.done) some_whole e (omega (arith, h.reach)) (omega (arith, h.whole))
 
-pub done_plays : (story : List ℕ) (units : ℕ) (s : Standing) (v : Session) → Unbounded story units s v
-    → plays story units s.done ≡ take (suc (length s.done)) (plays story units (all_lines s))
-done_plays story units s v h = plays_front story units s.done s.undone h.whole
-    ∙ ap (λ k. take k (plays story units (all_lines s))) (add-one (length s.done))
+pub done_plays : (story : List ℕ) (units : ℕ) (play : Play) (s : Standing) (v : Session) → Unbounded story units play s v
+    → plays_of play s.done ≡ take (suc (length s.done)) (plays_of play (all_lines s))
+done_plays story units play s v h = plays_front play s.done s.undone h.whole
+    ∙ ap (λ k. take k (plays_of play (all_lines s))) (add-one (length s.done))
 
-pub place_is : (story : List ℕ) (units : ℕ) (s : Standing) (v : Session) → Unbounded story units s v
-    → last_place (plays story units s.done) ≡ (present_of story units s).place
+pub place_is : (story : List ℕ) (units : ℕ) (play : Play) (s : Standing) (v : Session) → Unbounded story units play s v
+    → last_place (plays_of play s.done) ≡ (present_of story units play s).place
 unfolding present_of
-place_is story units s v h = ap last_place (done_plays story units s v h)
-    ∙ last_place_at (plays story units (all_lines s)) (length s.done) some_whole (omega (arith, h.whole))
+place_is story units play s v h = ap last_place (done_plays story units play s v h)
+    ∙ last_place_at (plays_of play (all_lines s)) (length s.done) some_whole (omega (arith, h.whole))
 
-pub text_is : (story : List ℕ) (units : ℕ) (s : Standing) (v : Session) → Unbounded story units s v
-    → last_text (plays story units s.done) ≡ (present_of story units s).text
+pub text_is : (story : List ℕ) (units : ℕ) (play : Play) (s : Standing) (v : Session) → Unbounded story units play s v
+    → last_text (plays_of play s.done) ≡ (present_of story units play s).text
 unfolding present_of
-text_is story units s v h = ap last_text (done_plays story units s v h)
-    ∙ last_text_at (plays story units (all_lines s)) (length s.done) some_whole (omega (arith, h.whole))
+text_is story units play s v h = ap last_text (done_plays story units play s v h)
+    ∙ last_text_at (plays_of play (all_lines s)) (length s.done) some_whole (omega (arith, h.whole))
 
 -- the place that a session answers
-pub session_place : (story : List ℕ) (units : ℕ) (most : Option ℕ) (s : Standing) (v : Session) (p : Place)
-    → p ≡ get_or v.places v.present places.Quit → IsSession story units most s v
-    → p ≡ last_place (plays story units s.done)
-session_place story units most s v p e h = e ∙ present_place story units s v places.Quit (unbounded h)
-    ∙ sym (place_is story units s v (unbounded h))
+pub session_place : (story : List ℕ) (units : ℕ) (play : Play) (most : Option ℕ) (s : Standing) (v : Session) (p : Place)
+    → p ≡ get_or v.places v.present places.Quit → IsSession story units play most s v
+    → p ≡ last_place (plays_of play s.done)
+session_place story units play most s v p e h = e ∙ present_place story units play s v places.Quit (unbounded h)
+    ∙ sym (place_is story units play s v (unbounded h))
 
 -- the text of the latest turn that is done
-pub session_text : (story : List ℕ) (units : ℕ) (s : Standing) (v : Session) (k : ℕ) → k + 1 ≡ v.present
-    → Unbounded story units s v → get_or v.texts k [] ≡ last_text (plays story units s.done)
+pub session_text : (story : List ℕ) (units : ℕ) (play : Play) (s : Standing) (v : Session) (k : ℕ) → k + 1 ≡ v.present
+    → Unbounded story units play s v → get_or v.texts k [] ≡ last_text (plays_of play s.done)
 unfolding present_of
-session_text story units s v k e h =
-    let ws = plays story units (all_lines s) in
+session_text story units play s v k e h =
+    let ws = plays_of play (all_lines s) in
     let b = length s.done - s.kept in
     let twice : drop 1 (drop b ws) ≡ drop (b + 1) ws = drop-drop 1 b ws in
     ap (λ xs. get_or xs k []) (h.texts ∙ ap (map (λ (w : Whole). w.text)) twice)
     ∙ reached_at (λ (w : Whole). w.text) ws (b + 1) k (length s.done) some_whole []
     (omega (arith, h.reach, h.present)) (omega (arith, h.whole))
-    ∙ sym (text_is story units s v h)
+    ∙ sym (text_is story units play s v h)
 
 -- how many turns are kept or undone
-pub session_turns : (story : List ℕ) (units : ℕ) (most : Option ℕ) (s : Standing) (v : Session)
-    → IsSession story units most s v → length v.lines ≡ s.kept + length s.undone
-session_turns story units most s v h =
+pub session_turns : (story : List ℕ) (units : ℕ) (play : Play) (most : Option ℕ) (s : Standing) (v : Session)
+    → IsSession story units play most s v → length v.lines ≡ s.kept + length s.undone
+session_turns story units play most s v h =
     ap length h.lines
     ∙ omega (arith, length-drop (length s.done - s.kept) (all_lines s), length-append s.done s.undone, h.reach)
 
@@ -167,74 +167,74 @@ same_reach : {A : Type 0} (f : List (List ℕ) → List A) (s t : Standing) → 
 same_reach f s t lines back = ap (λ n. drop n (f (all_lines s))) (sym back)
     ∙ ap (λ ls. drop (length t.done - t.kept) (f ls)) (sym lines)
 
-moved : (story : List ℕ) (units : ℕ) (most : Option ℕ) (s t : Standing) (v : Session) (present : ℕ)
+moved : (story : List ℕ) (units : ℕ) (play : Play) (most : Option ℕ) (s t : Standing) (v : Session) (present : ℕ)
     → all_lines t ≡ all_lines s → length t.done - t.kept ≡ length s.done - s.kept
     → length t.done + length t.undone ≡ length s.done + length s.undone → t.kept ≤ length t.done
     → t.kept + length t.undone ≡ s.kept + length s.undone → present ≡ t.kept
-    → IsSession story units most s v → IsSession story units most t (record v { present = present })
-moved story units most s t v present lines back long reach bound p h =
+    → IsSession story units play most s v → IsSession story units play most t (record v { present = present })
+moved story units play most s t v present lines back long reach bound p h =
     record {
-      whole = ap (λ ls. length (plays story units ls)) lines ∙ h.whole ∙ ap (λ n. n + 1) (sym long);
+      whole = ap (λ ls. length (plays_of play ls)) lines ∙ h.whole ∙ ap (λ n. n + 1) (sym long);
       reach = reach;
       bound = subst (λ k. IfSome most (λ n. k ≤ n)) (sym bound) h.bound;
       keep = h.keep;
       fuel = h.fuel;
       static_base = h.static_base;
       opening = h.opening;
-      states = h.states ∙ ap (map (λ (w : Whole). w.state)) (same_reach (plays story units) s t lines back);
-      places = h.places ∙ ap (map (λ (w : Whole). w.place)) (same_reach (plays story units) s t lines back);
+      states = h.states ∙ ap (map (λ (w : Whole). w.state)) (same_reach (plays_of play) s t lines back);
+      places = h.places ∙ ap (map (λ (w : Whole). w.place)) (same_reach (plays_of play) s t lines back);
       texts = h.texts ∙ ap (λ ws. map (λ (w : Whole). w.text) (drop 1 ws))
-          (same_reach (plays story units) s t lines back);
+          (same_reach (plays_of play) s t lines back);
       lines = h.lines ∙ same_reach (λ ls. ls) s t lines back;
       records = h.records ∙ sym bound;
       small = h.small;
       present = p;
     }
 
-undo_by : (story : List ℕ) (units : ℕ) (most : Option ℕ) (done undone : List (List ℕ)) (kept : ℕ) (v : Session)
-    → IsSession story units most (record { done = done; undone = undone; kept = kept }) v
-    → IsSession story units most (undo_from kept (record { done = done; undone = undone; kept = kept }))
+undo_by : (story : List ℕ) (units : ℕ) (play : Play) (most : Option ℕ) (done undone : List (List ℕ)) (kept : ℕ) (v : Session)
+    → IsSession story units play most (record { done = done; undone = undone; kept = kept }) v
+    → IsSession story units play most (undo_from kept (record { done = done; undone = undone; kept = kept }))
     (stepped_back v)
-undo_by story units most done undone zero v h = subst
-    (IsSession story units most (record { done = done; undone = undone; kept = 0 })) (back_none v h.present) h
-undo_by story units most done undone (suc kept) v h =
+undo_by story units play most done undone zero v h = subst
+    (IsSession story units play most (record { done = done; undone = undone; kept = 0 })) (back_none v h.present) h
+undo_by story units play most done undone (suc kept) v h =
     let n = length done - 1 in
     let front : length (take n done) ≡ n = length-take-le n done (omega arith) in
     let rest : length (drop n done) ≡ length done - n = length-drop n done in
     let both : length (drop n done ++ undone) ≡ length (drop n done) + length undone = length-append (drop n done)
     undone in
     let some = h.reach in
-    moved story units most (record { done = done; undone = undone; kept = suc kept })
+    moved story units play most (record { done = done; undone = undone; kept = suc kept })
     (record { done = take n done; undone = drop n done ++ undone; kept = kept }) v (v.present - 1)
     (sym (append_assoc (take n done) (drop n done) undone) ∙ ap (λ x. x ++ undone) (take-append-drop n done))
     (omega arith) (omega arith) (omega arith) (omega arith) (omega (arith, h.present)) h
 
-pub session_undo : (story : List ℕ) (units : ℕ) (most : Option ℕ) (s : Standing) (v : Session)
-    → IsSession story units most s v → IsSession story units most (undo_of s) (stepped_back v)
-session_undo story units most s v h = undo_by story units most s.done s.undone s.kept v h
+pub session_undo : (story : List ℕ) (units : ℕ) (play : Play) (most : Option ℕ) (s : Standing) (v : Session)
+    → IsSession story units play most s v → IsSession story units play most (undo_of s) (stepped_back v)
+session_undo story units play most s v h = undo_by story units play most s.done s.undone s.kept v h
 
-redo_by : (story : List ℕ) (units : ℕ) (most : Option ℕ) (done undone : List (List ℕ)) (kept : ℕ) (v : Session)
-    → IsSession story units most (record { done = done; undone = undone; kept = kept }) v
-    → IsSession story units most (redo_from undone (record { done = done; undone = undone; kept = kept }))
+redo_by : (story : List ℕ) (units : ℕ) (play : Play) (most : Option ℕ) (done undone : List (List ℕ)) (kept : ℕ) (v : Session)
+    → IsSession story units play most (record { done = done; undone = undone; kept = kept }) v
+    → IsSession story units play most (redo_from undone (record { done = done; undone = undone; kept = kept }))
     (stepped_forward v)
-redo_by story units most done [] kept v h =
-    let turns = session_turns story units most (record { done = done; undone = []; kept = kept }) v h in
-    subst (IsSession story units most (record { done = done; undone = []; kept = kept }))
+redo_by story units play most done [] kept v h =
+    let turns = session_turns story units play most (record { done = done; undone = []; kept = kept }) v h in
+    subst (IsSession story units play most (record { done = done; undone = []; kept = kept }))
     (forward_none v (omega (arith, h.present))) h
-redo_by story units most done (line ∷ lines) kept v h =
+redo_by story units play most done (line ∷ lines) kept v h =
     let more = length-append done (line ∷ []) in
     let some = h.reach in
-    let turns = session_turns story units most (record { done = done; undone = line ∷ lines; kept = kept }) v h in
-    subst (IsSession story units most (record { done = done ++ line ∷ []; undone = lines; kept = kept + 1 }))
+    let turns = session_turns story units play most (record { done = done; undone = line ∷ lines; kept = kept }) v h in
+    subst (IsSession story units play most (record { done = done ++ line ∷ []; undone = lines; kept = kept + 1 }))
     (forward_some v (omega (arith, h.present)))
-    (moved story units most (record { done = done; undone = line ∷ lines; kept = kept })
+    (moved story units play most (record { done = done; undone = line ∷ lines; kept = kept })
     (record { done = done ++ line ∷ []; undone = lines; kept = kept + 1 }) v (v.present + 1)
     (append_assoc done (line ∷ []) lines)
     (omega arith) (omega arith) (omega arith) (omega arith) (omega (arith, h.present)) h)
 
-pub session_redo : (story : List ℕ) (units : ℕ) (most : Option ℕ) (s : Standing) (v : Session)
-    → IsSession story units most s v → IsSession story units most (redo_of s) (stepped_forward v)
-session_redo story units most s v h = redo_by story units most s.done s.undone s.kept v h
+pub session_redo : (story : List ℕ) (units : ℕ) (play : Play) (most : Option ℕ) (s : Standing) (v : Session)
+    → IsSession story units play most s v → IsSession story units play most (redo_of s) (stepped_forward v)
+session_redo story units play most s v h = redo_by story units play most s.done s.undone s.kept v h
 
 -- Answers that say whether there is a turn
 
@@ -245,21 +245,21 @@ pub found_some : (count : ℕ) → 0 < count → IsTrue true ↔ (0 < count)
 found_some count lt = ((λ t. lt), (λ l. refl))
 
 -- the turns of a session are those kept and those undone
-pub session_undone : (story : List ℕ) (units : ℕ) (most : Option ℕ) (s : Standing) (v : Session) (done count : ℕ)
-    → done ≡ v.present → count ≡ length v.lines → IsSession story units most s v
+pub session_undone : (story : List ℕ) (units : ℕ) (play : Play) (most : Option ℕ) (s : Standing) (v : Session) (done count : ℕ)
+    → done ≡ v.present → count ≡ length v.lines → IsSession story units play most s v
     → (done ≡ s.kept) × (count ≡ s.kept + length s.undone)
-session_undone story units most s v done count d e h = (d ∙ h.present, e ∙ session_turns story units most s v h)
+session_undone story units play most s v done count d e h = (d ∙ h.present, e ∙ session_turns story units play most s v h)
 
 -- the text of a turn that is done again
-pub session_again : (story : List ℕ) (units : ℕ) (most : Option ℕ) (s : Standing) (v : Session) (k : ℕ)
+pub session_again : (story : List ℕ) (units : ℕ) (play : Play) (most : Option ℕ) (s : Standing) (v : Session) (k : ℕ)
     (text : List ℕ) → k ≡ v.present → 0 < length s.undone → text ≡ get_or v.texts k []
-    → IsSession story units most s v
-    → text ≡ last_text (plays story units (redo_of s).done)
-session_again story units most s v k text e some is h =
-    let turns = session_turns story units most s v h in
-    let more = subst (IsSession story units most (redo_of s)) (sym (forward_some v (omega (arith, h.present))))
-    (session_redo story units most s v h) in
-    is ∙ session_text story units (redo_of s) (record v { present = v.present + 1 }) k (ap (λ n. n + 1) e)
+    → IsSession story units play most s v
+    → text ≡ last_text (plays_of play (redo_of s).done)
+session_again story units play most s v k text e some is h =
+    let turns = session_turns story units play most s v h in
+    let more = subst (IsSession story units play most (redo_of s)) (sym (forward_some v (omega (arith, h.present))))
+    (session_redo story units play most s v h) in
+    is ∙ session_text story units play (redo_of s) (record v { present = v.present + 1 }) k (ap (λ n. n + 1) e)
     (unbounded more)
 
 pub size_none : (v : Session) → v.present ≡ 0 → 0 ≡ latest_size v

@@ -9,7 +9,7 @@ use Rattle.std.proofs.lemmas.List.Elements.{All-drop}
 use Rattle.std.proofs.Math.Nat.{eq-or-lt_of_le}
 use Rattle.zcore.specs.Header.{static_base_of}
 use Rattle.zcore.specs.declared.place.Place.TheVariants as places
-use Rattle.zcore.specs.Turn.{Whole, plays, turn_on, is_waiting, last_text, last_place}
+use Rattle.zcore.specs.Turn.{StateOfPlay, Whole, Play, turn_on, plays_of, is_waiting, last_text, last_place}
 use Rattle.session.specs.Standing.{Standing, taken, reached}
 use Rattle.session.specs.Session.{Session, largest_record}
 use Rattle.session.specs.Stepped.{with_turn, without_oldest, bounded, latest_text}
@@ -26,21 +26,21 @@ abbrev longer : List ℕ → Standing → Standing
 longer line s = record { done = s.done ++ line ∷ []; undone = []; kept = s.kept + 1 }
 
 -- the whole states then
-longer_plays : (story : List ℕ) (units : ℕ) (s : Standing) (v : Session) (line : List ℕ) (whole : Whole)
-    → Unbounded story units s v → is_waiting (present_of story units s).place ≡ true
-    → turn_on line units (present_of story units s).state ≡ Some whole
-    → plays story units (all_lines (longer line s)) ≡ take (suc (length s.done)) (plays story units (all_lines s))
+longer_plays : (story : List ℕ) (units : ℕ) (play : Play) (s : Standing) (v : Session) (line : List ℕ) (whole : Whole)
+    → Unbounded story units play s v → is_waiting (present_of story units play s).place ≡ true
+    → play.turn_on line (present_of story units play s).state ≡ Some whole
+    → plays_of play (all_lines (longer line s)) ≡ take (suc (length s.done)) (plays_of play (all_lines s))
     ++ whole ∷ []
 unfolding present_of
-longer_plays story units s v line whole h waits turn =
-    let ws = plays story units (all_lines s) in
+longer_plays story units play s v line whole h waits turn =
+    let ws = plays_of play (all_lines s) in
     let n = length s.done in
-    let front : plays story units s.done ≡ take (suc n) ws = done_plays story units s v h in
+    let front : plays_of play s.done ≡ take (suc n) ws = done_plays story units play s v h in
     let size : length (take (suc n) ws) ≡ suc n = length-take-le (suc n) ws (omega (arith, h.whole)) in
-    let last : last_of some_whole (plays story units s.done) ≡ get_or ws n some_whole = ap (last_of some_whole) front
+    let last : last_of some_whole (plays_of play s.done) ≡ get_or ws n some_whole = ap (last_of some_whole) front
     ∙ last_at ws n some_whole (omega (arith, h.whole)) in
-    ap (plays story units) (append-nil (s.done ++ line ∷ []))
-    ∙ plays_more story units s.done line some_whole whole (get_or ws n some_whole)
+    ap (plays_of play) (append-nil (s.done ++ line ∷ []))
+    ∙ plays_more play s.done line some_whole whole (get_or ws n some_whole)
     (ap length front ∙ size ∙ sym (add-one n)) last waits turn
     ∙ ap (λ xs. xs ++ whole ∷ []) front
 
@@ -57,12 +57,12 @@ reached_map f xs ws p kept x e is =
     ap (λ ys. take p ys ++ f x ∷ []) e ∙ ap (λ k. take k (map f ws) ++ f x ∷ []) is
     ∙ ap (λ ys. ys ++ f x ∷ []) (take-map f kept ws) ∙ sym (map_push f (take kept ws) x)
 
-pub session_longer : (story : List ℕ) (units : ℕ) (s : Standing) (v : Session) (line : List ℕ) (size : ℕ)
-    (whole : Whole) → Unbounded story units s v → is_waiting (present_of story units s).place ≡ true
-    → turn_on line units (present_of story units s).state ≡ Some whole → size ≤ largest_record (static_base_of story)
-    → Unbounded story units (longer line s) (with_turn line size whole v)
-session_longer story units s v line size whole h waits turn small =
-    let ws = plays story units (all_lines s) in
+pub session_longer : (story : List ℕ) (units : ℕ) (play : Play) (s : Standing) (v : Session) (line : List ℕ) (size : ℕ)
+    (whole : Whole) → Unbounded story units play s v → is_waiting (present_of story units play s).place ≡ true
+    → play.turn_on line (present_of story units play s).state ≡ Some whole → size ≤ largest_record (static_base_of story)
+    → Unbounded story units play (longer line s) (with_turn line size whole v)
+session_longer story units play s v line size whole h waits turn small =
+    let ws = plays_of play (all_lines s) in
     let n = length s.done in
     let b = n - s.kept in
     let more : length (s.done ++ line ∷ []) ≡ n + 1 = length-append s.done (line ∷ []) in
@@ -70,17 +70,17 @@ session_longer story units s v line size whole h waits turn small =
     let split : b + (s.kept + 1) ≡ suc n = omega arith in
     let le : suc n ≤ length ws = omega (arith, h.whole) in
     let long : length (take (suc n) ws) ≡ suc n = length-take-le (suc n) ws le in
-    let all : plays story units (all_lines (longer line s)) ≡ take (suc n) ws
-    ++ whole ∷ [] = longer_plays story units s v line whole h waits turn in
+    let all : plays_of play (all_lines (longer line s)) ≡ take (suc n) ws
+    ++ whole ∷ [] = longer_plays story units play s v line whole h waits turn in
     let back : length (s.done ++ line ∷ []) - (s.kept + 1) ≡ b = omega arith in
-    let states : reached (longer line s) (plays story units (all_lines (longer line s)))
+    let states : reached (longer line s) (plays_of play (all_lines (longer line s)))
     ≡ take (s.kept + 1) (drop b ws) ++ whole ∷ [] =
-    ap (λ k. drop k (plays story units (all_lines (longer line s)))) back ∙ ap (drop b) all
+    ap (λ k. drop k (plays_of play (all_lines (longer line s)))) back ∙ ap (drop b) all
     ∙ reached_front ws b s.kept n whole split le in
     let wide : length (take (s.kept + 1) (drop b ws))
     ≡ s.kept + 1 = length-take-le (s.kept + 1) (drop b ws) (omega (arith, length-drop b ws)) in
     let one : 1 + s.kept ≡ s.kept + 1 = omega arith in
-    let texts : drop 1 (reached (longer line s) (plays story units (all_lines (longer line s))))
+    let texts : drop 1 (reached (longer line s) (plays_of play (all_lines (longer line s))))
     ≡ take s.kept (drop 1 (drop b ws)) ++ whole ∷ [] =
     ap (drop 1) states ∙ drop-append-le 1 (take (s.kept + 1) (drop b ws)) (whole ∷ []) (omega arith)
     ∙ ap (λ k. drop 1 (take k (drop b ws)) ++ whole ∷ []) (sym one)
@@ -118,10 +118,10 @@ session_longer story units s v line size whole h waits turn small =
     }
 
 -- the oldest turn is given up
-pub session_older : (story : List ℕ) (units : ℕ) (s : Standing) (v : Session) (kept : ℕ) → kept + 1 ≡ s.kept
-    → Unbounded story units s v → Unbounded story units (record s { kept = kept }) (without_oldest v)
-session_older story units s v kept e h =
-    let ws = plays story units (all_lines s) in
+pub session_older : (story : List ℕ) (units : ℕ) (play : Play) (s : Standing) (v : Session) (kept : ℕ) → kept + 1 ≡ s.kept
+    → Unbounded story units play s v → Unbounded story units play (record s { kept = kept }) (without_oldest v)
+session_older story units play s v kept e h =
+    let ws = plays_of play (all_lines s) in
     let b = length s.done - s.kept in
     let reach = h.reach in
     let back : b + 1 ≡ length s.done - kept = omega arith in
@@ -145,9 +145,9 @@ session_older story units s v kept e h =
     }
 
 -- the session and the text that is lent, under a bound
-pub record IsTaken (story : List ℕ) (units : ℕ) (most : Option ℕ) (line : List ℕ) (s : Standing) (v : Session)
+pub record IsTaken (story : List ℕ) (units : ℕ) (play : Play) (most : Option ℕ) (line : List ℕ) (s : Standing) (v : Session)
     (text : List ℕ) : Type 0 where
-  pub session : IsSession story units most (taken most line s) v
+  pub session : IsSession story units play most (taken most line s) v
   pub lent : latest_text v ≡ text
 
 -- the text of the turn of the line
@@ -156,31 +156,31 @@ longer_text : (v : Session) (line : List ℕ) (size : ℕ) (whole : Whole) → v
 longer_text v line size whole le = get_or_push (take v.present v.texts) whole.text [] v.present
     (length-take-le v.present v.texts le)
 
-taken_free : (story : List ℕ) (units : ℕ) (line : List ℕ) (s : Standing) (v : Session) (size : ℕ) (whole : Whole)
-    → v.keep ≡ None → v.present ≤ length v.texts → Unbounded story units (longer line s) (with_turn line size whole v)
-    → IsTaken story units None line s (bounded (with_turn line size whole v)) whole.text
-taken_free story units line s v size whole keep le h =
+taken_free : (story : List ℕ) (units : ℕ) (play : Play) (line : List ℕ) (s : Standing) (v : Session) (size : ℕ) (whole : Whole)
+    → v.keep ≡ None → v.present ≤ length v.texts → Unbounded story units play (longer line s) (with_turn line size whole v)
+    → IsTaken story units play None line s (bounded (with_turn line size whole v)) whole.text
+taken_free story units play line s v size whole keep le h =
     let w : Session = with_turn line size whole v in
-    let result : IsTaken story units None line s w whole.text = record {
+    let result : IsTaken story units play None line s w whole.text = record {
       session = with_bound keep tt h;
       lent = sym (text_some w v.present refl) ∙ longer_text v line size whole le;
     } in
-    subst (λ x. IsTaken story units None line s x whole.text) (bound_none w keep) result
+    subst (λ x. IsTaken story units play None line s x whole.text) (bound_none w keep) result
 
-taken_within : (story : List ℕ) (units n : ℕ) (line : List ℕ) (s : Standing) (v : Session) (size : ℕ) (whole : Whole)
+taken_within : (story : List ℕ) (units : ℕ) (play : Play) (n : ℕ) (line : List ℕ) (s : Standing) (v : Session) (size : ℕ) (whole : Whole)
     → v.keep ≡ Some n → v.present ≡ s.kept → s.kept + 1 ≤ n → v.present ≤ length v.texts
-    → Unbounded story units (longer line s) (with_turn line size whole v)
-    → IsTaken story units (Some n) line s (bounded (with_turn line size whole v)) whole.text
-taken_within story units n line s v size whole keep p room le h =
+    → Unbounded story units play (longer line s) (with_turn line size whole v)
+    → IsTaken story units play (Some n) line s (bounded (with_turn line size whole v)) whole.text
+taken_within story units play n line s v size whole keep p room le h =
     let w : Session = with_turn line size whole v in
     let least : min (s.kept + 1) n ≡ s.kept + 1 = omega arith in
-    let result : IsTaken story units (Some n) line s w whole.text = record {
+    let result : IsTaken story units play (Some n) line s w whole.text = record {
       session = subst
-          (λ k. IsSession story units (Some n) (record { done = s.done ++ line ∷ []; undone = []; kept = k }) w)
+          (λ k. IsSession story units play (Some n) (record { done = s.done ++ line ∷ []; undone = []; kept = k }) w)
           (sym least) (with_bound keep (omega arith) h);
       lent = sym (text_some w v.present refl) ∙ longer_text v line size whole le;
     } in
-    subst (λ x. IsTaken story units (Some n) line s x whole.text) (bound_under w n keep (omega arith)) result
+    subst (λ x. IsTaken story units play (Some n) line s x whole.text) (bound_under w n keep (omega arith)) result
 
 -- where the oldest turn goes, the text is that of the turn before it, or it is the one that goes
 older_text : (v : Session) (present : ℕ) (text : List ℕ) → v.present ≡ present + 1 → get_or v.texts present [] ≡ text
@@ -193,39 +193,39 @@ older_text v (suc k) text p e =
     let at : 1 + k ≡ suc k = omega arith in
     sym (text_some (without_oldest v) k some) ∙ get_or-drop 1 v.texts k [] ∙ ap (λ n. get_or v.texts n []) at ∙ e
 
-taken_over : (story : List ℕ) (units n : ℕ) (line : List ℕ) (s : Standing) (v : Session) (size : ℕ) (whole : Whole)
+taken_over : (story : List ℕ) (units : ℕ) (play : Play) (n : ℕ) (line : List ℕ) (s : Standing) (v : Session) (size : ℕ) (whole : Whole)
     → v.keep ≡ Some n → v.present ≡ s.kept → s.kept ≡ n → v.present ≤ length v.texts
-    → Unbounded story units (longer line s) (with_turn line size whole v)
-    → IsTaken story units (Some n) line s (bounded (with_turn line size whole v)) whole.text
-taken_over story units n line s v size whole keep p full le h =
+    → Unbounded story units play (longer line s) (with_turn line size whole v)
+    → IsTaken story units play (Some n) line s (bounded (with_turn line size whole v)) whole.text
+taken_over story units play n line s v size whole keep p full le h =
     let w : Session = with_turn line size whole v in
     let least : min (s.kept + 1) n ≡ s.kept = omega arith in
-    let result : IsTaken story units (Some n) line s (without_oldest w) whole.text = record {
+    let result : IsTaken story units play (Some n) line s (without_oldest w) whole.text = record {
       session = subst
-          (λ k. IsSession story units (Some n) (record { done = s.done ++ line ∷ []; undone = []; kept = k })
+          (λ k. IsSession story units play (Some n) (record { done = s.done ++ line ∷ []; undone = []; kept = k })
           (without_oldest w)) (sym least)
-          (with_bound keep (omega arith) (session_older story units (longer line s) w s.kept refl h));
+          (with_bound keep (omega arith) (session_older story units play (longer line s) w s.kept refl h));
       lent = older_text w v.present whole.text refl (longer_text v line size whole le);
     } in
-    subst (λ x. IsTaken story units (Some n) line s x whole.text) (bound_over w n keep (omega arith)) result
+    subst (λ x. IsTaken story units play (Some n) line s x whole.text) (bound_over w n keep (omega arith)) result
 
-taken_by : (story : List ℕ) (units : ℕ) (most : Option ℕ) (line : List ℕ) (s : Standing) (v : Session) (size : ℕ)
+taken_by : (story : List ℕ) (units : ℕ) (play : Play) (most : Option ℕ) (line : List ℕ) (s : Standing) (v : Session) (size : ℕ)
     (whole : Whole) → v.keep ≡ most → IfSome most (λ n. s.kept + length s.undone ≤ n) → v.present ≡ s.kept
     → v.present ≤ length v.texts
-    → Unbounded story units (longer line s) (with_turn line size whole v)
-    → IsTaken story units most line s (bounded (with_turn line size whole v)) whole.text
-taken_by story units None line s v size whole keep bound p le h = taken_free story units line s v size whole keep le h
-taken_by story units (Some n) line s v size whole keep bound p le h =
+    → Unbounded story units play (longer line s) (with_turn line size whole v)
+    → IsTaken story units play most line s (bounded (with_turn line size whole v)) whole.text
+taken_by story units play None line s v size whole keep bound p le h = taken_free story units play line s v size whole keep le h
+taken_by story units play (Some n) line s v size whole keep bound p le h =
     let at : s.kept ≤ n = omega arith in
     elim (eq-or-lt_of_le at) [
-      | inl e ↦ taken_over story units n line s v size whole keep p e le h
-      | inr less ↦ taken_within story units n line s v size whole keep p (omega arith) le h
+      | inl e ↦ taken_over story units play n line s v size whole keep p e le h
+      | inr less ↦ taken_within story units play n line s v size whole keep p (omega arith) le h
     ]
 
-kept_texts : (story : List ℕ) (units : ℕ) (s : Standing) (v : Session) → Unbounded story units s v
+kept_texts : (story : List ℕ) (units : ℕ) (play : Play) (s : Standing) (v : Session) → Unbounded story units play s v
     → v.present ≤ length v.texts
-kept_texts story units s v h =
-    let ws = plays story units (all_lines s) in
+kept_texts story units play s v h =
+    let ws = plays_of play (all_lines s) in
     let b = length s.done - s.kept in
     let size : length v.texts ≡ length (drop 1 (drop b ws)) = ap length h.texts
     ∙ length-map (drop 1 (drop b ws)) (λ (w : Whole). w.text) in
@@ -237,33 +237,35 @@ last_push (v ∷ []) w = refl
 last_push (v ∷ u ∷ us) w = last_push (u ∷ us) w
 
 -- a line that is taken
-pub session_taken : (story : List ℕ) (units : ℕ) (most : Option ℕ) (line : List ℕ) (s : Standing)
-    (v mid new : Session) → IsSession story units most s v → get_or v.places v.present places.Quit ≡ places.Waiting
+pub session_taken : (story : List ℕ) (units : ℕ) (play : Play)
+    → ((l : List ℕ) (p : StateOfPlay) → turn_on l units p ≡ play.turn_on l p) → (most : Option ℕ) (line : List ℕ) (s : Standing)
+    (v mid new : Session) → IsSession story units play most s v → get_or v.places v.present places.Quit ≡ places.Waiting
     → Turned line v mid → new ≡ bounded mid
-    → (is_waiting (last_place (plays story units s.done)) ≡ true)
-    × IsSession story units most (taken most line s) new
-    × (latest_text new ≡ last_text (plays story units (s.done ++ line ∷ [])))
-session_taken story units most line s v mid new h waits t e =
-    let f : Unbounded story units s v = unbounded h in
-    let here : (present_of story units s).place ≡ places.Waiting = sym (present_place story units s v places.Quit f)
+    → (is_waiting (last_place (plays_of play s.done)) ≡ true)
+    × IsSession story units play most (taken most line s) new
+    × (latest_text new ≡ last_text (plays_of play (s.done ++ line ∷ [])))
+session_taken story units play means most line s v mid new h waits t e =
+    let f : Unbounded story units play s v = unbounded h in
+    let here : (present_of story units play s).place ≡ places.Waiting = sym (present_place story units play s v places.Quit f)
     ∙ waits in
-    let waiting : is_waiting (present_of story units s).place ≡ true = ap is_waiting here in
-    let turn : turn_on line units (present_of story units s).state ≡ Some t.whole =
-    sym (ap (λ n. turn_on line n (get_or v.states v.present some_whole.state)) f.fuel
-    ∙ ap (turn_on line units) (present_state story units s v some_whole.state f)) ∙ t.turn some_whole.state in
-    let long = session_longer story units s v line t.size t.whole f waiting turn
+    let waiting : is_waiting (present_of story units play s).place ≡ true = ap is_waiting here in
+    let turn : play.turn_on line (present_of story units play s).state ≡ Some t.whole =
+    sym (means line (present_of story units play s).state)
+    ∙ sym (ap (λ n. turn_on line n (get_or v.states v.present some_whole.state)) f.fuel
+    ∙ ap (turn_on line units) (present_state story units play s v some_whole.state f)) ∙ t.turn some_whole.state in
+    let long = session_longer story units play s v line t.size t.whole f waiting turn
     (omega (arith, t.small, h.static_base)) in
-    let result = taken_by story units most line s v t.size t.whole h.keep h.bound h.present
-    (kept_texts story units s v f) long in
+    let result = taken_by story units play most line s v t.size t.whole h.keep h.bound h.present
+    (kept_texts story units play s v f) long in
     let is : new ≡ bounded (with_turn line t.size t.whole v) = e ∙ ap {A = Session} bounded t.is in
-    let ws = plays story units (all_lines s) in
+    let ws = plays_of play (all_lines s) in
     let n = length s.done in
     let size : length (take (suc n) ws) ≡ suc n = length-take-le (suc n) ws (omega (arith, f.whole)) in
-    let text : last_text (plays story units (s.done ++ line ∷ [])) ≡ t.whole.text =
-    ap (λ ls. last_text (plays story units ls)) (sym (append-nil (s.done ++ line ∷ [])))
-    ∙ ap last_text (longer_plays story units s v line t.whole f waiting turn)
+    let text : last_text (plays_of play (s.done ++ line ∷ [])) ≡ t.whole.text =
+    ap (λ ls. last_text (plays_of play ls)) (sym (append-nil (s.done ++ line ∷ [])))
+    ∙ ap last_text (longer_plays story units play s v line t.whole f waiting turn)
     ∙ last_push (take (suc n) ws) t.whole in (
-      ap is_waiting (place_is story units s v f) ∙ waiting,
-      subst (IsSession story units most (taken most line s)) (sym is) result.session,
+      ap is_waiting (place_is story units play s v f) ∙ waiting,
+      subst (IsSession story units play most (taken most line s)) (sym is) result.session,
       ap {A = Session} latest_text is ∙ result.lent ∙ sym text,
     )

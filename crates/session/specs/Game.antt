@@ -1,6 +1,7 @@
 -- A game: a story as it is played by a session.
 use Rattle.std.specs.Prelude.{ℕ, Option, List}
 use Rattle.zcore.specs.declared.place.Place.{Place}
+use Rattle.zcore.specs.Turn.{by_profile}
 use Rattle.session.specs.Standing.{Standing}
 use Rattle.session.specs.Session.{Session}
 use Rattle.session.specs.Sessions.{IsSession, text_after, place_after}
@@ -31,4 +32,4 @@ telling_of game = record { text = text_on game; place = place_on game }
 
 -- the session plays this game, and these lines stand
 abbrev pub IsSessionOf : Game → Standing → Session → Type 0
-IsSessionOf game s v = IsSession game.story game.fuel game.keep s v
+IsSessionOf game s v = IsSession game.story game.fuel (by_profile game.story game.fuel) game.keep s v

@@ -2,7 +2,7 @@
 use Rattle.std.specs.Prelude.{◌≡◌, ◌++◌, ◌∷◌, [], ℕ, List, true, false, Option, Result, Ok, Err}
 use Rattle.zcore.specs.declared.header.Header.{Header}
 use Rattle.zcore.specs.Header.{Reads}
-use Rattle.zcore.specs.Turn.{is_waiting}
+use Rattle.zcore.specs.Turn.{by_profile, is_waiting}
 use Rattle.machine.specs.Loaded.{Loads}
 use Rattle.session.specs.declared.fault.OpenFault.{OpenFault}
 use Rattle.session.specs.declared.fault.OpenFault.TheVariants as faults
@@ -16,7 +16,7 @@ use Rattle.session.specs.Sessions.{IsSession, InEach, text_after, place_after}
 pub record IsOpened (story : List ℕ) (fuel : ℕ) (keep : Option ℕ) (v : Session) : Type 0 where
   pub header : Header
   pub reads : Reads story (Ok header)
-  pub session : IsSession story fuel keep nothing v
+  pub session : IsSession story fuel (by_profile story fuel) keep nothing v
 
 -- a session at its beginning, or a story that is not loaded, or memory that was refused later
 abbrev pub OpensSession : List ℕ → ℕ → Option ℕ → Result Session OpenFault → Type 0
@@ -38,7 +38,7 @@ RepliesWith story fuel s line replies.NoMemory =
 -- what the session is after a reply: as it was, but for a line that was taken
 abbrev pub After : List ℕ → Reply → Session → Session → Type 0
 After line (replies.Taken text) old new =
-    InEach old (λ story fuel keep s. IsSession story fuel keep (taken keep line s) new)
+    InEach old (λ story fuel keep s. IsSession story fuel (by_profile story fuel) keep (taken keep line s) new)
 After line replies.Refused old new = new ≡ old
 After line replies.Over old new = new ≡ old
 After line replies.NoMemory old new = new ≡ old

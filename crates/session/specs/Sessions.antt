@@ -3,7 +3,7 @@ use Rattle.std.specs.Prelude.{◌≡◌, ◌≤◌, ◌+◌, ℕ, List, [], ◌+
 use Rattle.std.specs.List.{All}
 use Rattle.zcore.specs.Header.{static_base_of}
 use Rattle.zcore.specs.declared.place.Place.{Place}
-use Rattle.zcore.specs.Turn.{Whole, plays, last_text, last_place}
+use Rattle.zcore.specs.Turn.{Whole, Play, by_profile, plays, plays_of, last_text, last_place}
 use Rattle.session.specs.Standing.{Standing, reached}
 use Rattle.session.specs.Session.{Session, largest_record}
 
@@ -21,19 +21,19 @@ all_lines s = s.done ++ s.undone
 
 -- The session holds the whole states of the story on the lines that stand, from the oldest that it keeps on, and is
 -- at that after the lines done.
-pub record IsSession (story : List ℕ) (units : ℕ) (most : Option ℕ) (s : Standing) (v : Session) : Type 0 where
+pub record IsSession (story : List ℕ) (units : ℕ) (play : Play) (most : Option ℕ) (s : Standing) (v : Session) : Type 0 where
   -- each line that stands was given to a waiting machine
-  pub whole : length (plays story units (all_lines s)) ≡ length s.done + length s.undone + 1
+  pub whole : length (plays_of play (all_lines s)) ≡ length s.done + length s.undone + 1
   pub reach : s.kept ≤ length s.done
   pub bound : IfSome most (λ n. s.kept + length s.undone ≤ n)
   pub keep : v.keep ≡ most
   pub fuel : v.fuel ≡ units
   pub static_base : v.static_base ≡ static_base_of story
-  pub opening : v.opening ≡ last_text (plays story units [])
-  pub states : v.states ≡ map (λ (w : Whole). w.state) (reached s (plays story units (all_lines s)))
-  pub places : v.places ≡ map (λ (w : Whole). w.place) (reached s (plays story units (all_lines s)))
+  pub opening : v.opening ≡ last_text (plays_of play [])
+  pub states : v.states ≡ map (λ (w : Whole). w.state) (reached s (plays_of play (all_lines s)))
+  pub places : v.places ≡ map (λ (w : Whole). w.place) (reached s (plays_of play (all_lines s)))
   -- the oldest state has no turn before it
-  pub texts : v.texts ≡ map (λ (w : Whole). w.text) (drop 1 (reached s (plays story units (all_lines s))))
+  pub texts : v.texts ≡ map (λ (w : Whole). w.text) (drop 1 (reached s (plays_of play (all_lines s))))
   pub lines : v.lines ≡ reached s (all_lines s)
   -- there are as many records as turns that can be undone or done again: under a bound, no more than it
   pub records : length v.sizes ≡ s.kept + length s.undone
@@ -44,4 +44,5 @@ pub record IsSession (story : List ℕ) (units : ℕ) (most : Option ℕ) (s : S
 -- P holds of each story, fuel, bound and lines that stand, of which this is the session
 abbrev pub InEach : Session → (List ℕ → ℕ → Option ℕ → Standing → Type 0) → Type 0
 InEach v P =
-    (story : List ℕ) (fuel : ℕ) (keep : Option ℕ) (s : Standing) → IsSession story fuel keep s v → P story fuel keep s
+    (story : List ℕ) (fuel : ℕ) (keep : Option ℕ) (s : Standing) → IsSession story fuel (by_profile story fuel) keep s v
+    → P story fuel keep s

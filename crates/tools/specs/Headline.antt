@@ -9,6 +9,7 @@ use Rattle.meaning.specs.Meaning.{meaning}
 use Rattle.story.specs.Playable.{IsPlayable}
 use Rattle.story.specs.Refused.{Refuses}
 use Rattle.machine.specs.declared.load.LoadFault.TheVariants as loads
+use Rattle.zcore.specs.Turn.{by_profile}
 use Rattle.session.specs.declared.fault.OpenFault.{OpenFault}
 use Rattle.session.specs.declared.fault.OpenFault.TheVariants as opens
 use Rattle.session.specs.Session.{Session}
@@ -37,7 +38,7 @@ pub record PlaysSource (source : List ℕ) (version : Version) (fuel : ℕ) (kee
   pub story : List ℕ
   pub compiled : IsPlayable version source story
   pub ran : Ran (meant_by (resolve_program compiled.tree) fuel) keep io
-      (λ s. IsSession story fuel keep s session) result
+      (λ s. IsSession story fuel (by_profile story fuel) keep s session) result
 
 -- memory was refused while the story was loaded or opened
 abbrev pub WantsMemory : OpenFault → Type 0

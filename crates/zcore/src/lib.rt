@@ -1,6 +1,7 @@
 //! The header of a story file, and the definitions of the machine that runs it.
 #![tactic(auto)]
 
+mod beside;
 mod header;
 mod instruction;
 mod laws;
@@ -9,6 +10,7 @@ mod next;
 mod operations;
 mod place;
 
+pub use beside::Beside;
 pub use header::{Dictionary, Header, HeaderFault, Version};
 pub use instruction::{Branch, Operand, Operation};
 pub use laws::{every_turn_ends, instructions_decode};

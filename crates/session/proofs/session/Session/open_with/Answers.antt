@@ -1,6 +1,6 @@
 use Rattle.std.proofs.Common.{◌≡◌, ℕ, ◌∙◌, ap, sym, subst, refl, drop, length, List, []}
 use Rattle.journal.specs.Recording.{Recording}
-use Rattle.zcore.specs.Turn.{first_state}
+use Rattle.zcore.specs.Turn.{by_profile, first_state}
 use Rattle.machine_frames.specs.Contents.{Contents}
 use Rattle.machine_frames.specs.States.{state_of, IsStoreOf}
 use Rattle.machine_frames.proofs.Steps.{store_after}
@@ -39,7 +39,7 @@ returns-in-Ok-turn c =
     let closed : c.close.new.self.store ≡ c.turn.new.store.store = ap (λ (r : Recording Contents). r.store)
     c.close.ensures.new in
     let session = subst
-    (λ s. IsSession story c.args.fuel c.args.keep nothing
+    (λ s. IsSession story c.args.fuel (by_profile story c.args.fuel) c.args.keep nothing
     (view_of c.args.keep c.args.fuel header c.turn.new.text.items s c.in-Ok-turn.first c.new.result.items 0
     (text_of c.none.result))) (sym closed)
     (session_opened story c.args.fuel c.args.keep header c.new-store.result.store c.turn.new.store.store

@@ -1,6 +1,7 @@
 use Rattle.std.proofs.Common.{◌≡◌, ℕ, ◌+◌, ◌-◌, ◌<◌, ap, sym, ◌∙◌, arith, subst, length, refl, List, Option}
 use Rattle.journal.specs.Swap.{Fits}
 use Rattle.machine_frames.specs.Contents.{bound_of}
+use Rattle.zcore.specs.Turn.{by_profile}
 use Rattle.session.specs.Session.{Session}
 use Rattle.session.specs.Sessions.{IsSession}
 use Rattle.session.specs.Standing.{Standing, redo_of}
@@ -22,14 +23,14 @@ returns-then-self-len c =
         (λ _. tt),
         record {
           stepped = same;
-          stands = λ story fuel keep s h. subst (IsSession story fuel keep (redo_of s))
-              (sym same) (session_redo story fuel keep s c.args.self.now h);
+          stands = λ story fuel keep s h. subst (IsSession story fuel (by_profile story fuel) keep (redo_of s))
+              (sym same) (session_redo story fuel (by_profile story fuel) keep s c.args.self.now h);
         },
       ),
       record {
         rests = tt;
         found = λ story fuel keep s h.
-            let u = session_undone story fuel keep s c.args.self.now i.done (length i.turns.items) n.present n.size h in
+            let u = session_undone story fuel (by_profile story fuel) keep s c.args.self.now i.done (length i.turns.items) n.present n.size h in
             ((λ p. cc), (λ p. absurd (omega (arith, all, u.0, u.1))));
         text = λ story fuel keep s h. tt;
       },
@@ -72,8 +73,8 @@ returns c =
     ∙ turn_text i.keep i.fuel i.machine.header i.opening.items i.store.store i.first i.turns.items i.done
     (text_of i.given_up) c.args.self.now i.done c.index_mut.result.now c.self.view_is here c.index_mut.ensures.value in
     let undone = λ (story : List ℕ) (fuel : ℕ) (keep : Option ℕ) (s : Standing)
-    (h : IsSession story fuel keep s c.args.self.now). (
-    let u = session_undone story fuel keep s c.args.self.now i.done (length i.turns.items) n.present n.size h in
+    (h : IsSession story fuel (by_profile story fuel) keep s c.args.self.now). (
+    let u = session_undone story fuel (by_profile story fuel) keep s c.args.self.now i.done (length i.turns.items) n.present n.size h in
     let some : 0 < length s.undone = omega (arith, here, u.0, u.1) in
     some) in (
       (
@@ -81,14 +82,14 @@ returns c =
         (λ _. tt),
         record {
           stepped = is;
-          stands = λ story fuel keep s h. subst (IsSession story fuel keep (redo_of s)) (sym is)
-              (session_redo story fuel keep s c.args.self.now h);
+          stands = λ story fuel keep s h. subst (IsSession story fuel (by_profile story fuel) keep (redo_of s)) (sym is)
+              (session_redo story fuel (by_profile story fuel) keep s c.args.self.now h);
         },
       ),
       record {
         rests = tt;
         found = λ story fuel keep s h. ((λ p. undone story fuel keep s h), (λ p. refl));
-        text = λ story fuel keep s h. session_again story fuel keep s c.args.self.now i.done _ n.present
+        text = λ story fuel keep s h. session_again story fuel (by_profile story fuel) keep s c.args.self.now i.done _ n.present
             (undone story fuel keep s h) text h;
       },
     )

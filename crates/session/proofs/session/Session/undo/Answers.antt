@@ -1,6 +1,7 @@
 use Rattle.std.proofs.Common.{◌≡◌, ◌+◌, ◌-◌, ◌<◌, ap, sym, ◌∙◌, arith, subst, length}
 use Rattle.journal.specs.Swap.{Fits}
 use Rattle.machine_frames.specs.Contents.{bound_of}
+use Rattle.zcore.specs.Turn.{by_profile}
 use Rattle.session.specs.Session.{Session}
 use Rattle.session.specs.Stepped.{stepped_back}
 use Rattle.session.specs.Inside.{view_of}
@@ -25,8 +26,8 @@ returns-then-self-eq0-clause-stepped c =
 
 pub returns-then-self-eq0-clause-undone : goal.returns-then-self-eq0-clause-undone
 returns-then-self-eq0-clause-undone c = λ story fuel keep s h.
-    subst (IsSession story fuel keep (undo_of s)) (sym (returns-then-self-eq0-clause-stepped c))
-    (session_undo story fuel keep s c.args.self.now h)
+    subst (IsSession story fuel (by_profile story fuel) keep (undo_of s)) (sym (returns-then-self-eq0-clause-stepped c))
+    (session_undo story fuel (by_profile story fuel) keep s c.args.self.now h)
 
 pub take_back-requires-clause-fits : goal.take_back-requires-clause-fits
 take_back-requires-clause-fits c =
@@ -63,5 +64,5 @@ returns-clause-stepped c =
 
 pub returns-clause-undone : goal.returns-clause-undone
 returns-clause-undone c = λ story fuel keep s h.
-    subst (IsSession story fuel keep (undo_of s)) (sym (returns-clause-stepped c))
-    (session_undo story fuel keep s c.args.self.now h)
+    subst (IsSession story fuel (by_profile story fuel) keep (undo_of s)) (sym (returns-clause-stepped c))
+    (session_undo story fuel (by_profile story fuel) keep s c.args.self.now h)
