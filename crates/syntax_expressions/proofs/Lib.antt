@@ -16,6 +16,7 @@ pub mod Arrays
 pub mod Alternatives
 pub mod Complete
 pub mod Deepened
+pub mod DeepBeginnings
 pub mod DeepExpressions
 pub mod Given
 mod Samples

@@ -12,9 +12,10 @@ use Rattle.syntax_directives.specs.Tree.{DirectiveTree, global, property}
 use Rattle.syntax_directives.specs.Parse.{kind, array_behind, abbreviate_behind, ended, global_behind}
 use Rattle.syntax_directives.specs.Parse.{constant_behind, attribute_behind, property_behind, worded, routine_at}
 use Rattle.syntax_directives.specs.Parse.{directive}
-use Rattle.syntax_token_machine.proofs.Machine.{Stack, token, any_name, any_text, texts_left, names_left, value}
-use Rattle.syntax_token_machine.proofs.Machine.{values_left}
-use Rattle.syntax_token_machine.proofs.Machine.{value_left, initial_left, array_kind, statements_left, on_entry, shift}
+use Rattle.syntax_token_machine.proofs.Frames.{Stack, token, any_name, any_text, texts_left, names_left, value}
+use Rattle.syntax_token_machine.proofs.Frames.{values_left}
+use Rattle.syntax_token_machine.proofs.Frames.{value_left, initial_left, array_kind, statements_left, on_entry}
+use Rattle.syntax_token_machine.proofs.Machine.{shift}
 use Rattle.syntax_token_machine.proofs.Machine.{accepts, stop}
 use Rattle.syntax_places.proofs.After.{Follows, no_effect, onward, follows_read, follows_unfit, follows_as}
 use Rattle.syntax_places.proofs.After.{follows_then}

@@ -12,11 +12,12 @@ use Rattle.syntax_expressions.specs.Parse.{expect_name}
 use Rattle.syntax_directives.specs.Parse.{names, arrow, arrows, short, parent, object_heading, behind_comma, prop}
 use Rattle.syntax_directives.specs.Parse.{lists_further, next_prop, props, properties, some_names, attributes}
 use Rattle.syntax_directives.specs.Parse.{object_behind}
-use Rattle.syntax_token_machine.proofs.Machine.{Stack, token, word, any_name, short_left, parent_left}
-use Rattle.syntax_token_machine.proofs.Machine.{properties_behind, attributes_left}
-use Rattle.syntax_token_machine.proofs.Machine.{props_left}
-use Rattle.syntax_token_machine.proofs.Machine.{names_left, value, values_left, shift, accepts, stop}
-use Rattle.syntax_token_machine.proofs.Machine as frame
+use Rattle.syntax_token_machine.proofs.Frames.{Stack, token, word, any_name, short_left, parent_left}
+use Rattle.syntax_token_machine.proofs.Frames.{properties_behind, attributes_left}
+use Rattle.syntax_token_machine.proofs.Frames.{props_left}
+use Rattle.syntax_token_machine.proofs.Frames.{names_left, value, values_left}
+use Rattle.syntax_token_machine.proofs.Machine.{shift, accepts, stop}
+use Rattle.syntax_token_machine.proofs.Frames as frame
 use Rattle.syntax_places.proofs.After.{Follows, no_effect, onward, follows_read, follows_unfit, follows_as}
 use Rattle.syntax_places.proofs.After.{follows_then, follows_twice, follows_expect, longer, past, as_long_follow}
 use Rattle.syntax_places.proofs.Expressions.{name_follows}

@@ -12,8 +12,9 @@ use Rattle.syntax_expressions.specs.Parse.{nested, expression, expect_name}
 use Rattle.syntax_statement_parts.specs.Grammar.{has_effect, effect_or_none}
 use Rattle.syntax_statement_parts.specs.Parse.{enclosed_condition, optional, optional_effect, heading, heading_in}
 use Rattle.syntax_statement_parts.specs.Parse.{enclosed_heading, looped, looped_in, enclosed_loop}
-use Rattle.syntax_token_machine.proofs.Machine.{Stack, token, need, shift, accepts, stop}
-use Rattle.syntax_token_machine.proofs.Machine as frame
+use Rattle.syntax_token_machine.proofs.Frames.{Stack, token, need}
+use Rattle.syntax_token_machine.proofs.Machine.{shift, accepts, stop}
+use Rattle.syntax_token_machine.proofs.Frames as frame
 use Rattle.syntax_places.proofs.After.{Follows, no_effect, onward, follows_read, follows_unfit, follows_deep}
 use Rattle.syntax_places.proofs.After.{follows_as}
 use Rattle.syntax_places.proofs.After.{follows_then, follows_by, follows_expect}

@@ -11,9 +11,10 @@ use Rattle.syntax_expressions.specs.Parse.{is_name, expect_name}
 use Rattle.syntax_statement_parts.specs.Parse as parts
 use Rattle.syntax_statement_parts.specs.Parse.{begins_flag, flags, begins_value}
 use Rattle.syntax_directives.specs.Parse.{names, placed, values, arrow, is_text, one_text, texts}
-use Rattle.syntax_token_machine.proofs.Machine.{token, any_name, any_text, flag, flags_left, names_left, value}
-use Rattle.syntax_token_machine.proofs.Machine.{values_left, arrows_left}
-use Rattle.syntax_token_machine.proofs.Machine.{texts_left, Stack, shift, accepts, stop}
+use Rattle.syntax_token_machine.proofs.Frames.{token, any_name, any_text, flag, flags_left, names_left, value}
+use Rattle.syntax_token_machine.proofs.Frames.{values_left, arrows_left}
+use Rattle.syntax_token_machine.proofs.Frames.{texts_left, Stack}
+use Rattle.syntax_token_machine.proofs.Machine.{shift, accepts, stop}
 use Rattle.syntax_places.proofs.After.{Follows, no_effect, onward, follows_read, follows_unfit, follows_as, shorter}
 use Rattle.syntax_places.proofs.After.{follows_then}
 use Rattle.syntax_places.proofs.After.{follows_by, follows_expect, repeated_follow}

@@ -19,11 +19,11 @@ use Rattle.syntax_statements.specs.Parse.{ended, line_read, printed, returned, g
 use Rattle.syntax_statements.specs.Parse.{braced}
 use Rattle.syntax_statements.specs.Parse.{otherwise, choice, repetition, until, iteration, traversal, selection}
 use Rattle.syntax_statements.specs.Parse.{statement_over, inside, braces, bodies, statement, statements}
-use Rattle.syntax_token_machine.proofs.Machine.{Stack, token, word, any_name, need, item, items_left, flag}
-use Rattle.syntax_token_machine.proofs.Machine.{flags_left}
-use Rattle.syntax_token_machine.proofs.Machine.{statements_left, else_left, cases_left, otherwise_left, body_left}
+use Rattle.syntax_token_machine.proofs.Frames.{Stack, token, word, any_name, need, item, items_left, flag}
+use Rattle.syntax_token_machine.proofs.Frames.{flags_left}
+use Rattle.syntax_token_machine.proofs.Frames.{statements_left, else_left, cases_left, otherwise_left, body_left}
 use Rattle.syntax_token_machine.proofs.Machine.{shift, accepts, stop}
-use Rattle.syntax_token_machine.proofs.Machine as frame
+use Rattle.syntax_token_machine.proofs.Frames as frame
 use Rattle.syntax_places.proofs.After.{Follows, no_effect, onward, follows_read, follows_unfit, follows_deep}
 use Rattle.syntax_places.proofs.After.{follows_as}
 use Rattle.syntax_places.proofs.After.{follows_then, follows_by}

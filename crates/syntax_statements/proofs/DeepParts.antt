@@ -23,7 +23,8 @@ use Rattle.syntax_expressions.specs.Parse.{nested, expression}
 use Rattle.syntax_expressions.proofs.Limited.{Limited, deep_before, deep_as}
 use Rattle.syntax_expressions.proofs.Deepened.{Deepened, deep_in, deep_behind, deep_same, deep_opened, DeepListed}
 use Rattle.syntax_expressions.proofs.Deepened.{deep_first_item, deep_next_item, deep_list}
-use Rattle.syntax_expressions.proofs.DeepExpressions.{deep_E, deep_starts_E}
+use Rattle.syntax_expressions.proofs.DeepBeginnings.{deep_starts_E}
+use Rattle.syntax_expressions.proofs.DeepExpressions.{deep_E}
 use Rattle.syntax_statement_parts.specs.Tree.{number_item}
 use Rattle.syntax_statement_parts.specs.Nesting.{DeepItem, deep_item_parenthesis, deep_item_character}
 use Rattle.syntax_statement_parts.specs.Nesting.{deep_item_object_parenthesis, deep_item_object, deep_item_number}

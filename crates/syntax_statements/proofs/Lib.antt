@@ -17,4 +17,5 @@ pub mod Alternatives
 pub mod PartsRead
 pub mod Complete
 pub mod DeepParts
+pub mod DeepSteps
 pub mod DeepStatements

@@ -1,176 +1,42 @@
 -- What the machine takes leaves a stack under which all frames are in their places.
-use Rattle.std.proofs.Common.{subst, ◌≡◌, ℕ, zero, suc, Bool, true, false, cond, [], ◌∷◌, Option, Some, None, refl}
+use Rattle.std.proofs.Common.{subst, ◌≡◌, Bool, true, false, [], ◌∷◌, Option, Some, refl}
 use Rattle.std.proofs.Common.{sym, ap}
 use Rattle.syntax_lexer.specs.declared.token.Sign.{Sign}
 use Rattle.syntax_lexer.specs.declared.token.Sign.TheVariants as s
-use Rattle.syntax_lexer.specs.declared.token.Word.{Word}
 use Rattle.syntax_lexer.specs.declared.token.Word.TheVariants as w
 use Rattle.syntax_lexer.specs.Token.{Lexeme, name, number, text, character, dictionary_word, reserved, sign, end}
 use Rattle.syntax_parsing.specs.Parse.{is_sign, is_word}
 use Rattle.syntax_expressions.specs.Operators.{logical, comparing, equating, containing, testing, adding, scaling}
-use Rattle.syntax_expressions.specs.Operators.{stepping, prefixes, relating_word, indexing}
-use Rattle.syntax_expressions.specs.Parse.{word_value, is_name}
-use Rattle.syntax_token_machine.proofs.Machine.{Frame, token, word, any_name, any_text, number_left, last, close}
-use Rattle.syntax_token_machine.proofs.Machine.{primary, unary, indexed, complement, product, sum, comparison}
-use Rattle.syntax_token_machine.proofs.Machine.{negation, condition, expression, arguments, name_behind, array_behind}
-use Rattle.syntax_token_machine.proofs.Machine.{properties_left, suffix_left, owned_left, scale_left, add_left}
-use Rattle.syntax_token_machine.proofs.Machine.{compare_left, or_left, logic_left, assign_left, arguments_left, set}
-use Rattle.syntax_token_machine.proofs.Machine.{need, value, upper_left, ranges_left, flag, flags_left, item, items_left}
-use Rattle.syntax_token_machine.proofs.Machine.{cast_behind, optional, optional_effect, loop, returned, statement}
-use Rattle.syntax_token_machine.proofs.Machine.{statements_left, else_left, cases_left, otherwise_left, body_left}
-use Rattle.syntax_token_machine.proofs.Machine.{case_behind, minus_behind, names_left, values_left, value_left}
-use Rattle.syntax_token_machine.proofs.Machine.{initial_left, array_kind, object_heading, arrows_left, short_left}
-use Rattle.syntax_token_machine.proofs.Machine.{parent_left, properties_behind, attributes_left, with_or_has}
-use Rattle.syntax_token_machine.proofs.Machine.{property_or_has, props_left, texts_left, entries_left, Stack, given}
-use Rattle.syntax_token_machine.proofs.Machine.{or_else, under, less, on_word, on_atom, on_primary, on_unary, on_unindexed}
-use Rattle.syntax_token_machine.proofs.Machine.{on_indexed, on_complement, on_product, on_sum, on_comparison}
-use Rattle.syntax_token_machine.proofs.Machine.{on_negation, on_condition, on_expression, on_arguments, on_number}
-use Rattle.syntax_token_machine.proofs.Machine.{on_value, on_flag, on_text, on_item, on_cast, on_statement, in_case}
-use Rattle.syntax_token_machine.proofs.Machine.{on_case, on_minus, on_kind, on_object, on_entry, on_end, on_entries, on}
+use Rattle.syntax_expressions.specs.Operators.{stepping, indexing}
+use Rattle.syntax_expressions.specs.Parse.{is_name}
+use Rattle.syntax_token_machine.proofs.Frames.{Frame, token, word, any_name, any_text, number_left, last, close}
+use Rattle.syntax_token_machine.proofs.Frames.{primary, unary, indexed, complement, product, sum, comparison}
+use Rattle.syntax_token_machine.proofs.Frames.{negation, condition, expression, arguments, name_behind, array_behind}
+use Rattle.syntax_token_machine.proofs.Frames.{properties_left, suffix_left, owned_left, scale_left, add_left}
+use Rattle.syntax_token_machine.proofs.Frames.{compare_left, or_left, logic_left, assign_left, arguments_left, set}
+use Rattle.syntax_token_machine.proofs.Frames.{need, value, upper_left, ranges_left, flag, flags_left, item}
+use Rattle.syntax_token_machine.proofs.Frames.{items_left}
+use Rattle.syntax_token_machine.proofs.Frames.{cast_behind, optional, optional_effect, loop, returned, statement}
+use Rattle.syntax_token_machine.proofs.Frames.{statements_left, else_left, cases_left, otherwise_left, body_left}
+use Rattle.syntax_token_machine.proofs.Frames.{case_behind, minus_behind, names_left, values_left, value_left}
+use Rattle.syntax_token_machine.proofs.Frames.{initial_left, array_kind, object_heading, arrows_left, short_left}
+use Rattle.syntax_token_machine.proofs.Frames.{parent_left, properties_behind, attributes_left, with_or_has}
+use Rattle.syntax_token_machine.proofs.Frames.{property_or_has, props_left, texts_left, entries_left, Stack}
+use Rattle.syntax_token_machine.proofs.Frames.{less}
+use Rattle.syntax_token_machine.proofs.Frames.{on_expression, on_number}
+use Rattle.syntax_token_machine.proofs.Frames.{on_value, on_flag, on_text, on_item, on_cast, on_statement, in_case}
+use Rattle.syntax_token_machine.proofs.Frames.{on_case, on_minus, on_kind, on_object, on_entry, on_end, on_entries}
+use Rattle.syntax_token_machine.proofs.Machine.{on}
 use Rattle.syntax_token_machine.proofs.Machine.{effect, shift, file}
-use Rattle.syntax_token_machine.proofs.Words.{anywhere, words, next, ends_expression, ends_operand, ends_list, ends_statements, Ends}
+use Rattle.syntax_token_machine.proofs.Words.{anywhere, words, next, ends_expression, ends_list, ends_statements}
+use Rattle.syntax_token_machine.proofs.Words.{Ends}
 use Rattle.syntax_token_machine.proofs.Words.{rest_of_effect, Place, lends, Fits}
+use Rattle.syntax_token_machine.proofs.KeptExpressions.{Fit, raised, with_effect, less_fits, over_cases, to, by_if}
+use Rattle.syntax_token_machine.proofs.KeptExpressions.{by_given, by_else, nothing, primary_kept, unary_kept}
+use Rattle.syntax_token_machine.proofs.KeptExpressions.{indexed_kept, complement_kept, product_kept, sum_kept}
+use Rattle.syntax_token_machine.proofs.KeptExpressions.{comparison_kept, negation_kept, condition_kept}
+use Rattle.syntax_token_machine.proofs.KeptExpressions.{expression_kept, arguments_kept}
 
--- ---- stacks in parts
-
-abbrev Fit : Stack → Type 0
-Fit k = Fits false k
-
-raised_place : (f : Frame) (c : Bool) (k : Stack) → Place c f k → Place true f k
-raised_place need c k h = (refl, h.1)
-raised_place _ c k h = h
-
-raised : (c : Bool) (k : Stack) → Fits c k → Fits true k
-unfolding Fits
-raised c [] h = h
-raised c (f ∷ k) h = (raised_place f c k h.0, h.1)
-
-with_effect : (b : Bool) (k : Stack) → Fit k → Fits b k
-with_effect true k h = raised false k h
-with_effect false k h = h
-
-less_fits : (n : ℕ) (c : Bool) (k : Stack) → Fits c k → Fits true (less n k)
-unfolding Fits less
-less_fits zero c k h = raised c k h
-less_fits (suc n) c [] h = tt
-less_fits (suc n) c (f ∷ k) h = less_fits n (lends f) k h.1
-
-over_cases : (k j : Stack) → k ≡ cases_left ∷ j → Fits true k → Fit k
-unfolding Fits
-over_cases k j e h =
-    let g : Fits true (cases_left ∷ j) = subst (λ i. Fits true i) e h in
-    let f : Fits false (cases_left ∷ j) = g in
-    subst (λ i. Fits false i) (sym e) f
-
--- ---- what comes of a turn
-
-jump : {A : Type 0} (x y : A) → Some x ≡ Some y → x ≡ y
-jump x y e = cc
-
-to : (x j : Stack) → Some x ≡ Some j → Fit x → Fit j
-to x j e h = subst (λ i. Fits false i) (jump x j e) h
-
-by_if : (b : Bool) (x y : Option Stack) (j : Stack) → cond b x y ≡ Some j → (x ≡ Some j → Fit j) → (y ≡ Some j → Fit j)
-    → Fit j
-by_if true x y j e on off = on e
-by_if false x y j e on off = off e
-
-by_given : {A : Type 0} (o : Option A) (x y : Option Stack) (j : Stack) → given o x y ≡ Some j → (x ≡ Some j → Fit j)
-    → (y ≡ Some j → Fit j) → Fit j
-by_given (Some a) x y j e on off = on e
-by_given None x y j e on off = off e
-
-by_else : (x y : Option Stack) (j : Stack) → or_else x y ≡ Some j → (x ≡ Some j → Fit j) → (y ≡ Some j → Fit j) → Fit j
-by_else (Some k) y j e on off = on e
-by_else None y j e on off = off e
-
-by_under : (f : Frame) (x : Option Stack) (j : Stack) → under f x ≡ Some j
-    → ((k : Stack) → x ≡ Some k → Fits false (f ∷ k)) → Fit j
-by_under f None j e h = absurd cc
-by_under f (Some k) j e h = to (f ∷ k) j e (h k refl)
-
-nothing : (j : Stack) → None ≡ Some j → Fit j
-nothing j e = absurd cc
-
--- ---- expressions
-
-word_kept : (w : Word) (k j : Stack) → on_word w k ≡ Some j → Ends ends_operand k → Fit k → Fit j
-unfolding Fits words
-word_kept w k j e o h = by_given (relating_word w) _ _ j e
-    (λ is. to (token s.OpenParenthesis ∷ expression ∷ close ∷ set false ∷ k) j is (tt, (refl, (o, (tt, h)))))
-    (λ is. by_given (word_value w) _ _ j is (λ has. to k j has h) (λ has. nothing j has))
-
-atom_kept : (t : Lexeme) (k j : Stack) → on_atom t k ≡ Some j → Ends ends_operand k → Fit k → Fit j
-unfolding Fits words
-atom_kept (number n p) k j e o h = to k j e h
-atom_kept (character c p) k j e o h = to k j e h
-atom_kept (dictionary_word f p) k j e o h = to k j e h
-atom_kept (reserved w p) k j e o h = word_kept w k j e o h
-atom_kept (name n p) k j e o h = to (name_behind ∷ k) j e (o, h)
-atom_kept (sign s.OpenParenthesis p) k j e o h = to (expression ∷ close ∷ k) j e (refl, (o, h))
-atom_kept _ k j e o h = absurd cc
-
-primary_kept : (t : Lexeme) (k j : Stack) → on_primary t k ≡ Some j → Ends ends_operand k → Fit k → Fit j
-unfolding Fits words
-primary_kept t k j e o h = atom_kept t (properties_left ∷ k) j e o (o, h)
-
-unary_kept : (t : Lexeme) (k j : Stack) → on_unary t k ≡ Some j → Ends ends_operand k → Fit k → Fit j
-unfolding Fits words
-unary_kept t k j e o h = by_if (is_sign s.Minus t) _ _ j e (λ is. to (unary ∷ set false ∷ k) j is (o, (tt, h)))
-    (λ is. by_given (stepping t) _ _ j is (λ has. to (primary ∷ set true ∷ k) j has (o, (tt, raised false k h)))
-    (λ has. primary_kept t (suffix_left ∷ k) j has o (o, h)))
-
-unindexed_kept : (t : Lexeme) (k j : Stack) → on_unindexed t k ≡ Some j → Ends ends_operand k → Fit k → Fit j
-unfolding Fits words
-unindexed_kept t k j e o h = by_if (prefixes t) _ _ j e (λ is. unary_kept t k j is o h)
-    (λ is. primary_kept t (owned_left ∷ k) j is o (o, h))
-
-indexed_kept : (t : Lexeme) (k j : Stack) → on_indexed t k ≡ Some j → Ends ends_operand k → Fit k → Fit j
-unfolding Fits words
-indexed_kept (name n p) k j e o h =
-    to (array_behind ∷ properties_left ∷ owned_left ∷ k) j e ((k, refl), (o, (o, h)))
-indexed_kept (number n p) k j e o h = unindexed_kept (number n p) k j e o h
-indexed_kept (text b p) k j e o h = unindexed_kept (text b p) k j e o h
-indexed_kept (character c p) k j e o h = unindexed_kept (character c p) k j e o h
-indexed_kept (dictionary_word f p) k j e o h = unindexed_kept (dictionary_word f p) k j e o h
-indexed_kept (reserved w p) k j e o h = unindexed_kept (reserved w p) k j e o h
-indexed_kept (sign r p) k j e o h = unindexed_kept (sign r p) k j e o h
-indexed_kept (end p) k j e o h = unindexed_kept (end p) k j e o h
-
-complement_kept : (t : Lexeme) (k j : Stack) → on_complement t k ≡ Some j → Ends ends_operand k → Fit k → Fit j
-unfolding Fits words
-complement_kept t k j e o h = by_if (is_sign s.Tilde t) _ _ j e
-    (λ is. to (complement ∷ set false ∷ k) j is (o, (tt, h))) (λ is. indexed_kept t k j is o h)
-
-product_kept : (t : Lexeme) (k j : Stack) → on_product t k ≡ Some j → Ends ends_operand k → Fit k → Fit j
-unfolding Fits words
-product_kept t k j e o h = complement_kept t (scale_left ∷ k) j e o (o, h)
-
-sum_kept : (t : Lexeme) (k j : Stack) → on_sum t k ≡ Some j → Ends ends_operand k → Fit k → Fit j
-unfolding Fits words
-sum_kept t k j e o h = product_kept t (add_left ∷ k) j e o (o, h)
-
-comparison_kept : (t : Lexeme) (k j : Stack) → on_comparison t k ≡ Some j → Ends ends_operand k → Fit k → Fit j
-unfolding Fits words
-comparison_kept t k j e o h = sum_kept t (compare_left ∷ k) j e o (o, h)
-
-negation_kept : (t : Lexeme) (k j : Stack) → on_negation t k ≡ Some j → Ends ends_operand k → Fit k → Fit j
-unfolding Fits words
-negation_kept t k j e o h = by_if (is_sign s.Not t) _ _ j e
-    (λ is. to (negation ∷ set false ∷ k) j is (o, (tt, h))) (λ is. comparison_kept t k j is o h)
-
-condition_kept : (t : Lexeme) (k j : Stack) → on_condition t k ≡ Some j → Ends ends_operand k → Fit k → Fit j
-unfolding Fits words
-condition_kept t k j e o h = negation_kept t (logic_left ∷ k) j e o (o, h)
-
-expression_kept : (t : Lexeme) (k j : Stack) → on_expression t k ≡ Some j → Ends ends_expression k → Fits true k
-    → Fit j
-unfolding Fits words
-expression_kept t k j e o h = condition_kept t (assign_left ∷ k) j e refl (o, h)
-
-arguments_kept : (t : Lexeme) (k j : Stack) → on_arguments t k ≡ Some j → Fit k → Fit j
-unfolding Fits words
-arguments_kept t k j e h = by_if (is_sign s.CloseParenthesis t) _ _ j e (λ is. to k j is h)
     (λ is. expression_kept t (set false ∷ arguments_left ∷ token s.CloseParenthesis ∷ k) j is refl
     (tt, (refl, (tt, h))))
 

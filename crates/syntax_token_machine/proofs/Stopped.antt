@@ -3,7 +3,8 @@ use Rattle.std.proofs.Common.{◌≡◌, ℕ, Bool, true, false, cond, List, [],
 use Rattle.std.proofs.Common.{sym, ap, ◌∙◌}
 use Rattle.syntax_lexer.specs.declared.token.Position.{Position}
 use Rattle.syntax_lexer.specs.Token.{Lexeme, end}
-use Rattle.syntax_token_machine.proofs.Machine.{Frame, last, Stack, on, stays_away, effect, shift, accepts, go_on, stop}
+use Rattle.syntax_token_machine.proofs.Frames.{Frame, last, Stack}
+use Rattle.syntax_token_machine.proofs.Machine.{on, stays_away, effect, shift, accepts, go_on, stop}
 use Rattle.syntax_token_machine.proofs.Machine.{Refuses}
 use Rattle.syntax_token_machine.proofs.Words.{Place, lends, Fits}
 use Rattle.syntax_token_machine.proofs.Kept.{kept}
