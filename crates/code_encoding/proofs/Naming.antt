@@ -3,9 +3,9 @@ use Rattle.std.proofs.Common.{◌≡◌, ℕ, zero, suc, ◌+◌, ◌<◌, List,
 use Rattle.std.proofs.Common.{ap, ◌∙◌, arith, append_assoc}
 use Rattle.std.proofs.Math.Seq.{drop-cons}
 use Rattle.zcore.specs.declared.instruction.Operand.{Operand}
-use Rattle.code_values.specs.Items as items
-use Rattle.code_values.specs.declared.item.Operand as code_operand
-use Rattle.code_values.specs.Code.{as_operand, as_operands}
+use Rattle.code_drafts.specs.Items as items
+use Rattle.code_drafts.specs.declared.item.Operand as code_operand
+use Rattle.code_drafts.specs.Code.{as_operand, as_operands}
 use Rattle.code_encoding.specs.Instructions.{pushed_count}
 use Rattle.code_encoding.specs.Written.{named_when}
 

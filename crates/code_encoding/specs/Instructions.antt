@@ -10,8 +10,8 @@ use Rattle.zcore.specs.declared.instruction.Operation.TheVariants.{Store, PrintP
 use Rattle.zcore.specs.Instruction.{Instruction}
 use Rattle.meaning.specs.declared.resolved.Variable as source
 use Rattle.meaning.specs.declared.resolved.Variable.TheVariants as variables
-use Rattle.code_values.specs.Items.{Destination}
-use Rattle.code_values.specs.Items as items
+use Rattle.code_drafts.specs.Items.{Destination}
+use Rattle.code_drafts.specs.Items as items
 
 -- Instructions
 

@@ -1,7 +1,7 @@
 //! Operands of items in instructions.
 
 ghost use Rattle.std.specs.Prelude.{◌≡◌, ◌≤◌, ◌++◌, [], ◌∷◌, length, OnOk};
-ghost use Rattle.code_values.specs.Code.{as_operand, as_operands, as_destination};
+ghost use Rattle.code_drafts.specs.Code.{as_operand, as_operands, as_destination};
 ghost use Rattle.code_encoding.specs.Instructions.{number_of};
 ghost use Rattle.code_encoding.specs.Instructions as spec;
 ghost use Rattle.code_encoding.specs.Bytes.{AddsCode};
@@ -9,7 +9,7 @@ ghost use Rattle.code_encoding.specs.Written.{named_when};
 ghost use Rattle.meaning.specs.Limits.{most_arguments};
 
 use crate::instruction::{ASIDE, FIRST, TOP, pull, put_all};
-use code_values::Destination;
+use code_drafts::Destination;
 use meaning::Variable;
 use std::alloc::AllocError;
 use zcore::Operand;
@@ -38,13 +38,13 @@ pub fn variable_number(variable: Variable) -> u8
 }
 
 /// An operand of an item alone, which is on the top of the stack where it is pushed.
-pub fn in_place(operand: code_values::Operand) -> Operand
+pub fn in_place(operand: code_drafts::Operand) -> Operand
     ensures { result ≡ spec.in_place (as_operand operand) }
 {
     match operand {
-        code_values::Operand::Pushed => TOP,
-        code_values::Operand::Number(number) => constant(number),
-        code_values::Operand::Variable(variable) => Operand::Variable(variable_number(variable)),
+        code_drafts::Operand::Pushed => TOP,
+        code_drafts::Operand::Number(number) => constant(number),
+        code_drafts::Operand::Variable(variable) => Operand::Variable(variable_number(variable)),
     }
 }
 
@@ -62,18 +62,18 @@ pub fn result_in(destination: Destination) -> u8
 }
 
 /// 1 for an operand that is pushed, and else 0.
-fn pushed_one(operand: code_values::Operand) -> u8
+fn pushed_one(operand: code_drafts::Operand) -> u8
     ensures value { result ≡ spec.pushed_count (as_operand operand ∷ []) }
     ensures few { result ≤ 1 }
 {
     match operand {
-        code_values::Operand::Pushed => 1,
+        code_drafts::Operand::Pushed => 1,
         _ => 0,
     }
 }
 
 /// How many of some operands are pushed.
-fn pushed_count(operands: &[code_values::Operand]) -> u8
+fn pushed_count(operands: &[code_drafts::Operand]) -> u8
     requires { length operands.now ≤ most_arguments }
     ensures value { result ≡ spec.pushed_count (as_operands operands.now) }
     ensures few { result ≤ most_arguments }
@@ -99,7 +99,7 @@ fn put_pulls(bytes: &mut Vec<u8>, count: u8) -> Result<(), AllocError>
 }
 
 /// Of the operands that are pushed, all but the first go to the compiler's variables.
-pub fn put_takes(bytes: &mut Vec<u8>, operands: &[code_values::Operand]) -> Result<(), AllocError>
+pub fn put_takes(bytes: &mut Vec<u8>, operands: &[code_drafts::Operand]) -> Result<(), AllocError>
     requires { length operands.now ≤ most_arguments }
     ensures { OnOk result (AddsCode bytes.old bytes.new (spec.takes (as_operands operands.now))) }
 {
@@ -108,12 +108,12 @@ pub fn put_takes(bytes: &mut Vec<u8>, operands: &[code_values::Operand]) -> Resu
 }
 
 /// An operand of several, where so many before it are pushed.
-fn named(operand: code_values::Operand, pushed: u8) -> Operand
+fn named(operand: code_drafts::Operand, pushed: u8) -> Operand
     requires { pushed ≤ most_arguments }
     ensures { result ∷ [] ≡ named_when pushed (as_operand operand ∷ []) }
 {
     match operand {
-        code_values::Operand::Pushed => {
+        code_drafts::Operand::Pushed => {
             if pushed == 0 {
                 TOP
             } else {
@@ -127,7 +127,7 @@ fn named(operand: code_values::Operand, pushed: u8) -> Operand
 /// Operands are named in an instruction whose pushed ones, but the first, were taken.
 pub fn put_named(
     named_before: &mut Vec<Operand>,
-    operands: &[code_values::Operand],
+    operands: &[code_drafts::Operand],
 ) -> Result<(), AllocError>
     requires { length operands.now ≤ most_arguments }
     ensures { OnOk result (named_before.new.items

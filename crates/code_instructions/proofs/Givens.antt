@@ -6,10 +6,10 @@ use Rattle.zcore.specs.declared.instruction.Operand.{Operand}
 use Rattle.zcore.specs.declared.instruction.Operand.TheVariants.{Large}
 use Rattle.zcore.specs.declared.instruction.Operation.{Operation}
 use Rattle.zcore.specs.InstructionBytes.{bytes_of}
-use Rattle.code_values.specs.Items.{Destination, Test}
-use Rattle.code_values.specs.Items as items
-use Rattle.code_values.specs.declared.item.Operand as code_operand
-use Rattle.code_values.specs.Code.{as_operand, as_operands}
+use Rattle.code_drafts.specs.Items.{Destination, Test}
+use Rattle.code_drafts.specs.Items as items
+use Rattle.code_drafts.specs.declared.item.Operand as code_operand
+use Rattle.code_drafts.specs.Code.{as_operand, as_operands}
 use Rattle.code_encoding.specs.Instructions.{takes, operands}
 use Rattle.code_instructions.specs.Instructions.{calling, call_code, call_operation, call_result, asks_none, labelled}
 use Rattle.code_instructions.specs.Instructions.{test_operation, least_word, ordered_code, tested_code, branch_code}

@@ -22,8 +22,8 @@ use Rattle.meaning.specs.declared.cause.Cause.TheVariants as causes
 use Rattle.meaning.specs.declared.resolved.Variable as source
 use Rattle.meaning.specs.declared.resolved.Variable.TheVariants as variables
 use Rattle.meaning.specs.Meaning.{is_character}
-use Rattle.code_values.specs.Items.{Destination, Test, is_any_pushed}
-use Rattle.code_values.specs.Items as items
+use Rattle.code_drafts.specs.Items.{Destination, Test, is_any_pushed}
+use Rattle.code_drafts.specs.Items as items
 use Rattle.code_encoding.specs.Addresses.{Addresses, fault_address}
 use Rattle.code_encoding.specs.Instructions.{plain, giving, branching, number_of, temporary, constant, push, pull, copy}
 use Rattle.code_encoding.specs.Instructions.{store, fail, in_place, takes, operands, aside_variable, result_in, top}

@@ -1,8 +1,8 @@
 //! Calls of routines, and returns.
 
 ghost use Rattle.std.specs.Prelude.{◌≡◌, if◌then◌else◌, [], ◌∷◌, take, IfOk, OnOk};
-ghost use Rattle.code_values.specs.Items as source_items;
-ghost use Rattle.code_values.specs.Code.{as_operand, as_operands, as_destination};
+ghost use Rattle.code_drafts.specs.Items as source_items;
+ghost use Rattle.code_drafts.specs.Code.{as_operand, as_operands, as_destination};
 ghost use Rattle.code_instructions.specs.Instructions.{call_code, return_code};
 ghost use Rattle.code_encoding.specs.Instructions as basic;
 ghost use Rattle.code_instructions.specs.Instructions as spec;
@@ -10,11 +10,11 @@ ghost use Rattle.code_encoding.specs.Bytes.{AddsCode};
 ghost use Rattle.code_encoding.specs.Written.{instruction_of};
 ghost use Rattle.meaning.specs.Limits.{most_arguments};
 
+use code_drafts::{Destination, is_any_pushed};
 use code_encoding::{
     ASIDE, Instruction, Operands, constant, plain, put_all, put_instruction, put_named, put_takes,
     variable_number,
 };
-use code_values::{Destination, is_any_pushed};
 use meaning::Variable;
 use meaning::limits::MOST_ARGUMENTS;
 use std::alloc::{AllocError, Global};
@@ -66,7 +66,7 @@ pub fn put_call(
     bytes: &mut Vec<u8>,
     alloc: Global,
     address: u16,
-    operands: &[code_values::Operand],
+    operands: &[code_drafts::Operand],
     destination: Destination,
 ) -> Result<(), AllocError>
     ensures { OnOk result (AddsCode bytes.old bytes.new
@@ -88,20 +88,20 @@ pub fn put_call(
 const ASIDE_GLOBAL: usize = 239;
 
 /// An operand that was put aside, if it is pushed.
-fn read_aside(operand: code_values::Operand) -> code_values::Operand
+fn read_aside(operand: code_drafts::Operand) -> code_drafts::Operand
     ensures { as_operand result ≡ spec.read_aside (as_operand operand) }
 {
     match operand {
-        code_values::Operand::Pushed => {
-            code_values::Operand::Variable(Variable::Global(ASIDE_GLOBAL))
+        code_drafts::Operand::Pushed => {
+            code_drafts::Operand::Variable(Variable::Global(ASIDE_GLOBAL))
         }
-        code_values::Operand::Number(number) => code_values::Operand::Number(number),
-        code_values::Operand::Variable(variable) => code_values::Operand::Variable(variable),
+        code_drafts::Operand::Number(number) => code_drafts::Operand::Number(number),
+        code_drafts::Operand::Variable(variable) => code_drafts::Operand::Variable(variable),
     }
 }
 
 /// An operand, where one behind it is pushed, or none is.
-fn named_aside(operand: code_values::Operand, behind: bool) -> code_values::Operand
+fn named_aside(operand: code_drafts::Operand, behind: bool) -> code_drafts::Operand
     ensures { as_operand result
         ≡ (if behind then as_operand operand else spec.read_aside (as_operand operand)) }
 {
@@ -111,8 +111,8 @@ fn named_aside(operand: code_values::Operand, behind: bool) -> code_values::Oper
 /// Operands of which the last that is pushed was put aside.
 fn with_last_aside(
     alloc: Global,
-    operands: &[code_values::Operand],
-) -> Result<Vec<code_values::Operand>, AllocError>
+    operands: &[code_drafts::Operand],
+) -> Result<Vec<code_drafts::Operand>, AllocError>
     ensures { IfOk result (λ v. as_operands v.items
         ≡ spec.with_last_aside (as_operands operands.now)) }
 {
@@ -129,7 +129,7 @@ pub fn put_call_aside(
     bytes: &mut Vec<u8>,
     alloc: Global,
     address: u16,
-    operands: &[code_values::Operand],
+    operands: &[code_drafts::Operand],
     destination: Destination,
 ) -> Result<(), AllocError>
     ensures { OnOk result (AddsCode bytes.old bytes.new
@@ -152,13 +152,13 @@ fn number_returned(number: u16) -> Instruction
 }
 
 /// A word is returned.
-pub fn put_return(bytes: &mut Vec<u8>, operand: code_values::Operand) -> Result<(), AllocError>
+pub fn put_return(bytes: &mut Vec<u8>, operand: code_drafts::Operand) -> Result<(), AllocError>
     ensures { OnOk result (AddsCode bytes.old bytes.new (return_code (as_operand operand) ∷ [])) }
 {
     let returned = match operand {
-        code_values::Operand::Pushed => plain(Operation::ReturnPopped, Operands::Zero),
-        code_values::Operand::Number(number) => number_returned(number),
-        code_values::Operand::Variable(variable) => {
+        code_drafts::Operand::Pushed => plain(Operation::ReturnPopped, Operands::Zero),
+        code_drafts::Operand::Number(number) => number_returned(number),
+        code_drafts::Operand::Variable(variable) => {
             let word = Operand::Variable(variable_number(variable));
             plain(Operation::Return, Operands::One(word))
         }

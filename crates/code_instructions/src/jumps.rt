@@ -3,8 +3,8 @@
 ghost use Rattle.std.specs.Prelude.{◌≡◌, ◌≤◌, ◌+◌, ◌++◌, [], ◌∷◌, length, take, not, IfOk, OnOk};
 ghost use Rattle.zcore.specs.declared.instruction.Operation.TheVariants.{Jump};
 ghost use Rattle.zcore.specs.declared.instruction.Operand.TheVariants.{Large};
-ghost use Rattle.code_values.specs.Items as source_items;
-ghost use Rattle.code_values.specs.Code.{as_operands, as_test};
+ghost use Rattle.code_drafts.specs.Items as source_items;
+ghost use Rattle.code_drafts.specs.Code.{as_operands, as_test};
 ghost use Rattle.code_encoding.specs.Instructions.{plain};
 ghost use Rattle.code_instructions.specs.Instructions.{labelled, ordered_code, tested_code, branch_code};
 ghost use Rattle.code_instructions.specs.Instructions.{test_operation};
@@ -14,10 +14,10 @@ ghost use Rattle.code_encoding.specs.Bytes.{AddsCode};
 ghost use Rattle.meaning.specs.Limits.{most_arguments};
 
 use code_branch_forms::TWO_BYTE_LIMIT;
+use code_drafts::{MOST_COMPARED, Test};
 use code_encoding::{
     ASIDE, Operands, constant, in_place, plain, put_all, put_instruction, put_named, put_takes,
 };
-use code_values::{MOST_COMPARED, Test};
 use std::alloc::{AllocError, Global};
 use zcore::{Branch, Operand, Operation};
 
@@ -90,7 +90,7 @@ fn operation_of(test: Test) -> Operation
 
 /// Whether a test asks that a word equals one of none.
 #[tactic(auto, using(crate::proofs::Givens::asks_one))]
-fn asks_none(test: Test, operands: &[code_values::Operand]) -> bool
+fn asks_none(test: Test, operands: &[code_drafts::Operand]) -> bool
     ensures { result ≡ spec.asks_none (as_test test) (as_operands operands.now) }
 {
     match test {
@@ -112,12 +112,12 @@ fn turned(test: Test) -> Test
 }
 
 /// Whether there are two operands, both pushed.
-fn are_both_pushed(operands: &[code_values::Operand]) -> bool
+fn are_both_pushed(operands: &[code_drafts::Operand]) -> bool
     ensures { result ≡ spec.are_both_pushed (as_operands operands.now) }
 {
     matches!(
         operands,
-        [code_values::Operand::Pushed, code_values::Operand::Pushed]
+        [code_drafts::Operand::Pushed, code_drafts::Operand::Pushed]
     )
 }
 
@@ -127,7 +127,7 @@ fn put_ordered(
     bytes: &mut Vec<u8>,
     alloc: Global,
     test: Test,
-    operands: &[code_values::Operand],
+    operands: &[code_drafts::Operand],
     when: bool,
     offset: usize,
 ) -> Result<(), AllocError>
@@ -148,7 +148,7 @@ fn put_tested(
     bytes: &mut Vec<u8>,
     alloc: Global,
     test: Test,
-    operands: &[code_values::Operand],
+    operands: &[code_drafts::Operand],
     when: bool,
     offset: usize,
 ) -> Result<(), AllocError>
@@ -157,7 +157,7 @@ fn put_tested(
         (tested_code (as_test test) (as_operands operands.now) when offset)) }
 {
     if are_both_pushed(operands) {
-        let top = in_place(code_values::Operand::Pushed);
+        let top = in_place(code_drafts::Operand::Pushed);
         put_labelled(bytes, operation_of(turned(test)), &[top, top], when, offset)
     } else {
         put_ordered(bytes, alloc, test, operands, when, offset)
@@ -169,7 +169,7 @@ fn put_tested(
 fn put_never(
     bytes: &mut Vec<u8>,
     alloc: Global,
-    operands: &[code_values::Operand],
+    operands: &[code_drafts::Operand],
     when: bool,
     offset: usize,
 ) -> Result<(), AllocError>
@@ -179,7 +179,7 @@ fn put_never(
         ++ source_items.number spec.least_word ∷ []) when offset)) }
 {
     let mut asked = Vec::from_slice(alloc, operands)?;
-    asked.push(code_values::Operand::Number(LEAST_WORD))?;
+    asked.push(code_drafts::Operand::Number(LEAST_WORD))?;
     put_tested(bytes, alloc, Test::Less, &asked, when, offset)?;
     Ok(())
 }
@@ -189,7 +189,7 @@ pub fn put_branch(
     bytes: &mut Vec<u8>,
     alloc: Global,
     test: Test,
-    operands: &[code_values::Operand],
+    operands: &[code_drafts::Operand],
     when: bool,
     offset: usize,
 ) -> Result<(), AllocError>

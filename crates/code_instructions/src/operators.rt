@@ -2,8 +2,8 @@
 
 ghost use Rattle.std.specs.Prelude.{◌∷◌, OnOk};
 ghost use Rattle.zcore.specs.declared.instruction.Operation.TheVariants.{Div};
-ghost use Rattle.code_values.specs.Items as source_items;
-ghost use Rattle.code_values.specs.Code.{as_operand, as_destination};
+ghost use Rattle.code_drafts.specs.Items as source_items;
+ghost use Rattle.code_drafts.specs.Code.{as_operand, as_destination};
 ghost use Rattle.code_encoding.specs.Bytes.{AddsCode};
 ghost use Rattle.code_encoding.specs.Written.{addresses_of, instruction_of};
 ghost use Rattle.code_instructions.specs.Instructions.{prefix_code, arithmetic, commuting, divided, divided_by};
@@ -11,12 +11,12 @@ ghost use Rattle.code_instructions.specs.Instructions.{binary_code, with_aside, 
 ghost use Rattle.code_instructions.specs.Instructions.{first_equal_code, also_equal_code};
 ghost use Rattle.code_instructions.specs.Instructions.{flag};
 
+use code_drafts::Destination;
 use code_encoding::{
     ASIDE, Addresses, FIRST, Instruction, Operands, SECOND, THIRD, branching, constant, copy,
     fault_address, giving, in_place, plain, print_fault, pull, push, put_all, put_instruction,
     put_named, put_takes, quit, result_in, variable_number,
 };
-use code_values::Destination;
 use meaning::Cause;
 use std::alloc::{AllocError, Global};
 use syntax_trees::{Binary, Prefix};
@@ -26,7 +26,7 @@ use zcore::{Operand, Operation};
 pub fn put_prefix(
     bytes: &mut Vec<u8>,
     operator: Prefix,
-    operand: code_values::Operand,
+    operand: code_drafts::Operand,
     destination: Destination,
 ) -> Result<(), AllocError>
     ensures { OnOk result (AddsCode bytes.old bytes.new
@@ -55,8 +55,8 @@ fn put_arithmetic(
     bytes: &mut Vec<u8>,
     alloc: Global,
     operation: Operation,
-    left: code_values::Operand,
-    right: code_values::Operand,
+    left: code_drafts::Operand,
+    right: code_drafts::Operand,
     destination: Destination,
 ) -> Result<(), AllocError>
     ensures { OnOk result (AddsCode bytes.old bytes.new
@@ -76,27 +76,27 @@ fn put_commuting(
     bytes: &mut Vec<u8>,
     alloc: Global,
     operation: Operation,
-    left: code_values::Operand,
-    right: code_values::Operand,
+    left: code_drafts::Operand,
+    right: code_drafts::Operand,
     destination: Destination,
 ) -> Result<(), AllocError>
     ensures { OnOk result (AddsCode bytes.old bytes.new
         (commuting operation (as_operand left) (as_operand right) (as_destination destination))) }
 {
     match left {
-        code_values::Operand::Pushed => match right {
-            code_values::Operand::Pushed => {
+        code_drafts::Operand::Pushed => match right {
+            code_drafts::Operand::Pushed => {
                 let operands = Operands::Two(in_place(left), in_place(right));
                 put_all(
                     bytes,
                     &[giving(operation, operands, result_in(destination))],
                 )
             }
-            code_values::Operand::Number(_) | code_values::Operand::Variable(_) => {
+            code_drafts::Operand::Number(_) | code_drafts::Operand::Variable(_) => {
                 put_arithmetic(bytes, alloc, operation, left, right, destination)
             }
         },
-        code_values::Operand::Number(_) | code_values::Operand::Variable(_) => {
+        code_drafts::Operand::Number(_) | code_drafts::Operand::Variable(_) => {
             put_arithmetic(bytes, alloc, operation, left, right, destination)
         }
     }
@@ -107,7 +107,7 @@ fn put_divided_by(
     bytes: &mut Vec<u8>,
     addresses: &Addresses<'_>,
     operation: Operation,
-    left: code_values::Operand,
+    left: code_drafts::Operand,
     variable: u8,
     destination: Destination,
 ) -> Result<(), AllocError>
@@ -128,7 +128,7 @@ fn put_divided_by_number(
     bytes: &mut Vec<u8>,
     addresses: &Addresses<'_>,
     operation: Operation,
-    left: code_values::Operand,
+    left: code_drafts::Operand,
     number: u16,
     destination: Destination,
 ) -> Result<(), AllocError>
@@ -159,8 +159,8 @@ fn put_division(
     bytes: &mut Vec<u8>,
     addresses: &Addresses<'_>,
     operation: Operation,
-    left: code_values::Operand,
-    right: code_values::Operand,
+    left: code_drafts::Operand,
+    right: code_drafts::Operand,
     destination: Destination,
 ) -> Result<(), AllocError>
     ensures { OnOk result (AddsCode bytes.old bytes.new
@@ -168,14 +168,14 @@ fn put_division(
         (as_destination destination))) }
 {
     match right {
-        code_values::Operand::Pushed => {
+        code_drafts::Operand::Pushed => {
             put_all(bytes, &[pull(FIRST)])?;
             put_divided_by(bytes, addresses, operation, left, FIRST, destination)
         }
-        code_values::Operand::Number(number) => {
+        code_drafts::Operand::Number(number) => {
             put_divided_by_number(bytes, addresses, operation, left, number, destination)
         }
-        code_values::Operand::Variable(variable) => {
+        code_drafts::Operand::Variable(variable) => {
             let number = variable_number(variable);
             put_divided_by(bytes, addresses, operation, left, number, destination)
         }
@@ -188,7 +188,7 @@ pub fn put_binary(
     alloc: Global,
     addresses: &Addresses<'_>,
     operator: Binary,
-    words: (code_values::Operand, code_values::Operand),
+    words: (code_drafts::Operand, code_drafts::Operand),
     destination: Destination,
 ) -> Result<(), AllocError>
     ensures { OnOk result (AddsCode bytes.old bytes.new
@@ -219,7 +219,7 @@ pub fn put_binary(
 fn put_untested(
     bytes: &mut Vec<u8>,
     operation: Operation,
-    left: code_values::Operand,
+    left: code_drafts::Operand,
     destination: Destination,
 ) -> Result<(), AllocError>
     ensures { OnOk result (AddsCode bytes.old bytes.new
@@ -238,7 +238,7 @@ pub fn put_with_aside(
     bytes: &mut Vec<u8>,
     addresses: &Addresses<'_>,
     operator: Binary,
-    left: code_values::Operand,
+    left: code_drafts::Operand,
     destination: Destination,
 ) -> Result<(), AllocError>
     ensures { OnOk result (AddsCode bytes.old bytes.new

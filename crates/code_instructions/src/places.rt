@@ -2,12 +2,12 @@
 
 ghost use Rattle.std.specs.Prelude.{◌≡◌, ◌<◌, ◌≤◌, reverse, length, slice_index};
 ghost use Rattle.code_branch_forms.specs.Layout.{first, bytes_limit};
-ghost use Rattle.code_values.specs.Code.{item_of};
+ghost use Rattle.code_drafts.specs.Code.{item_of};
 ghost use Rattle.code_instructions.specs.Places.{place_in};
 ghost use Rattle.code_instructions.specs.Places as spec;
 
 use crate::jumps::jump_offset;
-use code_values::Item;
+use code_drafts::Item;
 
 /// The item to which one branches.
 pub fn target_of(item: &Item<'_>) -> Option<usize>

@@ -7,8 +7,8 @@ ghost use Rattle.ztext.specs.Alphabets.{is_printable};
 ghost use Rattle.ztext.specs.Abbreviations.{encoded_with};
 ghost use Rattle.ztext.specs.Text.{encoded};
 ghost use Rattle.meaning.specs.Meaning as meaning;
-ghost use Rattle.code_values.specs.Items as source_items;
-ghost use Rattle.code_values.specs.Code.{as_operand};
+ghost use Rattle.code_drafts.specs.Items as source_items;
+ghost use Rattle.code_drafts.specs.Code.{as_operand};
 ghost use Rattle.code_instructions.specs.Instructions.{character_code, tested_character};
 ghost use Rattle.code_encoding.specs.Instructions as spec;
 ghost use Rattle.code_encoding.specs.Bytes.{Adds, AddsCode, bytes_of_all};
@@ -167,18 +167,18 @@ fn put_character_number(
 pub fn put_character(
     bytes: &mut Vec<u8>,
     addresses: &Addresses<'_>,
-    operand: code_values::Operand,
+    operand: code_drafts::Operand,
 ) -> Result<(), AllocError>
     ensures { OnOk result (AddsCode bytes.old bytes.new
         (character_code (addresses_of addresses.now) (as_operand operand))) }
 {
     match operand {
-        code_values::Operand::Pushed => {
+        code_drafts::Operand::Pushed => {
             put_all(bytes, &[pull(FIRST)])?;
             put_tested(bytes, addresses, FIRST)
         }
-        code_values::Operand::Number(number) => put_character_number(bytes, addresses, number),
-        code_values::Operand::Variable(variable) => {
+        code_drafts::Operand::Number(number) => put_character_number(bytes, addresses, number),
+        code_drafts::Operand::Variable(variable) => {
             put_tested(bytes, addresses, variable_number(variable))
         }
     }

@@ -1,7 +1,7 @@
 //! Tests of operands, and faults.
 
 ghost use Rattle.std.specs.Prelude.{◌≡◌, ◌<◌, OnOk};
-ghost use Rattle.code_values.specs.Code.{as_operand};
+ghost use Rattle.code_drafts.specs.Code.{as_operand};
 ghost use Rattle.code_instructions.specs.Instructions.{tested_between};
 ghost use Rattle.code_encoding.specs.Instructions as basic;
 ghost use Rattle.code_instructions.specs.Instructions as spec;
@@ -73,25 +73,25 @@ pub fn put_tested_between(
 pub fn put_pulled(
     bytes: &mut Vec<u8>,
     temporary: u8,
-    operand: code_values::Operand,
+    operand: code_drafts::Operand,
 ) -> Result<(), AllocError>
     requires { temporary < 8 }
     ensures { OnOk result (AddsCode bytes.old bytes.new
         (basic.pulled_into temporary (as_operand operand))) }
 {
     match operand {
-        code_values::Operand::Pushed => put_all(bytes, &[pull(FIRST + temporary)]),
+        code_drafts::Operand::Pushed => put_all(bytes, &[pull(FIRST + temporary)]),
         _ => put_all(bytes, &[]),
     }
 }
 
 /// What stands then for the operand.
-pub fn word_in(temporary: u8, operand: code_values::Operand) -> Operand
+pub fn word_in(temporary: u8, operand: code_drafts::Operand) -> Operand
     requires { temporary < 8 }
     ensures { result ≡ basic.word_in temporary (as_operand operand) }
 {
     match operand {
-        code_values::Operand::Pushed => Operand::Variable(FIRST + temporary),
+        code_drafts::Operand::Pushed => Operand::Variable(FIRST + temporary),
         _ => in_place(operand),
     }
 }

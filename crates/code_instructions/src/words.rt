@@ -1,29 +1,29 @@
 //! Words that are moved, kept and stepped.
 
 ghost use Rattle.std.specs.Prelude.{◌≡◌, [], ◌∷◌, OnOk};
-ghost use Rattle.code_values.specs.Code.{as_operand, as_destination};
+ghost use Rattle.code_drafts.specs.Code.{as_operand, as_destination};
 ghost use Rattle.code_encoding.specs.Instructions.{number_of};
 ghost use Rattle.code_encoding.specs.Instructions as basic;
 ghost use Rattle.code_encoding.specs.Bytes.{AddsCode};
 ghost use Rattle.code_encoding.specs.Written.{instruction_of};
 ghost use Rattle.code_instructions.specs.Instructions.{move_to, move_code, step_code, stepping, step_operation};
 
+use code_drafts::Destination;
 use code_encoding::{
     ASIDE, FIRST, Instruction, Operands, copy, in_place, plain, pull, push, put_all, store,
     variable_number,
 };
-use code_values::Destination;
 use meaning::Variable;
 use std::alloc::AllocError;
 use syntax_trees::Step;
 use zcore::{Operand, Operation};
 
 /// A word goes to the variable of a number.
-fn moved_to(operand: code_values::Operand, variable: u8) -> Instruction
+fn moved_to(operand: code_drafts::Operand, variable: u8) -> Instruction
     ensures { instruction_of result ≡ move_to (as_operand operand) variable }
 {
     match operand {
-        code_values::Operand::Pushed => pull(variable),
+        code_drafts::Operand::Pushed => pull(variable),
         _ => store(variable, in_place(operand)),
     }
 }
@@ -31,7 +31,7 @@ fn moved_to(operand: code_values::Operand, variable: u8) -> Instruction
 /// A word goes to a destination.
 pub fn put_move(
     bytes: &mut Vec<u8>,
-    operand: code_values::Operand,
+    operand: code_drafts::Operand,
     destination: Destination,
 ) -> Result<(), AllocError>
     ensures { OnOk result (AddsCode bytes.old bytes.new

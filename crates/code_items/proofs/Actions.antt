@@ -8,13 +8,13 @@ use Rattle.meaning.specs.declared.resolved.Action as code_action
 use Rattle.meaning.specs.Resolved.{Value, Printed, Action, Actions}
 use Rattle.meaning.specs.Views.{actions_of, action_of, printed_of}
 use Rattle.meaning.specs.Resolved as source
-use Rattle.code_values.specs.Items.{Item, Operand, alone, if_pushed, push, branch_count, value_count, value_items}
-use Rattle.code_values.specs.Items.{branch_items, alone_items, left_of, operand_count}
-use Rattle.code_values.specs.Items as items
-use Rattle.code_values.specs.declared.wanted.Wanted.TheVariants.{Branch}
-use Rattle.code_values.specs.Writing.{in_order, wanted_items, WritesBefore}
-use Rattle.code_values.proofs.Counts.{branch_length}
-use Rattle.code_values.proofs.WrittenItems.{in_order_append, one, counted, both, as_items, then_one, after_one}
+use Rattle.code_drafts.specs.Items.{Item, Operand, alone, if_pushed, push, branch_count, value_count, value_items}
+use Rattle.code_drafts.specs.Items.{branch_items, alone_items, left_of, operand_count}
+use Rattle.code_drafts.specs.Items as items
+use Rattle.code_drafts.specs.declared.wanted.Wanted.TheVariants.{Branch}
+use Rattle.code_drafts.specs.Writing.{in_order, wanted_items, WritesBefore}
+use Rattle.code_drafts.proofs.Counts.{branch_length}
+use Rattle.code_drafts.proofs.WrittenItems.{in_order_append, one, counted, both, as_items, then_one, after_one}
 use Rattle.code_values.specs.ValueWriting.{pushes}
 use Rattle.code_values.proofs.Values.{pushes_length}
 use Rattle.code_items.specs.Statements.{printed_count, prints_count, action_count, printed_items, prints_items}

@@ -8,11 +8,11 @@ use Rattle.meaning.specs.Resolved as source
 use Rattle.meaning.specs.Accepted.{needs_of}
 use Rattle.meaning.specs.World.{Situation, Comes, to, bound, ◌>>=◌, give, value_in}
 use Rattle.meaning.specs.Meaning.{evaluate, evaluate_all}
-use Rattle.code_values.specs.Items.{Operand, pushed, number, variable, push, aside, operand_of}
-use Rattle.code_values.specs.Items.{operands_of, if_pushed, is_any_pushed, argument_place, prefix_operand}
-use Rattle.code_values.specs.Items.{value_count, value_items, arguments_items}
-use Rattle.code_values.proofs.CountedForms.{if_length}
-use Rattle.code_values.proofs.Counts.{value_length}
+use Rattle.code_drafts.specs.Items.{Operand, pushed, number, variable, push, aside, operand_of}
+use Rattle.code_drafts.specs.Items.{operands_of, if_pushed, is_any_pushed, argument_place, prefix_operand}
+use Rattle.code_drafts.specs.Items.{value_count, value_items, arguments_items}
+use Rattle.code_drafts.proofs.CountedForms.{if_length}
+use Rattle.code_drafts.proofs.Counts.{value_length}
 use Rattle.code_items.specs.Stack.{Next, goes}
 use Rattle.code_items.proofs.Running.{Running, code, setting}
 use Rattle.code_items.proofs.Standing.{HasAt, split}

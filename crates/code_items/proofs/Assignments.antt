@@ -9,10 +9,10 @@ use Rattle.meaning.specs.Resolved as source
 use Rattle.meaning.specs.Accepted.{need_of}
 use Rattle.meaning.specs.World.{Situation, to, Part, ◌>>=◌, give, write_variable, value_in, with_value}
 use Rattle.meaning.specs.Meaning.{stepped, evaluate}
-use Rattle.code_values.specs.Items.{pushed, variable, Destination, push, into, aside, nowhere, value_count}
-use Rattle.code_values.specs.Items.{after_items, kept_items, value_items}
-use Rattle.code_values.specs.Items as items
-use Rattle.code_values.proofs.Counts.{value_length}
+use Rattle.code_drafts.specs.Items.{pushed, variable, Destination, push, into, aside, nowhere, value_count}
+use Rattle.code_drafts.specs.Items.{after_items, kept_items, value_items}
+use Rattle.code_drafts.specs.Items as items
+use Rattle.code_drafts.proofs.Counts.{value_length}
 use Rattle.code_items.specs.Stack.{stuck, act}
 use Rattle.code_items.proofs.Acts.{keeps_give, keeps_write}
 use Rattle.code_items.proofs.Running.{steps_on, Running, code, setting}

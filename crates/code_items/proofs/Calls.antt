@@ -8,10 +8,10 @@ use Rattle.meaning.specs.Resolved as source
 use Rattle.meaning.specs.Accepted.{needs_of}
 use Rattle.meaning.specs.World.{Situation, Comes, ◌>>=◌}
 use Rattle.meaning.specs.Meaning.{evaluate, evaluate_all}
-use Rattle.code_values.specs.Items.{Operand, pushed, number, variable, Destination, push, operands_of, is_any_pushed}
-use Rattle.code_values.specs.Items.{are_more_pushed, called, arguments_count, arguments_items}
-use Rattle.code_values.specs.Items as items
-use Rattle.code_values.proofs.Counts.{arguments_length}
+use Rattle.code_drafts.specs.Items.{Operand, pushed, number, variable, Destination, push, operands_of, is_any_pushed}
+use Rattle.code_drafts.specs.Items.{are_more_pushed, called, arguments_count, arguments_items}
+use Rattle.code_drafts.specs.Items as items
+use Rattle.code_drafts.proofs.Counts.{arguments_length}
 use Rattle.code_items.specs.Stack.{Next, goes, delivered, enter, act, ItemState}
 use Rattle.code_items.specs.Stack as stack
 use Rattle.code_items.proofs.Running.{steps_on, Running, code, setting, RunsTo}

@@ -6,9 +6,9 @@ use Rattle.std.proofs.lemmas.Bool.{lt-ltb}
 use Rattle.meaning.specs.Resolved.{ProgramOf}
 use Rattle.meaning.specs.World.{Outcome, Situation, Comes, to, over}
 use Rattle.meaning.specs.Meaning.{routine_at}
-use Rattle.code_values.specs.Items.{Item, Operand, pushed, number, variable, Test, agrees}
+use Rattle.code_drafts.specs.Items.{Item, Operand, pushed, number, variable, Test, agrees}
 use Rattle.code_items.specs.Statements.{routine_items}
-use Rattle.code_values.specs.Items as items
+use Rattle.code_drafts.specs.Items as items
 use Rattle.code_items.specs.Stack.{Caller, Next, goes, stuck, with_operand, with_operands, branch, holds, act}
 use Rattle.code_items.specs.Stack.{ItemState, from, exec, after_part, stands_in, tested_attribute, is_provided}
 use Rattle.code_items.specs.Stack.{begins_objects, steps_object}

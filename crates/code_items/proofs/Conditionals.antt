@@ -6,10 +6,10 @@ use Rattle.meaning.specs.Resolved as source
 use Rattle.meaning.specs.Accepted.{IsWhole}
 use Rattle.meaning.specs.World.{Situation, to, Part, ◌>>=◌, give}
 use Rattle.meaning.specs.Meaning.{is_true, evaluate, Ending, goes_on, breaks, continues, returns, run}
-use Rattle.code_values.specs.Items.{agrees, branch_count, branch_items}
+use Rattle.code_drafts.specs.Items.{agrees, branch_count, branch_items}
 use Rattle.code_items.specs.Statements.{action_count, Exits, action_items}
-use Rattle.code_values.specs.Items as items
-use Rattle.code_values.proofs.Counts.{branch_length}
+use Rattle.code_drafts.specs.Items as items
+use Rattle.code_drafts.proofs.Counts.{branch_length}
 use Rattle.code_items.proofs.StatementCounts.{action_length}
 use Rattle.code_items.proofs.Running.{Running, code, locals, setting}
 use Rattle.code_items.proofs.Standing.{HasAt, split, long}

@@ -11,7 +11,7 @@ use Rattle.syntax_trees.specs.declared.tree.Containment.TheVariants as containme
 use Rattle.syntax_trees.specs.declared.tree.Equality.{Equality}
 use Rattle.syntax_trees.specs.declared.tree.Equality.TheVariants as equalities
 use Rattle.meaning.specs.Meaning.{truth, is_true, equated, compared, contains}
-use Rattle.code_values.specs.Items.{agrees, comparison_test, comparison_when, equality_when, containment_when}
+use Rattle.code_drafts.specs.Items.{agrees, comparison_test, comparison_when, equality_when, containment_when}
 use Rattle.code_items.specs.Stack.{holds}
 
 pub truth_back : (b : Bool) → is_true (truth b) ≡ b

@@ -4,8 +4,8 @@ use Rattle.meaning.specs.Resolved.{Value, Values, none, more}
 use Rattle.meaning.specs.Resolved as source
 use Rattle.meaning.specs.Accepted.{IsValue, AreValues}
 use Rattle.meaning.specs.Meaning.{is_true}
-use Rattle.code_values.specs.Items.{pushed, number, variable, agrees}
-use Rattle.code_values.specs.Items as items
+use Rattle.code_drafts.specs.Items.{pushed, number, variable, agrees}
+use Rattle.code_drafts.specs.Items as items
 use Rattle.code_items.proofs.Fine.{Bounds, after_fine, either_fine, first, moved_fine, nothing, true_fine}
 use Rattle.code_items.proofs.FineValues.{FineValue, FineList, call_fine, prefixed_fine, binary_fine, compare_fine}
 use Rattle.code_items.proofs.FineValues.{equal_fine, assign_fine, entry_fine, assign_entry_fine, list_none, list_more}

@@ -7,10 +7,10 @@ use Rattle.meaning.specs.Resolved.{Value, none, more}
 use Rattle.meaning.specs.Resolved as source
 use Rattle.meaning.specs.World.{Situation, Comes, to, over, Part, bound, ◌>>=◌, give, read_entry}
 use Rattle.meaning.specs.Meaning.{evaluate}
-use Rattle.code_values.specs.Items.{Item, Operand, pushed, number, variable, Destination, aside, alone, left_of}
-use Rattle.code_values.specs.Items.{value_count, value_items, if_pushed, loaded, index_place, stored, branch_true, push}
-use Rattle.code_values.specs.Items.{is_any_pushed, arguments_items}
-use Rattle.code_values.specs.Items as items
+use Rattle.code_drafts.specs.Items.{Item, Operand, pushed, number, variable, Destination, aside, alone, left_of}
+use Rattle.code_drafts.specs.Items.{value_count, value_items, if_pushed, loaded, index_place, stored, branch_true, push}
+use Rattle.code_drafts.specs.Items.{is_any_pushed, arguments_items}
+use Rattle.code_drafts.specs.Items as items
 use Rattle.code_items.specs.Stack.{goes, with_operand, gives, assigned_entry}
 use Rattle.code_items.proofs.Acts.{keeps_read_entry, keeps_assigned_entry}
 use Rattle.code_items.proofs.Running.{Running, code, setting}

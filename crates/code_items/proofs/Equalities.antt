@@ -12,15 +12,15 @@ use Rattle.meaning.specs.Resolved as source
 use Rattle.meaning.specs.Accepted.{need_of, needs_of}
 use Rattle.meaning.specs.World.{Situation, to, ◌>>=◌, give}
 use Rattle.meaning.specs.Meaning.{truth, is_true, equated, compared, evaluate, evaluate_all}
-use Rattle.code_values.specs.Items.{Item, Operand, pushed, push, is_zero, same, operand_of, operands_of, alone}
-use Rattle.code_values.specs.Items.{left_of, if_pushed, agrees, is_few, is_direct, same_count, comparison_test}
-use Rattle.code_values.specs.Items.{comparison_when, equality_when}
-use Rattle.code_values.specs.Items.{value_count, operand_count, operands_count, many_count, truth_items, same_items}
-use Rattle.code_values.specs.Items.{value_items, operands_items, branch_items, many_items, also_items}
-use Rattle.code_values.specs.Items as items
-use Rattle.code_values.proofs.CountedForms.{if_length}
-use Rattle.code_values.proofs.Counts.{value_length, branch_length, operands_length, many_length}
-use Rattle.code_values.proofs.InPlace.{placed, stays_placed, same_length, same_last, operands_counted}
+use Rattle.code_drafts.specs.Items.{Item, Operand, pushed, push, is_zero, same, operand_of, operands_of, alone}
+use Rattle.code_drafts.specs.Items.{left_of, if_pushed, agrees, is_few, is_direct, same_count, comparison_test}
+use Rattle.code_drafts.specs.Items.{comparison_when, equality_when}
+use Rattle.code_drafts.specs.Items.{value_count, operand_count, operands_count, many_count, truth_items, same_items}
+use Rattle.code_drafts.specs.Items.{value_items, operands_items, branch_items, many_items, also_items}
+use Rattle.code_drafts.specs.Items as items
+use Rattle.code_drafts.proofs.CountedForms.{if_length}
+use Rattle.code_drafts.proofs.Counts.{value_length, branch_length, operands_length, many_length}
+use Rattle.code_drafts.proofs.InPlace.{placed, stays_placed, same_length, same_last, operands_counted}
 use Rattle.code_items.specs.Stack.{stuck, holds}
 use Rattle.code_items.specs.Stack as stack
 use Rattle.code_items.proofs.Unchanged.{all_unchanged}

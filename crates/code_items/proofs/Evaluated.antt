@@ -9,13 +9,13 @@ use Rattle.meaning.specs.Resolved as source
 use Rattle.meaning.specs.Accepted.{need_of, needs_of}
 use Rattle.meaning.specs.World.{Situation, Comes, to, bound, Part, ◌>>=◌, give, value_in}
 use Rattle.meaning.specs.Meaning.{with_prefix, evaluate, evaluate_all}
-use Rattle.code_values.specs.Items.{Item, Operand, pushed, number, variable, Destination, push, prefix_operand}
-use Rattle.code_values.specs.Items.{operand_of, operands_of, alone, left_of}
-use Rattle.code_values.specs.Items.{first_of, if_pushed, changes, change, operand_count, value_items, operands_items}
-use Rattle.code_values.specs.Items.{branch_items}
+use Rattle.code_drafts.specs.Items.{Item, Operand, pushed, number, variable, Destination, push, prefix_operand}
+use Rattle.code_drafts.specs.Items.{operand_of, operands_of, alone, left_of}
+use Rattle.code_drafts.specs.Items.{first_of, if_pushed, changes, change, operand_count, value_items, operands_items}
+use Rattle.code_drafts.specs.Items.{branch_items}
 use Rattle.code_items.specs.Stack.{Next}
-use Rattle.code_values.proofs.CountedForms.{if_length}
-use Rattle.code_values.proofs.Counts.{value_length}
+use Rattle.code_drafts.proofs.CountedForms.{if_length}
+use Rattle.code_drafts.proofs.Counts.{value_length}
 use Rattle.code_items.proofs.Unchanged.{unchanged, all_unchanged, left, right}
 use Rattle.code_items.proofs.Acts.{came}
 use Rattle.code_items.proofs.Running.{Running, code, setting}

@@ -10,11 +10,11 @@ use Rattle.meaning.specs.declared.resolved.Variable.{Variable}
 use Rattle.meaning.specs.Resolved.{Value, Values, none, more, ProgramOf}
 use Rattle.meaning.specs.Resolved as source
 use Rattle.meaning.specs.Accepted.{IsVariable, IsValue, AreValues}
-use Rattle.code_values.specs.Items.{Item, Operand, pushed, number, variable, Destination, push, into, aside, nowhere}
-use Rattle.code_values.specs.Items.{prefix_operand, operand_of, operands_of, if_pushed, change, branch_true}
-use Rattle.code_values.specs.Items.{comparison_test, same_count, same_items}
-use Rattle.code_values.specs.Items.{truth_count, kept_count, moved, truth_items, after_items, kept_items}
-use Rattle.code_values.specs.Items as items
+use Rattle.code_drafts.specs.Items.{Item, Operand, pushed, number, variable, Destination, push, into, aside, nowhere}
+use Rattle.code_drafts.specs.Items.{prefix_operand, operand_of, operands_of, if_pushed, change, branch_true}
+use Rattle.code_drafts.specs.Items.{comparison_test, same_count, same_items}
+use Rattle.code_drafts.specs.Items.{truth_count, kept_count, moved, truth_items, after_items, kept_items}
+use Rattle.code_drafts.specs.Items as items
 use Rattle.code_items.specs.Laws.{IsOperand, IsDestination, IsItem, IsTestedValue}
 
 -- what an item of a routine can name: what a program has, so many locals and so many items

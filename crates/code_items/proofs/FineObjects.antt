@@ -5,9 +5,9 @@ use Rattle.syntax_trees.specs.declared.tree.Relative.{Relative}
 use Rattle.meaning.specs.Resolved.{Value, none, more}
 use Rattle.meaning.specs.Resolved as source
 use Rattle.meaning.specs.Accepted.{IsValue, IsProperty}
-use Rattle.code_values.specs.Items.{Item, pushed, push, alone, left_of, first_of, if_pushed, agrees, branch_true}
-use Rattle.code_values.specs.Items.{operand_count, value_count, value_items, branch_items}
-use Rattle.code_values.specs.Items as items
+use Rattle.code_drafts.specs.Items.{Item, pushed, push, alone, left_of, first_of, if_pushed, agrees, branch_true}
+use Rattle.code_drafts.specs.Items.{operand_count, value_count, value_items, branch_items}
+use Rattle.code_drafts.specs.Items as items
 use Rattle.code_items.specs.Laws.{IsItem}
 use Rattle.code_items.proofs.Fine.{Bounds, Fine, first, last, last_two, nothing, operand_fine, three_fine, true_fine}
 use Rattle.code_items.proofs.Fine.{truth_fine}

@@ -12,16 +12,16 @@ use Rattle.meaning.specs.declared.resolved.Variable.{Variable}
 use Rattle.meaning.specs.Resolved.{Value, Values, none, more}
 use Rattle.meaning.specs.Resolved as source
 use Rattle.meaning.specs.Accepted.{IsVariable, IsValue, AreValues}
-use Rattle.code_values.specs.Items.{Item, Operand, pushed, number, variable, Destination, push, into, aside}
-use Rattle.code_values.specs.Items.{right_place, loaded, index_place, stored}
-use Rattle.code_values.specs.Items.{operated, operand_of, operands_of, alone}
-use Rattle.code_values.specs.Items.{left_of, if_pushed, is_direct, same_count, comparison_when, equality_when, truth_count}
-use Rattle.code_values.specs.Items.{value_count, operand_count, operands_count, branch_count, many_count, also_count}
-use Rattle.code_values.specs.Items.{same_items, is_any_pushed, are_more_pushed, argument_place, called}
-use Rattle.code_values.specs.Items.{arguments_count, arguments_items}
-use Rattle.code_values.specs.Items.{value_items, operands_items, branch_items, many_items, also_items}
-use Rattle.code_values.specs.Items as items
-use Rattle.code_values.proofs.InPlace.{operands_counted}
+use Rattle.code_drafts.specs.Items.{Item, Operand, pushed, number, variable, Destination, push, into, aside}
+use Rattle.code_drafts.specs.Items.{right_place, loaded, index_place, stored}
+use Rattle.code_drafts.specs.Items.{operated, operand_of, operands_of, alone}
+use Rattle.code_drafts.specs.Items.{left_of, if_pushed, is_direct, same_count, comparison_when, equality_when, truth_count}
+use Rattle.code_drafts.specs.Items.{value_count, operand_count, operands_count, branch_count, many_count, also_count}
+use Rattle.code_drafts.specs.Items.{same_items, is_any_pushed, are_more_pushed, argument_place, called}
+use Rattle.code_drafts.specs.Items.{arguments_count, arguments_items}
+use Rattle.code_drafts.specs.Items.{value_items, operands_items, branch_items, many_items, also_items}
+use Rattle.code_drafts.specs.Items as items
+use Rattle.code_drafts.proofs.InPlace.{operands_counted}
 use Rattle.code_items.specs.Laws.{IsOperand, IsDestination, IsItem}
 use Rattle.code_items.proofs.Held.{place_is}
 use Rattle.code_items.proofs.Calls.{any_of_more}

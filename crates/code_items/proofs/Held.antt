@@ -9,9 +9,9 @@ use Rattle.meaning.specs.Resolved.{Value, Values, none, more}
 use Rattle.meaning.specs.Resolved as source
 use Rattle.meaning.specs.World.{Situation, value_in}
 use Rattle.meaning.specs.Meaning.{with_prefix}
-use Rattle.code_values.specs.Items.{Operand, pushed, number, variable, Destination, push, aside, right_place}
-use Rattle.code_values.specs.Items.{prefix_operand, operand_of, operands_of, if_pushed, change, is_in_place, all_in_place}
-use Rattle.code_values.proofs.InPlace.{both_true, stays_placed}
+use Rattle.code_drafts.specs.Items.{Operand, pushed, number, variable, Destination, push, aside, right_place}
+use Rattle.code_drafts.specs.Items.{prefix_operand, operand_of, operands_of, if_pushed, change, is_in_place, all_in_place}
+use Rattle.code_drafts.proofs.InPlace.{both_true, stays_placed}
 use Rattle.code_items.specs.Stack.{Next, with_operand, with_operands}
 
 -- what is known of an operand whose value was evaluated

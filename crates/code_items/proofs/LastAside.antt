@@ -6,9 +6,9 @@ use Rattle.meaning.specs.Resolved.{Value, Values}
 use Rattle.meaning.specs.Accepted.{need_of, needs_of}
 use Rattle.meaning.specs.World.{Situation, Part, ◌>>=◌}
 use Rattle.meaning.specs.Meaning.{evaluate, evaluate_all}
-use Rattle.code_values.specs.Items.{Item, Destination, push, branch_true, pushed, operands_of, is_any_pushed}
-use Rattle.code_values.specs.Items.{arguments_count, arguments_items, value_items, branch_items}
-use Rattle.code_values.proofs.Counts.{arguments_length}
+use Rattle.code_drafts.specs.Items.{Item, Destination, push, branch_true, pushed, operands_of, is_any_pushed}
+use Rattle.code_drafts.specs.Items.{arguments_count, arguments_items, value_items, branch_items}
+use Rattle.code_drafts.proofs.Counts.{arguments_length}
 use Rattle.code_items.proofs.Running.{Running, code, setting}
 use Rattle.code_items.proofs.Standing.{HasAt, split}
 use Rattle.code_items.proofs.Needs.{some_needed}

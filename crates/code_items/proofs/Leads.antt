@@ -3,7 +3,7 @@ use Rattle.std.proofs.Common.{◌≡◌, ℕ, ◌+◌, ◌≤◌, List, ◌∷�
 use Rattle.std.specs.Prelude.{if◌then◌else◌}
 use Rattle.meaning.specs.World.{Outcome, Situation, Comes, to, Part, bound, ◌>>=◌, units, with_value}
 use Rattle.meaning.specs.Meaning.{is_true}
-use Rattle.code_values.specs.Items.{Destination, push, into, aside, nowhere, agrees}
+use Rattle.code_drafts.specs.Items.{Destination, push, into, aside, nowhere, agrees}
 use Rattle.code_items.specs.Stack.{Next, goes, delivered, ItemState}
 use Rattle.code_items.proofs.Acts.{hand, hand_bound, Lower, bound_bound}
 use Rattle.code_items.proofs.Running.{fits, Running, RunsTo}

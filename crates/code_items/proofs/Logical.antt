@@ -8,8 +8,8 @@ use Rattle.meaning.specs.Resolved as source
 use Rattle.meaning.specs.Accepted.{need_of}
 use Rattle.meaning.specs.World.{Situation, to, ◌>>=◌, give}
 use Rattle.meaning.specs.Meaning.{truth, is_true, evaluate}
-use Rattle.code_values.specs.Items.{agrees, branch_count, branch_items}
-use Rattle.code_values.proofs.Counts.{branch_length}
+use Rattle.code_drafts.specs.Items.{agrees, branch_count, branch_items}
+use Rattle.code_drafts.proofs.Counts.{branch_length}
 use Rattle.code_items.proofs.Running.{Running, code, setting}
 use Rattle.code_items.proofs.Standing.{HasAt, split, long}
 use Rattle.code_items.proofs.Needs.{some_needed}

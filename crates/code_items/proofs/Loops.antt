@@ -12,13 +12,13 @@ use Rattle.meaning.specs.World.{Situation, Comes, to, Part, bound, ◌>>=◌, gi
 use Rattle.meaning.specs.World as world
 use Rattle.meaning.specs.Meaning.{is_true, evaluate, Ending, goes_on, breaks, continues, returns, behind_body, round}
 use Rattle.meaning.specs.Meaning.{rounds, once, tested, behind_round, until, run}
-use Rattle.code_values.specs.Items.{nowhere, agrees, branch_count, branch_items}
+use Rattle.code_drafts.specs.Items.{nowhere, agrees, branch_count, branch_items}
 use Rattle.code_items.specs.Statements.{once_count, once_items, test_count, test_items, action_count, Exits, exits_to}
 use Rattle.code_items.specs.Statements.{action_items}
-use Rattle.code_values.specs.Items as items
+use Rattle.code_drafts.specs.Items as items
 use Rattle.code_items.specs.Stack.{stuck, after_part, act}
 use Rattle.code_items.proofs.Acts.{hand, spends}
-use Rattle.code_values.proofs.Counts.{branch_length}
+use Rattle.code_drafts.proofs.Counts.{branch_length}
 use Rattle.code_items.proofs.StatementCounts.{once_length, test_length, action_length}
 use Rattle.code_items.proofs.Running.{ends_there, steps_on, Running, code, locals, setting, RunsTo}
 use Rattle.code_items.proofs.Standing.{HasAt, split}

@@ -11,10 +11,10 @@ use Rattle.meaning.specs.Resolved as source
 use Rattle.meaning.specs.World.{Situation, to, Part, ◌>>=◌, give, relative_of}
 use Rattle.meaning.specs.World as world
 use Rattle.meaning.specs.Meaning.{truth, is_true, contains, evaluate, test_object}
-use Rattle.code_values.specs.Items.{Item, Operand, Destination, alone, left_of, containment_when, agrees, truth_items}
-use Rattle.code_values.specs.Items.{value_items, operand_count, alone_items, branch_items}
-use Rattle.code_values.specs.Items as items
-use Rattle.code_values.proofs.Counts.{alone_length, branch_length}
+use Rattle.code_drafts.specs.Items.{Item, Operand, Destination, alone, left_of, containment_when, agrees, truth_items}
+use Rattle.code_drafts.specs.Items.{value_items, operand_count, alone_items, branch_items}
+use Rattle.code_drafts.specs.Items as items
+use Rattle.code_drafts.proofs.Counts.{alone_length, branch_length}
 use Rattle.code_items.specs.Stack.{with_operand, act, stands_in, tested_attribute, is_provided, ItemState}
 use Rattle.code_items.specs.Stack as stack
 use Rattle.code_items.proofs.Acts.{Keeps, came, bound_bound, bound_alike}

@@ -13,10 +13,10 @@ use Rattle.meaning.specs.World.{Situation, Comes, to, over, Part, bound, â—Œ>>=â
 use Rattle.meaning.specs.World.{relative_of}
 use Rattle.meaning.specs.Meaning.{is_true, evaluate, test_object, Ending, goes_on, rounds, next_object, sibling_next}
 use Rattle.meaning.specs.Meaning.{count_next, each_of, run}
-use Rattle.code_values.specs.Items.{Item, Operand, variable, push, alone, agrees, branch_count, operand_count}
-use Rattle.code_values.specs.Items.{alone_items}
-use Rattle.code_values.specs.Items as items
-use Rattle.code_values.proofs.Counts.{alone_length}
+use Rattle.code_drafts.specs.Items.{Item, Operand, variable, push, alone, agrees, branch_count, operand_count}
+use Rattle.code_drafts.specs.Items.{alone_items}
+use Rattle.code_drafts.specs.Items as items
+use Rattle.code_drafts.proofs.Counts.{alone_length}
 use Rattle.code_items.specs.Statements.{action_count, Exits, exits_to, action_items, each_items, relative_items}
 use Rattle.code_items.specs.Statements.{children_items}
 use Rattle.code_items.specs.Stack.{Next, gives, relative_to, begins_objects, steps_object}

@@ -16,9 +16,9 @@ use Rattle.meaning.specs.Resolved.{give_to, move_to, remove_from, each_object, e
 use Rattle.meaning.specs.Views.{actions_of}
 use Rattle.meaning.specs.Resolved as source
 use Rattle.meaning.specs.World.{Outcome}
-use Rattle.code_values.specs.Items.{pushed, push, into, nowhere, is_zero, branch, keep, back, print_number, print_name}
-use Rattle.code_values.specs.Items.{move, move_object, remove_object, give, is_in, first_object, next_object}
-use Rattle.code_values.specs.Items as items
+use Rattle.code_drafts.specs.Items.{pushed, push, into, nowhere, is_zero, branch, keep, back, print_number, print_name}
+use Rattle.code_drafts.specs.Items.{move, move_object, remove_object, give, is_in, first_object, next_object}
+use Rattle.code_drafts.specs.Items as items
 use Rattle.code_items.specs.Statements.{Exits, exits_to, action_items}
 use Rattle.code_items.specs.Stack.{from, exec, start}
 

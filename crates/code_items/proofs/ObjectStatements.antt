@@ -8,8 +8,8 @@ use Rattle.meaning.specs.World.{Situation, Part, ◌>>=◌, give}
 use Rattle.meaning.specs.World as world
 use Rattle.meaning.specs.Meaning.{evaluate, test_object, Ending, goes_on, run}
 use Rattle.meaning.specs.Meaning as meaning
-use Rattle.code_values.specs.Items.{alone, left_of, operand_count}
-use Rattle.code_values.specs.Items as items
+use Rattle.code_drafts.specs.Items.{alone, left_of, operand_count}
+use Rattle.code_drafts.specs.Items as items
 use Rattle.code_items.specs.Stack.{with_operand, prints, gives_attributes, moves_object, removes_object, ItemState}
 use Rattle.code_items.proofs.Acts.{bound_bound, bound_alike}
 use Rattle.code_items.proofs.ObjectParts.{keeps_gives, keeps_moves, keeps_removes}

@@ -8,10 +8,10 @@ use Rattle.meaning.specs.Resolved.{Value, none}
 use Rattle.meaning.specs.Resolved as source
 use Rattle.meaning.specs.World.{Situation, Part, ◌>>=◌}
 use Rattle.meaning.specs.Meaning.{evaluate}
-use Rattle.code_values.specs.Items.{Item, Operand, pushed, Destination, push, alone, left_of, first_of, if_pushed}
-use Rattle.code_values.specs.Items.{value_items, operand_count, alone_items, branch_true}
-use Rattle.code_values.specs.Items as items
-use Rattle.code_values.proofs.Counts.{alone_length}
+use Rattle.code_drafts.specs.Items.{Item, Operand, pushed, Destination, push, alone, left_of, first_of, if_pushed}
+use Rattle.code_drafts.specs.Items.{value_items, operand_count, alone_items, branch_true}
+use Rattle.code_drafts.specs.Items as items
+use Rattle.code_drafts.proofs.Counts.{alone_length}
 use Rattle.code_items.specs.Stack.{with_operand, gives, act, relative_to, property_of, property_bytes, ItemState}
 use Rattle.code_items.specs.Stack.{word_of_property, assigned_property, assigned_property_word}
 use Rattle.code_items.proofs.Acts.{Keeps}

@@ -12,12 +12,12 @@ use Rattle.meaning.specs.Resolved as source
 use Rattle.meaning.specs.Accepted.{need_of}
 use Rattle.meaning.specs.World.{Situation, to, ◌>>=◌, give, value_in}
 use Rattle.meaning.specs.Meaning.{truth, is_true, operate, with_prefix, evaluate}
-use Rattle.code_values.specs.Items.{Operand, pushed, number, variable, Destination, push, aside, right_place}
-use Rattle.code_values.specs.Items.{operated, is_zero}
-use Rattle.code_values.specs.Items.{alone, left_of, if_pushed, branch_true, agrees, operand_count}
-use Rattle.code_values.specs.Items.{branch_count, value_items, branch_items, alone_items}
-use Rattle.code_values.specs.Items as items
-use Rattle.code_values.proofs.Counts.{branch_length, alone_length}
+use Rattle.code_drafts.specs.Items.{Operand, pushed, number, variable, Destination, push, aside, right_place}
+use Rattle.code_drafts.specs.Items.{operated, is_zero}
+use Rattle.code_drafts.specs.Items.{alone, left_of, if_pushed, branch_true, agrees, operand_count}
+use Rattle.code_drafts.specs.Items.{branch_count, value_items, branch_items, alone_items}
+use Rattle.code_drafts.specs.Items as items
+use Rattle.code_drafts.proofs.Counts.{branch_length, alone_length}
 use Rattle.code_items.specs.Stack.{with_operand, delivered, gives, act}
 use Rattle.code_items.specs.Stack as stack
 use Rattle.code_items.proofs.Acts.{keeps_give, keeps_operate}

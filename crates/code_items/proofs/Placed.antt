@@ -8,11 +8,11 @@ use Rattle.meaning.specs.Resolved as source
 use Rattle.meaning.specs.Accepted.{need_of}
 use Rattle.meaning.specs.World.{Situation, to, Part, ◌>>=◌, value_in}
 use Rattle.meaning.specs.Meaning.{evaluate}
-use Rattle.code_values.specs.Items.{Item, Operand, pushed, number, variable, Destination, push, alone, left_of}
-use Rattle.code_values.specs.Items.{if_pushed, operand_count, value_count, value_items, right_place, operated}
-use Rattle.code_values.specs.Items.{prefix_operand, operand_of, change}
-use Rattle.code_values.proofs.CountedForms.{if_length}
-use Rattle.code_values.proofs.Counts.{value_length}
+use Rattle.code_drafts.specs.Items.{Item, Operand, pushed, number, variable, Destination, push, alone, left_of}
+use Rattle.code_drafts.specs.Items.{if_pushed, operand_count, value_count, value_items, right_place, operated}
+use Rattle.code_drafts.specs.Items.{prefix_operand, operand_of, change}
+use Rattle.code_drafts.proofs.CountedForms.{if_length}
+use Rattle.code_drafts.proofs.Counts.{value_length}
 use Rattle.code_items.specs.Stack.{Next}
 use Rattle.code_items.proofs.Running.{Running, code, setting}
 use Rattle.code_items.proofs.Standing.{HasAt, split}

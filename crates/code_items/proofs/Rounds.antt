@@ -6,14 +6,14 @@ use Rattle.syntax_trees.specs.declared.tree.Relative.TheVariants as relatives
 use Rattle.meaning.specs.declared.resolved.Variable.{Variable}
 use Rattle.meaning.specs.Resolved.{Value, Action}
 use Rattle.meaning.specs.Resolved as source
-use Rattle.code_values.specs.Items.{Item, Operand, alone, if_pushed, push, value_count, value_items, branch_count}
-use Rattle.code_values.specs.Items.{branch_items}
-use Rattle.code_values.specs.Items as items
-use Rattle.code_values.specs.declared.wanted.Wanted.TheVariants.{Branch}
-use Rattle.code_values.specs.Writing.{wanted_items, WritesBefore}
-use Rattle.code_values.proofs.CountedForms.{joined}
-use Rattle.code_values.proofs.Counts.{branch_length}
-use Rattle.code_values.proofs.WrittenItems.{one, counted, both, as_items, then_one}
+use Rattle.code_drafts.specs.Items.{Item, Operand, alone, if_pushed, push, value_count, value_items, branch_count}
+use Rattle.code_drafts.specs.Items.{branch_items}
+use Rattle.code_drafts.specs.Items as items
+use Rattle.code_drafts.specs.declared.wanted.Wanted.TheVariants.{Branch}
+use Rattle.code_drafts.specs.Writing.{wanted_items, WritesBefore}
+use Rattle.code_drafts.proofs.CountedForms.{joined}
+use Rattle.code_drafts.proofs.Counts.{branch_length}
+use Rattle.code_drafts.proofs.WrittenItems.{one, counted, both, as_items, then_one}
 use Rattle.code_values.specs.ValueWriting.{pushes}
 use Rattle.code_values.proofs.Values.{pushes_length}
 use Rattle.code_items.specs.Statements.{action_count, action_items, once_count, once_items, test_count, test_items}

@@ -9,12 +9,12 @@ use Rattle.meaning.specs.Meaning.{put_line, evaluate, Ending, goes_on, breaks, c
 use Rattle.meaning.specs.Meaning.{run_all, run_cases, routine_at, word_of}
 use Rattle.meaning.specs.Reading.{read_next}
 use Rattle.meaning.specs.Places.{number_in}
-use Rattle.code_values.specs.Items.{nowhere, alone, operand_count, alone_items}
+use Rattle.code_drafts.specs.Items.{nowhere, alone, operand_count, alone_items}
 use Rattle.code_items.specs.Statements.{prints_count, action_count, actions_count, prints_items, return_true, Exits}
 use Rattle.code_items.specs.Statements.{exits_to, action_items, actions_items, cases_count, cases_items}
-use Rattle.code_values.specs.Items as items
+use Rattle.code_drafts.specs.Items as items
 use Rattle.code_items.specs.Stack.{Next, return_to, act}
-use Rattle.code_values.proofs.Counts.{alone_length}
+use Rattle.code_drafts.proofs.Counts.{alone_length}
 use Rattle.code_items.proofs.StatementCounts.{prints_length, action_length, actions_length, cases_length}
 use Rattle.code_items.proofs.Acts.{keeps_put}
 use Rattle.code_items.proofs.Running.{ends_there, steps_on, Running, code, locals, setting}

@@ -6,7 +6,7 @@ use Rattle.meaning.specs.Resolved.{ProgramOf}
 use Rattle.meaning.specs.World.{Outcome, Situation, to}
 use Rattle.meaning.specs.Meaning.{Setting, routine_at, call_in}
 use Rattle.meaning.specs.Meaning as meaning
-use Rattle.code_values.specs.Items.{Item}
+use Rattle.code_drafts.specs.Items.{Item}
 use Rattle.code_items.specs.Statements.{routine_items}
 use Rattle.code_items.specs.Stack.{Caller, Next, goes, ends, stuck, within, enter, return_to, step, from, exec}
 use Rattle.code_items.specs.Stack.{ItemState}

@@ -14,11 +14,11 @@ use Rattle.meaning.specs.Resolved.{step_before, step_after, effect, if_then, if_
 use Rattle.meaning.specs.Resolved.{switch_on, one, between, return_value, next, stop, text_alone, print, print_return}
 use Rattle.meaning.specs.Resolved.{text, character_of, number_of}
 use Rattle.meaning.specs.Resolved as source
-use Rattle.code_values.specs.Items.{pushed, push, into, aside, nowhere, less, greater, same, is_zero, move, operate}
-use Rattle.code_values.specs.Items.{operate_aside, step}
-use Rattle.code_values.specs.Items.{branch, jump, back, print_text, print_character, print_number, new_line}
-use Rattle.code_values.specs.Items.{quit, apply_prefix, keep, first_equal, also_equal, drop_below}
-use Rattle.code_values.specs.Items as items
+use Rattle.code_drafts.specs.Items.{pushed, push, into, aside, nowhere, less, greater, same, is_zero, move, operate}
+use Rattle.code_drafts.specs.Items.{operate_aside, step}
+use Rattle.code_drafts.specs.Items.{branch, jump, back, print_text, print_character, print_number, new_line}
+use Rattle.code_drafts.specs.Items.{quit, apply_prefix, keep, first_equal, also_equal, drop_below}
+use Rattle.code_drafts.specs.Items as items
 use Rattle.code_items.specs.Statements.{Exits, exits_to, action_items, return_true}
 
 abbrev x : Variable

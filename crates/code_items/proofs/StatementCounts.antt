@@ -6,11 +6,11 @@ use Rattle.syntax_trees.specs.declared.tree.Relative.TheVariants as relatives
 use Rattle.meaning.specs.Resolved.{Value, Printed, Action, Actions, CasesOf, stop, next}
 use Rattle.meaning.specs.Resolved as source
 use Rattle.meaning.specs.declared.resolved.Variable.{Variable}
-use Rattle.code_values.specs.Items.{Operand, variable, push, aside, left_of, if_pushed, value_count, value_items}
-use Rattle.code_values.specs.Items.{nowhere, alone, branch_count, branch_items, operand_count, alone_items}
-use Rattle.code_values.specs.Items as items
-use Rattle.code_values.proofs.CountedForms.{joined, if_length}
-use Rattle.code_values.proofs.Counts.{value_length, branch_length, alone_length}
+use Rattle.code_drafts.specs.Items.{Operand, variable, push, aside, left_of, if_pushed, value_count, value_items}
+use Rattle.code_drafts.specs.Items.{nowhere, alone, branch_count, branch_items, operand_count, alone_items}
+use Rattle.code_drafts.specs.Items as items
+use Rattle.code_drafts.proofs.CountedForms.{joined, if_length}
+use Rattle.code_drafts.proofs.Counts.{value_length, branch_length, alone_length}
 use Rattle.code_items.specs.Statements.{each_items, children_items, relative_items, printed_count, prints_count}
 use Rattle.code_items.specs.Statements.{action_count, actions_count, cases_count, once_count, test_count, tests_count}
 use Rattle.code_items.specs.Statements.{group_count, groups_of, over_count, printed_items, prints_items, once_items}

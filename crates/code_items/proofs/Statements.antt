@@ -12,11 +12,11 @@ use Rattle.meaning.specs.Meaning.{put_character, put_line, evaluate, Ending, goe
 use Rattle.meaning.specs.Meaning.{print_one, print_all, follow}
 use Rattle.meaning.specs.Reading.{read_next}
 use Rattle.meaning.specs.Places.{number_in}
-use Rattle.code_values.specs.Items.{Item, Operand, number, alone, operand_count, alone_items}
+use Rattle.code_drafts.specs.Items.{Item, Operand, number, alone, operand_count, alone_items}
 use Rattle.code_items.specs.Statements.{printed_count, printed_items, prints_items, return_true, Exits}
-use Rattle.code_values.specs.Items as items
+use Rattle.code_drafts.specs.Items as items
 use Rattle.code_items.specs.Stack.{Next, with_operand, prints, return_to, act, put_name, ItemState}
-use Rattle.code_values.proofs.Counts.{alone_length}
+use Rattle.code_drafts.proofs.Counts.{alone_length}
 use Rattle.code_items.proofs.StatementCounts.{printed_length}
 use Rattle.code_items.proofs.Acts.{Keeps, keeps_put, keeps_put_character, keeps_read_next}
 use Rattle.code_items.proofs.ObjectParts.{keeps_name}

@@ -5,9 +5,9 @@ use Rattle.std.specs.Prelude.{not, if◌then◌else◌, slice_get}
 use Rattle.std.proofs.lemmas.Bool.{lt-ltb}
 use Rattle.meaning.specs.World.{Outcome, Situation, Comes, to, over, Part, ◌>>=◌, give, with_value}
 use Rattle.meaning.specs.Meaning.{truth, is_true}
-use Rattle.code_values.specs.Items.{Item, Operand, pushed, number, Destination, push, into, aside, nowhere, Test}
-use Rattle.code_values.specs.Items.{is_zero, branch_true, agrees, moved}
-use Rattle.code_values.specs.Items as items
+use Rattle.code_drafts.specs.Items.{Item, Operand, pushed, number, Destination, push, into, aside, nowhere, Test}
+use Rattle.code_drafts.specs.Items.{is_zero, branch_true, agrees, moved}
+use Rattle.code_drafts.specs.Items as items
 use Rattle.code_items.specs.Stack.{Next, goes, stuck, with_operand, delivered, after_part, holds, act}
 use Rattle.code_items.specs.Stack as stack
 use Rattle.code_items.proofs.Acts.{hand, Lower, Kept, Keeps, keeps_give}

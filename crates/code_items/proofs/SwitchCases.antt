@@ -7,11 +7,11 @@ use Rattle.meaning.specs.declared.resolved.Action as code_action
 use Rattle.meaning.specs.Resolved.{Value, RangeOf, Action, Actions, CasesOf}
 use Rattle.meaning.specs.Views.{case_of, actions_of, action_of, range_of, cases_of}
 use Rattle.meaning.specs.Resolved as source
-use Rattle.code_values.specs.Items.{Item, aside, value_count, value_items}
-use Rattle.code_values.specs.declared.draft.Draft.{Draft}
-use Rattle.code_values.specs.Writing.{written_in, WritesBefore}
-use Rattle.code_values.proofs.WrittenItems.{counted, both, as_items}
-use Rattle.code_values.proofs.Counts.{value_length}
+use Rattle.code_drafts.specs.Items.{Item, aside, value_count, value_items}
+use Rattle.code_drafts.specs.declared.draft.Draft.{Draft}
+use Rattle.code_drafts.specs.Writing.{written_in, WritesBefore}
+use Rattle.code_drafts.proofs.WrittenItems.{counted, both, as_items}
+use Rattle.code_drafts.proofs.Counts.{value_length}
 use Rattle.code_items.specs.Statements.{actions_count, cases_count, tests_count, over_count, groups_of, tests_items}
 use Rattle.code_items.specs.Statements.{over_items, action_items, actions_items, cases_items}
 use Rattle.code_items.specs.Statements as statements

@@ -11,13 +11,13 @@ use Rattle.meaning.specs.Accepted.{IsWhole}
 use Rattle.meaning.specs.World.{Situation, Comes, to, Part}
 use Rattle.meaning.specs.Meaning.{evaluate, Ending, goes_on, breaks, continues, returns, holds_for, behind_case}
 use Rattle.meaning.specs.Meaning.{run_cases}
-use Rattle.code_values.specs.Items.{Item, aside, agrees, value_count, value_items, same, less, greater}
+use Rattle.code_drafts.specs.Items.{Item, aside, agrees, value_count, value_items, same, less, greater}
 use Rattle.code_items.specs.Statements.{Group, numbers, range, groups_of, group_count, group_items, last_items}
 use Rattle.code_items.specs.Statements.{tests_count, tests_items, over_count, over_items, case_items, cases_count}
 use Rattle.code_items.specs.Statements.{cases_items, Exits}
-use Rattle.code_values.specs.Items as items
+use Rattle.code_drafts.specs.Items as items
 use Rattle.code_items.specs.Stack.{Next, goes}
-use Rattle.code_values.proofs.Counts.{value_length}
+use Rattle.code_drafts.proofs.Counts.{value_length}
 use Rattle.code_items.proofs.StatementCounts.{tests_length, over_length, cases_length}
 use Rattle.code_items.proofs.Running.{Running, code, locals, setting}
 use Rattle.code_items.proofs.Standing.{HasAt, split, long}

@@ -4,13 +4,13 @@ use Rattle.std.proofs.Common.{reverse, slice_index_or, Bool, false, refl, sym, a
 use Rattle.std.specs.Prelude.{◌==◌}
 use Rattle.std.proofs.lemmas.Bool.{eqb-false}
 use Rattle.std.proofs.lemmas.List.{map-append, reverse-append, take_more, take_all}
-use Rattle.code_values.specs.Items.{Item}
+use Rattle.code_drafts.specs.Items.{Item}
 use Rattle.code_items.specs.Statements.{Group, group_count, group_items, tests_items}
 use Rattle.code_items.specs.declared.group.Group as code_group
 use Rattle.code_items.specs.Code.{group_of}
-use Rattle.code_values.specs.Writing.{WritesBefore}
+use Rattle.code_drafts.specs.Writing.{WritesBefore}
 use Rattle.code_items.proofs.StatementCounts.{group_length}
-use Rattle.code_values.proofs.WrittenItems.{both, as_items}
+use Rattle.code_drafts.proofs.WrittenItems.{both, as_items}
 
 pub not_empty : (b : Bool) (n : ℕ) → b ≡ (n == 0) → b ≡ false → 0 < n
 not_empty b zero e is = absurd (eqb-false 0 0 (sym e ∙ is) refl)

@@ -11,9 +11,9 @@ use Rattle.meaning.specs.Resolved as source
 use Rattle.meaning.specs.Accepted.{need_of}
 use Rattle.meaning.specs.World.{Situation, Comes, to, ◌>>=◌, give}
 use Rattle.meaning.specs.Meaning.{truth, is_true, equated, compared, evaluate, evaluate_all}
-use Rattle.code_values.specs.Items.{Item, number, Destination, push, into, aside, nowhere, agrees}
-use Rattle.code_values.specs.Items.{truth_items}
-use Rattle.code_values.specs.Items as items
+use Rattle.code_drafts.specs.Items.{Item, number, Destination, push, into, aside, nowhere, agrees}
+use Rattle.code_drafts.specs.Items.{truth_items}
+use Rattle.code_drafts.specs.Items as items
 use Rattle.code_items.proofs.Acts.{came}
 use Rattle.code_items.proofs.Running.{Running, code, setting}
 use Rattle.code_items.proofs.Standing.{HasAt, split, long}

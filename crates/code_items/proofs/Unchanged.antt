@@ -22,7 +22,7 @@ use Rattle.meaning.specs.Resolved.{Value, Values, none, more}
 use Rattle.meaning.specs.Resolved as source
 use Rattle.meaning.specs.Meaning.{truth, is_true, operate, equated, compared, with_prefix, stepped, early, Setting}
 use Rattle.meaning.specs.Meaning.{evaluate, evaluate_all, test_object, default_of}
-use Rattle.code_values.specs.Items.{is_same, is_global, changes, change}
+use Rattle.code_drafts.specs.Items.{is_same, is_global, changes, change}
 use Rattle.code_items.specs.Stack.{assigned_entry}
 
 -- where it comes to a value, the variable has this word

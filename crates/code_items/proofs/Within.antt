@@ -10,9 +10,9 @@ use Rattle.meaning.specs.declared.resolved.Variable.{Variable}
 use Rattle.meaning.specs.Resolved.{Value, none, more, Printed, Action, Actions, stop, next, CasesOf}
 use Rattle.meaning.specs.Resolved as source
 use Rattle.meaning.specs.Accepted.{IsVariable, IsValue, IsPart, IsPrinted, IsAction, AreActions, AreCases}
-use Rattle.code_values.specs.Items.{aside, nowhere, value_count, value_items, alone, operand_count, branch_count, branch_items, alone_items, Test, less}
-use Rattle.code_values.specs.Items.{greater, same, Item, Operand, pushed, variable}
-use Rattle.code_values.specs.Items as items
+use Rattle.code_drafts.specs.Items.{aside, nowhere, value_count, value_items, alone, operand_count, branch_count, branch_items, alone_items, Test, less}
+use Rattle.code_drafts.specs.Items.{greater, same, Item, Operand, pushed, variable}
+use Rattle.code_drafts.specs.Items as items
 use Rattle.code_items.specs.Statements.{printed_count, prints_count, action_count, actions_count, printed_items}
 use Rattle.code_items.specs.Statements.{prints_items, return_true, Exits, exits_to, action_items, actions_items}
 use Rattle.code_items.specs.Statements.{routine_items, once_count, once_items, test_count, test_items, Group, numbers}

@@ -6,12 +6,12 @@ use Rattle.syntax_trees.specs.declared.tree.Prefix.TheVariants as prefixes
 use Rattle.meaning.specs.Resolved.{RoutineOf, ProgramOf}
 use Rattle.meaning.specs.Accepted.{IsVariable, IsRoutine, IsAccepted, IsProperty}
 use Rattle.meaning.specs.Meaning.{routine_at, meaning}
-use Rattle.code_values.specs.Items.{Operand, variable, Destination, into, Test, is_zero, less, greater, same, Item}
-use Rattle.code_values.specs.Items.{move, apply_prefix, operate, operate_aside, step, entry, assign_entry, keep, print_character}
-use Rattle.code_values.specs.Items.{print_number, branch, read_line, case, jump, back, call, call_aside, return}
-use Rattle.code_values.specs.Items.{is_any_pushed, print_name, relative, property, property_size, property_word, assign_property}
-use Rattle.code_values.specs.Items.{assign_property_word, give, has, move_object, remove_object, is_in, provides}
-use Rattle.code_values.specs.Items.{entry_aside, assign_entry_aside, first_object, next_object}
+use Rattle.code_drafts.specs.Items.{Operand, variable, Destination, into, Test, is_zero, less, greater, same, Item}
+use Rattle.code_drafts.specs.Items.{move, apply_prefix, operate, operate_aside, step, entry, assign_entry, keep, print_character}
+use Rattle.code_drafts.specs.Items.{print_number, branch, read_line, case, jump, back, call, call_aside, return}
+use Rattle.code_drafts.specs.Items.{is_any_pushed, print_name, relative, property, property_size, property_word, assign_property}
+use Rattle.code_drafts.specs.Items.{assign_property_word, give, has, move_object, remove_object, is_in, provides}
+use Rattle.code_drafts.specs.Items.{entry_aside, assign_entry_aside, first_object, next_object}
 use Rattle.code_items.specs.Statements.{routine_items}
 use Rattle.code_items.specs.Stack.{from, exec, start}
 

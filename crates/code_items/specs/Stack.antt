@@ -22,9 +22,9 @@ use Rattle.meaning.specs.Meaning.{first_world}
 use Rattle.meaning.specs.Reading.{read_next}
 use Rattle.meaning.specs.Places.{number_in}
 use Rattle.meaning.specs.Meaning as meaning
-use Rattle.code_values.specs.Items.{Item, Operand, pushed, number, variable, Destination, push, into, aside, nowhere}
-use Rattle.code_values.specs.Items.{Test, is_zero, less, greater, same, agrees}
-use Rattle.code_values.specs.Items as items
+use Rattle.code_drafts.specs.Items.{Item, Operand, pushed, number, variable, Destination, push, into, aside, nowhere}
+use Rattle.code_drafts.specs.Items.{Test, is_zero, less, greater, same, agrees}
+use Rattle.code_drafts.specs.Items as items
 use Rattle.code_items.specs.Statements.{routine_items}
 
 -- a call that waits for another: its routine, the item to go on with, where the word goes, its stack and its locals

@@ -6,11 +6,11 @@ use Rattle.syntax_trees.specs.declared.tree.Relative.TheVariants as relatives
 use Rattle.meaning.specs.declared.resolved.Variable.{Variable}
 use Rattle.meaning.specs.Resolved.{Value, Printed, RangeOf, Action, Actions, stop, next, CasesOf, RoutineOf}
 use Rattle.meaning.specs.Resolved as source
-use Rattle.code_values.specs.Items.{keep, relative, give, move_object, remove_object, print_text, print_character}
-use Rattle.code_values.specs.Items.{print_number, print_name, new_line, read_line, quit, first_object, next_object}
-use Rattle.code_values.specs.Items.{case, jump, back, return, Item, Operand, alone, alone_items, branch_count}
-use Rattle.code_values.specs.Items.{aside, branch_items, branch_true, greater, if_pushed, left_of, less, nowhere, number}
-use Rattle.code_values.specs.Items.{operand_count, push, pushed, same, value_count, value_items, variable}
+use Rattle.code_drafts.specs.Items.{keep, relative, give, move_object, remove_object, print_text, print_character}
+use Rattle.code_drafts.specs.Items.{print_number, print_name, new_line, read_line, quit, first_object, next_object}
+use Rattle.code_drafts.specs.Items.{case, jump, back, return, Item, Operand, alone, alone_items, branch_count}
+use Rattle.code_drafts.specs.Items.{aside, branch_items, branch_true, greater, if_pushed, left_of, less, nowhere, number}
+use Rattle.code_drafts.specs.Items.{operand_count, push, pushed, same, value_count, value_items, variable}
 
 -- one thing that is printed
 abbrev pub printed_count : Printed → ℕ

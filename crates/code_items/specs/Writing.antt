@@ -9,15 +9,15 @@ use Rattle.meaning.specs.declared.resolved.Action as code_action
 use Rattle.meaning.specs.Resolved.{Value, RangeOf, Action, Actions, CasesOf}
 use Rattle.meaning.specs.Views.{value_of, printed_of, case_of}
 use Rattle.meaning.specs.Resolved as source
-use Rattle.code_values.specs.Items.{Item, Operand, push, if_pushed, value_items}
+use Rattle.code_drafts.specs.Items.{Item, Operand, push, if_pushed, value_items}
 use Rattle.code_items.specs.Statements.{prints_items, Exits, action_items, cases_items}
-use Rattle.code_values.specs.Items as items
-use Rattle.code_values.specs.Code.{as_operand, item_of}
-use Rattle.code_values.specs.declared.item.Item as code_item
-use Rattle.code_values.specs.declared.item.Operand as code_operand
-use Rattle.code_values.specs.declared.draft.Draft.{Draft}
+use Rattle.code_drafts.specs.Items as items
+use Rattle.code_drafts.specs.Code.{as_operand, item_of}
+use Rattle.code_drafts.specs.declared.item.Item as code_item
+use Rattle.code_drafts.specs.declared.item.Operand as code_operand
+use Rattle.code_drafts.specs.declared.draft.Draft.{Draft}
 use Rattle.code_items.specs.declared.exits.Exits as code_exits
-use Rattle.code_values.specs.Writing.{written_in, numbered, Writes, WritesBefore}
+use Rattle.code_drafts.specs.Writing.{written_in, numbered, Writes, WritesBefore}
 
 -- what `print` prints
 abbrev pub WritesPrinted : Draft → Draft → List code_printed.Printed → Type 0

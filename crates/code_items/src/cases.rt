@@ -2,14 +2,14 @@
 
 ghost use Rattle.std.specs.Prelude.{◌-◌, ◌∷◌, [], true, length, map, OnOk};
 ghost use Rattle.meaning.specs.Views.{range_of};
-ghost use Rattle.code_values.specs.Items.{case, same, less, greater};
-ghost use Rattle.code_values.specs.Writing.{Writes, written_in, PutsItem};
+ghost use Rattle.code_drafts.specs.Items.{case, same, less, greater};
+ghost use Rattle.code_drafts.specs.Writing.{Writes, written_in, PutsItem};
 ghost use Rattle.code_items.specs.Statements.{groups_of, group_items, last_items, tests_items};
 ghost use Rattle.code_items.specs.Statements.{over_items};
 ghost use Rattle.code_items.specs.Code.{group_of};
 
 use crate::group::{Group, groups};
-use code_values::{Draft, Item, Test, put, written};
+use code_drafts::{Draft, Item, Test, put, written};
 use meaning::Span;
 use std::alloc::AllocError;
 

@@ -5,7 +5,7 @@ ghost use Rattle.meaning.specs.Views.{range_of};
 ghost use Rattle.code_items.specs.Statements as statements;
 ghost use Rattle.code_items.specs.Code.{group_of};
 
-use code_values::MOST_COMPARED;
+use code_drafts::MOST_COMPARED;
 use meaning::Span;
 use std::alloc::{AllocError, Global};
 

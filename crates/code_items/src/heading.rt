@@ -4,9 +4,10 @@ ghost use Rattle.std.specs.Prelude.{◌-◌, OnOk};
 ghost use Rattle.std.specs.Option.{option_map};
 ghost use Rattle.meaning.specs.Views.{boxed_value};
 ghost use Rattle.code_items.specs.Statements.{once_items, test_items};
-ghost use Rattle.code_values.specs.Writing.{Writes};
+ghost use Rattle.code_drafts.specs.Writing.{Writes};
 
-use code_values::{Destination, Draft, Wanted, put_value};
+use code_drafts::{Destination, Draft, Wanted};
+use code_values::put_value;
 use meaning::Value;
 use std::alloc::AllocError;
 

@@ -10,6 +10,6 @@ mod laws;
 mod routine;
 mod statement;
 
-pub use code_values::{Destination, Item, Operand, Test};
+pub use code_drafts::{Destination, Item, Operand, Test};
 pub use laws::{items_are_within, items_follow};
 pub use routine::routine_items;

@@ -3,11 +3,11 @@
 ghost use Rattle.std.specs.Prelude.{◌≡◌, IfOk};
 ghost use Rattle.meaning.specs.Views.{routine_of};
 ghost use Rattle.code_items.specs.Statements as statements;
-ghost use Rattle.code_values.specs.Code.{items_of};
+ghost use Rattle.code_drafts.specs.Code.{items_of};
 
 use crate::exits::Exits;
 use crate::statement::put_statements;
-use code_values::{Draft, Item, Operand, in_order, put, written};
+use code_drafts::{Draft, Item, Operand, in_order, put, written};
 use meaning::CheckedRoutine;
 use std::alloc::{AllocError, Global};
 

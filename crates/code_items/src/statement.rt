@@ -7,9 +7,9 @@ ghost use Rattle.meaning.specs.Resolved.{return_value, give_to, move_to, remove_
 ghost use Rattle.meaning.specs.Resolved.{text_alone, print_return};
 ghost use Rattle.meaning.specs.Views.{value_of, printed_of, action_of, actions_of, case_of, cases_of, other_of};
 ghost use Rattle.meaning.specs.Views.{boxed_value};
-ghost use Rattle.code_values.specs.Code.{as_operand};
-ghost use Rattle.code_values.specs.Items.{new_line};
-ghost use Rattle.code_values.specs.Writing.{Writes};
+ghost use Rattle.code_drafts.specs.Code.{as_operand};
+ghost use Rattle.code_drafts.specs.Items.{new_line};
+ghost use Rattle.code_drafts.specs.Writing.{Writes};
 ghost use Rattle.code_items.specs.Statements.{return_true, printed_items, relative_items};
 ghost use Rattle.code_items.specs.Writing.{WritesAction, WritesPrinted, WritesTaken, WritesCases};
 ghost use Rattle.code_items.specs.Writing.{LeavesCases, PutsNext};
@@ -17,10 +17,10 @@ ghost use Rattle.code_items.specs.Writing.{LeavesCases, PutsNext};
 use crate::cases::{put_over, put_tests};
 use crate::exits::Exits;
 use crate::heading::{put_once, put_test};
-use code_values::{
-    Destination, Draft, Item, Operand, Wanted, alone, lead_back, left_of, put, put_branch,
-    put_operand, put_value, written,
+use code_drafts::{
+    Destination, Draft, Item, Operand, Wanted, alone, lead_back, left_of, put, put_branch, written,
 };
+use code_values::{put_operand, put_value};
 use meaning::{Action, Printed, Span, Value, Variable};
 use std::alloc::AllocError;
 use syntax_trees::Relative;

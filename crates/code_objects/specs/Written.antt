@@ -1,7 +1,7 @@
 -- What the values of the code stand for.
 use Rattle.std.specs.Prelude.{if◌then◌else◌, Option, Some, None, ℕ}
 use Rattle.zcore.specs.declared.instruction.Operand.{Operand}
-use Rattle.code_values.specs.Items as items
+use Rattle.code_drafts.specs.Items as items
 use Rattle.code_instructions.specs.Instructions.{is_between}
 use Rattle.code_encoding.specs.Instructions.{constant, word_in}
 use Rattle.code_encoding.specs.Written.{sizes_in}

@@ -3,7 +3,7 @@
 ghost use Rattle.std.specs.Prelude.{◌≡◌, ◌<◌, ◌+◌, ◌++◌, [], ◌∷◌, OnOk};
 ghost use Rattle.zcore.specs.declared.instruction.Operand.TheVariants as words;
 ghost use Rattle.zcore.specs.declared.instruction.Operation.TheVariants.{InsertObject};
-ghost use Rattle.code_values.specs.Code.{as_operand};
+ghost use Rattle.code_drafts.specs.Code.{as_operand};
 ghost use Rattle.code_encoding.specs.Instructions as basic;
 ghost use Rattle.code_encoding.specs.Bytes.{AddsCode};
 ghost use Rattle.code_encoding.specs.Written.{addresses_of, instruction_of};
@@ -80,7 +80,7 @@ fn put_moved_object(
     addresses: &Addresses<'_>,
     sizes: &Sizes<'_>,
     object: Operand,
-    into: code_values::Operand,
+    into: code_drafts::Operand,
 ) -> Result<(), AllocError>
     ensures { OnOk result (AddsCode bytes.old bytes.new
         (spec.moved_into (addresses_of addresses.now) (objects_in sizes.now) object
@@ -99,8 +99,8 @@ pub fn put_move_object(
     bytes: &mut Vec<u8>,
     addresses: &Addresses<'_>,
     sizes: &Sizes<'_>,
-    operand: code_values::Operand,
-    into: code_values::Operand,
+    operand: code_drafts::Operand,
+    into: code_drafts::Operand,
 ) -> Result<(), AllocError>
     ensures { OnOk result (AddsCode bytes.old bytes.new
         (spec.move_object_code (addresses_of addresses.now) (objects_in sizes.now)

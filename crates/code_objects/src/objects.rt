@@ -3,7 +3,7 @@
 ghost use Rattle.std.specs.Prelude.{◌≡◌, ◌<◌, ◌+◌, ◌++◌, [], ◌∷◌, map, OnOk};
 ghost use Rattle.zcore.specs.declared.instruction.Operand.TheVariants.{Small};
 ghost use Rattle.meaning.specs.declared.cause.Cause.TheVariants.{NotAnObject};
-ghost use Rattle.code_values.specs.Code.{as_operand, as_destination};
+ghost use Rattle.code_drafts.specs.Code.{as_operand, as_destination};
 ghost use Rattle.code_encoding.specs.Instructions.{pulled_into};
 ghost use Rattle.code_encoding.specs.Instructions as basic;
 ghost use Rattle.code_encoding.specs.Bytes.{AddsCode};
@@ -13,6 +13,7 @@ ghost use Rattle.code_objects.specs.ObjectCode.{at_object, tests_in};
 ghost use Rattle.code_objects.specs.ObjectCode as spec;
 ghost use Rattle.code_objects.specs.Written.{objects_in, found_in};
 
+use code_drafts::Destination;
 use code_encoding::{
     Addresses, FIRST, Instruction, Operands, ShortBranch, Sizes, giving, plain, put_all, result_in,
     variable_number,
@@ -20,7 +21,6 @@ use code_encoding::{
 use code_instructions::{
     FIRST_NEGATIVE, put_fail, put_labelled, put_pulled, put_tested_between, word_in,
 };
-use code_values::Destination;
 use meaning::Cause;
 use std::alloc::AllocError;
 use syntax_trees::Relative;
@@ -70,7 +70,7 @@ fn put_object_tests(
     addresses: &Addresses<'_>,
     objects: u16,
     temporary: u8,
-    operand: code_values::Operand,
+    operand: code_drafts::Operand,
 ) -> Result<(), AllocError>
     requires few { objects < 32768 }
     requires variable { temporary < 8 }
@@ -79,33 +79,33 @@ fn put_object_tests(
         (as_operand operand))) }
 {
     match operand {
-        code_values::Operand::Pushed => put_tested_object(
+        code_drafts::Operand::Pushed => put_tested_object(
             bytes,
             addresses,
             objects,
             FIRST + temporary,
         ),
-        code_values::Operand::Number(number) => {
+        code_drafts::Operand::Number(number) => {
             if is_object(objects, number) {
                 put_all(bytes, &[])
             } else {
                 put_fail(bytes, addresses, Cause::NotAnObject)
             }
         }
-        code_values::Operand::Variable(variable) => {
+        code_drafts::Operand::Variable(variable) => {
             put_tested_object(bytes, addresses, objects, variable_number(variable))
         }
     }
 }
 
 /// What stands for an object behind its tests; none for a number that is none.
-fn found_object(objects: u16, temporary: u8, operand: code_values::Operand) -> Option<Operand>
+fn found_object(objects: u16, temporary: u8, operand: code_drafts::Operand) -> Option<Operand>
     requires few { objects < 32768 }
     requires variable { temporary < 8 }
     ensures { result ≡ found_in temporary 1 (objects + 1) (as_operand operand) }
 {
     match operand {
-        code_values::Operand::Number(number) => {
+        code_drafts::Operand::Number(number) => {
             if is_object(objects, number) {
                 Some(word_in(temporary, operand))
             } else {
@@ -123,7 +123,7 @@ pub fn put_tests(
     addresses: &Addresses<'_>,
     sizes: &Sizes<'_>,
     temporary: u8,
-    operand: code_values::Operand,
+    operand: code_drafts::Operand,
 ) -> Result<(), AllocError>
     requires { temporary < 8 }
     ensures { OnOk result (AddsCode bytes.old bytes.new
@@ -135,7 +135,7 @@ pub fn put_tests(
 
 /// What stands for an object behind its tests; nothing is done behind the fault of a number that is
 /// none.
-pub fn found(sizes: &Sizes<'_>, temporary: u8, operand: code_values::Operand) -> Option<Operand>
+pub fn found(sizes: &Sizes<'_>, temporary: u8, operand: code_drafts::Operand) -> Option<Operand>
     requires { temporary < 8 }
     ensures { result ≡ found_in temporary 1 (objects_in sizes.now + 1) (as_operand operand) }
 {
@@ -148,7 +148,7 @@ pub fn put_object(
     bytes: &mut Vec<u8>,
     addresses: &Addresses<'_>,
     sizes: &Sizes<'_>,
-    operand: code_values::Operand,
+    operand: code_drafts::Operand,
 ) -> Result<(), AllocError>
     ensures { OnOk result (AddsCode bytes.old bytes.new
         (pulled_into 0 (as_operand operand)
@@ -187,7 +187,7 @@ pub fn put_relative(
     addresses: &Addresses<'_>,
     sizes: &Sizes<'_>,
     relative: Relative,
-    operand: code_values::Operand,
+    operand: code_drafts::Operand,
     destination: Destination,
 ) -> Result<(), AllocError>
     ensures { OnOk result (AddsCode bytes.old bytes.new
@@ -208,7 +208,7 @@ pub fn put_on_object(
     addresses: &Addresses<'_>,
     sizes: &Sizes<'_>,
     operation: Operation,
-    operand: code_values::Operand,
+    operand: code_drafts::Operand,
 ) -> Result<(), AllocError>
     ensures { OnOk result (AddsCode bytes.old bytes.new
         (at_object (addresses_of addresses.now) (objects_in sizes.now) (as_operand operand)
@@ -254,7 +254,7 @@ pub fn put_give(
     bytes: &mut Vec<u8>,
     addresses: &Addresses<'_>,
     sizes: &Sizes<'_>,
-    operand: code_values::Operand,
+    operand: code_drafts::Operand,
     changes: &[(bool, usize)],
 ) -> Result<(), AllocError>
     ensures { OnOk result (AddsCode bytes.old bytes.new
@@ -274,7 +274,7 @@ pub fn put_is_in(
     bytes: &mut Vec<u8>,
     addresses: &Addresses<'_>,
     sizes: &Sizes<'_>,
-    words: (code_values::Operand, code_values::Operand),
+    words: (code_drafts::Operand, code_drafts::Operand),
     when: bool,
     offset: usize,
 ) -> Result<(), AllocError>
@@ -294,7 +294,7 @@ pub fn put_has(
     bytes: &mut Vec<u8>,
     addresses: &Addresses<'_>,
     sizes: &Sizes<'_>,
-    operand: code_values::Operand,
+    operand: code_drafts::Operand,
     attribute: u8,
     when: bool,
     offset: usize,

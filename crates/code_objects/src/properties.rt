@@ -3,7 +3,7 @@
 ghost use Rattle.std.specs.Prelude.{◌≡◌, ◌<◌, [], ◌∷◌, OnOk};
 ghost use Rattle.zcore.specs.declared.instruction.Operand.TheVariants.{Variable};
 ghost use Rattle.zcore.specs.declared.instruction.Operation.TheVariants.{LoadWord, StoreWord};
-ghost use Rattle.code_values.specs.Code.{as_operand, as_destination};
+ghost use Rattle.code_drafts.specs.Code.{as_operand, as_destination};
 ghost use Rattle.code_encoding.specs.Instructions as basic;
 ghost use Rattle.code_encoding.specs.Bytes.{AddsCode};
 ghost use Rattle.code_encoding.specs.Written.{addresses_of, instruction_of};
@@ -11,13 +11,13 @@ ghost use Rattle.code_objects.specs.ObjectCode as spec;
 ghost use Rattle.code_objects.specs.Written.{objects_in};
 
 use crate::objects::{found, put_object};
+use code_drafts::Destination;
 use code_encoding::{
     ASIDE, Addresses, FIRST, FOURTH, Instruction, Operands, SECOND, Sizes, THIRD, branching,
     fault_address, giving, plain, print_fault, push, put_all, quit, result_in, store,
     variable_number,
 };
 use code_instructions::{put_labelled, put_pulled, word_in};
-use code_values::Destination;
 use meaning::Cause;
 use std::alloc::AllocError;
 use zcore::{Operand, Operation};
@@ -59,7 +59,7 @@ pub fn put_provides(
     bytes: &mut Vec<u8>,
     addresses: &Addresses<'_>,
     sizes: &Sizes<'_>,
-    operand: code_values::Operand,
+    operand: code_drafts::Operand,
     property: u8,
     when: bool,
     offset: usize,
@@ -110,7 +110,7 @@ pub fn put_property(
     bytes: &mut Vec<u8>,
     addresses: &Addresses<'_>,
     sizes: &Sizes<'_>,
-    operand: code_values::Operand,
+    operand: code_drafts::Operand,
     property: u8,
     destination: Destination,
 ) -> Result<(), AllocError>
@@ -130,7 +130,7 @@ pub fn put_property_size(
     bytes: &mut Vec<u8>,
     addresses: &Addresses<'_>,
     sizes: &Sizes<'_>,
-    operand: code_values::Operand,
+    operand: code_drafts::Operand,
     property: u8,
     destination: Destination,
 ) -> Result<(), AllocError>
@@ -250,7 +250,7 @@ pub fn put_property_word(
     addresses: &Addresses<'_>,
     sizes: &Sizes<'_>,
     property: u8,
-    words: (code_values::Operand, code_values::Operand),
+    words: (code_drafts::Operand, code_drafts::Operand),
     destination: Destination,
 ) -> Result<(), AllocError>
     ensures { OnOk result (AddsCode bytes.old bytes.new
@@ -315,7 +315,7 @@ pub fn put_assign_property(
     addresses: &Addresses<'_>,
     sizes: &Sizes<'_>,
     property: u8,
-    words: (code_values::Operand, code_values::Operand),
+    words: (code_drafts::Operand, code_drafts::Operand),
     destination: Destination,
 ) -> Result<(), AllocError>
     ensures { OnOk result (AddsCode bytes.old bytes.new
@@ -358,9 +358,9 @@ pub fn put_assign_property_word(
     sizes: &Sizes<'_>,
     property: u8,
     words: (
-        code_values::Operand,
-        code_values::Operand,
-        code_values::Operand,
+        code_drafts::Operand,
+        code_drafts::Operand,
+        code_drafts::Operand,
     ),
     destination: Destination,
 ) -> Result<(), AllocError>

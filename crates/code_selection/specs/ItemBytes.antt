@@ -3,8 +3,8 @@ use Rattle.std.specs.Prelude.{ℕ, List, [], ◌++◌, map}
 use Rattle.std.specs.List.{filter}
 use Rattle.ztext.specs.Alphabets.{is_printable}
 use Rattle.ztext.specs.Abbreviations.{encoded_with}
-use Rattle.code_values.specs.Items.{Item}
-use Rattle.code_values.specs.Items as items
+use Rattle.code_drafts.specs.Items.{Item}
+use Rattle.code_drafts.specs.Items as items
 use Rattle.code_encoding.specs.Addresses.{Addresses, Sizes}
 use Rattle.code_encoding.specs.Bytes.{bytes_of_all, character_of}
 use Rattle.code_selection.specs.ItemCode.{item_code}

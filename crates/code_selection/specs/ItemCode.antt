@@ -10,8 +10,8 @@ use Rattle.zcore.specs.Instruction.{Instruction}
 use Rattle.syntax_trees.specs.declared.tree.Width.{Width}
 use Rattle.syntax_trees.specs.declared.tree.Width.TheVariants as widths
 use Rattle.meaning.specs.declared.cause.Cause.TheVariants as causes
-use Rattle.code_values.specs.Items.{Item, Destination}
-use Rattle.code_values.specs.Items as items
+use Rattle.code_drafts.specs.Items.{Item, Destination}
+use Rattle.code_drafts.specs.Items as items
 use Rattle.code_encoding.specs.Addresses.{Addresses, Sizes}
 use Rattle.code_encoding.specs.Instructions.{plain, giving, number_of, temporary, pull, copy, in_place, most_tested}
 use Rattle.code_encoding.specs.Instructions.{aside_variable, result_in}

@@ -1,6 +1,6 @@
 -- What an item is about.
-use Rattle.code_values.specs.Items.{Item}
-use Rattle.code_values.specs.Items as items
+use Rattle.code_drafts.specs.Items.{Item}
+use Rattle.code_drafts.specs.Items as items
 use Rattle.code_selection.specs.declared.kind.Kind.{Kind}
 use Rattle.code_selection.specs.declared.kind.Kind.TheVariants.{Words, Printing, Tree, Properties, ByObject, Flow}
 

@@ -3,8 +3,8 @@
 ghost use Rattle.std.specs.Prelude.{◌≡◌, ◌++◌, ◌%◌, [], ◌∷◌, slice_index, OnOk};
 ghost use Rattle.zcore.specs.declared.instruction.Operand.TheVariants.{Large, Variable};
 ghost use Rattle.meaning.specs.declared.cause.Cause.TheVariants.{IndexOutOfRange};
-ghost use Rattle.code_values.specs.Items as source_items;
-ghost use Rattle.code_values.specs.Code.{as_operand, as_destination};
+ghost use Rattle.code_drafts.specs.Items as source_items;
+ghost use Rattle.code_drafts.specs.Code.{as_operand, as_destination};
 ghost use Rattle.code_encoding.specs.Instructions as basic;
 ghost use Rattle.code_encoding.specs.Bytes.{AddsCode};
 ghost use Rattle.code_encoding.specs.Written.{addresses_of};
@@ -13,12 +13,12 @@ ghost use Rattle.code_selection.specs.ItemCode.{tested_index, at_index, entry_co
 ghost use Rattle.code_selection.specs.ItemCode.{entry_aside_code, assign_entry_aside_code};
 ghost use Rattle.code_selection.specs.ItemCode as spec;
 
+use code_drafts::Destination;
 use code_encoding::{
     ASIDE, Addresses, FIRST, Operands, SECOND, Sizes, array_address, constant, giving, in_place,
     plain, pull, push, put_all, result_in, store, variable_number,
 };
 use code_instructions::{FIRST_NEGATIVE, put_fail, put_tested_between};
-use code_values::Destination;
 use meaning::Cause;
 use std::alloc::AllocError;
 use syntax_trees::Width;
@@ -167,7 +167,7 @@ pub fn put_entry(
     bytes: &mut Vec<u8>,
     addresses: &Addresses<'_>,
     array: Array,
-    index: code_values::Operand,
+    index: code_drafts::Operand,
     destination: Destination,
 ) -> Result<(), AllocError>
     ensures { OnOk result (AddsCode bytes.old bytes.new
@@ -175,14 +175,14 @@ pub fn put_entry(
         (as_operand index) (as_destination destination))) }
 {
     match index {
-        code_values::Operand::Pushed => {
+        code_drafts::Operand::Pushed => {
             put_all(bytes, &[pull(FIRST)])?;
             put_tested_entry(bytes, addresses, array, FIRST, destination)
         }
-        code_values::Operand::Number(number) => {
+        code_drafts::Operand::Number(number) => {
             put_entry_at(bytes, addresses, array, number, destination)
         }
-        code_values::Operand::Variable(variable) => {
+        code_drafts::Operand::Variable(variable) => {
             let number = variable_number(variable);
             put_tested_entry(bytes, addresses, array, number, destination)
         }
@@ -275,7 +275,7 @@ fn put_assigned(
     bytes: &mut Vec<u8>,
     addresses: &Addresses<'_>,
     array: Array,
-    index: code_values::Operand,
+    index: code_drafts::Operand,
     word: Operand,
     destination: Destination,
 ) -> Result<(), AllocError>
@@ -285,14 +285,14 @@ fn put_assigned(
         (Large array.address ∷ i ∷ word ∷ []) ∷ passed_on (as_destination destination) word))) }
 {
     match index {
-        code_values::Operand::Pushed => {
+        code_drafts::Operand::Pushed => {
             put_all(bytes, &[pull(FIRST)])?;
             put_tested_store(bytes, addresses, array, FIRST, word, destination)
         }
-        code_values::Operand::Number(number) => {
+        code_drafts::Operand::Number(number) => {
             put_store_at(bytes, addresses, array, number, word, destination)
         }
-        code_values::Operand::Variable(variable) => {
+        code_drafts::Operand::Variable(variable) => {
             let number = variable_number(variable);
             put_tested_store(bytes, addresses, array, number, word, destination)
         }
@@ -306,8 +306,8 @@ pub fn put_assign_entry(
     bytes: &mut Vec<u8>,
     addresses: &Addresses<'_>,
     array: Array,
-    index: code_values::Operand,
-    word: code_values::Operand,
+    index: code_drafts::Operand,
+    word: code_drafts::Operand,
     destination: Destination,
 ) -> Result<(), AllocError>
     ensures { OnOk result (AddsCode bytes.old bytes.new
@@ -315,7 +315,7 @@ pub fn put_assign_entry(
         (as_operand index) (as_operand word) (as_destination destination))) }
 {
     match word {
-        code_values::Operand::Pushed => {
+        code_drafts::Operand::Pushed => {
             put_all(bytes, &[pull(SECOND)])?;
             let taken = Operand::Variable(SECOND);
             put_assigned(bytes, addresses, array, index, taken, destination)
@@ -329,8 +329,8 @@ pub fn put_assign_entry_aside(
     bytes: &mut Vec<u8>,
     addresses: &Addresses<'_>,
     array: Array,
-    index: code_values::Operand,
-    word: code_values::Operand,
+    index: code_drafts::Operand,
+    word: code_drafts::Operand,
     destination: Destination,
 ) -> Result<(), AllocError>
     ensures { OnOk result (AddsCode bytes.old bytes.new
@@ -338,7 +338,7 @@ pub fn put_assign_entry_aside(
         (as_operand index) (as_operand word) (as_destination destination))) }
 {
     match word {
-        code_values::Operand::Pushed => {
+        code_drafts::Operand::Pushed => {
             let aside = Operand::Variable(ASIDE);
             put_assigned(bytes, addresses, array, index, aside, destination)
         }

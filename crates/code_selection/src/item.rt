@@ -2,7 +2,7 @@
 
 ghost use Rattle.std.specs.Prelude.{◌≡◌, ◌%◌, [], ◌∷◌, slice_index, OnOk};
 ghost use Rattle.zcore.specs.declared.instruction.Operation.TheVariants.{PrintNumber};
-ghost use Rattle.code_values.specs.Code.{item_of, as_operand};
+ghost use Rattle.code_drafts.specs.Code.{item_of, as_operand};
 ghost use Rattle.code_encoding.specs.Instructions as basic;
 ghost use Rattle.code_encoding.specs.Bytes.{Adds, AddsCode};
 ghost use Rattle.code_encoding.specs.Written.{addresses_of, sizes_in};
@@ -17,6 +17,7 @@ use crate::entries::{
 };
 use crate::kind::{Kind, kind_of};
 use crate::lines::put_read;
+use code_drafts::Item;
 use code_encoding::{Addresses, Operands, Sizes, in_place, plain, pull, put_all, routine_address};
 use code_instructions::{
     put_also_equal, put_binary, put_branch, put_call, put_call_aside, put_case, put_character,
@@ -28,7 +29,6 @@ use code_objects::{
     put_move_object, put_next_object, put_on_object, put_property, put_property_size,
     put_property_word, put_provides, put_relative,
 };
-use code_values::Item;
 use std::alloc::{AllocError, Global};
 use syntax_trees::Width;
 use zcore::Operation;
@@ -48,7 +48,7 @@ fn put_drop_below(bytes: &mut Vec<u8>) -> Result<(), AllocError>
 }
 
 /// A word is printed as a signed number.
-fn put_print_number(bytes: &mut Vec<u8>, operand: code_values::Operand) -> Result<(), AllocError>
+fn put_print_number(bytes: &mut Vec<u8>, operand: code_drafts::Operand) -> Result<(), AllocError>
     ensures { OnOk result (AddsCode bytes.old bytes.new
         (basic.plain PrintNumber (basic.in_place (as_operand operand) ∷ []) ∷ [])) }
 {

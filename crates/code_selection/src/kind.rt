@@ -1,10 +1,10 @@
 //! What items are about.
 
 ghost use Rattle.std.specs.Prelude.{◌≡◌};
-ghost use Rattle.code_values.specs.Code.{item_of};
+ghost use Rattle.code_drafts.specs.Code.{item_of};
 ghost use Rattle.code_selection.specs.Written as spec;
 
-use code_values::Item;
+use code_drafts::Item;
 
 /// What an item is about.
 #[derive(Clone, Copy)]

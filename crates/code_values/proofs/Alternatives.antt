@@ -9,19 +9,19 @@ use Rattle.meaning.specs.Resolved.{Value, Values, none, more}
 use Rattle.meaning.specs.Views.{value_of, values_of}
 use Rattle.meaning.specs.Resolved as source
 use Rattle.meaning.specs.Accepted.{count_of}
-use Rattle.code_values.specs.Items.{Item, Operand, pushed, push, same, operand_of, operands_of, if_pushed}
-use Rattle.code_values.specs.Items.{is_in_place, all_in_place, is_direct, branch_true, equality_when, value_count}
-use Rattle.code_values.specs.Items.{operands_count, truth_items, same_items, value_items, operands_items, also_items}
-use Rattle.code_values.specs.Items as items
-use Rattle.code_values.specs.declared.wanted.Wanted.{Wanted}
-use Rattle.code_values.specs.declared.wanted.Wanted.TheVariants.{Word}
-use Rattle.code_values.specs.declared.item.Destination.TheVariants as destinations
-use Rattle.code_values.specs.Writing.{wanted_items, first_operand, second_operand, alones, link_of, IsCondition}
-use Rattle.code_values.specs.Writing.{WritesBefore, Leaves, ReducesTruth}
-use Rattle.code_values.proofs.Counts.{value_length, operands_length}
-use Rattle.code_values.proofs.InPlace.{are_few, both_true, operands_placed, nothing_pushed, nothing_counted}
-use Rattle.code_values.proofs.InPlace.{direct_few, placed, on_stack, in_instructions, same_last, few_counted}
-use Rattle.code_values.proofs.WrittenItems.{one, both, as_items, then_one, after_one}
+use Rattle.code_drafts.specs.Items.{Item, Operand, pushed, push, same, operand_of, operands_of, if_pushed}
+use Rattle.code_drafts.specs.Items.{is_in_place, all_in_place, is_direct, branch_true, equality_when, value_count}
+use Rattle.code_drafts.specs.Items.{operands_count, truth_items, same_items, value_items, operands_items, also_items}
+use Rattle.code_drafts.specs.Items as items
+use Rattle.code_drafts.specs.declared.wanted.Wanted.{Wanted}
+use Rattle.code_drafts.specs.declared.wanted.Wanted.TheVariants.{Word}
+use Rattle.code_drafts.specs.declared.item.Destination.TheVariants as destinations
+use Rattle.code_drafts.specs.Writing.{wanted_items, first_operand, second_operand, alones, link_of, IsCondition}
+use Rattle.code_drafts.specs.Writing.{WritesBefore, Leaves, ReducesTruth}
+use Rattle.code_drafts.proofs.Counts.{value_length, operands_length}
+use Rattle.code_drafts.proofs.InPlace.{are_few, both_true, operands_placed, nothing_pushed, nothing_counted}
+use Rattle.code_drafts.proofs.InPlace.{direct_few, placed, on_stack, in_instructions, same_last, few_counted}
+use Rattle.code_drafts.proofs.WrittenItems.{one, both, as_items, then_one, after_one}
 use Rattle.code_values.specs.ValueWriting.{pushes, both_push, folded_items, ReducesLinks, ReducesLink, ReducesEquality}
 use Rattle.code_values.proofs.OperationForms.{links_next}
 use Rattle.code_values.proofs.Values.{pushes_length}

@@ -6,11 +6,11 @@ use Rattle.std.proofs.lemmas.List.{take_rest}
 use Rattle.meaning.specs.declared.resolved.Value as code_value
 use Rattle.meaning.specs.Resolved.{Values}
 use Rattle.meaning.specs.Views.{value_of, values_of}
-use Rattle.code_values.specs.Items.{Item, Operand, Destination, operand_of, operands_of, if_pushed, is_any_pushed}
-use Rattle.code_values.specs.Items.{argument_place, value_count, value_items, arguments_items}
-use Rattle.code_values.specs.Writing.{WritesBefore}
+use Rattle.code_drafts.specs.Items.{Item, Operand, Destination, operand_of, operands_of, if_pushed, is_any_pushed}
+use Rattle.code_drafts.specs.Items.{argument_place, value_count, value_items, arguments_items}
+use Rattle.code_drafts.specs.Writing.{WritesBefore}
 use Rattle.code_values.specs.ValueWriting.{placed}
-use Rattle.code_values.proofs.WrittenItems.{both, as_items}
+use Rattle.code_drafts.proofs.WrittenItems.{both, as_items}
 use Rattle.code_values.proofs.Values.{placed_length}
 
 -- expressions from a number on

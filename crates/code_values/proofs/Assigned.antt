@@ -3,15 +3,15 @@ use Rattle.std.proofs.Common.{◌≡◌, ℕ, List, [], ◌∷◌, ◌++◌, Boo
 use Rattle.meaning.specs.declared.resolved.Variable.{Variable}
 use Rattle.meaning.specs.Resolved.{Value}
 use Rattle.meaning.specs.Resolved as source
-use Rattle.code_values.specs.Items.{Item, pushed, push, into, aside, nowhere, branch_true, value_count, value_items}
-use Rattle.code_values.specs.Items.{branch_items}
-use Rattle.code_values.specs.Items as items
-use Rattle.code_values.specs.declared.item.Destination.TheVariants as destinations
-use Rattle.code_values.specs.declared.wanted.Wanted.{Wanted}
-use Rattle.code_values.specs.declared.wanted.Wanted.TheVariants.{Word}
-use Rattle.code_values.specs.Writing.{wanted_items, ReducesWord, WritesBefore}
-use Rattle.code_values.proofs.Counts.{value_length}
-use Rattle.code_values.proofs.WrittenItems.{one, both, then_one, after_one}
+use Rattle.code_drafts.specs.Items.{Item, pushed, push, into, aside, nowhere, branch_true, value_count, value_items}
+use Rattle.code_drafts.specs.Items.{branch_items}
+use Rattle.code_drafts.specs.Items as items
+use Rattle.code_drafts.specs.declared.item.Destination.TheVariants as destinations
+use Rattle.code_drafts.specs.declared.wanted.Wanted.{Wanted}
+use Rattle.code_drafts.specs.declared.wanted.Wanted.TheVariants.{Word}
+use Rattle.code_drafts.specs.Writing.{wanted_items, ReducesWord, WritesBefore}
+use Rattle.code_drafts.proofs.Counts.{value_length}
+use Rattle.code_drafts.proofs.WrittenItems.{one, both, then_one, after_one}
 
 abbrev assign_word : (x : Variable) (v : Value) (at t : ℕ) (when : Bool) → branch_items at (source.assign x v) when t
     ≡ value_items at (source.assign x v) push ++ branch_true pushed when t ∷ []

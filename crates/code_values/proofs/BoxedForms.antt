@@ -15,13 +15,13 @@ use Rattle.meaning.specs.declared.resolved.Value.TheVariants as forms
 use Rattle.meaning.specs.Resolved.{Value, more}
 use Rattle.meaning.specs.Views.{value_of, values_of, chained, propertied}
 use Rattle.meaning.specs.Resolved as source
-use Rattle.code_values.specs.Items.{Item}
-use Rattle.code_values.specs.declared.wanted.Wanted.{Wanted}
-use Rattle.code_values.specs.Writing.{wanted_items, link_of, WritesBefore}
-use Rattle.code_values.proofs.Trees.{chain_is, equal_is, step_before_is, assign_property_word_is, number_is, read_is}
-use Rattle.code_values.proofs.Trees.{call_is, prefixed_is, step_after_is, compare_is, assign_is, entry_is}
-use Rattle.code_values.proofs.Trees.{assign_entry_is, relative_is, contained_is, has_is, provides_is, property_is}
-use Rattle.code_values.proofs.Trees.{property_size_is, property_word_is, assign_property_is}
+use Rattle.code_drafts.specs.Items.{Item}
+use Rattle.code_drafts.specs.declared.wanted.Wanted.{Wanted}
+use Rattle.code_drafts.specs.Writing.{wanted_items, link_of, WritesBefore}
+use Rattle.code_drafts.proofs.Trees.{chain_is, equal_is, step_before_is, assign_property_word_is, number_is, read_is}
+use Rattle.code_drafts.proofs.Trees.{call_is, prefixed_is, step_after_is, compare_is, assign_is, entry_is}
+use Rattle.code_drafts.proofs.Trees.{assign_entry_is, relative_is, contained_is, has_is, provides_is, property_is}
+use Rattle.code_drafts.proofs.Trees.{property_size_is, property_word_is, assign_property_is}
 use Rattle.code_values.proofs.ObjectForms.{one_boxed, two_boxed, three_boxed}
 
 -- what is wanted of a value was written, if memory sufficed

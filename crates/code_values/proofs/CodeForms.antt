@@ -10,23 +10,23 @@ use Rattle.meaning.specs.declared.resolved.Variable.{Variable}
 use Rattle.meaning.specs.Resolved.{Value, Values}
 use Rattle.meaning.specs.Resolved as source
 use Rattle.meaning.specs.Accepted.{count_of}
-use Rattle.code_values.specs.Items.{Item, Operand, Destination, Test, pushed, into, aside, branch_true, alone}
-use Rattle.code_values.specs.Items.{operands_of, right_place, operated, are_more_pushed, called, arguments_items}
-use Rattle.code_values.specs.Items.{if_pushed, operands_items, same_items, comparison_test, comparison_when}
-use Rattle.code_values.specs.Items.{equality_when, same}
-use Rattle.code_values.specs.Items as items
-use Rattle.code_values.specs.Code.{as_operand, as_operands, as_destination}
-use Rattle.code_values.specs.declared.item.Destination as code_destination
-use Rattle.code_values.specs.declared.item.Destination.TheVariants as destinations
-use Rattle.code_values.specs.declared.item.Operand as code_operand
-use Rattle.code_values.specs.declared.wanted.Wanted.{Wanted}
-use Rattle.code_values.specs.declared.wanted.Wanted.TheVariants.{Word, Branch}
-use Rattle.code_values.specs.Writing.{wanted_items, alones, ReducesWord, ReducesTruth, WritesBefore}
+use Rattle.code_drafts.specs.Items.{Item, Operand, Destination, Test, pushed, into, aside, branch_true, alone}
+use Rattle.code_drafts.specs.Items.{operands_of, right_place, operated, are_more_pushed, called, arguments_items}
+use Rattle.code_drafts.specs.Items.{if_pushed, operands_items, same_items, comparison_test, comparison_when}
+use Rattle.code_drafts.specs.Items.{equality_when, same}
+use Rattle.code_drafts.specs.Items as items
+use Rattle.code_drafts.specs.Code.{as_operand, as_operands, as_destination}
+use Rattle.code_drafts.specs.declared.item.Destination as code_destination
+use Rattle.code_drafts.specs.declared.item.Destination.TheVariants as destinations
+use Rattle.code_drafts.specs.declared.item.Operand as code_operand
+use Rattle.code_drafts.specs.declared.wanted.Wanted.{Wanted}
+use Rattle.code_drafts.specs.declared.wanted.Wanted.TheVariants.{Word, Branch}
+use Rattle.code_drafts.specs.Writing.{wanted_items, alones, ReducesWord, ReducesTruth, WritesBefore}
 use Rattle.code_values.specs.ValueWriting.{pushes, placed, folded_items, ReducesLink, ReducesComparison, ReducesEquality}
 use Rattle.code_values.proofs.OperationForms.{not_logical, operate_link, compare_link}
 use Rattle.code_values.proofs.Values.{call_more, and_link_at, or_link_at}
 use Rattle.code_values.proofs.Assigned.{assign_nowhere, assign_pushed, assign_kept, assign_aside}
-use Rattle.code_values.proofs.WrittenItems.{as_items}
+use Rattle.code_drafts.proofs.WrittenItems.{as_items}
 use Rattle.code_values.proofs.Alternatives.{few_link, placed_link, many_link}
 
 -- Assignments
@@ -101,7 +101,8 @@ or_written c c1 c2 wanted w when target end op o b is reduces ee wb first =
     (or_link_at c c1 c2 wanted when target end _ op o b is reduces ee wb refl)
 
 pub operation_written : (c c1 c2 c3 : List Item) (wanted : Wanted) (d place : Destination) (op : Binary)
-    (o ob : Operand) (b : Value) (i : Item) → (op ≡ binaries.AndAlso → ⊥) → (op ≡ binaries.OrElse → ⊥) → ReducesWord c c1 wanted d
+    (o ob : Operand) (b : Value) (i : Item) → (op ≡ binaries.AndAlso → ⊥) → (op ≡ binaries.OrElse → ⊥) → ReducesWord c
+    c1 wanted d
     → ob ≡ alone b → place ≡ right_place op o → i ≡ operated place op o ob d → c2 ≡ c1 ++ i ∷ []
     → WritesBefore c2 c3 (placed place ob b)
     → ReducesLink c c3 wanted (Word destinations.Push) op o b
@@ -146,7 +147,8 @@ pub placed_written : (c c1 c2 : List Item) (wanted : Wanted) (when known few on 
     → given ≡ os → known ≡ equality_when op when
     → WritesBefore c1 c2 (λ n at. same_items (as_operand oa) (as_operands given) at known (n - target))
     → ReducesEquality c c2 wanted op (as_operand oa) (as_operand ob) bs
-placed_written c c1 c2 wanted when known few on target op oa ob sides os given bs counted is pushes off reduces are added
+placed_written c c1 c2 wanted when known few on target op oa ob sides os given bs counted is pushes off reduces are
+    added
     same_given known_is w =
     placed_link c c1 c2 wanted when target op (as_operand oa) (as_operand ob) bs (sym counted ∙ is)
     (sym pushes ∙ off) reduces

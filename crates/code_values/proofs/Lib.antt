@@ -1,12 +1,3 @@
-pub mod CountedForms
-pub mod Counts
-pub mod Trees
-pub mod Drafts
-pub mod Operands
-pub mod InPlace
-pub mod SameRounds
-pub mod WrittenItems
-pub mod Reductions
 pub mod OperationForms
 pub mod Values
 pub mod Assigned

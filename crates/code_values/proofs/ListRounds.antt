@@ -5,12 +5,12 @@ use Rattle.std.proofs.lemmas.List.{take_rest}
 use Rattle.syntax_trees.specs.declared.tree.Binary.{Binary}
 use Rattle.meaning.specs.declared.resolved.Value as code_value
 use Rattle.meaning.specs.Views.{value_of, values_of}
-use Rattle.code_values.specs.Items.{Item, Operand, pushed, operand_of, operands_items}
-use Rattle.code_values.specs.Items as items
-use Rattle.code_values.specs.declared.item.Destination.TheVariants as destinations
-use Rattle.code_values.specs.declared.wanted.Wanted.{Wanted}
-use Rattle.code_values.specs.declared.wanted.Wanted.TheVariants.{Word}
-use Rattle.code_values.specs.Writing.{wanted_items, link_of, WritesBefore}
+use Rattle.code_drafts.specs.Items.{Item, Operand, pushed, operand_of, operands_items}
+use Rattle.code_drafts.specs.Items as items
+use Rattle.code_drafts.specs.declared.item.Destination.TheVariants as destinations
+use Rattle.code_drafts.specs.declared.wanted.Wanted.{Wanted}
+use Rattle.code_drafts.specs.declared.wanted.Wanted.TheVariants.{Word}
+use Rattle.code_drafts.specs.Writing.{wanted_items, link_of, WritesBefore}
 use Rattle.code_values.specs.ValueWriting.{pushes, folded_items, ReducesLinks, ReducesLink}
 use Rattle.code_values.proofs.Alternatives.{operand_next, folded_next, link_next}
 

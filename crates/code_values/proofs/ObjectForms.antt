@@ -4,14 +4,14 @@ use Rattle.meaning.specs.declared.resolved.Value as code_value
 use Rattle.meaning.specs.Resolved.{Value}
 use Rattle.meaning.specs.Views.{value_of}
 use Rattle.meaning.specs.Resolved as source
-use Rattle.code_values.specs.Items.{Item, Operand, pushed, Destination, push, alone, left_of, first_of, if_pushed}
-use Rattle.code_values.specs.Items.{branch_true, value_count, value_items, branch_items}
-use Rattle.code_values.specs.Items as items
-use Rattle.code_values.specs.declared.wanted.Wanted.{Wanted}
-use Rattle.code_values.specs.Writing.{numbered, Leaves, wanted_items, IsCondition, ReducesWord, ReducesTruth}
-use Rattle.code_values.specs.Writing.{WritesBefore}
+use Rattle.code_drafts.specs.Items.{Item, Operand, pushed, Destination, push, alone, left_of, first_of, if_pushed}
+use Rattle.code_drafts.specs.Items.{branch_true, value_count, value_items, branch_items}
+use Rattle.code_drafts.specs.Items as items
+use Rattle.code_drafts.specs.declared.wanted.Wanted.{Wanted}
+use Rattle.code_drafts.specs.Writing.{numbered, Leaves, wanted_items, IsCondition, ReducesWord, ReducesTruth}
+use Rattle.code_drafts.specs.Writing.{WritesBefore}
 use Rattle.code_values.specs.ValueWriting.{pushes, both_push, ReducesAssignedWord}
-use Rattle.code_values.proofs.WrittenItems.{both, as_items, after_one}
+use Rattle.code_drafts.proofs.WrittenItems.{both, as_items, after_one}
 use Rattle.code_values.proofs.Values.{pushes_length}
 use Rattle.code_values.proofs.Alternatives.{both_length}
 

@@ -4,10 +4,10 @@ use Rattle.syntax_trees.specs.declared.tree.Containment.{Containment}
 use Rattle.syntax_trees.specs.declared.tree.Relative.{Relative}
 use Rattle.meaning.specs.Resolved.{Value}
 use Rattle.meaning.specs.Resolved as source
-use Rattle.code_values.specs.Items.{Item, Operand, Destination, alone, left_of, agrees, containment_when}
-use Rattle.code_values.specs.Items as items
-use Rattle.code_values.specs.declared.wanted.Wanted.{Wanted}
-use Rattle.code_values.specs.Writing.{wanted_items, ReducesWord, ReducesTruth, WritesBefore}
+use Rattle.code_drafts.specs.Items.{Item, Operand, Destination, alone, left_of, agrees, containment_when}
+use Rattle.code_drafts.specs.Items as items
+use Rattle.code_drafts.specs.declared.wanted.Wanted.{Wanted}
+use Rattle.code_drafts.specs.Writing.{wanted_items, ReducesWord, ReducesTruth, WritesBefore}
 use Rattle.code_values.specs.ValueWriting.{pushes, ReducesContained, ReducesPropertyWord, ReducesAssignedProperty}
 use Rattle.code_values.proofs.ObjectForms.{one_word, one_condition, two_word, two_condition, pair_more}
 

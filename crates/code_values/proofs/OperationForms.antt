@@ -9,16 +9,16 @@ use Rattle.syntax_trees.specs.declared.tree.Width.{Width}
 use Rattle.meaning.specs.Resolved.{Value}
 use Rattle.meaning.specs.Views.{chained}
 use Rattle.meaning.specs.Resolved as source
-use Rattle.code_values.specs.Items.{Item, Operand, pushed, number, Destination, push, Test, alone, left_of}
-use Rattle.code_values.specs.Items.{if_pushed, branch_true, comparison_test, comparison_when, value_count, value_items}
-use Rattle.code_values.specs.Items.{branch_items, right_place, operated, into, aside, nowhere, variable, is_any_pushed}
-use Rattle.code_values.specs.Items.{loaded, index_place, stored}
-use Rattle.code_values.specs.Items as items
-use Rattle.code_values.specs.declared.item.Destination.TheVariants as destinations
-use Rattle.code_values.specs.declared.wanted.Wanted.{Wanted}
-use Rattle.code_values.specs.declared.wanted.Wanted.TheVariants.{Word}
-use Rattle.code_values.specs.Writing.{numbered, wanted_items, is_logical, ReducesWord, ReducesTruth, WritesBefore}
-use Rattle.code_values.proofs.WrittenItems.{nothing, both, as_items, after_one}
+use Rattle.code_drafts.specs.Items.{Item, Operand, pushed, number, Destination, push, Test, alone, left_of}
+use Rattle.code_drafts.specs.Items.{if_pushed, branch_true, comparison_test, comparison_when, value_count, value_items}
+use Rattle.code_drafts.specs.Items.{branch_items, right_place, operated, into, aside, nowhere, variable, is_any_pushed}
+use Rattle.code_drafts.specs.Items.{loaded, index_place, stored}
+use Rattle.code_drafts.specs.Items as items
+use Rattle.code_drafts.specs.declared.item.Destination.TheVariants as destinations
+use Rattle.code_drafts.specs.declared.wanted.Wanted.{Wanted}
+use Rattle.code_drafts.specs.declared.wanted.Wanted.TheVariants.{Word}
+use Rattle.code_drafts.specs.Writing.{numbered, wanted_items, is_logical, ReducesWord, ReducesTruth, WritesBefore}
+use Rattle.code_drafts.proofs.WrittenItems.{nothing, both, as_items, after_one}
 use Rattle.code_values.specs.ValueWriting.{pushes, placed, first_items, ReducesLink, ReducesLinks, ReducesComparison}
 use Rattle.code_values.specs.ValueWriting.{ReducesAssignedEntry}
 use Rattle.code_values.proofs.Values.{pushes_length, placed_length}

@@ -5,12 +5,12 @@ use Rattle.std.proofs.Math.Seq.{drop-cons}
 use Rattle.meaning.specs.Resolved.{Value}
 use Rattle.meaning.specs.Views.{propertied}
 use Rattle.meaning.specs.Resolved as source
-use Rattle.code_values.specs.Items.{Item, Operand, pushed, Destination, alone}
-use Rattle.code_values.specs.Items as items
-use Rattle.code_values.specs.declared.item.Destination.TheVariants as destinations
-use Rattle.code_values.specs.declared.wanted.Wanted.{Wanted}
-use Rattle.code_values.specs.declared.wanted.Wanted.TheVariants.{Word}
-use Rattle.code_values.specs.Writing.{wanted_items, ReducesWord, WritesBefore}
+use Rattle.code_drafts.specs.Items.{Item, Operand, pushed, Destination, alone}
+use Rattle.code_drafts.specs.Items as items
+use Rattle.code_drafts.specs.declared.item.Destination.TheVariants as destinations
+use Rattle.code_drafts.specs.declared.wanted.Wanted.{Wanted}
+use Rattle.code_drafts.specs.declared.wanted.Wanted.TheVariants.{Word}
+use Rattle.code_drafts.specs.Writing.{wanted_items, ReducesWord, WritesBefore}
 use Rattle.code_values.specs.ValueWriting.{pushes, ReducesProperties}
 use Rattle.code_values.proofs.ObjectValues.{property_written}
 

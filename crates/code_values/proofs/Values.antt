@@ -8,16 +8,16 @@ use Rattle.syntax_trees.specs.declared.tree.Prefix.{Prefix}
 use Rattle.syntax_trees.specs.declared.tree.Prefix.TheVariants as prefixes
 use Rattle.meaning.specs.Resolved.{Value, Values}
 use Rattle.meaning.specs.Resolved as source
-use Rattle.code_values.specs.Items.{Item, Operand, pushed, Destination, push, operands_of, alone, if_pushed}
-use Rattle.code_values.specs.Items.{branch_true, value_count, branch_count, value_items}
-use Rattle.code_values.specs.Items.{branch_items, are_more_pushed, called, arguments_count, arguments_items}
-use Rattle.code_values.specs.Items as items
-use Rattle.code_values.specs.declared.wanted.Wanted.{Wanted}
-use Rattle.code_values.specs.declared.wanted.Wanted.TheVariants.{Branch}
-use Rattle.code_values.specs.Writing.{numbered, wanted_items, ReducesWord, ReducesTruth, WritesBefore}
-use Rattle.code_values.proofs.CountedForms.{if_length}
-use Rattle.code_values.proofs.Counts.{value_length, branch_length, arguments_length}
-use Rattle.code_values.proofs.WrittenItems.{counted, both, as_items, after_one}
+use Rattle.code_drafts.specs.Items.{Item, Operand, pushed, Destination, push, operands_of, alone, if_pushed}
+use Rattle.code_drafts.specs.Items.{branch_true, value_count, branch_count, value_items}
+use Rattle.code_drafts.specs.Items.{branch_items, are_more_pushed, called, arguments_count, arguments_items}
+use Rattle.code_drafts.specs.Items as items
+use Rattle.code_drafts.specs.declared.wanted.Wanted.{Wanted}
+use Rattle.code_drafts.specs.declared.wanted.Wanted.TheVariants.{Branch}
+use Rattle.code_drafts.specs.Writing.{numbered, wanted_items, ReducesWord, ReducesTruth, WritesBefore}
+use Rattle.code_drafts.proofs.CountedForms.{if_length}
+use Rattle.code_drafts.proofs.Counts.{value_length, branch_length, arguments_length}
+use Rattle.code_drafts.proofs.WrittenItems.{counted, both, as_items, after_one}
 use Rattle.code_values.specs.ValueWriting.{pushes, placed, ReducesLink}
 
 pub pushes_length : (o : Operand) (v : Value) (n at : ℕ)

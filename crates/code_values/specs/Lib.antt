@@ -1,4 +1,1 @@
-pub mod Items
-pub mod Code
-pub mod Writing
 pub mod ValueWriting

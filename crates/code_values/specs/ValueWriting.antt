@@ -9,16 +9,16 @@ use Rattle.meaning.specs.declared.resolved.Value as code_value
 use Rattle.meaning.specs.Resolved.{Value, Values, none, more}
 use Rattle.meaning.specs.Views.{value_of, chained, propertied}
 use Rattle.meaning.specs.Resolved as source
-use Rattle.code_values.specs.Items.{Item, Operand, Destination, pushed, push, alone, left_of, if_pushed, value_count}
-use Rattle.code_values.specs.Items.{value_items, operands_items, arguments_items}
-use Rattle.code_values.specs.Items as items
-use Rattle.code_values.specs.Code.{as_operand, as_destination}
-use Rattle.code_values.specs.declared.item.Operand as code_operand
-use Rattle.code_values.specs.declared.item.Destination as code_destination
-use Rattle.code_values.specs.declared.draft.Draft.{Draft}
-use Rattle.code_values.specs.declared.wanted.Wanted.{Wanted}
-use Rattle.code_values.specs.Writing.{written_in, Leaves, wanted_items, is_logical, link_of, first_operand}
-use Rattle.code_values.specs.Writing.{second_operand, values_in, Writes}
+use Rattle.code_drafts.specs.Items.{Item, Operand, Destination, pushed, push, alone, left_of, if_pushed, value_count}
+use Rattle.code_drafts.specs.Items.{value_items, operands_items, arguments_items}
+use Rattle.code_drafts.specs.Items as items
+use Rattle.code_drafts.specs.Code.{as_operand, as_destination}
+use Rattle.code_drafts.specs.declared.item.Operand as code_operand
+use Rattle.code_drafts.specs.declared.item.Destination as code_destination
+use Rattle.code_drafts.specs.declared.draft.Draft.{Draft}
+use Rattle.code_drafts.specs.declared.wanted.Wanted.{Wanted}
+use Rattle.code_drafts.specs.Writing.{written_in, Leaves, wanted_items, is_logical, link_of, first_operand}
+use Rattle.code_drafts.specs.Writing.{second_operand, values_in, Writes}
 
 -- the items that push an operand
 abbrev pub pushes : Operand → Value → ℕ → ℕ → List Item

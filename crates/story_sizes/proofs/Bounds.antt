@@ -6,11 +6,11 @@ use Rattle.syntax_trees.specs.declared.tree.Relative.{Relative}
 use Rattle.meaning.specs.Resolved.{Value, Values, none, more}
 use Rattle.meaning.specs.Resolved as source
 use Rattle.meaning.specs.Meaning.{is_true}
-use Rattle.code_values.specs.Items.{Item, pushed, number, variable, Destination, push, into, operands_of, alone}
-use Rattle.code_values.specs.Items.{Operand, left_of, if_pushed, branch_true, agrees, operand_count, value_items}
-use Rattle.code_values.specs.Items.{are_more_pushed, called, arguments_items}
-use Rattle.code_values.specs.Items.{branch_items, first_of, containment_when}
-use Rattle.code_values.specs.Items as items
+use Rattle.code_drafts.specs.Items.{Item, pushed, number, variable, Destination, push, into, operands_of, alone}
+use Rattle.code_drafts.specs.Items.{Operand, left_of, if_pushed, branch_true, agrees, operand_count, value_items}
+use Rattle.code_drafts.specs.Items.{are_more_pushed, called, arguments_items}
+use Rattle.code_drafts.specs.Items.{branch_items, first_of, containment_when}
+use Rattle.code_drafts.specs.Items as items
 use Rattle.story_sizes.proofs.Most.{most, most_of, tokens, most_append, if_small, moved_small, after_small, kept_small}
 use Rattle.story_sizes.proofs.Most.{truth_small, operands_length}
 use Rattle.story_sizes.proofs.BoundsOfForms.{Small, AreSmall, two_small, alone_small, prefixed_small, binary_small}

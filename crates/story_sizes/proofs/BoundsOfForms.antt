@@ -11,13 +11,13 @@ use Rattle.syntax_trees.specs.declared.tree.Width.{Width}
 use Rattle.meaning.specs.Resolved.{Value, Values, none, more}
 use Rattle.meaning.specs.Resolved as source
 use Rattle.meaning.specs.Accepted.{count_of}
-use Rattle.code_values.specs.Items.{Item, Operand, pushed, number, variable, Destination, push, into, aside, nowhere}
-use Rattle.code_values.specs.Items.{right_place, operated, operand_of, operands_of, alone, left_of}
-use Rattle.code_values.specs.Items.{if_pushed, branch_true, is_direct, same_count, comparison_test, comparison_when, equality_when}
-use Rattle.code_values.specs.Items.{same_items, is_any_pushed, argument_place, arguments_items}
-use Rattle.code_values.specs.Items.{value_count, operand_count, operands_count, branch_count, many_count, truth_items}
-use Rattle.code_values.specs.Items.{value_items, operands_items, branch_items, many_items, also_items}
-use Rattle.code_values.specs.Items as items
+use Rattle.code_drafts.specs.Items.{Item, Operand, pushed, number, variable, Destination, push, into, aside, nowhere}
+use Rattle.code_drafts.specs.Items.{right_place, operated, operand_of, operands_of, alone, left_of}
+use Rattle.code_drafts.specs.Items.{if_pushed, branch_true, is_direct, same_count, comparison_test, comparison_when, equality_when}
+use Rattle.code_drafts.specs.Items.{same_items, is_any_pushed, argument_place, arguments_items}
+use Rattle.code_drafts.specs.Items.{value_count, operand_count, operands_count, branch_count, many_count, truth_items}
+use Rattle.code_drafts.specs.Items.{value_items, operands_items, branch_items, many_items, also_items}
+use Rattle.code_drafts.specs.Items as items
 use Rattle.story_sizes.proofs.Most.{most, most_of, tokens, list_tokens, alternative_tokens, or_tokens, most_append, if_small}
 use Rattle.story_sizes.proofs.Most.{truth_small, either_small, operands_length, alternatives_are}
 

@@ -7,9 +7,9 @@ use Rattle.meaning.specs.Accepted.{count_of}
 use Rattle.meaning.specs.Resolved as source
 use Rattle.meaning.specs.Resolved.{Value, Values, none, more}
 use Rattle.meaning.specs.declared.resolved.Variable.{Variable}
-use Rattle.code_values.specs.Items as items
-use Rattle.code_values.specs.Items.{Item, Operand, pushed, number, variable, Destination, push, into, aside, nowhere}
-use Rattle.code_values.specs.Items.{operands_of, if_pushed, moved, truth_items, after_items, kept_items}
+use Rattle.code_drafts.specs.Items as items
+use Rattle.code_drafts.specs.Items.{Item, Operand, pushed, number, variable, Destination, push, into, aside, nowhere}
+use Rattle.code_drafts.specs.Items.{operands_of, if_pushed, moved, truth_items, after_items, kept_items}
 
 -- An operand has 2 bytes, or 1 and an instruction `pull`; a label has 4 bytes at most, a fault inline 4, and the tests
 -- of an index or an object 10. A case compares its word with three numbers at most; `read` tests the first bytes of two

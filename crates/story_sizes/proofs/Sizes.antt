@@ -5,8 +5,8 @@ use Rattle.std.specs.Prelude.{slice_index}
 use Rattle.zcore.specs.declared.instruction.Operation.TheVariants as operations
 use Rattle.zcore.specs.Instruction.{Instruction}
 use Rattle.zcore.specs.InstructionBytes.{bytes_of}
-use Rattle.code_values.specs.Items.{Item}
-use Rattle.code_values.specs.Items as items
+use Rattle.code_drafts.specs.Items.{Item}
+use Rattle.code_drafts.specs.Items as items
 use Rattle.code_branch_forms.specs.Layout.{first, form_for, offset_over, part_size, lefts}
 use Rattle.code_encoding.specs.Instructions.{plain, in_place}
 use Rattle.meaning.specs.Limits.{most_arguments}

@@ -7,8 +7,8 @@ use Rattle.std.proofs.lemmas.List.{length-take}
 use Rattle.zcore.specs.Operations.{has_more_types}
 use Rattle.zcore.specs.InstructionBytes.{operand_bytes}
 use Rattle.code_branch_forms.specs.Layout.{form_for, offset_over, part_size}
-use Rattle.code_values.specs.Items.{Test}
-use Rattle.code_values.specs.Items as items
+use Rattle.code_drafts.specs.Items.{Test}
+use Rattle.code_drafts.specs.Items as items
 use Rattle.code_encoding.specs.Instructions as spec
 use Rattle.code_encoding.specs.Instructions.{constant, operands, takes, most_tested}
 use Rattle.code_instructions.specs.Instructions.{labelled, test_operation, turned, are_both_pushed, ordered_code, tested_code}

@@ -8,8 +8,8 @@ use Rattle.zcore.specs.Operations.{count_of, number_of, has_more_types}
 use Rattle.zcore.specs.Instruction.{Instruction}
 use Rattle.zcore.specs.InstructionBytes.{result_bytes, bytes_of}
 use Rattle.meaning.specs.declared.cause.Cause.TheVariants as causes
-use Rattle.code_values.specs.Items.{Destination}
-use Rattle.code_values.specs.Items as items
+use Rattle.code_drafts.specs.Items.{Destination}
+use Rattle.code_drafts.specs.Items as items
 use Rattle.code_encoding.specs.Instructions as spec
 use Rattle.code_encoding.specs.Instructions.{plain, constant, takes}
 use Rattle.code_encoding.specs.Bytes.{bytes_of_all}

@@ -15,8 +15,8 @@ use Rattle.meaning.specs.Resolved as resolved
 use Rattle.checker_names.specs.Names.{Seen}
 use Rattle.checker_values.specs.Expressions.{resolve}
 use Rattle.checker_statements.specs.Statements.{resolve_range, resolve_statements, resolve_cases}
-use Rattle.code_values.specs.Items.{aside, value_count, value_items}
-use Rattle.code_values.specs.Items as items
+use Rattle.code_drafts.specs.Items.{aside, value_count, value_items}
+use Rattle.code_drafts.specs.Items as items
 use Rattle.code_items.specs.Statements.{Group, numbers, range, with_number, groups_of, group_count, group_items}
 use Rattle.code_items.specs.Statements.{tests_count, tests_items, over_count, over_items, actions_count, cases_count}
 use Rattle.code_items.specs.Statements.{Exits, actions_items, cases_items}

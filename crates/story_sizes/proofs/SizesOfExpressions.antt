@@ -25,8 +25,8 @@ use Rattle.syntax_directives.specs.Weight.{expression_weight, expression_weights
 use Rattle.meaning.specs.Accepted.{count_of}
 use Rattle.checker_names.specs.Names.{Seen}
 use Rattle.checker_values.specs.Expressions.{resolve, resolve_all}
-use Rattle.code_values.specs.Items.{Item, Destination, push, alone, left_of, if_pushed, operand_count, value_items}
-use Rattle.code_values.specs.Items.{branch_items, alone_items}
+use Rattle.code_drafts.specs.Items.{Item, Destination, push, alone, left_of, if_pushed, operand_count, value_items}
+use Rattle.code_drafts.specs.Items.{branch_items, alone_items}
 use Rattle.story_sizes.proofs.Most.{most_of, tokens, list_tokens, alternative_tokens, or_tokens, if_small}
 use Rattle.story_sizes.proofs.BoundsOfForms.{two_small}
 use Rattle.story_sizes.proofs.Bounds.{small}

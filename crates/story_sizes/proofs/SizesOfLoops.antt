@@ -13,8 +13,8 @@ use Rattle.meaning.specs.declared.resolved.Variable.{Variable}
 use Rattle.checker_names.specs.Names.{Seen}
 use Rattle.checker_values.specs.Expressions.{resolve}
 use Rattle.checker_statements.specs.Statements.{loop_variable, resolve_statement}
-use Rattle.code_values.specs.Items.{Item, operand_count, branch_count, alone, branch_items, alone_items, Operand}
-use Rattle.code_values.specs.Items as items
+use Rattle.code_drafts.specs.Items.{Item, operand_count, branch_count, alone, branch_items, alone_items, Operand}
+use Rattle.code_drafts.specs.Items as items
 use Rattle.code_items.specs.Statements.{action_count, Exits, exits_to, action_items, each_items, relative_items}
 use Rattle.code_items.specs.Statements.{children_items}
 use Rattle.story_sizes.proofs.Most.{most_of, most_append}

@@ -14,8 +14,8 @@ use Rattle.code_branch_forms.specs.declared.layout.Form.TheVariants as form
 use Rattle.code_branch_forms.specs.declared.layout.Form.{Form}
 use Rattle.code_branch_forms.specs.Layout.{size_with}
 use Rattle.meaning.specs.declared.cause.Cause.{Cause}
-use Rattle.code_values.specs.Items.{Destination}
-use Rattle.code_values.specs.Items as items
+use Rattle.code_drafts.specs.Items.{Destination}
+use Rattle.code_drafts.specs.Items as items
 use Rattle.code_encoding.specs.Addresses.{fault_address}
 use Rattle.code_encoding.specs.Instructions as spec
 use Rattle.code_encoding.specs.Instructions.{plain, giving, constant, fail, branching, pull, pulled_into, word_in}

@@ -18,8 +18,8 @@ use Rattle.syntax_trees.specs.declared.tree.Width.TheVariants as widths
 use Rattle.meaning.specs.declared.resolved.Variable as source
 use Rattle.meaning.specs.Meaning.{is_character}
 use Rattle.meaning.specs.declared.cause.Cause.TheVariants as causes
-use Rattle.code_values.specs.Items.{Destination}
-use Rattle.code_values.specs.Items as items
+use Rattle.code_drafts.specs.Items.{Destination}
+use Rattle.code_drafts.specs.Items as items
 use Rattle.code_branch_forms.specs.Layout.{first}
 use Rattle.code_encoding.specs.Instructions as spec
 use Rattle.code_encoding.specs.Instructions.{plain, giving, in_place, constant, operands, takes, result_in, fail}

@@ -14,8 +14,8 @@ use Rattle.syntax_directives.specs.Weight.{statement_weights}
 use Rattle.checker_names.specs.Names.{Seen}
 use Rattle.checker_values.specs.Expressions.{resolve}
 use Rattle.checker_statements.specs.Statements.{resolve_item, resolve_statement, resolve_statements}
-use Rattle.code_values.specs.Items.{nowhere, branch_count, alone, branch_items, alone_items}
-use Rattle.code_values.specs.Items as items
+use Rattle.code_drafts.specs.Items.{nowhere, branch_count, alone, branch_items, alone_items}
+use Rattle.code_drafts.specs.Items as items
 use Rattle.code_items.specs.Statements.{printed_count, printed_items, prints_items, once_count, test_count, once_items}
 use Rattle.code_items.specs.Statements.{test_items, return_true, action_count, Exits, exits_to, action_items}
 use Rattle.code_items.specs.Statements.{actions_items}

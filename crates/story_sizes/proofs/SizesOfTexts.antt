@@ -9,7 +9,7 @@ use Rattle.ztext.specs.Alphabets.{spelling_in_punctuation, spelling_in_upper, sp
 use Rattle.ztext.specs.Words.{packed, missing, padded}
 use Rattle.ztext.specs.Abbreviations.{Found, longest, spelling_or, more_of, spelled_behind, encoded_with}
 use Rattle.zcore.specs.InstructionBytes.{bytes_of}
-use Rattle.code_values.specs.Items as items
+use Rattle.code_drafts.specs.Items as items
 use Rattle.code_encoding.specs.Addresses.{Sizes}
 use Rattle.code_encoding.specs.Bytes.{character_of}
 use Rattle.code.specs.Bytes.{least_size}

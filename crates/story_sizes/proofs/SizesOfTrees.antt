@@ -15,8 +15,8 @@ use Rattle.syntax_statements.specs.Grammar.{cases_none, cases_default, cases_nex
 use Rattle.checker_names.specs.Names.{Seen}
 use Rattle.checker_values.specs.Expressions.{resolve}
 use Rattle.checker_statements.specs.Statements.{resolve_flag, resolve_statement, resolve_statements}
-use Rattle.code_values.specs.Items.{nowhere, alone, alone_items, left_of}
-use Rattle.code_values.specs.Items as items
+use Rattle.code_drafts.specs.Items.{nowhere, alone, alone_items, left_of}
+use Rattle.code_drafts.specs.Items as items
 use Rattle.code_items.specs.Statements.{action_count, action_items, actions_items}
 use Rattle.story_sizes.proofs.Most.{most_append}
 use Rattle.story_sizes.proofs.SizesOfExpressions.{fits_E, few_value, few_alone, few_two, FitsExpression}

@@ -28,7 +28,7 @@ use Rattle.meaning.specs.Resolved as source
 use Rattle.checker_names.specs.declared.binding.Binding.TheVariants as bindings
 use Rattle.checker_names.specs.Names.{key_of, first_table, File, look_up}
 use Rattle.checker.specs.Programs.{routines_of}
-use Rattle.code_values.specs.Items as items
+use Rattle.code_drafts.specs.Items as items
 use Rattle.code_encoding.specs.Addresses.{Sizes}
 use Rattle.code.specs.Bytes.{least_size}
 use Rattle.code.specs.Sizes.{routine_size, routines_size}

@@ -1,5 +1,5 @@
 use Rattle.std.proofs.Common.{◌≡◌, ◌≤◌, ◌+◌, drop}
-use Rattle.code_values.specs.Code.{as_operands}
+use Rattle.code_drafts.specs.Code.{as_operands}
 use Rattle.code_encoding.specs.Instructions.{pushed_count}
 use Rattle.code_encoding.proofs.operands.pushed_count.Given as goal
 

@@ -1,5 +1,5 @@
 use Rattle.std.proofs.Common.{arith}
-use Rattle.code_values.specs.declared.item.Operand.TheVariants.{Pushed}
+use Rattle.code_drafts.specs.declared.item.Operand.TheVariants.{Pushed}
 use Rattle.code_encoding.proofs.Naming.{named_on}
 use Rattle.code_encoding.proofs.operands.put_named.Goals as goal
 

@@ -1,5 +1,5 @@
 use Rattle.std.proofs.Common.{◌≡◌, ◌≤◌, ◌++◌, drop}
-use Rattle.code_values.specs.Code.{as_operands}
+use Rattle.code_drafts.specs.Code.{as_operands}
 use Rattle.code_encoding.specs.Instructions.{operands}
 use Rattle.code_encoding.specs.Written.{named_when}
 use Rattle.code_encoding.proofs.operands.put_named.Given as goal

@@ -1,7 +1,7 @@
 use Rattle.std.proofs.Common.{List, [], ◌∷◌, ◌++◌, take, ap, ◌∙◌}
 use Rattle.zcore.specs.declared.instruction.Operand.{Operand}
 use Rattle.zcore.specs.declared.instruction.Operand.TheVariants.{Large}
-use Rattle.code_values.specs.Code.{as_operands, as_destination}
+use Rattle.code_drafts.specs.Code.{as_operands, as_destination}
 use Rattle.meaning.specs.Limits.{most_arguments}
 use Rattle.code_instructions.proofs.Givens.{given_is, call_written}
 use Rattle.code_instructions.proofs.calls.put_call.Goals as goal

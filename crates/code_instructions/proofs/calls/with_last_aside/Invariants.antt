@@ -1,5 +1,5 @@
 use Rattle.std.proofs.Common.{◌≡◌, ◌++◌, drop}
-use Rattle.code_values.specs.Code.{as_operands}
+use Rattle.code_drafts.specs.Code.{as_operands}
 use Rattle.code_instructions.specs.Instructions.{with_last_aside}
 use Rattle.code_instructions.proofs.calls.with_last_aside.Given as goal
 

@@ -1,4 +1,4 @@
-use Rattle.code_values.specs.Code.{as_operands, as_test}
+use Rattle.code_drafts.specs.Code.{as_operands, as_test}
 use Rattle.std.proofs.Common.{take}
 use Rattle.code_encoding.specs.Instructions.{most_tested}
 use Rattle.code_instructions.proofs.Givens.{given_is, branch_otherwise, on_ok}

@@ -1,8 +1,8 @@
 use Rattle.std.proofs.Common.{◌-◌, List, [], ◌∷◌, ◌++◌, map, take, reverse}
-use Rattle.code_values.specs.Items.{Item}
+use Rattle.code_drafts.specs.Items.{Item}
 use Rattle.code_items.specs.Statements.{Group, last_items, tests_items}
 use Rattle.code_items.specs.Code.{group_of}
-use Rattle.code_values.specs.Writing.{written_in, WritesBefore}
+use Rattle.code_drafts.specs.Writing.{written_in, WritesBefore}
 use Rattle.code_items.proofs.cases.put_tests.Given as goal
 
 -- before the last group stand those that were written since

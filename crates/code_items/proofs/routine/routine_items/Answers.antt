@@ -2,8 +2,8 @@ use Rattle.std.proofs.Common.{List, [], ◌∷◌, ◌++◌, map, ap, ◌∙◌,
 use Rattle.meaning.specs.declared.resolved.Action as code_action
 use Rattle.meaning.specs.Views.{action_of, actions_of}
 use Rattle.code_items.specs.Statements.{actions_items, return_true}
-use Rattle.code_values.specs.Code.{items_of}
-use Rattle.code_values.specs.Writing.{written_in, WritesBefore}
+use Rattle.code_drafts.specs.Code.{items_of}
+use Rattle.code_drafts.specs.Writing.{written_in, WritesBefore}
 use Rattle.code_items.specs.Writing.{exits_of}
 use Rattle.code_items.proofs.Actions.{routine_more}
 use Rattle.code_items.proofs.routine.routine_items.Goals as goal

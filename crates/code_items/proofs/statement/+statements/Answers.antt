@@ -7,7 +7,7 @@ use Rattle.meaning.specs.declared.resolved.Span.{Span}
 use Rattle.meaning.specs.Resolved.{Action, CasesOf, while_do, do_until, for_loop, switch_on, give_to, each_object}
 use Rattle.meaning.specs.Resolved.{each_where, each_in, move_to}
 use Rattle.meaning.specs.Views.{value_of, range_of, action_of, actions_of, case_of, cases_of, other_of, boxed_value}
-use Rattle.code_values.specs.Writing.{written_in, WritesBefore}
+use Rattle.code_drafts.specs.Writing.{written_in, WritesBefore}
 use Rattle.code_items.specs.Statements.{action_items, actions_items, cases_items, groups_of, tests_items, action_count}
 use Rattle.code_items.specs.declared.exits.Exits.{Exits}
 use Rattle.code_items.specs.Writing.{exits_of, LeavesCases}

@@ -1,6 +1,6 @@
 use Rattle.std.proofs.Common.{◌-◌, ◌+◌, ◌*◌, max, [], length, map, drop}
 use Rattle.meaning.specs.Views.{action_of, actions_of}
-use Rattle.code_values.specs.Writing.{written_in, WritesBefore}
+use Rattle.code_drafts.specs.Writing.{written_in, WritesBefore}
 use Rattle.code_items.specs.Statements.{actions_items}
 use Rattle.code_items.specs.Writing.{exits_of, LeavesCases}
 use Rattle.code_items.proofs.statement.+statements.Given as goal

@@ -1,6 +1,6 @@
 use Rattle.std.proofs.Common.{◌≡◌, ℕ, ◌+◌, ◌-◌, ◌<◌, length, map, drop, subst, arith}
 use Rattle.meaning.specs.Views.{printed_of}
-use Rattle.code_values.specs.Writing.{written_in, WritesBefore}
+use Rattle.code_drafts.specs.Writing.{written_in, WritesBefore}
 use Rattle.code_items.specs.Statements.{prints_items}
 use Rattle.code_items.proofs.Actions.{printed_next}
 use Rattle.code_items.proofs.statement.put_prints.Goals as goal

@@ -1,7 +1,7 @@
 use Rattle.std.proofs.Common.{◌++◌, [], ◌∷◌}
 use Rattle.zcore.specs.declared.instruction.Operand.TheVariants.{Variable}
 use Rattle.zcore.specs.declared.instruction.Operation.TheVariants.{InsertObject}
-use Rattle.code_values.specs.Code.{as_operand}
+use Rattle.code_drafts.specs.Code.{as_operand}
 use Rattle.code_encoding.specs.Instructions.{plain, store, temporary}
 use Rattle.code_encoding.specs.Written.{addresses_of}
 use Rattle.code_objects.specs.ObjectCode.{climbing}

@@ -1,4 +1,4 @@
-use Rattle.code_values.specs.Code.{as_operand, as_destination}
+use Rattle.code_drafts.specs.Code.{as_operand, as_destination}
 use Rattle.code_encoding.specs.Instructions.{result_in}
 use Rattle.code_encoding.specs.Written.{addresses_of}
 use Rattle.code_objects.specs.ObjectCode.{property_value}

@@ -1,7 +1,7 @@
 use Rattle.std.proofs.Common.{◌≡◌, ◌++◌, List, subst}
 use Rattle.zcore.specs.declared.instruction.Operand.{Operand}
 use Rattle.zcore.specs.Instruction.{Instruction}
-use Rattle.code_values.specs.Code.{as_operand, as_destination}
+use Rattle.code_drafts.specs.Code.{as_operand, as_destination}
 use Rattle.code_encoding.specs.Instructions.{result_in, word_in}
 use Rattle.code_encoding.specs.Bytes.{bytes_of_all}
 use Rattle.code_encoding.specs.Written.{addresses_of}

@@ -1,6 +1,6 @@
 use Rattle.std.proofs.Common.{◌≡◌, ◌++◌, ◌%◌, slice_index, sym, subst}
-use Rattle.code_values.specs.declared.item.Item as code
-use Rattle.code_values.specs.Code.{item_of}
+use Rattle.code_drafts.specs.declared.item.Item as code
+use Rattle.code_drafts.specs.Code.{item_of}
 use Rattle.code_encoding.specs.Bytes.{bytes_of_all}
 use Rattle.code_encoding.specs.Written.{addresses_of, sizes_in}
 use Rattle.code_selection.specs.ItemCode.{read_code}

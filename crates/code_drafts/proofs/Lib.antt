@@ -1,0 +1,9 @@
+pub mod CountedForms
+pub mod Counts
+pub mod Trees
+pub mod Drafts
+pub mod Operands
+pub mod InPlace
+pub mod SameRounds
+pub mod WrittenItems
+pub mod Reductions
