@@ -12,8 +12,8 @@ use Rattle.zcore.specs.Parts.{operand_value, operand_values}
 use Rattle.zcore.specs.Execution.{give_result, perform}
 use Rattle.meaning.specs.World.{Situation, value_in}
 use Rattle.meaning.specs.Meaning.{routine_at}
-use Rattle.code_values.specs.Items.{Item, Destination}
-use Rattle.code_values.specs.Items as items
+use Rattle.code_drafts.specs.Items.{Item, Destination}
+use Rattle.code_drafts.specs.Items as items
 use Rattle.code_items.specs.Laws.{IsOperand, IsDestination}
 use Rattle.code_items.specs.Stack as stack
 use Rattle.code_encoding.specs.Instructions.{giving, in_place, result_in}

@@ -13,7 +13,7 @@ use Rattle.zcore.specs.State.{words}
 use Rattle.meaning.specs.Resolved.{ProgramOf}
 use Rattle.meaning.specs.World.{World, Situation}
 use Rattle.meaning.specs.Accepted.{IsAccepted}
-use Rattle.code_values.specs.Items.{Item}
+use Rattle.code_drafts.specs.Items.{Item}
 use Rattle.code_items.specs.Stack.{Caller}
 use Rattle.code_items.specs.Stack as stack
 use Rattle.code_encoding.specs.Addresses.{Addresses}

@@ -10,8 +10,8 @@ use Rattle.meaning.specs.declared.resolved.Variable as resolved
 use Rattle.meaning.specs.declared.resolved.Variable.TheVariants as variables
 use Rattle.meaning.specs.World.{Situation, value_in}
 use Rattle.meaning.specs.Meaning.{routine_at}
-use Rattle.code_values.specs.Items.{pushed, number, variable, is_any_pushed}
-use Rattle.code_values.specs.Items as items
+use Rattle.code_drafts.specs.Items.{pushed, number, variable, is_any_pushed}
+use Rattle.code_drafts.specs.Items as items
 use Rattle.code_items.specs.Laws.{IsOperand}
 use Rattle.code_encoding.specs.Instructions.{number_of, aside_variable}
 use Rattle.code_instructions.specs.Instructions.{aside_global, read_aside, with_last_aside}

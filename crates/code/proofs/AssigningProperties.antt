@@ -6,8 +6,8 @@ use Rattle.zcore.specs.Instruction.{Instruction}
 use Rattle.meaning.specs.Accepted.{IsProperty}
 use Rattle.meaning.specs.World.{◌>>=◌, test_provided, test_word, test_single, write_words}
 use Rattle.meaning.specs.World as source
-use Rattle.code_values.specs.Items.{Destination}
-use Rattle.code_values.specs.Items as items
+use Rattle.code_drafts.specs.Items.{Destination}
+use Rattle.code_drafts.specs.Items as items
 use Rattle.code_items.specs.Stack as stack
 use Rattle.code_encoding.specs.Instructions.{pulled_into, word_in}
 use Rattle.code_objects.specs.ObjectCode.{provided, tested_word, tested_single, at_object}

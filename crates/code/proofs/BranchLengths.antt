@@ -14,8 +14,8 @@ use Rattle.zcore.specs.Instruction.{Instruction}
 use Rattle.zcore.specs.InstructionBytes.{opcode_bytes, operand_bytes, branch_bytes, bytes_of}
 use Rattle.code_branch_forms.specs.declared.layout.Form.TheVariants as form
 use Rattle.code_branch_forms.specs.Layout.{form_for, size_with}
-use Rattle.code_values.specs.Items.{Test}
-use Rattle.code_values.specs.Items as items
+use Rattle.code_drafts.specs.Items.{Test}
+use Rattle.code_drafts.specs.Items as items
 use Rattle.meaning.specs.declared.cause.Cause.TheVariants as causes
 use Rattle.code_encoding.specs.Addresses.{Addresses}
 use Rattle.code_encoding.specs.Instructions.{plain, branching, top, takes, operands, pulled_into}

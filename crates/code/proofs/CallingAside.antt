@@ -5,8 +5,8 @@ use Rattle.std.specs.List.{All, flat_map}
 use Rattle.std.proofs.lemmas.List.{take_all}
 use Rattle.zcore.specs.InstructionBytes.{bytes_of}
 use Rattle.meaning.specs.Limits.{most_arguments}
-use Rattle.code_values.specs.Items.{Destination, is_any_pushed}
-use Rattle.code_values.specs.Items as items
+use Rattle.code_drafts.specs.Items.{Destination, is_any_pushed}
+use Rattle.code_drafts.specs.Items as items
 use Rattle.code_items.specs.Stack as stack
 use Rattle.code_encoding.specs.Instructions.{takes, aside_variable}
 use Rattle.code_instructions.specs.Instructions.{calling, call_code, with_last_aside}

@@ -10,8 +10,8 @@ use Rattle.zcore.specs.Execution.{perform, push_word}
 use Rattle.meaning.specs.declared.resolved.Variable.TheVariants as variables
 use Rattle.meaning.specs.Objects.{Objects}
 use Rattle.meaning.specs.World.{Situation, with_value, with_objects}
-use Rattle.code_values.specs.Items.{Destination}
-use Rattle.code_values.specs.Items as items
+use Rattle.code_drafts.specs.Items.{Destination}
+use Rattle.code_drafts.specs.Items as items
 use Rattle.code_items.specs.Stack as stack
 use Rattle.code_object_memory.specs.Region.{HasObjects, KeepsRest}
 use Rattle.code_object_memory.specs.Tables.{PropertyTable}

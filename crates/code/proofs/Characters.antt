@@ -20,7 +20,7 @@ use Rattle.code_encoding.specs.Addresses.{fault_address}
 use Rattle.meaning.specs.World.{put, value_in}
 use Rattle.meaning.specs.World as source
 use Rattle.meaning.specs.Meaning.{is_character, put_character}
-use Rattle.code_values.specs.Items as items
+use Rattle.code_drafts.specs.Items as items
 use Rattle.code_items.specs.Stack as stack
 use Rattle.code_encoding.specs.Instructions.{plain, branching, number_of, pull, fail, in_place}
 use Rattle.code_instructions.specs.Instructions.{tested_character}

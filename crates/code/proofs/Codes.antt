@@ -10,10 +10,10 @@ use Rattle.code_branch_forms.specs.declared.layout.Form.TheVariants as form
 use Rattle.code_branch_forms.specs.declared.layout.Part.{Part}
 use Rattle.code_branch_forms.specs.declared.layout.BranchUse.{BranchUse}
 use Rattle.code_branch_forms.specs.Layout.{first, size_with, form_for, offset_over, part_size, lefts, uses}
-use Rattle.code_values.specs.declared.item.Item as code
-use Rattle.code_values.specs.Items.{Item}
-use Rattle.code_values.specs.Items as items
-use Rattle.code_values.specs.Code.{item_of, items_of}
+use Rattle.code_drafts.specs.declared.item.Item as code
+use Rattle.code_drafts.specs.Items.{Item}
+use Rattle.code_drafts.specs.Items as items
+use Rattle.code_drafts.specs.Code.{item_of, items_of}
 use Rattle.code_encoding.specs.Addresses.{Addresses, Sizes}
 use Rattle.code_selection.specs.ItemBytes.{item_bytes}
 use Rattle.code_instructions.specs.Places.{target_of, label_size, offset_of, place_in}

@@ -16,8 +16,8 @@ use Rattle.zcore.specs.Execution.{perform}
 use Rattle.meaning.specs.declared.resolved.Variable as resolved
 use Rattle.meaning.specs.Sizes.{greatest_routine_weight}
 use Rattle.meaning.specs.World.{value_in, with_value, write_variable, give, ◌>>=◌}
-use Rattle.code_values.specs.Items.{agrees}
-use Rattle.code_values.specs.Items as items
+use Rattle.code_drafts.specs.Items.{agrees}
+use Rattle.code_drafts.specs.Items as items
 use Rattle.code_items.specs.Stack as stack
 use Rattle.code_encoding.specs.Instructions.{branching, number_of, jump_offset}
 use Rattle.code_instructions.specs.Instructions.{is_between}

@@ -10,7 +10,7 @@ use Rattle.zcore.specs.declared.instruction.Operation.TheVariants as operations
 use Rattle.zcore.specs.InstructionBytes.{bytes_of, IsEncodable, FitsOperand}
 use Rattle.zcore.specs.Execution.{perform}
 use Rattle.meaning.specs.Meaning.{truth, is_true}
-use Rattle.code_values.specs.Items as items
+use Rattle.code_drafts.specs.Items as items
 use Rattle.code_items.specs.Stack as stack
 use Rattle.code_encoding.specs.Instructions.{branching, pull, copy}
 use Rattle.code_instructions.specs.Instructions.{flag}

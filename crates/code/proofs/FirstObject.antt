@@ -7,8 +7,8 @@ use Rattle.zcore.specs.InstructionBytes.{bytes_of}
 use Rattle.zcore.specs.Execution.{perform}
 use Rattle.meaning.specs.declared.resolved.Variable as resolved
 use Rattle.meaning.specs.World.{with_value, write_variable, give, ◌>>=◌}
-use Rattle.code_values.specs.Items.{agrees}
-use Rattle.code_values.specs.Items as items
+use Rattle.code_drafts.specs.Items.{agrees}
+use Rattle.code_drafts.specs.Items as items
 use Rattle.code_items.specs.Stack as stack
 use Rattle.code_encoding.specs.Instructions.{number_of, store}
 use Rattle.code.proofs.Play.{Leads, none_aside}

@@ -18,7 +18,7 @@ use Rattle.meaning.specs.Objects.{Objects, with_attribute}
 use Rattle.meaning.specs.Meaning.{give_all}
 use Rattle.meaning.specs.World.{Situation, to, with_objects}
 use Rattle.meaning.specs.World as source
-use Rattle.code_values.specs.Items as items
+use Rattle.code_drafts.specs.Items as items
 use Rattle.code_items.specs.Stack as stack
 use Rattle.code_object_memory.specs.Laws.{Changes}
 use Rattle.code_object_memory.specs.Region.{HasObjects}

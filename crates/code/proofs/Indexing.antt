@@ -10,7 +10,7 @@ use Rattle.zcore.specs.InstructionBytes.{bytes_of}
 use Rattle.meaning.specs.declared.cause.Cause.{Cause}
 use Rattle.meaning.specs.declared.cause.Cause.TheVariants as causes
 use Rattle.meaning.specs.World.{value_in}
-use Rattle.code_values.specs.Items as items
+use Rattle.code_drafts.specs.Items as items
 use Rattle.code_encoding.specs.Addresses.{fault_address}
 use Rattle.code_encoding.specs.Instructions.{constant, pull, fail, number_of, pulled_into, word_in, aside_variable}
 use Rattle.code_instructions.specs.Instructions.{tested_between, is_between}

@@ -7,8 +7,8 @@ use Rattle.zcore.specs.declared.instruction.Operand.TheVariants as machine_opera
 use Rattle.zcore.specs.State.{State, done}
 use Rattle.zcore.specs.Parts.{operand_value, operand_values}
 use Rattle.meaning.specs.World.{Situation, value_in}
-use Rattle.code_values.specs.Items.{pushed, number, variable}
-use Rattle.code_values.specs.Items as items
+use Rattle.code_drafts.specs.Items.{pushed, number, variable}
+use Rattle.code_drafts.specs.Items as items
 use Rattle.code_items.specs.Stack.{Next, stuck, with_operand, with_operands}
 use Rattle.code_encoding.specs.Instructions.{number_of, temporary, constant, top, pushed_count, named_from, operands}
 use Rattle.code.proofs.Parts.{Around, machine as at_words, ReadsVariable}

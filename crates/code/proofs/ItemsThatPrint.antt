@@ -23,7 +23,7 @@ use Rattle.syntax_lexer.specs.Printable.{IsPrintable}
 use Rattle.meaning.specs.declared.cause.Cause.{Cause}
 use Rattle.meaning.specs.World.{Situation, Comes, to, over, bound, put, shown, words_of}
 use Rattle.meaning.specs.World as source
-use Rattle.code_values.specs.Items as items
+use Rattle.code_drafts.specs.Items as items
 use Rattle.code_items.specs.Stack as stack
 use Rattle.code_encoding.specs.Instructions.{plain, in_place, fail}
 use Rattle.code_encoding.specs.Bytes.{character_of}

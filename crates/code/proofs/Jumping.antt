@@ -14,8 +14,8 @@ use Rattle.zcore.specs.Parts.{jump_target, test_target, go, spend}
 use Rattle.zcore.specs.Execution.{step, perform, jump}
 use Rattle.meaning.specs.Sizes.{greatest_routine_weight}
 use Rattle.meaning.specs.World.{spend_from}
-use Rattle.code_values.specs.Items.{Item}
-use Rattle.code_values.specs.Items as items
+use Rattle.code_drafts.specs.Items.{Item}
+use Rattle.code_drafts.specs.Items as items
 use Rattle.code_items.specs.Stack as stack
 use Rattle.code_encoding.specs.Instructions.{plain, jump_offset}
 use Rattle.code.specs.Bytes.{code_size, place_of}

@@ -12,8 +12,8 @@ use Rattle.meaning.specs.Objects.{object_at}
 use Rattle.meaning.specs.Meaning.{operate, put_character, put_line, routine_at}
 use Rattle.meaning.specs.Places.{number_in}
 use Rattle.meaning.specs.Reading.{holds_letters, holds_words, next_line}
-use Rattle.code_values.specs.Items.{Item, Test}
-use Rattle.code_values.specs.Items as items
+use Rattle.code_drafts.specs.Items.{Item, Test}
+use Rattle.code_drafts.specs.Items as items
 use Rattle.code_items.specs.Statements.{routine_items}
 use Rattle.code_items.specs.Stack as stack
 use Rattle.code.proofs.KeptWorld.{NoFault, Kept, Keeps, is_read, Faultless, Bounded, KeepsBy, keeps_bounded}

@@ -16,8 +16,8 @@ use Rattle.meaning.specs.declared.cause.Cause.TheVariants as causes
 use Rattle.meaning.specs.World.{Outcome, World, Situation, Comes, to, over, Part, bound, put, fault, value_in}
 use Rattle.meaning.specs.World.{with_value, give, array_at, is_index, read_entry, write_entry}
 use Rattle.meaning.specs.Meaning.{operate, put_character, is_character, truth, is_true}
-use Rattle.code_values.specs.Items.{Item, Operand, Destination}
-use Rattle.code_values.specs.Items as items
+use Rattle.code_drafts.specs.Items.{Item, Operand, Destination}
+use Rattle.code_drafts.specs.Items as items
 use Rattle.code_items.specs.Stack as stack
 
 -- lines and texts are the same, and the turn has printed no more than it may, if it had not before

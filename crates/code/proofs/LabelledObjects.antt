@@ -20,8 +20,8 @@ use Rattle.syntax_trees.specs.declared.tree.Relative.TheVariants as relatives
 use Rattle.meaning.specs.Accepted.{IsProperty}
 use Rattle.meaning.specs.Objects.{relative_in}
 use Rattle.meaning.specs.World as source
-use Rattle.code_values.specs.Items.{agrees}
-use Rattle.code_values.specs.Items as items
+use Rattle.code_drafts.specs.Items.{agrees}
+use Rattle.code_drafts.specs.Items as items
 use Rattle.code_items.specs.Stack as stack
 use Rattle.code_object_memory.specs.Region.{tables_base}
 use Rattle.code_object_memory.specs.Tables.{words_place}

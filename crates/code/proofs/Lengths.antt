@@ -7,8 +7,8 @@ use Rattle.zcore.specs.declared.instruction.Operand.TheVariants.{Small, Variable
 use Rattle.zcore.specs.declared.instruction.Operation.TheVariants as operations
 use Rattle.zcore.specs.Instruction.{Instruction}
 use Rattle.code_branch_forms.specs.Layout.{form_for, size_with, part_size, offset_over}
-use Rattle.code_values.specs.Items.{Item, Test}
-use Rattle.code_values.specs.Items as items
+use Rattle.code_drafts.specs.Items.{Item, Test}
+use Rattle.code_drafts.specs.Items as items
 use Rattle.meaning.specs.declared.cause.Cause.TheVariants as causes
 use Rattle.code_encoding.specs.Addresses.{Addresses, Sizes}
 use Rattle.code_instructions.specs.Instructions.{labelled, branch_code, case_code}

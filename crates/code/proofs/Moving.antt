@@ -11,8 +11,8 @@ use Rattle.meaning.specs.declared.resolved.Variable.TheVariants as variables
 use Rattle.meaning.specs.World.{Situation, with_value}
 use Rattle.meaning.specs.Meaning.{routine_at}
 use Rattle.meaning.specs.Accepted.{IsVariable}
-use Rattle.code_values.specs.Items.{Destination}
-use Rattle.code_values.specs.Items as items
+use Rattle.code_drafts.specs.Items.{Destination}
+use Rattle.code_drafts.specs.Items as items
 use Rattle.code_items.specs.Stack as stack
 use Rattle.code_encoding.specs.Instructions.{number_of, in_place, aside_variable, result_in, push, pull, copy, store}
 use Rattle.code.proofs.Play.{Leads, Stored, HoldsAside, none_aside}

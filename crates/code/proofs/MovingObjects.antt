@@ -14,7 +14,7 @@ use Rattle.meaning.specs.declared.cause.Cause.TheVariants as causes
 use Rattle.meaning.specs.Objects.{Objects, Climbed, clear, inside, spent, climb, moved}
 use Rattle.meaning.specs.World.{Situation, bound, ◌>>=◌, move_by, with_tree}
 use Rattle.meaning.specs.World as source
-use Rattle.code_values.specs.Items as items
+use Rattle.code_drafts.specs.Items as items
 use Rattle.code_items.specs.Stack as stack
 use Rattle.code_object_memory.specs.Tables.{PropertyTable}
 use Rattle.code_encoding.specs.Addresses.{fault_address}

@@ -14,7 +14,7 @@ use Rattle.meaning.specs.Forests.{IsObjectNumber}
 use Rattle.meaning.specs.Objects.{ObjectOf, object_at}
 use Rattle.meaning.specs.Places.{machine_character}
 use Rattle.meaning.specs.World.{put, shown}
-use Rattle.code_values.specs.Items as items
+use Rattle.code_drafts.specs.Items as items
 use Rattle.code_items.specs.Stack as stack
 use Rattle.code_encoding.specs.Instructions.{plain}
 use Rattle.code.proofs.Parts.{machine as at_words}

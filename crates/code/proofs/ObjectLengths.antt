@@ -7,8 +7,8 @@ use Rattle.zcore.specs.declared.instruction.Operation.TheVariants as operations
 use Rattle.zcore.specs.Instruction.{Instruction}
 use Rattle.zcore.specs.InstructionBytes.{bytes_of}
 use Rattle.meaning.specs.declared.resolved.Variable as source
-use Rattle.code_values.specs.Items.{Destination}
-use Rattle.code_values.specs.Items as items
+use Rattle.code_drafts.specs.Items.{Destination}
+use Rattle.code_drafts.specs.Items as items
 use Rattle.meaning.specs.declared.cause.Cause.TheVariants as causes
 use Rattle.code_encoding.specs.Addresses.{Addresses, fault_address}
 use Rattle.code_encoding.specs.Instructions.{plain, branching, fail, number_of, temporary, constant, giving, result_in}

@@ -2,10 +2,10 @@
 use Rattle.std.proofs.Common.{◌≡◌, ℕ, List, [], ◌∷◌, ◌++◌, refl, true, false}
 use Rattle.zcore.specs.InstructionBytes.{bytes_of}
 use Rattle.syntax_trees.specs.declared.tree.Relative.TheVariants as relatives
-use Rattle.code_values.specs.Items.{Item, pushed, number, variable, push, into, nowhere, relative, property}
-use Rattle.code_values.specs.Items.{property_size, property_word, assign_property, assign_property_word, give}
-use Rattle.code_values.specs.Items.{move_object, remove_object, print_name, is_in, has, provides, first_object}
-use Rattle.code_values.specs.Items.{next_object}
+use Rattle.code_drafts.specs.Items.{Item, pushed, number, variable, push, into, nowhere, relative, property}
+use Rattle.code_drafts.specs.Items.{property_size, property_word, assign_property, assign_property_word, give}
+use Rattle.code_drafts.specs.Items.{move_object, remove_object, print_name, is_in, has, provides, first_object}
+use Rattle.code_drafts.specs.Items.{next_object}
 use Rattle.code_encoding.specs.Addresses.{Sizes}
 use Rattle.code_selection.specs.ItemBytes.{item_bytes}
 use Rattle.code.proofs.Samples.{a, sizes, x, y, written}

@@ -15,8 +15,8 @@ use Rattle.zcore.specs.Execution.{give_result, perform}
 use Rattle.syntax_trees.specs.declared.tree.Binary.{Binary}
 use Rattle.syntax_trees.specs.declared.tree.Binary.TheVariants as binaries
 use Rattle.meaning.specs.Meaning as meaning
-use Rattle.code_values.specs.Items.{Item, Destination}
-use Rattle.code_values.specs.Items as items
+use Rattle.code_drafts.specs.Items.{Item, Destination}
+use Rattle.code_drafts.specs.Items as items
 use Rattle.code_items.specs.Stack as stack
 use Rattle.code_encoding.specs.Instructions.{giving, in_place, aside_variable, result_in}
 use Rattle.code_instructions.specs.Instructions.{divided_by, with_aside}

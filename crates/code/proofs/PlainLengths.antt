@@ -7,8 +7,8 @@ use Rattle.zcore.specs.Instruction.{Instruction}
 use Rattle.zcore.specs.InstructionBytes.{bytes_of}
 use Rattle.syntax_trees.specs.declared.tree.Binary.{Binary}
 use Rattle.syntax_trees.specs.declared.tree.Binary.TheVariants as binaries
-use Rattle.code_values.specs.Items.{Item, Destination}
-use Rattle.code_values.specs.Items as items
+use Rattle.code_drafts.specs.Items.{Item, Destination}
+use Rattle.code_drafts.specs.Items as items
 use Rattle.code_encoding.specs.Addresses.{Addresses, Sizes}
 use Rattle.code_encoding.specs.Instructions.{plain, number_of, temporary, result_in}
 use Rattle.meaning.specs.Limits.{most_arguments}

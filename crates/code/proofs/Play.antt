@@ -16,7 +16,7 @@ use Rattle.meaning.specs.Objects.{Objects}
 use Rattle.meaning.specs.Resolved.{ProgramOf}
 use Rattle.meaning.specs.World.{Outcome, World}
 use Rattle.meaning.specs.Meaning.{routine_at}
-use Rattle.code_values.specs.Items.{Item}
+use Rattle.code_drafts.specs.Items.{Item}
 use Rattle.code_items.specs.Statements.{routine_items}
 use Rattle.code_items.specs.Laws.{IsDestination}
 use Rattle.code_items.specs.Stack.{Caller}

@@ -6,9 +6,9 @@ use Rattle.std.proofs.lemmas.List.Elements.{All-nil, All-cons, All-append}
 use Rattle.syntax_lexer.specs.Printable.{IsPrintable}
 use Rattle.syntax_trees.specs.declared.tree.Step.{Step}
 use Rattle.meaning.specs.declared.resolved.Variable.{Variable}
-use Rattle.code_values.specs.Items.{Item, Operand, pushed, number, variable, Destination, push, into, aside, nowhere}
-use Rattle.code_values.specs.Items.{if_pushed, moved, truth_items, after_items, kept_items}
-use Rattle.code_values.specs.Items as items
+use Rattle.code_drafts.specs.Items.{Item, Operand, pushed, number, variable, Destination, push, into, aside, nowhere}
+use Rattle.code_drafts.specs.Items.{if_pushed, moved, truth_items, after_items, kept_items}
+use Rattle.code_drafts.specs.Items as items
 
 -- a text that an item prints has only bytes from 32 to 126
 abbrev pub HasPrintableText : Item → Type 0

@@ -4,9 +4,9 @@ use Rattle.syntax_trees.specs.declared.tree.Containment.{Containment}
 use Rattle.syntax_trees.specs.declared.tree.Relative.{Relative}
 use Rattle.meaning.specs.Resolved.{Value}
 use Rattle.meaning.specs.Resolved as source
-use Rattle.code_values.specs.Items.{Item, Operand, pushed, Destination, push, first_of, alone, left_of, if_pushed}
-use Rattle.code_values.specs.Items.{agrees, operand_count, truth_items, value_items, branch_items}
-use Rattle.code_values.specs.Items as items
+use Rattle.code_drafts.specs.Items.{Item, Operand, pushed, Destination, push, first_of, alone, left_of, if_pushed}
+use Rattle.code_drafts.specs.Items.{agrees, operand_count, truth_items, value_items, branch_items}
+use Rattle.code_drafts.specs.Items as items
 use Rattle.code.proofs.PrintedLists.{HasPrintableText, Fine, nothing, first, joined, last, pushed_fine, truth_fine}
 use Rattle.code.proofs.PrintedLists.{two_fine}
 use Rattle.code.proofs.PrintedOperations.{ValueFine}

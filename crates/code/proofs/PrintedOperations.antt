@@ -9,13 +9,13 @@ use Rattle.syntax_trees.specs.declared.tree.Prefix.TheVariants as prefixes
 use Rattle.syntax_trees.specs.declared.tree.Width.{Width}
 use Rattle.meaning.specs.Resolved.{Value, Values}
 use Rattle.meaning.specs.Resolved as source
-use Rattle.code_values.specs.Items.{Item, Operand, pushed, number, variable, Destination, push, into, aside, nowhere}
-use Rattle.code_values.specs.Items.{right_place, operated, operand_of, operands_of, alone, left_of, if_pushed}
-use Rattle.code_values.specs.Items.{is_direct, same_count, same_items, value_count, is_any_pushed}
-use Rattle.code_values.specs.Items.{loaded, index_place, stored}
-use Rattle.code_values.specs.Items.{operand_count, operands_count, branch_count, many_count, value_items}
-use Rattle.code_values.specs.Items.{operands_items, arguments_items, branch_items, many_items, also_items}
-use Rattle.code_values.specs.Items as items
+use Rattle.code_drafts.specs.Items.{Item, Operand, pushed, number, variable, Destination, push, into, aside, nowhere}
+use Rattle.code_drafts.specs.Items.{right_place, operated, operand_of, operands_of, alone, left_of, if_pushed}
+use Rattle.code_drafts.specs.Items.{is_direct, same_count, same_items, value_count, is_any_pushed}
+use Rattle.code_drafts.specs.Items.{loaded, index_place, stored}
+use Rattle.code_drafts.specs.Items.{operand_count, operands_count, branch_count, many_count, value_items}
+use Rattle.code_drafts.specs.Items.{operands_items, arguments_items, branch_items, many_items, also_items}
+use Rattle.code_drafts.specs.Items as items
 use Rattle.code.proofs.PrintedLists.{HasPrintableText, Fine, nothing, first, joined, last, pushed_fine, either_fine, truth_fine, two_fine}
 
 -- Expressions

@@ -10,10 +10,10 @@ use Rattle.meaning.specs.Resolved.{Value, Values, none, more, Printed, Action, A
 use Rattle.meaning.specs.Resolved as source
 use Rattle.meaning.specs.Meaning.{is_true}
 use Rattle.meaning.specs.Printable.{IsPrintableItem, IsPrintableAction, ArePrintableActions, ArePrintableCases}
-use Rattle.code_values.specs.Items.{Item, Operand, number, variable, push, into, aside, nowhere, operand_of, alone}
-use Rattle.code_values.specs.Items.{left_of, if_pushed, agrees, value_count, operand_count, branch_count, value_items}
-use Rattle.code_values.specs.Items.{branch_items, alone_items, Destination, operands_of, is_any_pushed}
-use Rattle.code_values.specs.Items.{are_more_pushed, argument_place, called, arguments_items}
+use Rattle.code_drafts.specs.Items.{Item, Operand, number, variable, push, into, aside, nowhere, operand_of, alone}
+use Rattle.code_drafts.specs.Items.{left_of, if_pushed, agrees, value_count, operand_count, branch_count, value_items}
+use Rattle.code_drafts.specs.Items.{branch_items, alone_items, Destination, operands_of, is_any_pushed}
+use Rattle.code_drafts.specs.Items.{are_more_pushed, argument_place, called, arguments_items}
 use Rattle.code_items.specs.Statements.{each_items, relative_items, children_items, printed_count, action_count}
 use Rattle.code_items.specs.Statements.{printed_items, prints_items, Exits, exits_to, action_items, actions_items}
 use Rattle.code_items.specs.Statements.{return_true, routine_items, once_count, once_items, test_count, test_items}

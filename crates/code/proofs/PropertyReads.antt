@@ -15,8 +15,8 @@ use Rattle.meaning.specs.declared.cause.Cause.TheVariants as causes
 use Rattle.meaning.specs.Accepted.{IsProperty}
 use Rattle.meaning.specs.World.{bound, single_word}
 use Rattle.meaning.specs.World as source
-use Rattle.code_values.specs.Items.{Destination}
-use Rattle.code_values.specs.Items as items
+use Rattle.code_drafts.specs.Items.{Destination}
+use Rattle.code_drafts.specs.Items as items
 use Rattle.code_items.specs.Stack as stack
 use Rattle.code_object_memory.specs.Tables.{PropertyTable}
 use Rattle.code_encoding.specs.Addresses.{fault_address}

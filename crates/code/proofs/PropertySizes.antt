@@ -15,8 +15,8 @@ use Rattle.zcore.specs.Execution.{perform, give_result}
 use Rattle.meaning.specs.Accepted.{IsProperty}
 use Rattle.meaning.specs.World.{Situation, size_of}
 use Rattle.meaning.specs.World as source
-use Rattle.code_values.specs.Items.{Destination}
-use Rattle.code_values.specs.Items as items
+use Rattle.code_drafts.specs.Items.{Destination}
+use Rattle.code_drafts.specs.Items as items
 use Rattle.code_items.specs.Stack as stack
 use Rattle.code_object_memory.specs.Region.{tables_base}
 use Rattle.code_object_memory.specs.Tables.{words_place, PropertyTable}

@@ -4,8 +4,8 @@ use Rattle.std.specs.List.{flat_map}
 use Rattle.zcore.specs.declared.instruction.Operand.{Operand}
 use Rattle.zcore.specs.Instruction.{Instruction}
 use Rattle.zcore.specs.InstructionBytes.{bytes_of}
-use Rattle.code_values.specs.Items.{Item}
-use Rattle.code_values.specs.Items as items
+use Rattle.code_drafts.specs.Items.{Item}
+use Rattle.code_drafts.specs.Items as items
 use Rattle.code_encoding.specs.Instructions.{pull, pulled_into}
 use Rattle.code_selection.specs.ItemBytes.{text_bytes}
 use Rattle.code.proofs.Play.{Leads, stays}

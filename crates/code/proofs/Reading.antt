@@ -11,7 +11,7 @@ use Rattle.meaning.specs.Places.{number_in}
 use Rattle.meaning.specs.Reading.{holds_letters, holds_words, next_line, read_next}
 use Rattle.meaning.specs.World.{Situation, Outcome, Comes, to, over, Part, bound}
 use Rattle.meaning.specs.World as source
-use Rattle.code_values.specs.Items as items
+use Rattle.code_drafts.specs.Items as items
 use Rattle.code_items.specs.Stack as stack
 use Rattle.code_encoding.specs.Addresses.{fault_address}
 use Rattle.code_encoding.specs.Instructions.{fail}

@@ -21,8 +21,8 @@ use Rattle.syntax_trees.specs.declared.tree.Relative.{Relative}
 use Rattle.syntax_trees.specs.declared.tree.Relative.TheVariants as relatives
 use Rattle.meaning.specs.Objects.{relative_in}
 use Rattle.meaning.specs.World as source
-use Rattle.code_values.specs.Items.{Destination}
-use Rattle.code_values.specs.Items as items
+use Rattle.code_drafts.specs.Items.{Destination}
+use Rattle.code_drafts.specs.Items as items
 use Rattle.code_items.specs.Stack as stack
 use Rattle.code_encoding.specs.Instructions.{number_of, aside_variable, result_in}
 use Rattle.code_objects.specs.ObjectCode.{giving_on, relative_of}

@@ -8,7 +8,7 @@ use Rattle.zcore.specs.Execution.{perform}
 use Rattle.meaning.specs.Objects.{removed}
 use Rattle.meaning.specs.World.{with_objects}
 use Rattle.meaning.specs.World as source
-use Rattle.code_values.specs.Items as items
+use Rattle.code_drafts.specs.Items as items
 use Rattle.code_items.specs.Stack as stack
 use Rattle.code_encoding.specs.Instructions.{plain}
 use Rattle.code.proofs.Parts.{machine as at_words}

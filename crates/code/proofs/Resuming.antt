@@ -20,8 +20,8 @@ use Rattle.ztext.proofs.Holding.{holds_byte}
 use Rattle.meaning.specs.declared.resolved.Variable as source
 use Rattle.meaning.specs.World.{Situation, with_value}
 use Rattle.meaning.specs.Meaning.{routine_at}
-use Rattle.code_values.specs.Items.{Destination}
-use Rattle.code_values.specs.Items as items
+use Rattle.code_drafts.specs.Items.{Destination}
+use Rattle.code_drafts.specs.Items as items
 use Rattle.code_items.specs.Laws.{IsDestination}
 use Rattle.code_items.specs.Stack.{Caller}
 use Rattle.code_items.specs.Stack as stack

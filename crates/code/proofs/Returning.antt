@@ -6,7 +6,7 @@ use Rattle.zcore.specs.declared.instruction.Operation.TheVariants as operations
 use Rattle.zcore.specs.InstructionBytes.{bytes_of}
 use Rattle.zcore.specs.Parts.{give_back}
 use Rattle.zcore.specs.Execution.{perform, return_popped}
-use Rattle.code_values.specs.Items as items
+use Rattle.code_drafts.specs.Items as items
 use Rattle.code_items.specs.Stack as stack
 use Rattle.code_encoding.specs.Instructions.{plain, constant, in_place}
 use Rattle.code_instructions.specs.Instructions.{return_code}

@@ -10,10 +10,10 @@ use Rattle.syntax_trees.specs.declared.tree.Step.TheVariants as steps
 use Rattle.syntax_trees.specs.declared.tree.Width.TheVariants as widths
 use Rattle.meaning.specs.declared.resolved.Variable.{Variable}
 use Rattle.meaning.specs.declared.resolved.Variable.TheVariants as variables
-use Rattle.code_values.specs.Items.{Item, pushed, number, variable, push, into, aside, nowhere, is_zero, less, greater}
-use Rattle.code_values.specs.Items.{same, move, operate, operate_aside, step, entry, assign_entry, print_text}
-use Rattle.code_values.specs.Items.{entry_aside, assign_entry_aside}
-use Rattle.code_values.specs.Items.{read_line, branch, case, jump, call, return}
+use Rattle.code_drafts.specs.Items.{Item, pushed, number, variable, push, into, aside, nowhere, is_zero, less, greater}
+use Rattle.code_drafts.specs.Items.{same, move, operate, operate_aside, step, entry, assign_entry, print_text}
+use Rattle.code_drafts.specs.Items.{entry_aside, assign_entry_aside}
+use Rattle.code_drafts.specs.Items.{read_line, branch, case, jump, call, return}
 use Rattle.code_branch_forms.specs.declared.layout.Form.TheVariants.{One, Two, Far}
 use Rattle.code_branch_forms.specs.declared.layout.Part.{Part}
 use Rattle.code_branch_forms.specs.declared.layout.BranchUse.{BranchUse}

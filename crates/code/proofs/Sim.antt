@@ -9,7 +9,7 @@ use Rattle.zcore.specs.Layout.{text_limit}
 use Rattle.zcore.proofs.Turning.{turns_is}
 use Rattle.meaning.specs.Resolved.{ProgramOf}
 use Rattle.meaning.specs.World.{Outcome, World}
-use Rattle.code_values.specs.Items.{Item}
+use Rattle.code_drafts.specs.Items.{Item}
 use Rattle.code_items.specs.Stack as stack
 use Rattle.code_encoding.specs.Addresses.{Addresses}
 use Rattle.code.proofs.Play.{Good, Led, LedOn, LedBy, items_in, next_of, state_of, PlaysAs}

@@ -15,8 +15,8 @@ use Rattle.syntax_trees.specs.declared.tree.Step.TheVariants as steps
 use Rattle.meaning.specs.declared.resolved.Variable as source
 use Rattle.meaning.specs.World.{Situation, value_in, with_value}
 use Rattle.meaning.specs.Meaning.{stepped}
-use Rattle.code_values.specs.Items.{Item, Destination}
-use Rattle.code_values.specs.Items as items
+use Rattle.code_drafts.specs.Items.{Item, Destination}
+use Rattle.code_drafts.specs.Items as items
 use Rattle.code_items.specs.Stack as stack
 use Rattle.code_encoding.specs.Instructions.{number_of, aside_variable, push, store}
 use Rattle.code_instructions.specs.Instructions.{stepping}

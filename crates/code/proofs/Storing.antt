@@ -9,8 +9,8 @@ use Rattle.syntax_trees.specs.declared.tree.Width.{Width}
 use Rattle.meaning.specs.declared.cause.Cause.TheVariants as causes
 use Rattle.meaning.specs.World.{Situation, to, bound, value_in, is_index, with_entry, with_array}
 use Rattle.meaning.specs.World as source
-use Rattle.code_values.specs.Items.{Destination, is_any_pushed}
-use Rattle.code_values.specs.Items as items
+use Rattle.code_drafts.specs.Items.{Destination, is_any_pushed}
+use Rattle.code_drafts.specs.Items as items
 use Rattle.code_items.specs.Stack as stack
 use Rattle.code_encoding.specs.Addresses.{fault_address}
 use Rattle.code_encoding.specs.Instructions.{plain, word_in, aside_variable}

@@ -14,8 +14,8 @@ use Rattle.zcore.specs.Execution.{perform, push_word}
 use Rattle.syntax_trees.specs.declared.tree.Width.{Width}
 use Rattle.syntax_trees.specs.declared.tree.Width.TheVariants as widths
 use Rattle.meaning.specs.World.{Situation, to, with_value, is_index, with_entry, with_array}
-use Rattle.code_values.specs.Items.{Destination}
-use Rattle.code_values.specs.Items as items
+use Rattle.code_drafts.specs.Items.{Destination}
+use Rattle.code_drafts.specs.Items as items
 use Rattle.code_items.specs.Stack as stack
 use Rattle.code_encoding.specs.Instructions.{number_of, aside_variable, plain, push, store, word_in}
 use Rattle.code_objects.specs.ObjectCode.{passed_on}

@@ -17,8 +17,8 @@ use Rattle.meaning.specs.Objects.{Objects, with_words}
 use Rattle.meaning.specs.World.{Situation, Part, bound, ◌>>=◌, to, test_provided, test_word, test_single, write_words}
 use Rattle.meaning.specs.World.{with_objects}
 use Rattle.meaning.specs.World as source
-use Rattle.code_values.specs.Items.{Destination}
-use Rattle.code_values.specs.Items as items
+use Rattle.code_drafts.specs.Items.{Destination}
+use Rattle.code_drafts.specs.Items as items
 use Rattle.code_items.specs.Stack as stack
 use Rattle.code_object_memory.specs.Region.{tables_base}
 use Rattle.code_object_memory.specs.Tables.{words_place, PropertyTable}

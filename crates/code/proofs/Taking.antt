@@ -9,8 +9,8 @@ use Rattle.zcore.specs.InstructionBytes.{bytes_of}
 use Rattle.zcore.specs.State.{done}
 use Rattle.zcore.specs.Parts.{operand_values}
 use Rattle.meaning.specs.Meaning.{routine_at}
-use Rattle.code_values.specs.Items.{pushed, number, variable}
-use Rattle.code_values.specs.Items as items
+use Rattle.code_drafts.specs.Items.{pushed, number, variable}
+use Rattle.code_drafts.specs.Items as items
 use Rattle.code_items.specs.Laws.{IsOperand}
 use Rattle.code_encoding.specs.Instructions.{temporary, pull, pushed_count, take_words, takes, operands}
 use Rattle.code.proofs.Behind.{Holds, holds_append}

@@ -18,8 +18,8 @@ use Rattle.zcore.specs.Execution.{perform}
 use Rattle.zcore.specs.Arithmetic.{signed_less}
 use Rattle.meaning.specs.Resolved.{ProgramOf}
 use Rattle.meaning.specs.World.{Situation}
-use Rattle.code_values.specs.Items.{Test}
-use Rattle.code_values.specs.Items as items
+use Rattle.code_drafts.specs.Items.{Test}
+use Rattle.code_drafts.specs.Items as items
 use Rattle.code_items.specs.Laws.{IsOperand, IsTestedValue}
 use Rattle.code_items.specs.Stack as stack
 use Rattle.code_encoding.specs.Instructions.{plain, branching}

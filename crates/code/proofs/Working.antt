@@ -15,7 +15,7 @@ use Rattle.zcore.specs.Execution.{perform, give_result}
 use Rattle.meaning.specs.declared.cause.Cause.{Cause}
 use Rattle.meaning.specs.World.{Situation, value_in}
 use Rattle.meaning.specs.World as source
-use Rattle.code_values.specs.Items as items
+use Rattle.code_drafts.specs.Items as items
 use Rattle.code_items.specs.Stack as stack
 use Rattle.code_object_memory.specs.Region.{HasObjects, tables_base}
 use Rattle.code_object_memory.specs.Tables.{PropertyTable}

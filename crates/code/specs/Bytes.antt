@@ -2,7 +2,7 @@
 use Rattle.std.specs.Prelude.{◌+◌, ◌-◌, ℕ, List, [], ◌∷◌, ◌++◌, length, map, slice_index}
 use Rattle.code_branch_forms.specs.declared.layout.Part.{Part}
 use Rattle.code_branch_forms.specs.Layout.{first, lefts}
-use Rattle.code_values.specs.Items.{Item}
+use Rattle.code_drafts.specs.Items.{Item}
 use Rattle.code_encoding.specs.Addresses.{Addresses, Sizes}
 use Rattle.code_selection.specs.ItemBytes.{item_bytes}
 use Rattle.code_instructions.specs.Places.{target_of, label_size, offset_of}

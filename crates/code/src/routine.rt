@@ -4,7 +4,7 @@ ghost use Rattle.std.specs.Prelude.{◌≡◌, ◌<◌, reverse, length, IfOk, O
 ghost use Rattle.code_branch_forms.specs.Layout.{bytes_limit};
 ghost use Rattle.meaning.specs.Meaning.{routine_at};
 ghost use Rattle.meaning.specs.Views.{program_of};
-ghost use Rattle.code_values.specs.Code.{items_of};
+ghost use Rattle.code_drafts.specs.Code.{items_of};
 ghost use Rattle.code_items.specs.Statements as definitions;
 ghost use Rattle.code_encoding.specs.Bytes.{Adds};
 ghost use Rattle.code_encoding.specs.Written.{addresses_of, sizes_in};
@@ -49,7 +49,7 @@ pub struct Code<'a, 'b> {
 impl<'a, 'b> Model for Code<'a, 'b> {
     ghost use Rattle.std.specs.Prelude.{◌≡◌, ◌<◌, ◌+◌, reverse};
     ghost use Rattle.code_branch_forms.specs.Layout.{bytes_limit, uses};
-    ghost use Rattle.code_values.specs.Code.{items_of};
+    ghost use Rattle.code_drafts.specs.Code.{items_of};
     ghost use Rattle.code_encoding.specs.Written.{sizes_in};
     ghost use Rattle.code.specs.Bytes.{parts_of, lefts_of, code_size};
     ghost use Rattle.code.specs.Written.{CodeOf};

@@ -10,8 +10,10 @@ use Rattle.syntax_lexer.specs.Tokens.{EndsOnce}
 use Rattle.syntax_parsing.specs.Stop.{Stop, unfit, deep}
 use Rattle.syntax_parsing.specs.Parse.{◌>>=◌, head, is_word, as_long, repeated}
 use Rattle.syntax_expressions.proofs.Tokens.{is_that_word}
-use Rattle.syntax_token_machine.proofs.Machine.{entries_left, last, Stack, shift}
-use Rattle.syntax_token_machine.proofs.Machine.{accepts, stop, on_entry, file}
+use Rattle.syntax_token_machine.proofs.Frames.{entries_left, last, Stack}
+use Rattle.syntax_token_machine.proofs.Machine.{shift}
+use Rattle.syntax_token_machine.proofs.Frames.{on_entry}
+use Rattle.syntax_token_machine.proofs.Machine.{accepts, stop, file}
 use Rattle.syntax_places.proofs.After.{Follows, no_effect, onward, follows_read, follows_as, follows_then}
 use Rattle.syntax_places.proofs.Directives.{directive_follows, abbreviate_follows}
 use Rattle.syntax.specs.Tree.{entry, abbreviate, ProgramTree}

@@ -6,7 +6,8 @@ use Rattle.syntax_lexer.specs.Token.{Lexeme, end, position_of}
 use Rattle.syntax_lexer.specs.Tokens.{EndsOnce}
 use Rattle.syntax_parsing.specs.Stop.{Stop, unfit, deep}
 use Rattle.syntax_parsing.specs.Errors.{place_of}
-use Rattle.syntax_token_machine.proofs.Machine.{Stack, shift, accepts, stop, go_on, Refuses, file}
+use Rattle.syntax_token_machine.proofs.Frames.{Stack}
+use Rattle.syntax_token_machine.proofs.Machine.{shift, accepts, stop, go_on, Refuses, file}
 use Rattle.syntax_token_machine.proofs.Words.{Fits, words}
 use Rattle.syntax_token_machine.proofs.Kept.{kept, file_fits}
 use Rattle.syntax_token_machine.proofs.Taken.{taken}

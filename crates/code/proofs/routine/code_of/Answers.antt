@@ -1,7 +1,7 @@
 use Rattle.std.proofs.Common.{◌≡◌, ℕ, List, ◌+◌, reverse, ap, ◌∙◌, arith}
 use Rattle.code_branch_forms.specs.declared.layout.Part.{Part}
 use Rattle.code_branch_forms.specs.Layout.{lefts, uses}
-use Rattle.code_values.specs.Code.{items_of}
+use Rattle.code_drafts.specs.Code.{items_of}
 use Rattle.code_encoding.specs.Written.{sizes_in}
 use Rattle.code_instructions.specs.Places.{place_in}
 use Rattle.code.specs.Bytes.{lefts_of, parts_of, code_size}

@@ -1,5 +1,5 @@
 use Rattle.std.proofs.Common.{length, ap, arith}
-use Rattle.code_values.specs.Code.{item_of, items_of}
+use Rattle.code_drafts.specs.Code.{item_of, items_of}
 use Rattle.code_encoding.specs.Written.{sizes_in}
 use Rattle.code.proofs.Codes.{least_sum, lefts_low, part_next, items_length, parts_count, all_sum}
 use Rattle.code.proofs.routine.parts_of.Goals as goal

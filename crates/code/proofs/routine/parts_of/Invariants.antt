@@ -1,5 +1,5 @@
 use Rattle.std.proofs.Common.{◌≡◌, ◌+◌, ◌++◌, length, drop}
-use Rattle.code_values.specs.Code.{items_of}
+use Rattle.code_drafts.specs.Code.{items_of}
 use Rattle.code_encoding.specs.Written.{sizes_in}
 use Rattle.code.specs.Bytes.{parts_of}
 use Rattle.code.proofs.Codes.{least_sum}

@@ -1,5 +1,5 @@
 use Rattle.std.proofs.Common.{ap, ◌∙◌, arith}
-use Rattle.code_values.specs.Code.{item_of, items_of}
+use Rattle.code_drafts.specs.Code.{item_of, items_of}
 use Rattle.code_encoding.specs.Written.{addresses_of, sizes_in}
 use Rattle.code.specs.Bytes.{place_of}
 use Rattle.code.proofs.Codes.{left_count, bytes_next, offset_is}

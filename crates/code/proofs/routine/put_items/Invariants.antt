@@ -1,5 +1,5 @@
 use Rattle.std.proofs.Common.{◌≡◌, ◌++◌, drop}
-use Rattle.code_values.specs.Code.{items_of}
+use Rattle.code_drafts.specs.Code.{items_of}
 use Rattle.code_encoding.specs.Written.{addresses_of, sizes_in}
 use Rattle.code.specs.Bytes.{place_of, items_bytes}
 use Rattle.code.proofs.routine.put_items.Given as goal

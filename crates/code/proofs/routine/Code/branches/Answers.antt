@@ -4,7 +4,7 @@ use Rattle.std.specs.List.{All}
 use Rattle.code_branch_forms.specs.declared.layout.BranchUse.{BranchUse}
 use Rattle.code_branch_forms.specs.Layout.{IsShortest}
 use Rattle.code_branch_forms.proofs.Offsets.{all_shortest}
-use Rattle.code_values.specs.Code.{items_of}
+use Rattle.code_drafts.specs.Code.{items_of}
 use Rattle.code_encoding.specs.Written.{sizes_in}
 use Rattle.code.specs.Bytes.{parts_of, place_of}
 use Rattle.code.specs.Written.{CodeOf, branch_offsets}

@@ -1,6 +1,6 @@
 use Rattle.std.proofs.Common.{◌≡◌, ◌%◌, List, [], ◌∷◌, ◌++◌, ap, ◌∙◌}
-use Rattle.code_values.specs.Items.{Item}
-use Rattle.code_values.specs.Code.{items_of}
+use Rattle.code_drafts.specs.Items.{Item}
+use Rattle.code_drafts.specs.Code.{items_of}
 use Rattle.code_encoding.specs.Written.{addresses_of, sizes_in}
 use Rattle.code.specs.Bytes.{place_of, items_bytes}
 use Rattle.code.proofs.Codes.{code_written}
