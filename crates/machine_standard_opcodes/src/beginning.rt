@@ -1,0 +1,74 @@
+//! The story begins anew (Z-Machine Standards Document 1.1, section 15, `restart`).
+
+ghost use Rattle.std.specs.Prelude.{◌≡◌, ◌≤◌, ◌+◌, length, drop, OnOk, OnErr};
+ghost use Rattle.zcore.specs.Header.{static_base_of};
+ghost use Rattle.zcore.specs.Layout.{header_size};
+ghost use Rattle.zcore_standard.specs.Draft as definitions;
+ghost use Rattle.machine_frames.specs.Contents.{memory_of};
+ghost use Rattle.machine_frames.specs.States.{IsSound, IsStoreOf};
+ghost use Rattle.machine_frames.specs.Went.{GivenUp, Went};
+ghost use Rattle.machine_lines.specs.Lines.{Fills};
+ghost use Rattle.machine_standard_opcodes.specs.Left.{Empties};
+
+use journal::{NoMemory, Recorded};
+use machine_frames::layout::{
+    FRAME_COUNT, HEIGHT, MEMORY, NO_VARIABLE, RECORD, RECORDS, WAITING,
+};
+use machine_frames::{End, Store, put_all};
+use zcore::layout::HEADER_LENGTH;
+use zcore::{Limit, Next, Place};
+
+/// Begins the story anew: `restart`. Dynamic memory after the header is as it was loaded, the first
+/// environment runs, and no line is waited for. It takes a unit of fuel.
+///
+/// # Errors
+///
+/// The limit of fuel. `End::Memory` where memory was refused: the turn is given up.
+pub fn restart(
+    store: &mut Recorded<Store>,
+    dynamic: &[u8],
+    here: Next,
+) -> Result<Next, End>
+    requires sound { IsSound store.old.store }
+    requires header { header_size ≤ length dynamic.now }
+    requires dynamic { length dynamic.now ≡ static_base_of (memory_of store.old.store) }
+    ensures { Went result store.old store.new (definitions.restart dynamic.now here) }
+{
+    if here.fuel == 0 {
+        return Err(End::Stop(Place::Limit(Limit::Fuel)));
+    }
+    let memory = store.store().memory();
+    let program_counter = memory[6] as u32 * 256 + memory[7] as u32;
+    fill(store, HEADER_LENGTH, &dynamic[HEADER_LENGTH..])?;
+    empty(store)?;
+    Ok(Next {
+        program_counter,
+        fuel: here.fuel - 1,
+    })
+}
+
+/// Leaves all frames but the first environment, which is empty, and waits for no line.
+fn empty(store: &mut Recorded<Store>) -> Result<(), NoMemory>
+    requires sound { IsSound store.old.store }
+    ensures emptied { OnOk result (Empties store.old store.new) }
+    ensures given_up { OnErr result (GivenUp store.old store.new) }
+{
+    put_all(store, FRAME_COUNT, &[1, 0, 0])?;
+    put_all(store, RECORDS, &[0, 0, 0, 0, 0, 0, NO_VARIABLE])?;
+    store.put(WAITING, 0)?;
+    Ok(())
+}
+
+/// Writes bytes one after another to dynamic memory after the header.
+fn fill(store: &mut Recorded<Store>, at: usize, bytes: &[u8]) -> Result<(), NoMemory>
+    requires sound { IsSound store.old.store }
+    requires after_header { header_size ≤ at }
+    requires room { at + length bytes.now ≤ static_base_of (memory_of store.old.store) }
+    ensures filled { OnOk result (Fills store.old store.new at bytes.now) }
+    ensures given_up { OnErr result (GivenUp store.old store.new) }
+{
+    for (i, byte) in bytes.iter().enumerate() {
+        store.put(MEMORY + (at + i), *byte as u16)?;
+    }
+    Ok(())
+}
