@@ -12,7 +12,7 @@ use Rattle.zcore.proofs.WaitingTests.{Waits, waits_done, waits_fault, waits_then
 use Rattle.zcore.proofs.WaitingParts.{waits_goes_on}
 use Rattle.zcore_standard.specs.Words.{dictionary_for, letters_in, slots_bytes, with_slots}
 use Rattle.zcore_standard.specs.Words.{test_letters, test_slots, test_dictionary, fill_slots, tokenise}
-use Rattle.zcore_standard.specs.Words.{read_bytes, write_bytes, form_of, encode_text}
+use Rattle.zcore_standard.specs.Words.{form_at, write_bytes, encode_text}
 
 -- bytes that are written leave the memory as long
 length-with_bytes : (memory : List ℕ) (at : ℕ) (bytes : List ℕ) → length (with_bytes memory at bytes) ≡ length memory
@@ -42,9 +42,9 @@ unfolding fill_slots
 keeps_fill_slots text parse dictionary flag s t a h =
     done_alike tt a s t _ (record { memory = length-with_slots s.memory text parse (dictionary_for s.memory dictionary) flag; frames = refl }) h
 
-keeps_read_bytes : (at count : ℕ) → Keeps (read_bytes at count)
-unfolding read_bytes
-keeps_read_bytes at count s t a h = tested _ _ a s t s s _ (alike_same s s refl) h
+keeps_form_at : (at count : ℕ) → Keeps (form_at at count)
+unfolding form_at
+keeps_form_at at count s t a h = tested _ _ a s t s s _ (alike_same s s refl) h
 
 keeps_write_bytes : (at : ℕ) (bytes : List ℕ) → Keeps (write_bytes at bytes)
 unfolding write_bytes
@@ -64,8 +64,8 @@ pub encode_text_falls : (here : Next) (after text count from coded : ℕ) → he
     → FallsFrom here (encode_text here after text count from coded)
 unfolding encode_text
 encode_text_falls here after text count from coded past =
-    falls_then here _ _ (keeps_read_bytes _ count) (λ word.
-    falls_then here _ _ (keeps_write_bytes coded (form_of word)) (λ _. goes_on_falls here after past))
+    falls_then here _ _ (keeps_form_at _ count) (λ form.
+    falls_then here _ _ (keeps_write_bytes coded form) (λ _. goes_on_falls here after past))
 
 waits_test_letters : (text : ℕ) → Waits (test_letters text)
 unfolding test_letters
@@ -83,9 +83,9 @@ waits_fill_slots : (text parse dictionary flag : ℕ) → Waits (fill_slots text
 unfolding fill_slots
 waits_fill_slots text parse dictionary flag s t h = waits_done tt _ t h
 
-waits_read_bytes : (at count : ℕ) → Waits (read_bytes at count)
-unfolding read_bytes
-waits_read_bytes at count s t h = waits_either _ _ _ t (waits_done _ s t) (waits_fault _ s t) h
+waits_form_at : (at count : ℕ) → Waits (form_at at count)
+unfolding form_at
+waits_form_at at count s t h = waits_either _ _ _ t (waits_done _ s t) (waits_fault _ s t) h
 
 waits_write_bytes : (at : ℕ) (bytes : List ℕ) → Waits (write_bytes at bytes)
 unfolding write_bytes
@@ -104,5 +104,5 @@ pub waits_encode_text : (here : Next) (after text count from coded : ℕ)
     → Waits (encode_text here after text count from coded)
 unfolding encode_text
 waits_encode_text here after text count from coded =
-    waits_then _ _ (waits_read_bytes _ count) (λ word.
-    waits_then _ _ (waits_write_bytes coded (form_of word)) (λ _. waits_goes_on after here.fuel))
+    waits_then _ _ (waits_form_at _ count) (λ form.
+    waits_then _ _ (waits_write_bytes coded form) (λ _. waits_goes_on after here.fuel))

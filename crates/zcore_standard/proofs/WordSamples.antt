@@ -13,7 +13,7 @@ use Rattle.zcore.specs.State.{State, done}
 use Rattle.zcore.specs.Parts.{fault}
 use Rattle.zcore.specs.Turn.{first_state}
 use Rattle.zcore_standard.specs.Words.{form_of, entry_with_form, with_slots, test_letters, test_slots, test_dictionary}
-use Rattle.zcore_standard.specs.Words.{read_bytes, write_bytes, encode_text}
+use Rattle.zcore_standard.specs.Words.{form_at, write_bytes, encode_text}
 
 -- The forms of words (3.7 and 13.3)
 
@@ -94,17 +94,17 @@ at_150 = record { program_counter = 150; fuel = 5 }
 
 encoded_it : encode_text at_150 156 66 2 5 90 state ≡ done (record at_150 { program_counter = 156 })
     (record state { memory = take 90 memory ++ (0x3B ∷ 0x25 ∷ 0x14 ∷ 0xA5 ∷ 0x94 ∷ 0xA5 ∷ []) ++ drop 96 memory })
-unfolding encode_text read_bytes write_bytes form_of packed spelling_of
+unfolding encode_text form_at write_bytes form_of packed spelling_of
 encoded_it = refl
 
 sum_of_words : encode_text at_150 156 65535 2 72 90 state ≡ encode_text at_150 156 66 2 5 90 state
-unfolding encode_text read_bytes write_bytes form_of packed spelling_of
+unfolding encode_text form_at write_bytes form_of packed spelling_of
 sum_of_words = refl
 
 beyond_memory : encode_text at_150 156 128 2 0 90 state ≡ fault faults.Read state
-unfolding encode_text read_bytes
+unfolding encode_text form_at
 beyond_memory = refl
 
 beyond_dynamic_memory : encode_text at_150 156 66 2 5 95 state ≡ fault faults.Write state
-unfolding encode_text read_bytes write_bytes form_of packed spelling_of
+unfolding encode_text form_at write_bytes form_of packed spelling_of
 beyond_dynamic_memory = refl

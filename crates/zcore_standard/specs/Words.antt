@@ -40,14 +40,16 @@ entries_in memory dictionary =
     if nat_lt (entry_count memory dictionary) 32768 then entry_count memory dictionary
     else 65536 - entry_count memory dictionary
 
--- whether a dictionary can be read: what comes before its entries, and the keys of these
+-- where the key of the last entry ends
+abbrev pub keys_end : List ℕ → ℕ → ℕ
+keys_end memory dictionary =
+    first_entry memory dictionary + (entries_in memory dictionary - 1) * entry_length_of memory dictionary + key_size
+
+-- whether a dictionary can be read: what comes before its entries, and the key of each
 abbrev pub is_dictionary : List ℕ → ℕ → Bool
 is_dictionary memory dictionary =
     nat_le (first_entry memory dictionary) (static_end memory)
-    && ((entries_in memory dictionary == 0)
-    || nat_le
-    (first_entry memory dictionary + (entries_in memory dictionary - 1) * entry_length_of memory dictionary + key_size)
-    (static_end memory))
+    && ((entries_in memory dictionary == 0) || nat_le (keys_end memory dictionary) (static_end memory))
 
 unfoldable pub test_dictionary : ℕ → State → Out (Unit {0})
 test_dictionary dictionary s = test (is_dictionary s.memory (dictionary_for s.memory dictionary)) faults.Read s
@@ -56,13 +58,19 @@ test_dictionary dictionary s = test (is_dictionary s.memory (dictionary_for s.me
 abbrev pub letters_in : List ℕ → ℕ → List ℕ
 letters_in memory text = slice_range memory (text + 2) (text + 2 + slice_index memory (text + 1))
 
+abbrev pub has_letters : List ℕ → ℕ → Bool
+has_letters memory text = nat_le (text + 2 + slice_index memory (text + 1)) (static_end memory)
+
 unfoldable pub test_letters : ℕ → State → Out (Unit {0})
-test_letters text s = test (nat_le (text + 2 + slice_index s.memory (text + 1)) (static_end s.memory)) faults.Read s
+test_letters text s = test (has_letters s.memory text) faults.Read s
 
 -- A parse buffer has a slot of four bytes for each of as many words as its byte 0 says, from byte 2 on. It is in dynamic
 -- memory, after the header.
+abbrev pub has_slots : List ℕ → ℕ → Bool
+has_slots memory parse = are_writable memory parse (2 + 4 * slice_index memory parse)
+
 unfoldable pub test_slots : ℕ → State → Out (Unit {0})
-test_slots parse s = test (are_writable s.memory parse (2 + 4 * slice_index s.memory parse)) faults.Buffer s
+test_slots parse s = test (has_slots s.memory parse) faults.Buffer s
 
 -- the address of the first entry that has the form of a word, or 0
 unfoldable pub entry_with_form : List ℕ → ℕ → List ℕ → ℕ
@@ -70,13 +78,15 @@ entry_with_form memory dictionary word =
     entry_in memory (first_entry memory dictionary) (entry_length_of memory dictionary) (entries_in memory dictionary)
     (number_of_key (form_of word))
 
--- The slot of a word, at an address: its entry, its length, and its place in the text buffer. With the flag, a word that
--- is not found leaves the bytes that are there.
+-- the four bytes of a word: the address of its entry, its length, and its place in the text buffer
+abbrev pub four_bytes : ℕ → Word → List ℕ
+four_bytes entry w = (entry / 256) ∷ (entry % 256) ∷ length w.bytes ∷ ((w.place + 2) % 256) ∷ []
+
+-- the slot of a word, at an address: with the flag, a word that is not found leaves the bytes that are there
 abbrev pub slot_bytes : List ℕ → ℕ → ℕ → ℕ → Word → List ℕ
 slot_bytes memory dictionary flag at w =
     if (entry_with_form memory dictionary w.bytes == 0) && nat_le 1 flag then slice_range memory at (at + 4)
-    else (entry_with_form memory dictionary w.bytes / 256) ∷ (entry_with_form memory dictionary w.bytes % 256) ∷ length w.bytes ∷
-    ((w.place + 2) % 256) ∷ []
+    else four_bytes (entry_with_form memory dictionary w.bytes) w
 
 -- the slots of words, from an address on
 abbrev pub slots_bytes : List ℕ → ℕ → ℕ → ℕ → List Word → List ℕ
@@ -106,18 +116,20 @@ tokenise here after text parse dictionary flag = do
 
 -- encode_text
 
-unfoldable pub read_bytes : ℕ → ℕ → State → Out (List ℕ)
-read_bytes at count s =
-    if are_readable s.memory at count then done (slice_range s.memory at (at + count)) s else fault faults.Read s
+-- the form of a word that has so many characters from an address on
+unfoldable pub form_at : ℕ → ℕ → State → Out (List ℕ)
+form_at at count s =
+    if are_readable s.memory at count then done (form_of (slice_range s.memory at (at + count))) s
+    else fault faults.Read s
 
 unfoldable pub write_bytes : ℕ → List ℕ → State → Out (Unit {0})
 write_bytes at bytes s =
     if are_writable s.memory at (length bytes) then done tt (record s { memory = with_bytes s.memory at bytes })
     else fault faults.Write s
 
--- the word has so many characters, from a place of a text on; its form is written to an address
+-- the word begins at a place of a text; its form is written to an address
 unfoldable pub encode_text : Next → ℕ → ℕ → ℕ → ℕ → ℕ → State → Out Next
 encode_text here after text count from coded = do
-  word ← read_bytes ((text + from) % 65536) count
-  _ ← write_bytes coded (form_of word)
+  form ← form_at ((text + from) % 65536) count
+  _ ← write_bytes coded form
   goes_on after here.fuel
