@@ -11,7 +11,10 @@ use Rattle.zcore.specs.State.{Frame, State, Out, done, halt, bound}
 use Rattle.zcore.specs.Parts.{spend, goes_on}
 use Rattle.zcore.specs.Turn.{first_environment}
 use Rattle.ztext.specs.Bytes.{word_at}
-use Rattle.zcore_standard.specs.Draft.{anew, restart}
+use Rattle.zcore_standard.specs.Flow.{restarted, restart}
+use Rattle.zcore.specs.declared.beside.Beside.{Beside}
+use Rattle.zcore_standard.specs.Place.{Here, Loaded}
+use Rattle.zcore_standard.specs.Machine.{begins}
 use Rattle.machine_frames.specs.Contents.{Contents, Wrote, memory_of}
 use Rattle.machine_frames.specs.States.{base_of, local_count, height_of, frame_of, frames_of, state_of, IsSound}
 use Rattle.machine_frames.specs.States.{IsStacked}
@@ -92,21 +95,24 @@ emptied s m t c sound v w fixed beginning no =
       state = λ text. no.state text ∙ ap (λ (x : State). record x { pending = None }) (first.1 text);
     }
 
-pub begun_anew : (s m t : Recording Contents) (dynamic : List ℕ) (here : Next) (address : ℕ) → here.fuel ≢ 0
-    → address ≡ word_at (memory_of s.store) 6 → Fills s m 64 (drop 64 dynamic) → Empties m t
-    → Went (Ok (record { program_counter = address; fuel = here.fuel - 1 })) s t (restart dynamic here)
+pub begun_anew : (s m t : Recording Contents) (loaded : Loaded) (kept : Beside) (here : Next) (address : ℕ)
+    → here.fuel ≢ 0 → address ≡ word_at (memory_of s.store) 6 → Fills s m 64 (drop 64 loaded.dynamic) → Empties m t
+    → Went (Ok (begins loaded.dice (record { program_counter = address; fuel = here.fuel - 1 }))) s t
+    (restart loaded (begins kept here))
 unfolding restart, spend
-begun_anew s m t dynamic here address some e f n = record {
+begun_anew s m t loaded kept here address some e f n = record {
   did = (
     goes_on_after f.goes_on n.goes_on,
     λ text.
-        let state : state_of t.store text ≡ anew dynamic (state_of s.store text) = n.state text
+        let state : state_of t.store text ≡ restarted loaded (state_of s.store text) = n.state text
         ∙ ap (λ (x : State). record x { frames = first_environment ∷ []; pending = None }) (f.state text) in
         rw (ne_eqb here.fuel 0 some, e, state) refl,
   );
 }
 
-pub no_fuel : (s : Recording Contents) (dynamic : List ℕ) (here : Next) → IsSound s.store → here.fuel ≡ 0
-    → Went {A = Next} (Err (ends.Stop (places.Limit limits.Fuel))) s s (restart dynamic here)
+pub no_fuel : (s : Recording Contents) (loaded : Loaded) (kept : Beside) (here : Next) → IsSound s.store
+    → here.fuel ≡ 0
+    → Went {A = Here} (Err (ends.Stop (places.Limit limits.Fuel))) s s (restart loaded (begins kept here))
 unfolding restart, spend
-no_fuel s dynamic here sound e = went_halt s (restart dynamic here) sound (λ text. rw (eq-eqb here.fuel 0 e) refl)
+no_fuel s loaded kept here sound e = went_halt s (restart loaded (begins kept here)) sound
+    (λ text. rw (eq-eqb here.fuel 0 e) refl)

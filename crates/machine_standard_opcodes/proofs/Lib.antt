@@ -1,3 +1,4 @@
+pub mod Keeping
 pub mod Returning
 pub mod Anew
 pub mod Characters

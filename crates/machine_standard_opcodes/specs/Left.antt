@@ -1,15 +1,25 @@
 -- Frames that are left.
-use Rattle.std.specs.Prelude.{◌≡◌, ℕ, List, [], ◌∷◌, drop, None}
+use Rattle.std.specs.Prelude.{◌≡◌, ◌&&◌, ℕ, nat_le, nat_lt, List, [], ◌∷◌, length, drop, Option, None}
 use Rattle.journal.specs.Recording.{Recording}
-use Rattle.zcore.specs.State.{State, Out, done}
+use Rattle.zcore.specs.State.{State, Out}
+use Rattle.zcore.specs.Parts.{test, returning, can_store}
 use Rattle.zcore.specs.Turn.{first_environment}
+use Rattle.zcore.specs.declared.place.Fault.TheVariants as faults
+use Rattle.zcore_standard.specs.Flow.{frames_at}
 use Rattle.machine_frames.specs.Contents.{Contents}
 use Rattle.machine_frames.specs.States.{state_of}
 use Rattle.machine_frames.specs.Went.{GoesOn}
 
--- so many of the running frames end
-unfoldable pub leaves : ℕ → State → Out (Unit {0})
-leaves count s = done tt (record s { frames = drop count s.frames })
+-- the tests of `throw`: a frame has a number, and can return
+abbrev pub has_frame : ℕ → State → Out (Unit {0})
+has_frame number s = test (nat_le 1 number && nat_lt number (length s.frames)) faults.Return s
+
+abbrev pub returns_from : ℕ → State → Out (ℕ × Option ℕ)
+returns_from number s = returning s (frames_at number s.frames)
+
+-- the caller of the frame of a number can store a result
+abbrev pub caller_stores : ℕ → Option ℕ → State → Out (Unit {0})
+caller_stores number result s = can_store result (drop 1 (frames_at number s.frames)) s
 
 -- the first environment runs alone, and no line is waited for
 pub record Empties (old new : Recording Contents) : Type 0 where

@@ -3,13 +3,17 @@
 ghost use Rattle.std.specs.Prelude.{◌≡◌, ◌≤◌, ◌+◌, length, drop, OnOk, OnErr};
 ghost use Rattle.zcore.specs.Header.{static_base_of};
 ghost use Rattle.zcore.specs.Layout.{header_size};
-ghost use Rattle.zcore_standard.specs.Draft as definitions;
+ghost use Rattle.zcore.specs.declared.beside.Beside.{Beside};
+ghost use Rattle.zcore_standard.specs.Flow as definitions;
+ghost use Rattle.zcore_standard.specs.Machine.{begins};
 ghost use Rattle.machine_frames.specs.Contents.{memory_of};
 ghost use Rattle.machine_frames.specs.States.{IsSound, IsStoreOf};
 ghost use Rattle.machine_frames.specs.Went.{GivenUp, Went};
 ghost use Rattle.machine_lines.specs.Lines.{Fills};
+ghost use Rattle.machine_opcodes.specs.Seen.{seen};
 ghost use Rattle.machine_standard_opcodes.specs.Left.{Empties};
 
+use crate::loaded::Loaded;
 use journal::{NoMemory, Recorded};
 use machine_frames::layout::{
     FRAME_COUNT, HEIGHT, MEMORY, NO_VARIABLE, RECORD, RECORDS, WAITING,
@@ -19,26 +23,28 @@ use zcore::layout::HEADER_LENGTH;
 use zcore::{Limit, Next, Place};
 
 /// Begins the story anew: `restart`. Dynamic memory after the header is as it was loaded, the first
-/// environment runs, and no line is waited for. It takes a unit of fuel.
+/// environment runs, and no line is waited for. It takes a unit of fuel. Window and dice are then as
+/// at loading, which the caller sees to.
 ///
 /// # Errors
 ///
 /// The limit of fuel. `End::Memory` where memory was refused: the turn is given up.
 pub fn restart(
     store: &mut Recorded<Store>,
-    dynamic: &[u8],
+    loaded: &Loaded,
     here: Next,
 ) -> Result<Next, End>
     requires sound { IsSound store.old.store }
-    requires header { header_size ≤ length dynamic.now }
-    requires dynamic { length dynamic.now ≡ static_base_of (memory_of store.old.store) }
-    ensures { Went result store.old store.new (definitions.restart dynamic.now here) }
+    requires dynamic { length loaded.now.dynamic ≡ static_base_of (memory_of store.old.store) }
+    ensures { (kept : Beside) → Went (seen (begins loaded.now.dice) result) store.old store.new
+        (definitions.restart loaded.now (begins kept here)) }
 {
     if here.fuel == 0 {
         return Err(End::Stop(Place::Limit(Limit::Fuel)));
     }
     let memory = store.store().memory();
     let program_counter = memory[6] as u32 * 256 + memory[7] as u32;
+    let dynamic = loaded.dynamic();
     fill(store, HEADER_LENGTH, &dynamic[HEADER_LENGTH..])?;
     empty(store)?;
     Ok(Next {

@@ -1,10 +1,16 @@
 //! The dice (Z-Machine Standards Document 1.1, sections 2.4 and 15, `random`).
 
-ghost use Rattle.std.specs.Prelude.{◌≡◌, ◌≤◌, ◌<◌};
+ghost use Rattle.std.specs.Prelude.{◌≡◌, ◌≤◌, ◌<◌, OnErr};
 ghost use Rattle.zcore_standard.specs.Dice as definitions;
+ghost use Rattle.zcore_standard.specs.Machine.{begins};
+ghost use Rattle.machine_frames.specs.States.{IsStoreOf};
+ghost use Rattle.machine_frames.specs.Went.{Went};
+ghost use Rattle.machine_opcodes.specs.Seen.{seen};
 
-use machine_opcodes::NEGATIVE;
-use zcore::Beside;
+use journal::Recorded;
+use machine_frames::{End, Store};
+use machine_opcodes::{NEGATIVE, give_result};
+use zcore::{Beside, Header, Next};
 
 /// The generator takes 32 bits to so many times themselves and one more.
 const FACTOR: u64 = 22_695_477;
@@ -60,7 +66,7 @@ fn with_dice(kept: Beside, random: u32, interval: u16, counter: u16) -> Beside
 /// What `random` answers for a signed range, and the dice after it. A positive range gives a number
 /// from 1 to the range. 0 gives 0 and ends counting. A negative range gives 0, and the dice count
 /// up to it, or begin with it from 1,000 on.
-pub fn rolled(range: u16, dice: Beside) -> (u16, Beside)
+fn rolled(range: u16, dice: Beside) -> (u16, Beside)
     ensures { result ≡ definitions.rolled range dice }
 {
     if range == 0 {
@@ -74,5 +80,35 @@ pub fn rolled(range: u16, dice: Beside) -> (u16, Beside)
         (0, with_dice(dice, dice.random, below as u16, 0))
     } else {
         (0, with_dice(dice, below, 0, 0))
+    }
+}
+
+/// Rolls the dice: `random`.
+///
+/// # Errors
+///
+/// M6 and M4 of the result, and then the dice are as they were. `End::Memory` where memory was
+/// refused: the turn is given up.
+pub fn random(
+    header: &Header,
+    store: &mut Recorded<Store>,
+    beside: &mut Beside,
+    here: Next,
+    after: u32,
+    result_variable: Option<u8>,
+    range: u16,
+) -> Result<Next, End>
+    requires { IsStoreOf header.now store.old.store }
+    ensures went { Went (seen (begins beside.new) result) store.old store.new
+        (definitions.random (begins beside.old here) after result_variable range) }
+    ensures beside { OnErr result (beside.new ≡ beside.old) }
+{
+    let (number, dice) = rolled(range, *beside);
+    match give_result(header, store, here, after, result_variable, number) {
+        Ok(next) => {
+            *beside = dice;
+            Ok(next)
+        }
+        Err(end) => Err(end),
     }
 }

@@ -1,17 +1,22 @@
 //! Returns from routines further out (Z-Machine Standards Document 1.1, sections 6.4 and 15,
 //! `catch` and `throw`).
 
-ghost use Rattle.std.specs.Prelude.{◌≡◌, ◌≤◌, ◌<◌, ◌-◌, drop, slice_index};
-ghost use Rattle.zcore_standard.specs.Draft as definitions;
+ghost use Rattle.std.specs.Prelude.{◌≡◌, ◌≤◌, ◌<◌, slice_index, OnOk};
+ghost use Rattle.zcore_standard.specs.Flow as definitions;
 ghost use Rattle.machine_frames.specs.States.{frame_count, IsSound, IsStoreOf};
 ghost use Rattle.machine_frames.specs.Went.{Went};
-ghost use Rattle.machine_standard_opcodes.specs.Left.{leaves};
+ghost use Rattle.machine_standard_opcodes.specs.Left.{has_frame, returns_from, caller_stores};
 
 use journal::Recorded;
-use machine_frames::layout::FRAME_COUNT;
-use machine_frames::{End, Store, cell, leave};
-use machine_opcodes::{give_back, give_result};
+use machine_frames::layout::{
+    FRAME_COUNT, LOCAL_COUNT, RECORD, RECORDS, RESULT, RETURN, STACK_SIZE,
+};
+use machine_frames::{End, Store, cell, is_code, long, put_all, store_result, variable_in};
+use machine_opcodes::give_result;
 use zcore::{Fault, Header, Next, Place};
+
+/// Variables below this one are the stack and locals.
+const FIRST_GLOBAL: u8 = 16;
 
 /// The number of calls that are open: `catch`.
 ///
@@ -32,12 +37,13 @@ pub fn catch(
     give_result(header, store, here, after, result_variable, open)
 }
 
-/// Returns a word from the routine of an open call, counted from the outermost: `throw`.
+/// Returns a word from the routine of a frame, which has as its number how many calls were open when
+/// it ran: `throw`.
 ///
 /// # Errors
 ///
-/// M11 where no call of this number is open, before anything is left; M6 and M4 where the caller
-/// cannot store the result, M2 where the address to go on at is no code. `End::Memory` where memory
+/// M11 where there is no such frame, then M6 and M4 where its caller cannot store the result, M2
+/// where the address to go on at is no code; nothing has changed then. `End::Memory` where memory
 /// was refused: the turn is given up.
 pub fn throw(
     header: &Header,
@@ -49,26 +55,86 @@ pub fn throw(
     requires { IsStoreOf header.now store.old.store }
     ensures { Went result store.old store.new (definitions.throw here word number) }
 {
-    let frames = cell(store, FRAME_COUNT);
-    if number == 0 || frames <= number {
-        return Err(End::Stop(Place::Fault(Fault::Return)));
-    }
-    leave_each(store, frames - 1 - number)?;
-    give_back(header, store, here.fuel, word)
+    test_frame(store, number)?;
+    let (program_counter, result_variable) = test_return_of(store, number)?;
+    leave_frame(store, number)?;
+    store_result(header, store, result_variable, word)?;
+    Ok(Next {
+        program_counter,
+        fuel: here.fuel,
+    })
 }
 
-/// Ends so many of the running frames, the innermost first. A caller is left.
+/// Tests whether there is a frame of a number, and changes nothing. M11.
+fn test_frame(store: &Recorded<Store>, number: u16) -> Result<(), End>
+    requires { IsSound store.now.store }
+    ensures went { Went result store.now store.now (has_frame number) }
+    ensures some { OnOk result (1 ≤ number) }
+    ensures called { OnOk result (number < frame_count (slice_index store.now.store.cells)) }
+{
+    if number == 0 || cell(store, FRAME_COUNT) <= number {
+        return Err(End::Stop(Place::Fault(Fault::Return)));
+    }
+    Ok(())
+}
+
+/// Tests whether the frame of a number can return, and changes nothing: where it returns to, and the
+/// variable for its result. M6 and M4 of the result, M2.
+fn test_return_of(store: &Recorded<Store>, number: u16) -> Result<(u32, Option<u8>), End>
+    requires sound { IsSound store.now.store }
+    requires some { 1 ≤ number }
+    requires called { number < frame_count (slice_index store.now.store.cells) }
+    ensures { Went result store.now store.now (returns_from number) }
+{
+    let record = RECORDS + RECORD * number as usize;
+    let return_address = long(store, record + RETURN);
+    let result_variable = variable_in(cell(store, record + RESULT));
+    test_caller_of(store, number, result_variable)?;
+    if !is_code(store.store().memory(), return_address as usize) {
+        return Err(End::Stop(Place::Fault(Fault::Code)));
+    }
+    Ok((return_address, result_variable))
+}
+
+/// Tests whether the caller of the frame of a number can store its result, and changes nothing. M6
+/// and M4.
+fn test_caller_of(
+    store: &Recorded<Store>,
+    number: u16,
+    result_variable: Option<u8>,
+) -> Result<(), End>
+    requires sound { IsSound store.now.store }
+    requires some { 1 ≤ number }
+    requires called { number < frame_count (slice_index store.now.store.cells) }
+    ensures { Went result store.now store.now (caller_stores number result_variable) }
+{
+    let Some(variable) = result_variable else {
+        return Ok(());
+    };
+    let record = RECORDS + RECORD * number as usize;
+    if variable == 0 {
+        if long(store, record) as usize == STACK_SIZE {
+            return Err(End::Stop(Place::Fault(Fault::StackFull)));
+        }
+    } else if variable < FIRST_GLOBAL && variable as u16 > cell(store, record - RECORD + LOCAL_COUNT) {
+        return Err(End::Stop(Place::Fault(Fault::Write)));
+    }
+    Ok(())
+}
+
+/// Ends the frame of a number and all that were called from it. It has a caller.
 ///
 /// # Errors
 ///
 /// `End::Memory` where memory was refused: the turn is given up.
-fn leave_each(store: &mut Recorded<Store>, count: u16) -> Result<(), End>
+fn leave_frame(store: &mut Recorded<Store>, number: u16) -> Result<(), End>
     requires sound { IsSound store.old.store }
-    requires called { count < frame_count (slice_index store.old.store.cells) }
-    ensures { Went result store.old store.new (leaves count) }
+    requires some { 1 ≤ number }
+    requires called { number < frame_count (slice_index store.old.store.cells) }
+    ensures { Went result store.old store.new (definitions.leave_frame number) }
 {
-    for _left in 0..count {
-        leave(store)?;
-    }
+    let base = long(store, RECORDS + RECORD * number as usize);
+    let registers = [number, (base / 65_536) as u16, (base % 65_536) as u16];
+    put_all(store, FRAME_COUNT, &registers)?;
     Ok(())
 }

@@ -2,16 +2,18 @@
 //! running story.
 #![tactic(auto)]
 
+mod beginning;
 mod dice;
 mod flow;
-mod beginning;
+mod loaded;
 mod screen;
 mod shifts;
 mod unicode;
 
-pub use dice::rolled;
-pub use flow::{catch, throw};
 pub use beginning::restart;
-pub use screen::get_cursor;
+pub use dice::random;
+pub use flow::{catch, throw};
+pub use loaded::Loaded;
+pub use screen::{font_of, get_cursor, output_stream};
 pub use shifts::{shifted, shifted_with_sign};
 pub use unicode::{abilities, print_unicode};
