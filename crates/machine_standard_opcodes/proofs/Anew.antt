@@ -63,7 +63,7 @@ first_stands b c d v w =
     }
 
 -- the first environment runs alone
-frames_emptied : (s t : Recording Contents) (c : List ℕ) → IsSound s.store → Wrote s.store.cells c 0 (1 ∷ 0 ∷ 0 ∷ [])
+pub frames_emptied : (s t : Recording Contents) (c : List ℕ) → IsSound s.store → Wrote s.store.cells c 0 (1 ∷ 0 ∷ 0 ∷ [])
     → Wrote c t.store.cells 16 (0 ∷ 0 ∷ 0 ∷ 0 ∷ 0 ∷ 0 ∷ 256 ∷ []) → t.store.fixed ≡ s.store.fixed
     → t.beginning ≡ s.beginning
     → GoesOn s t × ((text : List ℕ)
@@ -85,21 +85,21 @@ frames_emptied s t c sound v w fixed beginning =
           ∙ ap (λ (fs : List Frame). record (state_of s.store text) { frames = fs }) (first_frame c t.store.cells w),
     )
 
-pub emptied : (s m t : Recording Contents) (c : List ℕ) → IsSound s.store
-    → Wrote s.store.cells c 0 (1 ∷ 0 ∷ 0 ∷ []) → Wrote c m.store.cells 16 (0 ∷ 0 ∷ 0 ∷ 0 ∷ 0 ∷ 0 ∷ 256 ∷ [])
-    → m.store.fixed ≡ s.store.fixed → m.beginning ≡ s.beginning → WaitsNoMore m t → Empties s t
-emptied s m t c sound v w fixed beginning no =
-    let first = frames_emptied s m c sound v w fixed beginning in
+pub emptied : (s m t : Recording Contents)
+    → GoesOn s m × ((text : List ℕ)
+    → state_of m.store text ≡ record (state_of s.store text) { frames = first_environment ∷ [] })
+    → WaitsNoMore m t → Empties s t
+emptied s m t first waits =
     record {
-      goes_on = goes_on_after first.0 no.goes_on;
-      state = λ text. no.state text ∙ ap (λ (x : State). record x { pending = None }) (first.1 text);
+      goes_on = goes_on_after first.0 waits.goes_on;
+      state = λ text. waits.state text ∙ ap (λ (x : State). record x { pending = None }) (first.1 text);
     }
 
 pub begun_anew : (s m t : Recording Contents) (loaded : Loaded) (kept : Beside) (here : Next) (address : ℕ)
     → here.fuel ≢ 0 → address ≡ word_at (memory_of s.store) 6 → Fills s m 64 (drop 64 loaded.dynamic) → Empties m t
     → Went (Ok (begins loaded.dice (record { program_counter = address; fuel = here.fuel - 1 }))) s t
     (restart loaded (begins kept here))
-unfolding restart, spend
+unfolding restart spend
 begun_anew s m t loaded kept here address some e f n = record {
   did = (
     goes_on_after f.goes_on n.goes_on,
@@ -113,6 +113,6 @@ begun_anew s m t loaded kept here address some e f n = record {
 pub no_fuel : (s : Recording Contents) (loaded : Loaded) (kept : Beside) (here : Next) → IsSound s.store
     → here.fuel ≡ 0
     → Went {A = Here} (Err (ends.Stop (places.Limit limits.Fuel))) s s (restart loaded (begins kept here))
-unfolding restart, spend
+unfolding restart spend
 no_fuel s loaded kept here sound e = went_halt s (restart loaded (begins kept here)) sound
     (λ text. rw (eq-eqb here.fuel 0 e) refl)

@@ -2,3 +2,4 @@ pub mod Keeping
 pub mod Returning
 pub mod Anew
 pub mod Characters
+pub mod Cursor

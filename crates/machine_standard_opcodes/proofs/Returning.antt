@@ -32,10 +32,10 @@ frames_counted s text =
     length-frames_of (slice_index s.cells) (frame_count (slice_index s.cells)) (height_of (slice_index s.cells))
 
 pub catch_went : {s t : Recording Contents} (r : Result Next End) (here : Next) (after : ℕ) (result : Option ℕ)
-    (open : ℕ) → open ≡ frame_count (slice_index s.store.cells) - 1 → Went r s t (give_result here after result open)
+    (calls : ℕ) → calls ≡ frame_count (slice_index s.store.cells) - 1 → Went r s t (give_result here after result calls)
     → Went r s t (catch here after result)
 unfolding catch
-catch_went {s} r here after result open e w = went_as r (catch here after result)
+catch_went {s} r here after result calls e w = went_as r (catch here after result)
     (λ x. ap (λ n. give_result here after result n (state_of s.store x))
     (ap (λ k. k - 1) (frames_counted s.store x) ∙ sym e)) w
 
@@ -142,6 +142,21 @@ pub record BacksFrom (s : Contents) (number address variable : ℕ) (result : Op
   pub address_read : address ≡ long_at (slice_index s.cells) (18 + 7 * number)
   pub variable_read : variable ≡ slice_index s.cells (22 + 7 * number)
   pub result_read : result ≡ variable_of variable
+
+pub backs_from : (s : Contents) (number address variable : ℕ) (result : Option ℕ) → 1 ≤ number
+    → number < frame_count (slice_index s.cells) → address ≡ long_at (slice_index s.cells) (16 + 7 * number + 2)
+    → variable ≡ slice_index s.cells (16 + 7 * number + 6) → result ≡ variable_of variable
+    → BacksFrom s number address variable result
+backs_from s number address variable result some called a v r =
+    let to : 16 + 7 * number + 2 ≡ 18 + 7 * number = omega arith in
+    let from : 16 + 7 * number + 6 ≡ 22 + 7 * number = omega arith in
+    record {
+      some = some;
+      called = called;
+      address_read = a ∙ ap (long_at (slice_index s.cells)) to;
+      variable_read = v ∙ ap (slice_index s.cells) from;
+      result_read = r;
+    }
 
 backs_is : (s : Recording Contents) (number address variable : ℕ) (result : Option ℕ) (text : List ℕ)
     → BacksFrom s.store number address variable result

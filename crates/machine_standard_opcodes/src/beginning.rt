@@ -15,9 +15,7 @@ ghost use Rattle.machine_standard_opcodes.specs.Left.{Empties};
 
 use crate::loaded::Loaded;
 use journal::{NoMemory, Recorded};
-use machine_frames::layout::{
-    FRAME_COUNT, HEIGHT, MEMORY, NO_VARIABLE, RECORD, RECORDS, WAITING,
-};
+use machine_frames::layout::{FRAME_COUNT, HEIGHT, MEMORY, NO_VARIABLE, RECORD, RECORDS, WAITING};
 use machine_frames::{End, Store, put_all};
 use zcore::layout::HEADER_LENGTH;
 use zcore::{Limit, Next, Place};
@@ -29,11 +27,7 @@ use zcore::{Limit, Next, Place};
 /// # Errors
 ///
 /// The limit of fuel. `End::Memory` where memory was refused: the turn is given up.
-pub fn restart(
-    store: &mut Recorded<Store>,
-    loaded: &Loaded,
-    here: Next,
-) -> Result<Next, End>
+pub fn restart(store: &mut Recorded<Store>, loaded: &Loaded, here: Next) -> Result<Next, End>
     requires sound { IsSound store.old.store }
     requires dynamic { length loaded.now.dynamic ≡ static_base_of (memory_of store.old.store) }
     ensures { (kept : Beside) → Went (seen (begins loaded.now.dice) result) store.old store.new
@@ -44,13 +38,20 @@ pub fn restart(
     }
     let memory = store.store().memory();
     let program_counter = memory[6] as u32 * 256 + memory[7] as u32;
-    let dynamic = loaded.dynamic();
-    fill(store, HEADER_LENGTH, &dynamic[HEADER_LENGTH..])?;
+    fill(store, HEADER_LENGTH, after_header(loaded.dynamic()))?;
     empty(store)?;
     Ok(Next {
         program_counter,
         fuel: here.fuel - 1,
     })
+}
+
+/// Memory from the end of the header on.
+fn after_header(memory: &[u8]) -> &[u8]
+    requires { header_size ≤ length memory.now }
+    ensures { result.now ≡ drop header_size memory.now }
+{
+    &memory[HEADER_LENGTH..]
 }
 
 /// Leaves all frames but the first environment, which is empty, and waits for no line.

@@ -15,9 +15,6 @@ use machine_frames::{End, Store, cell, is_code, long, put_all, store_result, var
 use machine_opcodes::give_result;
 use zcore::{Fault, Header, Next, Place};
 
-/// Variables below this one are the stack and locals.
-const FIRST_GLOBAL: u8 = 16;
-
 /// The number of calls that are open: `catch`.
 ///
 /// # Errors
@@ -72,7 +69,10 @@ fn test_frame(store: &Recorded<Store>, number: u16) -> Result<(), End>
     ensures some { OnOk result (1 ≤ number) }
     ensures called { OnOk result (number < frame_count (slice_index store.now.store.cells)) }
 {
-    if number == 0 || cell(store, FRAME_COUNT) <= number {
+    if number == 0 {
+        return Err(End::Stop(Place::Fault(Fault::Return)));
+    }
+    if cell(store, FRAME_COUNT) <= number {
         return Err(End::Stop(Place::Fault(Fault::Return)));
     }
     Ok(())
@@ -108,18 +108,25 @@ fn test_caller_of(
     requires called { number < frame_count (slice_index store.now.store.cells) }
     ensures { Went result store.now store.now (caller_stores number result_variable) }
 {
-    let Some(variable) = result_variable else {
-        return Ok(());
-    };
     let record = RECORDS + RECORD * number as usize;
-    if variable == 0 {
-        if long(store, record) as usize == STACK_SIZE {
-            return Err(End::Stop(Place::Fault(Fault::StackFull)));
-        }
-    } else if variable < FIRST_GLOBAL && variable as u16 > cell(store, record - RECORD + LOCAL_COUNT) {
-        return Err(End::Stop(Place::Fault(Fault::Write)));
+    match result_variable {
+        None => Ok(()),
+        Some(variable) => match variable {
+            0 => {
+                if long(store, record) as usize == STACK_SIZE {
+                    return Err(End::Stop(Place::Fault(Fault::StackFull)));
+                }
+                Ok(())
+            }
+            1..16 => {
+                if variable as u16 > cell(store, record - RECORD + LOCAL_COUNT) {
+                    return Err(End::Stop(Place::Fault(Fault::Write)));
+                }
+                Ok(())
+            }
+            _ => Ok(()),
+        },
     }
-    Ok(())
 }
 
 /// Ends the frame of a number and all that were called from it. It has a caller.

@@ -30,12 +30,7 @@ impl Model for Loaded {
 impl Loaded {
     /// What loading fixes: dynamic memory, window and dice, whether the file has the sum that its
     /// header states, and the Unicode characters of the ZSCII codes from 155 on.
-    pub fn new(
-        dynamic: Vec<u8>,
-        dice: Beside,
-        is_sum_right: bool,
-        characters: Vec<u16>,
-    ) -> Loaded
+    pub fn new(dynamic: Vec<u8>, dice: Beside, is_sum_right: bool, characters: Vec<u16>) -> Loaded
         ensures { result ≡ record {
           dynamic = dynamic.items;
           dice = dice;

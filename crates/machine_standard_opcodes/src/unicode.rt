@@ -1,13 +1,15 @@
 //! Unicode characters (Z-Machine Standards Document 1.1, sections 3.8.5 and 15, `print_unicode` and
 //! `check_unicode`).
 
-ghost use Rattle.std.specs.Prelude.{◌≡◌, ◌≤◌, length, take, drop};
+ghost use Rattle.std.specs.Prelude.{◌≡◌, ◌==◌, ◌≤◌, ◌++◌, length, take, drop, OnOk, OnErr};
+ghost use Rattle.std.specs.List.{list_any};
 ghost use Rattle.zcore_standard.specs.Unicode as definitions;
 ghost use Rattle.machine_frames.specs.States.{IsSound};
 ghost use Rattle.machine_opcodes.specs.Printed.{HasBegun, Grew, ToldFrom};
 
 use journal::Recorded;
 use machine_frames::{End, Store};
+use std::alloc::AllocError;
 use zcore::{Limit, Next, Place};
 
 /// How many bytes a turn may print.
@@ -48,7 +50,14 @@ fn is_printed(code: u16) -> bool
 fn has_zscii(characters: &[u16], code: u16) -> bool
     ensures { result ≡ definitions.has_zscii characters.now code }
 {
-    is_ascii(code) || characters.iter().any(|character| *character == code)
+    is_ascii(code) || is_among(characters, code)
+}
+
+/// Whether a character is one of these.
+fn is_among(characters: &[u16], code: u16) -> bool
+    ensures { result ≡ list_any (λ character. character == code) characters.now }
+{
+    characters.iter().any(|character| *character == code)
 }
 
 /// What `check_unicode` answers for a character: bit 0, whether it can be printed, and bit 1,
@@ -141,9 +150,19 @@ fn print_whole(
     if room < bytes.len() {
         return Err(End::Stop(Place::Limit(Limit::Text)));
     }
-    if text.extend_from_slice(bytes).is_err() {
-        store.abandon();
-        return Err(End::Memory);
+    match add(text, bytes) {
+        Ok(()) => Ok(()),
+        Err(_) => {
+            store.abandon();
+            Err(End::Memory)
+        }
     }
-    Ok(())
+}
+
+/// Adds bytes to a text, where memory is not refused.
+fn add(text: &mut Vec<u8>, bytes: &[u8]) -> Result<(), AllocError>
+    ensures added { OnOk result (text.new.items ≡ text.old.items ++ bytes.now) }
+    ensures same { OnErr result (text.new.items ≡ text.old.items) }
+{
+    text.extend_from_slice(bytes)
 }

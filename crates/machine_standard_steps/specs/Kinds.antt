@@ -1,5 +1,5 @@
 -- Further operations by what they do.
-use Rattle.std.specs.Prelude.{◌≡◌, ℕ, Bool, true, false, List, Option}
+use Rattle.std.specs.Prelude.{◌≡◌, ◌&&◌, ℕ, Bool, true, false, not, List, Option}
 use Rattle.zcore.specs.declared.instruction.Branch.{Branch}
 use Rattle.zcore.specs.declared.next.Next.{Next}
 use Rattle.zcore.specs.Effects.{give_result}
@@ -10,7 +10,8 @@ use Rattle.zcore_standard.specs.declared.operations.Further.TheVariants.{SplitWi
 use Rattle.zcore_standard.specs.declared.operations.Further.TheVariants.{SetTextStyle, BufferMode, InputStream}
 use Rattle.zcore_standard.specs.declared.operations.Further.TheVariants.{SoundEffect, Save, Restore, LogShift}
 use Rattle.zcore_standard.specs.declared.operations.Further.TheVariants.{ArtShift, SetFont, SaveUndo, RestoreUndo}
-use Rattle.zcore_standard.specs.declared.operations.Further.TheVariants.{CheckUnicode, SetTrueColour}
+use Rattle.zcore_standard.specs.declared.operations.Further.TheVariants.{PrintTable, PrintUnicode, CheckUnicode}
+use Rattle.zcore_standard.specs.declared.operations.Further.TheVariants.{SetTrueColour}
 use Rattle.zcore_standard.specs.Place.{Loaded}
 use Rattle.zcore_standard.specs.Further.{perform_keeping}
 
@@ -56,3 +57,14 @@ branches _ = false
 abbrev pub BranchesBy : Loaded → Further → List ℕ → Bool → Type 0
 BranchesBy loaded operation values holds = (here : Next) → (after : ℕ) → (into : Option ℕ) → (branch : Option Branch)
     → perform_keeping loaded operation here after into branch values ≡ branch_on here after branch holds
+
+-- whether an operation prints
+abbrev pub prints : Further → Bool
+prints PrintTable = true
+prints PrintUnicode = true
+prints _ = false
+
+-- whether an operation prints nothing, and does more than to give a word or to branch
+abbrev pub is_quiet : Further → Bool
+is_quiet operation =
+    not (does_nothing operation) && not (gives_word operation) && not (branches operation) && not (prints operation)

@@ -5,6 +5,7 @@
 mod decode;
 mod effects;
 mod kinds;
+mod known;
 mod opcodes;
 mod perform;
 mod step;

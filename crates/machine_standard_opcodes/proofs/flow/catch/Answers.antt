@@ -1,3 +1,4 @@
+use Rattle.std.proofs.Common.{arith}
 use Rattle.machine_standard_opcodes.proofs.Returning.{catch_went}
 use Rattle.machine_standard_opcodes.proofs.flow.catch.Goals as goal
 
