@@ -5,7 +5,6 @@
 mod decode;
 mod effects;
 mod kinds;
-mod known;
 mod opcodes;
 mod perform;
 mod step;

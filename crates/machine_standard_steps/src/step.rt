@@ -13,7 +13,7 @@ ghost use Rattle.machine_opcodes.specs.Printed.{HasBegun, Grew, ToldFrom};
 ghost use Rattle.machine_opcodes.specs.Seen.{seen};
 
 use crate::decode::decode_further;
-use crate::known::step_known;
+use machine_standard_objects::step_known;
 use crate::opcodes::further_at;
 use crate::perform::perform_further;
 use journal::Recorded;
