@@ -188,7 +188,7 @@ abbrev pub most_characters : ℕ
 most_characters = 97
 
 -- the characters of the ZSCII codes from 155 on (3.8.5)
-unfoldable pub characters_of : List ℕ → List ℕ
+abbrev pub characters_of : List ℕ → List ℕ
 characters_of story =
     if unicode_table_of story == 0 then default_characters
     else words_from story (unicode_table_of story + 1)
