@@ -62,7 +62,7 @@ random_falls here after result range past =
     (give_result_falls here.next after result (rolled range here.beside).0 past)
 
 -- bytes that are written leave the memory as long
-length-with_bytes : (memory : List ℕ) (at : ℕ) (bytes : List ℕ) → length (with_bytes memory at bytes) ≡ length memory
+pub length-with_bytes : (memory : List ℕ) (at : ℕ) (bytes : List ℕ) → length (with_bytes memory at bytes) ≡ length memory
 length-with_bytes memory at [] = refl
 length-with_bytes memory at (b ∷ bs) = length-with_bytes (set memory at b) (at + 1) bs ∙ length-set memory at b
 
