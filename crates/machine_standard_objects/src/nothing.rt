@@ -21,7 +21,11 @@ const NOTHING: u16 = 0;
 fn value_of(values: &[u16], place: usize) -> u16
     ensures { result ≡ slice_index values.now place }
 {
-    if place < values.len() { values[place] } else { 0 }
+    if place < values.len() {
+        values[place]
+    } else {
+        0
+    }
 }
 
 /// Whether the first operand of an operation is an object.

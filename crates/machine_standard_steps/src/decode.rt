@@ -98,11 +98,14 @@ pub(crate) fn decode_further(
 ) -> Result<(usize, Ending), Fault>
     requires short { length story.now ≤ longest_story }
     requires within { at < length story.now }
-    ensures instruction { seen (λ x. (record {
-      operands = take x.0 operands.new;
-      result = x.1.result;
-      branch = x.1.branch;
-    }, x.1.after)) result ≡ definitions.decode_further story.now at operation }
+    ensures instruction { seen (λ x. (
+      record {
+        operands = take x.0 operands.new;
+        result = x.1.result;
+        branch = x.1.branch;
+      },
+      x.1.after,
+    )) result ≡ definitions.decode_further story.now at operation }
     ensures few { IfOk result (λ x. x.0 ≤ OPERANDS) }
     ensures enough { IfOk result (λ x. (table.row_of operation).least_operands ≤ x.0) }
     ensures within { IfOk result (λ x. x.1.after ≤ longest_story) }

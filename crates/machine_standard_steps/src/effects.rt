@@ -30,7 +30,11 @@ const WORDS_OF_TABLE: u16 = 0x82;
 pub(crate) fn value_or(values: &[u16], place: usize, other: u16) -> u16
     ensures { result ≡ slice_index_or values.now place other }
 {
-    if place < values.len() { values[place] } else { other }
+    if place < values.len() {
+        values[place]
+    } else {
+        other
+    }
 }
 
 /// Waits for a line: `aread`, of which the parse buffer may be left out; time and routine are not
@@ -48,7 +52,15 @@ fn wait(
         (first values.now) (slice_index_or values.now 1 0)) }
 {
     let parse_buffer = value_or(values, 1, 0);
-    read(header, store, here, ending.after, ending.result, values[0], parse_buffer)
+    read(
+        header,
+        store,
+        here,
+        ending.after,
+        ending.result,
+        values[0],
+        parse_buffer,
+    )
 }
 
 /// Looks for a word in a table: `scan_table`, of which the form may be left out.
@@ -97,7 +109,9 @@ fn cut_words(
 {
     let dictionary = value_or(values, 2, 0);
     let flag = value_or(values, 3, 0);
-    tokenise(header, store, here, after, values[0], values[1], dictionary, flag)
+    tokenise(
+        header, store, here, after, values[0], values[1], dictionary, flag,
+    )
 }
 
 /// Does an operation that prints nothing, and does more than to give a word or to branch.
@@ -126,7 +140,9 @@ pub(crate) fn perform_quietly(
         Further::ScanTable => scan(header, store, here, values, ending),
         Further::Tokenise => cut_words(header, store, here, after, values),
         Further::EncodeText => {
-            encode_text(header, store, here, after, values[0], values[1], values[2], values[3])
+            encode_text(
+                header, store, here, after, values[0], values[1], values[2], values[3],
+            )
         }
         Further::CopyTable => {
             copy_table(header, store, here, after, values[0], values[1], values[2])

@@ -31,7 +31,11 @@ pub(crate) fn further_at(story: &[u8], at: usize) -> Option<Further>
     if !is_code(story, at) {
         return None;
     }
-    let second = if at + 1 < story.len() { story[at + 1] } else { 0 };
+    let second = if at + 1 < story.len() {
+        story[at + 1]
+    } else {
+        0
+    };
     of_bytes(story[at], second)
 }
 

@@ -59,7 +59,15 @@ pub(crate) fn perform_further(
             Err(end) => Err(end),
         },
         Further::Random => {
-            random(header, store, beside, here, ending.after, ending.result, values[0])
+            random(
+                header,
+                store,
+                beside,
+                here,
+                ending.after,
+                ending.result,
+                values[0],
+            )
         }
         _ => perform_keeping(
             header, store, text, start, loaded, here, operation, values, ending,
@@ -128,5 +136,7 @@ fn print_rows(
 {
     let height = value_or(values, 2, ONE_ROW);
     let skip = value_or(values, 3, 0);
-    print_table(store, text, start, here, after, values[0], values[1], height, skip)
+    print_table(
+        store, text, start, here, after, values[0], values[1], height, skip,
+    )
 }

@@ -13,11 +13,11 @@ ghost use Rattle.machine_opcodes.specs.Printed.{HasBegun, Grew, ToldFrom};
 ghost use Rattle.machine_opcodes.specs.Seen.{seen};
 
 use crate::decode::decode_further;
-use machine_standard_objects::step_known;
 use crate::opcodes::further_at;
 use crate::perform::perform_further;
 use journal::Recorded;
 use machine_frames::{End, Store};
+use machine_standard_objects::step_known;
 use machine_standard_opcodes::Loaded;
 use machine_steps::{OPERANDS, operand_values};
 use zcore::{Beside, Header, Next, Operand, Place};

@@ -10,18 +10,24 @@ returns-then-first-eq-EXTENDED-clause-types c = rw (eq-eqb c.args.first 190 c.if
 
 pub returns-then-first-lt-SHORT_FORM-clause-types : goal.returns-then-first-lt-SHORT_FORM-clause-types
 unfolding types_at
-returns-then-first-lt-SHORT_FORM-clause-types c = rw (ne_eqb c.args.first 190 c.if-first-eq-EXTENDED.false,
-    lt-ltb c.args.first 128 c.if-first-lt-SHORT_FORM.true) refl
+returns-then-first-lt-SHORT_FORM-clause-types c = rw (
+  ne_eqb c.args.first 190 c.if-first-eq-EXTENDED.false,
+  lt-ltb c.args.first 128 c.if-first-lt-SHORT_FORM.true,
+) refl
 
 pub returns-then-first-lt-VARIABLE_FORM-clause-types : goal.returns-then-first-lt-VARIABLE_FORM-clause-types
 unfolding types_at
-returns-then-first-lt-VARIABLE_FORM-clause-types c = rw (ne_eqb c.args.first 190 c.if-first-eq-EXTENDED.false,
-    le-ltb c.args.first 128 (omega (arith, c.if-first-lt-SHORT_FORM.false)),
-    lt-ltb c.args.first 192 c.if-first-lt-VARIABLE_FORM.true) refl
+returns-then-first-lt-VARIABLE_FORM-clause-types c = rw (
+  ne_eqb c.args.first 190 c.if-first-eq-EXTENDED.false,
+  le-ltb c.args.first 128 (omega (arith, c.if-first-lt-SHORT_FORM.false)),
+  lt-ltb c.args.first 192 c.if-first-lt-VARIABLE_FORM.true,
+) refl
 
 pub returns-else-first-lt-VARIABLE_FORM-clause-types : goal.returns-else-first-lt-VARIABLE_FORM-clause-types
 unfolding types_at
-returns-else-first-lt-VARIABLE_FORM-clause-types c = rw (ne_eqb c.args.first 190 c.if-first-eq-EXTENDED.false,
-    le-ltb c.args.first 128 (omega (arith, c.if-first-lt-SHORT_FORM.false)),
-    le-ltb c.args.first 192 (omega (arith, c.if-first-lt-VARIABLE_FORM.false)))
+returns-else-first-lt-VARIABLE_FORM-clause-types c = rw (
+  ne_eqb c.args.first 190 c.if-first-eq-EXTENDED.false,
+  le-ltb c.args.first 128 (omega (arith, c.if-first-lt-SHORT_FORM.false)),
+  le-ltb c.args.first 192 (omega (arith, c.if-first-lt-VARIABLE_FORM.false)),
+)
     c.read_types-else-first-lt-VARIABLE_FORM.ensures.types
