@@ -3,10 +3,13 @@ use Rattle.std.proofs.Common.{◌≡◌, ◌≤◌, ℕ, List, [], length, take,
 use Rattle.std.proofs.lemmas.List.{length-take-le}
 use Rattle.zcore.specs.declared.header.Header.{Header}
 use Rattle.zcore.specs.Header.{static_base_of}
+use Rattle.zcore.specs.Layout.{longest_story}
 use Rattle.zcore.specs.State.{State}
 use Rattle.zcore.specs.Turn.{first_state}
 use Rattle.zcore_standard.specs.declared.loading.LoadedStory.{LoadedStory}
 use Rattle.zcore_standard.specs.Loading.{IsPlayable, ReadsFile, characters_of, loaded_of, memory_for, seeded}
+use Rattle.zcore_standard.specs.Loading.{story_in, story_length}
+use Rattle.zcore_standard.proofs.Headers.{length_stays}
 use Rattle.zcore_standard.specs.Place.{Loaded}
 use Rattle.machine_frames.specs.Contents.{Contents, memory_of}
 use Rattle.machine_frames.specs.States.{state_of, IsSound, IsHeadedBy}
@@ -67,3 +70,13 @@ loaded_file file memory story seed machine s r e b =
       store = begun.store;
       state = begun.state;
     }
+
+-- a file that is played is no longer than a story can be
+pub short_memory : (file : List ℕ) (story : LoadedStory) → ReadsFile file (Ok story)
+    → length (memory_for file) ≤ longest_story
+short_memory file story r = omega (
+  arith,
+  length_stays (story_in file),
+  length-take-le (story_length file) file r.0.story.there,
+  r.0.story.most,
+)

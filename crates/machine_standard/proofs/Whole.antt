@@ -56,17 +56,22 @@ pub reaches_standard : (loaded : Loaded) (beside : Beside) (count : ℕ) (first 
     → Reaches count first s here t
     → ReachesBy (standard_step loaded) count (begins beside first) s (begins beside here) t
 reaches_standard loaded beside zero first here s t h = (ap (begins beside) h.0, h.1)
-reaches_standard loaded beside (suc count) first here s t h =
-    (begins beside h.0, h.1, reaches_standard loaded beside count first h.0 s h.1 h.2,
-    standard_goes_on loaded beside h.0 here h.1 t h.3)
+reaches_standard loaded beside (suc count) first here s t h = (
+  begins beside h.0,
+  h.1,
+  reaches_standard loaded beside count first h.0 s h.1 h.2,
+  standard_goes_on loaded beside h.0 here h.1 t h.3,
+)
 
 -- some steps, and some more
 pub reaches_by_on : {H : Type 0} (step : H → State → Out H) (m n : ℕ) (first here next : H) (s t u : State)
     → ReachesBy step n first s here t → ReachesBy step m here t next u
     → (k : ℕ) × ReachesBy step k first s next u
-reaches_by_on step zero n first here next s t u a b =
-    (n, subst (λ x. ReachesBy step n first s x u) (sym b.0)
-    (subst (λ x. ReachesBy step n first s here x) (sym b.1) a))
+reaches_by_on step zero n first here next s t u a b = (
+  n,
+  subst (λ x. ReachesBy step n first s x u) (sym b.0)
+      (subst (λ x. ReachesBy step n first s here x) (sym b.1) a),
+)
 reaches_by_on step (suc m) n first here next s t u a b =
     let k = reaches_by_on step m n first here b.0 s t b.1 a b.2 in
     (suc k.0, (b.0, b.1, k.1, b.3))

@@ -1,4 +1,6 @@
+use Rattle.std.proofs.Common.{refl, inl, inr}
 use Rattle.zcore_standard.specs.Further.{perform_keeping}
+use Rattle.machine_frames.proofs.Steps.{went_halt}
 use Rattle.machine_standard_steps.proofs.effects.perform_quietly.Goals as goal
 
 pub returns-in-Catch : goal.returns-in-Catch
@@ -36,3 +38,12 @@ returns-in-EncodeText c = λ loaded. rw c.in-EncodeText.is c.encode_text.ensures
 pub returns-in-CopyTable : goal.returns-in-CopyTable
 unfolding perform_keeping
 returns-in-CopyTable c = λ loaded. rw c.in-CopyTable.is c.copy_table.ensures
+
+pub returns-in-SetWindow : goal.returns-in-SetWindow
+unfolding perform_keeping
+returns-in-SetWindow c = λ loaded. elim c.in-SetWindow.is [
+  | inl e ↦ rw e (went_halt _ _ c.requires.store.sound (λ t. refl))
+  | inr (inl e) ↦ rw e (went_halt _ _ c.requires.store.sound (λ t. refl))
+  | inr (inr (inl e)) ↦ rw e (went_halt _ _ c.requires.store.sound (λ t. refl))
+  | inr (inr (inr e)) ↦ rw e (went_halt _ _ c.requires.store.sound (λ t. refl))
+]

@@ -28,4 +28,8 @@ returns-in-CheckUnicode-clause-some c = λ here after into branch.
 
 pub returns-in-Save-clause-some : goal.returns-in-Save-clause-some
 unfolding perform_keeping
-returns-in-Save-clause-some c = λ here after into branch. ?
+returns-in-Save-clause-some c = λ here after into branch. elim c.in-Save.is [
+  | inl e ↦ rw e refl
+  | inr (inl e) ↦ rw e refl
+  | inr (inr e) ↦ rw e refl
+]
