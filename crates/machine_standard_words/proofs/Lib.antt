@@ -1,2 +1,3 @@
 pub mod Forms
 pub mod Searching
+pub mod Filling
