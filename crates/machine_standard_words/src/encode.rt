@@ -1,15 +1,16 @@
 //! The form of a word, written to memory (Z-Machine Standards Document 1.1, section 15,
 //! `encode_text`).
 
+ghost use Rattle.std.specs.Prelude.{◌≡◌, ◌+◌, true, slice_range};
 ghost use Rattle.zcore_standard.specs.Words as definitions;
 ghost use Rattle.machine_frames.specs.States.{IsSound, IsStoreOf};
 ghost use Rattle.machine_frames.specs.Went.{Went};
 
-use crate::fill::fill;
+use crate::fill::{are_writable, fill};
 use crate::form::form_of;
 use journal::Recorded;
 use machine_frames::{End, Store};
-use zcore::layout::{HEADER_LENGTH, KEY_LENGTH, READABLE};
+use zcore::layout::{KEY_LENGTH, READABLE};
 use zcore::{Fault, Header, Next, Place};
 
 /// Writes the form that a word has in a dictionary: `encode_text`. The word begins at the sum of
@@ -48,15 +49,29 @@ fn form_at(store: &Recorded<Store>, at: u16, count: u16) -> Result<[u8; 6], End>
     ensures { Went result store.now store.now (definitions.form_at at count) }
 {
     let memory = store.store().memory();
-    let start = at as usize;
-    let end = start + count as usize;
-    if count == 0 {
-        return Ok(form_of(&[]));
-    }
-    if end > memory.len().min(READABLE) {
+    if !are_readable(memory, at, count) {
         return Err(End::Stop(Place::Fault(Fault::Read)));
     }
-    Ok(form_of(&memory[start..end]))
+    Ok(form_of(bytes_at(memory, at, count)))
+}
+
+/// Whether so many bytes from an address on can be read.
+fn are_readable(memory: &[u8], at: u16, count: u16) -> bool
+    ensures { result ≡ definitions.are_readable memory.now at count }
+{
+    count == 0 || at as usize + count as usize <= memory.len().min(READABLE)
+}
+
+/// So many bytes from an address on.
+fn bytes_at(memory: &[u8], at: u16, count: u16) -> &[u8]
+    requires { definitions.are_readable memory.now at count ≡ true }
+    ensures { result.now ≡ slice_range memory.now at (at + count) }
+{
+    let start = at as usize;
+    if count == 0 {
+        return &[];
+    }
+    &memory[start..start + count as usize]
 }
 
 /// Writes the form of a word to dynamic memory.
@@ -70,8 +85,7 @@ fn write_form(
     ensures { Went result store.old store.new (definitions.write_bytes coded form.now) }
 {
     let at = coded as usize;
-    let end = header.static_base as usize;
-    if at < HEADER_LENGTH || at + KEY_LENGTH > end {
+    if !are_writable(header.static_base, at, KEY_LENGTH) {
         return Err(End::Stop(Place::Fault(Fault::Write)));
     }
     fill(store, at, form)?;

@@ -1,6 +1,6 @@
 //! The words of a text in memory (Z-Machine Standards Document 1.1, section 15, `tokenise`).
 
-ghost use Rattle.std.specs.Prelude.{◌≡◌, true, OnOk, OnErr};
+ghost use Rattle.std.specs.Prelude.{◌≡◌, ◌≤◌, true, length, OnOk, OnErr};
 ghost use Rattle.zcore.specs.Header.{dictionary_of, static_base_of};
 ghost use Rattle.zcore_standard.specs.Words as definitions;
 ghost use Rattle.machine_frames.specs.Contents.{memory_of};
@@ -8,12 +8,12 @@ ghost use Rattle.machine_frames.specs.States.{IsStoreOf};
 ghost use Rattle.machine_frames.specs.Went.{GivenUp, Went};
 ghost use Rattle.machine_lines.specs.Lines.{Filled};
 
-use crate::fill::fill_counted;
+use crate::fill::{are_writable, fill_counted};
 use crate::search::is_dictionary;
 use crate::slots::{SLOTS_LENGTH, Search, slots};
 use journal::{NoMemory, Recorded};
 use machine_frames::{End, Store};
-use zcore::layout::{HEADER_LENGTH, READABLE};
+use zcore::layout::READABLE;
 use zcore::{Fault, Header, Next, Place};
 
 /// Cuts the letters of a text buffer into words, looks them up, and fills the slots of a parse
@@ -82,6 +82,16 @@ fn has_letters(memory: &[u8], text: u16) -> bool
     letters <= end && letters + memory[letters - 1] as usize <= end
 }
 
+/// The letters of a text buffer.
+fn letters_in(memory: &[u8], text: u16) -> &[u8]
+    requires { definitions.has_letters memory.now text ≡ true }
+    ensures letters { result.now ≡ definitions.letters_in memory.now text }
+    ensures few { length result.now ≤ 255 }
+{
+    let letters = text as usize + 2;
+    &memory[letters..letters + memory[letters - 1] as usize]
+}
+
 /// Whether the slots of a parse buffer are in dynamic memory after the header, in a story with this
 /// static base.
 fn has_slots(memory: &[u8], static_base: u16, parse: u16) -> bool
@@ -90,8 +100,7 @@ fn has_slots(memory: &[u8], static_base: u16, parse: u16) -> bool
     ensures { result ≡ definitions.has_slots memory.now parse }
 {
     let at = parse as usize;
-    let end = static_base as usize;
-    HEADER_LENGTH <= at && at < end && at + 2 + 4 * memory[at] as usize <= end
+    at < static_base as usize && are_writable(static_base, at, 2 + 4 * memory[at] as usize)
 }
 
 /// Fills the slots of a parse buffer. The words are found before a byte is written.
@@ -112,17 +121,15 @@ fn fill_slots(
     ensures given_up { OnErr result (GivenUp store.old store.new) }
 {
     let memory = store.store().memory();
-    let letters = text as usize + 2;
-    let count = memory[letters - 1] as usize;
-    let slot = parse as usize + 2;
+    let at = parse as usize;
     let mut bytes = [0; SLOTS_LENGTH];
     let words = slots(
         memory,
         search,
-        &memory[letters..letters + count],
-        memory[parse as usize],
-        slot,
+        letters_in(memory, text),
+        memory[at],
+        at + 2,
         &mut bytes,
     );
-    fill_counted(store, slot - 1, words, &bytes[..4 * words as usize])
+    fill_counted(store, at + 1, words, &bytes[..4 * words as usize])
 }

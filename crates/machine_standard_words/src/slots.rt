@@ -1,7 +1,7 @@
 //! The words of a text as the slots of a parse buffer (Z-Machine Standards Document 1.1, sections
 //! 13.6 and 15, `tokenise`).
 
-ghost use Rattle.std.specs.Prelude.{◌≡◌, ◌≤◌, ◌+◌, ◌*◌, ◌++◌, true, length, take};
+ghost use Rattle.std.specs.Prelude.{◌≡◌, ◌≤◌, ◌+◌, ◌*◌, ◌++◌, ◌∷◌, [], true, length, take};
 ghost use Rattle.zcore.specs.Header.{IsDictionary, static_end};
 ghost use Rattle.zcore.specs.Parsing.{separators_of, first_words};
 ghost use Rattle.zcore_standard.specs.Words.{is_dictionary, slot_bytes, slots_bytes};
