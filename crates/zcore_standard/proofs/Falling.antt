@@ -135,9 +135,10 @@ stored : (fuel place : ℕ) (result : Option ℕ) (word : ℕ) (s t : State) (ne
 stored fuel place result word s t next h =
     let p = both (store_result result word s) (λ _. goes_on place fuel) next t h in
     let v = done_value (record { program_counter = place; fuel = fuel }) next p.between t p.second in
-    let w = done_state (record { program_counter = place; fuel = fuel }) next p.between t p.second in
-    (ap (λ (x : Next). x.fuel) v,
-    alike_then s p.between t (keeps_store_result result word s p.between p.value p.first) (alike_same p.between t w))
+    let w = done_state (record { program_counter = place; fuel = fuel }) next p.between t p.second in (
+      ap (λ (x : Next). x.fuel) v,
+      alike_then s p.between t (keeps_store_result result word s p.between p.value p.first) (alike_same p.between t w),
+    )
 
 -- the frames that are left, and then the result
 left_falls : (here : Next) (number place : ℕ) (result : Option ℕ) (word : ℕ) (s t : State) (next : Next)

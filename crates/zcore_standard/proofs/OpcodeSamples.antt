@@ -103,11 +103,14 @@ shift = refl
 
 -- scan_table 300 16 4 -> 1 ?~ with a branch of one byte
 scan : decode_further (at_64 (0xF7 ∷ 0x17 ∷ 1 ∷ 44 ∷ 16 ∷ 4 ∷ 1 ∷ 0x48 ∷ [])) 64 operations.ScanTable
-    ≡ Ok (record {
-      operands = Large 300 ∷ Small 16 ∷ Small 4 ∷ [];
-      result = Some 1;
-      branch = Some (record { when = false; offset = 8 });
-    }, 72)
+    ≡ Ok (
+      record {
+        operands = Large 300 ∷ Small 16 ∷ Small 4 ∷ [];
+        result = Some 1;
+        branch = Some (record { when = false; offset = 8 });
+      },
+      72,
+    )
 unfolding decode_further types_at result_at branch_after byte large operand operands
 scan = refl
 

@@ -92,8 +92,11 @@ long_refused first at x h =
 short_refused : (first at : ℕ) (x : Further) → first / 16 % 4 ≡ 3 → no_operand (first % 16) ≡ Some x
     → short_form first at ≡ Err faults.Opcode
 short_refused first at x form h =
-    rw (form, unknown_number profile.no_operand (Restart ∷ Catch ∷ ShowStatus ∷ Verify ∷ Piracy ∷ []) (first % 16) x refl
-    h) refl
+    rw (
+      form,
+      unknown_number profile.no_operand (Restart ∷ Catch ∷ ShowStatus ∷ Verify ∷ Piracy ∷ []) (first % 16) x refl
+          h,
+    ) refl
 
 variable_two_refused : (memory : List ℕ) (first at : ℕ) (x : Further) → nat_lt first 224 ≡ true
     → two_operand (first % 32) ≡ Some x → variable_form memory first at ≡ Err faults.Opcode
@@ -130,13 +133,16 @@ first_refused memory first second at x h =
     (λ short h. one_way (nat_lt first 224) _ _ x
     (λ b e. inl (variable_two_refused memory first at x b e))
     (λ b e. one_way (first % 32 == 4) (Some Read) (numbered (first % 32) others_than_read) x
-    (λ number f. inr (is_read x f, record {
-      no_extended = extended;
-      no_long = long;
-      no_short = short;
-      no_two = b;
-      number = eqb-true (first % 32) 4 number;
-    }))
+    (λ number f. inr (
+      is_read x f,
+      record {
+        no_extended = extended;
+        no_long = long;
+        no_short = short;
+        no_two = b;
+        number = eqb-true (first % 32) 4 number;
+      },
+    ))
     (λ _ f. inl (several_refused memory first at x b f)) e) h) h) h) h) h
 
 -- The instruction
