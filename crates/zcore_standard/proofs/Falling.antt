@@ -1,20 +1,16 @@
 -- Each further operation makes the profile's weight fall where its step goes on.
-use Rattle.std.proofs.Common.{◌≡◌, ℕ, ◌+◌, ◌-◌, ◌<◌, ◌≤◌, List, [], ◌∷◌, length, set, drop, refl, ap, sym, ◌∙◌, arith}
-use Rattle.std.proofs.Common.{slice_index, slice_index_or, Bool, true, false, Option, Some, None}
+use Rattle.std.proofs.Common.{◌≡◌, ℕ, ◌+◌, ◌-◌, ◌<◌, List, [], ◌∷◌, length, refl, ap, ◌∙◌, arith}
+use Rattle.std.proofs.Common.{slice_index, slice_index_or, Bool, true, false, Option}
 use Rattle.std.specs.Prelude.{◌&&◌, nat_le, nat_lt}
 use Rattle.std.proofs.lemmas.Bool.{and_parts, ltb-true}
-use Rattle.std.proofs.lemmas.List.{length-set, length-drop}
+use Rattle.std.proofs.lemmas.List.{length-drop}
 use Rattle.zcore.specs.declared.place.Fault.{Fault}
 use Rattle.zcore.specs.declared.place.Fault.TheVariants as faults
-use Rattle.zcore.specs.declared.place.Limit.TheVariants as limits
-use Rattle.zcore.specs.declared.place.Place.TheVariants as places
 use Rattle.zcore.specs.declared.instruction.Branch.{Branch}
 use Rattle.zcore.specs.declared.next.Next.{Next}
-use Rattle.zcore.specs.Layout.{header_size}
-use Rattle.zcore.specs.State.{Frame, State, Out, done, halt, bound}
+use Rattle.zcore.specs.State.{Frame, State, done, bound}
 use Rattle.zcore.specs.Parts.{fault, test, can_store, is_code, is_writable, returning, goes_on, store_result}
-use Rattle.zcore.specs.Turn.{with_bytes}
-use Rattle.zcore.proofs.Keeping.{keeps_store_result, keeps_write_word, spend_less, keeps_spend}
+use Rattle.zcore.proofs.Keeping.{keeps_store_result, keeps_write_word}
 use Rattle.zcore.proofs.KeepingReads.{Alike, Keeps, alike_same, alike_then, done_state, done_value, never, both}
 use Rattle.zcore.proofs.KeepingReads.{keeps_test, keeps_then, keeps_done, can_store_keeps, tested}
 use Rattle.zcore.proofs.FallsOfParts.{Falls, FallsFrom, returned, falls_alike, falls_then, falls_either, goes_on_falls}
@@ -23,10 +19,10 @@ use Rattle.zcore.proofs.FallsOfEffects.{give_result_falls}
 use Rattle.zcore.proofs.FallsOfOperations.{read_falls}
 use Rattle.zcore_standard.specs.declared.operations.Further.{Further}
 use Rattle.zcore_standard.specs.declared.operations.Further.TheVariants as operations
-use Rattle.zcore_standard.specs.Place.{Here, Loaded}
+use Rattle.zcore_standard.specs.Place.{Loaded}
 use Rattle.zcore_standard.specs.Shifts.{log_shift, art_shift}
 use Rattle.zcore_standard.specs.Unicode.{transcript_of, print_whole, print_unicode, check_unicode}
-use Rattle.zcore_standard.specs.Flow.{restart, catch, frames_at, leave_frame, throw, verify}
+use Rattle.zcore_standard.specs.Flow.{catch, frames_at, leave_frame, throw, verify}
 use Rattle.zcore_standard.specs.Screen.{get_cursor, set_font, is_memory_stream, output_stream}
 use Rattle.zcore_standard.specs.Further.{perform_keeping, words_of_table, one_row}
 use Rattle.zcore_standard.proofs.TableFacts.{scan_table_falls, copy_table_falls, print_table_falls}

@@ -1,11 +1,10 @@
 -- Runs over lines that the profile plays without a fault.
-use Rattle.std.proofs.Common.{◌≡◌, ℕ, List, [], ◌∷◌, map, refl, ap, sym, ◌∙◌, Bool, true, false, cond, Option, Some, None}
-use Rattle.std.specs.Prelude.{not, ◌&&◌}
+use Rattle.std.proofs.Common.{◌≡◌, ℕ, List, [], ◌∷◌, map, refl, ap, ◌∙◌, Bool, true, false, cond, Option, Some, None}
+use Rattle.std.specs.Prelude.{not}
 use Rattle.std.proofs.lemmas.Bool.{and_parts}
 use Rattle.zcore.specs.declared.beside.Beside.{Beside}
 use Rattle.zcore.specs.declared.next.Next.{Next}
-use Rattle.zcore.specs.declared.place.Place.{Place}
-use Rattle.zcore.specs.State.{Pending, State, Out, done, halt}
+use Rattle.zcore.specs.State.{Pending, Out, done, halt}
 use Rattle.zcore.specs.Turn.{StateOfPlay, Whole, after_step, turn_from, turn_pending, turn_on, given, resumed, ended}
 use Rattle.zcore.specs.Turn.{entries, follow, is_waiting, opening, plays_from, first_next, first_state, plays, plays_of}
 use Rattle.zcore.proofs.Turning.{turn_ends}

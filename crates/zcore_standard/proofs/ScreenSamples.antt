@@ -4,7 +4,7 @@ use Rattle.zcore.specs.declared.next.Next.{Next}
 use Rattle.zcore.specs.declared.place.Fault.TheVariants as faults
 use Rattle.zcore.specs.declared.place.Place.TheVariants as places
 use Rattle.zcore.specs.Effects.{give_result}
-use Rattle.zcore.specs.Parts.{test_result, store_result, write_variable, push, write_word, goes_on}
+use Rattle.zcore.specs.Parts.{test_result, store_result, write_variable, push, write_word}
 use Rattle.zcore.specs.State.{State, done, halt}
 use Rattle.zcore.specs.Turn.{first_environment, first_state}
 use Rattle.zcore_standard.specs.declared.operations.Further.TheVariants.{SetWindow, ReadChar, SplitWindow}

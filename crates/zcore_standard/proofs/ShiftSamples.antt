@@ -1,11 +1,11 @@
 -- log_shift and art_shift, computed.
-use Rattle.std.proofs.Common.{◌≡◌, ℕ, List, [], ◌∷◌, Some, refl}
+use Rattle.std.proofs.Common.{◌≡◌, [], ◌∷◌, Some, refl}
 use Rattle.zcore.specs.declared.next.Next.{Next}
 use Rattle.zcore.specs.declared.place.Fault.TheVariants as faults
 use Rattle.zcore.specs.declared.place.Place.TheVariants as places
 use Rattle.zcore.specs.Effects.{give_result}
 use Rattle.zcore.specs.Parts.{test_result, store_result, write_variable, push}
-use Rattle.zcore.specs.State.{State, done, halt}
+use Rattle.zcore.specs.State.{done, halt}
 use Rattle.zcore.specs.Turn.{first_environment, first_state}
 use Rattle.zcore_standard.specs.Shifts.{shifted, shifted_with_sign, log_shift, art_shift}
 

@@ -1,10 +1,9 @@
 -- Steps of the Standard's machine from bytes of memory, computed.
-use Rattle.std.proofs.Common.{◌≡◌, ℕ, List, [], ◌∷◌, ◌++◌, replicate, Some, None, refl}
-use Rattle.zcore.specs.declared.next.Next.{Next}
+use Rattle.std.proofs.Common.{◌≡◌, ℕ, List, [], ◌∷◌, ◌++◌, replicate, Some, refl}
 use Rattle.zcore.specs.declared.place.Fault.TheVariants as faults
 use Rattle.zcore.specs.declared.place.Place.TheVariants as places
 use Rattle.zcore.specs.Effects.{give_result}
-use Rattle.zcore.specs.Execution.{read, perform}
+use Rattle.zcore.specs.Execution.{read}
 use Rattle.zcore.specs.Instruction.{byte, operand, operands, opcode, result_variable, branch, decode}
 use Rattle.zcore.specs.Objects.{give_object}
 use Rattle.zcore.specs.Parts.{operand_value, operand_values, test_result, store_result, write_variable, push}

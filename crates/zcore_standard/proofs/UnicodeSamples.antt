@@ -1,8 +1,6 @@
 -- print_unicode and check_unicode, computed.
-use Rattle.std.proofs.Common.{◌≡◌, ℕ, List, [], ◌∷◌, length, Some, refl}
-use Rattle.zcore.specs.declared.next.Next.{Next}
-use Rattle.zcore.specs.Parts.{goes_on}
-use Rattle.zcore.specs.State.{State, done}
+use Rattle.std.proofs.Common.{◌≡◌, [], ◌∷◌, length, refl}
+use Rattle.zcore.specs.State.{done}
 use Rattle.zcore.specs.Turn.{first_state}
 use Rattle.zcore_standard.specs.Unicode.{default_characters, transcript_of, print_whole, print_unicode, abilities}
 
