@@ -1,0 +1,65 @@
+-- The Standard's machine: a further operation where its opcode is found, and else a step of the profile.
+use Rattle.std.specs.Prelude.{ℕ, List, Option, Some, None}
+use Rattle.zcore.specs.declared.next.Next.{Next}
+use Rattle.zcore.specs.declared.place.Place.{Place}
+use Rattle.zcore.specs.declared.beside.Beside.{Beside}
+use Rattle.zcore.specs.State.{Pending, State, Out}
+use Rattle.zcore.specs.Turn.{StateOfPlay, Whole, Machine, Play, after_step, turn_by, weight, given, resumed}
+use Rattle.zcore.specs.Turn.{first_next, first_state, ended}
+use Rattle.zcore_standard.specs.declared.operations.Further.{Further}
+use Rattle.zcore_standard.specs.Place.{Here, Loaded, within}
+use Rattle.zcore_standard.specs.Operations.{further_at}
+use Rattle.zcore_standard.specs.Instruction.{decode_further}
+use Rattle.zcore_standard.specs.Further.{execute_further}
+use Rattle.zcore_standard.specs.Nothing.{step_known}
+
+abbrev pub chosen : Loaded → Option Further → Here → State → Out Here
+chosen loaded None here s = within here (step_known here.next s)
+chosen loaded (Some operation) here s =
+    execute_further loaded operation here (decode_further s.memory here.next.program_counter operation) s
+
+unfoldable pub standard_step : Loaded → Here → State → Out Here
+standard_step loaded here s = chosen loaded (further_at s.memory here.next.program_counter) here s
+
+-- a whole state as the profile leaves it, but with a window and dice
+abbrev pub with_beside : Beside → Whole → Whole
+with_beside beside whole = record whole { state = record whole.state { beside = beside } }
+
+-- window and dice last from turn to turn
+abbrev pub standard_ended : Here → Place → State → Whole
+standard_ended here place s = with_beside here.beside (ended here.next place s)
+
+-- the machine of a story that was loaded so
+abbrev pub standard : Loaded → Machine Here
+standard loaded = record { step = standard_step loaded; ended = standard_ended }
+
+-- the whole turn; the profile's weight falls with each step
+unfoldable pub standard_turn : Loaded → Here → State → Option Whole
+standard_turn loaded here s = turn_by (standard loaded) (weight here.next s) here s
+
+-- where a turn begins
+abbrev pub begins : Beside → Next → Here
+begins beside next = record { next = next; beside = beside }
+
+-- The opening of a story, as its memory is after loading.
+unfoldable pub standard_opening : Loaded → List ℕ → ℕ → Option Whole
+standard_opening loaded story fuel =
+    standard_turn loaded (begins loaded.dice (first_next story fuel)) (first_state story)
+
+abbrev pub standard_pending : Loaded → Option Pending → List ℕ → ℕ → StateOfPlay → Option Whole
+standard_pending loaded None line fuel play = None
+standard_pending loaded (Some pending) line fuel play =
+    after_step (given pending line fuel (resumed play)) (λ next s. standard_turn loaded (begins play.beside next) s)
+    (λ place s. Some (standard_ended
+    (begins play.beside (record { program_counter = play.program_counter; fuel = fuel })) place s))
+
+-- the turn of a line from a state of play that waits for one
+unfoldable pub standard_turn_on : Loaded → List ℕ → ℕ → StateOfPlay → Option Whole
+standard_turn_on loaded line fuel play = standard_pending loaded play.pending line fuel play
+
+-- a story as this machine plays it, with so much fuel for each turn
+abbrev pub by_standard : Loaded → List ℕ → ℕ → Play
+by_standard loaded story fuel = record {
+  opening = standard_opening loaded story fuel;
+  turn_on = λ line play. standard_turn_on loaded line fuel play;
+}
