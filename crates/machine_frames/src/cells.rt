@@ -87,7 +87,7 @@ pub fn set_program_counter(
     Ok(())
 }
 
-/// What is kept beside the state, in its registers.
+/// The window and the random number generator, as the registers hold them between turns.
 pub fn beside(store: &Recorded<Store>) -> Beside
     requires { IsSound store.now.store }
     ensures { result ≡ beside_of (slice_index store.now.store.cells) }
@@ -100,8 +100,8 @@ pub fn beside(store: &Recorded<Store>) -> Beside
     }
 }
 
-/// Keeps this beside the state in its registers, at the end of a turn. Where they hold it already
-/// nothing is written.
+/// Writes the window and the random number generator to their registers, at the end of a turn.
+/// Registers that hold them already are not written, so that a turn of the profile records none.
 ///
 /// # Errors
 ///
