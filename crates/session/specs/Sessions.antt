@@ -21,7 +21,8 @@ all_lines s = s.done ++ s.undone
 
 -- The session holds the whole states of the story in play on the lines that stand, from the oldest that it keeps on,
 -- and is at the one after the lines done.
-pub record IsSession (story : List ℕ) (units : ℕ) (play : Play) (most : Option ℕ) (s : Standing) (v : Session) : Type 0 where
+pub record IsSession (story : List ℕ) (units : ℕ) (play : Play) (most : Option ℕ) (s : Standing)
+    (v : Session) : Type 0 where
   -- each line that stands was given to a waiting machine
   pub whole : length (plays_of play (all_lines s)) ≡ length s.done + length s.undone + 1
   pub reach : s.kept ≤ length s.done
