@@ -1,0 +1,53 @@
+-- What the turns of a machine come to, as functions of what its store holds.
+use Rattle.std.proofs.Common.{◌≡◌, ℕ, List, Option, Some, None, Result, Ok, Err, ap, sym, ◌∙◌}
+use Rattle.std.specs.Borrow.{Bor}
+use Rattle.journal.specs.Recording.{Recording}
+use Rattle.journal.specs.declared.recorded.NoMemory.{NoMemory}
+use Rattle.zcore.specs.declared.next.Next.{Next}
+use Rattle.zcore.specs.declared.place.Place.{Place}
+use Rattle.zcore.specs.State.{State, Out, done, halt}
+use Rattle.zcore.specs.Turn.{Whole, ended, after_step, turn_from, turn_on, turn_pending, given, resumed, opening}
+use Rattle.zcore.specs.Turn.{first_next, first_state}
+use Rattle.zcore.proofs.Turning.{turns_is}
+use Rattle.machine_frames.specs.Contents.{Contents, memory_of}
+use Rattle.machine_frames.specs.Playing.{Follows, Answers, Opens}
+use Rattle.machine_frames.specs.States.{play_of}
+use Rattle.machine.specs.Ended.{TurnEnds, OpensOrAnswers}
+
+-- a turn that ends by one description ends by another that follows from it
+pub ends_as : (turn other : Whole → Type 0) (old : Recording Contents) (was : List ℕ) (new : Recording Contents)
+    (now : List ℕ) (result : Result Place NoMemory) → ((whole : Whole) → turn whole → other whole)
+    → TurnEnds turn old was new now result → TurnEnds other old was new now result
+ends_as turn other old was new now (Ok place) so h = record {
+  whole = so _ h.whole;
+  waits = h.waits;
+  goes_on = h.goes_on;
+  given_up = h.given_up;
+  front = h.front;
+}
+ends_as turn other old was new now (Err e) so h = record {
+  whole = h.whole;
+  waits = h.waits;
+  goes_on = h.goes_on;
+  given_up = h.given_up;
+  front = h.front;
+}
+
+pub opens_turn : (s : Contents) (fuel : ℕ) (whole : Whole) → Opens s fuel whole
+    → opening (memory_of s) fuel ≡ Some whole
+unfolding opening
+opens_turn s fuel whole h = turns_is (first_next (memory_of s) fuel) (first_state (memory_of s)) whole h
+
+follows_turn : (o : Out Next) (stop : Place → State → Whole) (whole : Whole) → Follows o stop whole
+    → after_step o turn_from (λ place s. Some (stop place s)) ≡ Some whole
+follows_turn (done next s) stop whole h = turns_is next s whole h
+follows_turn (halt place s) stop whole h = ap (λ (w : Whole). Some w) (sym h)
+
+pub answers_turn : (line : List ℕ) (s : Contents) (fuel : ℕ) (whole : Whole) → Answers line s fuel whole
+    → turn_on line fuel (play_of s) ≡ Some whole
+unfolding turn_on
+answers_turn line s fuel whole h =
+    ap (λ p. turn_pending p line fuel (play_of s)) h.1
+    ∙ follows_turn (given h.0 line fuel (resumed (play_of s)))
+    (ended (record { program_counter = (play_of s).program_counter; fuel = fuel })) whole h.2
+
