@@ -1,11 +1,12 @@
 -- Words of a text, and their form in a dictionary (Z-Machine Standards Document 1.1, section 13, and section 15,
 -- `tokenise` and `encode_text`).
-use Rattle.std.specs.Prelude.{◌==◌, ◌&&◌, ◌||◌, ◌+◌, ◌-◌, ◌*◌, ◌/◌, ◌%◌, ℕ, nat_le, nat_lt, Bool, if◌then◌else◌}
+use Rattle.std.specs.Prelude.{◌==◌, ◌&&◌, ◌||◌, ◌+◌, ◌-◌, ◌*◌, ◌/◌, ◌%◌, ℕ, nat_le, Bool, if◌then◌else◌}
 use Rattle.std.specs.Prelude.{List, [], ◌∷◌, ◌++◌, length, take, replicate, slice_index, slice_range}
 use Rattle.zcore.specs.declared.next.Next.{Next}
 use Rattle.zcore.specs.declared.place.Fault.TheVariants as faults
 use Rattle.ztext.specs.Alphabets.{spelled}
 use Rattle.ztext.specs.Words.{packed}
+use Rattle.zcore.specs.Arithmetic.{magnitude}
 use Rattle.zcore.specs.Header.{dictionary_of, static_base_of, static_end, entry_length_of, entry_count, first_entry}
 use Rattle.zcore.specs.Layout.{header_size, key_size}
 use Rattle.zcore.specs.Cutting.{Word}
@@ -36,9 +37,7 @@ dictionary_for memory dictionary = if dictionary == 0 then dictionary_of memory 
 
 -- how many entries a dictionary has; a negative number is of entries in no order
 abbrev pub entries_in : List ℕ → ℕ → ℕ
-entries_in memory dictionary =
-    if nat_lt (entry_count memory dictionary) 32768 then entry_count memory dictionary
-    else 65536 - entry_count memory dictionary
+entries_in memory dictionary = magnitude (entry_count memory dictionary)
 
 -- where the key of the last entry ends
 abbrev pub keys_end : List ℕ → ℕ → ℕ
