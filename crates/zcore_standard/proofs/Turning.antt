@@ -14,7 +14,8 @@ use Rattle.zcore.specs.Turn.{ended, given, resumed, turn_pending, turn_on}
 use Rattle.zcore.proofs.Turning.{IsWeight, weight_some, turn_by_ends, turns_by_same}
 use Rattle.zcore_standard.specs.declared.operations.Further.{Further}
 use Rattle.zcore_standard.specs.declared.operations.Further.TheVariants.{Read}
-use Rattle.zcore_standard.specs.Place.{Here, Loaded, on, within}
+use Rattle.zcore_standard.specs.Place.{Here, on, within}
+use Rattle.zcore_standard.specs.Loaded.{Loaded}
 use Rattle.zcore_standard.specs.Operations.{further_at}
 use Rattle.zcore_standard.specs.Instruction.{decode_further}
 use Rattle.zcore_standard.specs.Further.{execute_further}
