@@ -1,5 +1,5 @@
 -- What the turns of a machine come to, as functions of what its store holds.
-use Rattle.std.proofs.Common.{◌≡◌, ℕ, List, Option, Some, None, Result, Ok, Err, ap, sym, ◌∙◌}
+use Rattle.std.proofs.Common.{◌≡◌, ℕ, List, Option, Some, None, Result, Ok, Err, refl, ap, sym, ◌∙◌}
 use Rattle.std.specs.Borrow.{Bor}
 use Rattle.journal.specs.Recording.{Recording}
 use Rattle.journal.specs.declared.recorded.NoMemory.{NoMemory}
@@ -13,6 +13,12 @@ use Rattle.machine_frames.specs.Contents.{Contents, memory_of}
 use Rattle.machine_frames.specs.Playing.{Follows, Answers, Opens}
 use Rattle.machine_frames.specs.States.{play_of}
 use Rattle.machine.specs.Ended.{TurnEnds, OpensOrAnswers}
+use Rattle.machine.specs.Loaded.{IsLoaded}
+use Rattle.machine.specs.declared.turn.Machine.{Machine}
+use Rattle.zcore.specs.declared.header.Header.{Header}
+use Rattle.zcore.specs.Header.{static_base_of}
+use Rattle.session.specs.declared.mode.Mode.TheVariants.{Profile}
+use Rattle.session.specs.Players.{IsPlayerOf, PlayerTurn}
 
 -- a turn that ends by one description ends by another that follows from it
 pub ends_as : (turn other : Whole → Type 0) (old : Recording Contents) (was : List ℕ) (new : Recording Contents)
@@ -51,3 +57,21 @@ answers_turn line s fuel whole h =
     ∙ follows_turn (given h.0 line fuel (resumed (play_of s)))
     (ended (record { program_counter = (play_of s).program_counter; fuel = fuel })) whole h.2
 
+
+-- a machine of the profile that was loaded
+pub profile_player : (story : List ℕ) (machine : Machine) (s : Contents) → IsLoaded story machine s
+    → IsPlayerOf Profile story (record { header = machine.header; loaded = None }) s
+profile_player story machine s h = record {
+  can = (machine.header, h.header);
+  loaded = refl;
+  store = h.store;
+  state = h.state;
+  static_base = h.store.headed.static_base ∙ ap (λ (t : State). static_base_of t.memory) h.state;
+}
+
+-- its turns
+pub profile_turn : (header : Header) (line : Option (Bor (List ℕ))) (s : Contents) (fuel : ℕ) (whole : Whole)
+    → OpensOrAnswers line s fuel whole
+    → PlayerTurn (record { header = header; loaded = None }) line s fuel whole
+profile_turn header None s fuel whole h = opens_turn s fuel whole h
+profile_turn header (Some line) s fuel whole h = answers_turn line.now s fuel whole h

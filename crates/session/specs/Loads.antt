@@ -1,5 +1,5 @@
 -- Whether a story is loaded, by the mode in which it is to be played.
-use Rattle.std.specs.Prelude.{List, ℕ, ⊥, Ok, Err}
+use Rattle.std.specs.Prelude.{List, ℕ, Ok, Err}
 use Rattle.zcore.specs.declared.header.Header.{Header}
 use Rattle.zcore.specs.Header.{Reads}
 use Rattle.machine.specs.Loaded.{Loads}
