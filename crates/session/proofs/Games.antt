@@ -7,7 +7,7 @@ use Rattle.session.specs.Modes.{loaded_in, turn_with}
 use Rattle.session.specs.Standing.{Standing, undo_of, redo_of, taken}
 use Rattle.session.specs.Session.{Session}
 use Rattle.session.specs.Stepped.{stepped_back, stepped_forward, without_oldest, with_turn, bounded, bounded_by, latest_text}
-use Rattle.session.specs.Game.{Game, play_on, IsSessionOf, text_on, place_on}
+use Rattle.session.specs.Game.{Game, bytes_of, play_on, IsSessionOf, text_on, place_on}
 use Rattle.session.specs.Turned.{Turned}
 use Rattle.session.proofs.Sessions.{session_undo, session_redo}
 use Rattle.session.proofs.Taking.{session_taken}
@@ -29,14 +29,14 @@ pub game_undo : (game : Game) (s : Standing) (v : Session) → IsSessionOf game 
     → IsSessionOf game (undo_of s) (stepped_back v)
 game_undo game s v h = record {
   loaded = h.loaded;
-  session = session_undo game.story game.fuel (play_on game) game.keep s v h.session;
+  session = session_undo (bytes_of game) game.fuel (play_on game) game.keep s v h.session;
 }
 
 pub game_redo : (game : Game) (s : Standing) (v : Session) → IsSessionOf game s v
     → IsSessionOf game (redo_of s) (stepped_forward v)
 game_redo game s v h = record {
   loaded = forward_loaded_by (nat_lt v.present (length v.lines)) v ∙ h.loaded;
-  session = session_redo game.story game.fuel (play_on game) game.keep s v h.session;
+  session = session_redo (bytes_of game) game.fuel (play_on game) game.keep s v h.session;
 }
 
 -- a line that is taken
@@ -52,7 +52,7 @@ game_taken game line s v mid new h waits t e =
     let means : (l : List ℕ) (p : StateOfPlay)
     → turn_with v.loaded l game.fuel p ≡ turn_with (loaded_in game.mode game.story) l game.fuel p =
     λ l p. ap (λ o. turn_with o l game.fuel p) h.loaded in
-    let r = session_taken game.story game.fuel (play_on game) game.keep line s v mid new means h.session waits t e in
+    let r = session_taken (bytes_of game) game.fuel (play_on game) game.keep line s v mid new means h.session waits t e in
     record {
       waited = r.0;
       session = record {

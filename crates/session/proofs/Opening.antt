@@ -15,7 +15,7 @@ use Rattle.machine_frames.specs.States.{IsStoreOf}
 use Rattle.session.specs.declared.turns.Turn.{Turn}
 use Rattle.session.specs.Times.{all_cells}
 use Rattle.session.specs.Inside.{with_cells, places_of, view_of, IsReady, IsBetweenTurns}
-use Rattle.session.specs.Game.{Game, play_on, IsSessionOf}
+use Rattle.session.specs.Game.{Game, bytes_of, play_on, IsSessionOf}
 use Rattle.session.specs.Modes.{Known, loaded_in, bytes_in, opening_with}
 use Rattle.session.specs.Players.{IsPlayerOf, PlayerTurn}
 use Rattle.session.specs.Standing.{nothing}
@@ -49,7 +49,7 @@ bound_start (Some n) = omega arith
 
 opened_by : (game : Game) (known : Known) (new : Contents) (first : Place) (text given_up : List ℕ)
     → (play_on game).opening ≡ Some (whole_of new first text) → known.loaded ≡ loaded_in game.mode game.story
-    → known.header.static_base ≡ static_base_of game.story
+    → known.header.static_base ≡ static_base_of (bytes_of game)
     → IsSessionOf game nothing (view_of game.keep game.fuel known text new first [] 0 given_up)
 unfolding view_of all_cells
 opened_by game known new first text given_up e loaded base =

@@ -10,14 +10,23 @@ use Rattle.zcore.specs.Turn.{Whole, ended, after_step, turn_from, turn_on, turn_
 use Rattle.zcore.specs.Turn.{first_next, first_state}
 use Rattle.zcore.proofs.Turning.{turns_is}
 use Rattle.machine_frames.specs.Contents.{Contents, memory_of}
-use Rattle.machine_frames.specs.Playing.{Follows, Answers, Opens}
+use Rattle.machine_frames.specs.Playing.{Follows, FollowsBy, Answers, Opens}
 use Rattle.machine_frames.specs.States.{play_of}
 use Rattle.machine.specs.Ended.{TurnEnds, OpensOrAnswers}
 use Rattle.machine.specs.Loaded.{IsLoaded}
 use Rattle.machine.specs.declared.turn.Machine.{Machine}
 use Rattle.zcore.specs.declared.header.Header.{Header}
 use Rattle.zcore.specs.Header.{static_base_of}
-use Rattle.session.specs.declared.mode.Mode.TheVariants.{Profile}
+use Rattle.zcore.specs.declared.beside.Beside.{Beside}
+use Rattle.zcore.specs.Turn.{TurnsBy}
+use Rattle.zcore_standard.specs.Loaded.{Loaded}
+use Rattle.zcore_standard.specs.Machine.{standard, standard_turn, standard_pending, standard_opening, standard_turn_on}
+use Rattle.zcore_standard.specs.Machine.{standard_ended, begins}
+use Rattle.zcore_standard.proofs.Turning.{standard_turn_is}
+use Rattle.machine_standard.specs.Loads.{IsLoaded as IsStandardLoaded}
+use Rattle.machine_standard.specs.Playing.{OpensStandard, AnswersStandard, OpensOrAnswersStandard}
+use Rattle.machine_standard.specs.declared.turn.StandardMachine.{StandardMachine}
+use Rattle.session.specs.declared.mode.Mode.TheVariants.{Profile, Standard}
 use Rattle.session.specs.Players.{IsPlayerOf, PlayerTurn}
 
 -- a turn that ends by one description ends by another that follows from it
@@ -75,3 +84,45 @@ pub profile_turn : (header : Header) (line : Option (Bor (List ℕ))) (s : Conte
     → PlayerTurn (record { header = header; loaded = None }) line s fuel whole
 profile_turn header None s fuel whole h = opens_turn s fuel whole h
 profile_turn header (Some line) s fuel whole h = answers_turn line.now s fuel whole h
+
+-- The Standard's machine
+
+opens_standard : (loaded : Loaded) (s : Contents) (fuel : ℕ) (whole : Whole) → OpensStandard loaded s fuel whole
+    → standard_opening loaded (memory_of s) fuel ≡ Some whole
+unfolding standard_opening
+opens_standard loaded s fuel whole h =
+    standard_turn_is loaded (begins loaded.dice (first_next (memory_of s) fuel)) (first_state (memory_of s)) whole h
+
+follows_standard : (loaded : Loaded) (beside : Beside) (o : Out Next) (stop : Place → State → Whole) (whole : Whole)
+    → FollowsBy (λ next t w. TurnsBy (standard loaded) (begins beside next) t w) o stop whole
+    → after_step o (λ next t. standard_turn loaded (begins beside next) t) (λ place t. Some (stop place t)) ≡ Some whole
+follows_standard loaded beside (done next t) stop whole h = standard_turn_is loaded (begins beside next) t whole h
+follows_standard loaded beside (halt place t) stop whole h = ap (λ (w : Whole). Some w) (sym h)
+
+answers_standard : (loaded : Loaded) (line : List ℕ) (s : Contents) (fuel : ℕ) (whole : Whole)
+    → AnswersStandard loaded line s fuel whole → standard_turn_on loaded line fuel (play_of s) ≡ Some whole
+unfolding standard_turn_on
+answers_standard loaded line s fuel whole h =
+    ap (λ p. standard_pending loaded p line fuel (play_of s)) h.1
+    ∙ follows_standard loaded (play_of s).beside (given h.0 line fuel (resumed (play_of s)))
+    (standard_ended (begins (play_of s).beside (record { program_counter = (play_of s).program_counter; fuel = fuel })))
+    whole h.2
+
+-- a machine of the whole Standard that was loaded
+pub standard_player : (story : List ℕ) (seed : ℕ) (machine : StandardMachine) (s : Contents)
+    → IsStandardLoaded story seed machine s
+    → IsPlayerOf (Standard seed) story (record { header = machine.header; loaded = Some machine.loaded }) s
+standard_player story seed machine s h = record {
+  can = (h.story, h.read);
+  loaded = ap (λ l. Some l) h.loaded;
+  store = h.store;
+  state = h.state;
+  static_base = h.store.headed.static_base ∙ ap (λ (t : State). static_base_of t.memory) h.state;
+}
+
+-- its turns
+pub standard_machine_turn : (header : Header) (loaded : Loaded) (line : Option (Bor (List ℕ))) (s : Contents) (fuel : ℕ)
+    (whole : Whole) → OpensOrAnswersStandard loaded line s fuel whole
+    → PlayerTurn (record { header = header; loaded = Some loaded }) line s fuel whole
+standard_machine_turn header loaded None s fuel whole h = opens_standard loaded s fuel whole h
+standard_machine_turn header loaded (Some line) s fuel whole h = answers_standard loaded line.now s fuel whole h

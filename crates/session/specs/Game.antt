@@ -3,7 +3,7 @@ use Rattle.std.specs.Prelude.{◌≡◌, ℕ, Option, List}
 use Rattle.zcore.specs.declared.place.Place.{Place}
 use Rattle.zcore.specs.Turn.{Play, plays_of, last_text, last_place}
 use Rattle.session.specs.declared.mode.Mode.{Mode}
-use Rattle.session.specs.Modes.{loaded_in, play_in}
+use Rattle.session.specs.Modes.{loaded_in, bytes_in, play_in}
 use Rattle.session.specs.Standing.{Standing}
 use Rattle.session.specs.Session.{Session}
 use Rattle.session.specs.Sessions.{IsSession}
@@ -23,6 +23,10 @@ pub record Game : Type 0 where
 abbrev pub game_of : Mode → List ℕ → ℕ → Option ℕ → Game
 game_of mode story fuel keep = record { mode = mode; story = story; fuel = fuel; keep = keep }
 
+-- the bytes with which its machine begins
+abbrev pub bytes_of : Game → List ℕ
+bytes_of game = bytes_in game.mode game.story
+
 -- how its story is played
 abbrev pub play_on : Game → Play
 play_on game = play_in game.mode game.story game.fuel
@@ -41,7 +45,7 @@ telling_of game = record { text = text_on game; place = place_on game }
 -- The session plays this game by its machine, and these lines stand.
 pub record IsSessionOf (game : Game) (s : Standing) (v : Session) : Type 0 where
   pub loaded : v.loaded ≡ loaded_in game.mode game.story
-  pub session : IsSession game.story game.fuel (play_on game) game.keep s v
+  pub session : IsSession (bytes_of game) game.fuel (play_on game) game.keep s v
 
 -- P holds of each game and the lines that stand, of which this is the session.
 abbrev pub InEach : Session → (Game → Standing → Type 0) → Type 0

@@ -3,17 +3,20 @@ use Rattle.std.specs.Prelude.{ℕ, List, Option, Some, None}
 use Rattle.zcore.specs.declared.header.Header.{Header}
 use Rattle.zcore.specs.Turn.{StateOfPlay, Whole, Play, opening, turn_on}
 use Rattle.zcore_standard.specs.Loaded.{Loaded}
+use Rattle.zcore_standard.specs.Loading.{loaded_of, memory_for}
 use Rattle.zcore_standard.specs.Machine.{standard_opening, standard_turn_on}
 use Rattle.session.specs.declared.mode.Mode.{Mode}
-use Rattle.session.specs.declared.mode.Mode.TheVariants.{Profile}
+use Rattle.session.specs.declared.mode.Mode.TheVariants.{Profile, Standard}
 
 -- what loading fixes; in the profile nothing
 abbrev pub loaded_in : Mode → List ℕ → Option Loaded
 loaded_in Profile story = None
+loaded_in (Standard seed) story = Some (loaded_of story seed)
 
 -- the bytes with which the machine begins
 abbrev pub bytes_in : Mode → List ℕ → List ℕ
 bytes_in Profile story = story
+bytes_in (Standard seed) story = memory_for story
 
 -- the opening of a machine for which loading fixed this
 abbrev pub opening_with : Option Loaded → List ℕ → ℕ → Option Whole

@@ -14,6 +14,7 @@ use Rattle.session.specs.Modes.{Known, loaded_in, bytes_in, opening_with, turn_w
 
 abbrev pub known_of : Player → Known
 known_of (players.Profile machine) = record { header = machine.header; loaded = None }
+known_of (players.Standard machine) = record { header = machine.header; loaded = Some machine.loaded }
 
 -- The player knows the story's header and what loading fixes in the mode, and the store is the story's at its beginning.
 pub record IsPlayerOf (mode : Mode) (story : List ℕ) (known : Known) (s : Contents) : Type 0 where
@@ -21,7 +22,7 @@ pub record IsPlayerOf (mode : Mode) (story : List ℕ) (known : Known) (s : Cont
   pub loaded : known.loaded ≡ loaded_in mode story
   pub store : IsStoreOf known.header s
   pub state : state_of s [] ≡ first_state (bytes_in mode story)
-  pub static_base : known.header.static_base ≡ static_base_of story
+  pub static_base : known.header.static_base ≡ static_base_of (bytes_in mode story)
 
 abbrev pub LoadsPlayer : Mode → List ℕ → Result (Player × Contents) OpenFault → Type 0
 LoadsPlayer mode story (Ok x) = IsPlayerOf mode story (known_of x.0) x.1

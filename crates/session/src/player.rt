@@ -10,14 +10,18 @@ use crate::fault::OpenFault;
 use crate::mode::Mode;
 use journal::{NoMemory, Recorded};
 use machine::{Machine, Store};
+use machine_standard::StandardMachine;
 use std::alloc::Global;
 use zcore::Place;
 
 /// The machine that plays a session's story.
-#[derive(Clone, Copy)]
+#[derive(Drop)]
 pub(crate) enum Player {
     /// By the profile's opcodes.
     Profile(Machine),
+
+    /// By every opcode of the Standard.
+    Standard(StandardMachine),
 }
 
 impl Player {
@@ -25,7 +29,7 @@ impl Player {
     ///
     /// # Errors
     ///
-    /// `Load` where the story is not loaded.
+    /// `Load` or `Standard`: the story is not loaded.
     pub(crate) fn load(
         alloc: Global,
         story: Vec<u8>,
@@ -33,9 +37,15 @@ impl Player {
     ) -> Result<(Player, Store), OpenFault>
         ensures { LoadsPlayer mode story.items result }
     {
-        match Machine::load(alloc, story) {
-            Ok((machine, store)) => Ok((Player::Profile(machine), store)),
-            Err(fault) => Err(OpenFault::Load(fault)),
+        match mode {
+            Mode::Profile => match Machine::load(alloc, story) {
+                Ok((machine, store)) => Ok((Player::Profile(machine), store)),
+                Err(fault) => Err(OpenFault::Load(fault)),
+            },
+            Mode::Standard(seed) => match StandardMachine::load(alloc, story, seed) {
+                Ok((machine, store)) => Ok((Player::Standard(machine), store)),
+                Err(fault) => Err(OpenFault::Standard(fault)),
+            },
         }
     }
 
@@ -60,6 +70,7 @@ impl Player {
     {
         match self {
             Player::Profile(machine) => machine.turn(line, fuel, store, text),
+            Player::Standard(machine) => machine.turn(line, fuel, store, text),
         }
     }
 }

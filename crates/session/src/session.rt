@@ -11,7 +11,7 @@ ghost use Rattle.session.specs.Session.{largest_record};
 ghost use Rattle.session.specs.Stepped.{latest_text, latest_size};
 ghost use Rattle.session.specs.Stepped.{stepped_back, bounded, without_oldest};
 ghost use Rattle.session.specs.Turned.{Turned};
-ghost use Rattle.session.specs.Game.{InEach, game_of, place_on, text_on};
+ghost use Rattle.session.specs.Game.{InEach, bytes_of, game_of, place_on, text_on};
 ghost use Rattle.session.specs.declared.mode.Mode.TheVariants.{Profile};
 ghost use Rattle.session.specs.Stepped.{IsSize, Moves, Redone};
 ghost use Rattle.session.specs.Replies.{After, OpensSession, RepliesWith};
@@ -224,7 +224,7 @@ impl Session {
     pub fn last_cells(&self) -> usize
         ensures cells { result ≡ latest_size self.now }
         ensures most { result ≤ largest_record self.now.static_base }
-        ensures story { InEach self.now (λ game s. IsSize game.story s result) }
+        ensures story { InEach self.now (λ game s. IsSize (bytes_of game) s result) }
     {
         if self.done == 0 {
             0

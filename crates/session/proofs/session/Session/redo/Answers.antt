@@ -2,7 +2,7 @@ use Rattle.std.proofs.Common.{◌≡◌, ℕ, ◌+◌, ◌-◌, ◌<◌, ap, sym
 use Rattle.journal.specs.Swap.{Fits}
 use Rattle.machine_frames.specs.Contents.{bound_of}
 use Rattle.session.specs.Session.{Session}
-use Rattle.session.specs.Game.{Game, IsSessionOf, play_on}
+use Rattle.session.specs.Game.{Game, IsSessionOf, bytes_of, play_on}
 use Rattle.session.specs.Standing.{Standing, redo_of}
 use Rattle.session.proofs.Insides.{turn_fits, StandsAt, redo_view, redo_between, redone_text}
 use Rattle.session.proofs.Views.{counted, turn_text}
@@ -31,7 +31,7 @@ returns-then-self-len c =
       record {
         rests = tt;
         found = λ game s h.
-            let u = session_undone game.story game.fuel (play_on game) game.keep s c.args.self.now i.done
+            let u = session_undone (bytes_of game) game.fuel (play_on game) game.keep s c.args.self.now i.done
             (length i.turns.items) n.present n.size h.session in
             ((λ p. cc), (λ p. absurd (omega (arith, all, u.0, u.1))));
         text = λ game s h. tt;
@@ -75,7 +75,7 @@ returns c =
     ∙ turn_text i.keep i.fuel (known_of i.player) i.opening.items i.store.store i.first i.turns.items i.done
     (text_of i.given_up) c.args.self.now i.done c.index_mut.result.now c.self.view_is here c.index_mut.ensures.value in
     let undone = λ (game : Game) (s : Standing) (h : IsSessionOf game s c.args.self.now). (
-    let u = session_undone game.story game.fuel (play_on game) game.keep s c.args.self.now i.done (length i.turns.items)
+    let u = session_undone (bytes_of game) game.fuel (play_on game) game.keep s c.args.self.now i.done (length i.turns.items)
     n.present n.size h.session in
     let some : 0 < length s.undone = omega (arith, here, u.0, u.1) in
     some) in (
@@ -92,7 +92,7 @@ returns c =
         rests = tt;
         found = λ game s h. ((λ p. undone game s h), (λ p. refl));
         text = λ game s h.
-            session_again game.story game.fuel (play_on game) game.keep s c.args.self.now i.done _ n.present
+            session_again (bytes_of game) game.fuel (play_on game) game.keep s c.args.self.now i.done _ n.present
             (undone game s h) text h.session;
       },
     )
