@@ -5,10 +5,11 @@ function __play_answers
     play --explain 2>/dev/null | string replace ': ' \t
 end
 
-complete -c play -l fuel -x -d 'The units of fuel of a turn'
-complete -c play -l undo -x -d 'How many turns can be taken back'
+complete -c play -l fuel -x -d 'Give each turn this many units of fuel'
+complete -c play -l undo -x -d 'Keep up to this many turns to undo'
 complete -c play -l explain -x -a '(__play_answers)' -d 'Explain an answer, or list all'
-complete -c play -l check -d 'Say whether story files load, and which opcodes outside the profile were reached'
-complete -c play -l why -d 'Say at the end where the story stands'
+complete -c play -l check -d 'Say whether story files load, and which opcodes outside the profile they reach'
+complete -c play -l why -d 'Say at the end where the story is'
+complete -c play -n '__fish_contains_opt check' -l format -x -a tsv -d 'Print a line of columns for each file'
 complete -c play -s h -l help -d 'Print help'
 complete -c play -s V -l version -d 'Print the version'

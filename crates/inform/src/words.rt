@@ -4,24 +4,27 @@ use clap::{Arg, ArgAction, ArgMatches, Command, value_parser};
 use std::alloc::{AllocError, Global};
 use zcore::Version;
 
-/// Where help ends: an example, and what is written elsewhere.
+/// The end of the help: an example, and the documents that say more.
 const MORE: &str = "Example:
   inform game.inf game.z5 && play game.z5
 
-The language, with the faults by which a source is refused: docs/LANGUAGE.md
-The story file: docs/STORY_FILE.md
-All messages and statuses: docs/COMMANDS.md, and in short the page inform(1)";
+The installed documents and examples are in share/doc/felgoniz:
+  docs/TUTORIAL.md    to begin with
+  docs/LANGUAGE.md    the language, and the faults of source files
+  docs/STORY_FILE.md  the story file
+  docs/COMMANDS.md    all options, messages and statuses
+The man page inform(1) is shorter.";
 
 /// What the command line asks for.
 #[derive(Clone, Copy)]
 pub enum Asked<'a> {
-    /// To explain the fault of this name, or else to list all faults.
+    /// To explain the fault of this name, or without one to list all faults.
     Explain(Option<&'a str>),
 
     /// To compile a source.
     Compile(Words<'a>),
 
-    /// To print what the source of this name takes, as a story of a version.
+    /// To print how much the source file of this name takes as a story of a version.
     Sizes(&'a str, Version),
 }
 
@@ -31,13 +34,13 @@ pub struct Words<'a> {
     /// The source file's name.
     pub source: &'a str,
 
-    /// The name of the story file to write; none where the source is only checked.
+    /// The name of the story file to write; `None` if the source file is only checked.
     pub story: Option<&'a str>,
 
     /// The version of the story file.
     pub version: Version,
 
-    /// Whether a fault's place is shown.
+    /// Whether to show where a fault is.
     pub show: bool,
 }
 
@@ -46,35 +49,35 @@ fn version_argument<'a>(alloc: Global) -> Arg<'a> {
     Arg::new(alloc, "version_number")
         .short('v')
         .value_name("VERSION")
-        .help("The version of the story file, 5 or 8 [default: 5]")
+        .help("Set the version of the story file, 5 or 8 [default: 5]")
         .action(ArgAction::Set)
         .value_parser(value_parser!(u32))
 }
 
-/// The fault that is to be explained, beside which nothing else is asked for.
+/// The name of the fault to explain. No other argument may be given.
 fn explain_argument<'a>(alloc: Global) -> Arg<'a> {
     Arg::new(alloc, "explain")
         .long("explain")
         .value_name("NAME")
-        .help("Explain the fault of this name, as E23, or list all faults; nothing is compiled")
+        .help("Explain the fault NAME, such as E23, or list all faults; compile nothing")
         .num_args(0..=1)
         .exclusive(true)
         .action(ArgAction::Set)
 }
 
-/// Whether a fault's place is shown.
+/// Whether to show where a fault is.
 fn show_argument<'a>(alloc: Global) -> Arg<'a> {
     Arg::new(alloc, "show")
         .long("show")
-        .help("Show where and why a source is refused; without STORY only check it")
+        .help("Show where and why SOURCE is refused; without STORY only check it")
         .action(ArgAction::SetTrue)
 }
 
-/// Whether the figures of the source are printed, and no story is written.
+/// Whether to print the figures of the source file and write no story file.
 fn sizes_argument<'a>(alloc: Global) -> Result<Arg<'a>, AllocError> {
     Arg::new(alloc, "sizes")
         .long("sizes")
-        .help("Print what the source takes, of what there may be; no story is written")
+        .help("Print how much SOURCE takes, and the limits; write no story file")
         .action(ArgAction::SetTrue)
         .conflicts_with("story")
 }
@@ -83,12 +86,12 @@ fn sizes_argument<'a>(alloc: Global) -> Result<Arg<'a>, AllocError> {
 fn source_argument<'a>(alloc: Global) -> Arg<'a> {
     Arg::new(alloc, "source")
         .value_name("SOURCE")
-        .help("A source file")
+        .help("The source file")
         .required(true)
         .action(ArgAction::Set)
 }
 
-/// The story file's name, which is needed unless only the place of a fault or figures are wanted.
+/// The name of the story file. It is required unless `--show` or `--sizes` is given.
 fn story_argument<'a>(alloc: Global) -> Result<Arg<'a>, AllocError> {
     let story = Arg::new(alloc, "story")
         .value_name("STORY")
@@ -105,7 +108,7 @@ fn story_argument<'a>(alloc: Global) -> Result<Arg<'a>, AllocError> {
 /// Memory was refused.
 pub fn command<'a>(alloc: Global) -> Result<Command<'a>, AllocError> {
     Command::new(alloc, "inform")
-        .version("1.0.0")
+        .version("1.1.0")
         .about("Compiles a source file to a Z-machine story file")
         .after_help(MORE)
         .arg(version_argument(alloc))?
@@ -116,8 +119,8 @@ pub fn command<'a>(alloc: Global) -> Result<Command<'a>, AllocError> {
         .arg(story_argument(alloc)?)
 }
 
-/// What the words of a command line that passed `command` ask for; `None` where they name another
-/// version than 5 and 8.
+/// What the words of a command line that passed `command` ask for; `None` if they name a version
+/// other than 5 and 8.
 pub fn words_of<'a>(matches: &ArgMatches<'a>) -> Option<Asked<'a>> {
     if matches.contains_id("explain") {
         return Some(Asked::Explain(matches.get_str("explain")));

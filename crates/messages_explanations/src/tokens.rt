@@ -7,11 +7,11 @@ pub(crate) static TOKENS: [Explanation; 6] = [
     Explanation {
         name: "E01",
         title: "stray byte",
-        rule: "A source has the bytes 9, 10, 13 and 32 to 126 alone, in its comments too, so
-that it means the same on every system. A token begins with a letter, an
-underscore, a digit, a quote, $ or a sign of the language. The byte at this
-place is none of that, as # and ? outside a text, or a letter with an accent.
-Take it out, or write the sign that was meant.",
+        rule: "A source file may contain only the bytes 9, 10, 13 and 32 to 126, in comments
+too, so that it means the same on every system. A token begins with a letter, an
+underscore, a digit, a quote, $ or a sign of the language. The byte here is none
+of these: for example # or ? outside a text, or an accented letter. Remove it,
+or write the sign you meant.",
         example: Some(Example {
             broken: "[ Main;
     print 6 ? 7;
@@ -24,12 +24,12 @@ Take it out, or write the sign that was meant.",
     Explanation {
         name: "E02",
         title: "bad text or word",
-        rule: "What begins with a quote ends with the same quote on the same line, so that a
-forgotten quote does not take in the lines below it. In a text between double
-quotes a new line is written ^ and a double quote ~, and neither @ nor \\ can
-stand. Between single quotes stands one byte for a character, or several without
-spaces for a dictionary word, none of them ~, @ or \\. Close the quote, or write
-^ and ~.",
+        rule: "What begins with a quote must end with the same quote on the same line, so that
+a forgotten quote does not swallow the lines after it. In a text in double
+quotes, write ^ for a new line and ~ for a double quote; @ and \\ are not
+allowed. Single quotes hold one byte for a character, or several without spaces
+for a dictionary word; ~, @ and \\ are not allowed. Close the quote, or write ^
+and ~.",
         example: Some(Example {
             broken: "[ Main;
     print \"The lamp is lit.
@@ -43,10 +43,10 @@ You see a door.\";
     Explanation {
         name: "E03",
         title: "bad number",
-        rule: "A number is decimal digits, $ and hexadecimal digits, or $$ and binary digits,
-and no letter, digit or underscore stands directly behind it. It is at most
-65,535, since a value is a word of 16 bits. Write a smaller number; if a name
-was meant, begin it with a letter or an underscore.",
+        rule: "A number is decimal digits, $ and hexadecimal digits, or $$ and binary digits.
+No letter, digit or underscore may follow it directly. The largest number is
+65,535, since a value is a word of 16 bits. Write a smaller number; if you meant
+a name, begin it with a letter or an underscore.",
         example: Some(Example {
             broken: "Global coins = 70000;
 
@@ -63,9 +63,9 @@ was meant, begin it with a letter or an underscore.",
     Explanation {
         name: "E04",
         title: "name too long",
-        rule: "A name has at most 32 letters, digits and underscores: names are compared by so
-many, and two that differ only behind them would be one. Shorten it at all its
-places.",
+        rule: "A name has at most 32 letters, digits and underscores. Only that many are
+compared, so two names that differ only after them would be the same. Shorten
+the name everywhere it is used.",
         example: Some(Example {
             broken: "Global number_of_coins_in_the_wooden_chest = 7;
 
@@ -83,9 +83,9 @@ places.",
         name: "E05",
         title: "nested too deep",
         rule: "At most 100 parentheses, braces, statements inside statements, operators before
-their operand and right sides of = may be open at once. Each that is open takes
-some of the compiler's own stack, which no source may use up. Give a part that
-lies deep a variable or a routine of its own.",
+their operand and right sides of = may be open at once, because each takes some
+of the compiler's own stack. Move a deeply nested part into a variable or a
+routine of its own.",
         example: Some(Example {
             broken: "[ Main;
     print
@@ -108,11 +108,11 @@ lies deep a variable or a routine of its own.",
     Explanation {
         name: "E10",
         title: "not in the grammar",
-        rule: "No program begins with the tokens up to this one; the end of the source counts
-as one. Often a semicolon, a bracket or an operator is missing just before it,
-or a reserved word, as child, move or string, stands where a name is wanted. Or
-it is a form of Inform 6 that this language leaves out: docs/LANGUAGE.md has the
-grammar and the reserved words.",
+        rule: "No program begins with the tokens up to this one; the end of the source file
+counts as a token. Often a semicolon, a bracket or an operator is missing just
+before it, or a reserved word, such as child, move or string, is used as a name.
+Or it is a form of Inform 6 that this language leaves out: docs/LANGUAGE.md has
+the grammar and the reserved words.",
         example: Some(Example {
             broken: "[ Main;
     print \"hello\"

@@ -7,12 +7,12 @@ pub(crate) static USES: [Explanation; 7] = [
     Explanation {
         name: "E20",
         title: "unknown name",
-        rule: "A name is defined somewhere in the file, before or behind its use, or is a local
-of the routine. A Constant in the value of a Constant, and the object in which
-another one is put by its name, are defined earlier in the file, so that nothing
-is defined by itself; and arrows need an object before them to stand in. Define
-the name, move its definition up, or mend its spelling (capital and small
-letters are the same).",
+        rule: "A name must be defined somewhere in the file, before or after its use, or be a
+local of the routine. Two things must be defined earlier in the file: a Constant
+in the value of a Constant, and the object that another one names as its parent.
+Arrows need an object before them that can hold theirs. Define the name, move
+its definition up, or correct its spelling (capital and small letters are the
+same).",
         example: Some(Example {
             broken: "[ Main;
     score = score + 5;
@@ -29,9 +29,10 @@ letters are the same).",
     Explanation {
         name: "E21",
         title: "no proper Main",
-        rule: "A story begins with a call of Main without arguments, so a source has a routine
-Main, and it has no locals. Name the routine that comes first Main; what it
-keeps stands in a Global, or in the locals of a routine that it calls.",
+        rule: "A story begins by calling Main without arguments, so a source file needs a
+routine named Main that has no locals. Give the routine that runs first the name
+Main. Put what it has to remember into a Global, or into the locals of a routine
+that it calls.",
         example: Some(Example {
             broken: "[ Main times;
     for (times = 3 : times > 0 : times--) print \"hello^\";
@@ -48,11 +49,11 @@ keeps stands in a Global, or in the locals of a routine that it calls.",
     Explanation {
         name: "E22",
         title: "name defined twice",
-        rule: "All names of a file share one space, whatever they stand for, and capital and
-small letters are the same. So a name is defined once in a file (the property
-name is there from the start), and once among the locals of a routine, which may
-hide a name of the file; and an object gives a property once. Rename the second,
-or take it out.",
+        rule: "All names of a file share one space, whatever they name, and capital and small
+letters are the same. So a name is defined once in a file (the property name is
+there from the start), and once among the locals of a routine, which may hide a
+name of the file. An object gives a property once. Rename or remove the second
+one.",
         example: Some(Example {
             broken: "Attribute lit;
 Global Lit = 1;
@@ -71,12 +72,12 @@ Global lamps = 1;
     Explanation {
         name: "E23",
         title: "wrong kind of name",
-        rule: "The name is defined, but as something else than what can stand here. A routine
-is called, F(); an array is read by -> or -->, a property by . and an attribute
-asked by has: none of them is a value alone, and nothing else can stand in their
-place. What is fixed before the story runs, as a value of a case or of a Global,
+        rule: "The name is defined, but as something that cannot be used here. Call a routine,
+F(); read an array with -> or -->, read a property with . and test an attribute
+with has: none of them is a value by itself, and nothing else works in their
+place. A value fixed before the story runs, such as that of a case or a Global,
 is made of numbers, words, Constants and objects. The two arrays of a read are
-of bytes, and not one array.",
+byte arrays, and not the same one.",
         example: Some(Example {
             broken: "[ Seven;
     return 7;
@@ -97,9 +98,10 @@ of bytes, and not one array.",
     Explanation {
         name: "E25",
         title: "too many arguments for the routine",
-        rule: "The arguments of a call are the first locals of the routine, so a call has at
-most as many as the routine has locals. It may have fewer: the other locals
-begin as 0. Give the routine one more local, or the call one argument less.",
+        rule: "The arguments of a call become the first locals of the routine, so a call may
+not have more arguments than the routine has locals. It may have fewer: the
+other locals then begin as 0. Add a local to the routine, or remove an argument
+from the call.",
         example: Some(Example {
             broken: "[ Double n;
     return n + n;
@@ -120,10 +122,11 @@ begin as 0. Give the routine one more local, or the call one argument less.",
     Explanation {
         name: "E26",
         title: "not assignable",
-        rule: "Left of = stands what can take a value: a variable, an entry of an array, a
-property of an object or a word of one. ++ and -- change variables alone. A
-number, a Constant, a call or a sum keeps no value. Assign to a Global or a
-local; for ++ of an entry write a->i = a->i + 1. To compare two values write ==.",
+        rule: "Only what can hold a value may be to the left of =: a variable, an entry of an
+array, a property of an object, or a word of a property. ++ and -- change only
+variables. A number, a Constant, a call or a sum holds no value. Assign to a
+Global or a local; instead of ++ on an entry write a->i = a->i + 1. To compare
+two values write ==.",
         example: Some(Example {
             broken: "Constant lives = 3;
 
@@ -143,9 +146,9 @@ local; for ++ of an entry write a->i = a->i + 1. To compare two values write ==.
         name: "E27",
         title: "break or continue outside",
         rule: "break leaves the innermost loop or switch around it, and continue goes on with
-the innermost loop, which a switch is not. Here the routine has none around the
-word. Put it into the loop that was meant; what leaves the whole routine is
-return.",
+the next round of the innermost loop; a switch is not a loop. This routine has
+none around the word. Move it into the loop you meant, or leave the whole
+routine with return.",
         example: Some(Example {
             broken: "Global lives = 3;
 

@@ -59,7 +59,9 @@ pub fn misfit(
         Cause::Reserved(place) => reserved(alloc, tokens, number, token, place),
         Cause::Repeated => format!(in alloc; "{met} does not fit here a second time"),
         Cause::PrintForm => {
-            format!(in alloc; "{met} does not fit here; print has the forms (char) and (object)")
+            format!(in alloc;
+                "{met} does not fit here; print has only the forms (char) and (object)"
+            )
         }
         Cause::Missing(sign, place) => missing(alloc, tokens, number, token, sign, place),
         Cause::Unknown => format!(in alloc; "{met} does not fit here"),
@@ -73,5 +75,5 @@ pub fn misfit(
 /// `AllocError` where memory is refused.
 pub fn too_deep(alloc: Global, token: Token<'_>) -> Result<String, AllocError> {
     let met = Met(token);
-    format!(in alloc; "{met} stands more than 100 nestings deep")
+    format!(in alloc; "{met} is nested more than 100 deep")
 }

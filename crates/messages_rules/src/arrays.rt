@@ -68,10 +68,10 @@ fn entry(alloc: Global, known: Option<Known>) -> Result<Option<String>, AllocErr
     match known {
         Some(Known::Number(number)) => {
             let number = Figure(number as u128);
-            Ok(Some(format!(in alloc; "an entry of {number}; 255 is the most of a byte")?))
+            Ok(Some(format!(in alloc; "an entry of {number}; a byte holds at most 255")?))
         }
         Some(Known::Key(_)) => {
-            let sentence = "a dictionary word is above 255, the most of a byte";
+            let sentence = "a dictionary word does not fit into a byte";
             Ok(Some(String::from_str(alloc, sentence)?))
         }
         None => Ok(None),
@@ -99,7 +99,7 @@ fn only(
         Some(Known::Key(_)) => {
             let name = Quoted(name);
             Ok(Some(format!(in alloc;
-                "the size of {name} is a dictionary word; a number is wanted"
+                "the size of {name} is a dictionary word; a number is expected"
             )?))
         }
         None => Ok(None),

@@ -70,7 +70,7 @@ fn misnamed(
         None => format!(in alloc; "{sign} needs {wanted}"),
         Some(kind) => {
             let name = Quoted(name);
-            format!(in alloc; "{sign} needs {wanted}, and {name} is {kind}")
+            format!(in alloc; "{sign} needs {wanted}, but {name} is {kind}")
         }
     }
 }
@@ -109,9 +109,9 @@ pub fn not_assignable(
 /// `AllocError` where memory is refused.
 pub fn outside(alloc: Global, tokens: &[Token<'_>], at: usize) -> Result<String, AllocError> {
     let sentence = if is_word(tokens, at, Word::Break) {
-        "'break' stands in no loop and in no switch"
+        "'break' is not inside a loop or a switch"
     } else {
-        "'continue' stands in no loop"
+        "'continue' is not inside a loop"
     };
     Ok(String::from_str(alloc, sentence)?)
 }

@@ -32,10 +32,10 @@ fn again(
 ) -> Result<String, AllocError> {
     let name = Quoted(name);
     if first == at {
-        return format!(in alloc; "{name} is a property from the start");
+        return format!(in alloc; "{name} is a built-in property");
     }
     let line = line_of(tokens, first);
-    format!(in alloc; "{name} is defined in line {line} already")
+    format!(in alloc; "{name} is already defined in line {line}")
 }
 
 /// What is wrong with a name that stands a second time as a token, which has a number.
@@ -102,7 +102,7 @@ fn abbreviation(
         return Ok(None);
     };
     let line = line_of(tokens, first);
-    Ok(Some(format!(in alloc; "{written} is an abbreviation in line {line} already")?))
+    Ok(Some(format!(in alloc; "{written} is already an abbreviation in line {line}")?))
 }
 
 /// What is wrong with an abbreviation, a token that has a number. `None` where it is no text, or

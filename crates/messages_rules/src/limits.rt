@@ -22,7 +22,7 @@ fn definitions(what: Definition) -> Option<Limit> {
     match what {
         Definition::Global => Some((MOST_GLOBALS, "globals")),
         Definition::Attribute => Some((ATTRIBUTE_COUNT as usize, "attributes")),
-        Definition::Property => Some((MOST_PROPERTIES, "properties beside name")),
+        Definition::Property => Some((MOST_PROPERTIES, "properties besides name")),
         Definition::Object => Some((MOST_OBJECTS, "objects")),
         _ => None,
     }
@@ -61,7 +61,7 @@ fn passed(tokens: &[Token<'_>], at: usize, around: Option<Defined>) -> Option<Li
 fn long_name(alloc: Global, text: &[u8]) -> Result<Option<String>, AllocError> {
     let words = Figure(name_words(text));
     Ok(Some(format!(in alloc;
-        "a short name of {words} words of Z-text; {LONGEST_SHORT_NAME} is the most"
+        "a short name of {words} words of Z-text; the limit is {LONGEST_SHORT_NAME}"
     )?))
 }
 
@@ -102,7 +102,7 @@ pub fn too_many(
 fn needs_many(alloc: Global, number: u8) -> Result<String, AllocError> {
     let or_more = if number == u8::MAX { " or more" } else { "" };
     format!(in alloc;
-        "the expression needs {number}{or_more} temporaries; {MOST_TEMPORARIES} is the most"
+        "the expression needs {number}{or_more} temporaries; the limit is {MOST_TEMPORARIES}"
     )
 }
 

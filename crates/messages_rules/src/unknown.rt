@@ -20,11 +20,11 @@ fn arrows(tokens: &[Token<'_>], at: usize) -> usize {
 /// What is wrong with so many arrows without an object to stand in.
 fn arrow(alloc: Global, count: usize) -> Result<String, AllocError> {
     if count < 2 {
-        return format!(in alloc; "this arrow has no object to stand in");
+        return format!(in alloc; "this arrow has no object to go into");
     }
     let arrows = Figure(count as u128);
     let fewer = Counted(count.saturating_sub(1) as u128, "arrow");
-    format!(in alloc; "these {arrows} arrows have no object of {fewer} to stand in")
+    format!(in alloc; "these {arrows} arrows have no object with {fewer} to go into")
 }
 
 /// What is wrong with a name that is the token of a number.
@@ -35,10 +35,10 @@ fn name(alloc: Global, tokens: &[Token<'_>], at: usize, text: &[u8]) -> Result<S
         Some(defined) if defined > at => {
             let line = line_of(tokens, defined);
             format!(in alloc;
-                "{name} is defined further down, in line {line}, and must be known here"
+                "{name} is defined in line {line}, but must be defined before its use here"
             )
         }
-        Some(_) => format!(in alloc; "{name} is not known yet in its own definition"),
+        Some(_) => format!(in alloc; "{name} cannot be used in its own definition"),
     }
 }
 
@@ -65,7 +65,7 @@ fn with_locals(alloc: Global, count: usize) -> Result<Option<String>, AllocError
         return Ok(None);
     }
     let locals = Counted(count as u128, "local");
-    Ok(Some(format!(in alloc; "Main has {locals}, and may have none")?))
+    Ok(Some(format!(in alloc; "Main has {locals}; it may have none")?))
 }
 
 /// What is wrong with Main. `None` where nothing is.
@@ -79,7 +79,7 @@ pub fn no_main(alloc: Global, table: &Table) -> Result<Option<String>, AllocErro
         Some(Binding::Routine(_, count)) => with_locals(alloc, count),
         Some(other) => {
             let kind = kind_of(other);
-            Ok(Some(format!(in alloc; "Main is {kind}, and must be a routine")?))
+            Ok(Some(format!(in alloc; "Main is {kind}; it must be a routine")?))
         }
     }
 }

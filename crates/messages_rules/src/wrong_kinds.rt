@@ -22,8 +22,10 @@ fn misread(binding: Binding) -> Option<&'static str> {
 fn read(alloc: Global, name: &[u8], binding: Binding) -> Result<String, AllocError> {
     let name = Quoted(name);
     match misread(binding) {
-        None => format!(in alloc; "{name} is read into already; another array is wanted here"),
-        Some(kind) => format!(in alloc; "{name} is {kind}; an array of bytes is wanted here"),
+        None => format!(in alloc;
+            "{name} is already used by this read; another array is expected here"
+        ),
+        Some(kind) => format!(in alloc; "{name} is {kind}; an array of bytes is expected here"),
     }
 }
 
@@ -31,7 +33,7 @@ fn read(alloc: Global, name: &[u8], binding: Binding) -> Result<String, AllocErr
 fn other(alloc: Global, name: &[u8], binding: Binding, wanted: &str) -> Result<String, AllocError> {
     let name = Quoted(name);
     let kind = kind_of(binding);
-    format!(in alloc; "{name} is {kind}; {wanted} is wanted here")
+    format!(in alloc; "{name} is {kind}; {wanted} is expected here")
 }
 
 /// What is wanted in a definition where a name stands, which may be a variable.

@@ -60,13 +60,13 @@ fn heavy(alloc: Global, source: &[u8], version: Version) -> Result<Option<String
     let most = Figure(greatest_weight(version));
     let sentence = match version {
         Version::V5 if is_large_story(alloc, source, found)? => format!(in alloc;
-            "the source weighs {weight}; {most} is the most for version 5, and -v 8 would do"
+            "the source weighs {weight}; the limit of version 5 is {most}, but -v 8 has room for it"
         ),
         Version::V5 => {
-            format!(in alloc; "the source weighs {weight}; {most} is the most for version 5")
+            format!(in alloc; "the source weighs {weight}; the limit of version 5 is {most}")
         }
         Version::V8 => {
-            format!(in alloc; "the source weighs {weight}; {most} is the most for version 8")
+            format!(in alloc; "the source weighs {weight}; the limit of version 8 is {most}")
         }
     };
     Ok(Some(sentence?))
@@ -80,7 +80,7 @@ fn large_tables(alloc: Global, source: &[u8]) -> Result<Option<String>, AllocErr
     let bytes = Figure(whole.tables);
     let most = Figure(MOST_TABLE_BYTES);
     Ok(Some(format!(in alloc;
-        "arrays, objects, words and abbreviations have {bytes} bytes; {most} is the most"
+        "arrays, objects, words and abbreviations have {bytes} bytes; the limit is {most}"
     )?))
 }
 

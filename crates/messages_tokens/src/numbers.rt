@@ -24,11 +24,11 @@ pub fn number(alloc: Global, bytes: &[u8]) -> Result<String, AllocError> {
     let number = front(bytes, begin.saturating_add(count));
     let behind = from(bytes, number.len());
     if count == 0 {
-        return format!(in alloc; "no {word}digit stands behind {}", Quoted(number));
+        return format!(in alloc; "no {word}digit follows {}", Quoted(number));
     }
     if run_length(Class::Name, front(behind, 1)) > 0 {
         let next = Quoted(front(behind, 1));
-        return format!(in alloc; "{next} stands directly behind the number {}", Cut(number));
+        return format!(in alloc; "{next} directly follows the number {}", Cut(number));
     }
-    format!(in alloc; "{} is above 65,535", Cut(number))
+    format!(in alloc; "{} is greater than 65,535", Cut(number))
 }

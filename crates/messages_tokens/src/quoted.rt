@@ -4,7 +4,7 @@ use crate::runs::{Class, byte_of_line, from, front, run_length};
 use std::alloc::{AllocError, Global};
 
 /// Where what is quoted has no end.
-const NO_END: &str = "no quote closes this one in its line";
+const NO_END: &str = "this quote is not closed on its line";
 
 /// What is wrong with a text, from the byte behind its quote on.
 fn text(alloc: Global, rest: &[u8]) -> Result<Option<String>, AllocError> {
@@ -23,10 +23,10 @@ fn said(alloc: Global, sentence: &str) -> Result<Option<String>, AllocError> {
 /// That a byte may not stand there.
 pub fn misplaced(alloc: Global, byte: u8, place: &str) -> Result<Option<String>, AllocError> {
     if !matches!(byte, b' '..=b'~') {
-        return Ok(Some(format!(in alloc; "the byte {byte} may not stand {place}")?));
+        return Ok(Some(format!(in alloc; "byte {byte} is not allowed {place}")?));
     }
     let sign = char::from(byte);
-    Ok(Some(format!(in alloc; "'{sign}' may not stand {place}")?))
+    Ok(Some(format!(in alloc; "'{sign}' is not allowed {place}")?))
 }
 
 /// Whether two slashes stand side by side.
@@ -42,17 +42,17 @@ fn has_two_slashes(bytes: &[u8]) -> bool {
 /// What is wrong with what stands between single quotes, if no other byte than may stand there.
 fn content(alloc: Global, bytes: &[u8]) -> Result<Option<String>, AllocError> {
     let word = match bytes {
-        [] => return said(alloc, "nothing stands between the quotes"),
-        [_] => return said(alloc, "'^' alone is no character"),
+        [] => return said(alloc, "there is nothing between the quotes"),
+        [_] => return said(alloc, "'^' alone is not a character"),
         [word @ .., b'/', b'/'] => word,
         _ => bytes,
     };
     if word.is_empty() {
-        said(alloc, "nothing stands before the two slashes")
+        said(alloc, "there is nothing before the two slashes")
     } else if has_two_slashes(word) {
-        said(alloc, "two slashes may stand only at the end of a word")
+        said(alloc, "two slashes are allowed only at the end of a word")
     } else {
-        said(alloc, "a space may not stand in a word")
+        said(alloc, "a word may not contain a space")
     }
 }
 

@@ -12,7 +12,7 @@ fn stray(alloc: Global, bytes: &[u8]) -> Result<Option<String>, AllocError> {
         None => Ok(None),
         Some(byte) if matches!(byte, b' '..=b'~') => {
             let sign = char::from(byte);
-            Ok(Some(format!(in alloc; "'{sign}' begins no token")?))
+            Ok(Some(format!(in alloc; "no token begins with '{sign}'")?))
         }
         Some(byte) => misplaced(alloc, byte, "in a source"),
     }
@@ -21,7 +21,7 @@ fn stray(alloc: Global, bytes: &[u8]) -> Result<Option<String>, AllocError> {
 /// What is wrong with a name that is too long.
 fn long_name(alloc: Global, bytes: &[u8]) -> Result<String, AllocError> {
     let length = run_length(Class::Name, bytes);
-    format!(in alloc; "the name has {length} bytes; 32 is the most")
+    format!(in alloc; "the name has {length} bytes; the limit is 32")
 }
 
 /// What is wrong at an offset of a source that breaks a rule of bytes or tokens, by the rule's

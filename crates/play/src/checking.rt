@@ -1,25 +1,27 @@
 //! What is in story files, without running them.
 
+use crate::words::Format;
 use crate::{broken, refuse, story_in};
 use one_line::OneLine;
 use session::{LoadFault, RunFault};
+use std::fmt::Display;
 use std::io;
 use std::process::ExitCode;
-use survey::{Brief, Contents, Survey};
+use survey::{Brief, Columns, Contents, Survey};
 
-/// The status where a story does not load.
+/// The status of a story that does not load.
 const REFUSED: u8 = 1;
 
-/// The status where a story loads, but an opcode outside the profile, or one with operands outside
-/// it, can be reached in it.
+/// The status of a story that loads and reaches an opcode outside the profile, or one with operands
+/// outside it.
 const OUTSIDE: u8 = 6;
 
-/// Says what is in the file of a name, or in a line of each of several whether it plays. The status
-/// is the greatest of theirs.
-pub fn check(rt: &HostRuntime, files: &[&str]) -> ExitCode {
-    match files {
-        [file] => check_alone(rt, file),
-        _ => check_each(rt, files),
+/// Says what is in the file of a name, or whether each of several files loads, a line for each. The
+/// status is the greatest of theirs.
+pub fn check(rt: &HostRuntime, files: &[&str], format: Format) -> ExitCode {
+    match (files, format) {
+        ([file], Format::Words) => check_alone(rt, file),
+        _ => check_each(rt, files, format),
     }
 }
 
@@ -40,11 +42,11 @@ fn check_alone(rt: &HostRuntime, file: &str) -> ExitCode {
     }
 }
 
-/// Says of each file in a line whether it plays.
-fn check_each(rt: &HostRuntime, files: &[&str]) -> ExitCode {
+/// Says in a line for each file whether it loads.
+fn check_each(rt: &HostRuntime, files: &[&str], format: Format) -> ExitCode {
     let mut greatest = 0;
     for file in files {
-        match check_in_line(rt, file) {
+        match check_in_line(rt, file, format) {
             Ok(status) => greatest = greatest.max(status),
             Err(_) => return broken(rt, RunFault::Writing),
         }
@@ -52,24 +54,45 @@ fn check_each(rt: &HostRuntime, files: &[&str]) -> ExitCode {
     ExitCode::from(greatest)
 }
 
-/// Says of a file in a line whether it plays, and answers its status.
-fn check_in_line(rt: &HostRuntime, file: &str) -> io::Result<u8> {
+/// Says in a line whether a file loads, and returns its status.
+fn check_in_line(rt: &HostRuntime, file: &str, format: Format) -> io::Result<u8> {
     let name = OneLine(file);
     let Ok(story) = story_in(rt, file) else {
-        println!(rt; "{name}: cannot be read")?;
-        return Ok(REFUSED);
+        return unknown(rt, name, format, "cannot be read");
     };
     let Ok(survey) = Survey::read(rt.alloc(), story.as_slice()) else {
-        let fault = LoadFault::Memory;
-        println!(rt; "{name}: {fault}")?;
-        return Ok(REFUSED);
+        return unknown(rt, name, format, LoadFault::Memory);
     };
-    let brief = Brief(&survey);
-    println!(rt; "{name}: {brief}")?;
-    match &survey.found {
-        Ok(contents) => Ok(status_of(contents)),
-        Err(_) => Ok(REFUSED),
+    let status = match &survey.found {
+        Ok(contents) => status_of(contents),
+        Err(_) => REFUSED,
+    };
+    match format {
+        Format::Words => {
+            let brief = Brief(&survey);
+            println!(rt; "{name}: {brief}")?;
+        }
+        Format::Columns => {
+            let columns = Columns(&survey);
+            println!(rt; "{name}\t{status}\t{columns}")?;
+        }
     }
+    Ok(status)
+}
+
+/// Says in a line why nothing is known of a file, and returns the status. The columns after the
+/// cause are empty.
+fn unknown<W: Display + Drop>(
+    rt: &HostRuntime,
+    name: OneLine<'_>,
+    format: Format,
+    why: W,
+) -> io::Result<u8> {
+    match format {
+        Format::Words => println!(rt; "{name}: {why}")?,
+        Format::Columns => println!(rt; "{name}\t{REFUSED}\t{why}\t\t\t\t\t")?,
+    }
+    Ok(REFUSED)
 }
 
 /// The status of a story that loads.

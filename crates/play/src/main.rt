@@ -5,6 +5,7 @@ mod checking;
 mod filling;
 mod reading;
 mod standing;
+mod terminal;
 mod words;
 
 ghost use Rattle.play.specs.Range.{IsInRange};
@@ -12,7 +13,8 @@ ghost use Rattle.play.specs.Range.{IsInRange};
 use crate::checking::check;
 use crate::reading::read_story;
 use crate::standing::Standing;
-use crate::words::{Asked, Words, words_of};
+use crate::terminal::Transcript;
+use crate::words::{Asked, Words, take_format, words_of};
 use messages_explanations::Program;
 use one_line::OneLine;
 use session::{RunFault, Session, run, status};
@@ -32,17 +34,18 @@ const BROKEN: u8 = 5;
 
 fn main(rt: HostRuntime) -> ExitCode {
     let alloc = rt.alloc();
-    let given: Vec<String> = match env::args(&rt) {
+    let mut given: Vec<String> = match env::args(&rt) {
         Ok(words) => match words.collect(alloc) {
             Ok(words) => words,
             Err(_) => return refuse(&rt, "cannot read the command line"),
         },
         Err(_) => return refuse(&rt, "cannot read the command line"),
     };
+    let format = take_format(&mut given);
     match words_of(alloc, given.as_slice()) {
         Ok(Asked::Play(words)) => play(&rt, words),
         Ok(Asked::Explain(name)) => explain(&rt, name),
-        Ok(Asked::Check(files)) => check(&rt, files.as_slice()),
+        Ok(Asked::Check(files)) => check(&rt, files.as_slice(), format),
         Err(error) => {
             let status = if error.use_stderr() { REFUSED } else { 0 };
             match error.print(&rt) {
@@ -102,7 +105,8 @@ fn play(rt: &HostRuntime, words: Words<'_>) -> ExitCode
         Ok(session) => session,
         Err(fault) => return refuse(rt, fault),
     };
-    let ran = run(&mut rt.stdin(), &mut rt.stdout(), &mut session);
+    let mut transcript = Transcript::new(rt, rt.stdout());
+    let ran = run(&mut rt.stdin(), &mut transcript, &mut session);
     if words.why && ran.is_ok() {
         let standing = Standing::of(&session);
         let _ = eprintln!(rt; "{standing}");

@@ -7,29 +7,45 @@ ghost use Rattle.play.specs.Arguments.{HasNoArgument, IsAloneNamed, IsPlainNamed
 use clap::{Arg, ArgAction, Command, Error, value_parser};
 use std::alloc::Global;
 
-/// The fuel of a turn where `--fuel` does not say.
+/// The units of fuel of a turn without `--fuel`.
 const FUEL: u32 = 1_000_000;
 
-/// Where help ends: the player's own lines, an example, and what is written elsewhere.
-const MORE: &str = "The line /undo takes the latest turn back, and the line /redo does it again.
+/// The end of the help: the player's own lines, an example, and the documents that say more.
+const MORE: &str = "The line /undo takes back the latest turn, and the line /redo does it again.
+At a terminal, ctrl-D ends the input.
+
+With `--format tsv` directly after it, --check prints a line of 8 columns for each STORY.
 
 Example, which keeps the lines and the transcript:
   tee lines | play game.z5 | tee transcript
 
-The player, with its limits and machine faults: docs/MACHINE.md
-The story file, with the causes Z4 to Z8 for which one is refused: docs/STORY_FILE.md
-All messages and statuses: docs/COMMANDS.md, and in short the page play(6)";
+The installed documents and examples are in share/doc/felgoniz:
+  docs/COMMANDS.md    all options, messages and statuses
+  docs/ARCHIVES.md    how to check many story files
+  docs/MACHINE.md     the player, with its limits and machine faults
+  docs/STORY_FILE.md  the story file, and why one is refused (Z4 to Z8)
+The man page play(6) is shorter.";
+
+/// How the answers to `--check` are printed.
+#[derive(Clone, Copy)]
+pub enum Format {
+    /// In words for people: a page for one file, a line for each of several.
+    Words,
+
+    /// A line of columns for each file, with a tab between two columns.
+    Columns,
+}
 
 /// What the command line asks for.
 #[derive(Drop)]
 pub enum Asked<'a> {
-    /// To explain the answer of this name, or else to list all answers.
+    /// To explain the answer of this name, or without one to list all answers.
     Explain(Option<&'a str>),
 
     /// To play a story.
     Play(Words<'a>),
 
-    /// To say what is in files, one or more, and to run none.
+    /// To say what is in one or more files, without running them.
     Check(Vec<&'a str>),
 }
 
@@ -42,10 +58,10 @@ pub struct Words<'a> {
     /// The units that a turn may spend, from 1 to 10,000,000.
     pub fuel: u32,
 
-    /// How many turns can be taken back at most, up to 100,000; all of them where it does not say.
+    /// How many turns can be taken back, up to 100,000; `None` for all of them.
     pub keep: Option<u32>,
 
-    /// Whether to say at the end where the story stands.
+    /// Whether to say at the end where the story is.
     pub why: bool,
 }
 
@@ -57,7 +73,7 @@ fn fuel_argument<'a>(alloc: Global) -> Arg<'a>
     Arg::new(alloc, "fuel")
         .long("fuel")
         .value_name("N")
-        .help("The units of fuel that a turn may spend, from 1 to 10000000 [default: 1000000]")
+        .help("Give each turn N units of fuel, from 1 to 10000000 [default: 1000000]")
         .action(ArgAction::Set)
         .value_parser(value_parser!(u32).range(1..=10_000_000))
 }
@@ -70,22 +86,22 @@ fn undo_argument<'a>(alloc: Global) -> Arg<'a>
     Arg::new(alloc, "undo")
         .long("undo")
         .value_name("N")
-        .help("How many turns can be taken back at most, from 0 to 100000 [default: all]")
+        .help("Keep up to N turns to undo, from 0 to 100000 [default: all]")
         .action(ArgAction::Set)
         .value_parser(value_parser!(u32).range(0..=100_000))
 }
 
-/// Whether to say where the story stands.
+/// Whether to say where the story is.
 fn why_argument<'a>(alloc: Global) -> Arg<'a>
     ensures { IsPlainNamed (codes "why") result }
 {
     Arg::new(alloc, "why")
         .long("why")
-        .help("Say at the end on standard error where the story stands, and why it was stopped")
+        .help("Say at the end on standard error where the story is, and why it was stopped")
         .action(ArgAction::SetTrue)
 }
 
-/// The files that are looked at, beside which nothing else is asked for.
+/// The files to check. No other argument may be given; [`take_format`] has taken `--format tsv`.
 fn check_argument<'a>(alloc: Global) -> Arg<'a>
     ensures { IsAloneNamed (codes "check") result }
 {
@@ -93,21 +109,21 @@ fn check_argument<'a>(alloc: Global) -> Arg<'a>
         .long("check")
         .value_name("STORY")
         .help(
-            "Say of each STORY whether it loads, and which opcodes outside the profile were reached; none is played",
+            "Say whether each STORY loads, and which opcodes outside the profile it reaches; play none",
         )
         .num_args(1..)
         .exclusive(true)
         .action(ArgAction::Set)
 }
 
-/// The answer that is to be explained, beside which nothing else is asked for.
+/// The name of the answer to explain. No other argument may be given.
 fn explain_argument<'a>(alloc: Global) -> Arg<'a>
     ensures { IsAloneNamed (codes "explain") result }
 {
     Arg::new(alloc, "explain")
         .long("explain")
         .value_name("NAME")
-        .help("Explain the answer of this name, as Z7, or list all answers; nothing is played")
+        .help("Explain the answer NAME, such as Z7, or list all answers; play nothing")
         .num_args(0..=1)
         .exclusive(true)
         .action(ArgAction::Set)
@@ -119,7 +135,7 @@ fn story_argument<'a>(alloc: Global) -> Arg<'a>
 {
     Arg::new(alloc, "story")
         .value_name("STORY")
-        .help("A story file of version 5 or 8, which zero bytes may fill to a multiple of 512")
+        .help("A story file of version 5 or 8; zero bytes may fill it to a multiple of 512")
         .required(true)
         .action(ArgAction::Set)
 }
@@ -129,9 +145,30 @@ fn program<'a>(alloc: Global) -> Command<'a>
     ensures { HasNoArgument result }
 {
     Command::new(alloc, "play")
-        .version("1.0.0")
-        .about("Plays a Z-machine story file on the lines of standard input")
+        .version("1.1.0")
+        .about("Plays a Z-machine story file with the lines of standard input")
         .after_help(MORE)
+}
+
+/// Takes `--format tsv` out of the words of a command line, if it is directly after `--check` and
+/// that is the first word after the program's name. Says how the answers are printed.
+pub fn take_format(given: &mut Vec<String>) -> Format {
+    match given.as_slice() {
+        [_, check, format, tsv, ..]
+            if check.as_str() == "--check"
+                && format.as_str() == "--format"
+                && tsv.as_str() == "tsv" => {
+            given.remove(3);
+            given.remove(2);
+            Format::Columns
+        }
+        [_, check, format, ..]
+            if check.as_str() == "--check" && format.as_str() == "--format=tsv" => {
+            given.remove(2);
+            Format::Columns
+        }
+        _ => Format::Words,
+    }
 }
 
 /// Reads the words of a command line. Its numbers are in their ranges.

@@ -63,9 +63,9 @@ pub struct Facts {
     pub abbreviations: u16,
 }
 
-/// The bytes of a serial number, those that are no sign as a full stop.
+/// The bytes of a serial number. `Display` writes a full stop for each that does not print.
 #[derive(Clone, Copy)]
-struct Serial([u8; 6]);
+pub(crate) struct Serial(pub [u8; 6]);
 
 impl fmt::Display for Serial {
     fn fmt<W: fmt::Write>(&self, f: &mut fmt::Formatter<W>) -> fmt::Result {

@@ -2,6 +2,7 @@
 #![tactic(auto)]
 
 mod beginning;
+mod columns;
 mod contents;
 mod facts;
 mod misplaced;
@@ -10,6 +11,7 @@ mod reach;
 mod survey;
 
 pub use beginning::Beginning;
+pub use columns::Columns;
 pub use contents::Contents;
 pub use facts::Facts;
 pub use misplaced::{Misplaced, Table};

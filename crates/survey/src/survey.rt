@@ -173,7 +173,16 @@ fn write_needs<W: fmt::Write>(f: &mut fmt::Formatter<W>, contents: &Contents) ->
     if contents.outside.is_empty() {
         return f.write_str("loads");
     }
-    let mut before = "needs ";
+    f.write_str("needs ")?;
+    write_outside(f, contents)
+}
+
+/// Writes the opcodes outside the profile that a story reaches, with a comma between two.
+pub(crate) fn write_outside<W: fmt::Write>(
+    f: &mut fmt::Formatter<W>,
+    contents: &Contents,
+) -> fmt::Result {
+    let mut before = "";
     for outside in &contents.outside {
         f.write_str(before)?;
         match outside.opcode.name() {

@@ -1,0 +1,52 @@
+//! A survey as columns of a table.
+
+use crate::contents::Contents;
+use crate::facts::{Facts, Serial};
+use crate::survey::{Survey, write_outside};
+use std::fmt;
+use zcore::Version;
+
+/// A survey as six columns with a tab between two, for programs that read them: `loads`, `needs` or
+/// the cause for which it is refused; the opcodes that it needs beyond the profile, with a comma
+/// between two; the version; the bytes that were read; the release; and the serial number. A column
+/// is empty if there is nothing to say.
+#[derive(Clone, Copy)]
+pub struct Columns<'a>(pub &'a Survey);
+
+impl fmt::Display for Columns<'_> {
+    fn fmt<W: fmt::Write>(&self, f: &mut fmt::Formatter<W>) -> fmt::Result {
+        match &self.0.found {
+            Ok(contents) => write_answer(f, contents)?,
+            Err(fault) => write!(f, "{fault}\t")?,
+        }
+        let size = self.0.size;
+        match self.0.facts {
+            Some(facts) => write_header(f, &facts, size),
+            None => write!(f, "\t\t{size}\t\t"),
+        }
+    }
+}
+
+/// Writes whether a story that loads needs opcodes outside the profile, and which.
+fn write_answer<W: fmt::Write>(f: &mut fmt::Formatter<W>, contents: &Contents) -> fmt::Result {
+    if contents.outside.is_empty() {
+        return f.write_str("loads\t");
+    }
+    f.write_str("needs\t")?;
+    write_outside(f, contents)
+}
+
+/// Writes the columns that the header fills, and the bytes that were read among them.
+fn write_header<W: fmt::Write>(
+    f: &mut fmt::Formatter<W>,
+    facts: &Facts,
+    size: usize,
+) -> fmt::Result {
+    let version = match facts.version {
+        Version::V5 => 5,
+        Version::V8 => 8,
+    };
+    let release = facts.release;
+    let serial = Serial(facts.serial);
+    write!(f, "\t{version}\t{size}\t{release}\t{serial}")
+}
