@@ -10,7 +10,7 @@ use Rattle.zcore_standard.specs.declared.loading.LoadedStory.{LoadedStory}
 use Rattle.zcore_standard.specs.Loading.{IsPlayable, ReadsFile, characters_of, loaded_of, memory_for, seeded}
 use Rattle.zcore_standard.specs.Loading.{story_in, story_length}
 use Rattle.zcore_standard.proofs.Headers.{length_stays}
-use Rattle.zcore_standard.specs.Place.{Loaded}
+use Rattle.zcore_standard.specs.Loaded.{Loaded}
 use Rattle.machine_frames.specs.Contents.{Contents, memory_of}
 use Rattle.machine_frames.specs.States.{state_of, IsSound, IsHeadedBy}
 use Rattle.machine_standard.specs.Loads.{Begins, IsLoaded, IsStoreFor}

@@ -14,7 +14,8 @@ use Rattle.zcore.specs.Execution.{step}
 use Rattle.zcore.specs.Header.{static_base_of}
 use Rattle.zcore.specs.Turn.{Reaches, ReachesBy, TurnsBy, Whole, first_next, first_state, notice}
 use Rattle.zcore_standard.specs.Laws.{ends_in_fault}
-use Rattle.zcore_standard.specs.Place.{Here, Loaded, on, within}
+use Rattle.zcore_standard.specs.Place.{Here, on, within}
+use Rattle.zcore_standard.specs.Loaded.{Loaded}
 use Rattle.zcore_standard.specs.Machine.{standard, standard_step, standard_ended, begins}
 use Rattle.zcore_standard.proofs.Turning.{standard_steps}
 use Rattle.zcore_standard.proofs.Waiting.{standard_step_waits}

@@ -2,7 +2,7 @@
 use Rattle.std.specs.Prelude.{ℕ, List, slice_index, Option, Some, None}
 use Rattle.std.specs.Borrow.{Bor}
 use Rattle.zcore.specs.Turn.{Whole, TurnsBy, first_next, first_state}
-use Rattle.zcore_standard.specs.Place.{Loaded}
+use Rattle.zcore_standard.specs.Loaded.{Loaded}
 use Rattle.zcore_standard.specs.Machine.{standard, standard_ended, begins}
 use Rattle.machine_frames.specs.Contents.{Contents, memory_of}
 use Rattle.machine_frames.specs.Playing.{AnswersBy}

@@ -13,7 +13,8 @@ use Rattle.zcore.specs.Turn.{first_environment}
 use Rattle.ztext.specs.Bytes.{word_at}
 use Rattle.zcore_standard.specs.Flow.{restarted, restart}
 use Rattle.zcore.specs.declared.beside.Beside.{Beside}
-use Rattle.zcore_standard.specs.Place.{Here, Loaded}
+use Rattle.zcore_standard.specs.Place.{Here}
+use Rattle.zcore_standard.specs.Loaded.{Loaded}
 use Rattle.zcore_standard.specs.Machine.{begins}
 use Rattle.machine_frames.specs.Contents.{Contents, Wrote, memory_of}
 use Rattle.machine_frames.specs.States.{base_of, local_count, height_of, frame_of, frames_of, state_of, IsSound}

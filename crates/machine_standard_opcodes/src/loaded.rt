@@ -15,7 +15,7 @@ pub struct Loaded {
 }
 
 impl Model for Loaded {
-    ghost use Rattle.zcore_standard.specs.Place as definitions;
+    ghost use Rattle.zcore_standard.specs.Loaded as definitions;
 
     ghost Value = { definitions.Loaded };
 

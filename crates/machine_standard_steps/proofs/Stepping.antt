@@ -12,7 +12,8 @@ use Rattle.zcore.specs.Parts.{fault, operand_values}
 use Rattle.zcore.specs.State.{State, Out}
 use Rattle.zcore.specs.Turn.{weight}
 use Rattle.zcore_standard.specs.declared.operations.Further.{Further}
-use Rattle.zcore_standard.specs.Place.{Here, Loaded, within}
+use Rattle.zcore_standard.specs.Place.{Here, within}
+use Rattle.zcore_standard.specs.Loaded.{Loaded}
 use Rattle.zcore_standard.specs.Instruction.{Instruction, decode_further}
 use Rattle.zcore_standard.specs.Further.{perform_further, execute_further}
 use Rattle.zcore_standard.specs.Machine.{begins, chosen, standard_step}

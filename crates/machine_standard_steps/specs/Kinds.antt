@@ -12,7 +12,7 @@ use Rattle.zcore_standard.specs.declared.operations.Further.TheVariants.{SoundEf
 use Rattle.zcore_standard.specs.declared.operations.Further.TheVariants.{ArtShift, SetFont, SaveUndo, RestoreUndo}
 use Rattle.zcore_standard.specs.declared.operations.Further.TheVariants.{PrintTable, PrintUnicode, CheckUnicode}
 use Rattle.zcore_standard.specs.declared.operations.Further.TheVariants.{SetTrueColour}
-use Rattle.zcore_standard.specs.Place.{Loaded}
+use Rattle.zcore_standard.specs.Loaded.{Loaded}
 use Rattle.zcore_standard.specs.Further.{perform_keeping}
 
 -- whether an operation does nothing

@@ -5,9 +5,9 @@ use Rattle.std.proofs.lemmas.List.{take_all, map-append}
 use Rattle.std.specs.Io.KnownBytes.{Appends}
 use Rattle.std.proofs.KnownBytes.{Appends-nil, Appends-trans}
 use Rattle.session.specs.Input.{whole_from, rest_from}
-use Rattle.session.specs.Game.{Game}
+use Rattle.session.specs.Game.{Game, answer, replies, after}
 use Rattle.session.specs.Standing.{Standing}
-use Rattle.session.specs.Transcript.{Typed, lines_typed, answer, replies, after}
+use Rattle.session.specs.Transcript.{Typed, lines_typed}
 use Rattle.session.specs.Heard.{Heard, Broke}
 use Rattle.session.proofs.Cutting.{whole_from-append, whole_ended, whole_going}
 

@@ -8,9 +8,8 @@ use Rattle.zcore.specs.declared.place.Place.{Place}
 use Rattle.session.specs.declared.fault.RunFault.{RunFault}
 use Rattle.session.specs.declared.fault.RunFault.TheVariants.{Writing}
 use Rattle.session.specs.Input.{whole_from, rest_from, last_line, lines_of, whole_lines}
-use Rattle.session.specs.Game.{telling_of, Game, text_on, place_on}
+use Rattle.session.specs.Game.{telling_of, Game, text_on, place_on, replies, after, transcript}
 use Rattle.session.specs.Standing.{Standing, nothing}
-use Rattle.session.specs.Transcript.{replies, after, transcript}
 use Rattle.session.specs.Heard.{Heard, Broke}
 use Rattle.session.specs.Wrote.{WroteSome}
 use Rattle.session.specs.Kept.{IsKept}

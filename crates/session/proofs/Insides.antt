@@ -13,6 +13,7 @@ use Rattle.zcore.specs.Turn.{StateOfPlay}
 use Rattle.machine_frames.specs.Contents.{Contents, bound_of}
 use Rattle.machine_frames.specs.States.{play_of}
 use Rattle.session.specs.declared.turns.Turn.{Turn}
+use Rattle.session.specs.Modes.{Known}
 use Rattle.session.specs.Session.{Session, largest_record}
 use Rattle.session.specs.Stepped.{without_oldest}
 use Rattle.session.specs.Times.{all_cells}
@@ -69,15 +70,15 @@ pub record Exchanged (t u : Turn) (entries : List (ℕ × ℕ)) : Type 0 where
   pub is : u ≡ record t { overwritten = entries }
   pub size : length entries ≡ length t.overwritten
 
-exchanged_view : (keep : Option ℕ) (fuel : ℕ) (header : Header) (opening : List ℕ) (store new : Contents)
+exchanged_view : (keep : Option ℕ) (fuel : ℕ) (known : Known) (opening : List ℕ) (store new : Contents)
     (first : Place) (turns : List Turn) (t u : Turn) (entries : List (ℕ × ℕ)) (k from to : ℕ) (given_up : List ℕ)
     → k < length turns → t ≡ get_or turns k t → Exchanged t u entries → new.fixed ≡ store.fixed
     → all_cells new.cells (records_of (set turns k u)) to ≡ all_cells store.cells (records_of turns) from
-    → view_of keep fuel header opening new first (set turns k u) to given_up
-    ≡ record (view_of keep fuel header opening store first turns from given_up) { present = to }
+    → view_of keep fuel known opening new first (set turns k u) to given_up
+    ≡ record (view_of keep fuel known opening store first turns from given_up) { present = to }
 unfolding view_of
-exchanged_view keep fuel header opening store new first turns t u entries k from to given_up lt is x fixed cells =
-    same_view (view_of keep fuel header opening store first turns from given_up)
+exchanged_view keep fuel known opening store new first turns t u entries k from to given_up lt is x fixed cells =
+    same_view (view_of keep fuel known opening store first turns from given_up)
     (states_with new.fixed (all_cells new.cells (records_of (set turns k u)) to)) (places_of first (set turns k u))
     (map (λ y. text_of y.written) (set turns k u)) (map (λ y. line_of y.written) (set turns k u))
     (map (λ y. length y.overwritten) (set turns k u)) to
@@ -165,13 +166,13 @@ again_turn : (store new : Recording Contents) (t u : Turn) → Swaps forward bac
     → Exchanged t u (forward store.store.cells t.overwritten).entries
 again_turn store new t u h = record { is = h.turn; size = length-forward store.store.cells t.overwritten }
 
-pub undo_view : (keep : Option ℕ) (fuel : ℕ) (header : Header) (opening : List ℕ) (store new : Recording Contents)
+pub undo_view : (keep : Option ℕ) (fuel : ℕ) (known : Known) (opening : List ℕ) (store new : Recording Contents)
     (first : Place) (turns : List Turn) (t u : Turn) (k done : ℕ) (given_up : List ℕ) → k + 1 ≡ done
     → StandsAt turns k t → Swaps back forward store new t u
-    → view_of keep fuel header opening new.store first (set turns k u) k given_up
-    ≡ record (view_of keep fuel header opening store.store first turns done given_up) { present = k }
-undo_view keep fuel header opening store new first turns t u k done given_up e stands h =
-    exchanged_view keep fuel header opening store.store new.store first turns t u
+    → view_of keep fuel known opening new.store first (set turns k u) k given_up
+    ≡ record (view_of keep fuel known opening store.store first turns done given_up) { present = k }
+undo_view keep fuel known opening store new first turns t u k done given_up e stands h =
+    exchanged_view keep fuel known opening store.store new.store first turns t u
     (back store.store.cells t.overwritten).entries k done k given_up stands.here stands.is
     (back_turn store new t u h) (ap (λ (s : Contents). s.fixed) h.store)
     (back_cells store new turns k t u stands h ∙ ap (all_cells store.store.cells (records_of turns)) e)
@@ -185,13 +186,13 @@ undo_between header store new first turns t u k done e stands h i =
     (back_cells store new turns k t u stands h ∙ ap (all_cells store.store.cells (records_of turns)) e)
     (omega (arith, stands.here)) h.idle h.begun h.size h.fits i
 
-pub redo_view : (keep : Option ℕ) (fuel : ℕ) (header : Header) (opening : List ℕ) (store new : Recording Contents)
+pub redo_view : (keep : Option ℕ) (fuel : ℕ) (known : Known) (opening : List ℕ) (store new : Recording Contents)
     (first : Place) (turns : List Turn) (t u : Turn) (k : ℕ) (given_up : List ℕ) → StandsAt turns k t
     → Swaps forward back store new t u
-    → view_of keep fuel header opening new.store first (set turns k u) (k + 1) given_up
-    ≡ record (view_of keep fuel header opening store.store first turns k given_up) { present = k + 1 }
-redo_view keep fuel header opening store new first turns t u k given_up stands h =
-    exchanged_view keep fuel header opening store.store new.store first turns t u
+    → view_of keep fuel known opening new.store first (set turns k u) (k + 1) given_up
+    ≡ record (view_of keep fuel known opening store.store first turns k given_up) { present = k + 1 }
+redo_view keep fuel known opening store new first turns t u k given_up stands h =
+    exchanged_view keep fuel known opening store.store new.store first turns t u
     (forward store.store.cells t.overwritten).entries k k (k + 1) given_up stands.here stands.is
     (again_turn store new t u h) (ap (λ (s : Contents). s.fixed) h.store)
     (again_cells store new turns k t u stands h)
@@ -213,22 +214,22 @@ redone_text turns k j t u x entries lt e at is =
 
 -- The oldest turn is given up
 
-pub oldest_view : (keep : Option ℕ) (fuel : ℕ) (header : Header) (opening : List ℕ) (store : Contents)
+pub oldest_view : (keep : Option ℕ) (fuel : ℕ) (known : Known) (opening : List ℕ) (store : Contents)
     (first : Place) (turns rest : List Turn) (t : Turn) (done : ℕ) (given_up : List ℕ) → turns ≡ t ∷ rest → 0 < done
-    → view_of keep fuel header opening store t.place rest (done - 1) (text_of t.written)
-    ≡ without_oldest (view_of keep fuel header opening store first turns done given_up)
+    → view_of keep fuel known opening store t.place rest (done - 1) (text_of t.written)
+    ≡ without_oldest (view_of keep fuel known opening store first turns done given_up)
 unfolding view_of
-oldest_view keep fuel header opening store first turns rest t done given_up is some =
+oldest_view keep fuel known opening store first turns rest t done given_up is some =
     let cells : all_cells store.cells (records_of rest) (done - 1)
     ≡ drop 1 (all_cells store.cells (records_of (t ∷ rest)) done) = cells_older store.cells t.overwritten
     (records_of rest) done some in
     ap {A = List StateOfPlay}
     (λ x. record
-    (without_oldest (view_of keep fuel header opening store first (t ∷ rest) done given_up)) { states = x })
+    (without_oldest (view_of keep fuel known opening store first (t ∷ rest) done given_up)) { states = x })
     (ap (states_with store.fixed) cells
     ∙ sym (drop-map (λ c. play_of (record { cells = c; fixed = store.fixed })) 1
     (all_cells store.cells (records_of (t ∷ rest)) done)))
-    ∙ ap (λ ts. without_oldest (view_of keep fuel header opening store first ts done given_up)) (sym is)
+    ∙ ap (λ ts. without_oldest (view_of keep fuel known opening store first ts done given_up)) (sym is)
 
 oldest_by : (header : Header) (store : Recording Contents) (first : Place) (rest : List Turn) (t : Turn) (done : ℕ)
     → 0 < done → IsBetweenTurns header store first (t ∷ rest) done

@@ -3,9 +3,11 @@ pub mod Insides
 pub mod Views
 pub mod Plays
 pub mod Sessions
+pub mod Players
 pub mod Turning
 pub mod Opening
 pub mod Taking
+pub mod Games
 mod Samples
 pub mod Cutting
 pub mod Chaining

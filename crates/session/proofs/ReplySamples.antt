@@ -1,10 +1,10 @@
 -- The lines of an input and the replies to them, computed.
 use Rattle.std.proofs.Common.{◌≡◌, ℕ, true, false, Some, List, [], ◌∷◌, ◌++◌, codes, refl, inl, inr}
 use Rattle.session.specs.Input.{lines_of, whole_lines}
-use Rattle.session.specs.Game.{Game, text_on}
+use Rattle.session.specs.Game.{Game, text_on, answer, transcript}
 use Rattle.session.specs.Standing.{Standing}
 use Rattle.session.specs.Ran.{LinesRead}
-use Rattle.session.specs.Transcript.{answer_of, answer, note, transcript}
+use Rattle.session.specs.Transcript.{answer_of, note}
 
 -- lines
 

@@ -7,9 +7,9 @@ use Rattle.std.proofs.lemmas.Bool.Decides.{nat_tests}
 use Rattle.std.specs.List.{list_all}
 use Rattle.std.specs.Io.KnownBytes.{Appends}
 use Rattle.zcore.specs.Turn.{is_waiting}
-use Rattle.session.specs.Game.{Game, telling_of, text_on, place_on}
+use Rattle.session.specs.Game.{Game, telling_of, text_on, place_on, answer}
 use Rattle.session.specs.Standing.{Standing, longest_line, undo_of, redo_of, taken, is_typable, is_typable_byte}
-use Rattle.session.specs.Transcript.{answer_of, Answer, answer, note, answer_undo, answer_redo, answer_line}
+use Rattle.session.specs.Transcript.{answer_of, Answer, note, answer_undo, answer_redo, answer_line}
 use Rattle.session.specs.Heard.{Heard, Broke, Hears}
 use Rattle.session.specs.Wrote.{WroteText, WroteSome}
 

@@ -4,10 +4,11 @@ use Rattle.std.proofs.Common.{Result, Ok, Err}
 use Rattle.std.specs.Io.KnownBytes.{Appends}
 use Rattle.zcore.specs.declared.place.Place.{Place}
 use Rattle.session.specs.Input.{lines_of}
-use Rattle.session.specs.Game.{telling_of, Game, Telling, place_on}
+use Rattle.session.specs.Game.{telling_of, Game, place_on, after, transcript}
+use Rattle.session.specs.Telling.{Telling}
 use Rattle.session.specs.Standing.{Standing, nothing}
-use Rattle.session.specs.Transcript.{Typed, lines_typed, Answer, answer_of, replies_of, after}
-use Rattle.session.specs.Transcript.{standing_after, transcript, transcript_of}
+use Rattle.session.specs.Transcript.{Typed, lines_typed, Answer, answer_of, replies_of}
+use Rattle.session.specs.Transcript.{standing_after, transcript_of}
 use Rattle.session.specs.declared.fault.RunFault.{RunFault}
 use Rattle.session.specs.declared.fault.RunFault.TheVariants.{Reading, Writing}
 use Rattle.session.specs.Wrote.{WroteSome}

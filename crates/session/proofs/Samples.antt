@@ -92,6 +92,7 @@ abbrev at_start : Session
 at_start = record {
   keep = Some 1;
   fuel = 10;
+  loaded = None;
   static_base = 64;
   opening = codes ">";
   states = state 0 ∷ state 1 ∷ [];

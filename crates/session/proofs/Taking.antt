@@ -9,7 +9,8 @@ use Rattle.std.proofs.lemmas.List.Elements.{All-drop}
 use Rattle.std.proofs.Math.Nat.{eq-or-lt_of_le}
 use Rattle.zcore.specs.Header.{static_base_of}
 use Rattle.zcore.specs.declared.place.Place.TheVariants as places
-use Rattle.zcore.specs.Turn.{StateOfPlay, Whole, Play, turn_on, plays_of, is_waiting, last_text, last_place}
+use Rattle.zcore.specs.Turn.{StateOfPlay, Whole, Play, plays_of, is_waiting, last_text, last_place}
+use Rattle.session.specs.Modes.{turn_with}
 use Rattle.session.specs.Standing.{Standing, taken, reached}
 use Rattle.session.specs.Session.{Session, largest_record}
 use Rattle.session.specs.Stepped.{with_turn, without_oldest, bounded, latest_text}
@@ -242,23 +243,23 @@ last_push (v ∷ []) w = refl
 last_push (v ∷ u ∷ us) w = last_push (u ∷ us) w
 
 -- a line that is taken
-pub session_taken : (story : List ℕ) (units : ℕ) (play : Play)
-    → ((l : List ℕ) (p : StateOfPlay) → turn_on l units p ≡ play.turn_on l p)
-    → (most : Option ℕ) (line : List ℕ) (s : Standing)
-    (v mid new : Session) → IsSession story units play most s v → get_or v.places v.present places.Quit ≡ places.Waiting
+pub session_taken : (story : List ℕ) (units : ℕ) (play : Play) (most : Option ℕ) (line : List ℕ) (s : Standing)
+    (v mid new : Session) → ((l : List ℕ) (p : StateOfPlay) → turn_with v.loaded l units p ≡ play.turn_on l p)
+    → IsSession story units play most s v → get_or v.places v.present places.Quit ≡ places.Waiting
     → Turned line v mid → new ≡ bounded mid
     → (is_waiting (last_place (plays_of play s.done)) ≡ true)
     × IsSession story units play most (taken most line s) new
     × (latest_text new ≡ last_text (plays_of play (s.done ++ line ∷ [])))
-session_taken story units play means most line s v mid new h waits t e =
+session_taken story units play most line s v mid new means h waits t e =
     let f : Unbounded story units play s v = unbounded h in
     let here : (present_of story units play s).place ≡ places.Waiting =
     sym (present_place story units play s v places.Quit f) ∙ waits in
     let waiting : is_waiting (present_of story units play s).place ≡ true = ap is_waiting here in
     let turn : play.turn_on line (present_of story units play s).state ≡ Some t.whole =
     sym (means line (present_of story units play s).state)
-    ∙ sym (ap (λ n. turn_on line n (get_or v.states v.present some_whole.state)) f.fuel
-    ∙ ap (turn_on line units) (present_state story units play s v some_whole.state f)) ∙ t.turn some_whole.state in
+    ∙ sym (ap (λ n. turn_with v.loaded line n (get_or v.states v.present some_whole.state)) f.fuel
+    ∙ ap (turn_with v.loaded line units) (present_state story units play s v some_whole.state f))
+    ∙ t.turn some_whole.state in
     let long = session_longer story units play s v line t.size t.whole f waiting turn
     (omega (arith, t.small, h.static_base)) in
     let result = taken_by story units play most line s v t.size t.whole h.keep h.bound h.present

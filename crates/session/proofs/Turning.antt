@@ -10,15 +10,11 @@ use Rattle.journal.specs.Recording.{Recording, IsNothingKept}
 use Rattle.journal.specs.Swap.{back, Fits}
 use Rattle.journal.proofs.Held.{same_recording}
 use Rattle.zcore.specs.declared.header.Header.{Header}
-use Rattle.zcore.specs.declared.next.Next.{Next}
 use Rattle.zcore.specs.declared.place.Place.{Place}
 use Rattle.zcore.specs.declared.place.Place.TheVariants as places
-use Rattle.zcore.specs.State.{State, Out, done, halt}
-use Rattle.zcore.specs.Turn.{StateOfPlay, Whole, ended, after_step, turn_from, turn_on, turn_pending, given, resumed}
-use Rattle.zcore.specs.Turn.{opening}
-use Rattle.zcore.proofs.Turning.{turns_is}
+use Rattle.zcore.specs.Turn.{StateOfPlay}
 use Rattle.machine_frames.specs.Contents.{Contents, bound_of}
-use Rattle.machine_frames.specs.Playing.{IsWaiting, whole_of, Follows, Answers}
+use Rattle.machine_frames.specs.Playing.{IsWaiting, whole_of}
 use Rattle.machine_frames.specs.States.{play_of, IsStoreOf}
 use Rattle.machine_frames.specs.Went.{GivenUp, GoesOn}
 use Rattle.machine_frames.proofs.Steps.{given_up_after, store_after}
@@ -29,24 +25,11 @@ use Rattle.session.specs.Stepped.{with_turn}
 use Rattle.session.specs.Times.{all_cells}
 use Rattle.session.specs.Inside.{records_of, with_cells, places_of, view_of, IsReady, IsBetweenTurns}
 use Rattle.session.specs.Turned.{Turned}
-use Rattle.session.proofs.Views.{view_state, view_fuel, header_base}
+use Rattle.session.specs.Modes.{Known, turn_with}
+use Rattle.session.specs.Players.{LineTurn}
+use Rattle.session.proofs.Views.{view_state, view_fuel, view_loaded, header_base}
 use Rattle.session.specs.Written.{text_of, line_of}
 use Rattle.session.proofs.Moves.{cells_taken, length-all_cells}
-
--- The turn as a function
-
-follows_turn : (o : Out Next) (stop : Place → State → Whole) (whole : Whole) → Follows o stop whole
-    → after_step o turn_from (λ place s. Some (stop place s)) ≡ Some whole
-follows_turn (done next s) stop whole h = turns_is next s whole h
-follows_turn (halt place s) stop whole h = ap (λ (w : Whole). Some w) (sym h)
-
-pub answers_turn : (line : List ℕ) (s : Contents) (fuel : ℕ) (whole : Whole) → Answers line s fuel whole
-    → turn_on line fuel (play_of s) ≡ Some whole
-unfolding turn_on
-answers_turn line s fuel whole h =
-    ap (λ p. turn_pending p line fuel (play_of s)) h.1
-    ∙ follows_turn (given h.0 line fuel (resumed (play_of s)))
-    (ended (record { program_counter = (play_of s).program_counter; fuel = fuel })) whole h.2
 
 -- a list cut behind its entry k, and one entry more
 pub all_taken : {X : Type 0} (P : X → Type 0) (xs : List X) (k : ℕ) (x : X) → k ≤ length xs → All P xs → P x
@@ -62,17 +45,17 @@ all_taken P xs k x le all p n d lt =
     ]
 
 -- a turn whose line was given to a waiting store
-pub record IsPlayed (header : Header) (old new : Recording Contents) (line : List ℕ) (fuel : ℕ) (t : Turn) : Type 0
+pub record IsPlayed (known : Known) (old new : Recording Contents) (line : List ℕ) (fuel : ℕ) (t : Turn) : Type 0
   where
-    pub answers : Answers line old.store fuel (whole_of new.store t.place (text_of t.written))
+    pub turn : LineTurn known line old.store fuel (whole_of new.store t.place (text_of t.written))
     pub waits : t.place ≡ places.Waiting → IsWaiting new.store
     pub line_is : (line_of t.written) ≡ line
-    pub store : IsStoreOf header new.store
+    pub store : IsStoreOf known.header new.store
     pub fixed : new.store.fixed ≡ old.store.fixed
     pub size : length new.store.cells ≡ length old.store.cells
     pub back_is : (back new.store.cells t.overwritten).cells ≡ old.store.cells
     pub fits : Fits (length new.store.cells) bound_of t.overwritten
-    pub small : length t.overwritten ≤ largest_record header.static_base
+    pub small : length t.overwritten ≤ largest_record known.header.static_base
     pub idle : IsNothingKept new
     pub begun : new.beginning ≡ new.store.cells
 
@@ -80,11 +63,11 @@ map_taken : {X : Type 0} (f : Turn → X) (turns : List Turn) (k : ℕ) (t : Tur
     → map f (take k turns ++ t ∷ []) ≡ take k (map f turns) ++ f t ∷ []
 map_taken f turns k t = map_push f (take k turns) t ∙ ap (λ xs. xs ++ f t ∷ []) (sym (take-map f k turns))
 
-taken_cells : (header : Header) (old new : Recording Contents) (line : List ℕ) (fuel : ℕ) (turns : List Turn) (k : ℕ)
-    (t : Turn) → k ≤ length turns → IsPlayed header old new line fuel t
+taken_cells : (known : Known) (old new : Recording Contents) (line : List ℕ) (fuel : ℕ) (turns : List Turn) (k : ℕ)
+    (t : Turn) → k ≤ length turns → IsPlayed known old new line fuel t
     → all_cells new.store.cells (records_of (take k turns ++ t ∷ [])) (k + 1)
     ≡ take (k + 1) (all_cells old.store.cells (records_of turns) k) ++ new.store.cells ∷ []
-taken_cells header old new line fuel turns k t le h =
+taken_cells known old new line fuel turns k t le h =
     ap (λ rs. all_cells new.store.cells rs (k + 1)) (map_taken (λ x. x.overwritten) turns k t)
     ∙ cells_taken old.store.cells new.store.cells t.overwritten (records_of turns) k
     (omega (arith, length-map turns (λ (x : Turn). x.overwritten))) h.back_is
@@ -98,36 +81,36 @@ taken_places first turns k t =
 abbrev states_with : List ℕ → List (List ℕ) → List StateOfPlay
 states_with fixed cells = map (λ c. play_of (record { cells = c; fixed = fixed })) cells
 
-taken_states : (header : Header) (old new : Recording Contents) (line : List ℕ) (fuel : ℕ) (turns : List Turn)
-    (k : ℕ) (t : Turn) → k ≤ length turns → IsPlayed header old new line fuel t
+taken_states : (known : Known) (old new : Recording Contents) (line : List ℕ) (fuel : ℕ) (turns : List Turn)
+    (k : ℕ) (t : Turn) → k ≤ length turns → IsPlayed known old new line fuel t
     → states_with new.store.fixed (all_cells new.store.cells (records_of (take k turns ++ t ∷ [])) (k + 1))
     ≡ take (k + 1) (states_with old.store.fixed (all_cells old.store.cells (records_of turns) k))
     ++ play_of new.store ∷ []
-taken_states header old new line fuel turns k t le h =
+taken_states known old new line fuel turns k t le h =
     let cells = all_cells old.store.cells (records_of turns) k in
-    ap (states_with new.store.fixed) (taken_cells header old new line fuel turns k t le h)
+    ap (states_with new.store.fixed) (taken_cells known old new line fuel turns k t le h)
     ∙ map_push (λ c. play_of (record { cells = c; fixed = new.store.fixed })) (take (k + 1) cells) new.store.cells
     ∙ ap (λ f. states_with f (take (k + 1) cells) ++ play_of new.store ∷ []) h.fixed
     ∙ ap (λ xs. xs ++ play_of new.store ∷ [])
     (sym (take-map (λ c. play_of (record { cells = c; fixed = old.store.fixed })) (k + 1) cells))
 
-pub taken_view : (keep : Option ℕ) (units : ℕ) (header : Header) (opening : List ℕ) (old new : Recording Contents)
+pub taken_view : (keep : Option ℕ) (units : ℕ) (known : Known) (opening : List ℕ) (old new : Recording Contents)
     (first : Place) (line : List ℕ) (turns : List Turn) (k : ℕ) (t : Turn) (given_up : List ℕ) → k ≤ length turns
-    → IsPlayed header old new line units t
-    → view_of keep units header opening new.store first (take k turns ++ t ∷ []) (k + 1) given_up
+    → IsPlayed known old new line units t
+    → view_of keep units known opening new.store first (take k turns ++ t ∷ []) (k + 1) given_up
     ≡ with_turn line (length t.overwritten) (whole_of new.store t.place (text_of t.written))
-    (view_of keep units header opening old.store first turns k given_up)
+    (view_of keep units known opening old.store first turns k given_up)
 unfolding view_of
-taken_view keep units header opening old new first line turns k t given_up le h =
+taken_view keep units known opening old new first line turns k t given_up le h =
     let more = take k turns ++ t ∷ [] in
     let v : Session = with_turn line (length t.overwritten) (whole_of new.store t.place (text_of t.written))
-    (view_of keep units header opening old.store first turns k given_up) in
+    (view_of keep units known opening old.store first turns k given_up) in
     let texts : List (List ℕ) = map (λ x. text_of x.written) more in
     let lines : List (List ℕ) = map (λ x. line_of x.written) more in
     let sizes : List ℕ = map (λ x. length x.overwritten) more in
     ap {A = List StateOfPlay}
     (λ x. record v { states = x; places = places_of first more; texts = texts; lines = lines; sizes = sizes })
-    (taken_states header old new line units turns k t le h)
+    (taken_states known old new line units turns k t le h)
     ∙ ap {A = List Place} (λ x. record v { places = x; texts = texts; lines = lines; sizes = sizes })
     (taken_places first turns k t)
     ∙ ap {A = List (List ℕ)} (λ x. record v { texts = x; lines = lines; sizes = sizes })
@@ -137,15 +120,15 @@ taken_view keep units header opening old new first line turns k t given_up le h 
     ∙ ap (λ l. take k (map (λ x. line_of x.written) turns) ++ l ∷ []) h.line_is)
     ∙ ap {A = List ℕ} (λ x. record v { sizes = x }) (map_taken (λ x. length x.overwritten) turns k t)
 
-taken_ready : (header : Header) (old new : Recording Contents) (first : Place) (line : List ℕ) (units : ℕ)
-    (turns : List Turn) (k : ℕ) (t : Turn) → IsBetweenTurns header old first turns k
-    → IsPlayed header old new line units t
+taken_ready : (known : Known) (old new : Recording Contents) (first : Place) (line : List ℕ) (units : ℕ)
+    (turns : List Turn) (k : ℕ) (t : Turn) → IsBetweenTurns known.header old first turns k
+    → IsPlayed known old new line units t
     → (n : ℕ) → n ≤ k + 1
-    → IsReady header
+    → IsReady known.header
     (with_cells new.store
     (get_or (take (k + 1) (all_cells old.store.cells (records_of turns) k) ++ new.store.cells ∷ []) n []))
     (get_or (take (k + 1) (places_of first turns) ++ t.place ∷ []) n places.Quit)
-taken_ready header old new first line units turns k t i h n le =
+taken_ready known old new first line units turns k t i h n le =
     let cells = all_cells old.store.cells (records_of turns) k in
     let ps = places_of first turns in
     let within = i.within in
@@ -161,10 +144,10 @@ taken_ready header old new first line units turns k t i h n le =
           ≡ new.store.cells = get_or_push (take (k + 1) cells) new.store.cells [] n (omega arith) in
           let p : get_or (take (k + 1) ps ++ t.place ∷ []) n places.Quit
           ≡ t.place = get_or_push (take (k + 1) ps) t.place places.Quit n (omega arith) in
-          let now : IsReady header new.store t.place = record { store = h.store; waits = h.waits } in
-          subst (λ x. IsReady header (with_cells new.store x)
+          let now : IsReady known.header new.store t.place = record { store = h.store; waits = h.waits } in
+          subst (λ x. IsReady known.header (with_cells new.store x)
           (get_or (take (k + 1) ps ++ t.place ∷ []) n places.Quit)) (sym c)
-          (subst (λ x. IsReady header new.store x) (sym p) now)
+          (subst (λ x. IsReady known.header new.store x) (sym p) now)
       | inr less ↦
           let c : get_or (take (k + 1) cells ++ new.store.cells ∷ []) n []
           ≡ get_or cells n [] = get_or_append_left (take (k + 1) cells) (new.store.cells ∷ []) [] n (omega arith)
@@ -172,21 +155,21 @@ taken_ready header old new first line units turns k t i h n le =
           let p : get_or (take (k + 1) ps ++ t.place ∷ []) n places.Quit
           ≡ get_or ps n places.Quit = get_or_append_left (take (k + 1) ps) (t.place ∷ []) places.Quit n
           (omega arith) ∙ get_or-take (k + 1) ps n places.Quit less in
-          let before : IsReady header (with_cells old.store (get_or cells n [])) (get_or ps n places.Quit) = i.ready
+          let before : IsReady known.header (with_cells old.store (get_or cells n [])) (get_or ps n places.Quit) = i.ready
           n (omega arith) in
-          let fixed : IsReady header (with_cells new.store (get_or cells n [])) (get_or ps n places.Quit) = subst
-          (λ f. IsReady header (record { cells = get_or cells n []; fixed = f }) (get_or ps n places.Quit))
+          let fixed : IsReady known.header (with_cells new.store (get_or cells n [])) (get_or ps n places.Quit) = subst
+          (λ f. IsReady known.header (record { cells = get_or cells n []; fixed = f }) (get_or ps n places.Quit))
           (sym h.fixed) before in
-          subst (λ x. IsReady header (with_cells new.store x)
+          subst (λ x. IsReady known.header (with_cells new.store x)
           (get_or (take (k + 1) ps ++ t.place ∷ []) n places.Quit)) (sym c)
-          (subst (λ x. IsReady header (with_cells new.store (get_or cells n [])) x) (sym p) fixed)
+          (subst (λ x. IsReady known.header (with_cells new.store (get_or cells n [])) x) (sym p) fixed)
     ]
 
-pub taken_between : (header : Header) (old new : Recording Contents) (first : Place) (line : List ℕ) (units : ℕ)
-    (turns : List Turn) (k : ℕ) (t : Turn) → IsBetweenTurns header old first turns k
-    → IsPlayed header old new line units t
-    → IsBetweenTurns header new first (take k turns ++ t ∷ []) (k + 1)
-taken_between header old new first line units turns k t i h =
+pub taken_between : (known : Known) (old new : Recording Contents) (first : Place) (line : List ℕ) (units : ℕ)
+    (turns : List Turn) (k : ℕ) (t : Turn) → IsBetweenTurns known.header old first turns k
+    → IsPlayed known old new line units t
+    → IsBetweenTurns known.header new first (take k turns ++ t ∷ []) (k + 1)
+taken_between known old new first line units turns k t i h =
     let long : length (take k turns ++ t ∷ []) ≡ k + 1 = length_push (take k turns) t
     ∙ ap (λ m. m + 1) (length-take-le k turns i.within) in
     let rs = records_of turns in
@@ -200,37 +183,39 @@ taken_between header old new first line units turns k t i h =
       fits = subst (λ xs. All (Fits (length new.store.cells) bound_of) xs) (sym records)
           (all_taken (Fits (length new.store.cells) bound_of) rs k t.overwritten le
           (subst (λ n. All (Fits n bound_of) rs) (sym h.size) i.fits) h.fits);
-      small = subst (λ xs. All (λ r. length r ≤ largest_record header.static_base) xs) (sym records)
-          (all_taken (λ r. length r ≤ largest_record header.static_base) rs k t.overwritten le i.small h.small);
+      small = subst (λ xs. All (λ r. length r ≤ largest_record known.header.static_base) xs) (sym records)
+          (all_taken (λ r. length r ≤ largest_record known.header.static_base) rs k t.overwritten le i.small h.small);
       ready = λ n small.
-          subst (λ cs. IsReady header (with_cells new.store (get_or cs n []))
+          subst (λ cs. IsReady known.header (with_cells new.store (get_or cs n []))
           (get_or (places_of first (take k turns ++ t ∷ [])) n places.Quit))
-          (sym (taken_cells header old new line units turns k t i.within h))
-          (subst (λ ps. IsReady header
+          (sym (taken_cells known old new line units turns k t i.within h))
+          (subst (λ ps. IsReady known.header
           (with_cells new.store
           (get_or (take (k + 1) (all_cells old.store.cells rs k) ++ new.store.cells ∷ []) n []))
           (get_or ps n places.Quit)) (sym (taken_places first turns k t))
-          (taken_ready header old new first line units turns k t i h n (omega (arith, long))));
+          (taken_ready known old new first line units turns k t i h n (omega (arith, long))));
     }
 
 -- the session then is one turn on
-pub taken_turned : (keep : Option ℕ) (units : ℕ) (header : Header) (opening : List ℕ) (old new : Recording Contents)
+pub taken_turned : (keep : Option ℕ) (units : ℕ) (known : Known) (opening : List ℕ) (old new : Recording Contents)
     (first : Place) (line : List ℕ) (turns more : List Turn) (k : ℕ) (t : Turn) (given_up : List ℕ) (v : Session)
-    → view_of keep units header opening old.store first turns k given_up ≡ v → k ≤ length turns
-    → IsPlayed header old new line units t → more ≡ take k turns ++ t ∷ []
-    → Turned line v (view_of keep units header opening new.store first more (k + 1) given_up)
-taken_turned keep units header opening old new first line turns more k t given_up v is le h e = record {
+    → view_of keep units known opening old.store first turns k given_up ≡ v → k ≤ length turns
+    → IsPlayed known old new line units t → more ≡ take k turns ++ t ∷ []
+    → Turned line v (view_of keep units known opening new.store first more (k + 1) given_up)
+taken_turned keep units known opening old new first line turns more k t given_up v is le h e = record {
   whole = whole_of new.store t.place (text_of t.written);
   size = length t.overwritten;
   turn = λ d.
-      ap (λ p. turn_on line v.fuel p)
-      (view_state keep units header opening old.store first turns k given_up v d is le)
-      ∙ ap (λ n. turn_on line n (play_of old.store))
-      (view_fuel keep units header opening old.store first turns k given_up v is)
-      ∙ answers_turn line old.store units (whole_of new.store t.place (text_of t.written)) h.answers;
-  small = omega (arith, h.small, header_base keep units header opening old.store first turns k given_up v is);
-  is = ap (λ ts. view_of keep units header opening new.store first ts (k + 1) given_up) e
-      ∙ taken_view keep units header opening old new first line turns k t given_up le h
+      ap (λ p. turn_with v.loaded line v.fuel p)
+      (view_state keep units known opening old.store first turns k given_up v d is le)
+      ∙ ap (λ n. turn_with v.loaded line n (play_of old.store))
+      (view_fuel keep units known opening old.store first turns k given_up v is)
+      ∙ ap (λ l. turn_with l line units (play_of old.store))
+      (view_loaded keep units known opening old.store first turns k given_up v is)
+      ∙ h.turn;
+  small = omega (arith, h.small, header_base keep units known opening old.store first turns k given_up v is);
+  is = ap (λ ts. view_of keep units known opening new.store first ts (k + 1) given_up) e
+      ∙ taken_view keep units known opening old new first line turns k t given_up le h
       ∙ ap {A = Session} (λ w. with_turn line (length t.overwritten) (whole_of new.store t.place (text_of t.written)) w) is;
 }
 
@@ -253,40 +238,40 @@ kept_line before text bytes line n is size all front =
     ∙ ap (λ (x : List ℕ). take (length x) text) (sym is) ∙ front ∙ is
 
 -- what `turn`, `keep_written` and `close` say, as a turn that was played
-pub played : (header : Header) (old ran mid new : Recording Contents) (line : List ℕ) (units : ℕ) (t : Turn)
-    (before text : List ℕ) → IsStoreOf header old.store
-    → TurnEnds (Answers line old.store units) old before ran text (Ok t.place) → mid ≡ ran → before ≡ line
+pub played : (known : Known) (old ran mid new : Recording Contents) (line : List ℕ) (units : ℕ) (t : Turn)
+    (before text : List ℕ) → IsStoreOf known.header old.store
+    → TurnEnds (LineTurn known line old.store units) old before ran text (Ok t.place) → mid ≡ ran → before ≡ line
     → t.written.line ≡ length line → t.written.bytes.items ≡ text → old.beginning ≡ old.store.cells
     → (back mid.store.cells t.overwritten).cells ≡ mid.beginning
     → Fits (length mid.store.cells) bound_of t.overwritten
     → length t.overwritten ≤ length mid.store.cells
     → new ≡ record { store = mid.store; beginning = mid.store.cells; kept = [] }
-    → IsPlayed header old new line units t
-played header old ran mid new line units t before text o ended same first long all begun was fits small e =
-    let ends : TurnEnds (Answers line old.store units) old before mid text (Ok t.place) =
-    subst (λ (r : Recording Contents). TurnEnds (Answers line old.store units) old before r text (Ok t.place))
+    → IsPlayed known old new line units t
+played known old ran mid new line units t before text o ended same first long all begun was fits small e =
+    let ends : TurnEnds (LineTurn known line old.store units) old before mid text (Ok t.place) =
+    subst (λ (r : Recording Contents). TurnEnds (LineTurn known line old.store units) old before r text (Ok t.place))
     (sym same) ended in
     let words : drop (length before) text ≡ text_of t.written =
     kept_text before text t.written.bytes.items line t.written.line first long all in
     let is : line_of t.written ≡ line =
     kept_line before text t.written.bytes.items line t.written.line first long all ends.front in
-    let store : IsStoreOf header mid.store = store_after o ends.goes_on in
-    let size : length mid.store.cells ≡ largest_record header.static_base = store_size header mid.store store in
-    let result : IsPlayed header old (record { store = mid.store; beginning = mid.store.cells; kept = [] }) line
+    let store : IsStoreOf known.header mid.store = store_after o ends.goes_on in
+    let size : length mid.store.cells ≡ largest_record known.header.static_base = store_size known.header mid.store store in
+    let result : IsPlayed known old (record { store = mid.store; beginning = mid.store.cells; kept = [] }) line
     units t = record {
-      answers = subst (λ x. Answers line old.store units (whole_of mid.store t.place x)) words ends.whole;
+      turn = subst (λ x. LineTurn known line old.store units (whole_of mid.store t.place x)) words ends.whole;
       waits = ends.waits;
       line_is = is;
       store = store;
       fixed = ends.goes_on.fixed;
-      size = size ∙ sym (store_size header old.store o);
+      size = size ∙ sym (store_size known.header old.store o);
       back_is = was ∙ ends.goes_on.beginning ∙ begun;
       fits = fits;
       small = omega arith;
       idle = refl;
       begun = refl;
     } in
-    subst (λ r. IsPlayed header old r line units t) (sym e) result
+    subst (λ r. IsPlayed known old r line units t) (sym e) result
 
 -- a turn that is given up leaves the store as it was between turns
 as_before : (old new : Recording Contents) → GivenUp old new → old.beginning ≡ old.store.cells → IsNothingKept old
@@ -307,14 +292,14 @@ given_up_between header old ran new first turns more k i on g e =
     (subst (λ (r : Recording Contents). IsBetweenTurns header r first turns k)
     (sym (as_before old new (given_up_after on g) i.begun i.idle)) i)
 
-pub given_up_view : (keep : Option ℕ) (units : ℕ) (header : Header) (opening : List ℕ)
+pub given_up_view : (keep : Option ℕ) (units : ℕ) (known : Known) (opening : List ℕ)
     (old ran new : Recording Contents) (first : Place) (turns more : List Turn) (k : ℕ) (given_up : List ℕ)
-    (v : Session) → IsBetweenTurns header old first turns k → GoesOn old ran → GivenUp ran new → more ≡ turns
-    → view_of keep units header opening old.store first turns k given_up ≡ v
-    → view_of keep units header opening new.store first more k given_up ≡ v
-given_up_view keep units header opening old ran new first turns more k given_up v i on g e is =
-    ap (λ (ts : List Turn). view_of keep units header opening new.store first ts k given_up) e
-    ∙ ap (λ (r : Recording Contents). view_of keep units header opening r.store first turns k given_up)
+    (v : Session) → IsBetweenTurns known.header old first turns k → GoesOn old ran → GivenUp ran new → more ≡ turns
+    → view_of keep units known opening old.store first turns k given_up ≡ v
+    → view_of keep units known opening new.store first more k given_up ≡ v
+given_up_view keep units known opening old ran new first turns more k given_up v i on g e is =
+    ap (λ (ts : List Turn). view_of keep units known opening new.store first ts k given_up) e
+    ∙ ap (λ (r : Recording Contents). view_of keep units known opening r.store first turns k given_up)
     (as_before old new (given_up_after on g) i.begun i.idle) ∙ is
 
 pub at_err : {A E : Type 0} {P : Type 0} (result : Result A E) → P → OnErr result P

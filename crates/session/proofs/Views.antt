@@ -1,13 +1,13 @@
 -- The parts of a session, as its view tells them.
 use Rattle.std.proofs.Common.{◌≡◌, ℕ, suc, ◌-◌, ◌≤◌, ◌<◌, List, [], length, get_or, ap, sym, ◌∙◌, arith, Option}
 use Rattle.std.proofs.lemmas.List.{get_or-map, length-map}
-use Rattle.zcore.specs.declared.header.Header.{Header}
 use Rattle.zcore.specs.declared.place.Place.{Place}
 use Rattle.zcore.specs.declared.place.Place.TheVariants as places
 use Rattle.zcore.specs.Turn.{StateOfPlay}
 use Rattle.machine_frames.specs.Contents.{Contents}
 use Rattle.machine_frames.specs.States.{play_of}
 use Rattle.session.specs.declared.turns.Turn.{Turn}
+use Rattle.session.specs.Modes.{Known}
 use Rattle.session.specs.Session.{Session}
 use Rattle.session.specs.Times.{all_cells}
 use Rattle.session.specs.Inside.{records_of, places_of, view_of}
@@ -30,55 +30,55 @@ pub record Counted (v : Session) (turns : List Turn) (done : ℕ) : Type 0 where
   pub present : done ≡ v.present
   pub size : length turns ≡ length v.lines
 
-pub counted : (keep : Option ℕ) (fuel : ℕ) (header : Header) (opening : List ℕ) (store : Contents) (first : Place)
+pub counted : (keep : Option ℕ) (fuel : ℕ) (known : Known) (opening : List ℕ) (store : Contents) (first : Place)
     (turns : List Turn) (done : ℕ) (given_up : List ℕ) (v : Session)
-    → view_of keep fuel header opening store first turns done given_up ≡ v → Counted v turns done
+    → view_of keep fuel known opening store first turns done given_up ≡ v → Counted v turns done
 unfolding view_of
-counted keep fuel header opening store first turns done given_up v is = record {
+counted keep fuel known opening store first turns done given_up v is = record {
   present = ap (λ (w : Session). w.present) is;
   size = sym (length-map turns (λ (t : Turn). line_of t.written)) ∙ ap (λ (w : Session). length w.lines) is;
 }
 
 -- the text of a turn
-pub turn_text : (keep : Option ℕ) (fuel : ℕ) (header : Header) (opening : List ℕ) (store : Contents) (first : Place)
+pub turn_text : (keep : Option ℕ) (fuel : ℕ) (known : Known) (opening : List ℕ) (store : Contents) (first : Place)
     (turns : List Turn) (done : ℕ) (given_up : List ℕ) (v : Session) (k : ℕ) (t : Turn)
-    → view_of keep fuel header opening store first turns done given_up ≡ v → k < length turns → t ≡ get_or turns k t
+    → view_of keep fuel known opening store first turns done given_up ≡ v → k < length turns → t ≡ get_or turns k t
     → (text_of t.written) ≡ get_or v.texts k []
 unfolding view_of
-turn_text keep fuel header opening store first turns done given_up v k t is lt at =
+turn_text keep fuel known opening store first turns done given_up v k t is lt at =
     ap (λ (x : Turn). text_of x.written) at ∙ sym (get_or-map (λ x. text_of x.written) turns k t [] lt)
     ∙ ap (λ (w : Session). get_or w.texts k []) is
 
 -- the size of a turn's record
-pub turn_size : (keep : Option ℕ) (fuel : ℕ) (header : Header) (opening : List ℕ) (store : Contents) (first : Place)
+pub turn_size : (keep : Option ℕ) (fuel : ℕ) (known : Known) (opening : List ℕ) (store : Contents) (first : Place)
     (turns : List Turn) (done : ℕ) (given_up : List ℕ) (v : Session) (k : ℕ) (t : Turn)
-    → view_of keep fuel header opening store first turns done given_up ≡ v → k < length turns → t ≡ get_or turns k t
+    → view_of keep fuel known opening store first turns done given_up ≡ v → k < length turns → t ≡ get_or turns k t
     → length t.overwritten ≡ get_or v.sizes k 0
 unfolding view_of
-turn_size keep fuel header opening store first turns done given_up v k t is lt at =
+turn_size keep fuel known opening store first turns done given_up v k t is lt at =
     ap (λ (x : Turn). length x.overwritten) at ∙ sym (get_or-map (λ x. length x.overwritten) turns k t 0 lt)
     ∙ ap (λ (w : Session). get_or w.sizes k 0) is
 
-pub header_base : (keep : Option ℕ) (fuel : ℕ) (header : Header) (opening : List ℕ) (store : Contents)
+pub header_base : (keep : Option ℕ) (fuel : ℕ) (known : Known) (opening : List ℕ) (store : Contents)
     (first : Place) (turns : List Turn) (done : ℕ) (given_up : List ℕ) (v : Session)
-    → view_of keep fuel header opening store first turns done given_up ≡ v → header.static_base ≡ v.static_base
+    → view_of keep fuel known opening store first turns done given_up ≡ v → known.header.static_base ≡ v.static_base
 unfolding view_of
-header_base keep fuel header opening store first turns done given_up v is = ap (λ (w : Session). w.static_base) is
+header_base keep fuel known opening store first turns done given_up v is = ap (λ (w : Session). w.static_base) is
 
-pub view_place : (keep : Option ℕ) (fuel : ℕ) (header : Header) (opening : List ℕ) (store : Contents) (first : Place)
+pub view_place : (keep : Option ℕ) (fuel : ℕ) (known : Known) (opening : List ℕ) (store : Contents) (first : Place)
     (turns : List Turn) (done : ℕ) (given_up : List ℕ) (v : Session)
-    → view_of keep fuel header opening store first turns done given_up ≡ v
+    → view_of keep fuel known opening store first turns done given_up ≡ v
     → get_or (places_of first turns) done places.Quit ≡ get_or v.places v.present places.Quit
 unfolding view_of
-view_place keep fuel header opening store first turns done given_up v is = ap
+view_place keep fuel known opening store first turns done given_up v is = ap
     (λ (w : Session). get_or w.places w.present places.Quit) is
 
-pub view_state : (keep : Option ℕ) (fuel : ℕ) (header : Header) (opening : List ℕ) (store : Contents) (first : Place)
+pub view_state : (keep : Option ℕ) (fuel : ℕ) (known : Known) (opening : List ℕ) (store : Contents) (first : Place)
     (turns : List Turn) (done : ℕ) (given_up : List ℕ) (v : Session) (d : StateOfPlay)
-    → view_of keep fuel header opening store first turns done given_up ≡ v → done ≤ length turns
+    → view_of keep fuel known opening store first turns done given_up ≡ v → done ≤ length turns
     → get_or v.states v.present d ≡ play_of store
 unfolding view_of
-view_state keep fuel header opening store first turns done given_up v d is le =
+view_state keep fuel known opening store first turns done given_up v d is le =
     let rs = records_of turns in
     let in_reach : done ≤ length rs = omega (arith, length-map turns (λ (x : Turn). x.overwritten)) in
     ap (λ (w : Session). get_or w.states w.present d) (sym is)
@@ -86,20 +86,26 @@ view_state keep fuel header opening store first turns done given_up v d is le =
     (omega (arith, length-all_cells store.cells rs done in_reach))
     ∙ ap (λ c. play_of (record { cells = c; fixed = store.fixed })) (present_cells store.cells rs done [] in_reach)
 
-pub view_fuel : (keep : Option ℕ) (fuel : ℕ) (header : Header) (opening : List ℕ) (store : Contents) (first : Place)
+pub view_fuel : (keep : Option ℕ) (fuel : ℕ) (known : Known) (opening : List ℕ) (store : Contents) (first : Place)
     (turns : List Turn) (done : ℕ) (given_up : List ℕ) (v : Session)
-    → view_of keep fuel header opening store first turns done given_up ≡ v → v.fuel ≡ fuel
+    → view_of keep fuel known opening store first turns done given_up ≡ v → v.fuel ≡ fuel
 unfolding view_of
-view_fuel keep fuel header opening store first turns done given_up v is = ap (λ (w : Session). w.fuel) (sym is)
+view_fuel keep fuel known opening store first turns done given_up v is = ap (λ (w : Session). w.fuel) (sym is)
 
-pub view_keep : (keep : Option ℕ) (fuel : ℕ) (header : Header) (opening : List ℕ) (store : Contents) (first : Place)
+pub view_loaded : (keep : Option ℕ) (fuel : ℕ) (known : Known) (opening : List ℕ) (store : Contents) (first : Place)
     (turns : List Turn) (done : ℕ) (given_up : List ℕ) (v : Session)
-    → view_of keep fuel header opening store first turns done given_up ≡ v → v.keep ≡ keep
+    → view_of keep fuel known opening store first turns done given_up ≡ v → v.loaded ≡ known.loaded
 unfolding view_of
-view_keep keep fuel header opening store first turns done given_up v is = ap (λ (w : Session). w.keep) (sym is)
+view_loaded keep fuel known opening store first turns done given_up v is = ap (λ (w : Session). w.loaded) (sym is)
 
-pub view_given_up : (keep : Option ℕ) (fuel : ℕ) (header : Header) (opening : List ℕ) (store : Contents)
+pub view_keep : (keep : Option ℕ) (fuel : ℕ) (known : Known) (opening : List ℕ) (store : Contents) (first : Place)
+    (turns : List Turn) (done : ℕ) (given_up : List ℕ) (v : Session)
+    → view_of keep fuel known opening store first turns done given_up ≡ v → v.keep ≡ keep
+unfolding view_of
+view_keep keep fuel known opening store first turns done given_up v is = ap (λ (w : Session). w.keep) (sym is)
+
+pub view_given_up : (keep : Option ℕ) (fuel : ℕ) (known : Known) (opening : List ℕ) (store : Contents)
     (first : Place) (turns : List Turn) (done : ℕ) (given_up : List ℕ) (v : Session)
-    → view_of keep fuel header opening store first turns done given_up ≡ v → given_up ≡ v.given_up
+    → view_of keep fuel known opening store first turns done given_up ≡ v → given_up ≡ v.given_up
 unfolding view_of
-view_given_up keep fuel header opening store first turns done given_up v is = ap (λ (w : Session). w.given_up) is
+view_given_up keep fuel known opening store first turns done given_up v is = ap (λ (w : Session). w.given_up) is

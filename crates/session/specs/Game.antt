@@ -1,12 +1,18 @@
--- A game: a story as it is played by a session.
-use Rattle.std.specs.Prelude.{ℕ, Option, List}
+-- A game: a story as a session plays it.
+use Rattle.std.specs.Prelude.{◌≡◌, ℕ, Option, List}
 use Rattle.zcore.specs.declared.place.Place.{Place}
-use Rattle.zcore.specs.Turn.{by_profile}
+use Rattle.zcore.specs.Turn.{Play, plays_of, last_text, last_place}
+use Rattle.session.specs.declared.mode.Mode.{Mode}
+use Rattle.session.specs.Modes.{loaded_in, bytes_in, play_in}
 use Rattle.session.specs.Standing.{Standing}
 use Rattle.session.specs.Session.{Session}
-use Rattle.session.specs.Sessions.{IsSession, text_after, place_after}
+use Rattle.session.specs.Sessions.{IsSession}
+use Rattle.session.specs.Telling.{Telling}
+use Rattle.session.specs.Transcript.{Typed, Answer, answer_of, replies_of, standing_after, transcript_of}
 
 pub record Game : Type 0 where
+  -- which opcodes it may use
+  pub mode : Mode
   -- the bytes of the story file
   pub story : List ℕ
   -- what each turn can spend
@@ -14,22 +20,47 @@ pub record Game : Type 0 where
   -- how many turns can be undone; without a bound all
   pub keep : Option ℕ
 
+abbrev pub game_of : Mode → List ℕ → ℕ → Option ℕ → Game
+game_of mode story fuel keep = record { mode = mode; story = story; fuel = fuel; keep = keep }
+
+-- the bytes with which its machine begins
+abbrev pub bytes_of : Game → List ℕ
+bytes_of game = bytes_in game.mode game.story
+
+-- how its story is played
+abbrev pub play_on : Game → Play
+play_on game = play_in game.mode game.story game.fuel
+
 -- what the story prints last on these lines: its opening where there are none, else the turn of the last
 abbrev pub text_on : Game → List (List ℕ) → List ℕ
-text_on game lines = text_after game.story game.fuel lines
+text_on game lines = last_text (plays_of (play_on game) lines)
 
--- where it then stands
+-- where it then is
 abbrev pub place_on : Game → List (List ℕ) → Place
-place_on game lines = place_after game.story game.fuel lines
-
--- What a story does on lines, whatever it is made of: what it prints last, and where it then stands.
-pub record Telling : Type 0 where
-  pub text : List (List ℕ) → List ℕ
-  pub place : List (List ℕ) → Place
+place_on game lines = last_place (plays_of (play_on game) lines)
 
 abbrev pub telling_of : Game → Telling
 telling_of game = record { text = text_on game; place = place_on game }
 
--- the session plays this game, and these lines stand
-abbrev pub IsSessionOf : Game → Standing → Session → Type 0
-IsSessionOf game s v = IsSession game.story game.fuel (by_profile game.story game.fuel) game.keep s v
+-- The session plays this game by its machine, and these lines stand.
+pub record IsSessionOf (game : Game) (s : Standing) (v : Session) : Type 0 where
+  pub loaded : v.loaded ≡ loaded_in game.mode game.story
+  pub session : IsSession (bytes_of game) game.fuel (play_on game) game.keep s v
+
+-- P holds of each game and the lines that stand, of which this is the session.
+abbrev pub InEach : Session → (Game → Standing → Type 0) → Type 0
+InEach v P = (game : Game) (s : Standing) → IsSessionOf game s v → P game s
+
+-- Replies and transcripts of a game, which tells what the machine's turns on its story file tell
+
+abbrev pub answer : Game → Standing → Typed → Answer
+answer game = answer_of (telling_of game) game.keep
+
+abbrev pub replies : Game → Standing → List Typed → List ℕ
+replies game = replies_of (telling_of game) game.keep
+
+abbrev pub after : Game → Standing → List Typed → Standing
+after game = standing_after (telling_of game) game.keep
+
+abbrev pub transcript : Game → List Typed → List ℕ
+transcript game = transcript_of (telling_of game) game.keep

@@ -2,9 +2,9 @@
 -- known; `s` stands before, and of the lines that stand after them `P` holds.
 use Rattle.std.specs.Prelude.{Option, ◌≡◌, ℕ, List, ◌∷◌, ◌++◌, Result, Ok, Err}
 use Rattle.std.specs.Io.KnownBytes.{Appends}
-use Rattle.session.specs.Game.{Game}
+use Rattle.session.specs.Game.{Game, answer, replies, after}
 use Rattle.session.specs.Standing.{Standing}
-use Rattle.session.specs.Transcript.{Typed, lines_typed, answer, replies, after}
+use Rattle.session.specs.Transcript.{Typed, lines_typed}
 
 -- the lines were answered, and the replies written
 pub record Heard (game : Game) (w w' : Option (List ℕ)) (s : Standing) (P : Standing → Type 0)

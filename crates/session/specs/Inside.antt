@@ -10,6 +10,7 @@ use Rattle.machine_frames.specs.Contents.{Contents, bound_of}
 use Rattle.machine_frames.specs.Playing.{IsWaiting}
 use Rattle.machine_frames.specs.States.{play_of, IsStoreOf}
 use Rattle.session.specs.declared.turns.Turn.{Turn}
+use Rattle.session.specs.Modes.{Known}
 use Rattle.session.specs.Session.{Session, largest_record}
 use Rattle.session.specs.Written.{text_of, line_of}
 use Rattle.session.specs.Times.{all_cells}
@@ -46,11 +47,12 @@ place_at first turns k = slice_index_or (places_of first turns) k places.Quit
 abbrev pub cells_at : Contents → List Turn → ℕ → ℕ → List ℕ
 cells_at store turns done k = slice_index_or (all_cells store.cells (records_of turns) done) k []
 
-unfoldable pub view_of : Option ℕ → ℕ → Header → List ℕ → Contents → Place → List Turn → ℕ → List ℕ → Session
-view_of keep fuel header opening store first turns done given_up = record {
+unfoldable pub view_of : Option ℕ → ℕ → Known → List ℕ → Contents → Place → List Turn → ℕ → List ℕ → Session
+view_of keep fuel known opening store first turns done given_up = record {
   keep = keep;
   fuel = fuel;
-  static_base = header.static_base;
+  loaded = known.loaded;
+  static_base = known.header.static_base;
   opening = opening;
   states = map (λ cells. play_of (with_cells store cells)) (all_cells store.cells (records_of turns) done);
   places = places_of first turns;

@@ -2,18 +2,9 @@
 use Rattle.std.specs.Prelude.{◌≡◌, ◌≤◌, ◌+◌, ℕ, List, [], ◌++◌, length, map, drop, Option, IfSome}
 use Rattle.std.specs.List.{All}
 use Rattle.zcore.specs.Header.{static_base_of}
-use Rattle.zcore.specs.declared.place.Place.{Place}
-use Rattle.zcore.specs.Turn.{Whole, Play, by_profile, plays, plays_of, last_text, last_place}
+use Rattle.zcore.specs.Turn.{Whole, Play, plays_of, last_text}
 use Rattle.session.specs.Standing.{Standing, reached}
 use Rattle.session.specs.Session.{Session, largest_record}
-
--- what the story prints last on these lines: its opening where there are none, else the turn of the last
-abbrev pub text_after : List ℕ → ℕ → List (List ℕ) → List ℕ
-text_after story fuel lines = last_text (plays story fuel lines)
-
--- where it then stands
-abbrev pub place_after : List ℕ → ℕ → List (List ℕ) → Place
-place_after story fuel lines = last_place (plays story fuel lines)
 
 -- all lines that stand, in the order in which they are played
 abbrev pub all_lines : Standing → List (List ℕ)
@@ -41,9 +32,3 @@ pub record IsSession (story : List ℕ) (units : ℕ) (play : Play) (most : Opti
   -- a record holds at most one cell for each byte of dynamic memory and 72,559 for stack, frames and registers
   pub small : All (λ size. size ≤ largest_record (static_base_of story)) v.sizes
   pub present : v.present ≡ s.kept
-
--- P holds of each story, fuel, bound and lines that stand, of which this is the session
-abbrev pub InEach : Session → (List ℕ → ℕ → Option ℕ → Standing → Type 0) → Type 0
-InEach v P =
-    (story : List ℕ) (fuel : ℕ) (keep : Option ℕ) (s : Standing) → IsSession story fuel (by_profile story fuel) keep s v
-    → P story fuel keep s

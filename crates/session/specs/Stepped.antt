@@ -2,10 +2,10 @@
 use Rattle.std.specs.Prelude.{◌≡◌, ◌≤◌, ℕ, zero, suc, ◌+◌, ◌-◌, nat_lt, if◌then◌else◌, List, []}
 use Rattle.std.specs.Prelude.{◌∷◌, ◌++◌, length, take, drop, slice_index_or, Option, Some, None}
 use Rattle.zcore.specs.Header.{static_base_of}
-use Rattle.zcore.specs.Turn.{by_profile, Whole}
+use Rattle.zcore.specs.Turn.{Whole}
 use Rattle.session.specs.Standing.{Standing, redo_of}
 use Rattle.session.specs.Session.{Session, largest_record}
-use Rattle.session.specs.Sessions.{IsSession, InEach}
+use Rattle.session.specs.Game.{IsSessionOf, InEach}
 
 -- the text of the latest turn that is done
 abbrev pub text_before : ℕ → Session → List ℕ
@@ -68,7 +68,7 @@ IsSize story s size = (s.kept ≡ 0 → size ≡ 0) × (size ≤ largest_record 
 
 -- what stands goes over into what `f` makes of it
 abbrev pub Moves : (Standing → Standing) → Session → Session → Type 0
-Moves f old new = InEach old (λ story fuel keep s. IsSession story fuel (by_profile story fuel) keep (f s) new)
+Moves f old new = InEach old (λ game s. IsSessionOf game (f s) new)
 
 -- the turn after the present is done again, where there is one, and nothing else changes
 pub record Redone (old new : Session) : Type 0 where

@@ -1,7 +1,7 @@
 -- The reply to a line, and the transcript of many.
 use Rattle.std.specs.Prelude.{ℕ, Bool, Option, ◌==◌, List, [], ◌∷◌, ◌++◌, length, map, bytes_eq, codes, if◌then◌else◌}
 use Rattle.zcore.specs.Turn.{is_waiting}
-use Rattle.session.specs.Game.{Game, Telling, telling_of}
+use Rattle.session.specs.Telling.{Telling}
 use Rattle.session.specs.Standing.{Standing, nothing, is_typable, taken, undo_of, redo_of}
 
 -- a line of input, and its mark: whether it met refused memory
@@ -68,17 +68,3 @@ standing_after telling keep s (x ∷ xs) = standing_after telling keep (answer_o
 -- the text of the opening, then the replies in order
 abbrev pub transcript_of : Telling → Option ℕ → List Typed → List ℕ
 transcript_of telling keep typed = telling.text [] ++ replies_of telling keep nothing typed
-
--- The same of a game, which tells what the machine's turns on its story file tell
-
-abbrev pub answer : Game → Standing → Typed → Answer
-answer game = answer_of (telling_of game) game.keep
-
-abbrev pub replies : Game → Standing → List Typed → List ℕ
-replies game = replies_of (telling_of game) game.keep
-
-abbrev pub after : Game → Standing → List Typed → Standing
-after game = standing_after (telling_of game) game.keep
-
-abbrev pub transcript : Game → List Typed → List ℕ
-transcript game = transcript_of (telling_of game) game.keep

@@ -1,6 +1,7 @@
 -- What a turn makes of a session.
 use Rattle.std.specs.Prelude.{◌≡◌, ◌≤◌, ℕ, List, slice_index_or, Some}
-use Rattle.zcore.specs.Turn.{StateOfPlay, Whole, turn_on}
+use Rattle.zcore.specs.Turn.{StateOfPlay, Whole}
+use Rattle.session.specs.Modes.{turn_with}
 use Rattle.session.specs.Session.{Session, largest_record}
 use Rattle.session.specs.Stepped.{with_turn}
 
@@ -8,7 +9,7 @@ use Rattle.session.specs.Stepped.{with_turn}
 pub record Turned (line : List ℕ) (old new : Session) : Type 0 where
   pub whole : Whole
   pub size : ℕ
-  pub turn : (d : StateOfPlay) → turn_on line old.fuel (slice_index_or old.states old.present d) ≡ Some whole
+  pub turn : (d : StateOfPlay) → turn_with old.loaded line old.fuel (slice_index_or old.states old.present d) ≡ Some whole
   -- what its record can hold
   pub small : size ≤ largest_record old.static_base
   pub is : new ≡ with_turn line size whole old

@@ -11,18 +11,21 @@ ghost use Rattle.session.specs.Session.{largest_record};
 ghost use Rattle.session.specs.Stepped.{latest_text, latest_size};
 ghost use Rattle.session.specs.Stepped.{stepped_back, bounded, without_oldest};
 ghost use Rattle.session.specs.Turned.{Turned};
-ghost use Rattle.session.specs.Sessions.{InEach, place_after, text_after};
+ghost use Rattle.session.specs.Game.{InEach, bytes_of, game_of, place_on, text_on};
+ghost use Rattle.session.specs.declared.mode.Mode.TheVariants.{Profile};
 ghost use Rattle.session.specs.Stepped.{IsSize, Moves, Redone};
 ghost use Rattle.session.specs.Replies.{After, OpensSession, RepliesWith};
 ghost use Rattle.session.specs.contracts.session.Session.{the_row};
 
 use crate::fault::OpenFault;
+use crate::mode::Mode;
+use crate::player::Player;
 use crate::reply::Reply;
 use crate::turns::{Turn, begin_text, do_again, keep_written, put_turn, take_back};
 use crate::typable::is_typable;
 use crate::written::Written;
 use journal::{NoMemory, Recorded};
-use machine::{Machine, Store};
+use machine::Store;
 use machine_frames::program_counter;
 use std::alloc::Global;
 use std::collections::VecDeque;
@@ -33,7 +36,7 @@ use zcore::Place;
 /// and done again until another line is taken; the opening cannot be taken back.
 #[derive(Drop)]
 pub struct Session {
-    machine: Machine,
+    player: Player,
 
     /// The store at the present; nothing is recorded between turns.
     store: Recorded<Store>,
@@ -72,29 +75,30 @@ impl Model for Session {
     ghost Value = { Session };
 
     ghost use Rattle.session.specs.Inside.{view_of, IsBetweenTurns};
+    ghost use Rattle.session.specs.Players.{known_of};
     ghost use Rattle.session.specs.Written.{text_of};
 
-    ghost view = { λ s. view_of s.keep s.fuel s.machine.header s.opening.items s.store.store
+    ghost view = { λ s. view_of s.keep s.fuel (known_of s.player) s.opening.items s.store.store
         s.first s.turns.items s.done (text_of s.given_up) };
 
-    ghost invariant = { λ s. IsBetweenTurns s.machine.header s.store s.first s.turns.items s.done };
+    ghost invariant = { λ s. IsBetweenTurns (known_of s.player).header s.store s.first s.turns.items s.done };
 }
 
 impl Session {
-    /// Opens a story with so many units of fuel for each turn, and plays its opening. All turns are
-    /// kept.
+    /// Opens a story in the profile with so many units of fuel for each turn, and plays its opening.
+    /// All turns are kept.
     ///
     /// # Errors
     ///
     /// Those of `open_with`.
     pub fn open(alloc: Global, story: Vec<u8>, fuel: u32) -> Result<Session, OpenFault>
-        ensures { OpensSession story.items fuel None result }
+        ensures { OpensSession (game_of Profile story.items fuel None) result }
     {
-        Session::open_with(alloc, story, fuel, None)
+        Session::open_with(alloc, story, Mode::Profile, fuel, None)
     }
 
-    /// Opens a story with so many units of fuel for each turn, and plays its opening. At most
-    /// `keep` turns are kept, or all of them.
+    /// Opens a story in a mode with so many units of fuel for each turn, and plays its opening. At
+    /// most `keep` turns are kept, or all of them.
     ///
     /// # Errors
     ///
@@ -103,22 +107,23 @@ impl Session {
     pub fn open_with(
         alloc: Global,
         story: Vec<u8>,
+        mode: Mode,
         fuel: u32,
         keep: Option<u32>,
     ) -> Result<Session, OpenFault>
-        ensures { OpensSession story.items fuel keep result }
+        ensures { OpensSession (game_of mode story.items fuel keep) result }
     {
-        let (machine, store) = match Machine::load(alloc, story) {
+        let (player, store) = match Player::load(alloc, story, mode) {
             Ok(loaded) => loaded,
-            Err(fault) => return Err(OpenFault::Load(fault)),
+            Err(fault) => return Err(fault),
         };
         let mut store = Recorded::new(alloc, store);
         let mut opening = Vec::new(alloc);
-        match machine.turn(None, fuel, &mut store, &mut opening) {
+        match player.turn(None, fuel, &mut store, &mut opening) {
             Ok(first) => {
                 store.close();
                 Ok(Session {
-                    machine,
+                    player,
                     store,
                     opening,
                     first,
@@ -139,7 +144,7 @@ impl Session {
     pub fn opening(&self) -> &[u8]
         ensures text { result.now ≡ self.now.opening }
         ensures opening { InEach self.now
-            (λ story fuel keep s. result.now ≡ text_after story fuel []) }
+            (λ game s. result.now ≡ text_on game []) }
     {
         &self.opening
     }
@@ -148,7 +153,7 @@ impl Session {
     pub fn place(&self) -> Place
         ensures present { result ≡ slice_index_or self.now.places self.now.present places.Quit }
         ensures place { InEach self.now
-            (λ story fuel keep s. result ≡ place_after story fuel s.done) }
+            (λ game s. result ≡ place_on game s.done) }
     {
         if self.done == 0 {
             self.first
@@ -177,7 +182,7 @@ impl Session {
     /// Takes the latest turn back. It answers false, and changes nothing, exactly where no turn is
     /// kept. It takes no memory.
     pub fn undo(&mut self) -> bool
-        ensures found { InEach self.old (λ story fuel keep s. IsTrue result ↔ (0 < s.kept)) }
+        ensures found { InEach self.old (λ game s. IsTrue result ↔ (0 < s.kept)) }
         ensures undone { Moves undo_of self.old self.new }
         ensures stepped { self.new ≡ stepped_back self.old }
     {
@@ -194,9 +199,9 @@ impl Session {
     pub fn redo(&mut self) -> Option<&[u8]>
         ensures* rests { sem 𝓛 (Rests the_row self.entry (Redone self.old)) }
         ensures found { InEach self.old
-            (λ story fuel keep s. IsSome result ↔ (0 < length s.undone)) }
-        ensures text { InEach self.old (λ story fuel keep s.
-            IfSome result (λ t. t.now ≡ text_after story fuel (redo_of s).done)) }
+            (λ game s. IsSome result ↔ (0 < length s.undone)) }
+        ensures text { InEach self.old (λ game s.
+            IfSome result (λ t. t.now ≡ text_on game (redo_of s).done)) }
     {
         if self.done == self.turns.len() {
             return None;
@@ -208,7 +213,7 @@ impl Session {
 
     /// How many turns are kept, and how many are undone.
     pub fn counts(&self) -> (usize, usize)
-        ensures { InEach self.now (λ story fuel keep s.
+        ensures { InEach self.now (λ game s.
             (result.0 ≡ s.kept) × (result.1 ≡ length s.undone)) }
     {
         (self.done, self.turns.len() - self.done)
@@ -219,7 +224,7 @@ impl Session {
     pub fn last_cells(&self) -> usize
         ensures cells { result ≡ latest_size self.now }
         ensures most { result ≤ largest_record self.now.static_base }
-        ensures story { InEach self.now (λ story fuel keep s. IsSize story s result) }
+        ensures story { InEach self.now (λ game s. IsSize (bytes_of game) s result) }
     {
         if self.done == 0 {
             0
@@ -238,7 +243,7 @@ impl Session {
     /// given takes memory.
     pub fn reply(&mut self, line: &[u8]) -> Reply<'_>
         ensures* rests { sem 𝓛 (Rests the_row self.entry (After line.now result self.old)) }
-        ensures says { InEach self.old (λ story fuel keep s. RepliesWith story fuel s line.now result) }
+        ensures says { InEach self.old (λ game s. RepliesWith game s line.now result) }
     {
         if !is_typable(line) {
             return Reply::Refused;
@@ -264,7 +269,7 @@ impl Session {
     {
         begin_text(&mut self.turns, &mut self.gathered, line)?;
         let place = self
-            .machine
+            .player
             .turn(Some(line), self.fuel, &mut self.store, &mut self.gathered)?;
         let written = keep_written(self.alloc, &mut self.store, &self.gathered, line.len())?;
         let turn = Turn {

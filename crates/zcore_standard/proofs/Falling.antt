@@ -19,7 +19,7 @@ use Rattle.zcore.proofs.FallsOfEffects.{give_result_falls}
 use Rattle.zcore.proofs.FallsOfOperations.{read_falls}
 use Rattle.zcore_standard.specs.declared.operations.Further.{Further}
 use Rattle.zcore_standard.specs.declared.operations.Further.TheVariants as operations
-use Rattle.zcore_standard.specs.Place.{Loaded}
+use Rattle.zcore_standard.specs.Loaded.{Loaded}
 use Rattle.zcore_standard.specs.Shifts.{log_shift, art_shift}
 use Rattle.zcore_standard.specs.Unicode.{transcript_of, print_whole, print_unicode, check_unicode}
 use Rattle.zcore_standard.specs.Flow.{catch, frames_at, leave_frame, throw, verify}

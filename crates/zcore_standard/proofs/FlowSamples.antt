@@ -14,7 +14,8 @@ use Rattle.zcore_standard.specs.declared.operations.Further.TheVariants.{Save, R
 use Rattle.zcore_standard.specs.Flow.{restart, catch, leave_frame, throw, verify}
 use Rattle.zcore_standard.specs.Further.{perform_keeping}
 use Rattle.zcore_standard.specs.Loading.{seeded}
-use Rattle.zcore_standard.specs.Place.{Here, Loaded}
+use Rattle.zcore_standard.specs.Place.{Here}
+use Rattle.zcore_standard.specs.Loaded.{Loaded}
 
 abbrev here : Next
 here = record { program_counter = 100; fuel = 5 }

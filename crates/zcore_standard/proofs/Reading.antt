@@ -16,7 +16,8 @@ use Rattle.zcore.specs.Parts.{is_code, operand_values}
 use Rattle.zcore.specs.State.{State, Out, done, halt, bound}
 use Rattle.zcore.proofs.Ahead as ahead
 use Rattle.zcore_standard.specs.declared.operations.Further.TheVariants.{Read}
-use Rattle.zcore_standard.specs.Place.{Here, Loaded, within}
+use Rattle.zcore_standard.specs.Place.{Here, within}
+use Rattle.zcore_standard.specs.Loaded.{Loaded}
 use Rattle.zcore_standard.specs.Laws.{ends_in_fault}
 use Rattle.zcore_standard.specs.Instruction.{types_at, counted, result_at, branch_after, decode_further}
 use Rattle.zcore_standard.specs.Further.{perform_keeping, perform_further, execute_further}

@@ -10,7 +10,7 @@ use Rattle.zcore.specs.Turn.{entries, follow, is_waiting, opening, plays_from, f
 use Rattle.zcore.proofs.Turning.{turn_ends}
 use Rattle.zcore_standard.specs.Laws.{is_fault, have_no_fault}
 use Rattle.zcore_standard.specs.Machine.{standard_pending, standard_turn_on, standard_opening, with_beside, by_standard}
-use Rattle.zcore_standard.specs.Place.{Loaded}
+use Rattle.zcore_standard.specs.Loaded.{Loaded}
 use Rattle.zcore_standard.proofs.Turning.{standard_turn_keeps, standard_turn_on_keeps}
 
 -- A line where none is waited for

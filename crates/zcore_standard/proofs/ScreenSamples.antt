@@ -9,7 +9,7 @@ use Rattle.zcore.specs.State.{State, done, halt}
 use Rattle.zcore.specs.Turn.{first_environment, first_state}
 use Rattle.zcore_standard.specs.declared.operations.Further.TheVariants.{SetWindow, ReadChar, SplitWindow}
 use Rattle.zcore_standard.specs.Further.{perform_keeping}
-use Rattle.zcore_standard.specs.Place.{Loaded}
+use Rattle.zcore_standard.specs.Loaded.{Loaded}
 use Rattle.zcore_standard.specs.Screen.{get_cursor, set_font, output_stream}
 
 abbrev here : Next

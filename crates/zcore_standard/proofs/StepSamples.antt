@@ -16,7 +16,8 @@ use Rattle.zcore_standard.specs.Instruction.{types_at, result_at, branch_after, 
 use Rattle.zcore_standard.specs.Loading.{seeded}
 use Rattle.zcore_standard.specs.Machine.{begins, standard_step}
 use Rattle.zcore_standard.specs.Nothing.{perform_on_nothing, step_known}
-use Rattle.zcore_standard.specs.Place.{Here, Loaded}
+use Rattle.zcore_standard.specs.Place.{Here}
+use Rattle.zcore_standard.specs.Loaded.{Loaded}
 use Rattle.zcore_standard.specs.Shifts.{log_shift}
 
 -- a story with static base 80, and bytes from 64 on

@@ -20,7 +20,8 @@ use Rattle.zcore.proofs.FallsOfParts.{Falls, falls_alike}
 use Rattle.zcore.proofs.FallsOfEffects.{give_result_falls}
 use Rattle.zcore_standard.specs.declared.operations.Further.{Further}
 use Rattle.zcore_standard.specs.declared.operations.Further.TheVariants as operations
-use Rattle.zcore_standard.specs.Place.{Here, Loaded, on, within}
+use Rattle.zcore_standard.specs.Place.{Here, on, within}
+use Rattle.zcore_standard.specs.Loaded.{Loaded}
 use Rattle.zcore_standard.specs.Operations.{row_of, further_at}
 use Rattle.zcore_standard.specs.Instruction.{Instruction, typed, types_at, counted, result_at, branch_after}
 use Rattle.zcore_standard.specs.Instruction.{decode_further}

@@ -18,7 +18,8 @@ use Rattle.zcore.proofs.WaitingEffects.{waits_branch_on, waits_give_result}
 use Rattle.zcore.proofs.WaitingOperations.{waits_read}
 use Rattle.zcore_standard.specs.declared.operations.Further.{Further}
 use Rattle.zcore_standard.specs.declared.operations.Further.TheVariants as operations
-use Rattle.zcore_standard.specs.Place.{Here, Loaded, within}
+use Rattle.zcore_standard.specs.Place.{Here, within}
+use Rattle.zcore_standard.specs.Loaded.{Loaded}
 use Rattle.zcore_standard.specs.Operations.{further_at}
 use Rattle.zcore_standard.specs.Instruction.{Instruction, decode_further}
 use Rattle.zcore_standard.specs.Shifts.{log_shift, art_shift}

@@ -19,7 +19,8 @@ use Rattle.zcore_standard.specs.declared.operations.Further.TheVariants.{CopyTab
 use Rattle.zcore_standard.specs.declared.operations.Further.TheVariants.{LogShift, ArtShift, SetFont, SaveUndo}
 use Rattle.zcore_standard.specs.declared.operations.Further.TheVariants.{RestoreUndo, PrintUnicode, CheckUnicode}
 use Rattle.zcore_standard.specs.declared.operations.Further.TheVariants.{SetTrueColour}
-use Rattle.zcore_standard.specs.Place.{Here, Loaded, within}
+use Rattle.zcore_standard.specs.Place.{Here, within}
+use Rattle.zcore_standard.specs.Loaded.{Loaded}
 use Rattle.zcore_standard.specs.Instruction.{Instruction}
 use Rattle.zcore_standard.specs.Shifts.{log_shift, art_shift}
 use Rattle.zcore_standard.specs.Dice.{random}

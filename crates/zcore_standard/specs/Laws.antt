@@ -8,7 +8,8 @@ use Rattle.zcore.specs.declared.place.Place.{Place}
 use Rattle.zcore.specs.declared.place.Place.TheVariants as places
 use Rattle.zcore.specs.Execution.{step}
 use Rattle.zcore.specs.Turn.{StateOfPlay, Whole, TurnsBy, turn_from, turn_on, plays, plays_of}
-use Rattle.zcore_standard.specs.Place.{Here, Loaded, within}
+use Rattle.zcore_standard.specs.Place.{Here, within}
+use Rattle.zcore_standard.specs.Loaded.{Loaded}
 use Rattle.zcore_standard.specs.Machine.{standard, standard_step, standard_turn, standard_turn_on, begins, by_standard}
 use Rattle.zcore_standard.specs.Machine.{with_beside}
 

@@ -15,7 +15,7 @@ use Rattle.zcore.specs.Turn.{Play, with_bytes}
 use Rattle.zcore_standard.specs.declared.loading.LoadedStory.{LoadedStory}
 use Rattle.zcore_standard.specs.declared.loading.LoadingFault.{LoadingFault}
 use Rattle.zcore_standard.specs.declared.loading.LoadingFault.TheVariants as faults
-use Rattle.zcore_standard.specs.Place.{Loaded}
+use Rattle.zcore_standard.specs.Loaded.{Loaded}
 use Rattle.zcore_standard.specs.Machine.{by_standard}
 use Rattle.zcore_standard.specs.Unicode.{default_characters}
 

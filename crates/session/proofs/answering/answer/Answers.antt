@@ -18,8 +18,8 @@ returns-then-undo g c = λ game s p.
     (at_undo game s c.args.line.now false
     (tested c.args.line.now (codes "/undo") c.as_slice.result.now c.eq.result true c.as_slice.ensures
     c.eq.ensures c.if-eq.true) ∙ undo_some s
-    ((c.if-undo.ensures.found game.story game.fuel game.keep s p).0 refl))
-    (c.undo.ensures.undone game.story game.fuel game.keep s p) c.tell.ensures
+    ((c.if-undo.ensures.found game s p).0 refl))
+    (c.undo.ensures.undone game s p) c.tell.ensures
 
 pub returns-else-undo : goal.returns-else-undo
 returns-else-undo g c = λ game s p.
@@ -30,8 +30,8 @@ returns-else-undo g c = λ game s p.
     (at_undo game s c.args.line.now false
     (tested c.args.line.now (codes "/undo") c.as_slice.result.now c.eq.result true c.as_slice.ensures
     c.eq.ensures c.if-eq.true) ∙ undo_none s
-    (absent _ ((c.if-undo.ensures.found game.story game.fuel game.keep s p).1)))
-    (c.undo.ensures.undone game.story game.fuel game.keep s p) c.tell-else-undo.ensures
+    (absent _ ((c.if-undo.ensures.found game s p).1)))
+    (c.undo.ensures.undone game s p) c.tell-else-undo.ensures
 
 pub returns-in_err-put-in-Some : goal.returns-in_err-put-in-Some
 returns-in_err-put-in-Some g c = λ game s p.
@@ -47,8 +47,8 @@ returns-in_err-put-in-Some g c = λ game s p.
     c.eq.ensures c.if-eq.false)
     (tested c.args.line.now (codes "/redo") c.as_slice-else-eq.result.now c.eq-else-eq.result true
     c.as_slice-else-eq.ensures c.eq-else-eq.ensures c.if-eq-2.true)
-    ∙ redo_some game s ((c.in-Some.ensures.found game.story game.fuel game.keep s p).0 refl))
-    (c.redo.follows.holds-at-none.stands game.story game.fuel game.keep s p)
+    ∙ redo_some game s ((c.in-Some.ensures.found game s p).0 refl))
+    (c.redo.follows.holds-at-none.stands game s p)
     (wrote_first (text_on game (redo_of s).done) c.in_err-put-in-Some.ensures))
 
 pub returns-in_ok-put-in-Some : goal.returns-in_ok-put-in-Some
@@ -63,14 +63,14 @@ returns-in_ok-put-in-Some g c = λ game s p.
     c.eq.ensures c.if-eq.false)
     (tested c.args.line.now (codes "/redo") c.as_slice-else-eq.result.now c.eq-else-eq.result true
     c.as_slice-else-eq.ensures c.eq-else-eq.ensures c.if-eq-2.true)
-    ∙ redo_some game s ((c.in-Some.ensures.found game.story game.fuel game.keep s p).0 refl))
-    (c.redo.follows.holds-at-none.stands game.story game.fuel game.keep s p)
+    ∙ redo_some game s ((c.in-Some.ensures.found game s p).0 refl))
+    (c.redo.follows.holds-at-none.stands game s p)
     (wrote_both (g.W.Write.contents c.args.writer.now) (g.W.Write.contents c.put.new.writer)
     (g.W.Write.contents c.tell-in-Some.new.writer) (note (codes "[Redone.]")) (text_on game (redo_of s).done)
     c.tell-in-Some.result c.in_ok-put-in-Some.ensures
     (subst (λ (t : List ℕ). WroteText (g.W.Write.contents c.put.new.writer)
     (g.W.Write.contents c.tell-in-Some.new.writer) t c.tell-in-Some.result)
-    (c.in-Some.ensures.text game.story game.fuel game.keep s p) c.tell-in-Some.ensures))
+    (c.in-Some.ensures.text game s p) c.tell-in-Some.ensures))
 
 pub returns-in-None : goal.returns-in-None
 returns-in-None g c = λ game s p.
@@ -83,8 +83,8 @@ returns-in-None g c = λ game s p.
     c.eq.ensures c.if-eq.false)
     (tested c.args.line.now (codes "/redo") c.as_slice-else-eq.result.now c.eq-else-eq.result true
     c.as_slice-else-eq.ensures c.eq-else-eq.ensures c.if-eq-2.true)
-    ∙ redo_none game s (absent _ ((c.in-None.ensures.found game.story game.fuel game.keep s p).1)))
-    (c.redo.follows.holds-at-none.stands game.story game.fuel game.keep s p) c.tell-in-None.ensures
+    ∙ redo_none game s (absent _ ((c.in-None.ensures.found game s p).1)))
+    (c.redo.follows.holds-at-none.stands game s p) c.tell-in-None.ensures
 
 pub returns-in-Taken : goal.returns-in-Taken
 returns-in-Taken g c = λ game s p.
@@ -100,13 +100,13 @@ returns-in-Taken g c = λ game s p.
     c.eq.ensures c.if-eq.false)
     (tested c.args.line.now (codes "/redo") c.as_slice-else-eq.result.now c.eq-else-eq.result false
     c.as_slice-else-eq.ensures c.eq-else-eq.ensures c.if-eq-2.false)
-    ∙ line_taken game s c.args.line.now (c.in-Taken.ensures.says game.story game.fuel game.keep s p).0
-    (c.in-Taken.ensures.says game.story game.fuel game.keep s p).1)
+    ∙ line_taken game s c.args.line.now (c.in-Taken.ensures.says game s p).0
+    (c.in-Taken.ensures.says game s p).1)
     ((subst (λ r. After c.args.line.now r c.args.session.now c.reply.follows.lender-at-none) c.in-Taken.is
-    c.reply.follows.holds-at-none) game.story game.fuel game.keep s p)
+    c.reply.follows.holds-at-none) game s p)
     (subst (λ (t : List ℕ). WroteText (g.W.Write.contents c.args.writer.now)
     (g.W.Write.contents c.tell-in-Taken.new.writer) t c.tell-in-Taken.result)
-    (c.in-Taken.ensures.says game.story game.fuel game.keep s p).2 c.tell-in-Taken.ensures)
+    (c.in-Taken.ensures.says game s p).2 c.tell-in-Taken.ensures)
 
 pub returns-in-Refused : goal.returns-in-Refused
 returns-in-Refused g c = λ game s p.
@@ -118,7 +118,7 @@ returns-in-Refused g c = λ game s p.
     c.eq.ensures c.if-eq.false)
     (tested c.args.line.now (codes "/redo") c.as_slice-else-eq.result.now c.eq-else-eq.result false
     c.as_slice-else-eq.ensures c.eq-else-eq.ensures c.if-eq-2.false)
-    ∙ line_refused game s c.args.line.now false (c.in-Refused.ensures.says game.story game.fuel game.keep s p))
+    ∙ line_refused game s c.args.line.now false (c.in-Refused.ensures.says game s p))
     (subst (IsSessionOf game s)
     (sym (subst (λ r. After c.args.line.now r c.args.session.now c.reply.follows.lender-at-none) c.in-Refused.is
     c.reply.follows.holds-at-none)) p) c.tell-in-Refused.ensures
@@ -133,8 +133,8 @@ returns-in-Over g c = λ game s p.
     c.eq.ensures c.if-eq.false)
     (tested c.args.line.now (codes "/redo") c.as_slice-else-eq.result.now c.eq-else-eq.result false
     c.as_slice-else-eq.ensures c.eq-else-eq.ensures c.if-eq-2.false)
-    ∙ line_over game s c.args.line.now false (c.in-Over.ensures.says game.story game.fuel game.keep s p).0
-    (c.in-Over.ensures.says game.story game.fuel game.keep s p).1)
+    ∙ line_over game s c.args.line.now false (c.in-Over.ensures.says game s p).0
+    (c.in-Over.ensures.says game s p).1)
     (subst (IsSessionOf game s)
     (sym (subst (λ r. After c.args.line.now r c.args.session.now c.reply.follows.lender-at-none) c.in-Over.is
     c.reply.follows.holds-at-none)) p) c.tell-in-Over.ensures
@@ -150,8 +150,8 @@ returns-in-NoMemory g c = λ game s p.
     c.eq.ensures c.if-eq.false)
     (tested c.args.line.now (codes "/redo") c.as_slice-else-eq.result.now c.eq-else-eq.result false
     c.as_slice-else-eq.ensures c.eq-else-eq.ensures c.if-eq-2.false)
-    ∙ line_unmet game s c.args.line.now (c.in-NoMemory.ensures.says game.story game.fuel game.keep s p).0
-    (c.in-NoMemory.ensures.says game.story game.fuel game.keep s p).1)
+    ∙ line_unmet game s c.args.line.now (c.in-NoMemory.ensures.says game s p).0
+    (c.in-NoMemory.ensures.says game s p).1)
     (subst (IsSessionOf game s)
     (sym (subst (λ r. After c.args.line.now r c.args.session.now c.reply.follows.lender-at-none) c.in-NoMemory.is
     c.reply.follows.holds-at-none)) p) c.tell-in-NoMemory.ensures

@@ -18,7 +18,7 @@ returns-in_err-tell g c = λ game p.
     let w2 = g.W.Write.contents c.tell.new.writer in
     opening_broke game (g.R.Read.remaining c.args.reader.now) w w2 (λ t. IsSessionOf game t c.args.session.now)
     c.from_residual.result c.from_residual.ensures.1
-    (subst (WroteSome w w2) (c.opening.ensures.opening game.story game.fuel game.keep nothing p)
+    (subst (WroteSome w w2) (c.opening.ensures.opening game nothing p)
     c.in_err-tell.ensures) p
 
 pub loop-init : goal.loop-init
@@ -28,7 +28,7 @@ loop-init g c = record {
       going_start game (g.R.Read.remaining c.args.reader.now) (g.W.Write.contents c.args.writer.now)
       (g.W.Write.contents c.tell.new.writer) (λ t. IsSessionOf game t c.args.session.now) c.new-line.result
       p (subst (Appends (g.W.Write.contents c.args.writer.now) (g.W.Write.contents c.tell.new.writer))
-      (c.opening.ensures.opening game.story game.fuel game.keep nothing p) c.in_ok-tell.ensures)
+      (c.opening.ensures.opening game nothing p) c.in_ok-tell.ensures)
       c.new-line.ensures.kept;
 }
 
@@ -109,7 +109,7 @@ returns-in-Ok-eq0 g c = λ game p.
     (λ t. IsSessionOf game t now.session) c.loop.line c.place.result h
     (subst (λ (n : ℕ). Consumes r1 r2 (take n c.read.new.buf)) c.in-Ok-eq0.field-0-test c.in-Ok-eq0.ensures.bytes.0)
     (c.in-Ok-eq0.ensures.bytes.1 c.in-Ok-eq0.field-0-test (omega arith)) heard
-    (λ t q. c.place.ensures.place game.story game.fuel game.keep t q)
+    (λ t q. c.place.ensures.place game t q)
 
 pub returns-in-Err : goal.returns-in-Err
 returns-in-Err g c = λ game p.

@@ -1,11 +1,11 @@
 use Rattle.std.proofs.Common.{◌≡◌, ℕ, ◌∙◌, ap, sym, subst, refl, drop, length, List, []}
 use Rattle.journal.specs.Recording.{Recording}
-use Rattle.zcore.specs.Turn.{by_profile, first_state}
 use Rattle.machine_frames.specs.Contents.{Contents}
-use Rattle.machine_frames.specs.States.{state_of, IsStoreOf}
+use Rattle.machine_frames.specs.States.{IsStoreOf}
 use Rattle.machine_frames.proofs.Steps.{store_after}
 use Rattle.session.specs.Inside.{IsBetweenTurns, view_of}
-use Rattle.session.specs.Sessions.{IsSession}
+use Rattle.session.specs.Game.{Game, game_of, IsSessionOf}
+use Rattle.session.specs.Players.{known_of, IsPlayerOf}
 use Rattle.session.specs.Standing.{nothing}
 use Rattle.session.specs.Written.{text_of}
 use Rattle.session.proofs.Opening.{opened_between, session_opened}
@@ -14,7 +14,7 @@ use Rattle.session.proofs.session.Session.open_with.Goals as goal
 pub invariant_of-result : goal.invariant_of-result
 invariant_of-result c =
     let l = c.in-Ok.ensures in
-    let header = c.in-Ok.loaded.0.header in
+    let header = (known_of c.in-Ok.loaded.0).header in
     let same : c.new-store.result.store ≡ c.in-Ok.loaded.1 = ap (λ (r : Recording Contents). r.store)
     c.new-store.ensures in
     let before : IsStoreOf header c.new-store.result.store = subst (IsStoreOf header) (sym same) l.store in
@@ -27,23 +27,22 @@ invariant_of-result c =
 pub returns-in-Ok-turn : goal.returns-in-Ok-turn
 returns-in-Ok-turn c =
     let l = c.in-Ok.ensures in
-    let header = c.in-Ok.loaded.0.header in
-    let story = c.args.story.items in
+    let known = known_of c.in-Ok.loaded.0 in
+    let game : Game = game_of c.args.mode c.args.story.items c.args.fuel c.args.keep in
     let same : c.new-store.result.store ≡ c.in-Ok.loaded.1 = ap (λ (r : Recording Contents). r.store)
     c.new-store.ensures in
-    let before : IsStoreOf header c.new-store.result.store = subst (IsStoreOf header) (sym same) l.store in
-    let state : state_of c.new-store.result.store [] ≡ first_state story = ap (λ s. state_of s []) same ∙ l.state in
+    let player = subst (IsPlayerOf c.args.mode c.args.story.items known) (sym same) l in
     let words : drop (length c.new-opening.result.items) c.turn.new.text.items
     ≡ c.turn.new.text.items = ap (λ (x : List ℕ). drop (length x) c.turn.new.text.items)
     c.new-opening.ensures.items in
     let closed : c.close.new.self.store ≡ c.turn.new.store.store = ap (λ (r : Recording Contents). r.store)
     c.close.ensures.new in
     let session = subst
-    (λ s. IsSession story c.args.fuel (by_profile story c.args.fuel) c.args.keep nothing
-    (view_of c.args.keep c.args.fuel header c.turn.new.text.items s c.in-Ok-turn.first c.new.result.items 0
+    (λ s. IsSessionOf game nothing
+    (view_of c.args.keep c.args.fuel known c.turn.new.text.items s c.in-Ok-turn.first c.new.result.items 0
     (text_of c.none.result))) (sym closed)
-    (session_opened story c.args.fuel c.args.keep header c.new-store.result.store c.turn.new.store.store
+    (session_opened game known c.new-store.result.store c.turn.new.store.store
     c.in-Ok-turn.first c.new.result.items (drop (length c.new-opening.result.items) c.turn.new.text.items)
     c.turn.new.text.items (text_of c.none.result)
-    c.new.ensures.items before state c.in-Ok-turn.ensures.ends.whole words) in
-    record { header = header; reads = l.header; session = session }
+    c.new.ensures.items player c.in-Ok-turn.ensures.ends.whole words) in
+    (l.can, session)

@@ -9,5 +9,5 @@ returns-clause-text c = c.deref.ensures.value ∙ ap (λ (v : Session). v.openin
 
 pub returns-clause-opening : goal.returns-clause-opening
 unfolding view_of
-returns-clause-opening c = λ story fuel keep s h. c.deref.ensures.value
-    ∙ ap (λ (v : Session). v.opening) c.self.view_is ∙ h.opening
+returns-clause-opening c = λ game s h. c.deref.ensures.value
+    ∙ ap (λ (v : Session). v.opening) c.self.view_is ∙ h.session.opening

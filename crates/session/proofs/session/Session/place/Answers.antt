@@ -1,6 +1,6 @@
 use Rattle.std.proofs.Common.{ap, ◌∙◌, arith, get_or}
 use Rattle.zcore.specs.declared.place.Place.TheVariants as places
-use Rattle.zcore.specs.Turn.{by_profile}
+use Rattle.session.specs.Game.{bytes_of, play_on}
 use Rattle.session.specs.Session.{Session}
 use Rattle.session.specs.Inside.{view_of}
 use Rattle.session.proofs.Views.{first_place, later_place}
@@ -23,11 +23,11 @@ returns-else-self-eq0-clause-present c =
     ∙ ap (λ (v : Session). get_or v.places v.present places.Quit) c.self.view_is
 
 pub returns-then-self-eq0-clause-place : goal.returns-then-self-eq0-clause-place
-returns-then-self-eq0-clause-place c = λ story fuel keep s h.
-    session_place story fuel (by_profile story fuel) keep s c.args.self.now
-    c.self.inside.first (returns-then-self-eq0-clause-present c) h
+returns-then-self-eq0-clause-place c = λ game s h.
+    session_place (bytes_of game) game.fuel (play_on game) game.keep s c.args.self.now
+    c.self.inside.first (returns-then-self-eq0-clause-present c) h.session
 
 pub returns-else-self-eq0-clause-place : goal.returns-else-self-eq0-clause-place
-returns-else-self-eq0-clause-place c = λ story fuel keep s h.
-    session_place story fuel (by_profile story fuel) keep s c.args.self.now
-    c.index.result.now.place (returns-else-self-eq0-clause-present c) h
+returns-else-self-eq0-clause-place c = λ game s h.
+    session_place (bytes_of game) game.fuel (play_on game) game.keep s c.args.self.now
+    c.index.result.now.place (returns-else-self-eq0-clause-present c) h.session

@@ -6,31 +6,32 @@ use Rattle.session.proofs.Views.{view_place}
 use Rattle.session.proofs.Turning.{IsPlayed, at_err, given_up_between, given_up_view, played, taken_between}
 use Rattle.session.proofs.Turning.{taken_turned}
 use Rattle.session.specs.Written.{text_of}
+use Rattle.session.specs.Players.{known_of}
 use Rattle.session.proofs.session.Session.play.Goals as goal
 
 pub turn-requires-clause-store : goal.turn-requires-clause-store
 turn-requires-clause-store c =
     let i = c.self.inside in
-    (ready_now i.machine.header i.store i.first i.turns.items i.done c.self.invariant).store
+    (ready_now (known_of i.player).header i.store i.first i.turns.items i.done c.self.invariant).store
 
 pub turn-requires-clause-ready : goal.turn-requires-clause-ready
 turn-requires-clause-ready c =
     let i = c.self.inside in
-    (ready_now i.machine.header i.store i.first i.turns.items i.done c.self.invariant).waits
-    (view_place i.keep i.fuel i.machine.header i.opening.items i.store.store i.first i.turns.items i.done
+    (ready_now (known_of i.player).header i.store i.first i.turns.items i.done c.self.invariant).waits
+    (view_place i.keep i.fuel (known_of i.player) i.opening.items i.store.store i.first i.turns.items i.done
     (text_of i.given_up) c.args.self.now c.self.view_is ∙ c.requires)
 
 pub invariant_of-self-in_err-written : goal.invariant_of-self-in_err-written
 invariant_of-self-in_err-written c =
     let i = c.self.inside in
-    given_up_between i.machine.header i.store c.turn.new.store c.keep_written.new.store i.first i.turns.items
+    given_up_between (known_of i.player).header i.store c.turn.new.store c.keep_written.new.store i.first i.turns.items
     c.begin_text.new.turns.items i.done c.self.invariant c.in_ok-place.ensures.ends.goes_on
     c.in_err-written.ensures.given_up c.begin_text.ensures.items
 
 pub returns-in_err-written-clause-same : goal.returns-in_err-written-clause-same
 returns-in_err-written-clause-same c =
     let i = c.self.inside in
-    at_err _ (given_up_view i.keep i.fuel i.machine.header i.opening.items i.store c.turn.new.store
+    at_err _ (given_up_view i.keep i.fuel (known_of i.player) i.opening.items i.store c.turn.new.store
     c.keep_written.new.store i.first i.turns.items c.begin_text.new.turns.items i.done (text_of i.given_up)
     c.args.self.now c.self.invariant c.in_ok-place.ensures.ends.goes_on c.in_err-written.ensures.given_up
     c.begin_text.ensures.items c.self.view_is)
@@ -38,41 +39,41 @@ returns-in_err-written-clause-same c =
 pub invariant_of-self-2 : goal.invariant_of-self-2
 invariant_of-self-2 c =
     let i = c.self.inside in
-    let s = (ready_now i.machine.header i.store i.first i.turns.items i.done c.self.invariant).store in
+    let s = (ready_now (known_of i.player).header i.store i.first i.turns.items i.done c.self.invariant).store in
     let t : Turn =
     record {
       written = c.in_ok-written.written;
       place = c.in_ok-place.place;
       overwritten = c.close.result;
     } in
-    let h : IsPlayed i.machine.header i.store c.close.new.self c.args.line.now i.fuel t =
-    played i.machine.header i.store c.turn.new.store c.keep_written.new.store c.close.new.self c.args.line.now i.fuel t
+    let h : IsPlayed (known_of i.player) i.store c.close.new.self c.args.line.now i.fuel t =
+    played (known_of i.player) i.store c.turn.new.store c.keep_written.new.store c.close.new.self c.args.line.now i.fuel t
     c.begin_text.new.text.items c.turn.new.text.items s c.in_ok-place.ensures.ends c.in_ok-written.ensures.same
     c.in_ok-begin_text.ensures.line c.in_ok-written.ensures.line (c.in_ok-written.ensures.bytes
     ∙ c.deref.ensures.value)
     c.self.invariant.begun c.close.ensures.back c.close.ensures.fits c.close.ensures.bound c.close.ensures.new in
     let more = c.put_turn.ensures ∙ ap (λ (ts : List Turn). take i.done ts ++ t ∷ []) c.begin_text.ensures.items in
-    subst (λ ts. IsBetweenTurns i.machine.header c.close.new.self i.first ts (i.done + 1)) (sym more)
-    (taken_between i.machine.header i.store c.close.new.self i.first c.args.line.now i.fuel i.turns.items i.done
+    subst (λ ts. IsBetweenTurns (known_of i.player).header c.close.new.self i.first ts (i.done + 1)) (sym more)
+    (taken_between (known_of i.player) i.store c.close.new.self i.first c.args.line.now i.fuel i.turns.items i.done
     t c.self.invariant h)
 
 pub returns-clause-turned : goal.returns-clause-turned
 returns-clause-turned c =
     let i = c.self.inside in
-    let s = (ready_now i.machine.header i.store i.first i.turns.items i.done c.self.invariant).store in
+    let s = (ready_now (known_of i.player).header i.store i.first i.turns.items i.done c.self.invariant).store in
     let t : Turn =
     record {
       written = c.in_ok-written.written;
       place = c.in_ok-place.place;
       overwritten = c.close.result;
     } in
-    let h : IsPlayed i.machine.header i.store c.close.new.self c.args.line.now i.fuel t =
-    played i.machine.header i.store c.turn.new.store c.keep_written.new.store c.close.new.self c.args.line.now i.fuel t
+    let h : IsPlayed (known_of i.player) i.store c.close.new.self c.args.line.now i.fuel t =
+    played (known_of i.player) i.store c.turn.new.store c.keep_written.new.store c.close.new.self c.args.line.now i.fuel t
     c.begin_text.new.text.items c.turn.new.text.items s c.in_ok-place.ensures.ends c.in_ok-written.ensures.same
     c.in_ok-begin_text.ensures.line c.in_ok-written.ensures.line (c.in_ok-written.ensures.bytes
     ∙ c.deref.ensures.value)
     c.self.invariant.begun c.close.ensures.back c.close.ensures.fits c.close.ensures.bound c.close.ensures.new in
     let more = c.put_turn.ensures ∙ ap (λ (ts : List Turn). take i.done ts ++ t ∷ []) c.begin_text.ensures.items in
-    taken_turned i.keep i.fuel i.machine.header i.opening.items i.store c.close.new.self i.first c.args.line.now
+    taken_turned i.keep i.fuel (known_of i.player) i.opening.items i.store c.close.new.self i.first c.args.line.now
     i.turns.items c.put_turn.new.turns.items i.done t (text_of i.given_up) c.args.self.now c.self.view_is
     c.self.invariant.within h more

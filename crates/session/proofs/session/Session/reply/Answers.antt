@@ -1,7 +1,6 @@
 use Rattle.std.proofs.Common.{◌≡◌, ◌∙◌, sym, refl, rules, get_or}
 use Rattle.zcore.specs.declared.place.Place.TheVariants as places
-use Rattle.zcore.specs.Turn.{by_profile}
-use Rattle.session.proofs.Taking.{session_taken}
+use Rattle.session.proofs.Games.{game_taken}
 use Rattle.session.proofs.session.Session.reply.Goals as goal
 
 pub returns-in-Ok : goal.returns-in-Ok
@@ -12,15 +11,15 @@ returns-in-Ok c =
       (
         refl,
         (λ _. tt),
-        λ story fuel keep s h.
-            (session_taken story fuel (by_profile story fuel) (λ l p. refl) keep c.args.line.now s now c.play.new.self
-            c.give_up.new.self h waits c.in-Ok.ensures.turned c.give_up.ensures).1,
+        λ game s h.
+            (game_taken game c.args.line.now s now c.play.new.self c.give_up.new.self h waits c.in-Ok.ensures.turned
+            c.give_up.ensures).session,
       ),
       record {
         rests = tt;
-        says = λ story fuel keep s h.
-            let t = session_taken story fuel (by_profile story fuel) (λ l p. refl) keep c.args.line.now s now
-            c.play.new.self c.give_up.new.self h waits c.in-Ok.ensures.turned c.give_up.ensures in
-            (search rules, t.0, c.latest_text.ensures ∙ t.2);
+        says = λ game s h.
+            let t = game_taken game c.args.line.now s now c.play.new.self c.give_up.new.self h waits
+            c.in-Ok.ensures.turned c.give_up.ensures in
+            (search rules, t.waited, c.latest_text.ensures ∙ t.lent);
       },
     )

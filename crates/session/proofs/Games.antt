@@ -1,0 +1,64 @@
+-- What undo, redo and a line make of the session of a game.
+use Rattle.std.proofs.Common.{◌≡◌, ℕ, ◌+◌, Bool, true, false, List, [], ◌∷◌, ◌++◌, Option, None, Some, ap, ◌∙◌, sym, refl, get_or}
+use Rattle.std.proofs.Common.{if◌then◌else◌, nat_lt, length}
+use Rattle.zcore.specs.declared.place.Place.TheVariants as places
+use Rattle.zcore.specs.Turn.{StateOfPlay, plays_of, is_waiting, last_text, last_place}
+use Rattle.session.specs.Modes.{loaded_in, turn_with}
+use Rattle.session.specs.Standing.{Standing, undo_of, redo_of, taken}
+use Rattle.session.specs.Session.{Session}
+use Rattle.session.specs.Stepped.{stepped_back, stepped_forward, without_oldest, with_turn, bounded, bounded_by, latest_text}
+use Rattle.session.specs.Game.{Game, bytes_of, play_on, IsSessionOf, text_on, place_on}
+use Rattle.session.specs.Turned.{Turned}
+use Rattle.session.proofs.Sessions.{session_undo, session_redo}
+use Rattle.session.proofs.Taking.{session_taken}
+
+forward_loaded_by : (b : Bool) (v : Session)
+    → (if b then (record v { present = v.present + 1 }) else v).loaded ≡ v.loaded
+forward_loaded_by true v = refl
+forward_loaded_by false v = refl
+
+oldest_loaded_by : (b : Bool) (v : Session) → (if b then without_oldest v else v).loaded ≡ v.loaded
+oldest_loaded_by true v = refl
+oldest_loaded_by false v = refl
+
+bounded_loaded : (keep : Option ℕ) (v : Session) → (bounded_by keep v).loaded ≡ v.loaded
+bounded_loaded None v = refl
+bounded_loaded (Some most) v = oldest_loaded_by (nat_lt most v.present) v
+
+pub game_undo : (game : Game) (s : Standing) (v : Session) → IsSessionOf game s v
+    → IsSessionOf game (undo_of s) (stepped_back v)
+game_undo game s v h = record {
+  loaded = h.loaded;
+  session = session_undo (bytes_of game) game.fuel (play_on game) game.keep s v h.session;
+}
+
+pub game_redo : (game : Game) (s : Standing) (v : Session) → IsSessionOf game s v
+    → IsSessionOf game (redo_of s) (stepped_forward v)
+game_redo game s v h = record {
+  loaded = forward_loaded_by (nat_lt v.present (length v.lines)) v ∙ h.loaded;
+  session = session_redo (bytes_of game) game.fuel (play_on game) game.keep s v h.session;
+}
+
+-- a line that is taken
+pub record IsGameTaken (game : Game) (line : List ℕ) (s : Standing) (new : Session) : Type 0 where
+  pub waited : is_waiting (place_on game s.done) ≡ true
+  pub session : IsSessionOf game (taken game.keep line s) new
+  pub lent : latest_text new ≡ text_on game (s.done ++ line ∷ [])
+
+pub game_taken : (game : Game) (line : List ℕ) (s : Standing) (v mid new : Session) → IsSessionOf game s v
+    → get_or v.places v.present places.Quit ≡ places.Waiting → Turned line v mid → new ≡ bounded mid
+    → IsGameTaken game line s new
+game_taken game line s v mid new h waits t e =
+    let means : (l : List ℕ) (p : StateOfPlay)
+    → turn_with v.loaded l game.fuel p ≡ turn_with (loaded_in game.mode game.story) l game.fuel p =
+    λ l p. ap (λ o. turn_with o l game.fuel p) h.loaded in
+    let r = session_taken (bytes_of game) game.fuel (play_on game) game.keep line s v mid new means h.session waits t e in
+    record {
+      waited = r.0;
+      session = record {
+        loaded = ap (λ (w : Session). w.loaded) e ∙ bounded_loaded mid.keep mid
+            ∙ ap (λ (w : Session). w.loaded) t.is ∙ h.loaded;
+        session = r.1;
+      };
+      lent = r.2;
+    }

@@ -1,0 +1,128 @@
+-- What the turns of a machine come to, as functions of what its store holds.
+use Rattle.std.proofs.Common.{◌≡◌, ℕ, List, Option, Some, None, Result, Ok, Err, refl, ap, sym, ◌∙◌}
+use Rattle.std.specs.Borrow.{Bor}
+use Rattle.journal.specs.Recording.{Recording}
+use Rattle.journal.specs.declared.recorded.NoMemory.{NoMemory}
+use Rattle.zcore.specs.declared.next.Next.{Next}
+use Rattle.zcore.specs.declared.place.Place.{Place}
+use Rattle.zcore.specs.State.{State, Out, done, halt}
+use Rattle.zcore.specs.Turn.{Whole, ended, after_step, turn_from, turn_on, turn_pending, given, resumed, opening}
+use Rattle.zcore.specs.Turn.{first_next, first_state}
+use Rattle.zcore.proofs.Turning.{turns_is}
+use Rattle.machine_frames.specs.Contents.{Contents, memory_of}
+use Rattle.machine_frames.specs.Playing.{Follows, FollowsBy, Answers, Opens}
+use Rattle.machine_frames.specs.States.{play_of}
+use Rattle.machine.specs.Ended.{TurnEnds, OpensOrAnswers}
+use Rattle.machine.specs.Loaded.{IsLoaded}
+use Rattle.machine.specs.declared.turn.Machine.{Machine}
+use Rattle.zcore.specs.declared.header.Header.{Header}
+use Rattle.zcore.specs.Header.{static_base_of}
+use Rattle.zcore.specs.declared.beside.Beside.{Beside}
+use Rattle.zcore.specs.Turn.{TurnsBy}
+use Rattle.zcore_standard.specs.Loaded.{Loaded}
+use Rattle.zcore_standard.specs.Machine.{standard, standard_turn, standard_pending, standard_opening, standard_turn_on}
+use Rattle.zcore_standard.specs.Machine.{standard_ended, begins}
+use Rattle.zcore_standard.proofs.Turning.{standard_turn_is}
+use Rattle.machine_standard.specs.Loads.{IsLoaded as IsStandardLoaded}
+use Rattle.machine_standard.specs.Playing.{OpensStandard, AnswersStandard, OpensOrAnswersStandard}
+use Rattle.machine_standard.specs.declared.turn.StandardMachine.{StandardMachine}
+use Rattle.session.specs.declared.mode.Mode.TheVariants.{Profile, Standard}
+use Rattle.session.specs.Players.{IsPlayerOf, PlayerTurn}
+
+-- a turn that ends by one description ends by another that follows from it
+pub ends_as : (turn other : Whole → Type 0) (old : Recording Contents) (was : List ℕ) (new : Recording Contents)
+    (now : List ℕ) (result : Result Place NoMemory) → ((whole : Whole) → turn whole → other whole)
+    → TurnEnds turn old was new now result → TurnEnds other old was new now result
+ends_as turn other old was new now (Ok place) so h = record {
+  whole = so _ h.whole;
+  waits = h.waits;
+  goes_on = h.goes_on;
+  given_up = h.given_up;
+  front = h.front;
+}
+ends_as turn other old was new now (Err e) so h = record {
+  whole = h.whole;
+  waits = h.waits;
+  goes_on = h.goes_on;
+  given_up = h.given_up;
+  front = h.front;
+}
+
+pub opens_turn : (s : Contents) (fuel : ℕ) (whole : Whole) → Opens s fuel whole
+    → opening (memory_of s) fuel ≡ Some whole
+unfolding opening
+opens_turn s fuel whole h = turns_is (first_next (memory_of s) fuel) (first_state (memory_of s)) whole h
+
+follows_turn : (o : Out Next) (stop : Place → State → Whole) (whole : Whole) → Follows o stop whole
+    → after_step o turn_from (λ place s. Some (stop place s)) ≡ Some whole
+follows_turn (done next s) stop whole h = turns_is next s whole h
+follows_turn (halt place s) stop whole h = ap (λ (w : Whole). Some w) (sym h)
+
+pub answers_turn : (line : List ℕ) (s : Contents) (fuel : ℕ) (whole : Whole) → Answers line s fuel whole
+    → turn_on line fuel (play_of s) ≡ Some whole
+unfolding turn_on
+answers_turn line s fuel whole h =
+    ap (λ p. turn_pending p line fuel (play_of s)) h.1
+    ∙ follows_turn (given h.0 line fuel (resumed (play_of s)))
+    (ended (record { program_counter = (play_of s).program_counter; fuel = fuel })) whole h.2
+
+
+-- a machine of the profile that was loaded
+pub profile_player : (story : List ℕ) (machine : Machine) (s : Contents) → IsLoaded story machine s
+    → IsPlayerOf Profile story (record { header = machine.header; loaded = None }) s
+profile_player story machine s h = record {
+  can = (machine.header, h.header);
+  loaded = refl;
+  store = h.store;
+  state = h.state;
+  static_base = h.store.headed.static_base ∙ ap (λ (t : State). static_base_of t.memory) h.state;
+}
+
+-- its turns
+pub profile_turn : (header : Header) (line : Option (Bor (List ℕ))) (s : Contents) (fuel : ℕ) (whole : Whole)
+    → OpensOrAnswers line s fuel whole
+    → PlayerTurn (record { header = header; loaded = None }) line s fuel whole
+profile_turn header None s fuel whole h = opens_turn s fuel whole h
+profile_turn header (Some line) s fuel whole h = answers_turn line.now s fuel whole h
+
+-- The Standard's machine
+
+opens_standard : (loaded : Loaded) (s : Contents) (fuel : ℕ) (whole : Whole) → OpensStandard loaded s fuel whole
+    → standard_opening loaded (memory_of s) fuel ≡ Some whole
+unfolding standard_opening
+opens_standard loaded s fuel whole h =
+    standard_turn_is loaded (begins loaded.dice (first_next (memory_of s) fuel)) (first_state (memory_of s)) whole h
+
+follows_standard : (loaded : Loaded) (beside : Beside) (o : Out Next) (stop : Place → State → Whole) (whole : Whole)
+    → FollowsBy (λ next t w. TurnsBy (standard loaded) (begins beside next) t w) o stop whole
+    → after_step o (λ next t. standard_turn loaded (begins beside next) t) (λ place t. Some (stop place t)) ≡ Some whole
+follows_standard loaded beside (done next t) stop whole h = standard_turn_is loaded (begins beside next) t whole h
+follows_standard loaded beside (halt place t) stop whole h = ap (λ (w : Whole). Some w) (sym h)
+
+answers_standard : (loaded : Loaded) (line : List ℕ) (s : Contents) (fuel : ℕ) (whole : Whole)
+    → AnswersStandard loaded line s fuel whole → standard_turn_on loaded line fuel (play_of s) ≡ Some whole
+unfolding standard_turn_on
+answers_standard loaded line s fuel whole h =
+    ap (λ p. standard_pending loaded p line fuel (play_of s)) h.1
+    ∙ follows_standard loaded (play_of s).beside (given h.0 line fuel (resumed (play_of s)))
+    (standard_ended (begins (play_of s).beside (record { program_counter = (play_of s).program_counter; fuel = fuel })))
+    whole h.2
+
+-- a machine of the whole Standard that was loaded
+pub standard_player : (story : List ℕ) (seed : ℕ) (machine : StandardMachine) (s : Contents)
+    → IsStandardLoaded story seed machine s
+    → IsPlayerOf (Standard seed) story (record { header = machine.header; loaded = Some machine.loaded }) s
+standard_player story seed machine s h = record {
+  can = (h.story, h.read);
+  loaded = ap (λ l. Some l) h.loaded;
+  store = h.store;
+  state = h.state;
+  static_base = h.store.headed.static_base ∙ ap (λ (t : State). static_base_of t.memory) h.state;
+}
+
+-- its turns
+pub standard_machine_turn : (header : Header) (loaded : Loaded) (line : Option (Bor (List ℕ))) (s : Contents) (fuel : ℕ)
+    (whole : Whole) → OpensOrAnswersStandard loaded line s fuel whole
+    → PlayerTurn (record { header = header; loaded = Some loaded }) line s fuel whole
+standard_machine_turn header loaded None s fuel whole h = opens_standard loaded s fuel whole h
+standard_machine_turn header loaded (Some line) s fuel whole h = answers_standard loaded line.now s fuel whole h

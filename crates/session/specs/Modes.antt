@@ -1,0 +1,41 @@
+-- A story as a session plays it, in the profile or by the whole Standard.
+use Rattle.std.specs.Prelude.{ℕ, List, Option, Some, None}
+use Rattle.zcore.specs.declared.header.Header.{Header}
+use Rattle.zcore.specs.Turn.{StateOfPlay, Whole, Play, opening, turn_on}
+use Rattle.zcore_standard.specs.Loaded.{Loaded}
+use Rattle.zcore_standard.specs.Loading.{loaded_of, memory_for}
+use Rattle.zcore_standard.specs.Machine.{standard_opening, standard_turn_on}
+use Rattle.session.specs.declared.mode.Mode.{Mode}
+use Rattle.session.specs.declared.mode.Mode.TheVariants.{Profile, Standard}
+
+-- what loading fixes; in the profile nothing
+abbrev pub loaded_in : Mode → List ℕ → Option Loaded
+loaded_in Profile story = None
+loaded_in (Standard seed) story = Some (loaded_of story seed)
+
+-- the bytes with which the machine begins
+abbrev pub bytes_in : Mode → List ℕ → List ℕ
+bytes_in Profile story = story
+bytes_in (Standard seed) story = memory_for story
+
+-- the opening of a machine for which loading fixed this
+abbrev pub opening_with : Option Loaded → List ℕ → ℕ → Option Whole
+opening_with None bytes fuel = opening bytes fuel
+opening_with (Some loaded) bytes fuel = standard_opening loaded bytes fuel
+
+-- its turn of a line
+abbrev pub turn_with : Option Loaded → List ℕ → ℕ → StateOfPlay → Option Whole
+turn_with None line fuel play = turn_on line fuel play
+turn_with (Some loaded) line fuel play = standard_turn_on loaded line fuel play
+
+-- a story in a mode, with so much fuel for each turn; in the profile this is `by_profile`
+abbrev pub play_in : Mode → List ℕ → ℕ → Play
+play_in mode story fuel = record {
+  opening = opening_with (loaded_in mode story) (bytes_in mode story) fuel;
+  turn_on = λ line play. turn_with (loaded_in mode story) line fuel play;
+}
+
+-- What a player knows of its story: the header, and what loading fixed.
+pub record Known : Type 0 where
+  pub header : Header
+  pub loaded : Option Loaded

@@ -1,0 +1,38 @@
+-- The machine of a session: how it is loaded, and what its turns come to.
+use Rattle.std.specs.Prelude.{◌≡◌, ℕ, List, [], Option, Some, None, Result, Ok, Err}
+use Rattle.std.specs.Borrow.{Bor}
+use Rattle.zcore.specs.Header.{static_base_of}
+use Rattle.zcore.specs.Turn.{Whole, first_state}
+use Rattle.machine_frames.specs.Contents.{Contents, memory_of}
+use Rattle.machine_frames.specs.States.{state_of, play_of, IsStoreOf}
+use Rattle.session.specs.declared.fault.OpenFault.{OpenFault}
+use Rattle.session.specs.declared.mode.Mode.{Mode}
+use Rattle.session.specs.declared.player.Player.{Player}
+use Rattle.session.specs.declared.player.Player.TheVariants as players
+use Rattle.session.specs.Loads.{CanBeLoaded, RefusesToLoad}
+use Rattle.session.specs.Modes.{Known, loaded_in, bytes_in, opening_with, turn_with}
+
+abbrev pub known_of : Player → Known
+known_of (players.Profile machine) = record { header = machine.header; loaded = None }
+known_of (players.Standard machine) = record { header = machine.header; loaded = Some machine.loaded }
+
+-- The player knows the story's header and what loading fixes in the mode, and the store is the story's at its beginning.
+pub record IsPlayerOf (mode : Mode) (story : List ℕ) (known : Known) (s : Contents) : Type 0 where
+  pub can : CanBeLoaded mode story
+  pub loaded : known.loaded ≡ loaded_in mode story
+  pub store : IsStoreOf known.header s
+  pub state : state_of s [] ≡ first_state (bytes_in mode story)
+  pub static_base : known.header.static_base ≡ static_base_of (bytes_in mode story)
+
+abbrev pub LoadsPlayer : Mode → List ℕ → Result (Player × Contents) OpenFault → Type 0
+LoadsPlayer mode story (Ok x) = IsPlayerOf mode story (known_of x.0) x.1
+LoadsPlayer mode story (Err fault) = RefusesToLoad mode story fault
+
+-- the turn of a line comes to a whole state, from what a store holds
+abbrev pub LineTurn : Known → List ℕ → Contents → ℕ → Whole → Type 0
+LineTurn known line s fuel whole = turn_with known.loaded line fuel (play_of s) ≡ Some whole
+
+-- a turn: without a line the opening, else that of the line
+abbrev pub PlayerTurn : Known → Option (Bor (List ℕ)) → Contents → ℕ → Whole → Type 0
+PlayerTurn known None s fuel whole = opening_with known.loaded (memory_of s) fuel ≡ Some whole
+PlayerTurn known (Some line) s fuel whole = LineTurn known line.now s fuel whole

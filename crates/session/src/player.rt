@@ -1,0 +1,76 @@
+//! The machine of a session, in either mode.
+
+ghost use Rattle.std.specs.Prelude.{OnOk, OnErr};
+ghost use Rattle.std.specs.Prelude.{◌≡◌};
+ghost use Rattle.machine.specs.Ended.{IsReadyFor, TurnEnds};
+ghost use Rattle.machine_frames.specs.States.{IsStoreOf};
+ghost use Rattle.session.specs.Players.{known_of, LoadsPlayer, PlayerTurn};
+
+use crate::fault::OpenFault;
+use crate::mode::Mode;
+use journal::{NoMemory, Recorded};
+use machine::{Machine, Store};
+use machine_standard::StandardMachine;
+use std::alloc::Global;
+use zcore::Place;
+
+/// The machine that plays a session's story.
+#[derive(Drop)]
+pub(crate) enum Player {
+    /// By the profile's opcodes.
+    Profile(Machine),
+
+    /// By every opcode of the Standard.
+    Standard(StandardMachine),
+}
+
+impl Player {
+    /// The machine of a story file in a mode, and the store with which it begins.
+    ///
+    /// # Errors
+    ///
+    /// `Load` or `Standard`: the story is not loaded.
+    pub(crate) fn load(
+        alloc: Global,
+        story: Vec<u8>,
+        mode: Mode,
+    ) -> Result<(Player, Store), OpenFault>
+        ensures { LoadsPlayer mode story.items result }
+    {
+        match mode {
+            Mode::Profile => match Machine::load(alloc, story) {
+                Ok((machine, store)) => Ok((Player::Profile(machine), store)),
+                Err(fault) => Err(OpenFault::Load(fault)),
+            },
+            Mode::Standard(seed) => match StandardMachine::load(alloc, story, seed) {
+                Ok((machine, store)) => Ok((Player::Standard(machine), store)),
+                Err(fault) => Err(OpenFault::Standard(fault)),
+            },
+        }
+    }
+
+    /// Plays a turn, as [`Machine::turn`] does.
+    ///
+    /// # Errors
+    ///
+    /// Memory was refused: the turn is given up, the store is as at its beginning, and nothing is
+    /// added to the text.
+    pub(crate) fn turn(
+        &self,
+        line: Option<&[u8]>,
+        fuel: u32,
+        store: &mut Recorded<Store>,
+        text: &mut Vec<u8>,
+    ) -> Result<Place, NoMemory>
+        requires store { IsStoreOf (known_of self.now).header store.old.store }
+        requires ready { IsReadyFor line store.old.store }
+        ensures ends { TurnEnds (PlayerTurn (known_of self.now) line.entry store.old.store fuel)
+            store.old text.old.items store.new text.new.items result }
+        ensures text { OnErr result (text.new.items ≡ text.old.items) }
+    {
+        match self {
+            Player::Profile(machine) => machine.turn(line, fuel, store, text),
+            Player::Standard(machine) => machine.turn(line, fuel, store, text),
+        }
+    }
+}
