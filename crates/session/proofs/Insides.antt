@@ -101,33 +101,34 @@ ready_as header f g cs ds ps qs k a b c s =
     subst (λ x. IsReady header (record { cells = get_or ds k []; fixed = g }) (get_or x k places.Quit)) (sym c)
     then_at
 
-exchanged_between : (header : Header) (store new : Recording Contents) (first : Place) (turns : List Turn)
+exchanged_between : (known : Known) (store new : Recording Contents) (first : Place) (turns : List Turn)
     (t u : Turn) (entries : List (ℕ × ℕ)) (k from to : ℕ)
     → k < length turns → t ≡ get_or turns k t → Exchanged t u entries → new.store.fixed ≡ store.store.fixed
     → all_cells new.store.cells (records_of (set turns k u)) to
     ≡ all_cells store.store.cells (records_of turns) from
     → to ≤ length turns → IsNothingKept new → new.beginning ≡ new.store.cells
     → length new.store.cells ≡ length store.store.cells → Fits (length new.store.cells) bound_of u.overwritten
-    → IsBetweenTurns header store first turns from → IsBetweenTurns header new first (set turns k u) to
-exchanged_between header store new first turns t u entries k from to lt is x fixed cells within idle begun size fits
+    → IsBetweenTurns known store first turns from → IsBetweenTurns known new first (set turns k u) to
+exchanged_between known.header store new first turns t u entries k from to lt is x fixed cells within idle begun size fits
     i =
     let records : records_of (set turns k u) ≡ set (records_of turns) k u.overwritten = map-set
     (λ (y : Turn). y.overwritten) turns k u in
     let long = length-set turns k u in
-    let small : length u.overwritten ≤ largest_record header.static_base =
+    let small : length u.overwritten ≤ largest_record known.header.static_base =
     let e : length u.overwritten ≡ length t.overwritten = ap (λ (y : Turn). length y.overwritten) x.is ∙ x.size in
-    omega (arith, e, turn_fits (λ r. length r ≤ largest_record header.static_base) turns k t lt is i.small) in
+    omega (arith, e, turn_fits (λ r. length r ≤ largest_record known.header.static_base) turns k t lt is i.small) in
     record {
+      settled = i.settled;
       within = omega (arith, long);
       idle = idle;
       begun = begun;
       fits = subst (λ rs. All (Fits (length new.store.cells) bound_of) rs) (sym records)
           (all_set (Fits (length new.store.cells) bound_of) (records_of turns) k u.overwritten
           (subst (λ n. All (Fits n bound_of) (records_of turns)) (sym size) i.fits) fits);
-      small = subst (λ rs. All (λ r. length r ≤ largest_record header.static_base) rs) (sym records)
-          (all_set (λ r. length r ≤ largest_record header.static_base) (records_of turns) k u.overwritten i.small
+      small = subst (λ rs. All (λ r. length r ≤ largest_record known.header.static_base) rs) (sym records)
+          (all_set (λ r. length r ≤ largest_record known.header.static_base) (records_of turns) k u.overwritten i.small
           small);
-      ready = λ n le. ready_as header store.store.fixed new.store.fixed _ _ (places_of first turns)
+      ready = λ n le. ready_as known.header store.store.fixed new.store.fixed _ _ (places_of first turns)
           (places_of first (set turns k u)) n fixed cells
           (ap (λ ps. first ∷ ps) (kept_by (λ y. y.place) turns k t u lt is (ap (λ (y : Turn). y.place) x.is)))
           (i.ready n (omega (arith, long)));
@@ -177,11 +178,11 @@ undo_view keep fuel known opening store new first turns t u k done given_up e st
     (back_turn store new t u h) (ap (λ (s : Contents). s.fixed) h.store)
     (back_cells store new turns k t u stands h ∙ ap (all_cells store.store.cells (records_of turns)) e)
 
-pub undo_between : (header : Header) (store new : Recording Contents) (first : Place) (turns : List Turn)
+pub undo_between : (known : Known) (store new : Recording Contents) (first : Place) (turns : List Turn)
     (t u : Turn) (k done : ℕ) → k + 1 ≡ done → StandsAt turns k t → Swaps back forward store new t u
-    → IsBetweenTurns header store first turns done → IsBetweenTurns header new first (set turns k u) k
-undo_between header store new first turns t u k done e stands h i =
-    exchanged_between header store new first turns t u (back store.store.cells t.overwritten).entries k done k stands.here
+    → IsBetweenTurns known store first turns done → IsBetweenTurns known new first (set turns k u) k
+undo_between known store new first turns t u k done e stands h i =
+    exchanged_between known.header store new first turns t u (back store.store.cells t.overwritten).entries k done k stands.here
     stands.is (back_turn store new t u h) (ap (λ (s : Contents). s.fixed) h.store)
     (back_cells store new turns k t u stands h ∙ ap (all_cells store.store.cells (records_of turns)) e)
     (omega (arith, stands.here)) h.idle h.begun h.size h.fits i
@@ -197,11 +198,11 @@ redo_view keep fuel known opening store new first turns t u k given_up stands h 
     (again_turn store new t u h) (ap (λ (s : Contents). s.fixed) h.store)
     (again_cells store new turns k t u stands h)
 
-pub redo_between : (header : Header) (store new : Recording Contents) (first : Place) (turns : List Turn)
+pub redo_between : (known : Known) (store new : Recording Contents) (first : Place) (turns : List Turn)
     (t u : Turn) (k : ℕ) → StandsAt turns k t → Swaps forward back store new t u
-    → IsBetweenTurns header store first turns k → IsBetweenTurns header new first (set turns k u) (k + 1)
-redo_between header store new first turns t u k stands h i =
-    exchanged_between header store new first turns t u (forward store.store.cells t.overwritten).entries k k (k + 1)
+    → IsBetweenTurns known store first turns k → IsBetweenTurns known new first (set turns k u) (k + 1)
+redo_between known store new first turns t u k stands h i =
+    exchanged_between known.header store new first turns t u (forward store.store.cells t.overwritten).entries k k (k + 1)
     stands.here stands.is (again_turn store new t u h) (ap (λ (s : Contents). s.fixed) h.store)
     (again_cells store new turns k t u stands h) (omega (arith, stands.here)) h.idle h.begun h.size h.fits i
 
@@ -231,14 +232,15 @@ oldest_view keep fuel known opening store first turns rest t done given_up is so
     (all_cells store.cells (records_of (t ∷ rest)) done)))
     ∙ ap (λ ts. without_oldest (view_of keep fuel known opening store first ts done given_up)) (sym is)
 
-oldest_by : (header : Header) (store : Recording Contents) (first : Place) (rest : List Turn) (t : Turn) (done : ℕ)
-    → 0 < done → IsBetweenTurns header store first (t ∷ rest) done
-    → IsBetweenTurns header store t.place rest (done - 1)
-oldest_by header store first rest t done some i =
+oldest_by : (known : Known) (store : Recording Contents) (first : Place) (rest : List Turn) (t : Turn) (done : ℕ)
+    → 0 < done → IsBetweenTurns known store first (t ∷ rest) done
+    → IsBetweenTurns known store t.place rest (done - 1)
+oldest_by known.header store first rest t done some i =
     let cells : all_cells store.store.cells (records_of rest) (done - 1)
     ≡ drop 1 (all_cells store.store.cells (records_of (t ∷ rest)) done) = cells_older store.store.cells
     t.overwritten (records_of rest) done some in
     record {
+      settled = i.settled;
       within = omega (arith, i.within);
       idle = i.idle;
       begun = i.begun;
@@ -250,22 +252,22 @@ oldest_by header store first rest t done some i =
           ≡ get_or (all_cells store.store.cells (records_of (t ∷ rest)) done) (suc k) [] =
           ap (λ cs. get_or cs k []) cells ∙ get_or-drop 1 (all_cells store.store.cells (records_of (t ∷ rest)) done)
           k [] ∙ ap (λ n. get_or (all_cells store.store.cells (records_of (t ∷ rest)) done) n []) e in
-          subst (λ c. IsReady header (with_cells store.store c) (get_or (places_of t.place rest) k places.Quit))
+          subst (λ c. IsReady known.header (with_cells store.store c) (get_or (places_of t.place rest) k places.Quit))
           (sym at) (i.ready (suc k) (omega arith));
     }
 
-pub oldest_between : (header : Header) (store : Recording Contents) (first : Place) (turns rest : List Turn)
-    (t : Turn) (done : ℕ) → turns ≡ t ∷ rest → 0 < done → IsBetweenTurns header store first turns done
-    → IsBetweenTurns header store t.place rest (done - 1)
-oldest_between header store first turns rest t done is some i = oldest_by header store first rest t done some
-    (subst (λ ts. IsBetweenTurns header store first ts done) is i)
+pub oldest_between : (known : Known) (store : Recording Contents) (first : Place) (turns rest : List Turn)
+    (t : Turn) (done : ℕ) → turns ≡ t ∷ rest → 0 < done → IsBetweenTurns known store first turns done
+    → IsBetweenTurns known store t.place rest (done - 1)
+oldest_between known store first turns rest t done is some i = oldest_by known.header store first rest t done some
+    (subst (λ ts. IsBetweenTurns known store first ts done) is i)
 
 -- The present
 
-pub ready_now : (header : Header) (store : Recording Contents) (first : Place) (turns : List Turn) (done : ℕ)
-    → IsBetweenTurns header store first turns done
-    → IsReady header store.store (get_or (places_of first turns) done places.Quit)
-ready_now header store first turns done i =
-    subst (λ c. IsReady header (with_cells store.store c) (get_or (places_of first turns) done places.Quit))
+pub ready_now : (known : Known) (store : Recording Contents) (first : Place) (turns : List Turn) (done : ℕ)
+    → IsBetweenTurns known store first turns done
+    → IsReady known.header store.store (get_or (places_of first turns) done places.Quit)
+ready_now known store first turns done i =
+    subst (λ c. IsReady known.header (with_cells store.store c) (get_or (places_of first turns) done places.Quit))
     (present_cells store.store.cells (records_of turns) done []
     (omega (arith, i.within, length-map turns (λ (x : Turn). x.overwritten)))) (i.ready done i.within)

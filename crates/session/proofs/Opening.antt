@@ -16,21 +16,22 @@ use Rattle.session.specs.declared.turns.Turn.{Turn}
 use Rattle.session.specs.Times.{all_cells}
 use Rattle.session.specs.Inside.{with_cells, places_of, view_of, IsReady, IsBetweenTurns}
 use Rattle.session.specs.Game.{Game, bytes_of, play_on, IsSessionOf}
-use Rattle.session.specs.Modes.{Known, loaded_in, bytes_in, opening_with}
+use Rattle.session.specs.Modes.{Known, IsSettled, loaded_in, bytes_in, opening_with}
 use Rattle.session.specs.Players.{IsPlayerOf, PlayerTurn}
 use Rattle.session.specs.Standing.{nothing}
 use Rattle.session.proofs.Moves.{present_cells}
 
-pub opened_between : (header : Header) (new : Recording Contents) (first : Place) (turns : List Turn) → turns ≡ []
-    → IsStoreOf header new.store → (first ≡ places.Waiting → IsWaiting new.store) → IsNothingKept new
+pub opened_between : (known : Known) (new : Recording Contents) (first : Place) (turns : List Turn) → turns ≡ []
+    → IsSettled known → IsStoreOf known.header new.store → (first ≡ places.Waiting → IsWaiting new.store) → IsNothingKept new
     → new.beginning ≡ new.store.cells
-    → IsBetweenTurns header new first turns 0
-opened_between header new first turns e o waits idle begun =
-    let now : IsReady header new.store first = record { store = o; waits = waits } in
-    let start : IsReady header (with_cells new.store (get_or (all_cells new.store.cells [] 0) 0 [])) first = subst
-    (λ c. IsReady header (with_cells new.store c) first)
+    → IsBetweenTurns known new first turns 0
+opened_between known new first turns e settled o waits idle begun =
+    let now : IsReady known.header new.store first = record { store = o; waits = waits } in
+    let start : IsReady known.header (with_cells new.store (get_or (all_cells new.store.cells [] 0) 0 [])) first = subst
+    (λ c. IsReady known.header (with_cells new.store c) first)
     (sym (present_cells new.store.cells [] 0 [] (omega arith))) now in
-    let result : IsBetweenTurns header new first [] 0 = record {
+    let result : IsBetweenTurns known new first [] 0 = record {
+      settled = settled;
       within = omega arith;
       idle = idle;
       begun = begun;
@@ -38,10 +39,10 @@ opened_between header new first turns e o waits idle begun =
       small = λ k d lt. absurd (omega arith);
       ready = λ k le.
           let z : k ≡ 0 = omega arith in
-          subst (λ n. IsReady header (with_cells new.store (get_or (all_cells new.store.cells [] 0) n []))
+          subst (λ n. IsReady known.header (with_cells new.store (get_or (all_cells new.store.cells [] 0) n []))
           (get_or (places_of first []) n places.Quit)) (sym z) start;
     } in
-    subst (λ ts. IsBetweenTurns header new first ts 0) (sym e) result
+    subst (λ ts. IsBetweenTurns known new first ts 0) (sym e) result
 
 bound_start : (keep : Option ℕ) → IfSome keep (λ n. 0 + 0 ≤ n)
 bound_start None = tt

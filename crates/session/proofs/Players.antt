@@ -73,6 +73,7 @@ pub profile_player : (story : List ℕ) (machine : Machine) (s : Contents) → I
 profile_player story machine s h = record {
   can = (machine.header, h.header);
   loaded = refl;
+  settled = tt;
   store = h.store;
   state = h.state;
   static_base = h.store.headed.static_base ∙ ap (λ (t : State). static_base_of t.memory) h.state;
@@ -115,9 +116,10 @@ pub standard_player : (story : List ℕ) (seed : ℕ) (machine : StandardMachine
 standard_player story seed machine s h = record {
   can = (h.story, h.read);
   loaded = ap (λ l. Some l) h.loaded;
-  store = h.store;
+  settled = h.store.dynamic ∙ sym h.store.store.headed.static_base;
+  store = h.store.store;
   state = h.state;
-  static_base = h.store.headed.static_base ∙ ap (λ (t : State). static_base_of t.memory) h.state;
+  static_base = h.store.store.headed.static_base ∙ ap (λ (t : State). static_base_of t.memory) h.state;
 }
 
 -- its turns

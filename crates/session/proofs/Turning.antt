@@ -121,7 +121,7 @@ taken_view keep units known opening old new first line turns k t given_up le h =
     ∙ ap {A = List ℕ} (λ x. record v { sizes = x }) (map_taken (λ x. length x.overwritten) turns k t)
 
 taken_ready : (known : Known) (old new : Recording Contents) (first : Place) (line : List ℕ) (units : ℕ)
-    (turns : List Turn) (k : ℕ) (t : Turn) → IsBetweenTurns known.header old first turns k
+    (turns : List Turn) (k : ℕ) (t : Turn) → IsBetweenTurns known old first turns k
     → IsPlayed known old new line units t
     → (n : ℕ) → n ≤ k + 1
     → IsReady known.header
@@ -166,9 +166,9 @@ taken_ready known old new first line units turns k t i h n le =
     ]
 
 pub taken_between : (known : Known) (old new : Recording Contents) (first : Place) (line : List ℕ) (units : ℕ)
-    (turns : List Turn) (k : ℕ) (t : Turn) → IsBetweenTurns known.header old first turns k
+    (turns : List Turn) (k : ℕ) (t : Turn) → IsBetweenTurns known old first turns k
     → IsPlayed known old new line units t
-    → IsBetweenTurns known.header new first (take k turns ++ t ∷ []) (k + 1)
+    → IsBetweenTurns known new first (take k turns ++ t ∷ []) (k + 1)
 taken_between known old new first line units turns k t i h =
     let long : length (take k turns ++ t ∷ []) ≡ k + 1 = length_push (take k turns) t
     ∙ ap (λ m. m + 1) (length-take-le k turns i.within) in
@@ -177,6 +177,7 @@ taken_between known old new first line units turns k t i h =
     let records : records_of (take k turns ++ t ∷ []) ≡ take k rs ++ t.overwritten
     ∷ [] = map_taken (λ x. x.overwritten) turns k t in
     record {
+      settled = i.settled;
       within = omega (arith, long);
       idle = h.idle;
       begun = h.begun;
@@ -284,17 +285,17 @@ as_before old new g begun idle =
     same_recording new.store old.store new.beginning old.beginning new.kept old.kept store g.beginning
     (g.kept ∙ sym idle)
 
-pub given_up_between : (header : Header) (old ran new : Recording Contents) (first : Place) (turns more : List Turn)
-    (k : ℕ) → IsBetweenTurns header old first turns k → GoesOn old ran → GivenUp ran new → more ≡ turns
-    → IsBetweenTurns header new first more k
-given_up_between header old ran new first turns more k i on g e =
-    subst (λ (ts : List Turn). IsBetweenTurns header new first ts k) (sym e)
-    (subst (λ (r : Recording Contents). IsBetweenTurns header r first turns k)
+pub given_up_between : (known : Known) (old ran new : Recording Contents) (first : Place) (turns more : List Turn)
+    (k : ℕ) → IsBetweenTurns known old first turns k → GoesOn old ran → GivenUp ran new → more ≡ turns
+    → IsBetweenTurns known new first more k
+given_up_between known old ran new first turns more k i on g e =
+    subst (λ (ts : List Turn). IsBetweenTurns known new first ts k) (sym e)
+    (subst (λ (r : Recording Contents). IsBetweenTurns known r first turns k)
     (sym (as_before old new (given_up_after on g) i.begun i.idle)) i)
 
 pub given_up_view : (keep : Option ℕ) (units : ℕ) (known : Known) (opening : List ℕ)
     (old ran new : Recording Contents) (first : Place) (turns more : List Turn) (k : ℕ) (given_up : List ℕ)
-    (v : Session) → IsBetweenTurns known.header old first turns k → GoesOn old ran → GivenUp ran new → more ≡ turns
+    (v : Session) → IsBetweenTurns known old first turns k → GoesOn old ran → GivenUp ran new → more ≡ turns
     → view_of keep units known opening old.store first turns k given_up ≡ v
     → view_of keep units known opening new.store first more k given_up ≡ v
 given_up_view keep units known opening old ran new first turns more k given_up v i on g e is =

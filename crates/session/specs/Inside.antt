@@ -10,7 +10,7 @@ use Rattle.machine_frames.specs.Contents.{Contents, bound_of}
 use Rattle.machine_frames.specs.Playing.{IsWaiting}
 use Rattle.machine_frames.specs.States.{play_of, IsStoreOf}
 use Rattle.session.specs.declared.turns.Turn.{Turn}
-use Rattle.session.specs.Modes.{Known}
+use Rattle.session.specs.Modes.{Known, IsSettled}
 use Rattle.session.specs.Session.{Session, largest_record}
 use Rattle.session.specs.Written.{text_of, line_of}
 use Rattle.session.specs.Times.{all_cells}
@@ -70,12 +70,13 @@ pub record IsReady (header : Header) (s : Contents) (place : Place) : Type 0 whe
 
 -- Nothing is recorded between turns, each record fits the store, and at all times that the records reach the store
 -- was one of this machine.
-pub record IsBetweenTurns (header : Header) (store : Recording Contents) (first : Place) (turns : List Turn)
+pub record IsBetweenTurns (known : Known) (store : Recording Contents) (first : Place) (turns : List Turn)
     (done : ℕ) : Type 0 where
+  pub settled : IsSettled known
   pub within : done ≤ length turns
   pub idle : IsNothingKept store
   pub begun : store.beginning ≡ store.store.cells
   pub fits : All (Fits (length store.store.cells) bound_of) (records_of turns)
-  pub small : All (λ r. length r ≤ largest_record header.static_base) (records_of turns)
+  pub small : All (λ r. length r ≤ largest_record known.header.static_base) (records_of turns)
   pub ready : (k : ℕ) → k ≤ length turns
-      → IsReady header (with_cells store.store (cells_at store.store turns done k)) (place_at first turns k)
+      → IsReady known.header (with_cells store.store (cells_at store.store turns done k)) (place_at first turns k)

@@ -1,5 +1,5 @@
 -- A story as a session plays it, in the profile or by the whole Standard.
-use Rattle.std.specs.Prelude.{ℕ, List, Option, Some, None}
+use Rattle.std.specs.Prelude.{◌≡◌, ℕ, List, length, Option, Some, None, IfSome}
 use Rattle.zcore.specs.declared.header.Header.{Header}
 use Rattle.zcore.specs.Turn.{StateOfPlay, Whole, Play, opening, turn_on}
 use Rattle.zcore_standard.specs.Loaded.{Loaded}
@@ -39,3 +39,7 @@ play_in mode story fuel = record {
 pub record Known : Type 0 where
   pub header : Header
   pub loaded : Option Loaded
+
+-- loading has kept as much memory as is dynamic by the header
+abbrev pub IsSettled : Known → Type 0
+IsSettled known = IfSome known.loaded (λ loaded. length loaded.dynamic ≡ known.header.static_base)

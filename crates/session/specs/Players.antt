@@ -10,7 +10,7 @@ use Rattle.session.specs.declared.mode.Mode.{Mode}
 use Rattle.session.specs.declared.player.Player.{Player}
 use Rattle.session.specs.declared.player.Player.TheVariants as players
 use Rattle.session.specs.Loads.{CanBeLoaded, RefusesToLoad}
-use Rattle.session.specs.Modes.{Known, loaded_in, bytes_in, opening_with, turn_with}
+use Rattle.session.specs.Modes.{Known, IsSettled, loaded_in, bytes_in, opening_with, turn_with}
 
 abbrev pub known_of : Player → Known
 known_of (players.Profile machine) = record { header = machine.header; loaded = None }
@@ -20,6 +20,7 @@ known_of (players.Standard machine) = record { header = machine.header; loaded =
 pub record IsPlayerOf (mode : Mode) (story : List ℕ) (known : Known) (s : Contents) : Type 0 where
   pub can : CanBeLoaded mode story
   pub loaded : known.loaded ≡ loaded_in mode story
+  pub settled : IsSettled known
   pub store : IsStoreOf known.header s
   pub state : state_of s [] ≡ first_state (bytes_in mode story)
   pub static_base : known.header.static_base ≡ static_base_of (bytes_in mode story)

@@ -4,6 +4,7 @@ ghost use Rattle.std.specs.Prelude.{OnOk, OnErr};
 ghost use Rattle.std.specs.Prelude.{◌≡◌};
 ghost use Rattle.machine.specs.Ended.{IsReadyFor, TurnEnds};
 ghost use Rattle.machine_frames.specs.States.{IsStoreOf};
+ghost use Rattle.session.specs.Modes.{IsSettled};
 ghost use Rattle.session.specs.Players.{known_of, LoadsPlayer, PlayerTurn};
 
 use crate::fault::OpenFault;
@@ -63,6 +64,7 @@ impl Player {
         text: &mut Vec<u8>,
     ) -> Result<Place, NoMemory>
         requires store { IsStoreOf (known_of self.now).header store.old.store }
+        requires settled { IsSettled (known_of self.now) }
         requires ready { IsReadyFor line store.old.store }
         ensures ends { TurnEnds (PlayerTurn (known_of self.now) line.entry store.old.store fuel)
             store.old text.old.items store.new text.new.items result }

@@ -81,7 +81,7 @@ impl Model for Session {
     ghost view = { λ s. view_of s.keep s.fuel (known_of s.player) s.opening.items s.store.store
         s.first s.turns.items s.done (text_of s.given_up) };
 
-    ghost invariant = { λ s. IsBetweenTurns (known_of s.player).header s.store s.first s.turns.items s.done };
+    ghost invariant = { λ s. IsBetweenTurns (known_of s.player) s.store s.first s.turns.items s.done };
 }
 
 impl Session {

@@ -21,7 +21,7 @@ invariant_of-self c =
     let n = counted i.keep i.fuel (known_of i.player) i.opening.items i.store.store i.first i.turns.items i.done
     (text_of i.given_up) c.args.self.now c.self.view_is in
     let some : 0 < i.done = omega (arith, n.present, c.requires) in
-    oldest_between (known_of i.player).header i.store i.first i.turns.items c.pop_front.new.self.items c.in-Some.oldest i.done
+    oldest_between (known_of i.player) i.store i.first i.turns.items c.pop_front.new.self.items c.in-Some.oldest i.done
     c.in-Some.ensures.items some c.self.invariant
 
 pub returns-in-Some : goal.returns-in-Some

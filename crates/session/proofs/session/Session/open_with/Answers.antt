@@ -14,14 +14,14 @@ use Rattle.session.proofs.session.Session.open_with.Goals as goal
 pub invariant_of-result : goal.invariant_of-result
 invariant_of-result c =
     let l = c.in-Ok.ensures in
-    let header = (known_of c.in-Ok.loaded.0).header in
+    let known = known_of c.in-Ok.loaded.0 in
     let same : c.new-store.result.store ≡ c.in-Ok.loaded.1 = ap (λ (r : Recording Contents). r.store)
     c.new-store.ensures in
-    let before : IsStoreOf header c.new-store.result.store = subst (IsStoreOf header) (sym same) l.store in
-    subst (λ r. IsBetweenTurns header r c.in-Ok-turn.first c.new.result.items 0) (sym c.close.ensures.new)
-    (opened_between header
+    let before : IsStoreOf known.header c.new-store.result.store = subst (IsStoreOf known.header) (sym same) l.store in
+    subst (λ r. IsBetweenTurns known r c.in-Ok-turn.first c.new.result.items 0) (sym c.close.ensures.new)
+    (opened_between known
     (record { store = c.turn.new.store.store; beginning = c.turn.new.store.store.cells; kept = [] })
-    c.in-Ok-turn.first c.new.result.items c.new.ensures.items (store_after before c.in-Ok-turn.ensures.ends.goes_on)
+    c.in-Ok-turn.first c.new.result.items c.new.ensures.items l.settled (store_after before c.in-Ok-turn.ensures.ends.goes_on)
     c.in-Ok-turn.ensures.ends.waits refl refl)
 
 pub returns-in-Ok-turn : goal.returns-in-Ok-turn

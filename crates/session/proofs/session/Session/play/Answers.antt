@@ -12,19 +12,22 @@ use Rattle.session.proofs.session.Session.play.Goals as goal
 pub turn-requires-clause-store : goal.turn-requires-clause-store
 turn-requires-clause-store c =
     let i = c.self.inside in
-    (ready_now (known_of i.player).header i.store i.first i.turns.items i.done c.self.invariant).store
+    (ready_now (known_of i.player) i.store i.first i.turns.items i.done c.self.invariant).store
+
+pub turn-requires-clause-settled : goal.turn-requires-clause-settled
+turn-requires-clause-settled c = c.self.invariant.settled
 
 pub turn-requires-clause-ready : goal.turn-requires-clause-ready
 turn-requires-clause-ready c =
     let i = c.self.inside in
-    (ready_now (known_of i.player).header i.store i.first i.turns.items i.done c.self.invariant).waits
+    (ready_now (known_of i.player) i.store i.first i.turns.items i.done c.self.invariant).waits
     (view_place i.keep i.fuel (known_of i.player) i.opening.items i.store.store i.first i.turns.items i.done
     (text_of i.given_up) c.args.self.now c.self.view_is ∙ c.requires)
 
 pub invariant_of-self-in_err-written : goal.invariant_of-self-in_err-written
 invariant_of-self-in_err-written c =
     let i = c.self.inside in
-    given_up_between (known_of i.player).header i.store c.turn.new.store c.keep_written.new.store i.first i.turns.items
+    given_up_between (known_of i.player) i.store c.turn.new.store c.keep_written.new.store i.first i.turns.items
     c.begin_text.new.turns.items i.done c.self.invariant c.in_ok-place.ensures.ends.goes_on
     c.in_err-written.ensures.given_up c.begin_text.ensures.items
 
@@ -39,7 +42,7 @@ returns-in_err-written-clause-same c =
 pub invariant_of-self-2 : goal.invariant_of-self-2
 invariant_of-self-2 c =
     let i = c.self.inside in
-    let s = (ready_now (known_of i.player).header i.store i.first i.turns.items i.done c.self.invariant).store in
+    let s = (ready_now (known_of i.player) i.store i.first i.turns.items i.done c.self.invariant).store in
     let t : Turn =
     record {
       written = c.in_ok-written.written;
@@ -53,14 +56,14 @@ invariant_of-self-2 c =
     ∙ c.deref.ensures.value)
     c.self.invariant.begun c.close.ensures.back c.close.ensures.fits c.close.ensures.bound c.close.ensures.new in
     let more = c.put_turn.ensures ∙ ap (λ (ts : List Turn). take i.done ts ++ t ∷ []) c.begin_text.ensures.items in
-    subst (λ ts. IsBetweenTurns (known_of i.player).header c.close.new.self i.first ts (i.done + 1)) (sym more)
+    subst (λ ts. IsBetweenTurns (known_of i.player) c.close.new.self i.first ts (i.done + 1)) (sym more)
     (taken_between (known_of i.player) i.store c.close.new.self i.first c.args.line.now i.fuel i.turns.items i.done
     t c.self.invariant h)
 
 pub returns-clause-turned : goal.returns-clause-turned
 returns-clause-turned c =
     let i = c.self.inside in
-    let s = (ready_now (known_of i.player).header i.store i.first i.turns.items i.done c.self.invariant).store in
+    let s = (ready_now (known_of i.player) i.store i.first i.turns.items i.done c.self.invariant).store in
     let t : Turn =
     record {
       written = c.in_ok-written.written;

@@ -9,7 +9,7 @@ use Rattle.session.proofs.session.Session.program_counter.Goals as goal
 pub program_counter-requires : goal.program_counter-requires
 program_counter-requires c =
     let i = c.self.inside in
-    (ready_now (known_of i.player).header i.store i.first i.turns.items i.done c.self.invariant).store.sound
+    (ready_now (known_of i.player) i.store i.first i.turns.items i.done c.self.invariant).store.sound
 
 pub returns : goal.returns
 returns c = λ state.

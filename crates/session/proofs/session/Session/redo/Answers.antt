@@ -51,7 +51,7 @@ invariant_of-self-2 c =
     let i = c.self.inside in
     let here : i.done < length i.turns.items = omega
     (arith, i.turns.ok.0, c.len.ensures, c.if-self-len.false, c.self.invariant.within) in
-    redo_between (known_of i.player).header i.store c.do_again.new.store i.first i.turns.items c.index_mut.result.now
+    redo_between (known_of i.player) i.store c.do_again.new.store i.first i.turns.items c.index_mut.result.now
     c.do_again.new.turn i.done
     (record { here = here; is = c.index_mut.ensures.value }) c.do_again.ensures c.self.invariant
 

@@ -42,7 +42,7 @@ invariant_of-self c =
     let i = c.self.inside in
     let here : i.done - 1 < length i.turns.items = omega (arith, c.self.invariant.within) in
     let e : i.done - 1 + 1 ≡ i.done = omega arith in
-    undo_between (known_of i.player).header i.store c.take_back.new.store i.first i.turns.items c.index_mut.result.now
+    undo_between (known_of i.player) i.store c.take_back.new.store i.first i.turns.items c.index_mut.result.now
     c.take_back.new.turn (i.done - 1) i.done e
     (record { here = here; is = c.index_mut.ensures.value }) c.take_back.ensures c.self.invariant
 
