@@ -86,6 +86,9 @@ module _ (s : Recording Contents) (here : Next) (after text parse dictionary fla
       (tokenise here after text parse dictionary flag)
   unfolding tokenise test_letters test_slots test_dictionary fill_slots
   tokens_filled t letters slots some filled = record {
-    did = (filled.goes_on, λ x. rw (letters, slots, some)
-        (ap (λ y. done (record { program_counter = after; fuel = here.fuel }) y) (sym (filled.state x))));
+    did = (
+      filled.goes_on,
+      λ x. rw (letters, slots, some)
+          (ap (λ y. done (record { program_counter = after; fuel = here.fuel }) y) (sym (filled.state x))),
+    );
   }
