@@ -1,29 +1,32 @@
--- Where a further operation stands, the profile's machine knows no instruction.
-use Rattle.std.proofs.Common.{◌≡◌, ℕ, ◌+◌, ◌/◌, ◌%◌, ◌<◌, ◌≤◌, List, [], ◌∷◌, length, refl, ap, sym, ◌∙◌, arith, slice_index}
-use Rattle.std.proofs.Common.{Bool, true, false, cond, Option, Some, None, Result, Ok, Err}
-use Rattle.std.specs.Prelude.{◌==◌, ◌&&◌, nat_le, nat_lt, if◌then◌else◌}
-use Rattle.std.proofs.lemmas.Bool.{eqb-true, ltb-true, ltb-false, lt-ltb, and_parts, leb-true}
+-- At a further operation the profile knows no instruction, but for `aread`, which both read the same way.
+use Rattle.std.proofs.Common.{◌≡◌, ℕ, ◌+◌, ◌/◌, ◌%◌, ◌<◌, ◌⊎◌, inl, inr, List, [], ◌∷◌, length, refl, ap, ◌∙◌}
+use Rattle.std.proofs.Common.{arith, slice_index, Bool, true, false, cond, Option, Some, None, Result, Err}
+use Rattle.std.specs.Prelude.{◌==◌, nat_lt, if◌then◌else◌}
+use Rattle.std.specs.List.{list_all}
+use Rattle.std.specs.Option.{is_none}
+use Rattle.std.proofs.lemmas.Bool.{eqb-true, ltb-true, ltb-false, lt-ltb, and_parts}
 use Rattle.zcore.specs.declared.place.Fault.{Fault}
 use Rattle.zcore.specs.declared.place.Fault.TheVariants as faults
 use Rattle.zcore.specs.declared.place.Place.TheVariants as places
+use Rattle.zcore.specs.declared.instruction.Operation.{Operation}
 use Rattle.zcore.specs.declared.next.Next.{Next}
-use Rattle.ztext.specs.Results.{◌>>=◌}
-use Rattle.zcore.specs.Operations.{two_operand, one_operand, no_operand, several_operand}
-use Rattle.zcore.specs.Instruction.{Opcode, byte, opcode_of, long_form, short_form, variable_form, opcode, decode}
-use Rattle.zcore.specs.State.{State, Out, done, halt}
-use Rattle.zcore.specs.Parts.{fault, is_code}
-use Rattle.zcore.specs.Execution.{execute, step}
-use Rattle.zcore.proofs.KeepingReads.{never}
+use Rattle.zcore.specs.Operations as profile
+use Rattle.zcore.specs.Instruction.{Opcode, byte, long_form, short_form, variable_form, opcode, decode}
+use Rattle.zcore.specs.State.{State, halt}
+use Rattle.zcore.specs.Parts.{is_code}
+use Rattle.zcore.specs.Execution.{step}
 use Rattle.zcore_standard.specs.declared.operations.Further.{Further}
-use Rattle.zcore_standard.specs.declared.operations.Further.TheVariants.{Restart, Throw, Random, SetWindow, OutputStream}
-use Rattle.zcore_standard.specs.Operations.{row_of, numbered, of_bytes, has_code, with_code, further_at}
+use Rattle.zcore_standard.specs.declared.operations.Further.TheVariants.{Restart, Catch, ShowStatus, Verify, Piracy}
+use Rattle.zcore_standard.specs.declared.operations.Further.TheVariants.{SetColour, Throw, Read, Random, SplitWindow}
+use Rattle.zcore_standard.specs.declared.operations.Further.TheVariants.{SetWindow, EraseWindow, EraseLine, SetCursor}
+use Rattle.zcore_standard.specs.declared.operations.Further.TheVariants.{GetCursor, SetTextStyle, BufferMode}
+use Rattle.zcore_standard.specs.declared.operations.Further.TheVariants.{OutputStream, InputStream, SoundEffect}
+use Rattle.zcore_standard.specs.declared.operations.Further.TheVariants.{ReadChar, ScanTable, Tokenise, EncodeText}
+use Rattle.zcore_standard.specs.declared.operations.Further.TheVariants.{CopyTable, PrintTable}
+use Rattle.zcore_standard.specs.Operations.{row_of, numbered, no_operand, two_operand, of_bytes}
+use Rattle.zcore_standard.specs.Operations.{further_at}
 
--- what is chosen is a further operation, and what the profile chooses by the same test is none
-both_ways : (b : Bool) (p q : Option Further) (r s : Result (Opcode × ℕ) Fault) (x : Further)
-    → (b ≡ true → p ≡ Some x → r ≡ Err faults.Opcode) → (b ≡ false → q ≡ Some x → s ≡ Err faults.Opcode)
-    → cond b p q ≡ Some x → cond b r s ≡ Err faults.Opcode
-both_ways true p q r s x v w h = v refl h
-both_ways false p q r s x v w h = w refl h
+-- The profile has no opcode of a number that a further one has
 
 -- one of two operations
 one_way : {P : Type 0} (b : Bool) (p q : Option Further) (x : Further) → (b ≡ true → p ≡ Some x → P)
@@ -34,41 +37,26 @@ one_way false p q x v w h = w refl h
 none_at : {P : Type 0} (x : Further) → None ≡ Some x → P
 none_at x h = absurd (cc)
 
--- the only one of a list has its number
-number_is : (n : ℕ) (o x : Further) → numbered n (o ∷ []) ≡ Some x → n ≡ (row_of o).number
-number_is n o x h = one_way (n == (row_of o).number) (Some o) None x (λ b _. eqb-true n (row_of o).number b)
-    (λ _ e. none_at x e) h
+is_no_some : {A : Type 0} (o : Option A) → is_none o ≡ true → o ≡ None
+is_no_some None e = refl
+is_no_some (Some a) e = absurd (cc)
 
--- The profile's forms at these numbers
+-- none of the numbers of these is one that the profile knows
+abbrev are_unknown : (ℕ → Option Operation) → List Further → Bool
+are_unknown known operations = list_all (λ o. is_none (known (row_of o).number)) operations
 
-two_none : (n : ℕ) (types : List ℕ) (at : ℕ) → n ≡ 28 → opcode_of (two_operand n) types at ≡ Err faults.Opcode
-two_none n types at e = rw e refl
+unknown_number : (known : ℕ → Option Operation) (operations : List Further) (n : ℕ) (x : Further)
+    → are_unknown known operations ≡ true → numbered n operations ≡ Some x → known n ≡ None
+unknown_number known [] n x all h = none_at x h
+unknown_number known (o ∷ others) n x all h =
+    let parts = and_parts (is_none (known (row_of o).number)) (are_unknown known others) all in
+    one_way (n == (row_of o).number) (Some o) (numbered n others) x
+    (λ b _. ap known (eqb-true n (row_of o).number b) ∙ is_no_some (known (row_of o).number) parts.0)
+    (λ _ e. unknown_number known others n x parts.1 e) h
 
-without_none : (n first at : ℕ) → first / 16 % 4 ≡ 3 → first % 16 ≡ 7 → short_form first at ≡ Err faults.Opcode
-without_none n first at form e = rw (form, e) refl
+-- The first byte
 
-variable_two_none : (memory : List ℕ) (first at : ℕ) → nat_lt first 224 ≡ true → first % 32 ≡ 28
-    → variable_form memory first at ≡ Err faults.Opcode
-variable_two_none memory first at b e = rw (b, e) refl
-
-variable_none : (memory : List ℕ) (first at n : ℕ) → nat_lt first 224 ≡ false → first % 32 ≡ n
-    → several_operand n ≡ None → variable_form memory first at ≡ Err faults.Opcode
-variable_none memory first at n b e none = rw (b, e, none) refl
-
--- the form of variable operands that is a further operation
-several_none : (memory : List ℕ) (first at : ℕ) (x : Further) (o p q : Further) → nat_lt first 224 ≡ false
-    → several_operand (row_of o).number ≡ None → several_operand (row_of p).number ≡ None
-    → several_operand (row_of q).number ≡ None → numbered (first % 32) (o ∷ p ∷ q ∷ []) ≡ Some x
-    → variable_form memory first at ≡ Err faults.Opcode
-several_none memory first at x o p q b one two three h =
-    let n = first % 32 in
-    one_way (n == (row_of o).number) _ _ x
-    (λ c _. variable_none memory first at _ b (eqb-true n (row_of o).number c) one)
-    (λ _ f. one_way (n == (row_of p).number) _ _ x
-    (λ c _. variable_none memory first at _ b (eqb-true n (row_of p).number c) two)
-    (λ _ g. variable_none memory first at _ b (number_is n q x g) three) f) h
-
--- what the profile makes of a first byte
+-- what the profile makes of it
 abbrev of_first : List ℕ → ℕ → ℕ → Result (Opcode × ℕ) Fault
 of_first memory first at =
     if first == 190 then Err faults.Opcode
@@ -76,44 +64,89 @@ of_first memory first at =
     else (if nat_lt first 192 then short_form first at
     else variable_form memory first at))
 
-first_none : (memory : List ℕ) (first second at : ℕ) (x : Further) → of_bytes first second ≡ Some x
-    → of_first memory first at ≡ Err faults.Opcode
-first_none memory first second at x h =
-    both_ways (first == 190) _ _ _ _ x (λ _ _. refl)
-    (λ _ h. both_ways (nat_lt first 128) _ _ _ _ x
-    (λ _ e. two_none (first % 32) _ at (number_is (first % 32) Throw x e))
-    (λ _ h. one_way (nat_lt first 176) None _ x (λ _ e. none_at x e)
-    (λ low h. both_ways (nat_lt first 192) _ _ _ _ x
+-- the first byte of `aread`
+pub record IsReadByte (first : ℕ) : Type 0 where
+  pub no_extended : (first == 190) ≡ false
+  pub no_long : nat_lt first 128 ≡ false
+  pub no_short : nat_lt first 192 ≡ false
+  pub no_two : nat_lt first 224 ≡ false
+  pub number : first % 32 ≡ 4
+
+-- the profile refuses an opcode, or it is `aread`
+abbrev RefusedOrRead : Result (Opcode × ℕ) Fault → ℕ → Further → Type 0
+RefusedOrRead r first x = (r ≡ Err faults.Opcode) ⊎ ((x ≡ Read) × IsReadByte first)
+
+-- two choices by one test
+both_ways : (b : Bool) (p q : Option Further) (r s : Result (Opcode × ℕ) Fault) (first : ℕ) (x : Further)
+    → (b ≡ true → p ≡ Some x → RefusedOrRead r first x) → (b ≡ false → q ≡ Some x → RefusedOrRead s first x)
+    → cond b p q ≡ Some x → RefusedOrRead (cond b r s) first x
+both_ways true p q r s first x v w h = v refl h
+both_ways false p q r s first x v w h = w refl h
+
+long_refused : (first at : ℕ) (x : Further) → two_operand (first % 32) ≡ Some x
+    → long_form first at ≡ Err faults.Opcode
+long_refused first at x h =
+    rw (unknown_number profile.two_operand (SetColour ∷ Throw ∷ []) (first % 32) x refl h) refl
+
+short_refused : (first at : ℕ) (x : Further) → first / 16 % 4 ≡ 3 → no_operand (first % 16) ≡ Some x
+    → short_form first at ≡ Err faults.Opcode
+short_refused first at x form h =
+    rw (
+      form,
+      unknown_number profile.no_operand (Restart ∷ Catch ∷ ShowStatus ∷ Verify ∷ Piracy ∷ []) (first % 16) x refl
+          h,
+    ) refl
+
+variable_two_refused : (memory : List ℕ) (first at : ℕ) (x : Further) → nat_lt first 224 ≡ true
+    → two_operand (first % 32) ≡ Some x → variable_form memory first at ≡ Err faults.Opcode
+variable_two_refused memory first at x b h =
+    rw (b, unknown_number profile.two_operand (SetColour ∷ Throw ∷ []) (first % 32) x refl h) refl
+
+-- those of the several-operand opcodes that the profile does not know with two operands
+abbrev others_than_read : List Further
+others_than_read =
+    Random ∷ SplitWindow ∷ SetWindow ∷ EraseWindow ∷ EraseLine ∷ SetCursor ∷ GetCursor ∷ SetTextStyle ∷ BufferMode ∷
+    OutputStream ∷ InputStream ∷ SoundEffect ∷ ReadChar ∷ ScanTable ∷ Tokenise ∷ EncodeText ∷ CopyTable ∷
+    PrintTable ∷ []
+
+several_refused : (memory : List ℕ) (first at : ℕ) (x : Further) → nat_lt first 224 ≡ false
+    → numbered (first % 32) others_than_read ≡ Some x → variable_form memory first at ≡ Err faults.Opcode
+several_refused memory first at x b h =
+    rw (b, unknown_number profile.several_operand others_than_read (first % 32) x refl h) refl
+
+is_read : (x : Further) → Some Read ≡ Some x → x ≡ Read
+is_read x e = cc
+
+first_refused : (memory : List ℕ) (first second at : ℕ) (x : Further) → of_bytes first second ≡ Some x
+    → RefusedOrRead (of_first memory first at) first x
+first_refused memory first second at x h =
+    both_ways (first == 190) _ _ _ _ first x (λ _ _. inl refl)
+    (λ extended h. both_ways (nat_lt first 128) _ _ _ _ first x
+    (λ _ e. inl (long_refused first at x e))
+    (λ long h. one_way (nat_lt first 176) None _ x (λ _ e. none_at x e)
+    (λ low h. both_ways (nat_lt first 192) _ _ _ _ first x
     (λ high e.
     let above = ltb-false first 176 low in
     let below = ltb-true first 192 high in
-    without_none 0 first at (omega arith) (number_is (first % 16) Restart x e))
-    (λ _ h. one_way (nat_lt first 224) _ _ x
-    (λ b e. variable_two_none memory first at b (number_is (first % 32) Throw x e))
-    (λ b e. several_none memory first at x Random SetWindow OutputStream b refl refl refl e) h) h) h) h) h
+    inl (short_refused first at x (omega arith) e))
+    (λ short h. one_way (nat_lt first 224) _ _ x
+    (λ b e. inl (variable_two_refused memory first at x b e))
+    (λ b e. one_way (first % 32 == 4) (Some Read) (numbered (first % 32) others_than_read) x
+    (λ number f. inr (
+      is_read x f,
+      record {
+        no_extended = extended;
+        no_long = long;
+        no_short = short;
+        no_two = b;
+        number = eqb-true (first % 32) 4 number;
+      },
+    ))
+    (λ _ f. inl (several_refused memory first at x b f)) e) h) h) h) h) h
 
--- the opcode, and the instruction
-opcode_none : (memory : List ℕ) (at : ℕ) (x : Further) → at < length memory
-    → of_bytes (slice_index memory at) (slice_index memory (at + 1)) ≡ Some x → opcode memory at ≡ Err faults.Opcode
-unfolding opcode byte
-opcode_none memory at x within h =
-    rw (lt-ltb at (length memory) within) (first_none memory (slice_index memory at) (slice_index memory (at + 1))
-    (at + 1) x h)
+-- The instruction
 
-decode_none : (memory : List ℕ) (at : ℕ) (x : Further) → at < length memory
-    → of_bytes (slice_index memory at) (slice_index memory (at + 1)) ≡ Some x → decode memory at ≡ Err faults.Opcode
-unfolding decode
-decode_none memory at x within h = rw (opcode_none memory at x within h) refl
-
-code_is : (b : Bool) (o x : Further) → cond b (Some o) None ≡ Some x → Some o ≡ Some x
-code_is true o x h = h
-code_is false o x h = none_at x h
-
-with_code_is : (o : Option Further) (x : Further) → with_code o ≡ Some x → o ≡ Some x
-with_code_is None x h = h
-with_code_is (Some o) x h = code_is (has_code o) o x h
-
--- what is known where a further operation stands
+-- a further operation at an address
 pub record Stands (memory : List ℕ) (at : ℕ) (x : Further) : Type 0 where
   pub code : is_code memory at ≡ true
   pub within : at < length memory
@@ -122,17 +155,41 @@ pub record Stands (memory : List ℕ) (at : ℕ) (x : Further) : Type 0 where
 pub stands : (memory : List ℕ) (at : ℕ) (x : Further) → further_at memory at ≡ Some x → Stands memory at x
 stands memory at x h =
     one_way (is_code memory at) _ None x
-    (λ code e. record {
-      code = code;
-      within = ltb-true at (length memory) (and_parts _ _ code).1;
-      bytes = with_code_is (of_bytes (slice_index memory at) (slice_index memory (at + 1))) x e;
-    })
+    (λ code e. record { code = code; within = ltb-true at (length memory) (and_parts _ _ code).1; bytes = e })
     (λ _ e. none_at x e) h
 
--- M1
-pub step_refused : (here : Next) (s : State) (x : Further) → further_at s.memory here.program_counter ≡ Some x
-    → step here s ≡ halt (places.Fault faults.Opcode) s
+-- the profile's opcode
+pub opcode_is : (memory : List ℕ) (at : ℕ) → at < length memory
+    → opcode memory at ≡ of_first memory (slice_index memory at) (at + 1)
+unfolding opcode byte
+opcode_is memory at within = rw (lt-ltb at (length memory) within) refl
+
+decode_refused : (memory : List ℕ) (at : ℕ) → opcode memory at ≡ Err faults.Opcode → decode memory at ≡ Err faults.Opcode
+unfolding decode
+decode_refused memory at e = rw e refl
+
+step_of : (here : Next) (s : State) → is_code s.memory here.program_counter ≡ true
+    → decode s.memory here.program_counter ≡ Err faults.Opcode → step here s ≡ halt (places.Fault faults.Opcode) s
 unfolding step
+step_of here s code e = rw (code, e) refl
+
+refused_or_read : (here : Next) (s : State) (x : Further) → Stands s.memory here.program_counter x
+    → RefusedOrRead (of_first s.memory (slice_index s.memory here.program_counter) (here.program_counter + 1))
+    (slice_index s.memory here.program_counter) x
+    → (step here s ≡ halt (places.Fault faults.Opcode) s)
+    ⊎ ((x ≡ Read) × IsReadByte (slice_index s.memory here.program_counter))
+refused_or_read here s x a (inl e) =
+    let at = here.program_counter in
+    inl (step_of here s a.code (decode_refused s.memory at (opcode_is s.memory at a.within ∙ e)))
+refused_or_read here s x a (inr r) = inr r
+
+-- M1, or `aread`
+pub step_refused : (here : Next) (s : State) (x : Further) → further_at s.memory here.program_counter ≡ Some x
+    → (step here s ≡ halt (places.Fault faults.Opcode) s)
+    ⊎ ((x ≡ Read) × IsReadByte (slice_index s.memory here.program_counter))
 step_refused here s x h =
-    let a = stands s.memory here.program_counter x h in
-    rw (a.code, decode_none s.memory here.program_counter x a.within a.bytes) refl
+    let memory = s.memory in
+    let at = here.program_counter in
+    let a = stands memory at x h in
+    refused_or_read here s x a
+    (first_refused memory (slice_index memory at) (slice_index memory (at + 1)) (at + 1) x a.bytes)

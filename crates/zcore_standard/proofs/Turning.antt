@@ -1,71 +1,162 @@
--- Turns of the Standard's machine: each has one end, and comes to it within its weight.
-use Rattle.std.proofs.Common.{◌≡◌, ℕ, ◌≤◌, List, refl, ap, sym, ◌∙◌, arith, Option, Some, None}
+-- Turns of the Standard's machine: each has one end, and reaches it within its weight. A turn of the profile that meets
+-- no fault is one of them.
+use Rattle.std.proofs.Common.{◌≡◌, ℕ, zero, suc, ◌⊎◌, inl, inr, List, refl, ap, ◌∙◌, arith}
+use Rattle.std.proofs.Common.{Bool, true, false, Option, Some, None, slice_index}
+use Rattle.zcore.specs.declared.beside.Beside.{Beside}
 use Rattle.zcore.specs.declared.next.Next.{Next}
-use Rattle.zcore.specs.State.{State, done}
+use Rattle.zcore.specs.declared.place.Fault.TheVariants as faults
+use Rattle.zcore.specs.declared.place.Place.TheVariants as places
+use Rattle.zcore.specs.State.{Pending, State, Out, done, halt}
 use Rattle.zcore.specs.Execution.{step}
-use Rattle.zcore.specs.Turn.{Whole, TurnsBy, turn_by, weight}
+use Rattle.zcore.specs.Turn.{StateOfPlay, Whole, TurnsBy, after_step, turn_by, turn_in, turn_from, weight}
+use Rattle.zcore.specs.Turn.{ended, given, resumed, turn_pending, turn_on}
 use Rattle.zcore.proofs.Turning.{IsWeight, weight_some, turn_by_ends, turns_by_same}
-use Rattle.zcore.proofs.KeepingReads.{never}
 use Rattle.zcore_standard.specs.declared.operations.Further.{Further}
-use Rattle.zcore_standard.specs.Place.{Here, on, within}
+use Rattle.zcore_standard.specs.declared.operations.Further.TheVariants.{Read}
+use Rattle.zcore_standard.specs.Place.{Here, Loaded, within}
 use Rattle.zcore_standard.specs.Operations.{further_at}
-use Rattle.zcore_standard.specs.Machine.{chosen, standard, standard_step, standard_turn}
-use Rattle.zcore_standard.specs.Laws.{EndsOneWay}
-use Rattle.zcore_standard.proofs.Refusing.{step_refused}
-use Rattle.zcore_standard.proofs.Falling.{standard_step_falls}
+use Rattle.zcore_standard.specs.Machine.{chosen, standard, standard_step, standard_turn, standard_pending}
+use Rattle.zcore_standard.specs.Machine.{standard_turn_on, with_beside, begins}
+use Rattle.zcore_standard.specs.Laws.{EndsOneWay, is_fault, ends_in_fault}
+use Rattle.zcore_standard.proofs.Known.{known_keeps}
+use Rattle.zcore_standard.proofs.Reading.{read_keeps}
+use Rattle.zcore_standard.proofs.Refusing.{IsReadByte, Stands, stands, step_refused}
+use Rattle.zcore_standard.proofs.Stepping.{standard_step_falls}
 
 abbrev pub weighs : Here → State → ℕ
 weighs here s = weight here.next s
 
-pub standard_weight : (dynamic : List ℕ) → IsWeight (standard dynamic) weighs
-standard_weight dynamic = record {
+pub standard_weight : (loaded : Loaded) → IsWeight (standard loaded) weighs
+standard_weight loaded = record {
   some = λ here s. weight_some here.next s;
-  falls = λ here next s t e. (standard_step_falls dynamic here next s t e).falls;
+  falls = λ here next s t e. (standard_step_falls loaded here next s t e).falls;
 }
 
-pub standard_ends : (dynamic : List ℕ) (here : Here) (s : State)
-    → (whole : Whole) × (standard_turn dynamic here s ≡ Some whole)
+pub standard_ends : (loaded : Loaded) (here : Here) (s : State)
+    → (whole : Whole) × (standard_turn loaded here s ≡ Some whole)
 unfolding standard_turn
-standard_ends dynamic here s =
-    turn_by_ends (standard dynamic) weighs (standard_weight dynamic) (weighs here s) here s (omega arith)
+standard_ends loaded here s =
+    turn_by_ends (standard loaded) weighs (standard_weight loaded) (weighs here s) here s (omega arith)
 
-pub is_standard_turn : (dynamic : List ℕ) (here : Here) (s : State) (whole : Whole)
-    → standard_turn dynamic here s ≡ Some whole → TurnsBy (standard dynamic) here s whole
+pub is_standard_turn : (loaded : Loaded) (here : Here) (s : State) (whole : Whole)
+    → standard_turn loaded here s ≡ Some whole → TurnsBy (standard loaded) here s whole
 unfolding standard_turn
-is_standard_turn dynamic here s whole e = record { count = weighs here s; ends = e }
+is_standard_turn loaded here s whole e = record { count = weighs here s; ends = e }
 
 -- the turn is what the function gives
-pub standard_turn_is : (dynamic : List ℕ) (here : Here) (s : State) (whole : Whole)
-    → TurnsBy (standard dynamic) here s whole → standard_turn dynamic here s ≡ Some whole
-standard_turn_is dynamic here s whole turn =
-    let e = standard_ends dynamic here s in
-    let same = turns_by_same (standard dynamic) here s e.0 whole (is_standard_turn dynamic here s e.0 e.1) turn in
+pub standard_turn_is : (loaded : Loaded) (here : Here) (s : State) (whole : Whole)
+    → TurnsBy (standard loaded) here s whole → standard_turn loaded here s ≡ Some whole
+standard_turn_is loaded here s whole turn =
+    let e = standard_ends loaded here s in
+    let same = turns_by_same (standard loaded) here s e.0 whole (is_standard_turn loaded here s e.0 e.1) turn in
     e.1 ∙ ap (λ w. Some w) same
 
-pub standard_ends_once : (dynamic : List ℕ) (here : Here) (s : State) → EndsOneWay dynamic here s
-standard_ends_once dynamic here s =
-    let e = standard_ends dynamic here s in
-    let turn = is_standard_turn dynamic here s e.0 e.1 in
+pub standard_ends_once : (loaded : Loaded) (here : Here) (s : State) → EndsOneWay loaded here s
+standard_ends_once loaded here s =
+    let e = standard_ends loaded here s in
+    let turn = is_standard_turn loaded here s e.0 e.1 in
     record {
       whole = e.0;
       ends = turn;
       found = e.1;
-      only = λ other u. turns_by_same (standard dynamic) here s other e.0 u turn;
+      only = λ other u. turns_by_same (standard loaded) here s other e.0 u turn;
     }
 
--- what the profile plays
+-- Steps that the profile plays
 
-chosen_keeps : (dynamic : List ℕ) (here : Here) (s t : State) (next : Next) (o : Option Further)
-    → further_at s.memory here.next.program_counter ≡ o → step here.next s ≡ done next t
-    → chosen dynamic o here s ≡ done (on here next) t
-chosen_keeps dynamic here s t next o e h = elim o as (λ p. further_at s.memory here.next.program_counter ≡ p
-    → chosen dynamic p here s ≡ done (on here next) t) [
-  | None ↦ λ _. ap (within here) h
-  | Some operation ↦ λ f. absurd (never _ next s t (sym (step_refused here.next s operation f) ∙ h))
-] e
+neither : (b : Bool) → b ≡ false → b ≡ true → ⊥
+neither true e f = cc
+neither false e f = cc
 
-pub standard_keeps : (dynamic : List ℕ) (here : Here) (s t : State) (next : Next) → step here.next s ≡ done next t
-    → standard_step dynamic here s ≡ done (on here next) t
+-- at a further operation the profile faults, or both read `aread`
+further_keeps : (loaded : Loaded) (here : Here) (s : State) (operation : Further)
+    → Stands s.memory here.next.program_counter operation → ends_in_fault (step here.next s) ≡ false
+    → (step here.next s ≡ halt (places.Fault faults.Opcode) s)
+    ⊎ ((operation ≡ Read) × IsReadByte (slice_index s.memory here.next.program_counter))
+    → chosen loaded (Some operation) here s ≡ within here (step here.next s)
+further_keeps loaded here s operation a plays (inl e) = absurd (neither _ plays (ap ends_in_fault e))
+further_keeps loaded here s operation a plays (inr r) =
+    ap (λ o. chosen loaded (Some o) here s) r.0 ∙ read_keeps loaded here s a.code a.within r.1 plays
+
+chosen_keeps : (loaded : Loaded) (here : Here) (s : State) (o : Option Further)
+    → further_at s.memory here.next.program_counter ≡ o → ends_in_fault (step here.next s) ≡ false
+    → chosen loaded o here s ≡ within here (step here.next s)
+chosen_keeps loaded here s None e plays = ap (within here) (known_keeps here.next s plays)
+chosen_keeps loaded here s (Some operation) e plays =
+    further_keeps loaded here s operation (stands s.memory here.next.program_counter operation e) plays
+    (step_refused here.next s operation e)
+
+pub standard_steps : (loaded : Loaded) (here : Here) (s : State) → ends_in_fault (step here.next s) ≡ false
+    → standard_step loaded here s ≡ within here (step here.next s)
 unfolding standard_step
-standard_keeps dynamic here s t next h =
-    chosen_keeps dynamic here s t next (further_at s.memory here.next.program_counter) refl h
+standard_steps loaded here s plays =
+    chosen_keeps loaded here s (further_at s.memory here.next.program_counter) refl plays
+
+-- Turns that the profile plays
+
+some_is : (a b : Whole) → (let o : Option Whole = Some a in o) ≡ Some b → a ≡ b
+some_is a b h = cc
+
+-- a step of the profile, and what follows it
+after_keeps : (loaded : Loaded) (beside : Beside) (here : Next) (s : State) (count : ℕ) (whole : Whole) (o : Out Next)
+    → ((next : Next) (t : State) → turn_in count next t ≡ Some whole
+    → turn_by (standard loaded) count (begins beside next) t ≡ Some (with_beside beside whole))
+    → is_fault whole.place ≡ false
+    → (ends_in_fault o ≡ false → standard_step loaded (begins beside here) s ≡ within (begins beside here) o)
+    → after_step o (turn_in count) (λ place t. Some (ended here place t)) ≡ Some whole
+    → turn_by (standard loaded) (suc count) (begins beside here) s ≡ Some (with_beside beside whole)
+after_keeps loaded beside here s count whole (done next t) rest plays same e =
+    ap (λ o. after_step o (turn_by (standard loaded) count)
+    (λ place u. Some ((standard loaded).ended (begins beside here) place u))) (same refl)
+    ∙ rest next t e
+after_keeps loaded beside here s count whole (halt place t) rest plays same e =
+    let w : ended here place t ≡ whole = some_is _ whole e in
+    ap (λ o. after_step o (turn_by (standard loaded) count)
+    (λ place u. Some ((standard loaded).ended (begins beside here) place u)))
+    (same (ap (λ (x : Whole). is_fault x.place) w ∙ plays))
+    ∙ ap (λ x. Some (with_beside beside x)) w
+
+turn_in_keeps : (loaded : Loaded) (beside : Beside) (count : ℕ) (here : Next) (s : State) (whole : Whole)
+    → turn_in count here s ≡ Some whole → is_fault whole.place ≡ false
+    → turn_by (standard loaded) count (begins beside here) s ≡ Some (with_beside beside whole)
+turn_in_keeps loaded beside zero here s whole e plays = absurd (cc)
+turn_in_keeps loaded beside (suc count) here s whole e plays =
+    after_keeps loaded beside here s count whole (step here s)
+    (λ next t h. turn_in_keeps loaded beside count next t whole h plays) plays
+    (λ h. standard_steps loaded (begins beside here) s h) e
+
+pub standard_turn_keeps : (loaded : Loaded) (beside : Beside) (here : Next) (s : State) (whole : Whole)
+    → turn_from here s ≡ Some whole → is_fault whole.place ≡ false
+    → standard_turn loaded (begins beside here) s ≡ Some (with_beside beside whole)
+unfolding turn_from standard_turn
+standard_turn_keeps loaded beside here s whole e plays =
+    turn_in_keeps loaded beside (weight here s) here s whole e plays
+
+-- The turn of a line
+
+given_keeps : (loaded : Loaded) (fuel : ℕ) (play : StateOfPlay) (whole : Whole) (o : Out Next)
+    → is_fault whole.place ≡ false
+    → after_step o turn_from
+    (λ place s. Some (ended (record { program_counter = play.program_counter; fuel = fuel }) place s)) ≡ Some whole
+    → after_step o (λ next s. standard_turn loaded (begins play.beside next) s)
+    (λ place s. Some (with_beside play.beside
+    (ended (record { program_counter = play.program_counter; fuel = fuel }) place s)))
+    ≡ Some (with_beside play.beside whole)
+given_keeps loaded fuel play whole (done next t) plays e =
+    standard_turn_keeps loaded play.beside next t whole e plays
+given_keeps loaded fuel play whole (halt place t) plays e =
+    ap (λ x. Some (with_beside play.beside x)) (some_is _ whole e)
+
+pending_keeps : (loaded : Loaded) (line : List ℕ) (fuel : ℕ) (play : StateOfPlay) (whole : Whole) (p : Option Pending)
+    → turn_pending p line fuel play ≡ Some whole → is_fault whole.place ≡ false
+    → standard_pending loaded p line fuel play ≡ Some (with_beside play.beside whole)
+pending_keeps loaded line fuel play whole None e plays = absurd (cc)
+pending_keeps loaded line fuel play whole (Some pending) e plays =
+    given_keeps loaded fuel play whole (given pending line fuel (resumed play)) plays e
+
+pub standard_turn_on_keeps : (loaded : Loaded) (line : List ℕ) (fuel : ℕ) (play : StateOfPlay) (whole : Whole)
+    → turn_on line fuel play ≡ Some whole → is_fault whole.place ≡ false
+    → standard_turn_on loaded line fuel play ≡ Some (with_beside play.beside whole)
+unfolding turn_on standard_turn_on
+standard_turn_on_keeps loaded line fuel play whole e plays =
+    pending_keeps loaded line fuel play whole play.pending e plays

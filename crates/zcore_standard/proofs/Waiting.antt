@@ -1,30 +1,173 @@
--- A step of the Standard's machine that waits for a line leaves buffers that can be filled: it is one of the profile.
-use Rattle.std.proofs.Common.{◌≡◌, ℕ, List, [], ◌∷◌, drop, take, map, ◌-◌, refl, ap, Bool, true, false, cond, Option, Some, None}
-use Rattle.std.proofs.Common.{Result, Ok, Err, slice_index, length}
+-- A step of the Standard's machine that waits for a line leaves buffers that can be filled.
+use Rattle.std.proofs.Common.{◌≡◌, ℕ, ◌-◌, List, length, true, Option, Some, None}
+use Rattle.std.proofs.Common.{Result, Ok, Err, slice_index, slice_index_or, [], ◌∷◌, ◌+◌}
 use Rattle.std.specs.Prelude.{◌==◌, ◌&&◌, nat_le, nat_lt}
+use Rattle.zcore.specs.declared.instruction.Branch.{Branch}
 use Rattle.zcore.specs.declared.place.Fault.{Fault}
 use Rattle.zcore.specs.declared.place.Fault.TheVariants as faults
 use Rattle.zcore.specs.declared.place.Limit.TheVariants as limits
 use Rattle.zcore.specs.declared.place.Place.TheVariants as places
 use Rattle.zcore.specs.declared.next.Next.{Next}
-use Rattle.zcore.specs.State.{State, Out, done, halt, bound}
-use Rattle.zcore.specs.Parts.{test, spend, give_back}
+use Rattle.zcore.specs.State.{Frame, State, Out, done, halt}
+use Rattle.zcore.specs.Parts.{test, is_writable, is_code, can_store, returning, spend}
 use Rattle.zcore.specs.Effects.{give_result}
-use Rattle.zcore.specs.Execution.{step}
-use Rattle.zcore.proofs.Waiting.{step_waits}
 use Rattle.zcore.proofs.WaitingTests.{WaitsWell, Waits, waits_done, waits_fault, waits_limit, waits_then, waits_either}
 use Rattle.zcore.proofs.WaitingTests.{waits_bound, waits_chosen, waits_test}
-use Rattle.zcore.proofs.WaitingParts.{waits_operand_values, waits_give_back}
-use Rattle.zcore.proofs.WaitingEffects.{waits_give_result}
+use Rattle.zcore.proofs.WaitingParts.{waits_operand_values, waits_store_result, waits_goes_on, waits_write_word}
+use Rattle.zcore.proofs.WaitingEffects.{waits_branch_on, waits_give_result}
+use Rattle.zcore.proofs.WaitingOperations.{waits_read}
 use Rattle.zcore_standard.specs.declared.operations.Further.{Further}
-use Rattle.zcore_standard.specs.declared.operations.Further.TheVariants.{Restart, Throw, Random, SetWindow, OutputStream}
-use Rattle.zcore_standard.specs.declared.operations.Further.TheVariants.{LogShift}
-use Rattle.zcore_standard.specs.Place.{Stream, Here, on, within}
+use Rattle.zcore_standard.specs.declared.operations.Further.TheVariants as operations
+use Rattle.zcore_standard.specs.Place.{Here, Loaded, within}
 use Rattle.zcore_standard.specs.Operations.{further_at}
 use Rattle.zcore_standard.specs.Instruction.{Instruction, decode_further}
-use Rattle.zcore_standard.specs.Further.{rolled, character_of, is_table, with_table, onward, log_shift, random, set_window, open_stream, closed, close_stream, opens_to}
-use Rattle.zcore_standard.specs.Further.{output_stream, restart, throw, perform_further, execute_further}
+use Rattle.zcore_standard.specs.Shifts.{log_shift, art_shift}
+use Rattle.zcore_standard.specs.Dice.{rolled, random}
+use Rattle.zcore_standard.specs.Unicode.{transcript_of, print_whole, print_unicode, check_unicode}
+use Rattle.zcore_standard.specs.Flow.{restart, catch, frames_at, leave_frame, throw, verify}
+use Rattle.zcore_standard.specs.Screen.{get_cursor, set_font, is_memory_stream, output_stream}
+use Rattle.zcore_standard.specs.Further.{perform_keeping, perform_further, execute_further, words_of_table, one_row}
+use Rattle.zcore_standard.specs.Nothing.{step_known}
 use Rattle.zcore_standard.specs.Machine.{chosen, standard_step}
+use Rattle.zcore_standard.proofs.Known.{waits_step_known}
+use Rattle.zcore_standard.proofs.TableFacts.{waits_scan_table, waits_copy_table, waits_print_table}
+use Rattle.zcore_standard.proofs.WordFacts.{waits_tokenise, waits_encode_text}
+
+-- The operations that leave window and dice as they are
+
+waits_log_shift : (here : Next) (after : ℕ) (result : Option ℕ) (word places : ℕ)
+    → Waits (log_shift here after result word places)
+unfolding log_shift
+waits_log_shift here after result word places = waits_give_result here after result _
+
+waits_art_shift : (here : Next) (after : ℕ) (result : Option ℕ) (word places : ℕ)
+    → Waits (art_shift here after result word places)
+unfolding art_shift
+waits_art_shift here after result word places = waits_give_result here after result _
+
+waits_check_unicode : (characters : List ℕ) (here : Next) (after : ℕ) (result : Option ℕ) (code : ℕ)
+    → Waits (check_unicode characters here after result code)
+unfolding check_unicode
+waits_check_unicode characters here after result code = waits_give_result here after result _
+
+waits_print_whole : (bytes : List ℕ) → Waits (print_whole bytes)
+unfolding print_whole
+waits_print_whole bytes s t h = waits_either _ _ _ t (waits_done tt _ t) (waits_limit _ _ t) h
+
+waits_print_unicode : (here : Next) (after code : ℕ) → Waits (print_unicode here after code)
+unfolding print_unicode
+waits_print_unicode here after code =
+    waits_then _ _ (waits_print_whole (transcript_of code)) (λ _. waits_goes_on after here.fuel)
+
+waits_get_cursor : (here : Next) (after table : ℕ) → Waits (get_cursor here after table)
+unfolding get_cursor
+waits_get_cursor here after table =
+    waits_then _ _
+    (λ s t h. waits_test (is_writable s.memory table && is_writable s.memory (table + 3)) faults.Write s t h) (λ _.
+    waits_then _ _ (waits_write_word table 1) (λ _.
+    waits_then _ _ (waits_write_word (table + 2) 1) (λ _. waits_goes_on after here.fuel)))
+
+waits_set_font : (here : Next) (after : ℕ) (result : Option ℕ) (font : ℕ) → Waits (set_font here after result font)
+unfolding set_font
+waits_set_font here after result font = waits_give_result here after result _
+
+waits_output_stream : (here : Next) (after number : ℕ) → Waits (output_stream here after number)
+unfolding output_stream
+waits_output_stream here after number =
+    waits_chosen (is_memory_stream number) _ _ (λ s t h. waits_fault faults.Opcode s t h)
+    (waits_goes_on after here.fuel)
+
+waits_catch : (here : Next) (after : ℕ) (result : Option ℕ) → Waits (catch here after result)
+unfolding catch
+waits_catch here after result s t h = waits_give_result here after result (length s.frames - 1) s t h
+
+waits_verify : (loaded : Loaded) (here : Next) (after : ℕ) (branch : Option Branch)
+    → Waits (verify loaded here after branch)
+unfolding verify
+waits_verify loaded here after branch = waits_branch_on here after branch loaded.is_sum_right
+
+waits_can_store : (result : Option ℕ) (frames : List Frame) → Waits (can_store result frames)
+waits_can_store None frames s t h = waits_done tt s t h
+waits_can_store (Some variable) [] s t h = waits_fault _ s t h
+waits_can_store (Some variable) (f ∷ fs) s t h =
+    waits_either (variable == 0) _ _ t (waits_test _ _ s t) (waits_test _ _ s t) h
+
+waits_returning : (s t : State) (fs : List Frame) → returning s fs ≡ halt places.Waiting t → WaitsWell t
+waits_returning s t [] h = waits_fault _ s t h
+waits_returning s t (f ∷ []) h = waits_fault _ s t h
+waits_returning s t (f ∷ g ∷ fs) h =
+    waits_bound (can_store f.result (g ∷ fs) s) _ t (waits_can_store f.result (g ∷ fs) s) (λ _ u _ e.
+    waits_bound (test (is_code s.memory f.return_address) faults.Code u) _ t
+    (waits_test (is_code s.memory f.return_address) faults.Code u) (λ _ v _ d. waits_done _ v t d) e) h
+
+waits_leave_frame : (number : ℕ) → Waits (leave_frame number)
+unfolding leave_frame
+waits_leave_frame number s t h = waits_done tt _ t h
+
+waits_throw : (here : Next) (word number : ℕ) → Waits (throw here word number)
+unfolding throw
+waits_throw here word number =
+    waits_then _ _ (λ s t h. waits_test (nat_le 1 number && nat_lt number (length s.frames)) faults.Return s t h) (λ _.
+    waits_then _ _ (λ s t h. waits_returning s t (frames_at number s.frames) h) (λ caller.
+    waits_then _ _ (waits_leave_frame number) (λ _.
+    waits_then _ _ (waits_store_result caller.1 word) (λ _. waits_goes_on caller.0 here.fuel))))
+
+-- one case for each operation
+waits_perform_keeping : (loaded : Loaded) (operation : Further) (here : Next) (after : ℕ) (result : Option ℕ)
+    (branch : Option Branch) (values : List ℕ)
+    → Waits (perform_keeping loaded operation here after result branch values)
+unfolding perform_keeping
+waits_perform_keeping loaded operations.Catch here after result branch values = waits_catch here after result
+waits_perform_keeping loaded operations.Verify here after result branch values = waits_verify loaded here after branch
+waits_perform_keeping loaded operations.Piracy here after result branch values = waits_branch_on here after branch true
+waits_perform_keeping loaded operations.Throw here after result branch values = waits_throw here
+    (slice_index values 0) (slice_index values 1)
+waits_perform_keeping loaded operations.Read here after result branch values = waits_read here after result
+    (slice_index values 0) (slice_index_or values 1 0)
+waits_perform_keeping loaded operations.GetCursor here after result branch values = waits_get_cursor here after
+    (slice_index values 0)
+waits_perform_keeping loaded operations.OutputStream here after result branch values = waits_output_stream here after
+    (slice_index values 0)
+waits_perform_keeping loaded operations.ScanTable here after result branch values = waits_scan_table here after result
+    branch (slice_index values 0) (slice_index values 1) (slice_index values 2)
+    (slice_index_or values 3 words_of_table)
+waits_perform_keeping loaded operations.Tokenise here after result branch values = waits_tokenise here after
+    (slice_index values 0) (slice_index values 1) (slice_index_or values 2 0) (slice_index_or values 3 0)
+waits_perform_keeping loaded operations.EncodeText here after result branch values = waits_encode_text here after
+    (slice_index values 0) (slice_index values 1) (slice_index values 2) (slice_index_or values 3 0)
+waits_perform_keeping loaded operations.CopyTable here after result branch values = waits_copy_table here after
+    (slice_index values 0) (slice_index values 1) (slice_index values 2)
+waits_perform_keeping loaded operations.PrintTable here after result branch values = waits_print_table here after
+    (slice_index values 0) (slice_index values 1) (slice_index_or values 2 one_row) (slice_index_or values 3 0)
+waits_perform_keeping loaded operations.Save here after result branch values = waits_give_result here after result _
+waits_perform_keeping loaded operations.Restore here after result branch values = waits_give_result here after result _
+waits_perform_keeping loaded operations.LogShift here after result branch values = waits_log_shift here after result
+    (slice_index values 0) (slice_index values 1)
+waits_perform_keeping loaded operations.ArtShift here after result branch values = waits_art_shift here after result
+    (slice_index values 0) (slice_index values 1)
+waits_perform_keeping loaded operations.SetFont here after result branch values = waits_set_font here after result
+    (slice_index values 0)
+waits_perform_keeping loaded operations.SaveUndo here after result branch values = waits_give_result here after result _
+waits_perform_keeping loaded operations.RestoreUndo here after result branch values = waits_give_result here after
+    result _
+waits_perform_keeping loaded operations.PrintUnicode here after result branch values = waits_print_unicode here after
+    (slice_index values 0)
+waits_perform_keeping loaded operations.CheckUnicode here after result branch values = waits_check_unicode
+    loaded.characters here after result (slice_index values 0)
+waits_perform_keeping loaded operations.ShowStatus here after result branch values = waits_goes_on after here.fuel
+waits_perform_keeping loaded operations.SetColour here after result branch values = waits_goes_on after here.fuel
+waits_perform_keeping loaded operations.SplitWindow here after result branch values = waits_goes_on after here.fuel
+waits_perform_keeping loaded operations.EraseWindow here after result branch values = waits_goes_on after here.fuel
+waits_perform_keeping loaded operations.EraseLine here after result branch values = waits_goes_on after here.fuel
+waits_perform_keeping loaded operations.SetCursor here after result branch values = waits_goes_on after here.fuel
+waits_perform_keeping loaded operations.SetTextStyle here after result branch values = waits_goes_on after here.fuel
+waits_perform_keeping loaded operations.BufferMode here after result branch values = waits_goes_on after here.fuel
+waits_perform_keeping loaded operations.InputStream here after result branch values = waits_goes_on after here.fuel
+waits_perform_keeping loaded operations.SoundEffect here after result branch values = waits_goes_on after here.fuel
+waits_perform_keeping loaded operations.SetTrueColour here after result branch values = waits_goes_on after here.fuel
+waits_perform_keeping loaded _ here after result branch values = λ s t h. waits_fault faults.Opcode s t h
+
+-- Steps
 
 halt_within : (here : Here) (o : Out Next) (t : State) → within here o ≡ halt places.Waiting t
     → o ≡ halt places.Waiting t
@@ -34,28 +177,6 @@ halt_within here (halt x u) t h = cc
 waits_within : (here : Here) (f : State → Out Next) → Waits f → Waits (λ s. within here (f s))
 waits_within here f w s t h = w s t (halt_within here (f s) t h)
 
--- a test, and what goes on after it
-waits_tested : (b : Bool) (cause : Fault) (s t : State) (k : Unit {0} → State → Out Here)
-    → (k tt s ≡ halt places.Waiting t → WaitsWell t) → bound (test b cause s) k ≡ halt places.Waiting t → WaitsWell t
-waits_tested true cause s t k rest h = rest h
-waits_tested false cause s t k rest h = waits_fault cause s t h
-
-waits_spend : (fuel : ℕ) → Waits (spend fuel)
-unfolding spend
-waits_spend fuel s t h = waits_either (fuel == 0) _ _ t (waits_limit limits.Fuel s t) (waits_done (fuel - 1) s t) h
-
--- a part, and then something is done
-waits_before : (o : Out ℕ) (f : ℕ → State → Here) (g : ℕ → State → State) (t : State)
-    → (o ≡ halt places.Waiting t → WaitsWell t)
-    → bound o (λ a u. done (f a u) (g a u)) ≡ halt places.Waiting t → WaitsWell t
-waits_before (done a u) f g t v h = waits_done (f a u) (g a u) t h
-waits_before (halt x u) f g t v h = v (cc)
-
-waits_log_shift : (here : Here) (after : ℕ) (result : Option ℕ) (word n : ℕ)
-    → Waits (log_shift here after result word n)
-unfolding log_shift
-waits_log_shift here after result word n = waits_within here _ (waits_give_result here.next after result _)
-
 waits_random : (here : Here) (after : ℕ) (result : Option ℕ) (range : ℕ) → Waits (random here after result range)
 unfolding random
 waits_random here after result range =
@@ -63,77 +184,45 @@ waits_random here after result range =
     (give_result here.next after result (rolled range here.beside).0)
     (waits_give_result here.next after result (rolled range here.beside).0)
 
-waits_set_window : (here : Here) (after window : ℕ) → Waits (set_window here after window)
-unfolding set_window
-waits_set_window here after window s t h = waits_done _ _ t h
+waits_spend : (fuel : ℕ) → Waits (spend fuel)
+unfolding spend
+waits_spend fuel s t h = waits_either (fuel == 0) _ _ t (waits_limit limits.Fuel s t) (waits_done (fuel - 1) s t) h
 
-waits_closed : (here : Here) (after : ℕ) (streams : List Stream) → Waits (closed here after streams)
-waits_closed here after [] s t h = waits_done _ _ t h
-waits_closed here after (stream ∷ streams) s t h =
-    let characters : List ℕ = map character_of (drop stream.from s.text) in
-    waits_tested (is_table s.memory stream.table (length characters)) faults.Write s t
-    (λ _ u. onward (record here { streams = streams; hidden = stream.from }) after
-    (record u { memory = with_table u.memory stream.table characters; text = take stream.from u.text }))
-    (λ e. waits_done _ _ t e) h
-
-waits_close_stream : (here : Here) (after : ℕ) → Waits (close_stream here after)
-unfolding close_stream
-waits_close_stream here after s t h = waits_closed here after here.streams s t h
-
-waits_open_stream : (here : Here) (after table : ℕ) → Waits (open_stream here after table)
-unfolding open_stream
-waits_open_stream here after table =
-    waits_then _ _ (waits_test (nat_lt (length here.streams) 16) faults.Buffer) (λ _ s t h. waits_done _ _ t h)
-
-waits_opens_to : (here : Here) (after : ℕ) (tables : List ℕ) → Waits (opens_to here after tables)
-waits_opens_to here after [] s t h = waits_fault _ s t h
-waits_opens_to here after (table ∷ more) s t h = waits_open_stream here after table s t h
-
-waits_output_stream : (here : Here) (after number : ℕ) (tables : List ℕ)
-    → Waits (output_stream here after number tables)
-unfolding output_stream
-waits_output_stream here after number tables =
-    waits_chosen (number == 3) _ _ (waits_opens_to here after tables)
-    (waits_chosen (number == 65533) _ _ (waits_close_stream here after) (λ s t h. waits_done _ _ t h))
-
-waits_restart : (dynamic : List ℕ) (here : Here) → Waits (restart dynamic here)
+waits_restart : (loaded : Loaded) (here : Here) → Waits (restart loaded here)
 unfolding restart
-waits_restart dynamic here s t h =
-    waits_before (spend here.next.fuel s) _ _ t (waits_spend here.next.fuel s t) h
+waits_restart loaded here = waits_then _ _ (waits_spend here.next.fuel) (λ fuel s t h. waits_done _ _ t h)
 
-waits_throw : (here : Here) (word number : ℕ) → Waits (throw here word number)
-unfolding throw
-waits_throw here word number =
-    waits_then _ _ (λ s t h. waits_test (nat_le 1 number && nat_lt number (length s.frames)) faults.Return s t h)
-    (λ _ s t h. waits_give_back here.next.fuel word _ t (halt_within here _ t h))
+waits_keeping : (loaded : Loaded) (operation : Further) (here : Here) (after : ℕ) (result : Option ℕ)
+    (branch : Option Branch) (values : List ℕ)
+    → Waits (λ s. within here (perform_keeping loaded operation here.next after result branch values s))
+waits_keeping loaded operation here after result branch values =
+    waits_within here _ (waits_perform_keeping loaded operation here.next after result branch values)
 
-waits_perform_further : (dynamic : List ℕ) (operation : Further) (here : Here) (after : ℕ) (result : Option ℕ)
-    (values : List ℕ) → Waits (perform_further dynamic operation here after result values)
+waits_perform_further : (loaded : Loaded) (operation : Further) (here : Here) (after : ℕ) (result : Option ℕ)
+    (branch : Option Branch) (values : List ℕ)
+    → Waits (perform_further loaded operation here after result branch values)
 unfolding perform_further
-waits_perform_further dynamic Restart here after result values = waits_restart dynamic here
-waits_perform_further dynamic Throw here after result values = waits_throw here (slice_index values 0)
-    (slice_index values 1)
-waits_perform_further dynamic Random here after result values = waits_random here after result (slice_index values 0)
-waits_perform_further dynamic SetWindow here after result values = waits_set_window here after (slice_index values 0)
-waits_perform_further dynamic OutputStream here after result values = waits_output_stream here after
-    (slice_index values 0) (drop 1 values)
-waits_perform_further dynamic LogShift here after result values = waits_log_shift here after result
-    (slice_index values 0) (slice_index values 1)
+waits_perform_further loaded operations.Restart here after result branch values = waits_restart loaded here
+waits_perform_further loaded operations.Random here after result branch values = waits_random here after result
+    (slice_index values 0)
+waits_perform_further loaded operation here after result branch values = waits_keeping loaded operation here after
+    result branch values
 
-waits_execute_further : (dynamic : List ℕ) (operation : Further) (here : Here) (r : Result (Instruction × ℕ) Fault)
-    → Waits (execute_further dynamic operation here r)
-waits_execute_further dynamic operation here (Err cause) = λ s t h. waits_fault cause s t h
-waits_execute_further dynamic operation here (Ok x) = waits_then _ _ (waits_operand_values x.0.operands)
-    (λ values. waits_perform_further dynamic operation here x.1 x.0.result values)
+waits_execute_further : (loaded : Loaded) (operation : Further) (here : Here) (r : Result (Instruction × ℕ) Fault)
+    → Waits (execute_further loaded operation here r)
+waits_execute_further loaded operation here (Err cause) = λ s t h. waits_fault cause s t h
+waits_execute_further loaded operation here (Ok x) = waits_then _ _ (waits_operand_values x.0.operands)
+    (λ values. waits_perform_further loaded operation here x.1 x.0.result x.0.branch values)
 
-waits_chosen_step : (dynamic : List ℕ) (here : Here) (s t : State) (o : Option Further)
-    → chosen dynamic o here s ≡ halt places.Waiting t → WaitsWell t
-waits_chosen_step dynamic here s t None h = step_waits here.next s t (halt_within here (step here.next s) t h)
-waits_chosen_step dynamic here s t (Some operation) h =
-    waits_execute_further dynamic operation here (decode_further s.memory here.next.program_counter operation) s t h
+waits_chosen_step : (loaded : Loaded) (here : Here) (s t : State) (o : Option Further)
+    → chosen loaded o here s ≡ halt places.Waiting t → WaitsWell t
+waits_chosen_step loaded here s t None h = waits_step_known here.next s t
+    (halt_within here (step_known here.next s) t h)
+waits_chosen_step loaded here s t (Some operation) h =
+    waits_execute_further loaded operation here (decode_further s.memory here.next.program_counter operation) s t h
 
-pub standard_step_waits : (dynamic : List ℕ) (here : Here) (s t : State)
-    → standard_step dynamic here s ≡ halt places.Waiting t → WaitsWell t
+pub standard_step_waits : (loaded : Loaded) (here : Here) (s t : State)
+    → standard_step loaded here s ≡ halt places.Waiting t → WaitsWell t
 unfolding standard_step
-standard_step_waits dynamic here s t h =
-    waits_chosen_step dynamic here s t (further_at s.memory here.next.program_counter) h
+standard_step_waits loaded here s t h =
+    waits_chosen_step loaded here s t (further_at s.memory here.next.program_counter) h

@@ -1,173 +1,106 @@
--- What the further opcodes do (Z-Machine Standards Document 1.1, section 15).
-use Rattle.std.specs.Prelude.{◌==◌, ◌&&◌, ◌+◌, ◌-◌, ◌*◌, ◌/◌, ◌%◌, ◌^◌, ℕ, nat_le, nat_lt, min, Bool, if◌then◌else◌}
-use Rattle.std.specs.Prelude.{List, [], ◌∷◌, length, map, take, drop, slice_index, Option, Some, None, Result, Ok, Err}
+-- What the further operations do (Z-Machine Standards Document 1.1, section 15): one line for each.
+use Rattle.std.specs.Prelude.{ℕ, true, List, Option, Result, Ok, Err, slice_index_or}
+use Rattle.zcore.specs.declared.instruction.Branch.{Branch}
 use Rattle.zcore.specs.declared.place.Fault.{Fault}
 use Rattle.zcore.specs.declared.place.Fault.TheVariants as faults
-use Rattle.ztext.specs.Bytes.{word_at}
 use Rattle.zcore.specs.declared.next.Next.{Next}
-use Rattle.zcore.specs.Header.{static_base_of}
-use Rattle.zcore.specs.Layout.{header_size}
-use Rattle.zcore.specs.State.{State, Out, done, halt, bound, ◌>>=◌}
-use Rattle.zcore.specs.declared.beside.Beside.{Beside}
-use Rattle.zcore.specs.Parts.{fault, test, with_word, operand_values, spend, give_back}
+use Rattle.zcore.specs.State.{State, Out, ◌>>=◌}
+use Rattle.zcore.specs.Parts.{fault, operand_values, goes_on, branch_on}
 use Rattle.zcore.specs.Effects.{give_result}
-use Rattle.zcore.specs.Turn.{with_bytes, first_environment}
+use Rattle.zcore.specs.Execution.{first, second, third, read}
 use Rattle.zcore_standard.specs.declared.operations.Further.{Further}
-use Rattle.zcore_standard.specs.declared.operations.Further.TheVariants.{Restart, Throw, Random, SetWindow, OutputStream}
-use Rattle.zcore_standard.specs.declared.operations.Further.TheVariants.{LogShift}
-use Rattle.zcore_standard.specs.Place.{Stream, Here, on, within}
-use Rattle.zcore_standard.specs.Instruction.{Instruction, decode_further}
+use Rattle.zcore_standard.specs.declared.operations.Further.TheVariants.{Restart, Catch, ShowStatus, Verify, Piracy}
+use Rattle.zcore_standard.specs.declared.operations.Further.TheVariants.{SetColour, Throw, Read, Random, SplitWindow}
+use Rattle.zcore_standard.specs.declared.operations.Further.TheVariants.{EraseWindow, EraseLine, SetCursor}
+use Rattle.zcore_standard.specs.declared.operations.Further.TheVariants.{GetCursor, SetTextStyle, BufferMode}
+use Rattle.zcore_standard.specs.declared.operations.Further.TheVariants.{OutputStream, InputStream, SoundEffect}
+use Rattle.zcore_standard.specs.declared.operations.Further.TheVariants.{ScanTable, Tokenise, EncodeText}
+use Rattle.zcore_standard.specs.declared.operations.Further.TheVariants.{CopyTable, PrintTable, Save, Restore}
+use Rattle.zcore_standard.specs.declared.operations.Further.TheVariants.{LogShift, ArtShift, SetFont, SaveUndo}
+use Rattle.zcore_standard.specs.declared.operations.Further.TheVariants.{RestoreUndo, PrintUnicode, CheckUnicode}
+use Rattle.zcore_standard.specs.declared.operations.Further.TheVariants.{SetTrueColour}
+use Rattle.zcore_standard.specs.Place.{Here, Loaded, within}
+use Rattle.zcore_standard.specs.Instruction.{Instruction}
+use Rattle.zcore_standard.specs.Shifts.{log_shift, art_shift}
+use Rattle.zcore_standard.specs.Dice.{random}
+use Rattle.zcore_standard.specs.Unicode.{print_unicode, check_unicode}
+use Rattle.zcore_standard.specs.Flow.{restart, catch, throw, verify, failed, has_no_undo}
+use Rattle.zcore_standard.specs.Screen.{get_cursor, set_font, output_stream}
+use Rattle.zcore_standard.specs.Tables.{scan_table, copy_table, print_table}
+use Rattle.zcore_standard.specs.Words.{tokenise, encode_text}
 
--- goes on at an address
-abbrev pub onward : Here → ℕ → State → Out Here
-onward here after s = done (on here (record here.next { program_counter = after })) s
+-- the value of the fourth operand
+abbrev pub fourth : List ℕ → ℕ
+fourth values = slice_index_or values 3 0
 
--- log_shift
+-- Values of operands that are left out. Of `aread` and `tokenise` it is 0: no parse buffer, the story's dictionary, no
+-- flag.
 
--- a word whose bits are moved by a signed number of places: those that leave it are lost, and 0 comes in
-abbrev pub shifted : ℕ → ℕ → ℕ
-shifted word places =
-    if nat_lt places 32768 then word * 2 ^ min places 16 % 65536
-    else word / 2 ^ min (65536 - places) 16
+-- scan_table looks for words in a table of words
+abbrev pub words_of_table : ℕ
+words_of_table = 0x82
 
-unfoldable pub log_shift : Here → ℕ → Option ℕ → ℕ → ℕ → State → Out Here
-log_shift here after result word places s = within here (give_result here.next after result (shifted word places) s)
+-- print_table prints one row
+abbrev pub one_row : ℕ
+one_row = 1
 
--- random: the generator is that of frotz
+-- The operations that leave window and dice as they are, with the address after the instruction, the variable for the
+-- result, the branch, and the values of the operands. Windows and keys are not played yet: M1.
+unfoldable pub perform_keeping :
+    Loaded → Further → Next → ℕ → Option ℕ → Option Branch → List ℕ → State → Out Next
+perform_keeping loaded Catch here after result branch values = catch here after result
+perform_keeping loaded ShowStatus here after result branch values = goes_on after here.fuel
+perform_keeping loaded Verify here after result branch values = verify loaded here after branch
+perform_keeping loaded Piracy here after result branch values = branch_on here after branch true
+perform_keeping loaded SetColour here after result branch values = goes_on after here.fuel
+perform_keeping loaded Throw here after result branch values = throw here (first values) (second values)
+perform_keeping loaded Read here after result branch values = read here after result
+    (first values) (slice_index_or values 1 0)
+perform_keeping loaded SplitWindow here after result branch values = goes_on after here.fuel
+perform_keeping loaded EraseWindow here after result branch values = goes_on after here.fuel
+perform_keeping loaded EraseLine here after result branch values = goes_on after here.fuel
+perform_keeping loaded SetCursor here after result branch values = goes_on after here.fuel
+perform_keeping loaded GetCursor here after result branch values = get_cursor here after (first values)
+perform_keeping loaded SetTextStyle here after result branch values = goes_on after here.fuel
+perform_keeping loaded BufferMode here after result branch values = goes_on after here.fuel
+perform_keeping loaded OutputStream here after result branch values = output_stream here after (first values)
+perform_keeping loaded InputStream here after result branch values = goes_on after here.fuel
+perform_keeping loaded SoundEffect here after result branch values = goes_on after here.fuel
+perform_keeping loaded ScanTable here after result branch values = scan_table here after result branch
+    (first values) (second values) (third values) (slice_index_or values 3 words_of_table)
+perform_keeping loaded Tokenise here after result branch values = tokenise here after
+    (first values) (second values) (slice_index_or values 2 0) (fourth values)
+perform_keeping loaded EncodeText here after result branch values = encode_text here after
+    (first values) (second values) (third values) (fourth values)
+perform_keeping loaded CopyTable here after result branch values = copy_table here after
+    (first values) (second values) (third values)
+perform_keeping loaded PrintTable here after result branch values = print_table here after
+    (first values) (second values) (slice_index_or values 2 one_row) (fourth values)
+perform_keeping loaded Save here after result branch values = give_result here after result failed
+perform_keeping loaded Restore here after result branch values = give_result here after result failed
+perform_keeping loaded LogShift here after result branch values = log_shift here after result
+    (first values) (second values)
+perform_keeping loaded ArtShift here after result branch values = art_shift here after result
+    (first values) (second values)
+perform_keeping loaded SetFont here after result branch values = set_font here after result (first values)
+perform_keeping loaded SaveUndo here after result branch values = give_result here after result has_no_undo
+perform_keeping loaded RestoreUndo here after result branch values = give_result here after result failed
+perform_keeping loaded PrintUnicode here after result branch values = print_unicode here after (first values)
+perform_keeping loaded CheckUnicode here after result branch values = check_unicode loaded.characters here after result
+    (first values)
+perform_keeping loaded SetTrueColour here after result branch values = goes_on after here.fuel
+perform_keeping loaded _ here after result branch values = fault faults.Opcode
 
--- the 32 bits that come next
-abbrev pub stirred : ℕ → ℕ
-stirred random = (random * 22695477 + 1) % 4294967296
+-- any further operation
+unfoldable pub perform_further :
+    Loaded → Further → Here → ℕ → Option ℕ → Option Branch → List ℕ → State → Out Here
+perform_further loaded Restart here after result branch values = restart loaded here
+perform_further loaded Random here after result branch values = random here after result (first values)
+perform_further loaded operation here after result branch values = λ s.
+    within here (perform_keeping loaded operation here.next after result branch values s)
 
--- a number of a range that is at least 1, and the dice after it
-abbrev pub thrown : ℕ → Beside → ℕ × Beside
-thrown range b =
-    if b.interval == 0
-    then (1 + stirred b.random / 65536 % 32768 % range, record b { random = stirred b.random })
-    else (1 + b.counter % range, record b { counter = (b.counter + 1) % b.interval })
-
--- 0 ends counting; a negative range above -1000 begins it, and another sets the 32 bits
-abbrev pub rolled : ℕ → Beside → ℕ × Beside
-rolled range b =
-    if range == 0 then (0, record b { interval = 0; counter = 0 })
-    else (if nat_lt range 32768 then thrown range b
-    else (if nat_lt 64536 range then (0, record b { interval = 65536 - range; counter = 0 })
-    else (0, record b { random = 65536 - range; interval = 0; counter = 0 })))
-
-unfoldable pub random : Here → ℕ → Option ℕ → ℕ → State → Out Here
-random here after result range s =
-    within (record here { beside = (rolled range here.beside).1 })
-    (give_result here.next after result (rolled range here.beside).0 s)
-
--- set_window
-
--- how much of a text stands when what the upper window was given is dropped; what an open stream was given is not
-abbrev pub seen_of : Here → ℕ → ℕ
-seen_of here long = if here.beside.window == 1 && length here.streams == 0 then min here.hidden long else long
-
-abbrev pub without_hidden : Here → State → State
-without_hidden here s = record s { text = take (seen_of here (length s.text)) s.text }
-
-unfoldable pub set_window : Here → ℕ → ℕ → State → Out Here
-set_window here after window s =
-    onward
-    (record here {
-      beside = record here.beside { window = if window == 0 then 0 else 1 };
-      hidden = seen_of here (length s.text);
-    })
-    after (without_hidden here s)
-
--- output_stream
-
--- what a byte of the transcript was as a character
-abbrev pub character_of : ℕ → ℕ
-character_of byte = if byte == 10 then 13 else byte
-
--- at most 16 streams are open
-unfoldable pub open_stream : Here → ℕ → ℕ → State → Out Here
-open_stream here after table = do
-  _ ← test (nat_lt (length here.streams) 16) faults.Buffer
-  (λ s. onward
-      (record here { streams = record { table = table; from = seen_of here (length s.text) } ∷ here.streams })
-      after (without_hidden here s))
-
--- a table of so many characters lies in dynamic memory behind the header
-abbrev pub is_table : List ℕ → ℕ → ℕ → Bool
-is_table memory table count = nat_le header_size table && nat_le (table + 2 + count) (static_base_of memory)
-
-abbrev pub with_table : List ℕ → ℕ → List ℕ → List ℕ
-with_table memory table characters = with_bytes (with_word memory table (length characters)) (table + 2) characters
-
--- what the stream was given goes from the text to its table
-abbrev pub closed : Here → ℕ → List Stream → State → Out Here
-closed here after [] s = onward here after s
-closed here after (stream ∷ streams) s =
-    let characters = map character_of (drop stream.from s.text) in
-    bound (test (is_table s.memory stream.table (length characters)) faults.Write s)
-    (λ _ t. onward (record here { streams = streams; hidden = stream.from }) after
-    (record t { memory = with_table t.memory stream.table characters; text = take stream.from t.text }))
-
-unfoldable pub close_stream : Here → ℕ → State → Out Here
-close_stream here after s = closed here after here.streams s
-
--- the table of the memory stream, where one is given
-abbrev pub opens_to : Here → ℕ → List ℕ → State → Out Here
-opens_to here after [] = fault faults.Opcode
-opens_to here after (table ∷ more) = open_stream here after table
-
-unfoldable pub output_stream : Here → ℕ → ℕ → List ℕ → State → Out Here
-output_stream here after number tables =
-    if number == 3 then opens_to here after tables
-    else (if number == 65533 then close_stream here after
-    else onward here after)
-
--- restart
-
--- how much of the text stands when all streams are dropped
-abbrev pub heard_of : Here → List Stream → ℕ → ℕ
-heard_of here [] long = seen_of here long
-heard_of here (stream ∷ streams) long = min stream.from (heard_of here streams long)
-
--- dynamic memory is as it was loaded, and the dice stay
-unfoldable pub restart : List ℕ → Here → State → Out Here
-restart dynamic here s =
-    bound (spend here.next.fuel s)
-    (λ fuel t. done
-    (record {
-      next = record { program_counter = word_at dynamic 6; fuel = fuel };
-      beside = record here.beside { window = 0 };
-      streams = [];
-      hidden = 0;
-    })
-    (record {
-      memory = with_bytes t.memory 0 dynamic;
-      frames = first_environment ∷ [];
-      pending = None;
-      text = take (heard_of here here.streams (length t.text)) t.text;
-    }))
-
--- throw
-
--- the frames up to that of a number are left, which counts the calls that are open with it
-unfoldable pub throw : Here → ℕ → ℕ → State → Out Here
-throw here word number = do
-  _ ← (λ s. test (nat_le 1 number && nat_lt number (length s.frames)) faults.Return s)
-  (λ s. within here (give_back here.next.fuel word
-      (record s { frames = drop (length s.frames - 1 - number) s.frames })))
-
--- an operation on the values of its operands, in a story whose dynamic memory was loaded so
-unfoldable pub perform_further : List ℕ → Further → Here → ℕ → Option ℕ → List ℕ → State → Out Here
-perform_further dynamic Restart here after result values = restart dynamic here
-perform_further dynamic Throw here after result values = throw here (slice_index values 0) (slice_index values 1)
-perform_further dynamic Random here after result values = random here after result (slice_index values 0)
-perform_further dynamic SetWindow here after result values = set_window here after (slice_index values 0)
-perform_further dynamic OutputStream here after result values =
-    output_stream here after (slice_index values 0) (drop 1 values)
-perform_further dynamic LogShift here after result values =
-    log_shift here after result (slice_index values 0) (slice_index values 1)
-
-abbrev pub execute_further : List ℕ → Further → Here → Result (Instruction × ℕ) Fault → State → Out Here
-execute_further dynamic operation here (Err cause) = fault cause
-execute_further dynamic operation here (Ok x) = do
+abbrev pub execute_further : Loaded → Further → Here → Result (Instruction × ℕ) Fault → State → Out Here
+execute_further loaded operation here (Err cause) = fault cause
+execute_further loaded operation here (Ok x) = do
   values ← operand_values x.0.operands
-  perform_further dynamic operation here x.1 x.0.result values
+  perform_further loaded operation here x.1 x.0.result x.0.branch values

@@ -1,24 +1,62 @@
 -- The laws of the Standard's machine that functions of `laws` carry as their contracts.
-use Rattle.std.specs.Prelude.{◌≡◌, ℕ, List, Some}
-use Rattle.zcore.specs.State.{State, done}
+use Rattle.std.specs.Prelude.{◌≡◌, ℕ, Bool, true, false, not, List, Some, map}
+use Rattle.std.specs.List.{list_all}
+use Rattle.zcore.specs.State.{State, Out, done, halt}
+use Rattle.zcore.specs.declared.beside.Beside.{Beside}
 use Rattle.zcore.specs.declared.next.Next.{Next}
+use Rattle.zcore.specs.declared.place.Place.{Place}
+use Rattle.zcore.specs.declared.place.Place.TheVariants as places
 use Rattle.zcore.specs.Execution.{step}
-use Rattle.zcore.specs.Turn.{Whole, TurnsBy}
-use Rattle.zcore_standard.specs.Place.{Here, on}
-use Rattle.zcore_standard.specs.Machine.{standard, standard_step, standard_turn}
+use Rattle.zcore.specs.Turn.{StateOfPlay, Whole, TurnsBy, turn_from, turn_on, plays, plays_of}
+use Rattle.zcore_standard.specs.Place.{Here, Loaded, within}
+use Rattle.zcore_standard.specs.Machine.{standard, standard_step, standard_turn, standard_turn_on, begins, by_standard}
+use Rattle.zcore_standard.specs.Machine.{with_beside}
 
--- a turn comes to a whole state, to this one alone, and within its weight
-pub record EndsOneWay (dynamic : List ℕ) (here : Here) (s : State) : Type 0 where
+-- a turn ends in a whole state, in this one only, and within its weight
+pub record EndsOneWay (loaded : Loaded) (here : Here) (s : State) : Type 0 where
   pub whole : Whole
-  pub ends : TurnsBy (standard dynamic) here s whole
-  pub found : standard_turn dynamic here s ≡ Some whole
-  pub only : (other : Whole) → TurnsBy (standard dynamic) here s other → other ≡ whole
+  pub ends : TurnsBy (standard loaded) here s whole
+  pub found : standard_turn loaded here s ≡ Some whole
+  pub only : (other : Whole) → TurnsBy (standard loaded) here s other → other ≡ whole
 
 abbrev pub EveryStandardTurnEnds : Type 0
-EveryStandardTurnEnds = (dynamic : List ℕ) (here : Here) (s : State) → EndsOneWay dynamic here s
+EveryStandardTurnEnds = (loaded : Loaded) (here : Here) (s : State) → EndsOneWay loaded here s
 
--- what the profile plays without a fault, is played the same
+abbrev pub is_fault : Place → Bool
+is_fault (places.Fault cause) = true
+is_fault _ = false
+
+abbrev pub ends_in_fault : {H : Type 0} → Out H → Bool
+ends_in_fault (done next s) = false
+ends_in_fault (halt place s) = is_fault place
+
+-- a step of the profile that meets no fault is the Standard's step, and leaves window and dice as they are
+abbrev pub KeepsWhatTheProfileSteps : Type 0
+KeepsWhatTheProfileSteps =
+    (loaded : Loaded) (here : Here) (s : State) → ends_in_fault (step here.next s) ≡ false
+    → standard_step loaded here s ≡ within here (step here.next s)
+
+-- A turn of the profile that ends in no fault is the Standard's turn: with the same text, memory, frames, place and
+-- program counter, and with the window and the dice that it began with.
 abbrev pub KeepsWhatTheProfilePlays : Type 0
 KeepsWhatTheProfilePlays =
-    (dynamic : List ℕ) (here : Here) (s t : State) (next : Next) → step here.next s ≡ done next t
-    → standard_step dynamic here s ≡ done (on here next) t
+    (loaded : Loaded) (beside : Beside) (next : Next) (s : State) (whole : Whole) → turn_from next s ≡ Some whole
+    → is_fault whole.place ≡ false → standard_turn loaded (begins beside next) s ≡ Some (with_beside beside whole)
+
+-- and so is the turn of a line
+abbrev pub KeepsWhatTheProfileAnswers : Type 0
+KeepsWhatTheProfileAnswers =
+    (loaded : Loaded) (line : List ℕ) (fuel : ℕ) (play : StateOfPlay) (whole : Whole)
+    → turn_on line fuel play ≡ Some whole → is_fault whole.place ≡ false
+    → standard_turn_on loaded line fuel play ≡ Some (with_beside play.beside whole)
+
+-- no turn of these ends in a fault
+abbrev pub have_no_fault : List Whole → Bool
+have_no_fault wholes = list_all (λ whole. not (is_fault whole.place)) wholes
+
+-- A run over lines in which the profile meets no fault is the Standard's run of the same memory, turn by turn.
+abbrev pub KeepsWhatTheProfileRuns : Type 0
+KeepsWhatTheProfileRuns =
+    (loaded : Loaded) (story : List ℕ) (fuel : ℕ) (lines : List (List ℕ))
+    → have_no_fault (plays story fuel lines) ≡ true
+    → plays_of (by_standard loaded story fuel) lines ≡ map (with_beside loaded.dice) (plays story fuel lines)

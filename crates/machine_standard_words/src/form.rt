@@ -1,0 +1,135 @@
+//! The form of a word in a dictionary (Z-Machine Standards Document 1.1, sections 3.7 and 13.3).
+
+ghost use Rattle.std.specs.Prelude.{◌≡◌, ◌<◌, ◌≤◌, ◌++◌, ℕ, List, length, take, MatchOption, ⊤};
+ghost use Rattle.ztext.specs.Alphabets as spec;
+ghost use Rattle.ztext.specs.TextParts.{AreSmall, IsFilledKey};
+ghost use Rattle.ztext.specs.Words as words;
+ghost use Rattle.zcore_standard.specs.Words as definitions;
+
+/// Alphabet A2, from Z-character 8 on.
+static PUNCTUATION: [u8; 24] = *b"0123456789.,!?_#'\"/\\-:()";
+
+/// The Z-characters of a character: the first `length` of `characters`.
+#[derive(Clone, Copy)]
+struct ZCharacters {
+    characters: [u8; 4],
+    length: usize,
+    ghost length_fits: { length ≤ 4 },
+}
+
+impl ZCharacters {
+    fn as_slice(&self) -> &[u8]
+        ensures { result.now ≡ take self.now.length self.now.characters }
+    {
+        &self.characters[..self.length]
+    }
+}
+
+fn place_in(letters: &[u8], c: u8) -> Option<usize>
+    ensures found { result ≡ spec.place_in letters.now c }
+    ensures within { MatchOption result ⊤ (λ place. place < length letters.now) }
+{
+    letters.iter().position(|letter| *letter == c)
+}
+
+/// How a character is spelled that is no letter, no space and no new line.
+fn sign_spelling(c: u8) -> ZCharacters
+    ensures { take result.length result.characters
+        ≡ spec.spelling_in_punctuation (spec.place_in spec.punctuation c) c }
+{
+    match place_in(&PUNCTUATION, c) {
+        Some(place) => ZCharacters {
+            characters: [5, place as u8 + 8, 5, 5],
+            length: 2,
+        },
+        None => ZCharacters {
+            characters: [5, 6, c / 32, c % 32],
+            length: 4,
+        },
+    }
+}
+
+/// How a character is spelled: in the first alphabet that has it, or else as an escape.
+#[tactic(auto, using(ztext::proofs::Spelling::space_spelling, ztext::proofs::Spelling::lower_spelling, ztext::proofs::Spelling::upper_spelling, ztext::proofs::Spelling::line_spelling, ztext::proofs::Spelling::sign_spelling))]
+fn spelling(c: u8) -> ZCharacters
+    ensures { take result.length result.characters ≡ spec.spelling_of c }
+{
+    if c >= b'a' && c <= b'z' {
+        return ZCharacters {
+            characters: [c - b'a' + 6, 5, 5, 5],
+            length: 1,
+        };
+    }
+    if c == b' ' {
+        return ZCharacters {
+            characters: [0, 5, 5, 5],
+            length: 1,
+        };
+    }
+    if c >= b'A' && c <= b'Z' {
+        return ZCharacters {
+            characters: [4, c - b'A' + 6, 5, 5],
+            length: 2,
+        };
+    }
+    if c == b'\r' {
+        return ZCharacters {
+            characters: [5, 7, 5, 5],
+            length: 2,
+        };
+    }
+    sign_spelling(c)
+}
+
+/// Adds the Z-characters of a character to the first `count` of nine, as far as there is room, and
+/// answers how many there are then.
+fn put_spelling(characters: &mut [u8; 9], count: usize, c: u8) -> usize
+    requires { count ≤ 9 }
+    ensures { (zs : List ℕ) → IsFilledKey zs count characters.old
+        → IsFilledKey (zs ++ spec.spelling_of c) result characters.new }
+{
+    let mut filled = count;
+    for z in spelling(c).as_slice() {
+        if filled < 9 {
+            characters[filled] = *z;
+            filled += 1;
+        }
+    }
+    filled
+}
+
+/// The two bytes of three Z-characters. `mark` is 128 in the last word of a text, or else 0.
+fn word_bytes(mark: u8, a: u8, b: u8, c: u8) -> [u8; 2]
+    requires top { mark ≤ 128 }
+    requires first { a < 32 }
+    requires second { b < 32 }
+    requires third { c < 32 }
+    ensures { result ≡ words.word_of mark a b c }
+{
+    [mark + a * 4 + b / 8, (b % 8) * 32 + c]
+}
+
+/// Nine Z-characters in three words.
+fn packed(characters: &[u8; 9]) -> [u8; 6]
+    requires { AreSmall characters.now }
+    ensures { result ≡ words.packed characters.now }
+{
+    let [a, b] = word_bytes(0, characters[0], characters[1], characters[2]);
+    let [c, d] = word_bytes(0, characters[3], characters[4], characters[5]);
+    let [e, f] = word_bytes(128, characters[6], characters[7], characters[8]);
+    [a, b, c, d, e, f]
+}
+
+/// The form of a word in a dictionary: its first nine Z-characters, filled with fives, in three
+/// words. Capitals stay capitals. Every word has a form, whatever its bytes, and none asks for
+/// memory.
+pub(crate) fn form_of(word: &[u8]) -> [u8; 6]
+    ensures { result ≡ definitions.form_of word.now }
+{
+    let mut characters = [5; 9];
+    let mut count = 0;
+    for c in word {
+        count = put_spelling(&mut characters, count, *c);
+    }
+    packed(&characters)
+}

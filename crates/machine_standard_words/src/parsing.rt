@@ -1,0 +1,128 @@
+//! The words of a text in memory (Z-Machine Standards Document 1.1, section 15, `tokenise`).
+
+ghost use Rattle.std.specs.Prelude.{◌≡◌, true, OnOk, OnErr};
+ghost use Rattle.zcore.specs.Header.{dictionary_of, static_base_of};
+ghost use Rattle.zcore_standard.specs.Words as definitions;
+ghost use Rattle.machine_frames.specs.Contents.{memory_of};
+ghost use Rattle.machine_frames.specs.States.{IsStoreOf};
+ghost use Rattle.machine_frames.specs.Went.{GivenUp, Went};
+ghost use Rattle.machine_lines.specs.Lines.{Filled};
+
+use crate::fill::fill_counted;
+use crate::search::is_dictionary;
+use crate::slots::{SLOTS_LENGTH, Search, slots};
+use journal::{NoMemory, Recorded};
+use machine_frames::{End, Store};
+use zcore::layout::{HEADER_LENGTH, READABLE};
+use zcore::{Fault, Header, Next, Place};
+
+/// Cuts the letters of a text buffer into words, looks them up, and fills the slots of a parse
+/// buffer: `tokenise`. Dictionary 0 is the story's. With the flag (not 0) a word that is not found
+/// leaves its slot as it is. Letters are looked up as they are: capitals stay capitals.
+///
+/// # Errors
+///
+/// M3 where the letters do not end in readable memory; then M12 where the slots are not in dynamic
+/// memory after the header; then M3 where the dictionary cannot be read. `End::Memory` where memory
+/// was refused: the turn is given up.
+pub fn tokenise(
+    header: &Header,
+    store: &mut Recorded<Store>,
+    here: Next,
+    after: u32,
+    text: u16,
+    parse: u16,
+    dictionary: u16,
+    flag: u16,
+) -> Result<Next, End>
+    requires { IsStoreOf header.now store.old.store }
+    ensures { Went result store.old store.new
+        (definitions.tokenise here after text parse dictionary flag) }
+{
+    let memory = store.store().memory();
+    let search = search_for(header, dictionary, flag);
+    if !has_letters(memory, text) {
+        return Err(End::Stop(Place::Fault(Fault::Read)));
+    }
+    if !has_slots(memory, header.static_base, parse) {
+        return Err(End::Stop(Place::Fault(Fault::Buffer)));
+    }
+    if !is_dictionary(memory, search.dictionary) {
+        return Err(End::Stop(Place::Fault(Fault::Read)));
+    }
+    fill_slots(header, store, search, text, parse)?;
+    Ok(Next {
+        program_counter: after,
+        fuel: here.fuel,
+    })
+}
+
+/// How words are looked up in the dictionary that an operand names: 0 is the story's.
+fn search_for(header: &Header, dictionary: u16, flag: u16) -> Search
+    ensures dictionary { (memory : _) → header.now.dictionary.address ≡ dictionary_of memory
+        → result.dictionary ≡ definitions.dictionary_for memory dictionary }
+    ensures story { result.is_story ≡ true → result.dictionary ≡ header.now.dictionary.address }
+    ensures flag { result.flag ≡ flag }
+{
+    let own = header.dictionary.address;
+    let address = if dictionary == 0 { own } else { dictionary };
+    Search {
+        dictionary: address,
+        is_story: address == own,
+        flag,
+    }
+}
+
+/// Whether the letters of a text buffer end in readable memory.
+fn has_letters(memory: &[u8], text: u16) -> bool
+    ensures { result ≡ definitions.has_letters memory.now text }
+{
+    let end = memory.len().min(READABLE);
+    let letters = text as usize + 2;
+    letters <= end && letters + memory[letters - 1] as usize <= end
+}
+
+/// Whether the slots of a parse buffer are in dynamic memory after the header, in a story with this
+/// static base.
+fn has_slots(memory: &[u8], static_base: u16, parse: u16) -> bool
+    requires base { static_base ≡ static_base_of memory.now }
+    requires within { static_base ≤ length memory.now }
+    ensures { result ≡ definitions.has_slots memory.now parse }
+{
+    let at = parse as usize;
+    let end = static_base as usize;
+    HEADER_LENGTH <= at && at < end && at + 2 + 4 * memory[at] as usize <= end
+}
+
+/// Fills the slots of a parse buffer. The words are found before a byte is written.
+fn fill_slots(
+    header: &Header,
+    store: &mut Recorded<Store>,
+    search: Search,
+    text: u16,
+    parse: u16,
+) -> Result<(), NoMemory>
+    requires store { IsStoreOf header.now store.old.store }
+    requires letters { definitions.has_letters (memory_of store.old.store) text ≡ true }
+    requires slots { definitions.has_slots (memory_of store.old.store) parse ≡ true }
+    requires dictionary { definitions.is_dictionary (memory_of store.old.store) search.dictionary ≡ true }
+    requires story { search.is_story ≡ true → search.dictionary ≡ header.now.dictionary.address }
+    ensures filled { OnOk result (Filled store.old store.new
+        (definitions.with_slots (memory_of store.old.store) text parse search.dictionary search.flag)) }
+    ensures given_up { OnErr result (GivenUp store.old store.new) }
+{
+    let memory = store.store().memory();
+    let letters = text as usize + 2;
+    let count = memory[letters - 1] as usize;
+    let slot = parse as usize + 2;
+    let mut bytes = [0; SLOTS_LENGTH];
+    let words = slots(
+        memory,
+        search,
+        &memory[letters..letters + count],
+        memory[parse as usize],
+        slot,
+        &mut bytes,
+    );
+    fill_counted(store, slot - 1, words, &bytes[..4 * words as usize])
+}

@@ -1,0 +1,134 @@
+-- Words of a text, and their form in a dictionary (Z-Machine Standards Document 1.1, section 13, and section 15,
+-- `tokenise` and `encode_text`).
+use Rattle.std.specs.Prelude.{◌==◌, ◌&&◌, ◌||◌, ◌+◌, ◌-◌, ◌*◌, ◌/◌, ◌%◌, ℕ, nat_le, Bool, if◌then◌else◌}
+use Rattle.std.specs.Prelude.{List, [], ◌∷◌, ◌++◌, length, take, replicate, slice_index, slice_range}
+use Rattle.zcore.specs.declared.next.Next.{Next}
+use Rattle.zcore.specs.declared.place.Fault.TheVariants as faults
+use Rattle.ztext.specs.Alphabets.{spelled}
+use Rattle.ztext.specs.Words.{packed}
+use Rattle.zcore.specs.Arithmetic.{magnitude}
+use Rattle.zcore.specs.Header.{dictionary_of, static_base_of, static_end, entry_length_of, entry_count, first_entry}
+use Rattle.zcore.specs.Layout.{header_size, key_size}
+use Rattle.zcore.specs.Cutting.{Word}
+use Rattle.zcore.specs.Dictionary.{number_of_key, entry_in}
+use Rattle.zcore.specs.Parsing.{first_words}
+use Rattle.zcore.specs.State.{State, Out, done, ◌>>=◌}
+use Rattle.zcore.specs.Parts.{test, fault, goes_on}
+use Rattle.zcore.specs.Turn.{with_bytes}
+
+-- whether so many bytes from an address on can be read
+abbrev pub are_readable : List ℕ → ℕ → ℕ → Bool
+are_readable memory at count = (count == 0) || nat_le (at + count) (static_end memory)
+
+-- whether so many bytes from an address on can be written
+abbrev pub are_writable : List ℕ → ℕ → ℕ → Bool
+are_writable memory at count = nat_le header_size at && nat_le (at + count) (static_base_of memory)
+
+-- The form of a word in a dictionary: its first nine Z-characters, filled with fives (13.3). A capital is not made a
+-- small letter here: `aread` does that, where a line is typed.
+unfoldable pub form_of : List ℕ → List ℕ
+form_of word = packed (take 9 (spelled word ++ replicate 9 5))
+
+-- tokenise
+
+-- the dictionary that an operand names: 0 is the story's
+abbrev pub dictionary_for : List ℕ → ℕ → ℕ
+dictionary_for memory dictionary = if dictionary == 0 then dictionary_of memory else dictionary
+
+-- how many entries a dictionary has; a negative number is of entries in no order
+abbrev pub entries_in : List ℕ → ℕ → ℕ
+entries_in memory dictionary = magnitude (entry_count memory dictionary)
+
+-- where the key of the last entry ends
+abbrev pub keys_end : List ℕ → ℕ → ℕ
+keys_end memory dictionary =
+    first_entry memory dictionary + (entries_in memory dictionary - 1) * entry_length_of memory dictionary + key_size
+
+-- whether a dictionary can be read: what comes before its entries, and the key of each
+abbrev pub is_dictionary : List ℕ → ℕ → Bool
+is_dictionary memory dictionary =
+    nat_le (first_entry memory dictionary) (static_end memory)
+    && ((entries_in memory dictionary == 0) || nat_le (keys_end memory dictionary) (static_end memory))
+
+unfoldable pub test_dictionary : ℕ → State → Out (Unit {0})
+test_dictionary dictionary s = test (is_dictionary s.memory (dictionary_for s.memory dictionary)) faults.Read s
+
+-- A text buffer has the number of its letters in byte 1, and the letters from byte 2 on.
+abbrev pub letters_in : List ℕ → ℕ → List ℕ
+letters_in memory text = slice_range memory (text + 2) (text + 2 + slice_index memory (text + 1))
+
+abbrev pub has_letters : List ℕ → ℕ → Bool
+has_letters memory text = nat_le (text + 2 + slice_index memory (text + 1)) (static_end memory)
+
+unfoldable pub test_letters : ℕ → State → Out (Unit {0})
+test_letters text s = test (has_letters s.memory text) faults.Read s
+
+-- A parse buffer has a slot of four bytes for each of as many words as its byte 0 says, from byte 2 on. It is in dynamic
+-- memory, after the header.
+abbrev pub has_slots : List ℕ → ℕ → Bool
+has_slots memory parse = are_writable memory parse (2 + 4 * slice_index memory parse)
+
+unfoldable pub test_slots : ℕ → State → Out (Unit {0})
+test_slots parse s = test (has_slots s.memory parse) faults.Buffer s
+
+-- the address of the first entry that has the form of a word, or 0
+unfoldable pub entry_with_form : List ℕ → ℕ → List ℕ → ℕ
+entry_with_form memory dictionary word =
+    entry_in memory (first_entry memory dictionary) (entry_length_of memory dictionary) (entries_in memory dictionary)
+    (number_of_key (form_of word))
+
+-- the four bytes of a word: the address of its entry, its length, and its place in the text buffer
+abbrev pub four_bytes : ℕ → Word → List ℕ
+four_bytes entry w = (entry / 256) ∷ (entry % 256) ∷ length w.bytes ∷ ((w.place + 2) % 256) ∷ []
+
+-- the slot of a word, at an address: with the flag, a word that is not found leaves the bytes that are there
+abbrev pub slot_bytes : List ℕ → ℕ → ℕ → ℕ → Word → List ℕ
+slot_bytes memory dictionary flag at w =
+    if (entry_with_form memory dictionary w.bytes == 0) && nat_le 1 flag then slice_range memory at (at + 4)
+    else four_bytes (entry_with_form memory dictionary w.bytes) w
+
+-- the slots of words, from an address on
+abbrev pub slots_bytes : List ℕ → ℕ → ℕ → ℕ → List Word → List ℕ
+slots_bytes memory dictionary flag at [] = []
+slots_bytes memory dictionary flag at (w ∷ ws) =
+    slot_bytes memory dictionary flag at w ++ slots_bytes memory dictionary flag (at + 4) ws
+
+-- The first words of a text, as many as there are slots: their number goes to byte 1 of the parse buffer, and then each
+-- fills its slot. Everything is read in the memory as it was.
+abbrev pub with_slots : List ℕ → ℕ → ℕ → ℕ → ℕ → List ℕ
+with_slots memory text parse dictionary flag =
+    let words = first_words memory dictionary (letters_in memory text) (slice_index memory parse) in
+    with_bytes memory (parse + 1) (length words ∷ slots_bytes memory dictionary flag (parse + 2) words)
+
+unfoldable pub fill_slots : ℕ → ℕ → ℕ → ℕ → State → Out (Unit {0})
+fill_slots text parse dictionary flag s = done tt
+    (record s { memory = with_slots s.memory text parse (dictionary_for s.memory dictionary) flag })
+
+-- all its tests come before a byte is written
+unfoldable pub tokenise : Next → ℕ → ℕ → ℕ → ℕ → ℕ → State → Out Next
+tokenise here after text parse dictionary flag = do
+  _ ← test_letters text
+  _ ← test_slots parse
+  _ ← test_dictionary dictionary
+  _ ← fill_slots text parse dictionary flag
+  goes_on after here.fuel
+
+-- encode_text
+
+-- the form of a word that has so many characters from an address on
+unfoldable pub form_at : ℕ → ℕ → State → Out (List ℕ)
+form_at at count s =
+    if are_readable s.memory at count then done (form_of (slice_range s.memory at (at + count))) s
+    else fault faults.Read s
+
+unfoldable pub write_bytes : ℕ → List ℕ → State → Out (Unit {0})
+write_bytes at bytes s =
+    if are_writable s.memory at (length bytes) then done tt (record s { memory = with_bytes s.memory at bytes })
+    else fault faults.Write s
+
+-- the word begins at a place of a text; its form is written to an address
+unfoldable pub encode_text : Next → ℕ → ℕ → ℕ → ℕ → ℕ → State → Out Next
+encode_text here after text count from coded = do
+  form ← form_at ((text + from) % 65536) count
+  _ ← write_bytes coded form
+  goes_on after here.fuel

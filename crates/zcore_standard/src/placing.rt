@@ -1,0 +1,184 @@
+//! Whether the addresses that a header names lie where they have to.
+
+ghost use Rattle.std.specs.Prelude.{◌≡◌, ◌+◌, ◌*◌, ◌<◌, ◌≤◌, ◌↔◌, IsTrue, MatchOption, length};
+ghost use Rattle.zcore.specs.Header.{HasHeader, IsDictionary, IsDictionaryOf, IsWithin, AreAscending, key_at, static_end};
+ghost use Rattle.zcore_standard.specs.Loading as definitions;
+ghost use Rattle.zcore_standard.specs.Loading.{IsPlaced, IsTable, IsExtension, IsUnicode};
+
+use byteorder::{BigEndian, ByteOrder};
+use zcore::Dictionary;
+use zcore::layout::{
+    ABBREVIATIONS_WORD, DEFAULTS_LENGTH, DEFAULTS_WORD, DICTIONARY_WORD, FIRST_INSTRUCTION_WORD,
+    GLOBAL_COUNT, GLOBALS_WORD, HEADER_LENGTH, KEY_LENGTH, READABLE, STATIC_BASE_WORD,
+};
+use ztext::{MOST_ABBREVIATIONS, read_word};
+
+/// The header's word for the address of its extension (section 11.1.7).
+pub(crate) const EXTENSION_WORD: usize = 0x36;
+
+/// Globals are words (section 6.2).
+const GLOBALS_LENGTH: usize = 2 * GLOBAL_COUNT;
+
+/// So are addresses of abbreviations (section 3.3).
+const ABBREVIATIONS_LENGTH: usize = 2 * MOST_ABBREVIATIONS;
+
+/// An entry of a dictionary begins with a key.
+const SHORTEST_ENTRY: u8 = KEY_LENGTH as u8;
+
+/// The word of the extension that is the address of the Unicode table (section 11.1.7).
+const UNICODE_TABLE: u16 = 3;
+
+/// The bytes of the longest extension: a word that counts, and the words.
+const LONGEST_EXTENSION: usize = 0x2_0000;
+
+/// Whether so many bytes at an address begin at the start or after it, and end at the end or before
+/// it.
+fn is_within(start: usize, end: usize, address: u16, bytes: usize) -> bool
+    requires { bytes ≤ LONGEST_EXTENSION }
+    ensures { IsTrue result ↔ IsWithin start end address bytes }
+{
+    let address = usize::from(address);
+    start <= address && address + bytes <= end
+}
+
+/// Whether an address is 0, or so many bytes there lie after the header where instructions can read
+/// them.
+fn is_table(story: &[u8], address: u16, bytes: usize) -> bool
+    requires { bytes ≤ LONGEST_EXTENSION }
+    ensures { IsTrue result ↔ IsTable story.now address bytes }
+{
+    address == 0 || is_within(HEADER_LENGTH, end_of_static(story), address, bytes)
+}
+
+/// Where dynamic and static memory end at the latest.
+fn end_of_static(story: &[u8]) -> usize
+    ensures { result ≡ static_end story.now }
+{
+    story.len().min(READABLE)
+}
+
+/// Whether the extension of the header is whole.
+fn has_extension(story: &[u8]) -> bool
+    requires { HasHeader story.now }
+    ensures { IsTrue result ↔ IsExtension story.now }
+{
+    let extension = read_word(story, EXTENSION_WORD);
+    if !is_table(story, extension, 2) {
+        return false;
+    }
+    let words = usize::from(read_word(story, usize::from(extension)));
+    is_table(story, extension, 2 + 2 * words)
+}
+
+/// The address of the Unicode table, or 0.
+pub(crate) fn unicode_table(story: &[u8]) -> u16
+    requires header { HasHeader story.now }
+    requires extension { IsExtension story.now }
+    ensures { result ≡ definitions.unicode_table_of story.now }
+{
+    let extension = read_word(story, EXTENSION_WORD);
+    let at = usize::from(extension);
+    if 1 <= extension && UNICODE_TABLE <= read_word(story, at) {
+        read_word(story, at + 2 * usize::from(UNICODE_TABLE))
+    } else {
+        0
+    }
+}
+
+/// Whether the Unicode table is whole.
+fn has_unicode(story: &[u8]) -> bool
+    requires header { HasHeader story.now }
+    requires extension { IsExtension story.now }
+    ensures { IsTrue result ↔ IsUnicode story.now }
+{
+    let table = unicode_table(story);
+    if !is_table(story, table, 1) {
+        return false;
+    }
+    let count = usize::from(story[usize::from(table)]);
+    is_table(story, table, 1 + 2 * count)
+}
+
+/// Whether each address that the header names lies in the memory that it belongs to.
+pub(crate) fn is_placed(story: &[u8]) -> bool
+    requires { HasHeader story.now }
+    ensures { IsTrue result ↔ IsPlaced story.now }
+{
+    let length = story.len();
+    let static_base = read_word(story, STATIC_BASE_WORD);
+    let base = usize::from(static_base);
+    let globals = read_word(story, GLOBALS_WORD);
+    let defaults = read_word(story, DEFAULTS_WORD);
+    let abbreviations = read_word(story, ABBREVIATIONS_WORD);
+    let first_instruction = read_word(story, FIRST_INSTRUCTION_WORD);
+    is_within(HEADER_LENGTH, length, static_base, 0)
+        && is_within(HEADER_LENGTH, base, globals, GLOBALS_LENGTH)
+        && is_within(HEADER_LENGTH, base, defaults, DEFAULTS_LENGTH)
+        && is_table(story, abbreviations, ABBREVIATIONS_LENGTH)
+        && is_within(HEADER_LENGTH, length, first_instruction, 1)
+        && static_base <= read_word(story, DICTIONARY_WORD)
+        && has_extension(story)
+        && has_unicode(story)
+}
+
+/// The dictionary at an address, where there is one that can be searched.
+pub(crate) fn read_dictionary(story: &[u8], address: u16) -> Option<Dictionary>
+    ensures { MatchOption result (¬ IsDictionary story.now address)
+        (λ dictionary. IsDictionary story.now address
+        × IsDictionaryOf story.now address dictionary) }
+{
+    let end = end_of_static(story);
+    let start = usize::from(address);
+    if start >= end {
+        return None;
+    }
+    let separators = story[start];
+    let lengths = start + 1 + usize::from(separators);
+    let first_entry = lengths + 3;
+    if first_entry > end {
+        return None;
+    }
+    let entry_length = story[lengths];
+    let entries = read_word(story, lengths + 1);
+    let bytes = usize::from(entry_length);
+    let count = usize::from(entries);
+    // Entries of six bytes that end by address 65,536 are too few for a negative count.
+    if first_entry + count * bytes <= end
+        && entry_length >= SHORTEST_ENTRY
+        && are_ascending(story, first_entry, bytes, count)
+    {
+        Some(Dictionary {
+            address,
+            separators,
+            entry_length,
+            entries,
+        })
+    } else {
+        None
+    }
+}
+
+/// Whether so many entries, the first at an address and each of so many bytes, have keys each above
+/// the one before it.
+fn are_ascending(story: &[u8], first: usize, bytes: usize, entries: usize) -> bool
+    requires whole { first + entries * bytes ≤ length story.now }
+    requires key { 6 ≤ bytes }
+    ensures { IsTrue result ↔ AreAscending story.now first bytes entries }
+{
+    for entry in 1..entries {
+        let before = first + (entry - 1) * bytes;
+        if read_key(story, before) >= read_key(story, before + bytes) {
+            return false;
+        }
+    }
+    true
+}
+
+/// The six bytes of the key at an address, as a number.
+#[tactic(auto, unfolding(zcore::specs::Header::key_at))]
+fn read_key(story: &[u8], at: usize) -> u64
+    requires { at + 6 ≤ length story.now }
+    ensures { result ≡ key_at story.now at }
+{
+    BigEndian::read_u48(&story[at..])
+}
