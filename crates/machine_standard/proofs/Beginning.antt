@@ -14,7 +14,7 @@ use Rattle.zcore_standard.proofs.Headers.{length_stays}
 use Rattle.zcore_standard.specs.Place.{Loaded}
 use Rattle.machine_frames.specs.Contents.{Contents, memory_of}
 use Rattle.machine_frames.specs.States.{state_of, IsSound, IsHeadedBy}
-use Rattle.machine_standard.specs.Loads.{Begins, IsLoaded, IsStoreFor}
+use Rattle.machine_standard.specs.Loads.{Begins, IsLoaded}
 use Rattle.machine_standard.specs.declared.turn.StandardMachine.{StandardMachine}
 
 headed_by : (memory : List ℕ) (header : Header) → IsPlayable memory header → IsHeadedBy header memory

@@ -1,5 +1,5 @@
 use Rattle.std.proofs.Common.{ap, length, arith}
-use Rattle.machine_standard.proofs.Beginning.{loaded_file, short_memory}
+use Rattle.machine_standard.proofs.Beginning.{short_memory}
 use Rattle.machine_standard.proofs.turn.StandardMachine.load.Goals as goal
 
 pub begin-requires-clause-short : goal.begin-requires-clause-short
