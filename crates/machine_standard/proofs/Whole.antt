@@ -13,13 +13,8 @@ use Rattle.zcore.specs.Parts.{is_text_buffer, is_parse_buffer}
 use Rattle.zcore.specs.Execution.{step}
 use Rattle.zcore.specs.Turn.{Reaches, ReachesBy, TurnsBy, Whole, first_next, first_state, notice}
 use Rattle.zcore_standard.specs.Laws.{ends_in_fault}
-<<<<<<< HEAD
-use Rattle.zcore_standard.specs.Place.{Here, on, within}
-use Rattle.zcore_standard.specs.Loaded.{Loaded}
-=======
 use Rattle.zcore_standard.specs.Place.{Here, within}
 use Rattle.zcore_standard.specs.Loaded.{Loaded}
->>>>>>> f6afb6c72536fe8cdf54aa5488cf2ef34acbbbb5
 use Rattle.zcore_standard.specs.Machine.{standard, standard_step, standard_ended, begins}
 use Rattle.zcore_standard.proofs.Turning.{standard_steps}
 use Rattle.zcore_standard.proofs.Waiting.{standard_step_waits}

@@ -4,10 +4,6 @@ use Rattle.zcore.specs.Header.{static_base_of}
 use Rattle.zcore.specs.Turn.{first_state}
 use Rattle.zcore_standard.specs.declared.loading.LoadedStory.{LoadedStory}
 use Rattle.zcore_standard.specs.Loading.{ReadsFile, characters_of, loaded_of, memory_for, seeded}
-<<<<<<< HEAD
-use Rattle.zcore_standard.specs.Loaded.{Loaded}
-=======
->>>>>>> f6afb6c72536fe8cdf54aa5488cf2ef34acbbbb5
 use Rattle.machine_frames.specs.Contents.{Contents, memory_of}
 use Rattle.machine_frames.specs.States.{state_of, IsStoreOf}
 use Rattle.machine_standard.specs.declared.load.StandardFault.{StandardFault}
