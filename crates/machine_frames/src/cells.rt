@@ -87,7 +87,8 @@ pub fn set_program_counter(
     Ok(())
 }
 
-/// What is kept beside the state, in its registers.
+/// The window and the random number generator, as the registers hold them between turns.
+#[inline]
 pub fn beside(store: &Recorded<Store>) -> Beside
     requires { IsSound store.now.store }
     ensures { result ≡ beside_of (slice_index store.now.store.cells) }
@@ -100,12 +101,13 @@ pub fn beside(store: &Recorded<Store>) -> Beside
     }
 }
 
-/// Keeps this beside the state in its registers, at the end of a turn. Where they hold it already
-/// nothing is written.
+/// Writes the window and the random number generator to their registers, at the end of a turn.
+/// Registers that hold them already are not written, so that a turn of the profile records none.
 ///
 /// # Errors
 ///
 /// Memory was refused.
+#[inline(always)]
 pub fn set_beside(store: &mut Recorded<Store>, kept: Beside) -> Result<(), NoMemory>
     requires { IsSound store.old.store }
     ensures kept { OnOk result (KeepsBeside store.old store.new kept) }
@@ -114,6 +116,19 @@ pub fn set_beside(store: &mut Recorded<Store>, kept: Beside) -> Result<(), NoMem
     if beside(store) == kept {
         return Ok(());
     }
+    write_beside(store, kept)
+}
+
+/// Writes the window and the random number generator to their registers.
+///
+/// # Errors
+///
+/// Memory was refused.
+fn write_beside(store: &mut Recorded<Store>, kept: Beside) -> Result<(), NoMemory>
+    requires { IsSound store.old.store }
+    ensures kept { OnOk result (KeepsBeside store.old store.new kept) }
+    ensures given_up { OnErr result (GivenUp store.old store.new) }
+{
     let high = (kept.random / 65_536) as u16;
     let low = (kept.random % 65_536) as u16;
     put_all(

@@ -25,17 +25,17 @@ pub const RESULT_VARIABLE: usize = 8;
 /// Where the machine goes on with the line (two cells).
 pub const RETURN_ADDRESS: usize = 9;
 
-/// What is kept beside the state between turns: the window, the 32 bits of the dice (two cells), the
-/// range that they count, and the number that comes next in it.
+/// The selected window. This register and the four after it hold what the Standard's machine keeps
+/// beside the state between turns; in the profile they are 0.
 pub const WINDOW: usize = 11;
 
-/// The 32 bits of the dice (two cells).
+/// The bits of the random number generator (two cells).
 pub const RANDOM: usize = 12;
 
-/// The range that the dice count.
+/// The number up to which the generator counts, 0 where it does not count.
 pub const INTERVAL: usize = 14;
 
-/// The number that comes next in it.
+/// The number that comes next in the count.
 pub const COUNTER: usize = 15;
 
 /// The first frame record.

@@ -55,7 +55,8 @@ bound_start (Some n) = omega arith
 opened_by : (story : List ℕ) (units : ℕ) (keep : Option ℕ) (header : Header) (new : Contents) (first : Place)
     (text given_up : List ℕ) → opening story units ≡ Some (whole_of new first text)
     → header.static_base ≡ static_base_of story
-    → IsSession story units (by_profile story units) keep nothing (view_of keep units header text new first [] 0 given_up)
+    → IsSession story units (by_profile story units) keep nothing
+    (view_of keep units header text new first [] 0 given_up)
 unfolding view_of all_cells
 opened_by story units keep header new first text given_up e base =
     let all : plays story units [] ≡ whole_of new first text ∷ [] = ap (λ o. entries o (λ w. [])) e in
@@ -81,12 +82,14 @@ pub session_opened : (story : List ℕ) (units : ℕ) (keep : Option ℕ) (heade
     (first : Place) (turns : List Turn) (text words given_up : List ℕ) → turns ≡ [] → IsStoreOf header old
     → state_of old [] ≡ first_state story
     → Opens old units (whole_of new first text) → text ≡ words
-    → IsSession story units (by_profile story units) keep nothing (view_of keep units header words new first turns 0 given_up)
+    → IsSession story units (by_profile story units) keep nothing
+    (view_of keep units header words new first turns 0 given_up)
 session_opened story units keep header old new first turns text words given_up none o state opens is =
     let memory : memory_of old ≡ story = ap (λ (s : State). s.memory) state in
     let turn : opening story units ≡ Some (whole_of new first words) = opened_turn story old units
     (whole_of new first words) memory (subst (λ x. Opens old units (whole_of new first x)) is opens) in
-    subst (λ ts. IsSession story units (by_profile story units) keep nothing (view_of keep units header words new first ts 0 given_up))
+    subst (λ ts. IsSession story units (by_profile story units) keep nothing
+    (view_of keep units header words new first ts 0 given_up))
     (sym none)
     (opened_by story units keep header new first words given_up turn
     (o.headed.static_base ∙ ap static_base_of memory))

@@ -44,7 +44,8 @@ last_at [] k d lt = absurd (omega arith)
 last_at (w ∷ ws) zero d lt = refl
 last_at (w ∷ ws) (suc k) d lt = last_at ws k w (omega arith) ∙ get_or_default ws k w d (omega arith)
 
-more_at : (turn : List ℕ → StateOfPlay → Option Whole) (l : List ℕ) (w v : Whole) → is_waiting w.place ≡ true → turn l w.state ≡ Some v
+more_at : (turn : List ℕ → StateOfPlay → Option Whole) (l : List ℕ) (w v : Whole) → is_waiting w.place ≡ true
+    → turn l w.state ≡ Some v
     → follow turn w (l ∷ []) ≡ v ∷ []
 more_at turn l w v e f = ap (λ b. if b then entries (turn l w.state) (λ u. []) else []) e
     ∙ ap (λ o. entries o (λ u. [])) f
@@ -62,7 +63,8 @@ more_turn : (b : Bool) (x y : List Whole) (n : ℕ) (v w d : Whole)
 more_turn true x y n v w d ih e h = ih e h
 more_turn false x y n v w d ih e h = absurd (omega arith)
 
-more_from : (turn : List ℕ → StateOfPlay → Option Whole) (l : List ℕ) (v w : Whole) → is_waiting w.place ≡ true → turn l w.state ≡ Some v
+more_from : (turn : List ℕ → StateOfPlay → Option Whole) (l : List ℕ) (v w : Whole) → is_waiting w.place ≡ true
+    → turn l w.state ≡ Some v
     → (xs : List (List ℕ)) (d : Whole) → length (follow turn d xs) ≡ length xs
     → last_of d (follow turn d xs) ≡ w → follow turn d (xs ++ l ∷ []) ≡ follow turn d xs ++ v ∷ []
 more_from turn l v w wait now [] d e h = subst (λ u. follow turn u (l ∷ []) ≡ v ∷ []) (sym h)

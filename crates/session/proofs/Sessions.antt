@@ -61,8 +61,9 @@ unbounded h = record {
   present = h.present;
 }
 
-pub with_bound : {story : List ℕ} {units : ℕ} {play : Play} {most : Option ℕ} {s : Standing} {v : Session} → v.keep ≡ most
-    → IfSome most (λ n. s.kept + length s.undone ≤ n) → Unbounded story units play s v → IsSession story units play most s v
+pub with_bound : {story : List ℕ} {units : ℕ} {play : Play} {most : Option ℕ} {s : Standing} {v : Session}
+    → v.keep ≡ most → IfSome most (λ n. s.kept + length s.undone ≤ n) → Unbounded story units play s v
+    → IsSession story units play most s v
 with_bound keep bound h = record {
   whole = h.whole;
   reach = h.reach;
@@ -96,7 +97,8 @@ present_state story units play s v e h =
     ∙ reached_at (λ (w : Whole). w.state) (plays_of play (all_lines s)) (length s.done - s.kept) s.kept
     (length s.done) some_whole e (omega (arith, h.reach)) (omega (arith, h.whole))
 
-pub present_place : (story : List ℕ) (units : ℕ) (play : Play) (s : Standing) (v : Session) (e : Place) → Unbounded story units play s v
+pub present_place : (story : List ℕ) (units : ℕ) (play : Play) (s : Standing) (v : Session) (e : Place)
+    → Unbounded story units play s v
     → get_or v.places v.present e ≡ (present_of story units play s).place
 unfolding present_of
 present_place story units play s v e h =
@@ -104,7 +106,8 @@ present_place story units play s v e h =
     ∙ reached_at (λ (w : Whole). w.place) (plays_of play (all_lines s)) (length s.done - s.kept) s.kept
     (length s.done) some_whole e (omega (arith, h.reach)) (omega (arith, h.whole))
 
-pub done_plays : (story : List ℕ) (units : ℕ) (play : Play) (s : Standing) (v : Session) → Unbounded story units play s v
+pub done_plays : (story : List ℕ) (units : ℕ) (play : Play) (s : Standing) (v : Session)
+    → Unbounded story units play s v
     → plays_of play s.done ≡ take (suc (length s.done)) (plays_of play (all_lines s))
 done_plays story units play s v h = plays_front play s.done s.undone h.whole
     ∙ ap (λ k. take k (plays_of play (all_lines s))) (add-one (length s.done))
@@ -122,8 +125,8 @@ text_is story units play s v h = ap last_text (done_plays story units play s v h
     ∙ last_text_at (plays_of play (all_lines s)) (length s.done) some_whole (omega (arith, h.whole))
 
 -- the place that a session answers
-pub session_place : (story : List ℕ) (units : ℕ) (play : Play) (most : Option ℕ) (s : Standing) (v : Session) (p : Place)
-    → p ≡ get_or v.places v.present places.Quit → IsSession story units play most s v
+pub session_place : (story : List ℕ) (units : ℕ) (play : Play) (most : Option ℕ) (s : Standing) (v : Session)
+    (p : Place) → p ≡ get_or v.places v.present places.Quit → IsSession story units play most s v
     → p ≡ last_place (plays_of play s.done)
 session_place story units play most s v p e h = e ∙ present_place story units play s v places.Quit (unbounded h)
     ∙ sym (place_is story units play s v (unbounded h))
@@ -191,7 +194,8 @@ moved story units play most s t v present lines back long reach bound p h =
       present = p;
     }
 
-undo_by : (story : List ℕ) (units : ℕ) (play : Play) (most : Option ℕ) (done undone : List (List ℕ)) (kept : ℕ) (v : Session)
+undo_by : (story : List ℕ) (units : ℕ) (play : Play) (most : Option ℕ) (done undone : List (List ℕ)) (kept : ℕ)
+    (v : Session)
     → IsSession story units play most (record { done = done; undone = undone; kept = kept }) v
     → IsSession story units play most (undo_from kept (record { done = done; undone = undone; kept = kept }))
     (stepped_back v)
@@ -213,7 +217,8 @@ pub session_undo : (story : List ℕ) (units : ℕ) (play : Play) (most : Option
     → IsSession story units play most s v → IsSession story units play most (undo_of s) (stepped_back v)
 session_undo story units play most s v h = undo_by story units play most s.done s.undone s.kept v h
 
-redo_by : (story : List ℕ) (units : ℕ) (play : Play) (most : Option ℕ) (done undone : List (List ℕ)) (kept : ℕ) (v : Session)
+redo_by : (story : List ℕ) (units : ℕ) (play : Play) (most : Option ℕ) (done undone : List (List ℕ)) (kept : ℕ)
+    (v : Session)
     → IsSession story units play most (record { done = done; undone = undone; kept = kept }) v
     → IsSession story units play most (redo_from undone (record { done = done; undone = undone; kept = kept }))
     (stepped_forward v)
@@ -245,10 +250,11 @@ pub found_some : (count : ℕ) → 0 < count → IsTrue true ↔ (0 < count)
 found_some count lt = ((λ t. lt), (λ l. refl))
 
 -- the turns of a session are those kept and those undone
-pub session_undone : (story : List ℕ) (units : ℕ) (play : Play) (most : Option ℕ) (s : Standing) (v : Session) (done count : ℕ)
-    → done ≡ v.present → count ≡ length v.lines → IsSession story units play most s v
+pub session_undone : (story : List ℕ) (units : ℕ) (play : Play) (most : Option ℕ) (s : Standing) (v : Session)
+    (done count : ℕ) → done ≡ v.present → count ≡ length v.lines → IsSession story units play most s v
     → (done ≡ s.kept) × (count ≡ s.kept + length s.undone)
-session_undone story units play most s v done count d e h = (d ∙ h.present, e ∙ session_turns story units play most s v h)
+session_undone story units play most s v done count d e h =
+    (d ∙ h.present, e ∙ session_turns story units play most s v h)
 
 -- the text of a turn that is done again
 pub session_again : (story : List ℕ) (units : ℕ) (play : Play) (most : Option ℕ) (s : Standing) (v : Session) (k : ℕ)

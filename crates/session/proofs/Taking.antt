@@ -59,7 +59,8 @@ reached_map f xs ws p kept x e is =
 
 pub session_longer : (story : List ℕ) (units : ℕ) (play : Play) (s : Standing) (v : Session) (line : List ℕ) (size : ℕ)
     (whole : Whole) → Unbounded story units play s v → is_waiting (present_of story units play s).place ≡ true
-    → play.turn_on line (present_of story units play s).state ≡ Some whole → size ≤ largest_record (static_base_of story)
+    → play.turn_on line (present_of story units play s).state ≡ Some whole
+    → size ≤ largest_record (static_base_of story)
     → Unbounded story units play (longer line s) (with_turn line size whole v)
 session_longer story units play s v line size whole h waits turn small =
     let ws = plays_of play (all_lines s) in
@@ -118,8 +119,8 @@ session_longer story units play s v line size whole h waits turn small =
     }
 
 -- the oldest turn is given up
-pub session_older : (story : List ℕ) (units : ℕ) (play : Play) (s : Standing) (v : Session) (kept : ℕ) → kept + 1 ≡ s.kept
-    → Unbounded story units play s v → Unbounded story units play (record s { kept = kept }) (without_oldest v)
+pub session_older : (story : List ℕ) (units : ℕ) (play : Play) (s : Standing) (v : Session) (kept : ℕ)
+    → kept + 1 ≡ s.kept → Unbounded story units play s v → Unbounded story units play (record s { kept = kept }) (without_oldest v)
 session_older story units play s v kept e h =
     let ws = plays_of play (all_lines s) in
     let b = length s.done - s.kept in
@@ -145,8 +146,8 @@ session_older story units play s v kept e h =
     }
 
 -- the session and the text that is lent, under a bound
-pub record IsTaken (story : List ℕ) (units : ℕ) (play : Play) (most : Option ℕ) (line : List ℕ) (s : Standing) (v : Session)
-    (text : List ℕ) : Type 0 where
+pub record IsTaken (story : List ℕ) (units : ℕ) (play : Play) (most : Option ℕ) (line : List ℕ) (s : Standing)
+    (v : Session) (text : List ℕ) : Type 0 where
   pub session : IsSession story units play most (taken most line s) v
   pub lent : latest_text v ≡ text
 
@@ -156,8 +157,9 @@ longer_text : (v : Session) (line : List ℕ) (size : ℕ) (whole : Whole) → v
 longer_text v line size whole le = get_or_push (take v.present v.texts) whole.text [] v.present
     (length-take-le v.present v.texts le)
 
-taken_free : (story : List ℕ) (units : ℕ) (play : Play) (line : List ℕ) (s : Standing) (v : Session) (size : ℕ) (whole : Whole)
-    → v.keep ≡ None → v.present ≤ length v.texts → Unbounded story units play (longer line s) (with_turn line size whole v)
+taken_free : (story : List ℕ) (units : ℕ) (play : Play) (line : List ℕ) (s : Standing) (v : Session) (size : ℕ)
+    (whole : Whole) → v.keep ≡ None → v.present ≤ length v.texts
+    → Unbounded story units play (longer line s) (with_turn line size whole v)
     → IsTaken story units play None line s (bounded (with_turn line size whole v)) whole.text
 taken_free story units play line s v size whole keep le h =
     let w : Session = with_turn line size whole v in
@@ -167,7 +169,8 @@ taken_free story units play line s v size whole keep le h =
     } in
     subst (λ x. IsTaken story units play None line s x whole.text) (bound_none w keep) result
 
-taken_within : (story : List ℕ) (units : ℕ) (play : Play) (n : ℕ) (line : List ℕ) (s : Standing) (v : Session) (size : ℕ) (whole : Whole)
+taken_within : (story : List ℕ) (units : ℕ) (play : Play) (n : ℕ) (line : List ℕ) (s : Standing) (v : Session)
+    (size : ℕ) (whole : Whole)
     → v.keep ≡ Some n → v.present ≡ s.kept → s.kept + 1 ≤ n → v.present ≤ length v.texts
     → Unbounded story units play (longer line s) (with_turn line size whole v)
     → IsTaken story units play (Some n) line s (bounded (with_turn line size whole v)) whole.text
@@ -193,7 +196,8 @@ older_text v (suc k) text p e =
     let at : 1 + k ≡ suc k = omega arith in
     sym (text_some (without_oldest v) k some) ∙ get_or-drop 1 v.texts k [] ∙ ap (λ n. get_or v.texts n []) at ∙ e
 
-taken_over : (story : List ℕ) (units : ℕ) (play : Play) (n : ℕ) (line : List ℕ) (s : Standing) (v : Session) (size : ℕ) (whole : Whole)
+taken_over : (story : List ℕ) (units : ℕ) (play : Play) (n : ℕ) (line : List ℕ) (s : Standing) (v : Session) (size : ℕ)
+    (whole : Whole)
     → v.keep ≡ Some n → v.present ≡ s.kept → s.kept ≡ n → v.present ≤ length v.texts
     → Unbounded story units play (longer line s) (with_turn line size whole v)
     → IsTaken story units play (Some n) line s (bounded (with_turn line size whole v)) whole.text
@@ -209,12 +213,13 @@ taken_over story units play n line s v size whole keep p full le h =
     } in
     subst (λ x. IsTaken story units play (Some n) line s x whole.text) (bound_over w n keep (omega arith)) result
 
-taken_by : (story : List ℕ) (units : ℕ) (play : Play) (most : Option ℕ) (line : List ℕ) (s : Standing) (v : Session) (size : ℕ)
-    (whole : Whole) → v.keep ≡ most → IfSome most (λ n. s.kept + length s.undone ≤ n) → v.present ≡ s.kept
+taken_by : (story : List ℕ) (units : ℕ) (play : Play) (most : Option ℕ) (line : List ℕ) (s : Standing) (v : Session)
+    (size : ℕ) (whole : Whole) → v.keep ≡ most → IfSome most (λ n. s.kept + length s.undone ≤ n) → v.present ≡ s.kept
     → v.present ≤ length v.texts
     → Unbounded story units play (longer line s) (with_turn line size whole v)
     → IsTaken story units play most line s (bounded (with_turn line size whole v)) whole.text
-taken_by story units play None line s v size whole keep bound p le h = taken_free story units play line s v size whole keep le h
+taken_by story units play None line s v size whole keep bound p le h =
+    taken_free story units play line s v size whole keep le h
 taken_by story units play (Some n) line s v size whole keep bound p le h =
     let at : s.kept ≤ n = omega arith in
     elim (eq-or-lt_of_le at) [
@@ -238,7 +243,8 @@ last_push (v ∷ u ∷ us) w = last_push (u ∷ us) w
 
 -- a line that is taken
 pub session_taken : (story : List ℕ) (units : ℕ) (play : Play)
-    → ((l : List ℕ) (p : StateOfPlay) → turn_on l units p ≡ play.turn_on l p) → (most : Option ℕ) (line : List ℕ) (s : Standing)
+    → ((l : List ℕ) (p : StateOfPlay) → turn_on l units p ≡ play.turn_on l p)
+    → (most : Option ℕ) (line : List ℕ) (s : Standing)
     (v mid new : Session) → IsSession story units play most s v → get_or v.places v.present places.Quit ≡ places.Waiting
     → Turned line v mid → new ≡ bounded mid
     → (is_waiting (last_place (plays_of play s.done)) ≡ true)
@@ -246,8 +252,8 @@ pub session_taken : (story : List ℕ) (units : ℕ) (play : Play)
     × (latest_text new ≡ last_text (plays_of play (s.done ++ line ∷ [])))
 session_taken story units play means most line s v mid new h waits t e =
     let f : Unbounded story units play s v = unbounded h in
-    let here : (present_of story units play s).place ≡ places.Waiting = sym (present_place story units play s v places.Quit f)
-    ∙ waits in
+    let here : (present_of story units play s).place ≡ places.Waiting =
+    sym (present_place story units play s v places.Quit f) ∙ waits in
     let waiting : is_waiting (present_of story units play s).place ≡ true = ap is_waiting here in
     let turn : play.turn_on line (present_of story units play s).state ≡ Some t.whole =
     sym (means line (present_of story units play s).state)

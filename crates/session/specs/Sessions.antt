@@ -19,9 +19,10 @@ place_after story fuel lines = last_place (plays story fuel lines)
 abbrev pub all_lines : Standing → List (List ℕ)
 all_lines s = s.done ++ s.undone
 
--- The session holds the whole states of the story on the lines that stand, from the oldest that it keeps on, and is
--- at that after the lines done.
-pub record IsSession (story : List ℕ) (units : ℕ) (play : Play) (most : Option ℕ) (s : Standing) (v : Session) : Type 0 where
+-- The session holds the whole states of the story in play on the lines that stand, from the oldest that it keeps on,
+-- and is at the one after the lines done.
+pub record IsSession (story : List ℕ) (units : ℕ) (play : Play) (most : Option ℕ) (s : Standing)
+    (v : Session) : Type 0 where
   -- each line that stands was given to a waiting machine
   pub whole : length (plays_of play (all_lines s)) ≡ length s.done + length s.undone + 1
   pub reach : s.kept ≤ length s.done

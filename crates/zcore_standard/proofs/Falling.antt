@@ -1,32 +1,28 @@
 -- Each further operation makes the profile's weight fall where its step goes on.
-use Rattle.std.proofs.Common.{◌≡◌, ℕ, ◌+◌, ◌-◌, ◌<◌, ◌≤◌, List, [], ◌∷◌, length, set, drop, refl, ap, sym, ◌∙◌, arith}
-use Rattle.std.proofs.Common.{slice_index, slice_index_or, Bool, true, false, Option, Some, None}
+use Rattle.std.proofs.Common.{◌≡◌, ℕ, ◌+◌, ◌-◌, ◌<◌, List, [], ◌∷◌, length, refl, ap, ◌∙◌, arith}
+use Rattle.std.proofs.Common.{slice_index, slice_index_or, Bool, true, false, Option}
 use Rattle.std.specs.Prelude.{◌&&◌, nat_le, nat_lt}
 use Rattle.std.proofs.lemmas.Bool.{and_parts, ltb-true}
-use Rattle.std.proofs.lemmas.List.{length-set, length-drop}
+use Rattle.std.proofs.lemmas.List.{length-drop}
 use Rattle.zcore.specs.declared.place.Fault.{Fault}
 use Rattle.zcore.specs.declared.place.Fault.TheVariants as faults
-use Rattle.zcore.specs.declared.place.Limit.TheVariants as limits
-use Rattle.zcore.specs.declared.place.Place.TheVariants as places
 use Rattle.zcore.specs.declared.instruction.Branch.{Branch}
 use Rattle.zcore.specs.declared.next.Next.{Next}
-use Rattle.zcore.specs.Layout.{header_size}
-use Rattle.zcore.specs.State.{Frame, State, Out, done, halt, bound}
-use Rattle.zcore.specs.Parts.{fault, test, can_store, is_code, is_writable, returning, spend, store_result}
-use Rattle.zcore.specs.Turn.{with_bytes}
-use Rattle.zcore.proofs.Keeping.{keeps_store_result, keeps_write_word, spend_less, keeps_spend}
+use Rattle.zcore.specs.State.{Frame, State, done, bound}
+use Rattle.zcore.specs.Parts.{fault, test, can_store, is_code, is_writable, returning, goes_on, store_result}
+use Rattle.zcore.proofs.Keeping.{keeps_store_result, keeps_write_word}
 use Rattle.zcore.proofs.KeepingReads.{Alike, Keeps, alike_same, alike_then, done_state, done_value, never, both}
 use Rattle.zcore.proofs.KeepingReads.{keeps_test, keeps_then, keeps_done, can_store_keeps, tested}
-use Rattle.zcore.proofs.FallsOfParts.{Falls, FallsFrom, spent, returned, falls_then, falls_either, goes_on_falls}
+use Rattle.zcore.proofs.FallsOfParts.{Falls, FallsFrom, returned, falls_alike, falls_then, falls_either, goes_on_falls}
 use Rattle.zcore.proofs.FallsOfParts.{branch_on_falls}
 use Rattle.zcore.proofs.FallsOfEffects.{give_result_falls}
 use Rattle.zcore.proofs.FallsOfOperations.{read_falls}
 use Rattle.zcore_standard.specs.declared.operations.Further.{Further}
 use Rattle.zcore_standard.specs.declared.operations.Further.TheVariants as operations
-use Rattle.zcore_standard.specs.Place.{Here, Loaded}
+use Rattle.zcore_standard.specs.Place.{Loaded}
 use Rattle.zcore_standard.specs.Shifts.{log_shift, art_shift}
 use Rattle.zcore_standard.specs.Unicode.{transcript_of, print_whole, print_unicode, check_unicode}
-use Rattle.zcore_standard.specs.Flow.{restart, catch, frames_at, leave_frame, throw, verify}
+use Rattle.zcore_standard.specs.Flow.{catch, frames_at, leave_frame, throw, verify}
 use Rattle.zcore_standard.specs.Screen.{get_cursor, set_font, is_memory_stream, output_stream}
 use Rattle.zcore_standard.specs.Further.{perform_keeping, words_of_table, one_row}
 use Rattle.zcore_standard.proofs.TableFacts.{scan_table_falls, copy_table_falls, print_table_falls}
@@ -117,38 +113,57 @@ passed : (b : Bool) (cause : Fault) (s t : State) (a : Unit {0}) → test b caus
 passed true cause s t a h = refl
 passed false cause s t a h = absurd (never _ a s t h)
 
--- the frames that are left
-leave_frame_leaves : (number : ℕ) (s t : State) (a : Unit {0}) → leave_frame number s ≡ done a t
-    → (length t.memory ≡ length s.memory) × (length t.frames ≡ length s.frames - (length s.frames - 1 - number) - 1)
+-- the frames that are left are fewer than there were
+leave_frame_leaves : (number : ℕ) (s t : State) (a : Unit {0}) → number < length s.frames
+    → leave_frame number s ≡ done a t
+    → (length t.memory ≡ length s.memory) × (length t.frames < length s.frames)
 unfolding leave_frame
-leave_frame_leaves number s t a h =
+leave_frame_leaves number s t a few h =
     let e = done_state tt a _ t h in
-    (ap (λ (x : State). length x.memory) e, ap (λ (x : State). length x.frames) e
-    ∙ length-drop 1 (frames_at number s.frames)
-    ∙ ap (λ n. n - 1) (length-drop (length s.frames - 1 - number) s.frames))
+    let all = length-drop (length s.frames - 1 - number) s.frames in
+    let one = length-drop 1 (frames_at number s.frames) in
+    let left = ap (λ (x : State). length x.frames) e in
+    (ap (λ (x : State). length x.memory) e, omega (arith, few, all, one, left))
+
+-- what comes after the frames are left
+stored : (fuel place : ℕ) (result : Option ℕ) (word : ℕ) (s t : State) (next : Next)
+    → bound (store_result result word s) (λ _. goes_on place fuel) ≡ done next t → (next.fuel ≡ fuel) × Alike s t
+stored fuel place result word s t next h =
+    let p = both (store_result result word s) (λ _. goes_on place fuel) next t h in
+    let v = done_value (record { program_counter = place; fuel = fuel }) next p.between t p.second in
+    let w = done_state (record { program_counter = place; fuel = fuel }) next p.between t p.second in (
+      ap (λ (x : Next). x.fuel) v,
+      alike_then s p.between t (keeps_store_result result word s p.between p.value p.first) (alike_same p.between t w),
+    )
+
+-- the frames that are left, and then the result
+left_falls : (here : Next) (number place : ℕ) (result : Option ℕ) (word : ℕ) (s t : State) (next : Next)
+    → number < length s.frames
+    → bound (leave_frame number s) (λ _ u. bound (store_result result word u) (λ _. goes_on place here.fuel))
+    ≡ done next t → Falls here s next t
+left_falls here number place result word s t next few h =
+    let p = both (leave_frame number s) (λ _ u. bound (store_result result word u) (λ _. goes_on place here.fuel)) next t
+    h in
+    let one = leave_frame_leaves number s p.between p.value few p.first in
+    let two = stored here.fuel place result word p.between t next p.second in
+    let frames = two.1.frames in
+    returned here next s t (two.1.memory ∙ one.0) (omega (arith, one.1, frames)) two.0
 
 throw_falls : (here : Next) (word number : ℕ) → FallsFrom here (throw here word number)
 unfolding throw
 throw_falls here word number s t next within h =
     let holds : State → Bool = λ u. nat_le 1 number && nat_lt number (length u.frames) in
     let p = both (test (holds s) faults.Return s) _ next t h in
-    let few : number < length s.frames = ltb-true number (length s.frames)
-    (and_parts _ _ (passed (holds s) faults.Return s p.between p.value p.first)).1 in
+    let parts = and_parts (nat_le 1 number) (nat_lt number (length s.frames))
+    (passed (holds s) faults.Return s p.between p.value p.first) in
+    let few = ltb-true number (length s.frames) parts.1 in
     let one = keeps_test (holds s) faults.Return s p.between p.value p.first in
     let q = both (returning p.between (frames_at number p.between.frames)) _ next t p.second in
     let two = returning_keeps p.between q.between (frames_at number p.between.frames) q.value q.first in
-    let r = both (leave_frame number q.between) _ next t q.second in
-    let three = leave_frame_leaves number q.between r.between r.value r.first in
-    let o = both (store_result q.value.1 word r.between) _ next t r.second in
-    let four = keeps_store_result q.value.1 word r.between o.between o.value o.first in
-    let v : next ≡ record { program_counter = q.value.0; fuel = here.fuel } = done_value _ next o.between t o.second
-    in
-    let five = alike_same o.between t (done_state _ next o.between t o.second) in
-    let memory : length t.memory ≡ length s.memory = five.memory ∙ four.memory ∙ three.0 ∙ two.memory ∙ one.memory in
-    let left : length q.between.frames - (length q.between.frames - 1 - number) - 1 ≡ length t.frames =
-    sym (five.frames ∙ four.frames ∙ three.1) in
-    let same : length q.between.frames ≡ length s.frames = two.frames ∙ one.frames in
-    returned here next s t memory (omega (arith, left, same, few)) (ap (λ (x : Next). x.fuel) v)
+    let alike = alike_then s p.between q.between one two in
+    let same = alike.frames in
+    falls_alike here next s q.between t alike
+    (left_falls here number q.value.0 q.value.1 word q.between t next (omega (arith, few, same)) q.second)
 
 -- one case for each operation
 pub perform_keeping_falls : (loaded : Loaded) (operation : Further) (here : Next) (after : ℕ) (result : Option ℕ)

@@ -1,5 +1,5 @@
 -- What the player writes into a header leaves memory as long, and the version as it is.
-use Rattle.std.proofs.Common.{◌≡◌, ℕ, ◌+◌, ◌<◌, ◌≤◌, ◌/◌, ◌%◌, List, [], ◌∷◌, length, set, drop, refl, ap, sym, ◌∙◌, arith}
+use Rattle.std.proofs.Common.{◌≡◌, ℕ, ◌+◌, ◌<◌, ◌≤◌, ◌/◌, ◌%◌, List, [], ◌∷◌, length, set, refl, ◌∙◌, arith}
 use Rattle.std.proofs.Common.{slice_index, Bool, true, false, cond}
 use Rattle.std.proofs.lemmas.List.{length-set}
 use Rattle.zcore.specs.Layout.{header_size}

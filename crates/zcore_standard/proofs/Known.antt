@@ -1,5 +1,5 @@
 -- A step of an instruction that the profile knows is the profile's step, or an operation on object 0.
-use Rattle.std.proofs.Common.{◌≡◌, ℕ, ◌<◌, List, refl, ap, sym, ◌∙◌, subst, Bool, true, false, cond, Result, Ok, Err, arith}
+use Rattle.std.proofs.Common.{◌≡◌, ℕ, List, refl, ap, sym, ◌∙◌, Bool, true, false, cond, Result, Ok, Err, arith}
 use Rattle.zcore.specs.declared.place.Fault.{Fault}
 use Rattle.zcore.specs.declared.place.Fault.TheVariants as faults
 use Rattle.zcore.specs.declared.place.Place.TheVariants as places

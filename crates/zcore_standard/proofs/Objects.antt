@@ -1,5 +1,5 @@
 -- Opcodes on object 0: in the profile each of them is a fault, and here they make the weight fall and do not wait.
-use Rattle.std.proofs.Common.{◌≡◌, ℕ, ◌+◌, ◌<◌, List, refl, ap, sym, ◌∙◌, Bool, true, false, cond, Option, Some, None}
+use Rattle.std.proofs.Common.{◌≡◌, ℕ, ◌+◌, ◌<◌, List, refl, Bool, true, false, cond, Option, Some, None}
 use Rattle.std.proofs.Common.{slice_index}
 use Rattle.std.specs.Prelude.{◌==◌, ◌&&◌, ◌||◌, nat_le}
 use Rattle.std.proofs.lemmas.Bool.{eqb-true}
@@ -29,7 +29,7 @@ use Rattle.zcore.proofs.WaitingTests.{Waits, waits_then, waits_chosen, waits_tes
 use Rattle.zcore.proofs.WaitingParts.{waits_goes_on, waits_store_result}
 use Rattle.zcore.proofs.WaitingEffects.{waits_branch_on, waits_test_branch, waits_give_result}
 use Rattle.zcore.proofs.WaitingObjects.{waits_remove_object}
-use Rattle.zcore_standard.specs.Nothing.{concerns_nothing, insert_nothing, perform_on_nothing}
+use Rattle.zcore_standard.specs.Nothing.{concerns_nothing, perform_on_nothing}
 use Rattle.zcore_standard.specs.Laws.{is_fault, ends_in_fault}
 
 -- A part that ends a turn only by a fault

@@ -1,25 +1,24 @@
 -- `aread` with two operands is the same instruction in the profile and here.
-use Rattle.std.proofs.Common.{◌≡◌, ℕ, ◌+◌, ◌<◌, ◌≤◌, List, length, refl, ap, sym, ◌∙◌, subst, Bool, true, false, cond}
-use Rattle.std.proofs.Common.{arith, slice_index, slice_index_or, Option, Some, None, Result, Ok, Err}
+use Rattle.std.proofs.Common.{◌≡◌, ℕ, ◌+◌, ◌<◌, List, length, refl, ap, sym, ◌∙◌, Bool, true, false}
+use Rattle.std.proofs.Common.{arith, slice_index, Option, Some, None, Result, Ok, Err}
 use Rattle.std.specs.Prelude.{◌&&◌, nat_le}
 use Rattle.std.proofs.lemmas.Bool.{and_parts, leb-true}
 use Rattle.zcore.specs.declared.instruction.Operand.{Operand}
 use Rattle.zcore.specs.declared.instruction.Operation.TheVariants as operations
 use Rattle.zcore.specs.declared.place.Fault.{Fault}
-use Rattle.zcore.specs.declared.place.Fault.TheVariants as faults
 use Rattle.zcore.specs.declared.next.Next.{Next}
 use Rattle.ztext.specs.Results.{◌>>=◌}
 use Rattle.zcore.specs.Instruction as profile
 use Rattle.zcore.specs.Instruction.{Opcode, operands, variable_types, given_types, opcode_of, opcode, decode}
 use Rattle.zcore.specs.Instruction.{result_variable, branch}
 use Rattle.zcore.specs.Execution.{perform, execute, step}
-use Rattle.zcore.specs.Parts.{fault, is_code, operand_values}
+use Rattle.zcore.specs.Parts.{is_code, operand_values}
 use Rattle.zcore.specs.State.{State, Out, done, halt, bound}
 use Rattle.zcore.proofs.Ahead as ahead
 use Rattle.zcore_standard.specs.declared.operations.Further.TheVariants.{Read}
 use Rattle.zcore_standard.specs.Place.{Here, Loaded, within}
 use Rattle.zcore_standard.specs.Laws.{ends_in_fault}
-use Rattle.zcore_standard.specs.Instruction.{Instruction, types_at, counted, result_at, branch_after, decode_further}
+use Rattle.zcore_standard.specs.Instruction.{types_at, counted, result_at, branch_after, decode_further}
 use Rattle.zcore_standard.specs.Further.{perform_keeping, perform_further, execute_further}
 use Rattle.zcore_standard.proofs.Refusing.{IsReadByte, opcode_is}
 

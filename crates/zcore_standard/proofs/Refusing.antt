@@ -1,7 +1,7 @@
 -- At a further operation the profile knows no instruction, but for `aread`, which both read the same way.
-use Rattle.std.proofs.Common.{◌≡◌, ℕ, ◌+◌, ◌/◌, ◌%◌, ◌<◌, ◌≤◌, ◌⊎◌, inl, inr, List, [], ◌∷◌, length, refl, ap, sym, ◌∙◌}
-use Rattle.std.proofs.Common.{arith, slice_index, Bool, true, false, cond, Option, Some, None, Result, Ok, Err}
-use Rattle.std.specs.Prelude.{◌==◌, ◌&&◌, nat_le, nat_lt, if◌then◌else◌}
+use Rattle.std.proofs.Common.{◌≡◌, ℕ, ◌+◌, ◌/◌, ◌%◌, ◌<◌, ◌⊎◌, inl, inr, List, [], ◌∷◌, length, refl, ap, ◌∙◌}
+use Rattle.std.proofs.Common.{arith, slice_index, Bool, true, false, cond, Option, Some, None, Result, Err}
+use Rattle.std.specs.Prelude.{◌==◌, nat_lt, if◌then◌else◌}
 use Rattle.std.specs.List.{list_all}
 use Rattle.std.specs.Option.{is_none}
 use Rattle.std.proofs.lemmas.Bool.{eqb-true, ltb-true, ltb-false, lt-ltb, and_parts}
@@ -10,12 +10,11 @@ use Rattle.zcore.specs.declared.place.Fault.TheVariants as faults
 use Rattle.zcore.specs.declared.place.Place.TheVariants as places
 use Rattle.zcore.specs.declared.instruction.Operation.{Operation}
 use Rattle.zcore.specs.declared.next.Next.{Next}
-use Rattle.ztext.specs.Results.{◌>>=◌}
 use Rattle.zcore.specs.Operations as profile
-use Rattle.zcore.specs.Instruction.{Opcode, byte, opcode_of, long_form, short_form, variable_form, opcode, decode}
-use Rattle.zcore.specs.State.{State, Out, done, halt}
-use Rattle.zcore.specs.Parts.{fault, is_code}
-use Rattle.zcore.specs.Execution.{execute, step}
+use Rattle.zcore.specs.Instruction.{Opcode, byte, long_form, short_form, variable_form, opcode, decode}
+use Rattle.zcore.specs.State.{State, halt}
+use Rattle.zcore.specs.Parts.{is_code}
+use Rattle.zcore.specs.Execution.{step}
 use Rattle.zcore_standard.specs.declared.operations.Further.{Further}
 use Rattle.zcore_standard.specs.declared.operations.Further.TheVariants.{Restart, Catch, ShowStatus, Verify, Piracy}
 use Rattle.zcore_standard.specs.declared.operations.Further.TheVariants.{SetColour, Throw, Read, Random, SplitWindow}
@@ -24,7 +23,7 @@ use Rattle.zcore_standard.specs.declared.operations.Further.TheVariants.{GetCurs
 use Rattle.zcore_standard.specs.declared.operations.Further.TheVariants.{OutputStream, InputStream, SoundEffect}
 use Rattle.zcore_standard.specs.declared.operations.Further.TheVariants.{ReadChar, ScanTable, Tokenise, EncodeText}
 use Rattle.zcore_standard.specs.declared.operations.Further.TheVariants.{CopyTable, PrintTable}
-use Rattle.zcore_standard.specs.Operations.{row_of, numbered, no_operand, two_operand, several_operand, of_bytes}
+use Rattle.zcore_standard.specs.Operations.{row_of, numbered, no_operand, two_operand, of_bytes}
 use Rattle.zcore_standard.specs.Operations.{further_at}
 
 -- The profile has no opcode of a number that a further one has
@@ -92,8 +91,11 @@ long_refused first at x h =
 short_refused : (first at : ℕ) (x : Further) → first / 16 % 4 ≡ 3 → no_operand (first % 16) ≡ Some x
     → short_form first at ≡ Err faults.Opcode
 short_refused first at x form h =
-    rw (form, unknown_number profile.no_operand (Restart ∷ Catch ∷ ShowStatus ∷ Verify ∷ Piracy ∷ []) (first % 16) x refl
-    h) refl
+    rw (
+      form,
+      unknown_number profile.no_operand (Restart ∷ Catch ∷ ShowStatus ∷ Verify ∷ Piracy ∷ []) (first % 16) x refl
+          h,
+    ) refl
 
 variable_two_refused : (memory : List ℕ) (first at : ℕ) (x : Further) → nat_lt first 224 ≡ true
     → two_operand (first % 32) ≡ Some x → variable_form memory first at ≡ Err faults.Opcode
@@ -130,13 +132,16 @@ first_refused memory first second at x h =
     (λ short h. one_way (nat_lt first 224) _ _ x
     (λ b e. inl (variable_two_refused memory first at x b e))
     (λ b e. one_way (first % 32 == 4) (Some Read) (numbered (first % 32) others_than_read) x
-    (λ number f. inr (is_read x f, record {
-      no_extended = extended;
-      no_long = long;
-      no_short = short;
-      no_two = b;
-      number = eqb-true (first % 32) 4 number;
-    }))
+    (λ number f. inr (
+      is_read x f,
+      record {
+        no_extended = extended;
+        no_long = long;
+        no_short = short;
+        no_two = b;
+        number = eqb-true (first % 32) 4 number;
+      },
+    ))
     (λ _ f. inl (several_refused memory first at x b f)) e) h) h) h) h) h
 
 -- The instruction

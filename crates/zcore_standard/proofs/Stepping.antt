@@ -1,17 +1,14 @@
 -- A step of the Standard's machine makes the profile's weight fall.
 use Rattle.std.proofs.Common.{◌≡◌, ℕ, ◌+◌, ◌<◌, ◌≤◌, ◌/◌, ◌%◌, List, [], ◌∷◌, length, set, drop, refl, ap, sym, ◌∙◌, arith}
 use Rattle.std.proofs.Common.{slice_index, Bool, false, Option, Some, None, Result, Ok, Err}
-use Rattle.std.specs.Prelude.{◌==◌, ◌&&◌, nat_le, nat_lt}
+use Rattle.std.specs.Prelude.{◌==◌, nat_lt}
 use Rattle.std.proofs.lemmas.List.{length-set}
 use Rattle.zcore.specs.declared.instruction.Branch.{Branch}
 use Rattle.zcore.specs.declared.place.Fault.{Fault}
 use Rattle.zcore.specs.declared.place.Fault.TheVariants as faults
-use Rattle.zcore.specs.declared.place.Place.{Place}
 use Rattle.zcore.specs.declared.next.Next.{Next}
-use Rattle.ztext.specs.Results.{◌>>=◌}
 use Rattle.zcore.specs.Instruction.{byte, operands, variable_types, given_types, branch_at}
 use Rattle.zcore.specs.State.{State, Out, done, halt}
-use Rattle.zcore.specs.Effects.{give_result}
 use Rattle.zcore.specs.Layout.{header_size}
 use Rattle.zcore.specs.Parts.{operand_values, spend}
 use Rattle.zcore.specs.Turn.{with_bytes}

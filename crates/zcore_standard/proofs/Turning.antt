@@ -1,23 +1,20 @@
 -- Turns of the Standard's machine: each has one end, and reaches it within its weight. A turn of the profile that meets
 -- no fault is one of them.
-use Rattle.std.proofs.Common.{◌≡◌, ℕ, zero, suc, ◌+◌, ◌≤◌, ◌⊎◌, inl, inr, List, refl, ap, sym, ◌∙◌, subst, arith}
+use Rattle.std.proofs.Common.{◌≡◌, ℕ, zero, suc, ◌⊎◌, inl, inr, List, refl, ap, ◌∙◌, arith}
 use Rattle.std.proofs.Common.{Bool, true, false, Option, Some, None, slice_index}
 use Rattle.zcore.specs.declared.beside.Beside.{Beside}
 use Rattle.zcore.specs.declared.next.Next.{Next}
 use Rattle.zcore.specs.declared.place.Fault.TheVariants as faults
-use Rattle.zcore.specs.declared.place.Place.{Place}
 use Rattle.zcore.specs.declared.place.Place.TheVariants as places
 use Rattle.zcore.specs.State.{Pending, State, Out, done, halt}
 use Rattle.zcore.specs.Execution.{step}
-use Rattle.zcore.specs.Turn.{StateOfPlay, Whole, Machine, TurnsBy, after_step, turn_by, turn_in, turn_from, weight}
+use Rattle.zcore.specs.Turn.{StateOfPlay, Whole, TurnsBy, after_step, turn_by, turn_in, turn_from, weight}
 use Rattle.zcore.specs.Turn.{ended, given, resumed, turn_pending, turn_on}
 use Rattle.zcore.proofs.Turning.{IsWeight, weight_some, turn_by_ends, turns_by_same}
 use Rattle.zcore_standard.specs.declared.operations.Further.{Further}
 use Rattle.zcore_standard.specs.declared.operations.Further.TheVariants.{Read}
-use Rattle.zcore_standard.specs.Place.{Here, Loaded, on, within}
+use Rattle.zcore_standard.specs.Place.{Here, Loaded, within}
 use Rattle.zcore_standard.specs.Operations.{further_at}
-use Rattle.zcore_standard.specs.Instruction.{decode_further}
-use Rattle.zcore_standard.specs.Further.{execute_further}
 use Rattle.zcore_standard.specs.Machine.{chosen, standard, standard_step, standard_turn, standard_pending}
 use Rattle.zcore_standard.specs.Machine.{standard_turn_on, with_beside, begins}
 use Rattle.zcore_standard.specs.Laws.{EndsOneWay, is_fault, ends_in_fault}

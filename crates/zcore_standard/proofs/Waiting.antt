@@ -1,5 +1,5 @@
 -- A step of the Standard's machine that waits for a line leaves buffers that can be filled.
-use Rattle.std.proofs.Common.{◌≡◌, ℕ, ◌-◌, List, length, refl, ap, Bool, true, false, cond, Option, Some, None}
+use Rattle.std.proofs.Common.{◌≡◌, ℕ, ◌-◌, List, length, true, Option, Some, None}
 use Rattle.std.proofs.Common.{Result, Ok, Err, slice_index, slice_index_or, [], ◌∷◌, ◌+◌}
 use Rattle.std.specs.Prelude.{◌==◌, ◌&&◌, nat_le, nat_lt}
 use Rattle.zcore.specs.declared.instruction.Branch.{Branch}
@@ -8,8 +8,8 @@ use Rattle.zcore.specs.declared.place.Fault.TheVariants as faults
 use Rattle.zcore.specs.declared.place.Limit.TheVariants as limits
 use Rattle.zcore.specs.declared.place.Place.TheVariants as places
 use Rattle.zcore.specs.declared.next.Next.{Next}
-use Rattle.zcore.specs.State.{Frame, State, Out, done, halt, bound}
-use Rattle.zcore.specs.Parts.{fault, test, is_writable, is_code, can_store, returning, spend}
+use Rattle.zcore.specs.State.{Frame, State, Out, done, halt}
+use Rattle.zcore.specs.Parts.{test, is_writable, is_code, can_store, returning, spend}
 use Rattle.zcore.specs.Effects.{give_result}
 use Rattle.zcore.proofs.WaitingTests.{WaitsWell, Waits, waits_done, waits_fault, waits_limit, waits_then, waits_either}
 use Rattle.zcore.proofs.WaitingTests.{waits_bound, waits_chosen, waits_test}
@@ -18,7 +18,7 @@ use Rattle.zcore.proofs.WaitingEffects.{waits_branch_on, waits_give_result}
 use Rattle.zcore.proofs.WaitingOperations.{waits_read}
 use Rattle.zcore_standard.specs.declared.operations.Further.{Further}
 use Rattle.zcore_standard.specs.declared.operations.Further.TheVariants as operations
-use Rattle.zcore_standard.specs.Place.{Here, Loaded, on, within}
+use Rattle.zcore_standard.specs.Place.{Here, Loaded, within}
 use Rattle.zcore_standard.specs.Operations.{further_at}
 use Rattle.zcore_standard.specs.Instruction.{Instruction, decode_further}
 use Rattle.zcore_standard.specs.Shifts.{log_shift, art_shift}

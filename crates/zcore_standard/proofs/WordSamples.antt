@@ -1,5 +1,5 @@
 -- tokenise and encode_text, computed.
-use Rattle.std.proofs.Common.{◌≡◌, List, [], ◌∷◌, ◌++◌, take, drop, refl, true, false}
+use Rattle.std.proofs.Common.{◌≡◌, List, [], ◌∷◌, ◌++◌, take, drop, refl}
 use Rattle.std.specs.Prelude.{ℕ, codes, replicate}
 use Rattle.zcore.specs.declared.place.Fault.TheVariants as faults
 use Rattle.zcore.specs.declared.next.Next.{Next}

@@ -1,5 +1,5 @@
 -- random (Z-Machine Standards Document 1.1, sections 2.4 and 15). The numbers are those of the interpreter Frotz.
-use Rattle.std.specs.Prelude.{◌==◌, ◌+◌, ◌-◌, ◌*◌, ◌/◌, ◌%◌, ℕ, nat_lt, if◌then◌else◌, Option}
+use Rattle.std.specs.Prelude.{◌==◌, ◌+◌, ◌*◌, ◌/◌, ◌%◌, ℕ, nat_lt, if◌then◌else◌, Option}
 use Rattle.zcore.specs.declared.beside.Beside.{Beside}
 use Rattle.zcore.specs.Arithmetic.{is_negative, magnitude}
 use Rattle.zcore.specs.Effects.{give_result}

@@ -11,10 +11,10 @@ use Rattle.zcore.specs.Execution.{first, second, third, read}
 use Rattle.zcore_standard.specs.declared.operations.Further.{Further}
 use Rattle.zcore_standard.specs.declared.operations.Further.TheVariants.{Restart, Catch, ShowStatus, Verify, Piracy}
 use Rattle.zcore_standard.specs.declared.operations.Further.TheVariants.{SetColour, Throw, Read, Random, SplitWindow}
-use Rattle.zcore_standard.specs.declared.operations.Further.TheVariants.{SetWindow, EraseWindow, EraseLine, SetCursor}
+use Rattle.zcore_standard.specs.declared.operations.Further.TheVariants.{EraseWindow, EraseLine, SetCursor}
 use Rattle.zcore_standard.specs.declared.operations.Further.TheVariants.{GetCursor, SetTextStyle, BufferMode}
 use Rattle.zcore_standard.specs.declared.operations.Further.TheVariants.{OutputStream, InputStream, SoundEffect}
-use Rattle.zcore_standard.specs.declared.operations.Further.TheVariants.{ReadChar, ScanTable, Tokenise, EncodeText}
+use Rattle.zcore_standard.specs.declared.operations.Further.TheVariants.{ScanTable, Tokenise, EncodeText}
 use Rattle.zcore_standard.specs.declared.operations.Further.TheVariants.{CopyTable, PrintTable, Save, Restore}
 use Rattle.zcore_standard.specs.declared.operations.Further.TheVariants.{LogShift, ArtShift, SetFont, SaveUndo}
 use Rattle.zcore_standard.specs.declared.operations.Further.TheVariants.{RestoreUndo, PrintUnicode, CheckUnicode}

@@ -1,14 +1,16 @@
 -- The laws of the Standard's machine that functions of `laws` carry as their contracts.
-use Rattle.std.specs.Prelude.{◌≡◌, ℕ, Bool, true, false, List, Option, Some, None}
+use Rattle.std.specs.Prelude.{◌≡◌, ℕ, Bool, true, false, not, List, Some, map}
+use Rattle.std.specs.List.{list_all}
 use Rattle.zcore.specs.State.{State, Out, done, halt}
 use Rattle.zcore.specs.declared.beside.Beside.{Beside}
 use Rattle.zcore.specs.declared.next.Next.{Next}
 use Rattle.zcore.specs.declared.place.Place.{Place}
 use Rattle.zcore.specs.declared.place.Place.TheVariants as places
 use Rattle.zcore.specs.Execution.{step}
-use Rattle.zcore.specs.Turn.{StateOfPlay, Whole, TurnsBy, turn_from, turn_on}
+use Rattle.zcore.specs.Turn.{StateOfPlay, Whole, TurnsBy, turn_from, turn_on, plays, plays_of}
 use Rattle.zcore_standard.specs.Place.{Here, Loaded, within}
-use Rattle.zcore_standard.specs.Machine.{standard, standard_step, standard_turn, standard_turn_on, begins, with_beside}
+use Rattle.zcore_standard.specs.Machine.{standard, standard_step, standard_turn, standard_turn_on, begins, by_standard}
+use Rattle.zcore_standard.specs.Machine.{with_beside}
 
 -- a turn ends in a whole state, in this one only, and within its weight
 pub record EndsOneWay (loaded : Loaded) (here : Here) (s : State) : Type 0 where
@@ -47,3 +49,14 @@ KeepsWhatTheProfileAnswers =
     (loaded : Loaded) (line : List ℕ) (fuel : ℕ) (play : StateOfPlay) (whole : Whole)
     → turn_on line fuel play ≡ Some whole → is_fault whole.place ≡ false
     → standard_turn_on loaded line fuel play ≡ Some (with_beside play.beside whole)
+
+-- no turn of these ends in a fault
+abbrev pub have_no_fault : List Whole → Bool
+have_no_fault wholes = list_all (λ whole. not (is_fault whole.place)) wholes
+
+-- A run over lines in which the profile meets no fault is the Standard's run of the same memory, turn by turn.
+abbrev pub KeepsWhatTheProfileRuns : Type 0
+KeepsWhatTheProfileRuns =
+    (loaded : Loaded) (story : List ℕ) (fuel : ℕ) (lines : List (List ℕ))
+    → have_no_fault (plays story fuel lines) ≡ true
+    → plays_of (by_standard loaded story fuel) lines ≡ map (with_beside loaded.dice) (plays story fuel lines)

@@ -1,10 +1,10 @@
 -- The Standard's machine: a further operation where its opcode is found, and else a step of the profile.
-use Rattle.std.specs.Prelude.{◌++◌, ℕ, List, Option, Some, None}
+use Rattle.std.specs.Prelude.{ℕ, List, Option, Some, None}
 use Rattle.zcore.specs.declared.next.Next.{Next}
 use Rattle.zcore.specs.declared.place.Place.{Place}
 use Rattle.zcore.specs.declared.beside.Beside.{Beside}
 use Rattle.zcore.specs.State.{Pending, State, Out}
-use Rattle.zcore.specs.Turn.{StateOfPlay, Whole, Machine, Play, after_step, turn_by, weight, notice, given, resumed}
+use Rattle.zcore.specs.Turn.{StateOfPlay, Whole, Machine, Play, after_step, turn_by, weight, given, resumed}
 use Rattle.zcore.specs.Turn.{first_next, first_state, ended}
 use Rattle.zcore_standard.specs.declared.operations.Further.{Further}
 use Rattle.zcore_standard.specs.Place.{Here, Loaded, within}

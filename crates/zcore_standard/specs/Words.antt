@@ -13,7 +13,7 @@ use Rattle.zcore.specs.Cutting.{Word}
 use Rattle.zcore.specs.Dictionary.{number_of_key, entry_in}
 use Rattle.zcore.specs.Parsing.{first_words}
 use Rattle.zcore.specs.State.{State, Out, done, ◌>>=◌}
-use Rattle.zcore.specs.Parts.{test, fault, is_writable, goes_on}
+use Rattle.zcore.specs.Parts.{test, fault, goes_on}
 use Rattle.zcore.specs.Turn.{with_bytes}
 
 -- whether so many bytes from an address on can be read

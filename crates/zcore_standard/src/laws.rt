@@ -1,7 +1,7 @@
 //! Laws of the machine. The functions do nothing: each carries a law as its contract.
 
 ghost use Rattle.zcore_standard.specs.Laws.{EveryStandardTurnEnds, KeepsWhatTheProfileSteps};
-ghost use Rattle.zcore_standard.specs.Laws.{KeepsWhatTheProfilePlays, KeepsWhatTheProfileAnswers};
+ghost use Rattle.zcore_standard.specs.Laws.{KeepsWhatTheProfilePlays, KeepsWhatTheProfileAnswers, KeepsWhatTheProfileRuns};
 
 /// Every turn of the Standard's machine ends, and in one way, within the weight of its beginning.
 pub fn every_standard_turn_ends()
@@ -23,4 +23,10 @@ pub fn keeps_what_the_profile_plays()
 /// The same of the turn of a line that is given to a waiting machine.
 pub fn keeps_what_the_profile_answers()
     ensures { KeepsWhatTheProfileAnswers }
+{}
+
+/// A run over lines in which the profile's machine meets no fault is the run of the Standard's
+/// machine over the same memory and the same lines, turn by turn.
+pub fn keeps_what_the_profile_runs()
+    ensures { KeepsWhatTheProfileRuns }
 {}

@@ -76,7 +76,9 @@ fn write_extension_word(memory: &mut [u8], number: u16, word: u16)
 {
     let extension = usize::from(read_word(memory, EXTENSION_WORD));
     let at = extension + 2 * usize::from(number);
-    let end = memory.len().min(usize::from(read_word(memory, STATIC_BASE_WORD)));
+    let end = memory
+        .len()
+        .min(usize::from(read_word(memory, STATIC_BASE_WORD)));
     if HEADER_LENGTH <= extension && at + 2 <= end && number <= read_word(memory, extension) {
         memory[at] = (word / 256) as u8;
         memory[at + 1] = (word % 256) as u8;
@@ -84,11 +86,7 @@ fn write_extension_word(memory: &mut [u8], number: u16, word: u16)
 }
 
 /// Writes into the header what the player tells the story.
-#[tactic(
-    auto,
-    using(crate::proofs::Headers::first_stays, crate::proofs::Headers::length_stays),
-    unfolding(crate::specs::Loading::with_header)
-)]
+#[tactic(auto, using(crate::proofs::Headers::first_stays, crate::proofs::Headers::length_stays), unfolding(crate::specs::Loading::with_header))]
 fn set_header(memory: &mut [u8])
     requires { HasHeader memory.old }
     ensures memory { memory.new ≡ definitions.with_header memory.old }

@@ -52,12 +52,7 @@ fn default_list(alloc: Global) -> Result<Vec<u16>, AllocError>
 }
 
 /// So many words of memory, the first at an address.
-fn words_from(
-    alloc: Global,
-    memory: &[u8],
-    at: usize,
-    count: usize,
-) -> Result<Vec<u16>, AllocError>
+fn words_from(alloc: Global, memory: &[u8], at: usize, count: usize) -> Result<Vec<u16>, AllocError>
     requires { at + 2 * count ≤ length memory.now }
     ensures { IfOk result (λ words. words.items ≡ definitions.words_from memory.now at count) }
 {

@@ -1,12 +1,12 @@
 use Rattle.std.proofs.Common.{refl, sym, ◌∙◌}
 use Rattle.machine_frames.proofs.Steps.{goes_on_still}
-use Rattle.machine_frames.proofs.Kept.{beside_kept, same_beside}
+use Rattle.machine_frames.proofs.Kept.{same_beside}
 use Rattle.machine_frames.proofs.cells.set_beside.Goals as goal
 
 pub returns-then-eq-clause-kept : goal.returns-then-eq-clause-kept
-returns-then-eq-clause-kept c = (goes_on_still _ c.requires, λ text. refl, refl,
-    sym c.beside.ensures ∙ same_beside c.beside.result c.args.kept (sym c.eq.ensures ∙ c.if-eq.true))
-
-pub returns-clause-kept : goal.returns-clause-kept
-returns-clause-kept c = beside_kept _ _ c.args.kept c.requires c.in_ok-put_all.ensures.cells c.put_all.ensures.fixed
-    c.in_ok-put_all.ensures.beginning
+returns-then-eq-clause-kept c = (
+  goes_on_still _ c.requires,
+  λ text. refl,
+  refl,
+  sym c.beside.ensures ∙ same_beside c.beside.result c.args.kept (sym c.eq.ensures ∙ c.if-eq.true),
+)

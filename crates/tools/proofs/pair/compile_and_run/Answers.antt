@@ -30,7 +30,8 @@ returns-in-Ok-run g c =
     let io = streams (g.R.Read.remaining c.args.reader.now) (g.R.Read.remaining c.run.new.reader)
     (g.W.Write.contents c.args.writer.now) (g.W.Write.contents c.run.new.writer) in
     let game : Game = record { story = c.in-Ok.story; fuel = c.args.fuel; keep = c.args.keep } in
-    let opened = subst (λ b. IsSession b c.args.fuel (by_profile b c.args.fuel) c.args.keep nothing c.in-Ok-open_with.session)
+    let opened = subst (λ b. IsSession b c.args.fuel (by_profile b c.args.fuel) c.args.keep nothing
+    c.in-Ok-open_with.session)
     c.into_bytes.ensures c.in-Ok-open_with.ensures.session in (
       c.in-Ok-run._place,
       record {
@@ -38,7 +39,8 @@ returns-in-Ok-run g c =
         compiled = playable;
         ran = ran_same (telling_of game) (meant_by (resolve_program playable.tree) c.args.fuel) c.args.keep
             (agrees game (resolve_program playable.tree) (playable.plays c.args.fuel)) io
-            (λ s. IsSession c.in-Ok.story c.args.fuel (by_profile c.in-Ok.story c.args.fuel) c.args.keep s c.run.new.session) (Ok c.in-Ok-run._place)
+            (λ s. IsSession c.in-Ok.story c.args.fuel (by_profile c.in-Ok.story c.args.fuel) c.args.keep s
+            c.run.new.session) (Ok c.in-Ok-run._place)
             (c.in-Ok-run.ensures game opened);
       },
     )
@@ -49,7 +51,8 @@ returns-in-Err-run g c =
     let io = streams (g.R.Read.remaining c.args.reader.now) (g.R.Read.remaining c.run.new.reader)
     (g.W.Write.contents c.args.writer.now) (g.W.Write.contents c.run.new.writer) in
     let game : Game = record { story = c.in-Ok.story; fuel = c.args.fuel; keep = c.args.keep } in
-    let opened = subst (λ b. IsSession b c.args.fuel (by_profile b c.args.fuel) c.args.keep nothing c.in-Ok-open_with.session)
+    let opened = subst (λ b. IsSession b c.args.fuel (by_profile b c.args.fuel) c.args.keep nothing
+    c.in-Ok-open_with.session)
     c.into_bytes.ensures c.in-Ok-open_with.ensures.session in (
       c.run.new.session,
       record {
@@ -57,7 +60,8 @@ returns-in-Err-run g c =
         compiled = playable;
         ran = ran_same (telling_of game) (meant_by (resolve_program playable.tree) c.args.fuel) c.args.keep
             (agrees game (resolve_program playable.tree) (playable.plays c.args.fuel)) io
-            (λ s. IsSession c.in-Ok.story c.args.fuel (by_profile c.in-Ok.story c.args.fuel) c.args.keep s c.run.new.session) (Err c.in-Err-run.fault)
+            (λ s. IsSession c.in-Ok.story c.args.fuel (by_profile c.in-Ok.story c.args.fuel) c.args.keep s
+            c.run.new.session) (Err c.in-Err-run.fault)
             (c.in-Err-run.ensures game opened);
       },
     )

@@ -23,9 +23,11 @@ returns-else-self-eq0-clause-present c =
     ∙ ap (λ (v : Session). get_or v.places v.present places.Quit) c.self.view_is
 
 pub returns-then-self-eq0-clause-place : goal.returns-then-self-eq0-clause-place
-returns-then-self-eq0-clause-place c = λ story fuel keep s h. session_place story fuel (by_profile story fuel) keep s c.args.self.now
+returns-then-self-eq0-clause-place c = λ story fuel keep s h.
+    session_place story fuel (by_profile story fuel) keep s c.args.self.now
     c.self.inside.first (returns-then-self-eq0-clause-present c) h
 
 pub returns-else-self-eq0-clause-place : goal.returns-else-self-eq0-clause-place
-returns-else-self-eq0-clause-place c = λ story fuel keep s h. session_place story fuel (by_profile story fuel) keep s c.args.self.now
+returns-else-self-eq0-clause-place c = λ story fuel keep s h.
+    session_place story fuel (by_profile story fuel) keep s c.args.self.now
     c.index.result.now.place (returns-else-self-eq0-clause-present c) h

@@ -30,7 +30,8 @@ returns-then-self-len c =
       record {
         rests = tt;
         found = λ story fuel keep s h.
-            let u = session_undone story fuel (by_profile story fuel) keep s c.args.self.now i.done (length i.turns.items) n.present n.size h in
+            let u = session_undone story fuel (by_profile story fuel) keep s c.args.self.now i.done
+            (length i.turns.items) n.present n.size h in
             ((λ p. cc), (λ p. absurd (omega (arith, all, u.0, u.1))));
         text = λ story fuel keep s h. tt;
       },
@@ -74,7 +75,8 @@ returns c =
     (text_of i.given_up) c.args.self.now i.done c.index_mut.result.now c.self.view_is here c.index_mut.ensures.value in
     let undone = λ (story : List ℕ) (fuel : ℕ) (keep : Option ℕ) (s : Standing)
     (h : IsSession story fuel (by_profile story fuel) keep s c.args.self.now). (
-    let u = session_undone story fuel (by_profile story fuel) keep s c.args.self.now i.done (length i.turns.items) n.present n.size h in
+    let u = session_undone story fuel (by_profile story fuel) keep s c.args.self.now i.done (length i.turns.items)
+    n.present n.size h in
     let some : 0 < length s.undone = omega (arith, here, u.0, u.1) in
     some) in (
       (
@@ -89,7 +91,8 @@ returns c =
       record {
         rests = tt;
         found = λ story fuel keep s h. ((λ p. undone story fuel keep s h), (λ p. refl));
-        text = λ story fuel keep s h. session_again story fuel (by_profile story fuel) keep s c.args.self.now i.done _ n.present
+        text = λ story fuel keep s h.
+            session_again story fuel (by_profile story fuel) keep s c.args.self.now i.done _ n.present
             (undone story fuel keep s h) text h;
       },
     )

@@ -13,14 +13,14 @@ returns-in-Ok c =
         refl,
         (λ _. tt),
         λ story fuel keep s h.
-            (session_taken story fuel (by_profile story fuel) (λ l p. refl) keep c.args.line.now s now c.play.new.self c.give_up.new.self h waits
-            c.in-Ok.ensures.turned c.give_up.ensures).1,
+            (session_taken story fuel (by_profile story fuel) (λ l p. refl) keep c.args.line.now s now c.play.new.self
+            c.give_up.new.self h waits c.in-Ok.ensures.turned c.give_up.ensures).1,
       ),
       record {
         rests = tt;
         says = λ story fuel keep s h.
-            let t = session_taken story fuel (by_profile story fuel) (λ l p. refl) keep c.args.line.now s now c.play.new.self c.give_up.new.self h waits
-            c.in-Ok.ensures.turned c.give_up.ensures in
+            let t = session_taken story fuel (by_profile story fuel) (λ l p. refl) keep c.args.line.now s now
+            c.play.new.self c.give_up.new.self h waits c.in-Ok.ensures.turned c.give_up.ensures in
             (search rules, t.0, c.latest_text.ensures ∙ t.2);
       },
     )

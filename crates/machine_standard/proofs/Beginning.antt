@@ -1,0 +1,82 @@
+-- The machine and the store of a story that was loaded.
+use Rattle.std.proofs.Common.{◌≡◌, ◌≤◌, ℕ, List, [], length, take, ap, sym, ◌∙◌, subst, arith, Ok}
+use Rattle.std.proofs.lemmas.List.{length-take-le}
+use Rattle.zcore.specs.declared.header.Header.{Header}
+use Rattle.zcore.specs.Header.{static_base_of}
+use Rattle.zcore.specs.Layout.{longest_story}
+use Rattle.zcore.specs.State.{State}
+use Rattle.zcore.specs.Turn.{first_state}
+use Rattle.zcore_standard.specs.declared.loading.LoadedStory.{LoadedStory}
+use Rattle.zcore_standard.specs.Loading.{IsPlayable, ReadsFile, characters_of, loaded_of, memory_for, seeded}
+use Rattle.zcore_standard.specs.Loading.{story_in, story_length}
+use Rattle.zcore_standard.proofs.Headers.{length_stays}
+use Rattle.zcore_standard.specs.Place.{Loaded}
+use Rattle.machine_frames.specs.Contents.{Contents, memory_of}
+use Rattle.machine_frames.specs.States.{state_of, IsSound, IsHeadedBy}
+use Rattle.machine_standard.specs.Loads.{Begins, IsLoaded, IsStoreFor}
+use Rattle.machine_standard.specs.declared.turn.StandardMachine.{StandardMachine}
+
+headed_by : (memory : List ℕ) (header : Header) → IsPlayable memory header → IsHeadedBy header memory
+headed_by memory header p = record {
+  version = p.read.version;
+  static_base = p.read.static_base;
+  globals = p.read.globals;
+  defaults = p.read.defaults;
+  abbreviations = p.read.abbreviations;
+  dictionary = p.read.dictionary.address;
+  behind = p.placed.dictionary;
+  searchable = p.dictionary;
+}
+
+pub begins_with : (memory : List ℕ) (story : LoadedStory) (seed : ℕ) (machine : StandardMachine) (s : Contents)
+    → IsPlayable memory story.header → machine.header ≡ story.header
+    → machine.loaded ≡ record {
+      dynamic = take (static_base_of memory) memory;
+      dice = seeded seed;
+      is_sum_right = story.is_sum_right;
+      characters = characters_of memory;
+    }
+    → IsSound s → state_of s [] ≡ first_state memory → Begins memory story seed machine s
+begins_with memory story seed machine s p h l sound e =
+    let same : memory_of s ≡ memory = ap (λ (t : State). t.memory) e in
+    let playable : IsPlayable memory machine.header = subst (IsPlayable memory) (sym h) p in
+    let long : length (take (static_base_of memory) memory) ≡ static_base_of memory =
+    length-take-le (static_base_of memory) memory (omega (arith, p.placed.static_base.1)) in
+    record {
+      header = h;
+      loaded = l;
+      store = record {
+        store = record {
+          sound = sound;
+          headed = subst (IsHeadedBy machine.header) (sym same) (headed_by memory machine.header playable);
+        };
+        dynamic = ap (λ (x : Loaded). length x.dynamic) l ∙ long ∙ ap static_base_of (sym same);
+      };
+      state = e;
+    }
+
+pub loaded_file : (file memory : List ℕ) (story : LoadedStory) (seed : ℕ) (machine : StandardMachine) (s : Contents)
+    → ReadsFile file (Ok story) → memory ≡ memory_for file → Begins memory story seed machine s
+    → IsLoaded file seed machine s
+loaded_file file memory story seed machine s r e b =
+    let begun : Begins (memory_for file) story seed machine s =
+    subst (λ m. Begins m story seed machine s) e b in
+    record {
+      story = story;
+      read = r;
+      header = begun.header;
+      loaded = begun.loaded
+          ∙ ap (λ x. record (loaded_of file seed) { is_sum_right = x }) r.2;
+      store = begun.store;
+      state = begun.state;
+    }
+
+-- a file that is played is no longer than a story can be
+pub short_memory : (file : List ℕ) (story : LoadedStory) → ReadsFile file (Ok story)
+    → length (memory_for file) ≤ longest_story
+short_memory file story r = omega (
+  arith,
+  length_stays (story_in file),
+  length-take-le (story_length file) file r.0.story.there,
+  r.0.story.most,
+)

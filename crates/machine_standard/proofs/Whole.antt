@@ -1,0 +1,153 @@
+-- A whole turn of the Standard's machine.
+use Rattle.std.proofs.Common.{◌≡◌, ℕ, zero, suc, ◌+◌, ◌≤◌, List, [], ◌++◌, length, take, drop, refl, ap, sym, ◌∙◌}
+use Rattle.std.proofs.Common.{subst, arith, slice_index, Result, Ok, Err}
+use Rattle.std.specs.Prelude.{IfOk, OnOk}
+use Rattle.std.proofs.lemmas.List.{drop-append-le, drop_all}
+use Rattle.journal.specs.Recording.{Recording}
+use Rattle.zcore.specs.declared.beside.Beside.{Beside}
+use Rattle.zcore.specs.declared.next.Next.{Next}
+use Rattle.zcore.specs.declared.place.Place.{Place}
+use Rattle.zcore.specs.declared.place.Place.TheVariants as places
+use Rattle.zcore.specs.State.{State, Out, done, halt}
+use Rattle.zcore.specs.Parts.{is_text_buffer, is_parse_buffer}
+use Rattle.zcore.specs.Execution.{step}
+use Rattle.zcore.specs.Header.{static_base_of}
+use Rattle.zcore.specs.Turn.{Reaches, ReachesBy, TurnsBy, Whole, first_next, first_state, notice}
+use Rattle.zcore_standard.specs.Laws.{ends_in_fault}
+use Rattle.zcore_standard.specs.Place.{Here, Loaded, on, within}
+use Rattle.zcore_standard.specs.Machine.{standard, standard_step, standard_ended, begins}
+use Rattle.zcore_standard.proofs.Turning.{standard_steps}
+use Rattle.zcore_standard.proofs.Waiting.{standard_step_waits}
+use Rattle.machine_frames.specs.Contents.{Contents, memory_of}
+use Rattle.machine_frames.specs.Playing.{StopsBy, IsOpening, IsWaiting, whole_of}
+use Rattle.machine_frames.specs.States.{state_of, program_counter_of, beside_of}
+use Rattle.machine_frames.specs.Went.{GoesOn}
+use Rattle.machine_frames.proofs.Steps.{store_after}
+use Rattle.machine_lines.proofs.Lines.{base_kept}
+use Rattle.machine.proofs.Turning.{stops_whole}
+use Rattle.machine.proofs.Waiting.{waiting}
+use Rattle.machine_standard.specs.Loads.{IsStoreFor}
+use Rattle.machine_standard.specs.Playing.{OpensStandard}
+use Rattle.machine_standard.specs.declared.turn.StandardMachine.{StandardMachine}
+
+-- Stores of a story
+
+pub store_goes_on : {machine : StandardMachine} {old new : Recording Contents} → IsStoreFor machine old.store
+    → GoesOn old new → IsStoreFor machine new.store
+store_goes_on {machine} {old} {new} o g = record {
+  store = store_after o.store g;
+  dynamic = o.dynamic ∙ sym (base_kept old new g);
+}
+
+pub store_remains : {A E : Type 0} (result : Result A E) (machine : StandardMachine) (old new : Recording Contents)
+    → IsStoreFor machine old.store → OnOk result (GoesOn old new) → OnOk result (IsStoreFor machine new.store)
+store_remains (Ok x) machine old new o g = store_goes_on o g
+store_remains (Err e) machine old new o g = tt
+
+-- Steps
+
+-- a step of the profile that goes on is a step of this machine
+standard_goes_on : (loaded : Loaded) (beside : Beside) (here next : Next) (s t : State) → step here s ≡ done next t
+    → standard_step loaded (begins beside here) s ≡ done (begins beside next) t
+standard_goes_on loaded beside here next s t e =
+    standard_steps loaded (begins beside here) s (ap ends_in_fault e) ∙ ap (within (begins beside here)) e
+
+pub reaches_standard : (loaded : Loaded) (beside : Beside) (count : ℕ) (first here : Next) (s t : State)
+    → Reaches count first s here t
+    → ReachesBy (standard_step loaded) count (begins beside first) s (begins beside here) t
+reaches_standard loaded beside zero first here s t h = (ap (begins beside) h.0, h.1)
+reaches_standard loaded beside (suc count) first here s t h = (
+  begins beside h.0,
+  h.1,
+  reaches_standard loaded beside count first h.0 s h.1 h.2,
+  standard_goes_on loaded beside h.0 here h.1 t h.3,
+)
+
+-- some steps, and some more
+pub reaches_by_on : {H : Type 0} (step : H → State → Out H) (m n : ℕ) (first here next : H) (s t u : State)
+    → ReachesBy step n first s here t → ReachesBy step m here t next u
+    → (k : ℕ) × ReachesBy step k first s next u
+reaches_by_on step zero n first here next s t u a b = (
+  n,
+  subst (λ x. ReachesBy step n first s x u) (sym b.0)
+      (subst (λ x. ReachesBy step n first s here x) (sym b.1) a),
+)
+reaches_by_on step (suc m) n first here next s t u a b =
+    let k = reaches_by_on step m n first here b.0 s t b.1 a b.2 in
+    (suc k.0, (b.0, b.1, k.1, b.3))
+
+pub none_yet_by : {H : Type 0} (step : H → State → Out H) (first : H) (s : Contents) (text : List ℕ)
+    → (n : ℕ) × ReachesBy step n first (state_of s []) first (state_of s (drop (length text) text))
+none_yet_by step first s text = (0, (refl, ap (state_of s) (drop_all (length text) text (omega arith))))
+
+-- an instruction that ends the turn leaves window and dice as they are
+pub stops_beside : (loaded : Loaded) {first : Here} {s t : State} {here : Next} {p : Place} (a b : Beside) → b ≡ a
+    → StopsBy (standard_step loaded) first s (begins a here) p t
+    → StopsBy (standard_step loaded) first s (begins b here) p t
+stops_beside loaded {first} {s} {t} {here} {p} a b e h =
+    subst (λ x. StopsBy (standard_step loaded) first s (begins x here) p t) (sym e) h
+
+-- The end of a turn
+
+-- the whole state that is left
+pub standard_whole : (loaded : Loaded) (first : Here) (beside : Beside) (here : Next) (end : Place) (s : State)
+    (m n : Contents) (x y : List ℕ) (long : ℕ)
+    → StopsBy (standard_step loaded) first s (begins beside here) end (state_of m (drop long x))
+    → ((l : List ℕ) → state_of n l ≡ state_of m l) → program_counter_of (slice_index n.cells) ≡ here.program_counter
+    → beside_of (slice_index n.cells) ≡ beside → y ≡ x ++ notice end → long ≤ length x
+    → TurnsBy (standard loaded) first s (whole_of n end (drop long y))
+standard_whole loaded first beside here end s m n x y long h same counter kept text le =
+    let turn = stops_whole (standard loaded) first (begins beside here) end s (state_of m (drop long x)) h in
+    let words : drop long y ≡ drop long x ++ notice end = ap (drop long) text
+    ∙ drop-append-le long x (notice end) le in
+    let e : standard_ended (begins beside here) end (state_of m (drop long x))
+    ≡ standard_ended (begins beside here) end (state_of n (drop long x)) =
+    ap (standard_ended (begins beside here) end) (sym (same (drop long x))) in
+    let f : standard_ended (begins beside here) end (state_of n (drop long x)) ≡ whole_of n end (drop long y) =
+    rw (words, counter, kept) refl in
+    subst (λ w. TurnsBy (standard loaded) first s w) (e ∙ f) turn
+
+-- a turn that stopped to wait
+pub standard_waits : (loaded : Loaded) (first here : Here) (end : Place) (s : State) (m n : Contents) (text : List ℕ)
+    → StopsBy (standard_step loaded) first s here end (state_of m text)
+    → ((l : List ℕ) → state_of n l ≡ state_of m l) → end ≡ places.Waiting → IsWaiting n
+standard_waits loaded first here end s m n text stops same e =
+    let w = standard_step_waits loaded here stops.before (state_of m text)
+    (stops.stops ∙ ap (λ p. halt p (state_of m text)) e) in
+    waiting n text w.pending (ap (λ (t : State). t.pending) (same text) ∙ w.waits)
+    (ap (λ (t : State). is_text_buffer t.memory w.pending.text_buffer) (same text) ∙ w.text_buffer)
+    (ap (λ (t : State). is_parse_buffer t.memory w.pending.parse_buffer) (same text) ∙ w.parse_buffer)
+
+-- a line that ends the turn at once
+pub stopped_standard : (m n : Contents) (beside : Beside) (fuel counter : ℕ) (end : Place) (x y : List ℕ)
+    → ((l : List ℕ) → state_of n l ≡ state_of m l) → program_counter_of (slice_index n.cells) ≡ counter
+    → beside_of (slice_index n.cells) ≡ beside → y ≡ x ++ notice end
+    → whole_of n end (drop (length x) y)
+    ≡ standard_ended (begins beside (record { program_counter = counter; fuel = fuel })) end (state_of m [])
+stopped_standard m n beside fuel counter end x y same kept rest text =
+    let here : Here = begins beside (record { program_counter = counter; fuel = fuel }) in
+    let d : drop (length x) y ≡ notice end = ap (drop (length x)) text
+    ∙ drop-append-le (length x) x (notice end) (omega arith)
+    ∙ ap (λ l. l ++ notice end) (drop_all (length x) x (omega arith)) in
+    let f : whole_of n end (drop (length x) y) ≡ standard_ended here end (state_of n []) =
+    rw (d, kept, rest) refl in
+    f ∙ ap (standard_ended here end) (same [])
+
+-- the opening
+opens : (loaded : Loaded) (s : Contents) (fuel : ℕ) (first : Next) (memory : List ℕ) (whole : Whole) → IsOpening s
+    → memory ≡ memory_of s → first ≡ first_next memory fuel
+    → TurnsBy (standard loaded) (begins loaded.dice first) (state_of s []) whole → OpensStandard loaded s fuel whole
+opens loaded s fuel first memory whole begin is e h =
+    subst (λ n. TurnsBy (standard loaded) (begins loaded.dice n) (first_state (memory_of s)) whole)
+    (e ∙ ap (λ m. first_next m fuel) is)
+    (subst (λ t. TurnsBy (standard loaded) (begins loaded.dice first) t whole) begin.first h)
+
+pub opens_standard : {E : Type 0} (result : Result Place E) (loaded : Loaded) (s : Contents) (fuel : ℕ) (dice : Beside)
+    (first : Next) (memory : List ℕ) (whole : Place → Whole) → dice ≡ loaded.dice → IsOpening s
+    → memory ≡ memory_of s → first ≡ first_next memory fuel
+    → IfOk result (λ place. TurnsBy (standard loaded) (begins dice first) (state_of s []) (whole place))
+    → IfOk result (λ place. OpensStandard loaded s fuel (whole place))
+opens_standard (Ok place) loaded s fuel dice first memory whole d begin is e h =
+    opens loaded s fuel first memory (whole place) begin is e
+    (subst (λ b. TurnsBy (standard loaded) (begins b first) (state_of s []) (whole place)) d h)
+opens_standard (Err x) loaded s fuel dice first memory whole d begin is e h = tt

@@ -1,0 +1,46 @@
+-- What loading a story comes to.
+use Rattle.std.specs.Prelude.{◌≡◌, ℕ, List, [], length, take, Result, Ok, Err}
+use Rattle.zcore.specs.declared.header.Header.{Header}
+use Rattle.zcore.specs.Header.{static_base_of}
+use Rattle.zcore.specs.Turn.{first_state}
+use Rattle.zcore_standard.specs.declared.loading.LoadedStory.{LoadedStory}
+use Rattle.zcore_standard.specs.Loading.{ReadsFile, characters_of, loaded_of, memory_for, seeded}
+use Rattle.zcore_standard.specs.Place.{Loaded}
+use Rattle.machine_frames.specs.Contents.{Contents, memory_of}
+use Rattle.machine_frames.specs.States.{state_of, IsStoreOf}
+use Rattle.machine_standard.specs.declared.load.StandardFault.{StandardFault}
+use Rattle.machine_standard.specs.declared.load.StandardFault.TheVariants as faults
+use Rattle.machine_standard.specs.declared.turn.StandardMachine.{StandardMachine}
+
+-- a store that this machine plays: it is of the story with this header, and loading has kept its dynamic memory
+pub record IsStoreFor (machine : StandardMachine) (contents : Contents) : Type 0 where
+  pub store : IsStoreOf machine.header contents
+  pub dynamic : length machine.loaded.dynamic ≡ static_base_of (memory_of contents)
+
+-- a machine and a store that begin with this memory
+pub record Begins (memory : List ℕ) (story : LoadedStory) (seed : ℕ) (machine : StandardMachine)
+    (contents : Contents) : Type 0 where
+  pub header : machine.header ≡ story.header
+  pub loaded : machine.loaded ≡ record {
+    dynamic = take (static_base_of memory) memory;
+    dice = seeded seed;
+    is_sum_right = story.is_sum_right;
+    characters = characters_of memory;
+  }
+  pub store : IsStoreFor machine contents
+  pub state : state_of contents [] ≡ first_state memory
+
+-- the machine has what loading fixes, and the store stands for the story as it begins
+pub record IsLoaded (file : List ℕ) (seed : ℕ) (machine : StandardMachine) (contents : Contents) : Type 0 where
+  pub story : LoadedStory
+  pub read : ReadsFile file (Ok story)
+  pub header : machine.header ≡ story.header
+  pub loaded : machine.loaded ≡ loaded_of file seed
+  pub store : IsStoreFor machine contents
+  pub state : state_of contents [] ≡ first_state (memory_for file)
+
+-- a file that is refused, or memory that is refused for one which can be played
+abbrev pub Loads : List ℕ → ℕ → Result (StandardMachine × Contents) StandardFault → Type 0
+Loads file seed (Ok x) = IsLoaded file seed x.0 x.1
+Loads file seed (Err (faults.File fault)) = ReadsFile file (Err fault)
+Loads file seed (Err faults.Memory) = (story : LoadedStory) × ReadsFile file (Ok story)

@@ -1,0 +1,93 @@
+//! Loading a story, to play it by the whole Standard.
+
+ghost use Rattle.std.specs.Prelude.{◌≡◌, ◌≤◌, length, take, IfOk};
+ghost use Rattle.zcore.specs.Layout.{longest_story};
+ghost use Rattle.zcore_standard.specs.Loading.{IsPlayable, seeded};
+ghost use Rattle.machine_standard.specs.Loads.{Begins, Loads};
+
+use crate::turn::StandardMachine;
+use machine_frames::Store;
+use machine_standard_opcodes::Loaded;
+use std::alloc::{AllocError, Global};
+use thiserror::Error;
+use zcore::{Beside, Header};
+use zcore_standard::{LoadedStory, LoadingFault, characters, load};
+
+/// Why a file is not played. `Display` writes the number of the refusal alone, or its name.
+#[derive(Clone, Copy, Debug, PartialEq, Eq, Error)]
+pub enum StandardFault {
+    /// The file is refused.
+    #[error("{0}")]
+    File(LoadingFault),
+
+    /// Memory was refused.
+    #[error("Z9")]
+    Memory,
+}
+
+impl StandardMachine {
+    /// The machine of a story file, whose dice begin with a seed, and the store with which it
+    /// begins. The header has what the player tells the story.
+    ///
+    /// # Errors
+    ///
+    /// What [`zcore_standard::load`] answers, or want of memory, where the file can be played.
+    pub fn load(
+        alloc: Global,
+        file: Vec<u8>,
+        seed: u32,
+    ) -> Result<(StandardMachine, Store), StandardFault>
+        ensures { Loads file.items seed result }
+    {
+        let mut memory = file;
+        let story = match load(&mut memory) {
+            Ok(story) => story,
+            Err(fault) => return Err(StandardFault::File(fault)),
+        };
+        match begin(alloc, memory, story, seed) {
+            Ok(begun) => Ok(begun),
+            Err(_) => Err(StandardFault::Memory),
+        }
+    }
+}
+
+/// The machine of a story that was read, and its store.
+fn begin(
+    alloc: Global,
+    memory: Vec<u8>,
+    story: LoadedStory,
+    seed: u32,
+) -> Result<(StandardMachine, Store), AllocError>
+    requires playable { IsPlayable memory.items story.header }
+    requires short { length memory.items ≤ longest_story }
+    ensures { IfOk result (λ begun. Begins memory.items story seed begun.0 begun.1) }
+{
+    let header = story.header;
+    let characters = characters(alloc, &memory)?;
+    let dynamic = front(alloc, &memory, header.static_base as usize)?;
+    let store = Store::new(alloc, memory, header.static_base)?;
+    let loaded = Loaded::new(dynamic, seeded(seed), story.is_sum_right, characters);
+    Ok((StandardMachine { header, loaded }, store))
+}
+
+/// The first bytes of memory.
+fn front(alloc: Global, memory: &[u8], count: usize) -> Result<Vec<u8>, AllocError>
+    requires { count ≤ length memory.now }
+    ensures { IfOk result (λ bytes. bytes.items ≡ take count memory.now) }
+{
+    let mut bytes = Vec::new(alloc);
+    bytes.extend_from_slice(&memory[..count])?;
+    Ok(bytes)
+}
+
+/// Window 0, and the dice of a seed.
+fn seeded(seed: u32) -> Beside
+    ensures { result ≡ seeded seed }
+{
+    Beside {
+        window: 0,
+        random: seed,
+        interval: 0,
+        counter: 0,
+    }
+}

@@ -1,0 +1,117 @@
+-- Operations that the profile knows, on the values of their operands.
+use Rattle.std.proofs.Common.{◌≡◌, ◌≢◌, ℕ, Bool, true, false, cond, List, Option, refl, ap, Result, Ok, Err}
+use Rattle.std.proofs.lemmas.Bool.{eq-eqb, ne_eqb}
+use Rattle.journal.specs.Recording.{Recording}
+use Rattle.zcore.specs.declared.instruction.Branch.{Branch}
+use Rattle.zcore.specs.declared.instruction.Operation.{Operation}
+use Rattle.zcore.specs.declared.instruction.Operation.TheVariants as operations
+use Rattle.zcore.specs.declared.next.Next.{Next}
+use Rattle.zcore.specs.declared.operations.OperandCount.TheVariants as counts
+use Rattle.zcore.specs.Execution.{perform}
+use Rattle.zcore.specs.Operations.{count_of}
+use Rattle.zcore.specs.Objects.{remove_object}
+use Rattle.zcore.specs.State.{State, Out, done}
+use Rattle.zcore_standard.specs.Nothing.{concerns_nothing, insert_nothing, perform_on_nothing, perform_known}
+use Rattle.machine_frames.specs.Contents.{Contents}
+use Rattle.machine_frames.specs.States.{state_of, IsSound}
+use Rattle.machine_frames.specs.Went.{Went, Told}
+use Rattle.machine_frames.specs.declared.end.End.{End}
+use Rattle.machine_frames.proofs.Steps.{went_as, went_still, told_as}
+
+-- on object 0, and on what is an object or no number of one
+
+known_is : (operation : Operation) (here : Next) (after : ℕ) (result : Option ℕ) (branch : Option Branch)
+    (values : List ℕ) (s : State) (b : Bool) → concerns_nothing operation values ≡ b
+    → perform_known operation here after result branch values s
+    ≡ cond b (perform_on_nothing operation here after result branch values)
+    (perform operation here after result branch values) s
+known_is operation here after result branch values s b e =
+    ap (λ (x : Bool). cond x (perform_on_nothing operation here after result branch values)
+    (perform operation here after result branch values) s) e
+
+pub nothing_went : {s t : Recording Contents} (r : Result Next End) (operation : Operation) (here : Next) (after : ℕ)
+    (result : Option ℕ) (branch : Option Branch) (values : List ℕ) → concerns_nothing operation values ≡ true
+    → Went r s t (perform_on_nothing operation here after result branch values)
+    → Went r s t (perform_known operation here after result branch values)
+nothing_went {s} r operation here after result branch values e w =
+    went_as r (perform_known operation here after result branch values)
+    (λ x. known_is operation here after result branch values (state_of s.store x) true e) w
+
+pub known_went : {s t : Recording Contents} (r : Result Next End) (operation : Operation) (here : Next) (after : ℕ)
+    (result : Option ℕ) (branch : Option Branch) (values : List ℕ) → concerns_nothing operation values ≡ false
+    → Went r s t (perform operation here after result branch values)
+    → Went r s t (perform_known operation here after result branch values)
+known_went {s} r operation here after result branch values e w =
+    went_as r (perform_known operation here after result branch values)
+    (λ x. known_is operation here after result branch values (state_of s.store x) false e) w
+
+pub known_told : {s t : Recording Contents} {x y : List ℕ} (r : Result Next End) (operation : Operation) (here : Next)
+    (after : ℕ) (result : Option ℕ) (branch : Option Branch) (values : List ℕ)
+    → concerns_nothing operation values ≡ false
+    → Told r s x t y (perform operation here after result branch values)
+    → Told r s x t y (perform_known operation here after result branch values)
+known_told {s} {x = x} r operation here after result branch values e w =
+    told_as r (perform_known operation here after result branch values)
+    (known_is operation here after result branch values (state_of s.store x) false e) w
+
+-- an operation without operands is on no object
+pub without_none : (operation : Operation) (values : List ℕ) → count_of operation ≡ counts.Zero
+    → concerns_nothing operation values ≡ false
+without_none operations.JumpIfIn values e = absurd (cc)
+without_none operations.TestAttribute values e = absurd (cc)
+without_none operations.SetAttribute values e = absurd (cc)
+without_none operations.ClearAttribute values e = absurd (cc)
+without_none operations.InsertObject values e = absurd (cc)
+without_none operations.GetProperty values e = absurd (cc)
+without_none operations.GetPropertyAddress values e = absurd (cc)
+without_none operations.GetNextProperty values e = absurd (cc)
+without_none operations.GetSibling values e = absurd (cc)
+without_none operations.GetChild values e = absurd (cc)
+without_none operations.GetParent values e = absurd (cc)
+without_none operations.RemoveObject values e = absurd (cc)
+without_none operations.PrintObject values e = absurd (cc)
+without_none operations.PutProperty values e = absurd (cc)
+without_none _ values e = refl
+
+goes_on_only : (operation : Operation) (here : Next) (after : ℕ) (result : Option ℕ) (branch : Option Branch)
+    (values : List ℕ) (s : State) → operation ≢ operations.JumpIfIn → operation ≢ operations.TestAttribute
+    → operation ≢ operations.InsertObject → operation ≢ operations.GetProperty
+    → operation ≢ operations.GetPropertyAddress → operation ≢ operations.GetNextProperty
+    → operation ≢ operations.GetParent → operation ≢ operations.GetSibling → operation ≢ operations.GetChild
+    → perform_on_nothing operation here after result branch values s
+    ≡ done (record { program_counter = after; fuel = here.fuel }) s
+unfolding perform_on_nothing
+goes_on_only operations.JumpIfIn here after result branch values s a b c d e f g h i = absurd (a refl)
+goes_on_only operations.TestAttribute here after result branch values s a b c d e f g h i = absurd (b refl)
+goes_on_only operations.InsertObject here after result branch values s a b c d e f g h i = absurd (c refl)
+goes_on_only operations.GetProperty here after result branch values s a b c d e f g h i = absurd (d refl)
+goes_on_only operations.GetPropertyAddress here after result branch values s a b c d e f g h i = absurd (e refl)
+goes_on_only operations.GetNextProperty here after result branch values s a b c d e f g h i = absurd (f refl)
+goes_on_only operations.GetParent here after result branch values s a b c d e f g h i = absurd (g refl)
+goes_on_only operations.GetSibling here after result branch values s a b c d e f g h i = absurd (h refl)
+goes_on_only operations.GetChild here after result branch values s a b c d e f g h i = absurd (i refl)
+goes_on_only _ here after result branch values s a b c d e f g h i = refl
+
+-- the operations on object 0 that do nothing
+pub nothing_else : (s : Recording Contents) (operation : Operation) (here : Next) (after : ℕ) (result : Option ℕ)
+    (branch : Option Branch) (values : List ℕ) → IsSound s.store → operation ≢ operations.JumpIfIn
+    → operation ≢ operations.TestAttribute → operation ≢ operations.InsertObject → operation ≢ operations.GetProperty
+    → operation ≢ operations.GetPropertyAddress → operation ≢ operations.GetNextProperty
+    → operation ≢ operations.GetParent → operation ≢ operations.GetSibling → operation ≢ operations.GetChild
+    → Went (Ok (record { program_counter = after; fuel = here.fuel })) s s
+    (perform_on_nothing operation here after result branch values)
+nothing_else s operation here after result branch values sound a b c d e f g h i =
+    went_still s (perform_on_nothing operation here after result branch values) sound
+    (λ t. goes_on_only operation here after result branch values (state_of s.store t) a b c d e f g h i)
+
+-- insert_obj
+
+pub nothing_inserted : (s : Recording Contents) (here : Next) (after object : ℕ) → IsSound s.store → object ≡ 0
+    → Went (Ok (record { program_counter = after; fuel = here.fuel })) s s (insert_nothing here after object)
+nothing_inserted s here after object sound e = went_still s (insert_nothing here after object) sound
+    (λ t. rw (eq-eqb object 0 e) refl)
+
+pub something_taken : {s t : Recording Contents} (r : Result Next End) (here : Next) (after object : ℕ) → object ≢ 0
+    → Went r s t (remove_object here after object) → Went r s t (insert_nothing here after object)
+something_taken r here after object n w = went_as r (insert_nothing here after object)
+    (λ x. rw (ne_eqb object 0 n) refl) w

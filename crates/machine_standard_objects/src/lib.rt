@@ -1,0 +1,9 @@
+//! A step of an instruction that the profile knows, as the Standard's machine does it: the profile's
+//! step, but operations on objects take object 0.
+#![tactic(auto)]
+
+mod nothing;
+mod perform;
+mod step;
+
+pub use step::step_known;

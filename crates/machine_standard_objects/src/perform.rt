@@ -1,0 +1,119 @@
+//! What a known instruction does with the values of its operands: what it does in the profile, or on
+//! object 0.
+
+ghost use Rattle.std.specs.Prelude.{◌≡◌, ◌≤◌, [], ◌∷◌, length};
+ghost use Rattle.zcore.specs.Layout.{longest_story};
+ghost use Rattle.zcore.specs.Operations.{count_of, least_operands, most_operands};
+ghost use Rattle.zcore.specs.declared.operations.OperandCount.TheVariants as counts;
+ghost use Rattle.zcore_standard.specs.Nothing as definitions;
+ghost use Rattle.machine_frames.specs.States.{IsStoreOf};
+ghost use Rattle.machine_frames.specs.Went.{Went};
+ghost use Rattle.machine_opcodes.specs.Printed.{HasBegun, Grew, ToldFrom};
+
+use crate::nothing::{concerns_nothing, perform_on_nothing};
+use journal::Recorded;
+use machine_frames::{End, Store};
+use machine_opcodes::Ending;
+use machine_steps::{OPERANDS, perform_many, perform_one, perform_several, perform_two};
+use zcore::{Header, Next, Operation};
+
+/// Does an operation on two values.
+pub(crate) fn two(
+    header: &Header,
+    store: &mut Recorded<Store>,
+    here: Next,
+    operation: Operation,
+    x: u16,
+    y: u16,
+    ending: Ending,
+) -> Result<Next, End>
+    requires store { IsStoreOf header.now store.old.store }
+    requires count { count_of operation ≡ counts.Two }
+    requires after { ending.after ≤ longest_story }
+    ensures { Went result store.old store.new (definitions.perform_known operation here
+        ending.after ending.result ending.branch (x ∷ y ∷ [])) }
+{
+    if concerns_nothing(operation, &[x, y]) {
+        return perform_on_nothing(header, store, here, operation, &[x, y], ending);
+    }
+    perform_two(header, store, here, operation, x, y, ending)
+}
+
+/// Does an operation with an opcode of two operands on two values or, where it compares, on up to
+/// four.
+pub(crate) fn many(
+    header: &Header,
+    store: &mut Recorded<Store>,
+    here: Next,
+    operation: Operation,
+    values: &[u16],
+    ending: Ending,
+) -> Result<Next, End>
+    requires store { IsStoreOf header.now store.old.store }
+    requires count { count_of operation ≡ counts.Two }
+    requires enough { 2 ≤ length values.now }
+    requires few { length values.now ≤ most_operands operation }
+    requires after { ending.after ≤ longest_story }
+    ensures { Went result store.old store.new (definitions.perform_known operation here
+        ending.after ending.result ending.branch values.now) }
+{
+    if concerns_nothing(operation, values) {
+        return perform_on_nothing(header, store, here, operation, values, ending);
+    }
+    perform_many(header, store, here, operation, values, ending)
+}
+
+/// Does an operation on one value.
+pub(crate) fn one(
+    header: &Header,
+    store: &mut Recorded<Store>,
+    text: &mut Vec<u8>,
+    start: usize,
+    here: Next,
+    operation: Operation,
+    x: u16,
+    ending: Ending,
+) -> Result<Next, End>
+    requires store { IsStoreOf header.now store.old.store }
+    requires text { HasBegun start text.old.items }
+    requires count { count_of operation ≡ counts.One }
+    requires after { ending.after ≤ longest_story }
+    ensures told { ToldFrom start result store.old text.old.items store.new text.new.items
+        (definitions.perform_known operation here ending.after ending.result ending.branch
+        (x ∷ [])) }
+    ensures text { Grew start text.old.items text.new.items }
+{
+    if concerns_nothing(operation, &[x]) {
+        return perform_on_nothing(header, store, here, operation, &[x], ending);
+    }
+    perform_one(header, store, text, start, here, operation, x, ending)
+}
+
+/// Does an operation with an opcode of any number of operands.
+pub(crate) fn several(
+    header: &Header,
+    store: &mut Recorded<Store>,
+    text: &mut Vec<u8>,
+    start: usize,
+    here: Next,
+    operation: Operation,
+    values: &[u16],
+    ending: Ending,
+) -> Result<Next, End>
+    requires store { IsStoreOf header.now store.old.store }
+    requires text { HasBegun start text.old.items }
+    requires count { count_of operation ≡ counts.Several }
+    requires enough { least_operands operation ≤ length values.now }
+    requires some { 1 ≤ length values.now }
+    requires few { length values.now ≤ OPERANDS }
+    requires after { ending.after ≤ longest_story }
+    ensures told { ToldFrom start result store.old text.old.items store.new text.new.items
+        (definitions.perform_known operation here ending.after ending.result ending.branch
+        values.now) }
+    ensures text { Grew start text.old.items text.new.items }
+{
+    if concerns_nothing(operation, values) {
+        return perform_on_nothing(header, store, here, operation, values, ending);
+    }
+    perform_several(header, store, text, start, here, operation, values, ending)
+}

@@ -1,0 +1,118 @@
+-- The story begins anew.
+use Rattle.std.proofs.Common.{◌≡◌, ◌≢◌, ℕ, ◌+◌, ◌-◌, ◌<◌, ◌≤◌, List, [], ◌∷◌, length, drop, None, Result, Ok, Err, refl}
+use Rattle.std.proofs.Common.{ap, sym, ◌∙◌, arith, slice_index}
+use Rattle.std.proofs.lemmas.Bool.{ne_eqb, eq-eqb}
+use Rattle.std.specs.Prelude.{◌==◌, if◌then◌else◌}
+use Rattle.journal.specs.Recording.{Recording}
+use Rattle.zcore.specs.declared.next.Next.{Next}
+use Rattle.zcore.specs.declared.place.Limit.TheVariants as limits
+use Rattle.zcore.specs.declared.place.Place.TheVariants as places
+use Rattle.zcore.specs.State.{Frame, State, Out, done, halt, bound}
+use Rattle.zcore.specs.Parts.{spend, goes_on}
+use Rattle.zcore.specs.Turn.{first_environment}
+use Rattle.ztext.specs.Bytes.{word_at}
+use Rattle.zcore_standard.specs.Flow.{restarted, restart}
+use Rattle.zcore.specs.declared.beside.Beside.{Beside}
+use Rattle.zcore_standard.specs.Place.{Here, Loaded}
+use Rattle.zcore_standard.specs.Machine.{begins}
+use Rattle.machine_frames.specs.Contents.{Contents, Wrote, memory_of}
+use Rattle.machine_frames.specs.States.{base_of, local_count, height_of, frame_of, frames_of, state_of, IsSound}
+use Rattle.machine_frames.specs.States.{IsStacked}
+use Rattle.machine_frames.specs.Went.{GoesOn, Went}
+use Rattle.machine_frames.specs.declared.end.End.{End}
+use Rattle.machine_frames.specs.declared.end.End.TheVariants as ends
+use Rattle.machine_frames.proofs.Frames.{pending_same}
+use Rattle.machine_frames.proofs.Kept.{HasFrames, Keeps, keeps_goes_on, keeps_state, memory_kept}
+use Rattle.machine_frames.proofs.Lists.{wrote_memory}
+use Rattle.machine_frames.proofs.Steps.{goes_on_after, went_halt}
+use Rattle.machine_lines.specs.Lines.{Fills, WaitsNoMore}
+use Rattle.machine_lines.proofs.Lines.{waits_no_more}
+use Rattle.machine_standard_opcodes.specs.Left.{Empties}
+
+-- the cells of the first record as a story begins
+first_frame : (c d : List ℕ) → Wrote c d 16 (0 ∷ 0 ∷ 0 ∷ 0 ∷ 0 ∷ 0 ∷ 256 ∷ [])
+    → frames_of (slice_index d) 1 0 ≡ first_environment ∷ []
+first_frame c d w =
+    let e16 : slice_index d 16 ≡ 0 = w.inside 0 (omega arith) in
+    let e17 : slice_index d 17 ≡ 0 = w.inside 1 (omega arith) in
+    let e18 : slice_index d 18 ≡ 0 = w.inside 2 (omega arith) in
+    let e19 : slice_index d 19 ≡ 0 = w.inside 3 (omega arith) in
+    let e20 : slice_index d 20 ≡ 0 = w.inside 4 (omega arith) in
+    let e21 : slice_index d 21 ≡ 0 = w.inside 5 (omega arith) in
+    let e22 : slice_index d 22 ≡ 256 = w.inside 6 (omega arith) in
+    rw (e16, e17, e18, e19, e20, e21, e22) refl
+
+first_stands : (b c d : List ℕ) → Wrote b c 0 (1 ∷ 0 ∷ 0 ∷ []) → Wrote c d 16 (0 ∷ 0 ∷ 0 ∷ 0 ∷ 0 ∷ 0 ∷ 256 ∷ [])
+    → HasFrames (slice_index d) 1 0
+first_stands b c d v w =
+    let g = slice_index d in
+    let e0 : g 0 ≡ 1 = w.before 0 (omega arith) ∙ v.inside 0 (omega arith) in
+    let e1 : g 1 ≡ 0 = w.before 1 (omega arith) ∙ v.inside 1 (omega arith) in
+    let e2 : g 2 ≡ 0 = w.before 2 (omega arith) ∙ v.inside 2 (omega arith) in
+    let e16 : g 16 ≡ 0 = w.inside 0 (omega arith) in
+    let e17 : g 17 ≡ 0 = w.inside 1 (omega arith) in
+    let e20 : g 20 ≡ 0 = w.inside 4 (omega arith) in
+    let base : base_of g 0 ≡ 0 = rw (e16, e17) refl in
+    record {
+      count = e0;
+      height = rw (e1, e2) refl;
+      some = omega arith;
+      few = omega arith;
+      room = omega arith;
+      stacked = (omega (arith, base, e20), base);
+    }
+
+-- the first environment runs alone
+pub frames_emptied : (s t : Recording Contents) (c : List ℕ) → IsSound s.store → Wrote s.store.cells c 0 (1 ∷ 0 ∷ 0 ∷ [])
+    → Wrote c t.store.cells 16 (0 ∷ 0 ∷ 0 ∷ 0 ∷ 0 ∷ 0 ∷ 256 ∷ []) → t.store.fixed ≡ s.store.fixed
+    → t.beginning ≡ s.beginning
+    → GoesOn s t × ((text : List ℕ)
+    → state_of t.store text ≡ record (state_of s.store text) { frames = first_environment ∷ [] })
+frames_emptied s t c sound v w fixed beginning =
+    let f = slice_index s.store.cells in
+    let g = slice_index t.store.cells in
+    let keeps : Keeps s t = record {
+      size = w.size ∙ v.size;
+      memory = memory_kept s.store t.store
+          (wrote_memory c t.store.cells 16 _ w (omega arith) ∙ wrote_memory s.store.cells c 0 _ v (omega arith)) fixed;
+      pending = pending_same f g (λ k l r. w.before k (omega arith) ∙ v.after k (omega arith));
+      fixed = fixed;
+      beginning = beginning;
+    } in
+    let stands = first_stands s.store.cells c t.store.cells v w in (
+      keeps_goes_on s t 1 0 sound keeps stands,
+      λ text. keeps_state s t 1 0 text keeps stands
+          ∙ ap (λ (fs : List Frame). record (state_of s.store text) { frames = fs }) (first_frame c t.store.cells w),
+    )
+
+pub emptied : (s m t : Recording Contents)
+    → GoesOn s m × ((text : List ℕ)
+    → state_of m.store text ≡ record (state_of s.store text) { frames = first_environment ∷ [] })
+    → WaitsNoMore m t → Empties s t
+emptied s m t first waits =
+    record {
+      goes_on = goes_on_after first.0 waits.goes_on;
+      state = λ text. waits.state text ∙ ap (λ (x : State). record x { pending = None }) (first.1 text);
+    }
+
+pub begun_anew : (s m t : Recording Contents) (loaded : Loaded) (kept : Beside) (here : Next) (address : ℕ)
+    → here.fuel ≢ 0 → address ≡ word_at (memory_of s.store) 6 → Fills s m 64 (drop 64 loaded.dynamic) → Empties m t
+    → Went (Ok (begins loaded.dice (record { program_counter = address; fuel = here.fuel - 1 }))) s t
+    (restart loaded (begins kept here))
+unfolding restart spend
+begun_anew s m t loaded kept here address some e f n = record {
+  did = (
+    goes_on_after f.goes_on n.goes_on,
+    λ text.
+        let state : state_of t.store text ≡ restarted loaded (state_of s.store text) = n.state text
+        ∙ ap (λ (x : State). record x { frames = first_environment ∷ []; pending = None }) (f.state text) in
+        rw (ne_eqb here.fuel 0 some, e, state) refl,
+  );
+}
+
+pub no_fuel : (s : Recording Contents) (loaded : Loaded) (kept : Beside) (here : Next) → IsSound s.store
+    → here.fuel ≡ 0
+    → Went {A = Here} (Err (ends.Stop (places.Limit limits.Fuel))) s s (restart loaded (begins kept here))
+unfolding restart spend
+no_fuel s loaded kept here sound e = went_halt s (restart loaded (begins kept here)) sound
+    (λ text. rw (eq-eqb here.fuel 0 e) refl)

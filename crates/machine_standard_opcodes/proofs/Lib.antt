@@ -1,0 +1,5 @@
+pub mod Keeping
+pub mod Returning
+pub mod Anew
+pub mod Characters
+pub mod Cursor

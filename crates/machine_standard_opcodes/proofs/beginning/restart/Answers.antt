@@ -1,0 +1,40 @@
+use Rattle.std.proofs.Common.{◌≡◌, ◌≤◌, ◌∙◌, ap, drop, length, subst, arith}
+use Rattle.std.proofs.lemmas.List.{length-drop}
+use Rattle.ztext.specs.Bytes.{word_at}
+use Rattle.machine_frames.specs.Contents.{memory_of}
+use Rattle.machine_lines.specs.Lines.{Fills}
+use Rattle.machine_frames.proofs.Kept.{length-memory}
+use Rattle.machine_standard_opcodes.proofs.Anew.{no_fuel, begun_anew}
+use Rattle.machine_standard_opcodes.proofs.beginning.restart.Goals as goal
+
+pub returns-then-here-eq0 : goal.returns-then-here-eq0
+returns-then-here-eq0 c = λ kept. no_fuel _ c.args.loaded.now kept c.args.here c.requires.sound c.if-here-eq0.true
+
+pub bounds-memory-6 : goal.bounds-memory-6
+bounds-memory-6 c =
+    let memory = ap length (c.memory-memory.ensures ∙ ap memory_of c.store.ensures) in
+    omega (arith, memory, length-memory c.args.store.now.store c.requires.sound, c.requires.sound.static_base)
+
+pub bounds-memory-7 : goal.bounds-memory-7
+bounds-memory-7 c =
+    let memory = ap length (c.memory-memory.ensures ∙ ap memory_of c.store.ensures) in
+    omega (arith, memory, length-memory c.args.store.now.store c.requires.sound, c.requires.sound.static_base)
+
+pub fill-requires-clause-room : goal.fill-requires-clause-room
+fill-requires-clause-room c =
+    let long = ap length c.after_header.ensures ∙ length-drop 64 c.dynamic.result.now in
+    omega (
+      arith,
+      long,
+      ap length c.dynamic.ensures,
+      c.requires.dynamic,
+      length-memory c.args.store.now.store c.requires.sound,
+      c.requires.sound.static_base,
+    )
+
+pub returns : goal.returns
+returns c =
+    let memory = c.memory-memory.ensures ∙ ap memory_of c.store.ensures in
+    λ kept. begun_anew c.args.store.now c.fill.new.store c.empty.new.store c.args.loaded.now kept c.args.here _
+    c.if-here-eq0.false (ap (λ m. word_at m 6) memory) (subst (λ bytes. Fills c.args.store.now c.fill.new.store 64 bytes)
+    (c.after_header.ensures ∙ ap (drop 64) c.dynamic.ensures) c.in_ok-fill.ensures.filled) c.in_ok-empty.ensures.emptied

@@ -1,0 +1,81 @@
+//! The story begins anew (Z-Machine Standards Document 1.1, section 15, `restart`).
+
+ghost use Rattle.std.specs.Prelude.{◌≡◌, ◌≤◌, ◌+◌, length, drop, OnOk, OnErr};
+ghost use Rattle.zcore.specs.Header.{static_base_of};
+ghost use Rattle.zcore.specs.Layout.{header_size};
+ghost use Rattle.zcore.specs.declared.beside.Beside.{Beside};
+ghost use Rattle.zcore_standard.specs.Flow as definitions;
+ghost use Rattle.zcore_standard.specs.Machine.{begins};
+ghost use Rattle.machine_frames.specs.Contents.{memory_of};
+ghost use Rattle.machine_frames.specs.States.{IsSound, IsStoreOf};
+ghost use Rattle.machine_frames.specs.Went.{GivenUp, Went};
+ghost use Rattle.machine_lines.specs.Lines.{Fills};
+ghost use Rattle.machine_opcodes.specs.Seen.{seen};
+ghost use Rattle.machine_standard_opcodes.specs.Left.{Empties};
+
+use crate::loaded::Loaded;
+use journal::{NoMemory, Recorded};
+use machine_frames::layout::{FRAME_COUNT, HEIGHT, MEMORY, NO_VARIABLE, RECORD, RECORDS, WAITING};
+use machine_frames::{End, Store, put_all};
+use zcore::layout::HEADER_LENGTH;
+use zcore::{Limit, Next, Place};
+
+/// Begins the story anew: `restart`. Dynamic memory after the header is as it was loaded, the first
+/// environment runs, and no line is waited for. It takes a unit of fuel. Window and dice are then as
+/// at loading, which the caller sees to.
+///
+/// # Errors
+///
+/// The limit of fuel. `End::Memory` where memory was refused: the turn is given up.
+pub fn restart(store: &mut Recorded<Store>, loaded: &Loaded, here: Next) -> Result<Next, End>
+    requires sound { IsSound store.old.store }
+    requires dynamic { length loaded.now.dynamic ≡ static_base_of (memory_of store.old.store) }
+    ensures { (kept : Beside) → Went (seen (begins loaded.now.dice) result) store.old store.new
+        (definitions.restart loaded.now (begins kept here)) }
+{
+    if here.fuel == 0 {
+        return Err(End::Stop(Place::Limit(Limit::Fuel)));
+    }
+    let memory = store.store().memory();
+    let program_counter = memory[6] as u32 * 256 + memory[7] as u32;
+    fill(store, HEADER_LENGTH, after_header(loaded.dynamic()))?;
+    empty(store)?;
+    Ok(Next {
+        program_counter,
+        fuel: here.fuel - 1,
+    })
+}
+
+/// Memory from the end of the header on.
+fn after_header(memory: &[u8]) -> &[u8]
+    requires { header_size ≤ length memory.now }
+    ensures { result.now ≡ drop header_size memory.now }
+{
+    &memory[HEADER_LENGTH..]
+}
+
+/// Leaves all frames but the first environment, which is empty, and waits for no line.
+fn empty(store: &mut Recorded<Store>) -> Result<(), NoMemory>
+    requires sound { IsSound store.old.store }
+    ensures emptied { OnOk result (Empties store.old store.new) }
+    ensures given_up { OnErr result (GivenUp store.old store.new) }
+{
+    put_all(store, FRAME_COUNT, &[1, 0, 0])?;
+    put_all(store, RECORDS, &[0, 0, 0, 0, 0, 0, NO_VARIABLE])?;
+    store.put(WAITING, 0)?;
+    Ok(())
+}
+
+/// Writes bytes one after another to dynamic memory after the header.
+fn fill(store: &mut Recorded<Store>, at: usize, bytes: &[u8]) -> Result<(), NoMemory>
+    requires sound { IsSound store.old.store }
+    requires after_header { header_size ≤ at }
+    requires room { at + length bytes.now ≤ static_base_of (memory_of store.old.store) }
+    ensures filled { OnOk result (Fills store.old store.new at bytes.now) }
+    ensures given_up { OnErr result (GivenUp store.old store.new) }
+{
+    for (i, byte) in bytes.iter().enumerate() {
+        store.put(MEMORY + (at + i), *byte as u16)?;
+    }
+    Ok(())
+}

@@ -1,0 +1,19 @@
+//! What the opcodes do that the Standard has and the profile has not, over the primitives of a
+//! running story.
+#![tactic(auto)]
+
+mod beginning;
+mod dice;
+mod flow;
+mod loaded;
+mod screen;
+mod shifts;
+mod unicode;
+
+pub use beginning::restart;
+pub use dice::random;
+pub use flow::{catch, throw};
+pub use loaded::Loaded;
+pub use screen::{font_of, get_cursor, output_stream};
+pub use shifts::{shifted, shifted_with_sign};
+pub use unicode::{abilities, print_unicode};

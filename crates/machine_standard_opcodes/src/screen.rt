@@ -1,0 +1,117 @@
+//! The screen, of which a plain terminal has none (Z-Machine Standards Document 1.1, sections 8 and
+//! 15).
+
+ghost use Rattle.std.specs.Prelude.{◌≡◌, ◌<◌, ◌≤◌, ◌+◌, ◌&&◌, nat_le, nat_lt, true, if◌then◌else◌, OnOk};
+ghost use Rattle.zcore.specs.Layout.{header_size};
+ghost use Rattle.zcore_standard.specs.Screen as definitions;
+ghost use Rattle.machine_frames.specs.States.{IsSound, IsStoreOf};
+ghost use Rattle.machine_frames.specs.Went.{Went};
+ghost use Rattle.machine_standard_opcodes.specs.Left.{are_writable, words_before};
+
+use journal::Recorded;
+use machine_frames::{End, Store, write_word};
+use zcore::layout::HEADER_LENGTH;
+use zcore::{Fault, Header, Next, Place};
+
+/// The row and the column of the cursor.
+const FIRST: u16 = 1;
+
+/// The stream that goes to a table in memory (section 7.1.2).
+const MEMORY_STREAM: u16 = 3;
+
+/// This closes it: -3.
+const NO_MEMORY_STREAM: u16 = 0xFFFD;
+
+/// Writes where the cursor is, two words: `get_cursor`. It is always in the first row and column.
+///
+/// # Errors
+///
+/// M4 where a word cannot be written, and then neither is. `End::Memory` where memory was refused:
+/// the turn is given up.
+pub fn get_cursor(
+    header: &Header,
+    store: &mut Recorded<Store>,
+    here: Next,
+    after: u32,
+    table: u16,
+) -> Result<Next, End>
+    requires { IsStoreOf header.now store.old.store }
+    ensures { Went result store.old store.new (definitions.get_cursor here after table) }
+{
+    let at = table as usize;
+    test_words(header, store, at)?;
+    write_word(header, store, at, FIRST)?;
+    write_word(header, store, at + 2, FIRST)?;
+    Ok(Next {
+        program_counter: after,
+        fuel: here.fuel,
+    })
+}
+
+/// Tests whether two words can be written, and changes nothing. M4.
+fn test_words(header: &Header, store: &Recorded<Store>, at: usize) -> Result<(), End>
+    requires store { IsStoreOf header.now store.now.store }
+    requires at { at ≤ 65535 }
+    ensures went { Went result store.now store.now (are_writable at) }
+    ensures within { OnOk result (at + 3 ≤ 65535) }
+{
+    if !has_words(header.static_base, at) {
+        return Err(End::Stop(Place::Fault(Fault::Write)));
+    }
+    Ok(())
+}
+
+/// Whether two words at an address can be written, in a story with this static base.
+fn has_words(static_base: u16, at: usize) -> bool
+    requires { at ≤ 65535 }
+    ensures same { result ≡ words_before static_base at }
+    ensures within { result ≡ true → at + 3 ≤ 65535 }
+{
+    is_before(static_base, at) && is_before(static_base, at + 3)
+}
+
+/// Whether a byte can be written, in a story with this static base.
+fn is_before(static_base: u16, at: usize) -> bool
+    ensures same { result ≡ nat_le header_size at && nat_lt at static_base }
+    ensures within { result ≡ true → at < static_base }
+{
+    HEADER_LENGTH <= at && at < static_base as usize
+}
+
+/// The font that is set where one is asked for: `set_font`. Fonts 0 and 1 give the normal font, and
+/// another is not there.
+pub fn font_of(font: u16) -> u16
+    ensures { result ≡ (if nat_le font 1 then 1 else 0) }
+{
+    if font <= 1 { 1 } else { 0 }
+}
+
+/// Selects an output stream: `output_stream`. The transcript is always written.
+///
+/// # Errors
+///
+/// M1 for the memory stream.
+pub fn output_stream(
+    store: &Recorded<Store>,
+    here: Next,
+    after: u32,
+    number: u16,
+) -> Result<Next, End>
+    requires { IsSound store.now.store }
+    ensures { Went result store.now store.now (definitions.output_stream here after number) }
+{
+    if is_memory_stream(number) {
+        return Err(End::Stop(Place::Fault(Fault::Opcode)));
+    }
+    Ok(Next {
+        program_counter: after,
+        fuel: here.fuel,
+    })
+}
+
+/// Whether a number selects or closes the stream that goes to memory.
+fn is_memory_stream(number: u16) -> bool
+    ensures { result ≡ definitions.is_memory_stream number }
+{
+    number == MEMORY_STREAM || number == NO_MEMORY_STREAM
+}

@@ -1,0 +1,127 @@
+-- The instruction of a further operation, part by part.
+use Rattle.std.proofs.Common.{◌≡◌, ◌<◌, ◌≤◌, ◌+◌, ◌⊎◌, inl, inr, ℕ, Bool, true, false, List, length, take, refl, ap, sym}
+use Rattle.std.proofs.Common.{◌∙◌, subst, arith, slice_index, Option, Result, Ok, Err}
+use Rattle.std.specs.Prelude.{◌&&◌, nat_le}
+use Rattle.std.proofs.lemmas.Bool.{le-leb, lt-leb}
+use Rattle.std.proofs.lemmas.List.{length-take-le}
+use Rattle.ztext.specs.Results.{◌>>=◌}
+use Rattle.zcore.specs.declared.instruction.Branch.{Branch}
+use Rattle.zcore.specs.declared.instruction.Operand.{Operand}
+use Rattle.zcore.specs.declared.operations.OpcodeRow.{OpcodeRow}
+use Rattle.zcore.specs.declared.place.Fault.{Fault}
+use Rattle.zcore.specs.declared.place.Fault.TheVariants as faults
+use Rattle.zcore.specs.Instruction.{operands}
+use Rattle.zcore_standard.specs.declared.operations.Further.{Further}
+use Rattle.zcore_standard.specs.Operations.{row_of}
+use Rattle.zcore_standard.specs.Instruction.{Instruction, types_at, counted, result_at, branch_after, decode_further}
+use Rattle.machine_standard_steps.specs.Endings.{ends}
+
+-- an instruction with what follows its operands
+abbrev pub with_ending : List Operand → Option ℕ × Option Branch × ℕ → Instruction × ℕ
+with_ending os e = (record { operands = os; result = e.0; branch = e.1 }, e.2)
+
+branch_split : (os : List Operand) (into : Option ℕ) (r : Result (Option Branch × ℕ) Fault)
+    → (r >>= λ to. Ok (with_ending os (into, to.0, to.1)))
+    ≡ ((r >>= λ to. Ok (into, to.0, to.1)) >>= λ e. Ok (with_ending os e))
+branch_split os into (Ok to) = refl
+branch_split os into (Err cause) = refl
+
+ends_split : (os : List Operand) (r : Result (Option ℕ × ℕ) Fault) (f : ℕ → Result (Option Branch × ℕ) Fault)
+    → (r >>= λ into. f into.1 >>= λ to. Ok (with_ending os (into.0, to.0, to.1)))
+    ≡ ((r >>= λ into. f into.1 >>= λ to. Ok (into.0, to.0, to.1)) >>= λ e. Ok (with_ending os e))
+ends_split os (Ok into) f = branch_split os into.0 (f into.1)
+ends_split os (Err cause) f = refl
+
+counted_ok : (operation : Further) (row : OpcodeRow) (types : List ℕ) (count after : ℕ) → row ≡ row_of operation
+    → count ≤ length types → row.least_operands ≤ count → count ≤ row.most_operands
+    → counted operation (take count types, after) ≡ Ok (take count types, after)
+counted_ok operation row types count after e le least most =
+    let long : length (take count types) ≡ count = length-take-le count types le in
+    let below : (row_of operation).least_operands ≤ count =
+    subst (λ (r : OpcodeRow). r.least_operands ≤ count) e least in
+    let above : count ≤ (row_of operation).most_operands =
+    subst (λ (r : OpcodeRow). count ≤ r.most_operands) e most in
+    rw (long, le-leb (row_of operation).least_operands count below, le-leb count (row_of operation).most_operands above)
+    refl
+
+pub decoded_types : (memory : List ℕ) (at : ℕ) (operation : Further) (e : Fault)
+    → Err e ≡ types_at memory (slice_index memory at) at → Err e ≡ decode_further memory at operation
+unfolding decode_further
+decoded_types memory at operation e h = rw (sym h) refl
+
+and_false : (a b : Bool) → b ≡ false → (a && b) ≡ false
+and_false true b e = e
+and_false false b e = refl
+
+pub decoded_counted : (memory : List ℕ) (at : ℕ) (operation : Further) (row : OpcodeRow) (types : List ℕ)
+    (count after : ℕ) → row ≡ row_of operation → count ≤ length types
+    → (count < row.least_operands) ⊎ (row.most_operands < count)
+    → Ok (take count types, after) ≡ types_at memory (slice_index memory at) at
+    → Err faults.Opcode ≡ decode_further memory at operation
+unfolding decode_further
+decoded_counted memory at operation row types count after is le wrong h =
+    let long : length (take count types) ≡ count = length-take-le count types le in
+    let out : (count < (row_of operation).least_operands) ⊎ ((row_of operation).most_operands < count) =
+    subst (λ (r : OpcodeRow). (count < r.least_operands) ⊎ (r.most_operands < count)) is wrong in
+    elim out [
+      | inl few ↦ rw (sym h, long, lt-leb (row_of operation).least_operands count few) refl
+      | inr many ↦ rw (sym h, long, and_false _ _ (lt-leb count (row_of operation).most_operands many)) refl
+    ]
+
+-- the types of the operands, of which there are as many as the operation takes
+pub record Typed (memory : List ℕ) (at : ℕ) (operation : Further) (row : OpcodeRow) (types : List ℕ)
+    (count after : ℕ) : Type 0 where
+  pub row_is : row ≡ row_of operation
+  pub few : count ≤ length types
+  pub least : row.least_operands ≤ count
+  pub most : count ≤ row.most_operands
+  pub types_are : Ok (take count types, after) ≡ types_at memory (slice_index memory at) at
+
+each_given : (g : Result (List Operand × ℕ) Fault) (r : ℕ → Result (Option ℕ × ℕ) Fault)
+    (f : ℕ → Result (Option Branch × ℕ) Fault)
+    → (g >>= λ given. r given.1 >>= λ into. f into.1 >>= λ to. Ok (with_ending given.0 (into.0, to.0, to.1)))
+    ≡ (g >>= λ given. ((r given.1 >>= λ into. f into.1 >>= λ to. Ok (into.0, to.0, to.1))
+    >>= λ e. Ok (with_ending given.0 e)))
+each_given (Ok given) r f = ends_split given.0 (r given.1) f
+each_given (Err cause) r f = refl
+
+decoded_from : (memory : List ℕ) (at : ℕ) (operation : Further) (row : OpcodeRow) (types : List ℕ) (count after : ℕ)
+    → Typed memory at operation row types count after
+    → decode_further memory at operation
+    ≡ (operands memory (take count types) after >>= λ given.
+    (ends memory row given.1 >>= λ e. Ok (with_ending given.0 e)))
+unfolding decode_further
+decoded_from memory at operation row types count after t =
+    let counting = counted_ok operation row types count after t.row_is t.few t.least t.most in
+    rw (sym t.types_are, counting, t.row_is)
+    (each_given (operands memory (take count types) after)
+    (λ n. result_at memory (row_of operation).has_result n) (λ n. branch_after memory (row_of operation).has_branch n))
+
+pub decoded_operands : (memory : List ℕ) (at : ℕ) (operation : Further) (row : OpcodeRow) (types : List ℕ)
+    (count after : ℕ) (e : Fault) → Typed memory at operation row types count after
+    → Err e ≡ operands memory (take count types) after → Err e ≡ decode_further memory at operation
+decoded_operands memory at operation row types count after e t o =
+    sym (decoded_from memory at operation row types count after t
+    ∙ ap (λ (x : Result (List Operand × ℕ) Fault). x >>= λ given. (ends memory row given.1
+    >>= λ e. Ok (with_ending given.0 e))) (sym o))
+
+pub decoded_ending : (memory : List ℕ) (at : ℕ) (operation : Further) (row : OpcodeRow) (types : List ℕ)
+    (count after behind : ℕ) (os : List Operand) (e : Fault) → Typed memory at operation row types count after
+    → Ok (os, behind) ≡ operands memory (take count types) after → Err e ≡ ends memory row behind
+    → Err e ≡ decode_further memory at operation
+decoded_ending memory at operation row types count after behind os e t o r =
+    sym (decoded_from memory at operation row types count after t
+    ∙ ap (λ (x : Result (List Operand × ℕ) Fault). x >>= λ given. (ends memory row given.1
+    >>= λ e. Ok (with_ending given.0 e))) (sym o)
+    ∙ ap (λ (x : Result (Option ℕ × Option Branch × ℕ) Fault). x >>= λ e. Ok (with_ending os e)) (sym r))
+
+pub decoded_whole : (memory : List ℕ) (at : ℕ) (operation : Further) (row : OpcodeRow) (types : List ℕ)
+    (count after behind last : ℕ) (os : List Operand) (into : Option ℕ) (to : Option Branch)
+    → Typed memory at operation row types count after
+    → Ok (os, behind) ≡ operands memory (take count types) after → Ok (into, to, last) ≡ ends memory row behind
+    → Ok (record { operands = os; result = into; branch = to }, last) ≡ decode_further memory at operation
+decoded_whole memory at operation row types count after behind last os into to t o r =
+    sym (decoded_from memory at operation row types count after t
+    ∙ ap (λ (x : Result (List Operand × ℕ) Fault). x >>= λ given. (ends memory row given.1
+    >>= λ e. Ok (with_ending given.0 e))) (sym o)
+    ∙ ap (λ (x : Result (Option ℕ × Option Branch × ℕ) Fault). x >>= λ e. Ok (with_ending os e)) (sym r))

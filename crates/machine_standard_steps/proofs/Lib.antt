@@ -1,0 +1,3 @@
+pub mod Decoding
+pub mod Doing
+pub mod Stepping

@@ -1,0 +1,64 @@
+//! Further operations by what they do: nothing, a word, a branch (Z-Machine Standards Document 1.1,
+//! section 15).
+
+ghost use Rattle.std.specs.Prelude.{◌≡◌, ◌≤◌, ℕ, false, List, length, IfSome, IfNone};
+ghost use Rattle.zcore_standard.specs.Operations.{row_of};
+ghost use Rattle.machine_standard_steps.specs.Kinds.{does_nothing, gives_word, branches, GivesWord, BranchesBy};
+
+use machine_standard_opcodes::{Loaded, abilities, font_of, shifted, shifted_with_sign};
+use zcore_standard::Further;
+
+/// What `save`, `restore` and `restore_undo` answer, which fail.
+const FAILED: u16 = 0;
+
+/// What `save_undo` answers where there is no undo: -1.
+const HAS_NO_UNDO: u16 = 0xFFFF;
+
+/// Whether an operation does nothing.
+pub(crate) fn does_nothing(operation: Further) -> bool
+    ensures { result ≡ does_nothing operation }
+{
+    match operation {
+        Further::ShowStatus
+        | Further::SetColour
+        | Further::SplitWindow
+        | Further::EraseWindow
+        | Further::EraseLine
+        | Further::SetCursor
+        | Further::SetTextStyle
+        | Further::BufferMode
+        | Further::InputStream
+        | Further::SoundEffect
+        | Further::SetTrueColour => true,
+        _ => false,
+    }
+}
+
+/// The word that an operation gives, where it does nothing else.
+pub(crate) fn word_of(loaded: &Loaded, operation: Further, values: &[u16]) -> Option<u16>
+    requires { (row_of operation).least_operands ≤ length values.now }
+    ensures some { IfSome result (GivesWord loaded.now operation values.now) }
+    ensures none { IfNone result (gives_word operation ≡ false) }
+{
+    match operation {
+        Further::Save | Further::Restore | Further::RestoreUndo => Some(FAILED),
+        Further::SaveUndo => Some(HAS_NO_UNDO),
+        Further::LogShift => Some(shifted(values[0], values[1])),
+        Further::ArtShift => Some(shifted_with_sign(values[0], values[1])),
+        Further::SetFont => Some(font_of(values[0])),
+        Further::CheckUnicode => Some(abilities(loaded.characters(), values[0])),
+        _ => None,
+    }
+}
+
+/// Whether the condition of an operation holds that branches, and does nothing else.
+pub(crate) fn condition_of(loaded: &Loaded, operation: Further) -> Option<bool>
+    ensures some { (values : List ℕ) → IfSome result (BranchesBy loaded.now operation values) }
+    ensures none { IfNone result (branches operation ≡ false) }
+{
+    match operation {
+        Further::Verify => Some(loaded.is_sum_right()),
+        Further::Piracy => Some(true),
+        _ => None,
+    }
+}

@@ -1,0 +1,142 @@
+//! What a further instruction does with the values of its operands.
+
+ghost use Rattle.std.specs.Prelude.{◌≡◌, ◌≤◌, slice_index_or, length, OnErr};
+ghost use Rattle.zcore.specs.Execution.{first, second};
+ghost use Rattle.zcore.specs.Header.{static_base_of};
+ghost use Rattle.zcore.specs.Layout.{longest_story};
+ghost use Rattle.zcore_standard.specs.Further as definitions;
+ghost use Rattle.zcore_standard.specs.Machine.{begins};
+ghost use Rattle.zcore_standard.specs.Operations.{row_of};
+ghost use Rattle.zcore_standard.specs.Tables as tables;
+ghost use Rattle.machine_frames.specs.Contents.{memory_of};
+ghost use Rattle.machine_frames.specs.States.{IsSound, IsStoreOf};
+ghost use Rattle.machine_opcodes.specs.Printed.{HasBegun, Grew, ToldFrom};
+ghost use Rattle.machine_opcodes.specs.Seen.{seen};
+
+use crate::effects::{perform_quietly, value_or};
+use crate::kinds::{condition_of, does_nothing, word_of};
+use journal::Recorded;
+use machine_frames::{End, Store};
+use machine_opcodes::{Ending, branch_on, give_result};
+use machine_standard_opcodes::{Loaded, print_unicode, random, restart};
+use machine_standard_tables::print_table;
+use zcore::{Beside, Header, Next};
+use zcore_standard::Further;
+
+/// The rows of a table that is printed, where their number is left out.
+const ONE_ROW: u16 = 1;
+
+/// Does a further operation on the values of its operands.
+pub(crate) fn perform_further(
+    header: &Header,
+    store: &mut Recorded<Store>,
+    text: &mut Vec<u8>,
+    start: usize,
+    loaded: &Loaded,
+    beside: &mut Beside,
+    here: Next,
+    operation: Further,
+    values: &[u16],
+    ending: Ending,
+) -> Result<Next, End>
+    requires store { IsStoreOf header.now store.old.store }
+    requires dynamic { length loaded.now.dynamic ≡ static_base_of (memory_of store.old.store) }
+    requires text { HasBegun start text.old.items }
+    requires enough { (row_of operation).least_operands ≤ length values.now }
+    requires after { ending.after ≤ longest_story }
+    ensures told { ToldFrom start (seen (begins beside.new) result) store.old text.old.items
+        store.new text.new.items (definitions.perform_further loaded.now operation
+        (begins beside.old here) ending.after ending.result ending.branch values.now) }
+    ensures text { Grew start text.old.items text.new.items }
+    ensures beside { OnErr result (beside.new ≡ beside.old) }
+{
+    match operation {
+        Further::Restart => match restart(store, loaded, here) {
+            Ok(next) => {
+                *beside = loaded.dice();
+                Ok(next)
+            }
+            Err(end) => Err(end),
+        },
+        Further::Random => {
+            random(
+                header,
+                store,
+                beside,
+                here,
+                ending.after,
+                ending.result,
+                values[0],
+            )
+        }
+        _ => perform_keeping(
+            header, store, text, start, loaded, here, operation, values, ending,
+        ),
+    }
+}
+
+/// Does a further operation that leaves window and dice as they are.
+fn perform_keeping(
+    header: &Header,
+    store: &mut Recorded<Store>,
+    text: &mut Vec<u8>,
+    start: usize,
+    loaded: &Loaded,
+    here: Next,
+    operation: Further,
+    values: &[u16],
+    ending: Ending,
+) -> Result<Next, End>
+    requires store { IsStoreOf header.now store.old.store }
+    requires text { HasBegun start text.old.items }
+    requires enough { (row_of operation).least_operands ≤ length values.now }
+    requires after { ending.after ≤ longest_story }
+    ensures told { ToldFrom start result store.old text.old.items store.new text.new.items
+        (definitions.perform_keeping loaded.now operation here ending.after ending.result
+        ending.branch values.now) }
+    ensures text { Grew start text.old.items text.new.items }
+{
+    let after = ending.after;
+    if does_nothing(operation) {
+        return Ok(Next {
+            program_counter: after,
+            fuel: here.fuel,
+        });
+    }
+    if let Some(word) = word_of(loaded, operation, values) {
+        return give_result(header, store, here, after, ending.result, word);
+    }
+    if let Some(holds) = condition_of(loaded, operation) {
+        return branch_on(header, store, here, after, ending.branch, holds);
+    }
+    match operation {
+        Further::PrintUnicode => print_unicode(store, text, start, here, after, values[0]),
+        Further::PrintTable => print_rows(store, text, start, here, after, values),
+        _ => perform_quietly(header, store, here, operation, values, ending),
+    }
+}
+
+/// Prints a table: `print_table`, of which the number of rows and what is skipped between them may be
+/// left out.
+fn print_rows(
+    store: &mut Recorded<Store>,
+    text: &mut Vec<u8>,
+    start: usize,
+    here: Next,
+    after: u32,
+    values: &[u16],
+) -> Result<Next, End>
+    requires sound { IsSound store.old.store }
+    requires text { HasBegun start text.old.items }
+    requires enough { 2 ≤ length values.now }
+    ensures told { ToldFrom start result store.old text.old.items store.new text.new.items
+        (tables.print_table here after (first values.now) (second values.now)
+        (slice_index_or values.now 2 definitions.one_row) (definitions.fourth values.now)) }
+    ensures text { Grew start text.old.items text.new.items }
+{
+    let height = value_or(values, 2, ONE_ROW);
+    let skip = value_or(values, 3, 0);
+    print_table(
+        store, text, start, here, after, values[0], values[1], height, skip,
+    )
+}

@@ -1,0 +1,5 @@
+pub mod Tests
+pub mod Fields
+pub mod Bytes
+pub mod Copies
+pub mod Rows

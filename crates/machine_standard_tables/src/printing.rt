@@ -1,0 +1,159 @@
+//! Tables that are printed (Z-Machine Standards Document 1.1, section 15).
+
+ghost use Rattle.std.specs.Prelude.{◌≡◌, ◌+◌, ◌<◌, ℕ, drop, length, take, true};
+ghost use Rattle.std.specs.List.{flat_map};
+ghost use Rattle.zcore.specs.Parts as parts;
+ghost use Rattle.zcore_standard.specs.Tables.{are_readable, print_table, row_division, rows, rows_size, shown};
+ghost use Rattle.machine_opcodes.specs.Printed.{HasBegun, Grew, ToldFrom};
+ghost use Rattle.machine_frames.specs.Contents.{memory_of};
+ghost use Rattle.machine_frames.specs.States.{IsSound};
+
+use crate::testing::test_readable;
+use journal::Recorded;
+use machine_frames::{End, Store};
+use machine_opcodes::print;
+use zcore::Next;
+use zcore::layout::NEW_LINE;
+
+/// Prints a table of ZSCII characters, with a new line between a row and the next: `print_table`.
+/// Between rows, `skip` bytes are not printed.
+///
+/// # Errors
+///
+/// M3 where a byte to print cannot be read; nothing is printed then. The limit of text.
+/// `End::Memory` where memory was refused: the turn is given up.
+pub fn print_table(
+    store: &mut Recorded<Store>,
+    text: &mut Vec<u8>,
+    start: usize,
+    here: Next,
+    after: u32,
+    table: u16,
+    width: u16,
+    height: u16,
+    skip: u16,
+) -> Result<Next, End>
+    requires sound { IsSound store.old.store }
+    requires text { HasBegun start text.old.items }
+    ensures told { ToldFrom start result store.old text.old.items store.new text.new.items
+        (print_table here after table width height skip) }
+    ensures text { Grew start text.old.items text.new.items }
+{
+    test_readable(store, table as usize, rows_size(width, height, skip))?;
+    print_rows(store, text, start, table, width, height, skip)?;
+    Ok(Next {
+        program_counter: after,
+        fuel: here.fuel,
+    })
+}
+
+/// How many bytes a table has from the first character of its first row to the last character of
+/// its last row.
+fn rows_size(width: u16, height: u16, skip: u16) -> usize
+    ensures same { result ≡ rows_size width height skip }
+    ensures short { result < 8590000000 }
+{
+    if width == 0 || height == 0 {
+        return 0;
+    }
+    (height as usize - 1) * (width as usize + skip as usize) + width as usize
+}
+
+/// Prints the rows of a table that can be read. The limit of text.
+fn print_rows(
+    store: &mut Recorded<Store>,
+    text: &mut Vec<u8>,
+    start: usize,
+    table: u16,
+    width: u16,
+    height: u16,
+    skip: u16,
+) -> Result<(), End>
+    requires sound { IsSound store.old.store }
+    requires text { HasBegun start text.old.items }
+    requires readable { are_readable (memory_of store.old.store) table
+        (rows_size width height skip) ≡ true }
+    ensures told { ToldFrom start result store.old text.old.items store.new text.new.items
+        (parts.print (rows (memory_of store.old.store) table width skip height)) }
+    ensures text { Grew start text.old.items text.new.items }
+{
+    let step = width as usize + skip as usize;
+    for row in 0..height {
+        print_row_division(store, text, start, row)?;
+        print_row(
+            store,
+            text,
+            start,
+            table as usize + row as usize * step,
+            width,
+        )?;
+    }
+    Ok(())
+}
+
+/// Prints a new line before each row but the first. The limit of text.
+fn print_row_division(
+    store: &mut Recorded<Store>,
+    text: &mut Vec<u8>,
+    start: usize,
+    row: u16,
+) -> Result<(), End>
+    requires sound { IsSound store.old.store }
+    requires text { HasBegun start text.old.items }
+    ensures told { ToldFrom start result store.old text.old.items store.new text.new.items
+        (parts.print (row_division row)) }
+    ensures text { Grew start text.old.items text.new.items }
+{
+    if row == 0 {
+        print(store, text, start, &[])
+    } else {
+        print(store, text, start, &[NEW_LINE])
+    }
+}
+
+/// Prints the characters of a row. The limit of text.
+fn print_row(
+    store: &mut Recorded<Store>,
+    text: &mut Vec<u8>,
+    start: usize,
+    at: usize,
+    width: u16,
+) -> Result<(), End>
+    requires sound { IsSound store.old.store }
+    requires text { HasBegun start text.old.items }
+    requires row { (i : ℕ) → i < width → at + i < length (memory_of store.old.store) }
+    ensures told { ToldFrom start result store.old text.old.items store.new text.new.items
+        (parts.print (flat_map shown (take width (drop at (memory_of store.old.store))))) }
+    ensures text { Grew start text.old.items text.new.items }
+{
+    for i in 0..width {
+        let character = store.store().byte(at + i as usize);
+        print_shown(store, text, start, character)?;
+    }
+    Ok(())
+}
+
+/// Prints what a ZSCII character prints: 9 is one space, 11 two, and a character that is not defined
+/// for output a question mark. The limit of text.
+fn print_shown(
+    store: &mut Recorded<Store>,
+    text: &mut Vec<u8>,
+    start: usize,
+    character: u8,
+) -> Result<(), End>
+    requires sound { IsSound store.old.store }
+    requires text { HasBegun start text.old.items }
+    ensures told { ToldFrom start result store.old text.old.items store.new text.new.items
+        (parts.print (shown character)) }
+    ensures text { Grew start text.old.items text.new.items }
+{
+    if character == 0 || character == 13 || (32 <= character && character <= 126) {
+        print(store, text, start, &[character])
+    } else if character == 9 {
+        print(store, text, start, &[b' '])
+    } else if character == 11 {
+        print(store, text, start, &[b' ', b' '])
+    } else {
+        print(store, text, start, &[b'?'])
+    }
+}

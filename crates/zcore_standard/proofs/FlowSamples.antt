@@ -1,0 +1,135 @@
+-- restart, catch, throw, verify, saves and undo, computed.
+use Rattle.std.proofs.Common.{◌≡◌, ℕ, List, [], ◌∷◌, ◌++◌, replicate, Option, Some, None, true, false, refl}
+use Rattle.zcore.specs.declared.instruction.Branch.{Branch}
+use Rattle.zcore.specs.declared.next.Next.{Next}
+use Rattle.zcore.specs.declared.place.Fault.TheVariants as faults
+use Rattle.zcore.specs.declared.place.Limit.TheVariants as limits
+use Rattle.zcore.specs.declared.place.Place.TheVariants as places
+use Rattle.zcore.specs.Effects.{give_result}
+use Rattle.zcore.specs.Parts.{test_result, store_result, write_variable, write_local, push, spend, test_target, go}
+use Rattle.zcore.specs.Parts.{take_branch, branch_on}
+use Rattle.zcore.specs.State.{Frame, State, done, halt}
+use Rattle.zcore.specs.Turn.{first_environment, first_state}
+use Rattle.zcore_standard.specs.declared.operations.Further.TheVariants.{Save, Restore, SaveUndo, RestoreUndo}
+use Rattle.zcore_standard.specs.Flow.{restart, catch, leave_frame, throw, verify}
+use Rattle.zcore_standard.specs.Further.{perform_keeping}
+use Rattle.zcore_standard.specs.Loading.{seeded}
+use Rattle.zcore_standard.specs.Place.{Here, Loaded}
+
+abbrev here : Next
+here = record { program_counter = 100; fuel = 5 }
+
+-- a story of 80 bytes, the first instruction at 66, the static base 70; from 64 on bytes of one value
+abbrev story : ℕ → List ℕ
+story n = replicate 7 0 ++ (66 ∷ []) ++ replicate 7 0 ++ (70 ∷ []) ++ replicate 48 0 ++ replicate 6 n ++ replicate 10 9
+
+abbrev loaded : Loaded
+loaded = record {
+  dynamic = replicate 7 0 ++ (66 ∷ []) ++ replicate 7 0 ++ (70 ∷ []) ++ replicate 48 0 ++ replicate 6 1;
+  dice = seeded 12345;
+  is_sum_right = true;
+  characters = [];
+}
+
+-- a call that was made at 60, with one local, and its result to the stack
+abbrev called : ℕ → Frame
+called address = record { locals = 0 ∷ []; stack = 8 ∷ []; arguments = 0; return_address = address; result = Some 0 }
+
+abbrev with_frames : List Frame → State
+with_frames frames = record (first_state (story 1)) { frames = frames }
+
+abbrev playing : Here
+playing = record { next = here; beside = record { window = 0; random = 7; interval = 3; counter = 2 } }
+
+-- dynamic memory, frames and dice are as at loading, and a unit is spent; the text stays
+restarted : restart loaded playing
+    (record (first_state (story 5)) { frames = called 70 ∷ first_environment ∷ []; text = 65 ∷ [] })
+    ≡ done (record { next = record { program_counter = 66; fuel = 4 }; beside = seeded 12345 })
+    (record (first_state (story 1)) { text = 65 ∷ [] })
+unfolding restart spend
+restarted = refl
+
+no_fuel : restart loaded (record playing { next = record here { fuel = 0 } }) (first_state (story 5))
+    ≡ halt (places.Limit limits.Fuel) (first_state (story 5))
+unfolding restart spend
+no_fuel = refl
+
+-- no call is open, and two
+catch_first : catch here 102 (Some 0) (first_state [])
+    ≡ done (record here { program_counter = 102 })
+    (record (first_state []) { frames = record first_environment { stack = 0 ∷ [] } ∷ [] })
+unfolding catch give_result test_result store_result write_variable push
+catch_first = refl
+
+catch_second : catch here 102 (Some 1) (with_frames (called 70 ∷ called 72 ∷ first_environment ∷ []))
+    ≡ done (record here { program_counter = 102 })
+    (with_frames (record (called 70) { locals = 2 ∷ [] } ∷ called 72 ∷ first_environment ∷ []))
+unfolding catch give_result test_result store_result write_variable write_local
+catch_second = refl
+
+-- the inner of two calls, and the outer, return 7
+throw_inner : throw here 7 2 (with_frames (called 70 ∷ called 72 ∷ first_environment ∷ []))
+    ≡ done (record here { program_counter = 70 })
+    (with_frames (record (called 72) { stack = 8 ∷ 7 ∷ [] } ∷ first_environment ∷ []))
+unfolding throw leave_frame store_result write_variable push
+throw_inner = refl
+
+throw_outer : throw here 7 1 (with_frames (called 70 ∷ called 72 ∷ first_environment ∷ []))
+    ≡ done (record here { program_counter = 72 }) (with_frames (record first_environment { stack = 7 ∷ [] } ∷ []))
+unfolding throw leave_frame store_result write_variable push
+throw_outer = refl
+
+-- M11: no call has the number
+throw_none : throw here 7 0 (with_frames (called 70 ∷ first_environment ∷ []))
+    ≡ halt (places.Fault faults.Return) (with_frames (called 70 ∷ first_environment ∷ []))
+unfolding throw
+throw_none = refl
+
+throw_far : throw here 7 2 (with_frames (called 70 ∷ first_environment ∷ []))
+    ≡ halt (places.Fault faults.Return) (with_frames (called 70 ∷ first_environment ∷ []))
+unfolding throw
+throw_far = refl
+
+-- M2 where the caller goes on outside of the story; no frame is left
+throw_outside : throw here 7 1 (with_frames (called 72 ∷ called 80 ∷ first_environment ∷ []))
+    ≡ halt (places.Fault faults.Code) (with_frames (called 72 ∷ called 80 ∷ first_environment ∷ []))
+unfolding throw
+throw_outside = refl
+
+-- the sum was right at loading, and it was not
+abbrev to_72 : Option Branch
+to_72 = Some (record { when = true; offset = 4 })
+
+sum_right : verify loaded (record here { program_counter = 66 }) 70 to_72 (first_state (story 1))
+    ≡ done (record here { program_counter = 72 }) (first_state (story 1))
+unfolding verify branch_on take_branch test_target go
+sum_right = refl
+
+sum_wrong : verify (record loaded { is_sum_right = false }) here 70 to_72 (first_state (story 1))
+    ≡ done (record here { program_counter = 70 }) (first_state (story 1))
+unfolding verify branch_on
+sum_wrong = refl
+
+-- save, restore and restore_undo fail, save_undo answers -1
+abbrev with_result : ℕ → State
+with_result word = record (first_state []) { frames = record first_environment { stack = word ∷ [] } ∷ [] }
+
+save : perform_keeping loaded Save here 104 (Some 0) None [] (first_state [])
+    ≡ done (record here { program_counter = 104 }) (with_result 0)
+unfolding perform_keeping give_result test_result store_result write_variable push
+save = refl
+
+restore : perform_keeping loaded Restore here 104 (Some 0) None (70 ∷ 4 ∷ 72 ∷ []) (first_state [])
+    ≡ done (record here { program_counter = 104 }) (with_result 0)
+unfolding perform_keeping give_result test_result store_result write_variable push
+restore = refl
+
+save_undo : perform_keeping loaded SaveUndo here 104 (Some 0) None [] (first_state [])
+    ≡ done (record here { program_counter = 104 }) (with_result 0xFFFF)
+unfolding perform_keeping give_result test_result store_result write_variable push
+save_undo = refl
+
+restore_undo : perform_keeping loaded RestoreUndo here 104 (Some 0) None [] (first_state [])
+    ≡ done (record here { program_counter = 104 }) (with_result 0)
+unfolding perform_keeping give_result test_result store_result write_variable push
+restore_undo = refl
