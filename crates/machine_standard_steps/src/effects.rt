@@ -9,7 +9,7 @@ ghost use Rattle.zcore_standard.specs.Further.{fourth, perform_keeping, words_of
 ghost use Rattle.zcore_standard.specs.Tables as tables;
 ghost use Rattle.zcore_standard.specs.Words as words;
 ghost use Rattle.zcore_standard.specs.Operations.{row_of};
-ghost use Rattle.zcore_standard.specs.Place as loading;
+ghost use Rattle.zcore_standard.specs.Loaded as loading;
 ghost use Rattle.machine_frames.specs.States.{IsStoreOf};
 ghost use Rattle.machine_frames.specs.Went.{Went};
 ghost use Rattle.machine_standard_steps.specs.Kinds.{is_quiet};
