@@ -37,9 +37,6 @@ use Rattle.syntax_token_machine.proofs.KeptExpressions.{indexed_kept, complement
 use Rattle.syntax_token_machine.proofs.KeptExpressions.{comparison_kept, negation_kept, condition_kept}
 use Rattle.syntax_token_machine.proofs.KeptExpressions.{expression_kept, arguments_kept}
 
-    (λ is. expression_kept t (set false ∷ arguments_left ∷ token s.CloseParenthesis ∷ k) j is refl
-    (tt, (refl, (tt, h))))
-
 -- ---- what statements are made of
 
 number_kept : (t : Lexeme) (k j : Stack) → on_number t k ≡ Some j → Fit k → Fit j

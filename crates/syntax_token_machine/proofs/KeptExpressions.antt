@@ -11,7 +11,7 @@ use Rattle.syntax_token_machine.proofs.Frames.{Frame, token, close}
 use Rattle.syntax_token_machine.proofs.Frames.{primary, unary, complement}
 use Rattle.syntax_token_machine.proofs.Frames.{negation, expression, name_behind, array_behind}
 use Rattle.syntax_token_machine.proofs.Frames.{properties_left, suffix_left, owned_left, scale_left, add_left}
-use Rattle.syntax_token_machine.proofs.Frames.{compare_left, logic_left, assign_left, set}
+use Rattle.syntax_token_machine.proofs.Frames.{compare_left, logic_left, assign_left, arguments_left, set}
 use Rattle.syntax_token_machine.proofs.Frames.{need}
 use Rattle.syntax_token_machine.proofs.Frames.{cases_left}
 use Rattle.syntax_token_machine.proofs.Frames.{Stack, given}
@@ -162,3 +162,5 @@ expression_kept t k j e o h = condition_kept t (assign_left ∷ k) j e refl (o, 
 pub arguments_kept : (t : Lexeme) (k j : Stack) → on_arguments t k ≡ Some j → Fit k → Fit j
 unfolding Fits words
 arguments_kept t k j e h = by_if (is_sign s.CloseParenthesis t) _ _ j e (λ is. to k j is h)
+    (λ is. expression_kept t (set false ∷ arguments_left ∷ token s.CloseParenthesis ∷ k) j is refl
+    (tt, (refl, (tt, h))))
