@@ -4,7 +4,7 @@
 //! of `boxed` in machine code: a walk over a tree then takes little stack for each kind on its way,
 //! and none for others.
 
-ghost use Rattle.std.specs.Prelude.{◌≡◌, ◌++◌, [], if◌then◌else◌, IfOk, map};
+ghost use Rattle.std.specs.Prelude.{◌≡◌, ◌++◌, [], ◌∷◌, if◌then◌else◌, IfOk, map};
 ghost use Rattle.std.specs.Option.{option_map};
 ghost use Rattle.syntax_trees.specs.Tree as trees;
 ghost use Rattle.syntax_trees.specs.Views.{expression_tree, name_tree, trees_of, propertied, link, chained};
@@ -160,6 +160,29 @@ fn in_box(value: Value, alloc: Global) -> Result<Box<Value>, AllocError>
     Ok(Box::new(alloc, value)?)
 }
 
+// One more of several.
+#[inline(never)]
+fn add(found: &mut Vec<Value>, next: Box<Value>) -> Result<(), AllocError>
+    ensures { IfOk result (λ _. found.new.items ≡ found.old.items ++ next.value ∷ []) }
+{
+    found.push(Box::into_inner(next))?;
+    Ok(())
+}
+
+// One more operator and operand in a chain.
+#[inline(never)]
+fn add_link(
+    links: &mut Vec<(Binary, Value)>,
+    operator: Binary,
+    operand: Box<Value>,
+) -> Result<(), AllocError>
+    ensures { IfOk result (λ _. links.new.items
+        ≡ links.old.items ++ (operator, operand.value) ∷ []) }
+{
+    links.push((operator, Box::into_inner(operand)))?;
+    Ok(())
+}
+
 // What an object is tested for, by a name there that stands for this.
 #[tactic(auto, using(checker_names::proofs::Noted::noted_none))]
 fn tested_value(
@@ -274,7 +297,6 @@ fn property_numbers(
 /// # Errors
 ///
 /// `AllocError` where memory is refused.
-#[cycle(expression)]
 #[inline(never)]
 pub fn expression(
     e: &Expression<'_>,
@@ -366,10 +388,10 @@ fn all_expressions(
 {
     let mut found = Vec::new(alloc);
     for e in given {
-        let Ok(resolved) = expression(e, alloc, scope, least) else {
+        let Ok(resolved) = boxed(e, alloc, scope, least) else {
             return Err(AllocError);
         };
-        found.push(resolved)?;
+        add(&mut found, resolved)?;
     }
     Ok(found)
 }
@@ -388,10 +410,10 @@ fn chain_links(
 {
     let mut found = Vec::new(alloc);
     for link in links {
-        let Ok(operand) = expression(&link.1, alloc, scope, least) else {
+        let Ok(operand) = boxed(&link.1, alloc, scope, least) else {
             return Err(AllocError);
         };
-        found.push((link.0, operand))?;
+        add_link(&mut found, link.0, operand)?;
     }
     Ok(found)
 }

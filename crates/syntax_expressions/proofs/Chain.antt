@@ -1,10 +1,8 @@
 -- The loop over a chain, a turn at a time.
 use Rattle.std.proofs.Common.{◌≡◌, ℕ, zero, suc, ◌+◌, ◌-◌, ◌<◌, ◌≤◌, List, [], ◌∷◌, ◌++◌, length, Option, Some, None}
-use Rattle.std.proofs.Common.{Result, Ok, Err, refl, sym, ◌∙◌, arith}
+use Rattle.std.proofs.Common.{Result, Ok, Err, refl, sym, ap, ◌∙◌, arith}
 use Rattle.std.specs.Prelude.{map}
-use Rattle.std.proofs.lemmas.List.{length-map}
-use Rattle.syntax_lexer.specs.declared.token.Token.{Token}
-use Rattle.syntax_lexer.specs.Token.{Lexeme, lexeme, lexemes}
+use Rattle.syntax_lexer.specs.Token.{Lexeme}
 use Rattle.syntax_trees.specs.declared.tree.Binary.{Binary}
 use Rattle.syntax_trees.specs.declared.tree.Expression.{Expression}
 use Rattle.syntax_trees.specs.Tree.{ExpressionTree, binary}
@@ -18,7 +16,8 @@ use Rattle.syntax_expressions.specs.declared.operators.Operators.TheVariants as 
 use Rattle.syntax_expressions.specs.Parse.{Level, chain, condition, sum, product}
 use Rattle.syntax_expressions.specs.Levels.{operator_of, operand_of, chain_of}
 
-chained_push : (e : ExpressionTree) (ls : List (Binary × Expression)) (op : Binary) (x : Expression)
+-- one more operator and operand in a chain
+pub chained_push : (e : ExpressionTree) (ls : List (Binary × Expression)) (op : Binary) (x : Expression)
     → chained e (map link (ls ++ (op, x) ∷ [])) ≡ binary op (chained e (map link ls)) (expression_tree x)
 chained_push e [] op x = refl
 chained_push e (l ∷ ls) op x = chained_push (binary l.0 e (expression_tree l.1)) ls op x
@@ -47,33 +46,17 @@ module _ (ops : Lexeme → Option Binary) (p : Parse ExpressionTree) where
   chain_fails (errors.Fault f count) n i left ts op total lt o h so_far = sym so_far
       ∙ chain_err n i left ts op (stop_of f count) lt o h
 
-  pub chain_more : (n i : ℕ) (first : ExpressionTree) (ls : List (Binary × Expression)) (ts : List Lexeme)
-      (op : Binary) (r : Expression) (rest : List Lexeme) → i < n → ops (head ts) ≡ Some op
-      → p (tail ts) ≡ Ok (expression_tree r, rest)
-      → chain ops p (n - i) (chained first (map link ls)) ts
-      ≡ chain ops p (n - (i + 1)) (chained first (map link (ls ++ (op, r) ∷ []))) rest
+  pub chain_more : (n i : ℕ) (left : ExpressionTree) (ts : List Lexeme) (op : Binary) (b : ExpressionTree)
+      (rest : List Lexeme) (longer : ExpressionTree) (us : List Lexeme)
+      (made : Result (ExpressionTree × List Lexeme) Stop) → i < n → ops (head ts) ≡ Some op
+      → p (tail ts) ≡ Ok (b, rest) → made ≡ Ok (binary op left b, rest) → made ≡ Ok (longer, us)
+      → chain ops p (n - i) left ts ≡ chain ops p (n - (i + 1)) longer us
   unfolding chain
-  chain_more n i first ls ts op r rest lt e h = let k : n - i ≡ suc (n - (i + 1)) = omega arith in
-      rw (k, e, h, chained_push first ls op r) refl
-
-  -- where the second operand is not read
-  pub links_fail : (e : ParseError) (left : ExpressionTree) (us : List Token) (op : Binary)
-      → ops (head (lexemes us)) ≡ Some op → ops (head []) ≡ None → Fails e (p (tail (lexemes us)))
-      → Fails e (chain ops p (length (lexemes us)) left (lexemes us))
-  unfolding chain
-  links_fail errors.Memory left us op o none h = tt
-  links_fail (errors.Fault f count) left [] op o none h = let never : Some op ≡ None = sym o ∙ none in absurd cc
-  links_fail (errors.Fault f count) left (u ∷ us) op o none h = rw (o, h) refl
-
-  -- behind the second operand
-  pub links_begin : (left b : ExpressionTree) (us : List Token) (op : Binary) (r : List Lexeme)
-      → ops (head (lexemes us)) ≡ Some op → ops (head []) ≡ None → p (tail (lexemes us)) ≡ Ok (b, r)
-      → chain ops p (length us - 1) (binary op left b) r ≡ chain ops p (length (lexemes us)) left (lexemes us)
-  unfolding chain
-  links_begin left b [] op r o none h = let never : Some op ≡ None = sym o ∙ none in absurd cc
-  links_begin left b (u ∷ us) op r o none h =
-      let k : length (u ∷ us) - 1 ≡ length (lexemes us) = omega (arith, length-map us lexeme) in
-      rw (k, o, h) refl
+  chain_more n i left ts op b rest longer us made lt e h is seen =
+      let k : n - i ≡ suc (n - (i + 1)) = omega arith in
+      rw (k, e, h)
+      (ap (λ (x : Result (ExpressionTree × List Lexeme) Stop). x >>= λ y. chain ops p (n - (i + 1)) y.0 y.1)
+      (sym is ∙ seen))
 
 -- ---- the levels of chains
 
@@ -84,10 +67,6 @@ module _ (below : Level → ℕ → Parse ExpressionTree) (l : Operators) where
   level_is ts = elim l as
       (λ o. chain_of below o ts
       ≡ (operand_of below o ts >>= λ x. chain (operator_of o) (operand_of below o) (length x.1) x.0 x.1))
-      [ operators.Logical ↦ refl | operators.Adding ↦ refl | operators.Scaling ↦ refl ]
-
-  pub end_operator : operator_of l (head []) ≡ None
-  end_operator = elim l as (λ o. operator_of o (head []) ≡ None)
       [ operators.Logical ↦ refl | operators.Adding ↦ refl | operators.Scaling ↦ refl ]
 
   pub level_chain : (ts : List Lexeme) (a : ExpressionTree) (r : List Lexeme) → operand_of below l ts ≡ Ok (a, r)

@@ -3,6 +3,7 @@
 use Rattle.std.specs.Prelude.{ℕ, Option}
 use Rattle.syntax_lexer.specs.Token.{Lexeme}
 use Rattle.syntax_trees.specs.declared.tree.Binary.{Binary}
+use Rattle.syntax_trees.specs.declared.tree.Binary.TheVariants as op
 use Rattle.syntax_trees.specs.Tree.{ExpressionTree}
 use Rattle.syntax_parsing.specs.Parse.{Parse}
 use Rattle.syntax_expressions.specs.declared.operators.Operators.{Operators}
@@ -24,3 +25,11 @@ abbrev pub chain_of : (Level → ℕ → Parse ExpressionTree) → Operators →
 chain_of below operators.Logical = condition below
 chain_of below operators.Adding = sum below
 chain_of below operators.Scaling = product below
+
+-- the level of an operator
+abbrev pub level_of : Binary → Operators
+level_of op.AndAlso = operators.Logical
+level_of op.OrElse = operators.Logical
+level_of op.Add = operators.Adding
+level_of op.Subtract = operators.Adding
+level_of _ = operators.Scaling

@@ -79,10 +79,12 @@ properties (suc n) e ts =
 unfoldable pub entry_of : Parse NameTree
 entry_of ts = expect_name ts >>= λ x. expect s.LongArrow x.1 >>= λ r. Ok (x.0, r)
 
+-- the length of a property of an operand, from behind its sign on
+abbrev pub length_next : ExpressionTree → Parse ExpressionTree
+length_next e ts = expect_name ts >>= λ x. Ok (property_length e x.0, x.1)
+
 unfoldable pub lengthened : ExpressionTree → Parse ExpressionTree
-lengthened e ts =
-    if is_sign s.DotHash (head ts) then (expect_name (tail ts) >>= λ x. Ok (property_length e x.0, x.1))
-    else Ok (e, ts)
+lengthened e ts = if is_sign s.DotHash (head ts) then length_next e (tail ts) else Ok (e, ts)
 
 abbrev pub tested_on : ExpressionTree → List Lexeme → Option ObjectTest → Result (ExpressionTree × List Lexeme) Stop
 tested_on e ts None = Ok (e, ts)

@@ -4,14 +4,14 @@ ghost use Rattle.std.specs.Prelude.{◌≡◌};
 ghost use Rattle.syntax_lexer.specs.Token.{lexeme};
 ghost use Rattle.syntax_expressions.specs.Operators as spec;
 ghost use Rattle.syntax_expressions.specs.Nesting as nesting;
-ghost use Rattle.syntax_expressions.specs.Levels.{operator_of};
+ghost use Rattle.syntax_expressions.specs.Levels.{level_of, operator_of};
 ghost use Rattle.syntax_expressions.specs.Parse as parse;
 
 use syntax_lexer::{Kind, Sign, Token, Word};
 use syntax_trees::{Binary, Comparison, Containment, Equality, ObjectTest, Relative, Step, Width};
 
 /// The operators of one level, in chains that group to the left.
-#[derive(Clone, Copy)]
+#[derive(Clone, Copy, PartialEq, Eq)]
 pub enum Operators {
     /// `&&` and `||`
     Logical,
@@ -29,6 +29,17 @@ pub fn operator(operators: Operators, token: Token<'_>) -> Option<Binary>
         Operators::Logical => logical(token),
         Operators::Adding => adding(token),
         Operators::Scaling => scaling(token),
+    }
+}
+
+/// The level of an operator.
+pub fn level(operator: Binary) -> Operators
+    ensures { result ≡ level_of operator }
+{
+    match operator {
+        Binary::AndAlso | Binary::OrElse => Operators::Logical,
+        Binary::Add | Binary::Subtract => Operators::Adding,
+        _ => Operators::Scaling,
     }
 }
 

@@ -4,6 +4,10 @@
 //! the tree. A token that opens a nesting is tested where it stands. A function that has read a
 //! tree hands it on at once to one that goes on with it: what holds a tree is proved for the tree's
 //! end too, at each of its ways out.
+//!
+//! Ten of these functions are on the way from a nesting to the next one. So what makes a tree or
+//! drops one is in `parts`, and no part of them in machine code: each would have room for a tree on
+//! its stack.
 
 ghost use Rattle.std.specs.Prelude.{map, length, Some};
 ghost use Rattle.syntax_trees.specs.Views.{name_tree, expression_tree};
@@ -82,12 +86,16 @@ fn assignment<'t, 'a>(
     pass(parser);
     match assigned(parser, depth) {
         Ok(right) => parts::assign(parser, left, sign, right),
-        Err(e) => Err(e),
+        Err(e) => {
+            parts::discard(left);
+            Err(e)
+        }
     }
 }
 
 // The right side of an assignment, a nesting at its first token.
 #[cycle(expression)]
+#[inline(never)]
 #[tactic(auto, unfolding(crate::specs::Parse::assigned), using(crate::proofs::Nested::nested_zero, crate::proofs::Nested::nested_whole))]
 fn assigned<'t, 'a>(
     parser: &mut Parser<'t, 'a>,
@@ -122,7 +130,7 @@ fn chain<'t, 'a>(
 
 // What stands behind the first operand of a chain.
 #[cycle(expression)]
-#[tactic(auto, using(crate::proofs::Chain::chain_stop, crate::proofs::Chain::chain_done))]
+#[tactic(auto, using(crate::proofs::Chain::chain_stop))]
 fn links<'t, 'a>(
     parser: &mut Parser<'t, 'a>,
     depth: usize,
@@ -133,28 +141,44 @@ fn links<'t, 'a>(
         (spec.chain (operator_of operators) (operand_of (spec.nested depth) operators)
         (length (ahead parser.old)) (expression_tree first.entry.value) (ahead parser.old)) }
 {
-    let Some(joining) = operator(operators, peek(parser.tokens)) else {
-        return Ok(first);
-    };
-    let turns = parser.tokens.len();
-    pass(parser);
-    match operand(parser, depth, operators) {
-        Ok(second) => {
-            let mut links = Vec::new(parser.alloc);
-            for _turn in 1..turns {
-                let Some(next) = operator(operators, peek(parser.tokens)) else {
-                    break;
-                };
-                pass(parser);
-                match operand(parser, depth, operators) {
-                    Ok(right) => parts::add_link(&mut links, next, right)?,
-                    Err(e) => return Err(e),
-                }
-            }
-            parts::chain(parser, first, joining, second, links)
-        }
-        Err(e) => Err(e),
+    match operator(operators, peek(parser.tokens)) {
+        Some(_) => linked(parser, depth, operators, first),
+        None => Ok(first),
     }
+}
+
+// The same where an operator stands there.
+#[cycle(expression)]
+#[inline(never)]
+#[tactic(auto, using(crate::proofs::Chain::chain_stop, crate::proofs::Chain::chain_done))]
+fn linked<'t, 'a>(
+    parser: &mut Parser<'t, 'a>,
+    depth: usize,
+    operators: Operators,
+    first: Box<Expression<'a>>,
+) -> Result<Box<Expression<'a>>, ParseError>
+    ensures { TakesExpression result parser.new
+        (spec.chain (operator_of operators) (operand_of (spec.nested depth) operators)
+        (length (ahead parser.old)) (expression_tree first.entry.value) (ahead parser.old)) }
+{
+    let mut chain = first;
+    for _turn in 0..parser.tokens.len() {
+        let Some(joining) = operator(operators, peek(parser.tokens)) else {
+            break;
+        };
+        pass(parser);
+        match operand(parser, depth, operators) {
+            Ok(right) => match parts::link(parser, chain, joining, right) {
+                Ok(longer) => chain = longer,
+                Err(e) => return Err(e),
+            },
+            Err(e) => {
+                parts::discard(chain);
+                return Err(e);
+            }
+        }
+    }
+    Ok(chain)
 }
 
 // An operand of a level.
@@ -238,6 +262,7 @@ fn compared<'t, 'a>(
 
 // A comparison of two, from its operator on.
 #[cycle(expression)]
+#[inline(never)]
 fn compare<'t, 'a>(
     parser: &mut Parser<'t, 'a>,
     depth: usize,
@@ -250,12 +275,16 @@ fn compare<'t, 'a>(
     pass(parser);
     match chain(parser, depth, Operators::Adding) {
         Ok(right) => parts::compare(parser, left, operator, right),
-        Err(e) => Err(e),
+        Err(e) => {
+            parts::discard(left);
+            Err(e)
+        }
     }
 }
 
 // A comparison with one value or several, from its operator on.
 #[cycle(expression)]
+#[inline(never)]
 #[tactic(auto, unfolding(crate::specs::Parse::equated))]
 fn equate<'t, 'a>(
     parser: &mut Parser<'t, 'a>,
@@ -269,12 +298,16 @@ fn equate<'t, 'a>(
     pass(parser);
     match values(parser, depth) {
         Ok((first, others)) => parts::equal(parser, left, operator, first, others),
-        Err(e) => Err(e),
+        Err(e) => {
+            parts::discard(left);
+            Err(e)
+        }
     }
 }
 
 // `in` or `notin`, from the word on.
 #[cycle(expression)]
+#[inline(never)]
 fn contain<'t, 'a>(
     parser: &mut Parser<'t, 'a>,
     depth: usize,
@@ -287,7 +320,10 @@ fn contain<'t, 'a>(
     pass(parser);
     match chain(parser, depth, Operators::Adding) {
         Ok(container) => parts::contained(parser, left, operator, container),
-        Err(e) => Err(e),
+        Err(e) => {
+            parts::discard(left);
+            Err(e)
+        }
     }
 }
 
@@ -309,8 +345,19 @@ fn values<'t, 'a>(
                 }
                 pass(parser);
                 match chain(parser, depth, Operators::Adding) {
-                    Ok(next) => parts::add(&mut others, next)?,
-                    Err(e) => return Err(e),
+                    Ok(next) => match parts::add(&mut others, next) {
+                        Ok(()) => {}
+                        Err(e) => {
+                            parts::discard(first);
+                            parts::discard(others);
+                            return Err(e);
+                        }
+                    },
+                    Err(e) => {
+                        parts::discard(first);
+                        parts::discard(others);
+                        return Err(e);
+                    }
                 }
             }
             Ok((first, others))
@@ -357,7 +404,7 @@ fn indexed<'t, 'a>(
     pass(parser);
     pass(parser);
     match unary(parser, depth) {
-        Ok(index) => parts::index(parser, array, width, index),
+        Ok(index) => parts::index(parser, &array, width, index),
         Err(e) => Err(e),
     }
 }
@@ -400,6 +447,7 @@ fn owned<'t, 'a>(
 
 // An entry of a property of the owner, from `.&` on.
 #[cycle(expression)]
+#[inline(never)]
 #[tactic(auto, unfolding(crate::specs::Parse::entry))]
 fn entry<'t, 'a>(
     parser: &mut Parser<'t, 'a>,
@@ -410,10 +458,19 @@ fn entry<'t, 'a>(
         (expression_tree owner.entry.value) (tail (ahead parser.old))) }
 {
     pass(parser);
-    let name = property_name(parser)?;
+    let name = match property_name(parser) {
+        Ok(name) => name,
+        Err(e) => {
+            parts::discard(owner);
+            return Err(e);
+        }
+    };
     match unary(parser, depth) {
-        Ok(index) => parts::property_entry(parser, owner, name, index),
-        Err(e) => Err(e),
+        Ok(index) => parts::property_entry(parser, owner, &name, index),
+        Err(e) => {
+            parts::discard(owner);
+            Err(e)
+        }
     }
 }
 
@@ -439,6 +496,7 @@ fn unary<'t, 'a>(
 
 // `-` and its operand.
 #[cycle(expression)]
+#[inline(never)]
 #[tactic(auto, using(crate::proofs::Nested::nested_zero, crate::proofs::Nested::nested_prefix))]
 fn minus<'t, 'a>(
     parser: &mut Parser<'t, 'a>,
@@ -457,6 +515,7 @@ fn minus<'t, 'a>(
 
 // `++` or `--`, and its operand.
 #[cycle(expression)]
+#[inline(never)]
 #[tactic(auto, using(crate::proofs::Nested::nested_zero, crate::proofs::Nested::nested_operand))]
 fn step_before<'t, 'a>(
     parser: &mut Parser<'t, 'a>,
@@ -529,7 +588,7 @@ fn atom<'t, 'a>(
                 text,
                 position: token.position,
             };
-            after_name(parser, depth, name)
+            after_name(parser, depth, &name)
         }
         Kind::Sign(Sign::OpenParenthesis) => enclosed(parser, depth),
         _ => Err(fault_at(Fault::Grammar, parser.tokens)),
@@ -542,10 +601,10 @@ fn atom<'t, 'a>(
 fn after_name<'t, 'a>(
     parser: &mut Parser<'t, 'a>,
     depth: usize,
-    name: Name<'a>,
+    name: &Name<'a>,
 ) -> Result<Box<Expression<'a>>, ParseError>
     ensures { TakesExpression result parser.new
-        (spec.after_name (spec.nested depth) (name_tree name.entry) (tail (ahead parser.old))) }
+        (spec.after_name (spec.nested depth) (name_tree name.now) (tail (ahead parser.old))) }
 {
     pass(parser);
     if !is_sign(peek(parser.tokens), Sign::OpenParenthesis) {
@@ -558,6 +617,7 @@ fn after_name<'t, 'a>(
 
 // What stands in parentheses, from the first of them on.
 #[cycle(expression)]
+#[inline(never)]
 #[tactic(auto, using(crate::proofs::Nested::nested_zero, crate::proofs::Nested::nested_whole))]
 fn within<'t, 'a>(
     parser: &mut Parser<'t, 'a>,
@@ -605,6 +665,7 @@ fn reserved<'t, 'a>(
 
 // The parent, the child or the sibling of what stands in parentheses, from the word on.
 #[cycle(expression)]
+#[inline(never)]
 #[tactic(auto, unfolding(crate::specs::Parse::related))]
 fn related<'t, 'a>(
     parser: &mut Parser<'t, 'a>,
@@ -630,10 +691,10 @@ fn related<'t, 'a>(
 fn called<'t, 'a>(
     parser: &mut Parser<'t, 'a>,
     depth: usize,
-    name: Name<'a>,
+    name: &Name<'a>,
 ) -> Result<Box<Expression<'a>>, ParseError>
     ensures { TakesExpression result parser.new
-        (spec.called (spec.nested depth) (name_tree name.entry) (ahead parser.old)) }
+        (spec.called (spec.nested depth) (name_tree name.now) (ahead parser.old)) }
 {
     if is_sign(peek(parser.tokens), Sign::CloseParenthesis) {
         return parts::call_alone(parser, name);
@@ -646,6 +707,7 @@ fn called<'t, 'a>(
 
 // Arguments, at least one.
 #[cycle(expression)]
+#[inline(never)]
 #[tactic(auto, using(syntax_parsing::proofs::Loops::further_out, syntax_parsing::proofs::Loops::further_done))]
 fn arguments<'t, 'a>(
     parser: &mut Parser<'t, 'a>,
@@ -657,8 +719,17 @@ fn arguments<'t, 'a>(
     // Most calls have one argument. A first `push` would ask for several places.
     let mut arguments = Vec::with_capacity(parser.alloc, 1)?;
     match expression(parser, depth) {
-        Ok(first) => parts::add(&mut arguments, first)?,
-        Err(e) => return Err(e),
+        Ok(first) => match parts::add(&mut arguments, first) {
+            Ok(()) => {}
+            Err(e) => {
+                parts::discard(arguments);
+                return Err(e);
+            }
+        },
+        Err(e) => {
+            parts::discard(arguments);
+            return Err(e);
+        }
     }
     for _turn in 0..parser.tokens.len() {
         if !is_sign(peek(parser.tokens), Sign::Comma) {
@@ -666,8 +737,17 @@ fn arguments<'t, 'a>(
         }
         pass(parser);
         match expression(parser, depth) {
-            Ok(next) => parts::add(&mut arguments, next)?,
-            Err(e) => return Err(e),
+            Ok(next) => match parts::add(&mut arguments, next) {
+                Ok(()) => {}
+                Err(e) => {
+                    parts::discard(arguments);
+                    return Err(e);
+                }
+            },
+            Err(e) => {
+                parts::discard(arguments);
+                return Err(e);
+            }
         }
     }
     Ok(arguments)

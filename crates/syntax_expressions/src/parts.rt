@@ -12,7 +12,7 @@
 //! `Memory` where a growth is refused; `Fault::Grammar` where a parenthesis is not closed, and
 //! where a name is to stand and does not.
 
-ghost use Rattle.std.specs.Prelude.{◌≡◌, ◌∷◌, IfErr, IfOk, Ok, length, map, [], ◌++◌};
+ghost use Rattle.std.specs.Prelude.{◌≡◌, ◌∷◌, IfErr, IfOk, Ok, Some, length, map, [], ◌++◌};
 ghost use Rattle.syntax_lexer.specs.Token.{position_of};
 ghost use Rattle.syntax_trees.specs.Tree as tree;
 ghost use Rattle.syntax_trees.specs.Views.{chained, link, name_tree, expression_tree, trees_of};
@@ -21,12 +21,13 @@ ghost use Rattle.syntax_parsing.specs.Returned.{ahead};
 ghost use Rattle.syntax_expressions.specs.Parse as spec;
 ghost use Rattle.syntax_expressions.specs.Returned.{TakesExpression};
 
-use crate::operators::{stepping, testing, word_value};
+use crate::operators::{level, stepping, testing, word_value};
 use crate::reading::expect_name;
 use syntax_lexer::{Position, Sign, Word};
 use syntax_parsing::{Fault, ParseError, Parser, expect, fault_at, is_sign, pass, peek, position};
 use syntax_trees::{
-    Binary, Comparison, Containment, Equality, Expression, Name, Prefix, Relative, Step, Width,
+    Binary, Comparison, Containment, Equality, Expression, Name, ObjectTest, Prefix, Relative,
+    Step, Width,
 };
 
 // A tree in a box. Where memory is refused the tree is dropped here.
@@ -43,7 +44,15 @@ fn in_box<'t, 'a>(
     }
 }
 
+/// Drops what was read, where an error follows. It is dropped here, since a function that drops a
+/// tree itself has room for one on its stack, at each nesting.
+#[inline(never)]
+pub fn discard<T: Drop>(read: T) {
+    drop(read);
+}
+
 /// A constant, which the next token is.
+#[inline(never)]
 pub fn constant<'t, 'a>(
     parser: &mut Parser<'t, 'a>,
     value: u16,
@@ -56,6 +65,7 @@ pub fn constant<'t, 'a>(
 }
 
 /// The value of the reserved word that comes next.
+#[inline(never)]
 pub fn word_constant<'t, 'a>(
     parser: &mut Parser<'t, 'a>,
     word: Word,
@@ -70,6 +80,7 @@ pub fn word_constant<'t, 'a>(
 }
 
 /// A dictionary word, which the next token is.
+#[inline(never)]
 pub fn word<'t, 'a>(
     parser: &mut Parser<'t, 'a>,
     word: &'a [u8],
@@ -82,35 +93,19 @@ pub fn word<'t, 'a>(
 }
 
 /// The value of a name.
+#[inline(never)]
 pub fn named<'t, 'a>(
     parser: &Parser<'t, 'a>,
-    name: Name<'a>,
+    name: &Name<'a>,
 ) -> Result<Box<Expression<'a>>, ParseError>
     ensures { TakesExpression result parser.now
-        (Ok (tree.named (name_tree name.entry), ahead parser.now)) }
+        (Ok (tree.named (name_tree name.now), ahead parser.now)) }
 {
-    in_box(parser, Expression::Named(name))
+    in_box(parser, Expression::Named(*name))
 }
 
-/// A chain.
-pub fn chain<'t, 'a>(
-    parser: &Parser<'t, 'a>,
-    first: Box<Expression<'a>>,
-    operator: Binary,
-    second: Box<Expression<'a>>,
-    links: Vec<(Binary, Expression<'a>)>,
-) -> Result<Box<Expression<'a>>, ParseError>
-    ensures { TakesExpression result parser.now (Ok (
-      chained (tree.binary operator (expression_tree first.entry.value)
-          (expression_tree second.entry.value)) (map link links.entry.items),
-      ahead parser.now,
-    )) }
-{
-    in_box(parser, Expression::Chain(first, operator, second, links))
-}
-
-/// One more operator and operand in a chain.
-pub fn add_link<'a>(
+// One more operator and operand in a chain.
+fn add_link<'a>(
     links: &mut Vec<(Binary, Expression<'a>)>,
     operator: Binary,
     operand: Box<Expression<'a>>,
@@ -119,7 +114,7 @@ pub fn add_link<'a>(
         ≡ links.old.items ++ (operator, operand.entry.value) ∷ []) }
     ensures err { IfErr result (λ e. e ≡ ParseError.Memory) }
 {
-    // Most chains are of one operator. A first `push` would ask for several places.
+    // Most chains are short. A first `push` would ask for several places.
     if links.is_empty() {
         links.reserve_exact(1)?;
     }
@@ -127,7 +122,81 @@ pub fn add_link<'a>(
     Ok(())
 }
 
+// Whether the tree is a chain of the operator's level.
+fn is_chain_of(tree: &Expression<'_>, operator: Binary) -> bool {
+    match tree {
+        Expression::Chain(_, first, _, _) => level(*first) == level(operator),
+        _ => false,
+    }
+}
+
+// A chain with one more operator and operand, where the tree is one.
+#[inline(never)]
+fn lengthened_chain<'t, 'a>(
+    parser: &Parser<'t, 'a>,
+    chain: Box<Expression<'a>>,
+    operator: Binary,
+    right: Box<Expression<'a>>,
+) -> Result<Box<Expression<'a>>, ParseError>
+    ensures { TakesExpression result parser.now (Ok (
+      tree.binary operator (expression_tree chain.entry.value) (expression_tree right.entry.value),
+      ahead parser.now,
+    )) }
+{
+    match Box::into_inner(chain) {
+        Expression::Chain(first, joining, second, links) => {
+            let mut links = links;
+            match add_link(&mut links, operator, right) {
+                Ok(()) => in_box(parser, Expression::Chain(first, joining, second, links)),
+                Err(e) => Err(e),
+            }
+        }
+        other => match in_box(parser, other) {
+            Ok(left) => pair(parser, left, operator, right),
+            Err(e) => Err(e),
+        },
+    }
+}
+
+// A chain of two operands.
+fn pair<'t, 'a>(
+    parser: &Parser<'t, 'a>,
+    left: Box<Expression<'a>>,
+    operator: Binary,
+    right: Box<Expression<'a>>,
+) -> Result<Box<Expression<'a>>, ParseError>
+    ensures { TakesExpression result parser.now (Ok (
+      tree.binary operator (expression_tree left.entry.value) (expression_tree right.entry.value),
+      ahead parser.now,
+    )) }
+{
+    let links = Vec::new(parser.alloc);
+    in_box(parser, Expression::Chain(left, operator, right, links))
+}
+
+/// Two operands and the operator between them. Where the left one is a chain of that level, it gets
+/// the operator and the right one: it is the chain that is being read, since another of the level
+/// would have parentheses.
+#[inline(never)]
+pub fn link<'t, 'a>(
+    parser: &Parser<'t, 'a>,
+    left: Box<Expression<'a>>,
+    operator: Binary,
+    right: Box<Expression<'a>>,
+) -> Result<Box<Expression<'a>>, ParseError>
+    ensures { TakesExpression result parser.now (Ok (
+      tree.binary operator (expression_tree left.entry.value) (expression_tree right.entry.value),
+      ahead parser.now,
+    )) }
+{
+    if is_chain_of(&left, operator) {
+        return lengthened_chain(parser, left, operator, right);
+    }
+    pair(parser, left, operator, right)
+}
+
 /// One more expression in a list.
+#[inline(never)]
 pub fn add<'a>(
     expressions: &mut Vec<Expression<'a>>,
     next: Box<Expression<'a>>,
@@ -141,6 +210,7 @@ pub fn add<'a>(
 }
 
 /// An operator before its operand.
+#[inline(never)]
 pub fn prefixed<'t, 'a>(
     parser: &Parser<'t, 'a>,
     operator: Prefix,
@@ -153,37 +223,40 @@ pub fn prefixed<'t, 'a>(
 }
 
 /// An entry of an array.
+#[inline(never)]
 pub fn index<'t, 'a>(
     parser: &Parser<'t, 'a>,
-    array: Name<'a>,
+    array: &Name<'a>,
     width: Width,
     index: Box<Expression<'a>>,
 ) -> Result<Box<Expression<'a>>, ParseError>
     ensures { TakesExpression result parser.now (Ok (
-      tree.index (name_tree array.entry) width (expression_tree index.entry.value),
+      tree.index (name_tree array.now) width (expression_tree index.entry.value),
       ahead parser.now,
     )) }
 {
-    in_box(parser, Expression::Index(array, width, index))
+    in_box(parser, Expression::Index(*array, width, index))
 }
 
 /// An entry of a property.
+#[inline(never)]
 pub fn property_entry<'t, 'a>(
     parser: &Parser<'t, 'a>,
     owner: Box<Expression<'a>>,
-    name: Name<'a>,
+    name: &Name<'a>,
     index: Box<Expression<'a>>,
 ) -> Result<Box<Expression<'a>>, ParseError>
     ensures { TakesExpression result parser.now (Ok (
-      tree.property_entry (expression_tree owner.entry.value) (name_tree name.entry)
+      tree.property_entry (expression_tree owner.entry.value) (name_tree name.now)
           (expression_tree index.entry.value),
       ahead parser.now,
     )) }
 {
-    in_box(parser, Expression::PropertyEntry(owner, name, index))
+    in_box(parser, Expression::PropertyEntry(owner, *name, index))
 }
 
 /// An owner, with the properties that stand behind it, each a property of what stands before it.
+#[inline(never)]
 pub fn properties<'t, 'a>(
     parser: &mut Parser<'t, 'a>,
     owner: Box<Expression<'a>>,
@@ -210,6 +283,7 @@ pub fn properties<'t, 'a>(
 }
 
 /// `++` or `--` before its operand.
+#[inline(never)]
 pub fn step_before<'t, 'a>(
     parser: &Parser<'t, 'a>,
     step: Step,
@@ -225,6 +299,7 @@ pub fn step_before<'t, 'a>(
 }
 
 // `++` or `--` after its operand, from the operator on.
+#[inline(never)]
 fn step_after<'t, 'a>(
     parser: &mut Parser<'t, 'a>,
     operand: Box<Expression<'a>>,
@@ -253,6 +328,18 @@ fn lengthened<'t, 'a>(
     if !is_sign(peek(parser.tokens), Sign::DotHash) {
         return Ok(operand);
     }
+    property_length(parser, operand)
+}
+
+// The length of a property of an operand, from `.#` on.
+#[inline(never)]
+fn property_length<'t, 'a>(
+    parser: &mut Parser<'t, 'a>,
+    operand: Box<Expression<'a>>,
+) -> Result<Box<Expression<'a>>, ParseError>
+    ensures { TakesExpression result parser.new (spec.length_next
+        (expression_tree operand.entry.value) (reading.tail (ahead parser.old))) }
+{
     pass(parser);
     let name = expect_name(parser)?;
     in_box(parser, Expression::PropertyLength(operand, name))
@@ -274,6 +361,7 @@ pub fn suffixed<'t, 'a>(
 }
 
 /// An expression in parentheses, with the second of them.
+#[inline(never)]
 pub fn parenthesised<'t, 'a>(
     parser: &mut Parser<'t, 'a>,
     enclosed: Box<Expression<'a>>,
@@ -286,6 +374,7 @@ pub fn parenthesised<'t, 'a>(
 }
 
 /// The parent, the child or the sibling of what stands in parentheses, with the second of them.
+#[inline(never)]
 pub fn relative_of<'t, 'a>(
     parser: &mut Parser<'t, 'a>,
     relative: Relative,
@@ -299,6 +388,7 @@ pub fn relative_of<'t, 'a>(
 }
 
 /// `in` or `notin`.
+#[inline(never)]
 pub fn contained<'t, 'a>(
     parser: &Parser<'t, 'a>,
     left: Box<Expression<'a>>,
@@ -315,7 +405,7 @@ pub fn contained<'t, 'a>(
     in_box(parser, Expression::Contained(left, operator, right))
 }
 
-/// An operand, with `has`, `hasnt` or `provides` and a name where they stand behind it.
+/// An operand, with `has`, `hasnt` or `provides` and a name where they stand after it.
 #[tactic(auto, unfolding(crate::specs::Parse::tested_next))]
 pub fn tested<'t, 'a>(
     parser: &mut Parser<'t, 'a>,
@@ -324,15 +414,29 @@ pub fn tested<'t, 'a>(
     ensures { TakesExpression result parser.new
         (spec.tested_next (expression_tree left.entry.value) (ahead parser.old)) }
 {
-    let Some(test) = testing(peek(parser.tokens)) else {
-        return Ok(left);
-    };
+    match testing(peek(parser.tokens)) {
+        Some(test) => object_test(parser, left, test),
+        None => Ok(left),
+    }
+}
+
+// `has`, `hasnt` or `provides` and a name after an operand, from the word on.
+#[inline(never)]
+fn object_test<'t, 'a>(
+    parser: &mut Parser<'t, 'a>,
+    left: Box<Expression<'a>>,
+    test: ObjectTest,
+) -> Result<Box<Expression<'a>>, ParseError>
+    ensures { TakesExpression result parser.new (spec.tested_on
+        (expression_tree left.entry.value) (ahead parser.old) (Some test)) }
+{
     pass(parser);
     let name = expect_name(parser)?;
     in_box(parser, Expression::Tested(left, test, name))
 }
 
 /// A comparison of two.
+#[inline(never)]
 pub fn compare<'t, 'a>(
     parser: &Parser<'t, 'a>,
     left: Box<Expression<'a>>,
@@ -350,6 +454,7 @@ pub fn compare<'t, 'a>(
 }
 
 /// An assignment.
+#[inline(never)]
 pub fn assign<'t, 'a>(
     parser: &Parser<'t, 'a>,
     left: Box<Expression<'a>>,
@@ -367,6 +472,7 @@ pub fn assign<'t, 'a>(
 }
 
 /// A comparison with one value or several.
+#[inline(never)]
 pub fn equal<'t, 'a>(
     parser: &Parser<'t, 'a>,
     left: Box<Expression<'a>>,
@@ -384,27 +490,29 @@ pub fn equal<'t, 'a>(
 }
 
 /// A call, with the second of its parentheses.
+#[inline(never)]
 pub fn call<'t, 'a>(
     parser: &mut Parser<'t, 'a>,
-    name: Name<'a>,
+    name: &Name<'a>,
     arguments: Vec<Expression<'a>>,
 ) -> Result<Box<Expression<'a>>, ParseError>
     ensures { TakesExpression result parser.new
-        (spec.closed (λ xs. tree.call (name_tree name.entry) (trees_of xs))
+        (spec.closed (λ xs. tree.call (name_tree name.now) (trees_of xs))
         (map expression_tree arguments.entry.items, ahead parser.old)) }
 {
     expect(parser, Sign::CloseParenthesis)?;
-    in_box(parser, Expression::Call(name, arguments))
+    in_box(parser, Expression::Call(*name, arguments))
 }
 
 /// A call without arguments, from the second of its parentheses on.
+#[inline(never)]
 pub fn call_alone<'t, 'a>(
     parser: &mut Parser<'t, 'a>,
-    name: Name<'a>,
+    name: &Name<'a>,
 ) -> Result<Box<Expression<'a>>, ParseError>
     ensures { TakesExpression result parser.new
-        (Ok (tree.call (name_tree name.entry) tree.none, reading.tail (ahead parser.old))) }
+        (Ok (tree.call (name_tree name.now) tree.none, reading.tail (ahead parser.old))) }
 {
     pass(parser);
-    in_box(parser, Expression::Call(name, Vec::new(parser.alloc)))
+    in_box(parser, Expression::Call(*name, Vec::new(parser.alloc)))
 }

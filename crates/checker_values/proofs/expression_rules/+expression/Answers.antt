@@ -11,8 +11,8 @@ use Rattle.meaning.specs.Views.{value_of}
 use Rattle.checker_names.specs.declared.binding.Binding.{Binding}
 use Rattle.checker_names.specs.Names.{name_of}
 use Rattle.checker_names.specs.Breaches.{at}
-use Rattle.checker_names.specs.Scope.{number_at, look_in, seen_in}
-use Rattle.checker_names.proofs.Noted.{noted_none, noted_two}
+use Rattle.checker_names.specs.Scope.{look_in, seen_in}
+use Rattle.checker_names.proofs.Noted.{noted_two}
 use Rattle.checker_names.proofs.Each.{each_next, each_end, value_next, value_end}
 use Rattle.checker_values.specs.Expressions.{breaches, tested_breaches}
 use Rattle.checker_values.specs.Expressions.{tested_for, assigned}
@@ -21,7 +21,7 @@ use Rattle.checker_values.proofs.Shapes.{is_constant, is_word, is_named, is_call
 use Rattle.checker_values.proofs.Shapes.{is_prefixed, is_relative_of, is_property, is_property_length}
 use Rattle.checker_values.proofs.Shapes.{is_property_entry, is_step_before, is_step_after, is_chain, is_compare}
 use Rattle.checker_values.proofs.Shapes.{is_equal, is_contained, is_tested, is_assign}
-use Rattle.checker_values.proofs.Walks.{leaf, named_part, one, two, three, made_number, made_call, made_prefixed}
+use Rattle.checker_values.proofs.Walks.{leaf, named_part, one, two, three, made_call, made_prefixed}
 use Rattle.checker_values.proofs.Walks.{made_step_before, made_step_after, made_chain, made_compare, made_equal}
 use Rattle.checker_values.proofs.Walks.{made_entry, made_relative, made_contained, made_property, made_property_size}
 use Rattle.checker_values.proofs.Walks.{made_property_word, made_walked, boxed_walked, kept_walked}
@@ -34,8 +34,8 @@ all_expressions-loop-e-preserved t c =
     let f = λ (x : Expression). own_breaches (seen_in c.args.scope.now) x in
     let g = λ (x : Expression). resolved (seen_in c.args.scope.now) x in
     record {
-      value = rw c.in_ok-push.ensures.items
-          (value_next f g value_of c.loop-e.found.items c.in-Ok.resolved c.args.given.now c.loop-e.e-index
+      value = rw c.in_ok-add.ensures
+          (value_next f g value_of c.loop-e.found.items c.in-Ok.resolved.value c.args.given.now c.loop-e.e-index
           c.e-item.result c.loop-e-test.true c.e-item.is c.loop-e.invariant.value c.in-Ok.ensures.value);
       least = rw c.in-Ok.ensures.breaches
           (sym (each_next f g value_of c.loop-e.least c.args.given.now c.loop-e.e-index c.e-item.result
@@ -57,8 +57,8 @@ chain_links-loop-link-preserved t c =
     let f = λ (x : Binary × Expression). link_breaches (seen_in c.args.scope.now) x in
     let g = λ (x : Binary × Expression). resolved_link (seen_in c.args.scope.now) x in
     record {
-      value = rw c.in_ok-push.ensures.items
-          (value_next f g value_link c.loop-link.found.items (c.link-item.result.0, c.in-Ok.operand) c.args.links.now
+      value = rw c.in_ok-add_link.ensures
+          (value_next f g value_link c.loop-link.found.items (c.link-item.result.0, c.in-Ok.operand.value) c.args.links.now
           c.loop-link.link-index c.link-item.result c.loop-link-test.true c.link-item.is c.loop-link.invariant.value
           (ap (λ (v : Value). (c.link-item.result.0, v)) c.in-Ok.ensures.value));
       least = rw c.in-Ok.ensures.breaches
@@ -290,24 +290,3 @@ assign-returns t c = made_walked c.assignment.result c.assignment.ensures
 
 pub boxed_assignment-returns : goal.boxed_assignment-returns
 boxed_assignment-returns t c = kept_walked c.in_box.result _ c.in_box.ensures c.in-Ok.ensures
-
-pub expression-returns-in-Constant : goal.expression-returns-in-Constant
-expression-returns-in-Constant t c =
-    rw (is_constant c.args.e.now c.in-Constant.number c.in-Constant.is, made_number c.in-Constant.number)
-    (record { value = refl; breaches = sym (noted_none c.args.least.now) })
-
-pub expression-returns-in-Named : goal.expression-returns-in-Named
-expression-returns-in-Named t c = rw (is_named c.args.e.now _ c.in-Named.is) c.named_value.ensures
-
-pub expression-returns-in-Word : goal.expression-returns-in-Word
-expression-returns-in-Word t c =
-    rw (is_word c.args.e.now _ c.in-Word.is, made_number c.number.result)
-    (record {
-      value = ap values.number
-          (c.number.ensures ∙ ap (number_at c.args.scope.now.file.now.numbers) c.key_of_word.ensures);
-      breaches = sym (noted_none c.args.least.now);
-    })
-
-pub expression-returns-in-Assign : goal.expression-returns-in-Assign
-expression-returns-in-Assign t c =
-    rw (is_assign _ _ _ _ c.in-Assign.is, ← c.deref-in-Assign.ensures, ← c.deref.ensures) c.assign.ensures

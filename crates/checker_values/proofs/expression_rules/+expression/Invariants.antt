@@ -11,9 +11,6 @@ use Rattle.checker_values.proofs.expression_rules.+expression.Given as goal
 abbrev pub decreases-boxed : goal.decreases-boxed
 decreases-boxed l = 4 * goal.size-boxed l
 
-abbrev pub decreases-expression : goal.decreases-expression
-decreases-expression l = 4 * goal.size-expression l + 1
-
 abbrev pub decreases-boxed_assignment : goal.decreases-boxed_assignment
 decreases-boxed_assignment l = 4 * max (size-Expression l.left.now) (size-Expression l.right.now) + 3
 

@@ -1,4 +1,4 @@
-use Rattle.std.proofs.Common.{sym, ◌∙◌, arith, ◌∷◌}
+use Rattle.std.proofs.Common.{refl, sym, ◌∙◌, arith, ◌∷◌}
 use Rattle.syntax_lexer.specs.declared.token.Sign.TheVariants as s
 use Rattle.syntax_lexer.specs.declared.token.Word.TheVariants as w
 use Rattle.syntax_trees.specs.Views.{expression_tree}
@@ -7,7 +7,7 @@ use Rattle.syntax_parsing.specs.Returned.{ahead}
 use Rattle.syntax_parsing.proofs.Loops.{further_out, further_done, further_more, further_fails, list_fails, list_begins}
 use Rattle.syntax_expressions.specs.Parse.{nested, expression, sum}
 use Rattle.syntax_expressions.specs.Levels.{operator_of, operand_of}
-use Rattle.syntax_expressions.proofs.Chain.{chain_fails, chain_more, links_fail, links_begin, end_operator, level_fails}
+use Rattle.syntax_expressions.proofs.Chain.{chain_fails, chain_more, level_fails}
 use Rattle.syntax_expressions.proofs.parser.+expression.Goals.{values-else-loop-turn-test}
 use Rattle.syntax_expressions.proofs.parser.+expression.Goals.{values-then-loop-turn-test+then-not-is_word}
 use Rattle.syntax_expressions.proofs.parser.+expression.Goals as goal
@@ -18,32 +18,18 @@ pub chain-returns-in-Err : goal.chain-returns-in-Err
 chain-returns-in-Err t c = level_fails (nested c.args.depth) c.args.operators c.in-Err.e (ahead c.args.parser.now)
     c.in-Err.ensures
 
-pub links-returns : goal.links-returns
-links-returns t c = links_fail (operator_of c.args.operators) (operand_of (nested c.args.depth) c.args.operators)
-    c.in-Err.e _ c.args.parser.now.tokens.now c.in-Some.joining (grind arith)
-    (end_operator (nested c.args.depth) c.args.operators) (rw c.pass.ensures at c.in-Err.ensures)
+pub linked-returns-in-Err : goal.linked-returns-in-Err
+linked-returns-in-Err t c = chain_fails (operator_of c.args.operators)
+    (operand_of (nested c.args.depth) c.args.operators) c.in-Err.e _ c.loop-turn._turn _
+    (ahead c.loop-turn.parser) c.in-Some.joining _ c.loop-turn-test.true (grind arith)
+    (rw c.pass.ensures at c.in-Err.ensures) c.loop-turn.invariant
 
-pub links-loop-turn-init : goal.links-loop-turn-init
-links-loop-turn-init t c =
-    rw c.new-links.ensures.items
-    (links_begin (operator_of c.args.operators) (operand_of (nested c.args.depth) c.args.operators) _ _
-    c.args.parser.now.tokens.now c.in-Some.joining _ (grind arith)
-    (end_operator (nested c.args.depth) c.args.operators) (rw c.pass.ensures at c.in-Ok.ensures))
-
-pub links-returns-in-Err-operand : goal.links-returns-in-Err-operand
-links-returns-in-Err-operand t c = chain_fails (operator_of c.args.operators)
-    (operand_of (nested c.args.depth) c.args.operators) c.in-Err-operand.e _ c.loop-turn._turn _
-    (ahead c.loop-turn.parser) c.in-Some-operator.next _ c.loop-turn-test.true (grind arith)
-    (rw c.pass-in-loop-turn.ensures at c.in-Err-operand.ensures) c.loop-turn.invariant
-
-pub links-loop-turn-preserved : goal.links-loop-turn-preserved
-links-loop-turn-preserved t c =
-    rw c.in_ok-add_link-in-Ok-operand.ensures.ok
-    (sym (chain_more (operator_of c.args.operators) (operand_of (nested c.args.depth) c.args.operators) _
-    c.loop-turn._turn _ c.loop-turn.links.items (ahead c.loop-turn.parser) c.in-Some-operator.next
-    c.in-Ok-operand.right.value _ c.loop-turn-test.true (grind arith)
-    (rw c.pass-in-loop-turn.ensures at c.in-Ok-operand.ensures))
-    ∙ c.loop-turn.invariant)
+pub linked-loop-turn-preserved : goal.linked-loop-turn-preserved
+linked-loop-turn-preserved t c =
+    sym (chain_more (operator_of c.args.operators) (operand_of (nested c.args.depth) c.args.operators) _
+    c.loop-turn._turn _ (ahead c.loop-turn.parser) c.in-Some.joining _ _ _ _ _ c.loop-turn-test.true (grind arith)
+    (rw c.pass.ensures at c.in-Ok.ensures) refl c.in-Ok-link.ensures)
+    ∙ c.loop-turn.invariant
 
 -- ---- values with `or` between them
 
@@ -64,7 +50,7 @@ values-returns-in-Err-chain t c = further_fails expression_tree (is_word w.Or) (
 
 pub values-loop-turn-preserved : goal.values-loop-turn-preserved
 values-loop-turn-preserved t c =
-    rw c.in_ok-add-in-Ok-chain.ensures.ok
+    rw c.in-Ok-add.ensures.ok
     (sym (further_more expression_tree (is_word w.Or) (sum (nested c.args.depth)) _ c.loop-turn._turn
     (c.in-Ok.first.value ∷ c.loop-turn.others.items) (ahead c.loop-turn.parser) c.in-Ok-chain.next.value _
     c.loop-turn-test.true (grind arith) (rw c.pass.ensures at c.in-Ok-chain.ensures))
@@ -89,7 +75,7 @@ arguments-returns-in-Err t c = list_fails expression_tree (is_sign s.Comma) (exp
 
 pub arguments-loop-turn-init : goal.arguments-loop-turn-init
 arguments-loop-turn-init t c =
-    rw (c.in_ok-add-in-Ok.ensures.ok, c.in_ok-arguments.ensures.items)
+    rw (c.in-Ok-add.ensures.ok, c.in_ok-arguments.ensures.items)
     (list_begins expression_tree (is_sign s.Comma) (expression (nested c.args.depth)) (ahead c.args.parser.now) _
     c.in-Ok.first.value c.in-Ok.ensures)
 
@@ -101,7 +87,7 @@ arguments-returns-in-Err-expression t c = further_fails expression_tree (is_sign
 
 pub arguments-loop-turn-preserved : goal.arguments-loop-turn-preserved
 arguments-loop-turn-preserved t c =
-    rw c.in_ok-add-in-Ok-expression.ensures.ok
+    rw c.in-Ok-add-2.ensures.ok
     (sym (further_more expression_tree (is_sign s.Comma) (expression (nested c.args.depth)) _ c.loop-turn._turn
     c.loop-turn.arguments.items (ahead c.loop-turn.parser) c.in-Ok-expression.next.value _
     c.loop-turn-test.true (grind arith) (rw c.pass.ensures at c.in-Ok-expression.ensures))

@@ -2,8 +2,7 @@ use Rattle.std.proofs.Common.{◌≡◌, ℕ, ◌+◌, ◌-◌, ◌*◌, ◌∷�
 use Rattle.std.specs.Prelude.{map}
 use Rattle.syntax_lexer.specs.declared.token.Sign.TheVariants as s
 use Rattle.syntax_lexer.specs.declared.token.Word.TheVariants as w
-use Rattle.syntax_trees.specs.Tree.{binary}
-use Rattle.syntax_trees.specs.Views.{expression_tree, chained, link}
+use Rattle.syntax_trees.specs.Views.{expression_tree}
 use Rattle.syntax_parsing.specs.Parse as reading
 use Rattle.syntax_parsing.specs.Returned.{ahead}
 use Rattle.syntax_parsing.proofs.Loops.{joined}
@@ -14,121 +13,128 @@ use Rattle.syntax_expressions.specs.Levels.{operator_of, operand_of}
 use Rattle.syntax_expressions.proofs.parser.+expression.Given as goal
 
 -- each level's place in the order in which levels call one another within a nesting
+abbrev chain_rank : Operators → ℕ
+chain_rank operators.Logical = 29
+chain_rank operators.Adding = 20
+chain_rank operators.Scaling = 16
+
 abbrev links_rank : Operators → ℕ
-links_rank operators.Logical = 25
-links_rank operators.Adding = 17
-links_rank operators.Scaling = 14
+links_rank operators.Logical = 28
+links_rank operators.Adding = 19
+links_rank operators.Scaling = 15
+
+abbrev linked_rank : Operators → ℕ
+linked_rank operators.Logical = 27
+linked_rank operators.Adding = 18
+linked_rank operators.Scaling = 14
 
 abbrev operand_rank : Operators → ℕ
-operand_rank operators.Logical = 24
-operand_rank operators.Adding = 16
+operand_rank operators.Logical = 26
+operand_rank operators.Adding = 17
 operand_rank operators.Scaling = 13
 
-abbrev chain_rank : Operators → ℕ
-chain_rank operators.Logical = 26
-chain_rank operators.Adding = 18
-chain_rank operators.Scaling = 15
-
 abbrev pub decreases-called : goal.decreases-called
-decreases-called l = 30 * l.depth + 29
+decreases-called l = 33 * l.depth + 32
 
 abbrev pub decreases-arguments : goal.decreases-arguments
-decreases-arguments l = 30 * l.depth + 28
+decreases-arguments l = 33 * l.depth + 31
 
 abbrev pub decreases-expression : goal.decreases-expression
-decreases-expression l = 30 * l.depth + 27
+decreases-expression l = 33 * l.depth + 30
 
 abbrev pub decreases-assignment : goal.decreases-assignment
-decreases-assignment l = 30 * l.depth + 1
+decreases-assignment l = 33 * l.depth + 1
 
 abbrev pub decreases-negated : goal.decreases-negated
-decreases-negated l = 30 * l.depth + 23
+decreases-negated l = 33 * l.depth + 25
 
 abbrev pub decreases-comparison : goal.decreases-comparison
-decreases-comparison l = 30 * l.depth + 22
+decreases-comparison l = 33 * l.depth + 24
 
 abbrev pub decreases-compared : goal.decreases-compared
-decreases-compared l = 30 * l.depth + 21
+decreases-compared l = 33 * l.depth + 23
 
 abbrev pub decreases-compare : goal.decreases-compare
-decreases-compare l = 30 * l.depth + 20
+decreases-compare l = 33 * l.depth + 22
 
 abbrev pub decreases-equate : goal.decreases-equate
-decreases-equate l = 30 * l.depth + 20
+decreases-equate l = 33 * l.depth + 22
 
 abbrev pub decreases-contain : goal.decreases-contain
-decreases-contain l = 30 * l.depth + 20
+decreases-contain l = 33 * l.depth + 22
 
 abbrev pub decreases-values : goal.decreases-values
-decreases-values l = 30 * l.depth + 19
+decreases-values l = 33 * l.depth + 21
 
 abbrev pub decreases-complemented : goal.decreases-complemented
-decreases-complemented l = 30 * l.depth + 12
+decreases-complemented l = 33 * l.depth + 12
 
 abbrev pub decreases-indexed : goal.decreases-indexed
-decreases-indexed l = 30 * l.depth + 11
+decreases-indexed l = 33 * l.depth + 11
 
 abbrev pub decreases-unindexed : goal.decreases-unindexed
-decreases-unindexed l = 30 * l.depth + 10
+decreases-unindexed l = 33 * l.depth + 10
 
 abbrev pub decreases-owned : goal.decreases-owned
-decreases-owned l = 30 * l.depth + 9
+decreases-owned l = 33 * l.depth + 9
 
 abbrev pub decreases-entry : goal.decreases-entry
-decreases-entry l = 30 * l.depth + 8
+decreases-entry l = 33 * l.depth + 8
 
 abbrev pub decreases-unary : goal.decreases-unary
-decreases-unary l = 30 * l.depth + 7
+decreases-unary l = 33 * l.depth + 7
 
 abbrev pub decreases-minus : goal.decreases-minus
-decreases-minus l = 30 * l.depth
+decreases-minus l = 33 * l.depth
 
 abbrev pub decreases-step_before : goal.decreases-step_before
-decreases-step_before l = 30 * l.depth
+decreases-step_before l = 33 * l.depth
 
 abbrev pub decreases-stepped : goal.decreases-stepped
-decreases-stepped l = 30 * l.depth + 6
+decreases-stepped l = 33 * l.depth + 6
 
 abbrev pub decreases-primary : goal.decreases-primary
-decreases-primary l = 30 * l.depth + 5
+decreases-primary l = 33 * l.depth + 5
 
 abbrev pub decreases-atom : goal.decreases-atom
-decreases-atom l = 30 * l.depth + 4
+decreases-atom l = 33 * l.depth + 4
 
 abbrev pub decreases-reserved : goal.decreases-reserved
-decreases-reserved l = 30 * l.depth + 3
+decreases-reserved l = 33 * l.depth + 3
 
 abbrev pub decreases-related : goal.decreases-related
-decreases-related l = 30 * l.depth + 2
+decreases-related l = 33 * l.depth + 2
 
 abbrev pub decreases-enclosed : goal.decreases-enclosed
-decreases-enclosed l = 30 * l.depth + 2
+decreases-enclosed l = 33 * l.depth + 2
 
 abbrev pub decreases-after_name : goal.decreases-after_name
-decreases-after_name l = 30 * l.depth
+decreases-after_name l = 33 * l.depth
 
 abbrev pub decreases-within : goal.decreases-within
-decreases-within l = 30 * l.depth + 1
+decreases-within l = 33 * l.depth + 1
 
 abbrev pub decreases-assigned : goal.decreases-assigned
-decreases-assigned l = 30 * l.depth
+decreases-assigned l = 33 * l.depth
 
 abbrev pub decreases-chain : goal.decreases-chain
-decreases-chain l = 30 * l.depth + chain_rank l.operators
+decreases-chain l = 33 * l.depth + chain_rank l.operators
 
 abbrev pub decreases-links : goal.decreases-links
-decreases-links l = 30 * l.depth + links_rank l.operators
+decreases-links l = 33 * l.depth + links_rank l.operators
+
+abbrev pub decreases-linked : goal.decreases-linked
+decreases-linked l = 33 * l.depth + linked_rank l.operators
 
 abbrev pub decreases-operand : goal.decreases-operand
-decreases-operand l = 30 * l.depth + operand_rank l.operators
+decreases-operand l = 33 * l.depth + operand_rank l.operators
 
-abbrev pub invariant-links-loop-turn : goal.invariant-links-loop-turn
-invariant-links-loop-turn l =
-    spec.chain (operator_of l.operators) (operand_of (spec.nested l.depth) l.operators) (l.turns - l._turn)
-    (chained (binary l.joining (expression_tree l.first.value) (expression_tree l.second.value))
-    (map link l.links.items)) (ahead l.parser)
+abbrev pub invariant-linked-loop-turn : goal.invariant-linked-loop-turn
+invariant-linked-loop-turn l =
+    spec.chain (operator_of l.operators) (operand_of (spec.nested l.depth) l.operators) (l._turn-end - l._turn)
+    (expression_tree l.chain.value) (ahead l.parser)
     ≡ spec.chain (operator_of l.operators) (operand_of (spec.nested l.depth) l.operators)
-    (length (ahead l.fn.parser)) (expression_tree l.first.value) (ahead l.fn.parser)
+    (length (ahead l.fn.parser)) (expression_tree l.fn.first.value) (ahead l.fn.parser)
 
 abbrev pub invariant-values-loop-turn : goal.invariant-values-loop-turn
 invariant-values-loop-turn l =
