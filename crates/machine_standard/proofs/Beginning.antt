@@ -1,6 +1,7 @@
 -- The machine and the store of a story that was loaded.
-use Rattle.std.proofs.Common.{◌≡◌, ◌≤◌, ℕ, List, [], length, take, ap, sym, ◌∙◌, subst, arith, Ok}
+use Rattle.std.proofs.Common.{◌≡◌, ◌≤◌, ℕ, Bool, List, [], length, take, ap, sym, ◌∙◌, subst, arith, Ok}
 use Rattle.std.proofs.lemmas.List.{length-take-le}
+use Rattle.zcore.specs.declared.beside.Beside.{Beside}
 use Rattle.zcore.specs.declared.header.Header.{Header}
 use Rattle.zcore.specs.Header.{static_base_of}
 use Rattle.zcore.specs.Layout.{longest_story}
@@ -13,7 +14,7 @@ use Rattle.zcore_standard.proofs.Headers.{length_stays}
 use Rattle.zcore_standard.specs.Place.{Loaded}
 use Rattle.machine_frames.specs.Contents.{Contents, memory_of}
 use Rattle.machine_frames.specs.States.{state_of, IsSound, IsHeadedBy}
-use Rattle.machine_standard.specs.Loads.{Begins, IsLoaded, IsStoreFor}
+use Rattle.machine_standard.specs.Loads.{Begins, IsLoaded}
 use Rattle.machine_standard.specs.declared.turn.StandardMachine.{StandardMachine}
 
 headed_by : (memory : List ℕ) (header : Header) → IsPlayable memory header → IsHeadedBy header memory
@@ -27,6 +28,26 @@ headed_by memory header p = record {
   behind = p.placed.dictionary;
   searchable = p.dictionary;
 }
+
+-- what loading fixes, part by part
+pub loaded_as : (x : Loaded) (d dynamic c characters : List ℕ) (b dice : Beside) (right : Bool)
+    → x ≡ record { dynamic = d; dice = b; is_sum_right = right; characters = c } → d ≡ dynamic → b ≡ dice
+    → c ≡ characters
+    → x ≡ record { dynamic = dynamic; dice = dice; is_sum_right = right; characters = characters }
+loaded_as x d dynamic c characters b dice right e f g h = e
+    ∙ ap (λ (y : List ℕ). let z : Loaded = record { dynamic = y; dice = b; is_sum_right = right; characters = c } in z) f
+    ∙ ap (λ (y : Beside). let z : Loaded = record {
+      dynamic = dynamic;
+      dice = y;
+      is_sum_right = right;
+      characters = c;
+    } in z) g
+    ∙ ap (λ (y : List ℕ). let z : Loaded = record {
+      dynamic = dynamic;
+      dice = dice;
+      is_sum_right = right;
+      characters = y;
+    } in z) h
 
 pub begins_with : (memory : List ℕ) (story : LoadedStory) (seed : ℕ) (machine : StandardMachine) (s : Contents)
     → IsPlayable memory story.header → machine.header ≡ story.header

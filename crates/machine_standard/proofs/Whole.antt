@@ -1,5 +1,5 @@
 -- A whole turn of the Standard's machine.
-use Rattle.std.proofs.Common.{◌≡◌, ℕ, zero, suc, ◌+◌, ◌≤◌, List, [], ◌++◌, length, take, drop, refl, ap, sym, ◌∙◌}
+use Rattle.std.proofs.Common.{◌≡◌, ℕ, zero, suc, ◌≤◌, List, [], ◌++◌, length, drop, refl, ap, sym, ◌∙◌}
 use Rattle.std.proofs.Common.{subst, arith, slice_index, Result, Ok, Err}
 use Rattle.std.specs.Prelude.{IfOk, OnOk}
 use Rattle.std.proofs.lemmas.List.{drop-append-le, drop_all}
@@ -11,10 +11,9 @@ use Rattle.zcore.specs.declared.place.Place.TheVariants as places
 use Rattle.zcore.specs.State.{State, Out, done, halt}
 use Rattle.zcore.specs.Parts.{is_text_buffer, is_parse_buffer}
 use Rattle.zcore.specs.Execution.{step}
-use Rattle.zcore.specs.Header.{static_base_of}
 use Rattle.zcore.specs.Turn.{Reaches, ReachesBy, TurnsBy, Whole, first_next, first_state, notice}
 use Rattle.zcore_standard.specs.Laws.{ends_in_fault}
-use Rattle.zcore_standard.specs.Place.{Here, Loaded, on, within}
+use Rattle.zcore_standard.specs.Place.{Here, Loaded, within}
 use Rattle.zcore_standard.specs.Machine.{standard, standard_step, standard_ended, begins}
 use Rattle.zcore_standard.proofs.Turning.{standard_steps}
 use Rattle.zcore_standard.proofs.Waiting.{standard_step_waits}

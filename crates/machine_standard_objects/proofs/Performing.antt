@@ -1,5 +1,5 @@
 -- Operations that the profile knows, on the values of their operands.
-use Rattle.std.proofs.Common.{◌≡◌, ◌≢◌, ℕ, Bool, true, false, cond, List, Option, refl, ap, Result, Ok, Err}
+use Rattle.std.proofs.Common.{◌≡◌, ◌≢◌, ℕ, Bool, true, false, cond, List, Option, refl, ap, Result, Ok}
 use Rattle.std.proofs.lemmas.Bool.{eq-eqb, ne_eqb}
 use Rattle.journal.specs.Recording.{Recording}
 use Rattle.zcore.specs.declared.instruction.Branch.{Branch}
@@ -10,7 +10,7 @@ use Rattle.zcore.specs.declared.operations.OperandCount.TheVariants as counts
 use Rattle.zcore.specs.Execution.{perform}
 use Rattle.zcore.specs.Operations.{count_of}
 use Rattle.zcore.specs.Objects.{remove_object}
-use Rattle.zcore.specs.State.{State, Out, done}
+use Rattle.zcore.specs.State.{State, done}
 use Rattle.zcore_standard.specs.Nothing.{concerns_nothing, insert_nothing, perform_on_nothing, perform_known}
 use Rattle.machine_frames.specs.Contents.{Contents}
 use Rattle.machine_frames.specs.States.{state_of, IsSound}

@@ -1,14 +1,13 @@
 -- The story begins anew.
-use Rattle.std.proofs.Common.{◌≡◌, ◌≢◌, ℕ, ◌+◌, ◌-◌, ◌<◌, ◌≤◌, List, [], ◌∷◌, length, drop, None, Result, Ok, Err, refl}
-use Rattle.std.proofs.Common.{ap, sym, ◌∙◌, arith, slice_index}
+use Rattle.std.proofs.Common.{◌≡◌, ◌≢◌, ℕ, ◌-◌, List, [], ◌∷◌, drop, None, Ok, Err, refl}
+use Rattle.std.proofs.Common.{ap, ◌∙◌, arith, slice_index}
 use Rattle.std.proofs.lemmas.Bool.{ne_eqb, eq-eqb}
-use Rattle.std.specs.Prelude.{◌==◌, if◌then◌else◌}
 use Rattle.journal.specs.Recording.{Recording}
 use Rattle.zcore.specs.declared.next.Next.{Next}
 use Rattle.zcore.specs.declared.place.Limit.TheVariants as limits
 use Rattle.zcore.specs.declared.place.Place.TheVariants as places
-use Rattle.zcore.specs.State.{Frame, State, Out, done, halt, bound}
-use Rattle.zcore.specs.Parts.{spend, goes_on}
+use Rattle.zcore.specs.State.{Frame, State}
+use Rattle.zcore.specs.Parts.{spend}
 use Rattle.zcore.specs.Turn.{first_environment}
 use Rattle.ztext.specs.Bytes.{word_at}
 use Rattle.zcore_standard.specs.Flow.{restarted, restart}
@@ -16,17 +15,14 @@ use Rattle.zcore.specs.declared.beside.Beside.{Beside}
 use Rattle.zcore_standard.specs.Place.{Here, Loaded}
 use Rattle.zcore_standard.specs.Machine.{begins}
 use Rattle.machine_frames.specs.Contents.{Contents, Wrote, memory_of}
-use Rattle.machine_frames.specs.States.{base_of, local_count, height_of, frame_of, frames_of, state_of, IsSound}
-use Rattle.machine_frames.specs.States.{IsStacked}
+use Rattle.machine_frames.specs.States.{base_of, frames_of, state_of, IsSound}
 use Rattle.machine_frames.specs.Went.{GoesOn, Went}
-use Rattle.machine_frames.specs.declared.end.End.{End}
 use Rattle.machine_frames.specs.declared.end.End.TheVariants as ends
 use Rattle.machine_frames.proofs.Frames.{pending_same}
 use Rattle.machine_frames.proofs.Kept.{HasFrames, Keeps, keeps_goes_on, keeps_state, memory_kept}
 use Rattle.machine_frames.proofs.Lists.{wrote_memory}
 use Rattle.machine_frames.proofs.Steps.{goes_on_after, went_halt}
 use Rattle.machine_lines.specs.Lines.{Fills, WaitsNoMore}
-use Rattle.machine_lines.proofs.Lines.{waits_no_more}
 use Rattle.machine_standard_opcodes.specs.Left.{Empties}
 
 -- the cells of the first record as a story begins

@@ -1,12 +1,11 @@
 -- The cursor and streams.
 use Rattle.std.proofs.Common.{◌≡◌, ℕ, ◌+◌, ◌&&◌, true, false}
-use Rattle.std.proofs.Common.{Result, Ok, Err, refl, ap, sym, ◌∙◌}
+use Rattle.std.proofs.Common.{Ok, Err, refl, ap, sym, ◌∙◌}
 use Rattle.journal.specs.Recording.{Recording}
 use Rattle.zcore.specs.declared.header.Header.{Header}
 use Rattle.zcore.specs.declared.next.Next.{Next}
 use Rattle.zcore.specs.declared.place.Fault.TheVariants as faults
 use Rattle.zcore.specs.declared.place.Place.TheVariants as places
-use Rattle.zcore.specs.State.{State, Out, done}
 use Rattle.zcore.specs.Parts.{test, is_writable}
 use Rattle.zcore_standard.specs.Screen.{is_memory_stream, output_stream}
 use Rattle.machine_frames.specs.Contents.{Contents, memory_of}

@@ -1,5 +1,5 @@
 -- Open calls, and returns from them.
-use Rattle.std.proofs.Common.{◌≡◌, ◌≢◌, ℕ, zero, suc, ◌+◌, ◌-◌, ◌*◌, ◌/◌, ◌%◌, ◌<◌, ◌≤◌, ◌&&◌, ◌⊎◌, inl, inr, nat_le}
+use Rattle.std.proofs.Common.{◌≡◌, ℕ, zero, suc, ◌+◌, ◌-◌, ◌*◌, ◌/◌, ◌%◌, ◌<◌, ◌≤◌, ◌&&◌, ◌⊎◌, inl, inr, nat_le}
 use Rattle.std.proofs.Common.{nat_lt, Bool, true, false, List, [], ◌∷◌, length, drop, Option, Result, Ok, Err, refl, ap}
 use Rattle.std.proofs.Common.{sym, ◌∙◌, subst, arith, slice_index}
 use Rattle.std.proofs.lemmas.Bool.{lt-ltb, le-ltb, le-leb, lt-leb, cases_lt}
@@ -8,7 +8,7 @@ use Rattle.zcore.specs.declared.next.Next.{Next}
 use Rattle.zcore.specs.declared.place.Fault.{Fault}
 use Rattle.zcore.specs.declared.place.Fault.TheVariants as faults
 use Rattle.zcore.specs.declared.place.Place.TheVariants as places
-use Rattle.zcore.specs.State.{Frame, State, Out, done, halt, bound, ◌>>=◌}
+use Rattle.zcore.specs.State.{Frame, State, done, halt, bound, ◌>>=◌}
 use Rattle.zcore.specs.Parts.{test, is_code, can_store, returning}
 use Rattle.zcore.specs.Effects.{give_result}
 use Rattle.zcore_standard.specs.Flow.{catch, frames_at, leave_frame}

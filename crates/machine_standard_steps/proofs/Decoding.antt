@@ -1,7 +1,7 @@
 -- The instruction of a further operation, part by part.
-use Rattle.std.proofs.Common.{◌≡◌, ◌<◌, ◌≤◌, ◌+◌, ◌⊎◌, inl, inr, ℕ, Bool, true, false, List, length, take, refl, ap, sym}
-use Rattle.std.proofs.Common.{◌∙◌, subst, arith, slice_index, Option, Result, Ok, Err}
-use Rattle.std.specs.Prelude.{◌&&◌, nat_le}
+use Rattle.std.proofs.Common.{◌≡◌, ◌<◌, ◌≤◌, ◌⊎◌, inl, inr, ℕ, Bool, true, false, List, length, take, refl, ap, sym}
+use Rattle.std.proofs.Common.{◌∙◌, subst, slice_index, Option, Result, Ok, Err}
+use Rattle.std.specs.Prelude.{◌&&◌}
 use Rattle.std.proofs.lemmas.Bool.{le-leb, lt-leb}
 use Rattle.std.proofs.lemmas.List.{length-take-le}
 use Rattle.ztext.specs.Results.{◌>>=◌}

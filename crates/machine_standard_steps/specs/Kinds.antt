@@ -3,7 +3,7 @@ use Rattle.std.specs.Prelude.{◌≡◌, ◌&&◌, ℕ, Bool, true, false, not, 
 use Rattle.zcore.specs.declared.instruction.Branch.{Branch}
 use Rattle.zcore.specs.declared.next.Next.{Next}
 use Rattle.zcore.specs.Effects.{give_result}
-use Rattle.zcore.specs.Parts.{goes_on, branch_on}
+use Rattle.zcore.specs.Parts.{branch_on}
 use Rattle.zcore_standard.specs.declared.operations.Further.{Further}
 use Rattle.zcore_standard.specs.declared.operations.Further.TheVariants.{ShowStatus, Verify, Piracy, SetColour}
 use Rattle.zcore_standard.specs.declared.operations.Further.TheVariants.{SplitWindow, EraseWindow, EraseLine, SetCursor}

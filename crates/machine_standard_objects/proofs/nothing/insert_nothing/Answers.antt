@@ -1,4 +1,3 @@
-use Rattle.std.proofs.Common.{refl, arith}
 use Rattle.machine_standard_objects.proofs.Performing.{nothing_inserted, something_taken}
 use Rattle.machine_standard_objects.proofs.nothing.insert_nothing.Goals as goal
 

@@ -1,4 +1,4 @@
-use Rattle.std.proofs.Common.{[], ◌∷◌, sym, ◌∙◌}
+use Rattle.std.proofs.Common.{sym, ◌∙◌}
 use Rattle.machine_standard_objects.proofs.Performing.{nothing_went, known_went}
 use Rattle.machine_standard_objects.proofs.perform.many.Goals as goal
 

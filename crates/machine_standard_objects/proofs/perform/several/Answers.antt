@@ -1,4 +1,4 @@
-use Rattle.std.proofs.Common.{[], ◌∷◌, sym, ◌∙◌}
+use Rattle.std.proofs.Common.{sym, ◌∙◌}
 use Rattle.machine_frames.proofs.Steps.{told_went}
 use Rattle.machine_standard_objects.proofs.Performing.{nothing_went, known_told}
 use Rattle.machine_standard_objects.proofs.perform.several.Goals as goal

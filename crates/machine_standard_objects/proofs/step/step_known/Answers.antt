@@ -1,4 +1,4 @@
-use Rattle.std.proofs.Common.{ap, sym, ◌∙◌, refl, slice_index, arith}
+use Rattle.std.proofs.Common.{ap, sym, ◌∙◌, refl, slice_index}
 use Rattle.machine_frames.specs.Contents.{memory_of}
 use Rattle.machine_frames.proofs.Steps.{told_went}
 use Rattle.machine_standard_objects.proofs.Stepping.{no_code, long_stepped, short_stepped, without_stepped, variable_stepped}

@@ -1,4 +1,4 @@
-use Rattle.std.proofs.Common.{drop, arith}
+use Rattle.std.proofs.Common.{arith}
 use Rattle.std.proofs.lemmas.List.{take_all, length-drop}
 use Rattle.machine_standard_opcodes.proofs.beginning.after_header.Goals as goal
 

@@ -1,4 +1,4 @@
-use Rattle.std.proofs.Common.{◌≡◌, ◌≤◌, ◌∙◌, ap, drop, length, subst, arith}
+use Rattle.std.proofs.Common.{◌∙◌, ap, drop, length, subst, arith}
 use Rattle.std.proofs.lemmas.List.{length-drop}
 use Rattle.ztext.specs.Bytes.{word_at}
 use Rattle.machine_frames.specs.Contents.{memory_of}

@@ -1,4 +1,3 @@
-use Rattle.std.proofs.Common.{arith}
 use Rattle.machine_standard_opcodes.proofs.Returning.{frame_left}
 use Rattle.machine_standard_opcodes.proofs.flow.leave_frame.Goals as goal
 

@@ -1,5 +1,5 @@
 use Rattle.std.proofs.Common.{ℕ, ◌<◌, ◌≤◌, ◌+◌, ◌-◌, ◌*◌, ◌≡◌, Option, None, Some, refl, ap, ◌∙◌, arith, slice_index}
-use Rattle.machine_frames.specs.States.{frame_count, height_of, base_of, long_at, local_count}
+use Rattle.machine_frames.specs.States.{frame_count, height_of, base_of, local_count}
 use Rattle.machine_frames.proofs.Storing.{stack_full, stack_room, local_missing, local_there, global_there}
 use Rattle.machine_standard_opcodes.proofs.Returning.{stacked_at, caller_halts, caller_done}
 use Rattle.machine_standard_opcodes.proofs.flow.test_caller_of.Goals as goal

@@ -1,6 +1,5 @@
-use Rattle.std.proofs.Common.{◌≡◌, ◌<◌, ◌∙◌, ap, sym, subst, length, take, ℕ, List, arith}
+use Rattle.std.proofs.Common.{◌<◌, ◌∙◌, ap, sym, subst, length, ℕ, List, arith}
 use Rattle.std.proofs.lemmas.List.{length-take-le}
-use Rattle.zcore.specs.Header.{static_base_of}
 use Rattle.zcore_standard.specs.Instruction.{decode_further}
 use Rattle.zcore_standard.specs.Machine.{begins}
 use Rattle.zcore_standard.proofs.Refusing.{stands}

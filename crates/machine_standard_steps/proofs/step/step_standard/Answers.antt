@@ -1,4 +1,4 @@
-use Rattle.std.proofs.Common.{◌∙◌, ap, sym, ◌<◌}
+use Rattle.std.proofs.Common.{◌∙◌, ap, sym}
 use Rattle.zcore_standard.specs.Machine.{begins}
 use Rattle.zcore_standard.specs.Operations.{further_at}
 use Rattle.machine_frames.specs.Contents.{memory_of}
