@@ -2,7 +2,7 @@
 
 ghost use Rattle.std.specs.Prelude.{◌≡◌};
 
-use std::io::{self, Write};
+use std::io::{self, IsTerminal, Write};
 
 /// What the player answers to a line after the end of the story.
 const OVER: &[u8] = b"[The story is over.]\n";
@@ -29,7 +29,7 @@ impl<'a, W: Write> Transcript<'a, W> {
         Transcript {
             writer,
             rt,
-            is_waiting: libc::isatty(libc::STDIN_FILENO) == 1,
+            is_waiting: rt.stdin().is_terminal(),
             is_over: false,
         }
     }
