@@ -38,16 +38,16 @@ pub struct LoadedStory {
     pub is_sum_right: bool,
 }
 
-/// The places of the header's bytes and words that the player reads or writes (section 11.1): Flags 1.
+/// The places of the header's bytes that the player writes (section 11.1): Flags 1.
 const FLAGS_1: usize = 0x01;
 
-/// Flags 2, a word.
+/// Flags 2, two bytes.
 const FLAGS_2: usize = 0x10;
 
 /// The interpreter, and the screen in characters and in units.
 const SCREEN: usize = 0x1E;
 
-/// The default colours.
+/// The default colours: the background, and the foreground.
 const COLOURS: usize = 0x2C;
 
 /// The revision of the Standard.
@@ -56,8 +56,30 @@ const REVISION: usize = 0x32;
 /// The address of the story's own alphabets.
 const ALPHABETS_WORD: usize = 0x34;
 
-/// A fixed-space style is there.
-const FIXED_SPACE: u8 = 0x10;
+/// A fixed-space style is there, and nothing else that Flags 1 tells of.
+const FIXED_SPACE: [u8; 1] = [0x10];
+
+/// Interpreter number 1 and version F; 255 lines, which means no end, and 80 columns; the same size
+/// in units, first the width; a font that is one unit wide and one high.
+const PLAIN_TERMINAL: [u8; 10] = [1, b'F', 255, 80, 0, 80, 0, 255, 1, 1];
+
+/// Black, and white.
+const BLACK_AND_WHITE: [u8; 2] = [2, 9];
+
+/// Standard 1.1.
+const STANDARD_1_1: [u8; 2] = [1, 1];
+
+/// The words of the extension that the player writes (section 11.1.7.3): Flags 3.
+const FLAGS_3: u16 = 4;
+
+/// The true colour of the default foreground.
+const FOREGROUND: u16 = 5;
+
+/// That of the default background.
+const BACKGROUND: u16 = 6;
+
+/// White as a true colour (section 8.3.7). Black is 0.
+const WHITE: u16 = 0x7FFF;
 
 /// Writes bytes into memory, the first at an address.
 fn write_bytes(memory: &mut [u8], at: usize, bytes: &[u8])
@@ -93,15 +115,16 @@ fn set_header(memory: &mut [u8])
     ensures header { HasHeader memory.new }
     ensures version { slice_index memory.new 0 ≡ slice_index memory.old 0 }
 {
+    // bits 3 to 8 are cleared
     let flags_2 = [memory[FLAGS_2] / 2 * 2, memory[FLAGS_2 + 1] % 8];
-    write_bytes(memory, FLAGS_1, &[FIXED_SPACE]);
+    write_bytes(memory, FLAGS_1, &FIXED_SPACE);
     write_bytes(memory, FLAGS_2, &flags_2);
-    write_bytes(memory, SCREEN, &[1, b'F', 255, 80, 0, 80, 0, 255, 1, 1]);
-    write_bytes(memory, COLOURS, &[2, 9]);
-    write_bytes(memory, REVISION, &[1, 1]);
-    write_extension_word(memory, 4, 0);
-    write_extension_word(memory, 5, 0x7FFF);
-    write_extension_word(memory, 6, 0);
+    write_bytes(memory, SCREEN, &PLAIN_TERMINAL);
+    write_bytes(memory, COLOURS, &BLACK_AND_WHITE);
+    write_bytes(memory, REVISION, &STANDARD_1_1);
+    write_extension_word(memory, FLAGS_3, 0);
+    write_extension_word(memory, FOREGROUND, WHITE);
+    write_extension_word(memory, BACKGROUND, 0);
 }
 
 /// The version of a story, by its first byte.
