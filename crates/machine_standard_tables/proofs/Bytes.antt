@@ -1,4 +1,4 @@
--- Bytes of memory, written one behind another.
+-- Bytes of memory that are written one after another.
 use Rattle.std.proofs.Common.{◌≡◌, ℕ, zero, suc, ◌+◌, ◌<◌, ◌≤◌, List, [], ◌∷◌, ◌++◌, length, take, drop, set}
 use Rattle.std.proofs.Common.{replicate, slice_index, refl, ap, sym, ◌∙◌, arith, add-one, drop-cons}
 use Rattle.std.proofs.lemmas.List.{get_or-set_other, get_or-drop, get_or-take, length-replicate}
@@ -7,7 +7,7 @@ use Rattle.zcore.specs.Turn.{with_bytes}
 use Rattle.zcore_standard.specs.Tables.{copied_forwards, copied_at_once, cleared}
 use Rattle.machine_lines.proofs.Filling.{with_bytes_more}
 
--- What lies outside of what is written
+-- Bytes before and after those that are written keep their values
 
 pub before_bytes : (m : List ℕ) (at : ℕ) (xs : List ℕ) (k : ℕ) → k < at
     → slice_index (with_bytes m at xs) k ≡ slice_index m k
@@ -21,7 +21,7 @@ after_bytes m at [] k le = refl
 after_bytes m at (x ∷ xs) k le = after_bytes (set m at x) (at + 1) xs k (omega arith)
     ∙ get_or-set_other m at k x 0 (omega arith)
 
--- a byte, and those behind it, either first
+-- a byte and those after it can be written in either order
 set_then_bytes : (m : List ℕ) (a at v : ℕ) (xs : List ℕ) → a < at
     → with_bytes (set m a v) at xs ≡ set (with_bytes m at xs) a v
 set_then_bytes m a at v [] lt = refl
@@ -45,7 +45,7 @@ pub forwards_more : (m : List ℕ) (first second i : ℕ)
 unfolding copied_forwards
 forwards_more m first second i = ap (copied_forwards m first second) (sym (add-one i))
 
--- one byte more of those that are copied at once
+-- the bytes that are copied at once, and one more
 source_more : (m : List ℕ) (first i : ℕ) → first + i < length m
     → take (i + 1) (drop first m) ≡ take i (drop first m) ++ slice_index m (first + i) ∷ []
 source_more m first i lt =
@@ -55,7 +55,7 @@ source_more m first i lt =
 source_length : (m : List ℕ) (first i : ℕ) → first + i ≤ length m → length (take i (drop first m)) ≡ i
 source_length m first i le = length-take-le i (drop first m) (omega (arith, length-drop first m))
 
--- downwards, no byte is overwritten before it is copied
+-- Where the second table is at a lower address, no byte is overwritten before it is copied.
 pub forwards_at_once : (m : List ℕ) (first second count : ℕ) → second ≤ first → first + count ≤ length m
     → copied_forwards m first second count ≡ copied_at_once m first second count
 unfolding copied_forwards
@@ -74,7 +74,7 @@ forwards_at_once m first second (suc n) le room =
     ∙ ap (with_bytes m second) (sym (source_more m first n (omega arith)))
     ∙ ap (λ k. with_bytes m second (take k (drop first m))) (add-one n)
 
--- Bytes that are copied backwards, of which those from one on are written
+-- Bytes that are copied backwards: those from number i on are written
 
 abbrev pub copied_from : List ℕ → ℕ → ℕ → ℕ → ℕ → List ℕ
 copied_from m first second count i = with_bytes m (second + i) (drop i (take count (drop first m)))

@@ -37,7 +37,7 @@ filled_still s m sound e = record {
   state = λ text. ap (λ (k : List ℕ). record (state_of s.store text) { memory = k }) (sym e);
 }
 
--- a place of a table, in memory of which some bytes were written
+-- a place of a table, in a memory of which some bytes have been written
 size_kept : (r s : Recording Contents) → IsSound r.store → GoesOn r s
     → length (memory_of s.store) ≡ length (memory_of r.store)
 size_kept r s sound g =
@@ -81,7 +81,7 @@ place_writable r s m at count i h writable lt =
     (le-leb 64 (at + i) (omega (arith, w.past)))
     (lt-ltb (at + i) (static_base_of (memory_of s.store)) (omega (arith, w.room, base)))
 
--- one byte more is written
+-- one more byte is written
 module _ (r s t : Recording Contents) where
   pub clear_more : (at i : ℕ) → Filled r s (cleared (memory_of r.store) at i)
       → Filled s t (set (memory_of s.store) (at + i) 0) → Filled r t (cleared (memory_of r.store) at (i + 1))
@@ -110,7 +110,7 @@ module _ (r s t : Recording Contents) where
       (all_readable (memory_of r.store) first count i readable lt))
       (filled_then r s t m (λ k. set k (second + i) v) h one)
 
--- downwards, what is copied forwards is copied as if at once
+-- a copy forwards to a lower address is one as if at once
 at_once : (m : List ℕ) (first second count : ℕ) → are_readable m first count ≡ true → second ≤ first
     → copied_forwards m first second count ≡ copied_at_once m first second count
 unfolding copied_forwards
@@ -125,7 +125,7 @@ pub forwards_on_ok : {E : Type 0} (result : Result (Unit {0}) E) (r t : Recordin
 forwards_on_ok result r t first second count readable down h =
     subst (λ m. OnOk result (Filled r t m)) (at_once (memory_of r.store) first second count readable down) h
 
--- the bytes of a table were tested, and get other values
+-- bytes that were tested get other values
 pub table_written : (s t : Recording Contents) (here : Next) (after at count : ℕ) (f : List ℕ → List ℕ)
     → Went (Ok tt) s s (test_writable at count) → Filled s t (f (memory_of s.store))
     → Went (Ok (record here { program_counter = after })) s t (write_table here after at count f)

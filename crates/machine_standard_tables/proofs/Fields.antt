@@ -35,7 +35,7 @@ unfolding read_field
 field_byte r s form at e w = went_as r (read_field form at)
     (λ t. ap (λ (b : Bool). cond b (read_word at) (read_byte at) (state_of s.store t)) e) w
 
--- past what can be read
+-- after the last byte that can be read
 past : (m : List ℕ) (at : ℕ) → 65536 ≤ at → is_readable m at ≡ false
 past m at le = ap (λ b. nat_lt at (length m) && b) (le-ltb at 65536 le) ∙ and-false (nat_lt at (length m))
 
@@ -50,12 +50,12 @@ pub field_past : (form at : ℕ) (s : Recording Contents) → IsSound s.store �
     → Went {A = ℕ} (Err (ends.Stop (places.Fault faults.Read))) s s (read_field form at)
 field_past form at s sound le = field_of_either (has_words form) form at s refl sound le
 
--- The fields, of which a search has some left
+-- The fields that a search has left
 
 pub left : (n i : ℕ) → i < n → n - i ≡ suc (n - (i + 1))
 left n i lt = omega arith
 
--- from a field on, a search finds what it finds from the first
+-- a search from a later field finds what the whole search finds
 abbrev pub FindsFrom : Recording Contents → ℕ → ℕ → ℕ → ℕ → ℕ → ℕ → Type 0
 FindsFrom s form word table count at rest =
     (text : List ℕ) → find_field form word table count (state_of s.store text)

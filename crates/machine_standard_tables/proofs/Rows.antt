@@ -25,7 +25,7 @@ use Rattle.machine_frames.proofs.Steps.{told_as, told_no_further, told_sound, to
 use Rattle.machine_opcodes.proofs.Transcripts.{print_two, print_first}
 use Rattle.machine_standard_tables.proofs.Tests.{readable_each}
 
--- What is printed does not change memory
+-- Printing does not change memory
 
 print_memory : (cs : List ℕ) (s t : State) → print cs s ≡ done tt t → t.memory ≡ s.memory
 unfolding print
@@ -40,7 +40,7 @@ told_memory r s x y cs w = print_memory cs (state_of r.store x) (state_of s.stor
 
 -- The characters of a row
 
--- one character more
+-- one more character
 shown_more : (l : List ℕ) (i c : ℕ) → i < length l → c ≡ slice_index l i
     → flat_map shown (take (i + 1) l) ≡ flat_map shown (take i l) ++ shown c
 shown_more l i c lt e =
@@ -100,7 +100,7 @@ rows_split m text width skip k (suc h) le = elim (cases_lt k (suc h)) [
       ([], ap (rows m text width skip) e ∙ sym (append-nil (rows m text width skip k)))
 ]
 
--- the first rows are not printed to their end
+-- where the first rows are not printed to their end, neither is the table
 rows_cut : {e : End} {r s : Recording Contents} {x y : List ℕ} (m : List ℕ) (text width skip n height : ℕ)
     → n < height → Told (Err e) r x s y (print (rows m text width skip (n + 1)))
     → Told (Err e) r x s y (print (rows m text width skip height))
@@ -108,7 +108,7 @@ rows_cut {e} {r} {s} {x} {y} m text width skip n height lt h =
     let p = rows_split m text width skip (n + 1) height (omega arith) in
     subst (λ k. Told (Err e) r x s y (print k)) (sym p.1) (print_first _ p.0 h)
 
--- one row more
+-- one more row
 pub rows_more : {o : Result (Unit {0}) End} {r s t u : Recording Contents} {x y z w : List ℕ} (m : List ℕ)
     (text width skip n : ℕ)
     → Told (Ok tt) r x s y (print (rows m text width skip n)) → Told (Ok tt) s y t z (print (row_division n))
@@ -117,7 +117,7 @@ rows_more {o} {r} {s} {t} {u} {x} {y} {z} {w} m text width skip n before divisio
     subst (λ k. Told o r x u w (print k)) (sym (rows_next m text width skip n))
     (print_two _ _ before (print_two _ _ division row))
 
--- a row is not printed to its end
+-- so where a row is not printed to its end
 pub row_cut : {e : End} {r s t u : Recording Contents} {x y z w : List ℕ} (m : List ℕ)
     (text width skip n height : ℕ) → n < height
     → Told (Ok tt) r x s y (print (rows m text width skip n)) → Told (Ok tt) s y t z (print (row_division n))
@@ -126,7 +126,7 @@ pub row_cut : {e : End} {r s t u : Recording Contents} {x y z w : List ℕ} (m :
 row_cut m text width skip n height lt before division row =
     rows_cut m text width skip n height lt (rows_more m text width skip n before division row)
 
--- nor what divides it from the rows before it
+-- or the new line before it
 pub division_cut : {e : End} {r s t : Recording Contents} {x y z : List ℕ} (m : List ℕ)
     (text width skip n height : ℕ) → n < height
     → Told (Ok tt) r x s y (print (rows m text width skip n)) → Told (Err e) s y t z (print (row_division n))
@@ -136,9 +136,9 @@ division_cut {e} {r} {s} {t} {x} {y} {z} m text width skip n height lt before di
     (subst (λ k. Told (Err e) r x t z (print k)) (sym (rows_next m text width skip n))
     (print_two _ _ before (print_first _ (row_of m text width skip n) division)))
 
--- A character of a row lies in the table
+-- Each character of a row is in readable memory
 
--- a table with rows that have characters
+-- the size of a table whose rows have characters
 size_is : (width height skip : ℕ) → 0 < width → 0 < height
     → rows_size width height skip ≡ (height - 1) * (width + skip) + width
 size_is width height skip w h =

@@ -17,7 +17,7 @@ use Rattle.machine_frames.specs.Went.{Went}
 use Rattle.machine_frames.specs.declared.end.End.TheVariants as ends
 use Rattle.machine_frames.proofs.Steps.{went_still, went_halt}
 
--- The tests, by what they find
+-- What the tests answer
 
 pub readable_went : (s : Recording Contents) (at count : ℕ) → IsSound s.store
     → are_readable (memory_of s.store) at count ≡ true → Went (Ok tt) s s (test_readable at count)
@@ -45,7 +45,7 @@ unfolding test_writable
 writable_none s at count sound e = went_halt s (test_writable at count) sound
     (λ t. ap (λ (b : Bool). test b faults.Write (state_of s.store t)) e)
 
--- What is known after them
+-- What is known after a test that passes
 
 passed : (b : Bool) (cause : Fault) (s : State) → test b cause s ≡ done tt s → b ≡ true
 passed true cause s h = refl
@@ -72,7 +72,7 @@ readable_each m at count i h lt =
     let inside = ltb-true (at + count - 1) (length m) (and_parts _ _ last).0 in
     omega (arith, inside)
 
--- the bytes of a table that can be written, and has one
+-- a table in dynamic memory
 pub record IsWithin (m : List ℕ) (at count : ℕ) : Type 0 where
   pub past : 64 ≤ at
   pub room : at + count ≤ static_base_of m

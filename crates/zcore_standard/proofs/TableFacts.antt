@@ -100,7 +100,7 @@ waits_scan_table here after result branch word table count form =
 
 -- copy_table
 
--- bytes that are written leave the memory as long
+-- writing bytes does not change the length of memory
 length-with_bytes : (memory : List ℕ) (at : ℕ) (bytes : List ℕ) → length (with_bytes memory at bytes) ≡ length memory
 length-with_bytes memory at [] = refl
 length-with_bytes memory at (b ∷ bs) = length-with_bytes (set memory at b) (at + 1) bs ∙ length-set memory at b
@@ -113,7 +113,7 @@ length-copied_forwards memory first second (suc n) =
     let before = copied_forwards memory first second n in
     length-set before (second + n) (slice_index before (first + n)) ∙ length-copied_forwards memory first second n
 
--- a table whose bytes get other values, in a memory that stays as long
+-- writing a table that keeps the length of memory
 write_table_falls : (here : Next) (after at count : ℕ) (written : List ℕ → List ℕ)
     → ((memory : List ℕ) → length (written memory) ≡ length memory) → here.program_counter < after
     → FallsFrom here (write_table here after at count written)

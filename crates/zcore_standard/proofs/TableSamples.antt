@@ -152,7 +152,7 @@ abbrev odd : List ℕ
 odd = 0 ∷ 9 ∷ 11 ∷ 13 ∷ 31 ∷ 127 ∷ 126 ∷ 200 ∷ 0 ∷ 0 ∷ 0 ∷ 0 ∷ []
 
 prints_other_characters : print_table here 106 68 8 1 0 (start odd)
-    ≡ done there (printed odd (32 ∷ 32 ∷ 32 ∷ 10 ∷ codes "??~?"))
+    ≡ done there (printed odd (32 ∷ 32 ∷ 32 ∷ 10 ∷ 63 ∷ 63 ∷ 126 ∷ 63 ∷ []))
 unfolding print_table test_readable rows print_characters print
 prints_other_characters = refl
 
