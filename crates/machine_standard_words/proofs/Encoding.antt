@@ -8,7 +8,7 @@ use Rattle.zcore.specs.State.{done}
 use Rattle.zcore.specs.Turn.{with_bytes}
 use Rattle.zcore_standard.specs.Words.{are_readable, are_writable, form_of, form_at, write_bytes}
 use Rattle.machine_frames.specs.Contents.{Contents, memory_of}
-use Rattle.machine_frames.specs.States.{IsSound, state_of}
+use Rattle.machine_frames.specs.States.{IsSound}
 use Rattle.machine_frames.specs.Went.{Went}
 use Rattle.machine_frames.specs.declared.end.End.TheVariants as ends
 use Rattle.machine_frames.proofs.Steps.{went_still, went_halt}

@@ -7,15 +7,15 @@ use Rattle.journal.specs.Recording.{Recording}
 use Rattle.zcore.specs.declared.next.Next.{Next}
 use Rattle.zcore.specs.declared.place.Fault.TheVariants as faults
 use Rattle.zcore.specs.declared.place.Place.TheVariants as places
-use Rattle.zcore.specs.Header.{static_base_of, static_end}
+use Rattle.zcore.specs.Header.{static_base_of}
 use Rattle.zcore.specs.Parsing.{first_words}
 use Rattle.zcore.specs.State.{done}
 use Rattle.zcore.specs.Turn.{with_bytes}
-use Rattle.zcore_standard.specs.Words.{are_writable, dictionary_for, is_dictionary, letters_in, has_letters, has_slots}
+use Rattle.zcore_standard.specs.Words.{dictionary_for, is_dictionary, letters_in, has_letters, has_slots}
 use Rattle.zcore_standard.specs.Words.{slots_bytes, with_slots, test_letters, test_slots, test_dictionary, fill_slots}
 use Rattle.zcore_standard.specs.Words.{tokenise}
 use Rattle.machine_frames.specs.Contents.{Contents, memory_of}
-use Rattle.machine_frames.specs.States.{IsSound, state_of}
+use Rattle.machine_frames.specs.States.{IsSound}
 use Rattle.machine_frames.specs.Went.{Went}
 use Rattle.machine_frames.specs.declared.end.End.TheVariants as ends
 use Rattle.machine_frames.proofs.Steps.{went_halt}
@@ -86,6 +86,9 @@ module _ (s : Recording Contents) (here : Next) (after text parse dictionary fla
       (tokenise here after text parse dictionary flag)
   unfolding tokenise test_letters test_slots test_dictionary fill_slots
   tokens_filled t letters slots some filled = record {
-    did = (filled.goes_on, λ x. rw (letters, slots, some)
-        (ap (λ y. done (record { program_counter = after; fuel = here.fuel }) y) (sym (filled.state x))));
+    did = (
+      filled.goes_on,
+      λ x. rw (letters, slots, some)
+          (ap (λ y. done (record { program_counter = after; fuel = here.fuel }) y) (sym (filled.state x))),
+    );
   }

@@ -1,5 +1,5 @@
 -- What the search of a dictionary goes over.
-use Rattle.std.specs.Prelude.{◌≡◌, ◌+◌, ◌-◌, ◌*◌, ◌<◌, ◌≤◌, ℕ, nat_le, true, false, List}
+use Rattle.std.specs.Prelude.{◌≡◌, ◌+◌, ◌*◌, ◌<◌, ◌≤◌, ℕ, nat_le, true, false, List}
 use Rattle.zcore.specs.Header.{entry_length_of, entry_count, first_entry, static_end}
 use Rattle.zcore_standard.specs.Words.{entries_in, is_dictionary}
 use Rattle.machine_standard_words.specs.declared.search.Entries.{Entries}

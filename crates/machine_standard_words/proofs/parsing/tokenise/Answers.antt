@@ -1,4 +1,4 @@
-use Rattle.std.proofs.Common.{◌≡◌, ap, ◌∙◌, sym, subst, true, false}
+use Rattle.std.proofs.Common.{ap, ◌∙◌, sym, subst}
 use Rattle.zcore_standard.specs.Words.{has_letters, has_slots, is_dictionary, dictionary_for, with_slots}
 use Rattle.machine_frames.specs.Contents.{memory_of}
 use Rattle.machine_lines.specs.Lines.{Filled}
