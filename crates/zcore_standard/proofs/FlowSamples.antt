@@ -10,7 +10,7 @@ use Rattle.zcore.specs.Parts.{test_result, store_result, write_variable, write_l
 use Rattle.zcore.specs.Parts.{take_branch, branch_on}
 use Rattle.zcore.specs.State.{Frame, State, done, halt}
 use Rattle.zcore.specs.Turn.{first_environment, first_state}
-use Rattle.zcore_standard.specs.declared.operations.Further.TheVariants.{Save, Restore, SaveUndo, RestoreUndo}
+use Rattle.zcore_standard.specs.declared.operations.Further.TheVariants.{Piracy, Save, Restore, SaveUndo, RestoreUndo}
 use Rattle.zcore_standard.specs.Flow.{restart, catch, leave_frame, throw, verify}
 use Rattle.zcore_standard.specs.Further.{perform_keeping}
 use Rattle.zcore_standard.specs.Loading.{seeded}
@@ -110,6 +110,11 @@ sum_wrong : verify (record loaded { is_sum_right = false }) here 70 to_72 (first
     ≡ done (record here { program_counter = 70 }) (first_state (story 1))
 unfolding verify branch_on
 sum_wrong = refl
+
+piracy : perform_keeping loaded Piracy (record here { program_counter = 66 }) 70 None to_72 [] (first_state (story 1))
+    ≡ done (record here { program_counter = 72 }) (first_state (story 1))
+unfolding perform_keeping branch_on take_branch test_target go
+piracy = refl
 
 -- save, restore and restore_undo fail, save_undo answers -1
 abbrev with_result : ℕ → State

@@ -1,6 +1,8 @@
 -- print_unicode and check_unicode, computed.
-use Rattle.std.proofs.Common.{◌≡◌, [], ◌∷◌, length, refl}
-use Rattle.zcore.specs.State.{done}
+use Rattle.std.proofs.Common.{◌≡◌, [], ◌∷◌, ◌++◌, length, refl}
+use Rattle.zcore.specs.declared.place.Limit.TheVariants as limits
+use Rattle.zcore.specs.declared.place.Place.TheVariants as places
+use Rattle.zcore.specs.State.{State, done, halt}
 use Rattle.zcore.specs.Turn.{first_state}
 use Rattle.zcore_standard.specs.Unicode.{default_characters, transcript_of, print_whole, print_unicode, abilities}
 
@@ -51,6 +53,17 @@ printed : print_unicode (record { program_counter = 100; fuel = 5 }) 104 0xE4 (r
     ≡ done (record { program_counter = 104; fuel = 5 }) (record (first_state []) { text = 65 ∷ 0xC3 ∷ 0xA4 ∷ [] })
 unfolding print_unicode print_whole
 printed = refl
+
+-- a character of two bytes where one byte is left of the turn's text: none of it is printed
+no_room : (s : State) → length s.text ≡ 65535
+    → print_whole (0xC3 ∷ 0xA4 ∷ []) s ≡ halt (places.Limit limits.Text) s
+unfolding print_whole
+no_room s e = rw e refl
+
+room : (s : State) → length s.text ≡ 65534 → print_whole (0xC3 ∷ 0xA4 ∷ []) s
+    ≡ done tt (record s { text = s.text ++ 0xC3 ∷ 0xA4 ∷ [] })
+unfolding print_whole
+room s e = rw e refl
 
 ascii_abilities : abilities default_characters 65 ≡ 3
 ascii_abilities = refl
