@@ -14,7 +14,7 @@ use Rattle.syntax_expressions.proofs.Tokens.{at_word, expect_ok, expect_not_deep
 use Rattle.syntax_expressions.proofs.SoundOperands.{Within, deeper}
 use Rattle.syntax_statement_parts.specs.Grammar.{IsRanges}
 use Rattle.syntax_statement_parts.specs.Nesting.{DeepHeading}
-use Rattle.syntax_statement_parts.specs.Parse.{begins_value, value}
+use Rattle.syntax_statement_parts.specs.Parse.{begins_value}
 use Rattle.syntax_statements.specs.Tree.{StatementTree, block, if_then, if_else, while_do, do_until, for_loop}
 use Rattle.syntax_statements.specs.Tree.{switch_on, default_case, loop_over}
 use Rattle.syntax_statements.specs.Views.{CaseTree, trees_of, cases_of}
