@@ -12,4 +12,3 @@ pub mod Entering
 pub mod Leaving
 pub mod Beginning
 pub mod Exchanging
-pub mod SilentWords

@@ -1,6 +1,5 @@
 pub mod Layout
 pub mod Contents
-pub mod Silence
 pub mod States
 pub mod Running
 pub mod Went

@@ -8,7 +8,6 @@ pub mod layout;
 mod memory;
 mod operands;
 mod results;
-mod silence;
 mod stack;
 mod store;
 mod variables;
