@@ -109,7 +109,7 @@ exchanged_between : (known : Known) (store new : Recording Contents) (first : Pl
     → to ≤ length turns → IsNothingKept new → new.beginning ≡ new.store.cells
     → length new.store.cells ≡ length store.store.cells → Fits (length new.store.cells) bound_of u.overwritten
     → IsBetweenTurns known store first turns from → IsBetweenTurns known new first (set turns k u) to
-exchanged_between known.header store new first turns t u entries k from to lt is x fixed cells within idle begun size fits
+exchanged_between known store new first turns t u entries k from to lt is x fixed cells within idle begun size fits
     i =
     let records : records_of (set turns k u) ≡ set (records_of turns) k u.overwritten = map-set
     (λ (y : Turn). y.overwritten) turns k u in
@@ -182,7 +182,7 @@ pub undo_between : (known : Known) (store new : Recording Contents) (first : Pla
     (t u : Turn) (k done : ℕ) → k + 1 ≡ done → StandsAt turns k t → Swaps back forward store new t u
     → IsBetweenTurns known store first turns done → IsBetweenTurns known new first (set turns k u) k
 undo_between known store new first turns t u k done e stands h i =
-    exchanged_between known.header store new first turns t u (back store.store.cells t.overwritten).entries k done k stands.here
+    exchanged_between known store new first turns t u (back store.store.cells t.overwritten).entries k done k stands.here
     stands.is (back_turn store new t u h) (ap (λ (s : Contents). s.fixed) h.store)
     (back_cells store new turns k t u stands h ∙ ap (all_cells store.store.cells (records_of turns)) e)
     (omega (arith, stands.here)) h.idle h.begun h.size h.fits i
@@ -202,7 +202,7 @@ pub redo_between : (known : Known) (store new : Recording Contents) (first : Pla
     (t u : Turn) (k : ℕ) → StandsAt turns k t → Swaps forward back store new t u
     → IsBetweenTurns known store first turns k → IsBetweenTurns known new first (set turns k u) (k + 1)
 redo_between known store new first turns t u k stands h i =
-    exchanged_between known.header store new first turns t u (forward store.store.cells t.overwritten).entries k k (k + 1)
+    exchanged_between known store new first turns t u (forward store.store.cells t.overwritten).entries k k (k + 1)
     stands.here stands.is (again_turn store new t u h) (ap (λ (s : Contents). s.fixed) h.store)
     (again_cells store new turns k t u stands h) (omega (arith, stands.here)) h.idle h.begun h.size h.fits i
 
@@ -235,7 +235,7 @@ oldest_view keep fuel known opening store first turns rest t done given_up is so
 oldest_by : (known : Known) (store : Recording Contents) (first : Place) (rest : List Turn) (t : Turn) (done : ℕ)
     → 0 < done → IsBetweenTurns known store first (t ∷ rest) done
     → IsBetweenTurns known store t.place rest (done - 1)
-oldest_by known.header store first rest t done some i =
+oldest_by known store first rest t done some i =
     let cells : all_cells store.store.cells (records_of rest) (done - 1)
     ≡ drop 1 (all_cells store.store.cells (records_of (t ∷ rest)) done) = cells_older store.store.cells
     t.overwritten (records_of rest) done some in

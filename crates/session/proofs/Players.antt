@@ -1,5 +1,5 @@
 -- What the turns of a machine come to, as functions of what its store holds.
-use Rattle.std.proofs.Common.{◌≡◌, ℕ, List, Option, Some, None, Result, Ok, Err, refl, ap, sym, ◌∙◌}
+use Rattle.std.proofs.Common.{◌≡◌, ℕ, List, Option, Some, None, Result, Ok, Err, length, refl, ap, sym, subst, ◌∙◌}
 use Rattle.std.specs.Borrow.{Bor}
 use Rattle.journal.specs.Recording.{Recording}
 use Rattle.journal.specs.declared.recorded.NoMemory.{NoMemory}
@@ -11,7 +11,7 @@ use Rattle.zcore.specs.Turn.{first_next, first_state}
 use Rattle.zcore.proofs.Turning.{turns_is}
 use Rattle.machine_frames.specs.Contents.{Contents, memory_of}
 use Rattle.machine_frames.specs.Playing.{Follows, FollowsBy, Answers, Opens}
-use Rattle.machine_frames.specs.States.{play_of}
+use Rattle.machine_frames.specs.States.{play_of, IsStoreOf}
 use Rattle.machine.specs.Ended.{TurnEnds, OpensOrAnswers}
 use Rattle.machine.specs.Loaded.{IsLoaded}
 use Rattle.machine.specs.declared.turn.Machine.{Machine}
@@ -23,10 +23,11 @@ use Rattle.zcore_standard.specs.Loaded.{Loaded}
 use Rattle.zcore_standard.specs.Machine.{standard, standard_turn, standard_pending, standard_opening, standard_turn_on}
 use Rattle.zcore_standard.specs.Machine.{standard_ended, begins}
 use Rattle.zcore_standard.proofs.Turning.{standard_turn_is}
-use Rattle.machine_standard.specs.Loads.{IsLoaded as IsStandardLoaded}
+use Rattle.machine_standard.specs.Loads.{IsLoaded as IsStandardLoaded, IsStoreFor}
 use Rattle.machine_standard.specs.Playing.{OpensStandard, AnswersStandard, OpensOrAnswersStandard}
 use Rattle.machine_standard.specs.declared.turn.StandardMachine.{StandardMachine}
 use Rattle.session.specs.declared.mode.Mode.TheVariants.{Profile, Standard}
+use Rattle.session.specs.Modes.{Known, IsSettled}
 use Rattle.session.specs.Players.{IsPlayerOf, PlayerTurn}
 
 -- a turn that ends by one description ends by another that follows from it
@@ -128,3 +129,14 @@ pub standard_machine_turn : (header : Header) (loaded : Loaded) (line : Option (
     → PlayerTurn (record { header = header; loaded = Some loaded }) line s fuel whole
 standard_machine_turn header loaded None s fuel whole h = opens_standard loaded s fuel whole h
 standard_machine_turn header loaded (Some line) s fuel whole h = answers_standard loaded line.now s fuel whole h
+
+abbrev pub standard_known : StandardMachine → Known
+standard_known machine = record { header = machine.header; loaded = Some machine.loaded }
+
+-- a store that a session has settled is one that the machine plays
+pub standard_store : (machine : StandardMachine) (s : Contents) (known : Known) → known ≡ standard_known machine
+    → IsStoreOf known.header s → IsSettled known → IsStoreFor machine s
+standard_store machine s known is store settled =
+    let o : IsStoreOf machine.header s = subst (λ (k : Known). IsStoreOf k.header s) is store in
+    let l : length machine.loaded.dynamic ≡ machine.header.static_base = subst IsSettled is settled in
+    record { store = o; dynamic = l ∙ o.headed.static_base }
