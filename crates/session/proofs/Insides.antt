@@ -259,7 +259,7 @@ oldest_by known store first rest t done some i =
 pub oldest_between : (known : Known) (store : Recording Contents) (first : Place) (turns rest : List Turn)
     (t : Turn) (done : ℕ) → turns ≡ t ∷ rest → 0 < done → IsBetweenTurns known store first turns done
     → IsBetweenTurns known store t.place rest (done - 1)
-oldest_between known store first turns rest t done is some i = oldest_by known.header store first rest t done some
+oldest_between known store first turns rest t done is some i = oldest_by known store first rest t done some
     (subst (λ ts. IsBetweenTurns known store first ts done) is i)
 
 -- The present
