@@ -1,6 +1,7 @@
 //! Stories of which a byte is changed.
 
-use crate::names::{Session, run, status};
+use crate::names::{Mode, Session, run, status};
+use crate::sessions::open;
 use crate::stories::{mend_sum, put_at};
 use rows::{RowError, Setting, Shown};
 use std::alloc::Global;
@@ -30,6 +31,7 @@ pub fn put_damaged(
     shown: &mut Shown,
     alloc: Global,
     setting: &Setting,
+    mode: Mode,
     story: &[u8],
 ) -> Result<(), RowError> {
     let mut count = 0u64;
@@ -41,7 +43,7 @@ pub fn put_damaged(
                     value,
                     mends,
                 };
-                put_changed(shown, alloc, setting, story, change)?;
+                put_changed(shown, alloc, setting, mode, story, change)?;
                 count = count.wrapping_add(1);
             }
         }
@@ -57,10 +59,11 @@ fn put_changed(
     shown: &mut Shown,
     alloc: Global,
     setting: &Setting,
+    mode: Mode,
     story: &[u8],
     change: Change,
 ) -> Result<(), RowError> {
-    let end = ended(alloc, setting, changed(alloc, story, change)?);
+    let end = ended(alloc, setting, mode, changed(alloc, story, change)?);
     if !matches!(end, 0 | 1 | 3 | 4) {
         shown.text("byte ");
         shown.display(&change.place);
@@ -89,8 +92,8 @@ fn put_change(story: &mut Vec<u8>, change: Change) -> Result<(), RowError> {
 }
 
 /// The status with which a player of the story ends.
-fn ended(alloc: Global, setting: &Setting, story: Vec<u8>) -> u8 {
-    match Session::open_with(alloc, story, setting.fuel, setting.keep) {
+fn ended(alloc: Global, setting: &Setting, mode: Mode, story: Vec<u8>) -> u8 {
+    match open(alloc, setting, mode, story) {
         Ok(mut session) => played(setting, &mut session),
         Err(_) => REFUSED,
     }

@@ -1,6 +1,7 @@
 //! The record of a turn, as the machine's calls close it and as a session counts it.
 
-use crate::names::{Machine, Place, Recorded, Reply, Session};
+use crate::names::{Machine, Mode, Place, Recorded, Reply};
+use crate::sessions::open;
 use rows::{RowError, Setting, Shown, written_bytes};
 use std::alloc::Global;
 
@@ -55,7 +56,7 @@ fn counted_cells(
     line: &[u8],
 ) -> Result<usize, RowError> {
     let copy = story.to_vec(alloc)?;
-    let Ok(mut session) = Session::open_with(alloc, copy, setting.fuel, setting.keep) else {
+    let Ok(mut session) = open(alloc, setting, Mode::Profile, copy) else {
         return Err(RowError::Story);
     };
     if let Reply::NoMemory = session.reply(line) {

@@ -4,9 +4,9 @@ use crate::damage::put_damaged;
 use crate::hexadecimal::bytes_in;
 use crate::journals::{Words, put_abandoned, put_closed, recorded, write};
 use crate::memory::put_memory;
-use crate::names::{Recorded, Session};
+use crate::names::{Mode, Recorded, Session};
 use crate::records::put_record;
-use crate::sessions::{put_cells, put_redo, put_reply, put_run, put_undo};
+use crate::sessions::{open, put_cells, put_redo, put_reply, put_run, put_undo};
 use crate::stories::{Definition, mend, put_at, put_text_at};
 use crate::texts::{put_decoded, put_encoded, put_key, put_shortened};
 use rows::{RowError, Setting, Shown, number_in};
@@ -16,6 +16,9 @@ use std::alloc::Global;
 #[derive(Drop)]
 pub struct Row {
     setting: Setting,
+
+    /// By which opcodes the story is played.
+    mode: Mode,
 
     /// The story, as far as it is made.
     story: Vec<u8>,
@@ -39,6 +42,7 @@ impl Row {
     pub fn new(alloc: Global) -> Row {
         Row {
             setting: Setting::new(alloc),
+            mode: Mode::Profile,
             story: Vec::new(alloc),
             session: None,
             words: None,
@@ -64,6 +68,7 @@ impl Row {
             }
             "mend" => mend(&mut self.story),
             "define" => self.define(definitions, text),
+            "standard" => self.set_seed(text),
             "fuel" | "keep" | "line" | "last" | "reads" | "part" | "room" | "breaks" | "flushes" =>
                 { self.setting.take(word, text) }
             _ => match definitions.iter().find(|known| known.name.as_str() == word) {
@@ -74,6 +79,15 @@ impl Row {
                 }
             },
         }
+    }
+
+    /// Has the story played by the whole Standard, with a seed.
+    fn set_seed(&mut self, text: &str) -> Result<(), RowError> {
+        match u32::try_from(number_in(text)?) {
+            Ok(seed) => self.mode = Mode::Standard(seed),
+            Err(_) => return Err(RowError::Number),
+        }
+        Ok(())
     }
 
     /// Shows the title.
@@ -112,7 +126,7 @@ impl Row {
             "key" => put_key(shown, alloc, text),
             "memory" => put_memory(shown, alloc, &self.setting, &self.story, text),
             "record" => put_record(shown, alloc, &self.setting, &self.story, text),
-            "damage" => put_damaged(shown, alloc, &self.setting, &self.story),
+            "damage" => put_damaged(shown, alloc, &self.setting, self.mode, &self.story),
             "words" => self.begin_words(text),
             "write" | "close" | "abandon" => self.act_on_words(word, text),
             "reply" | "undo" | "redo" | "cells" => self.act_on_session(word, text),
@@ -154,7 +168,7 @@ impl Row {
     /// Opens the session.
     fn open(&mut self) -> Result<(), RowError> {
         let story = self.story.as_slice().to_vec(self.alloc)?;
-        match Session::open_with(self.alloc, story, self.setting.fuel, self.setting.keep) {
+        match open(self.alloc, &self.setting, self.mode, story) {
             Ok(session) => self.session = Some(session),
             Err(_) => return Err(RowError::Story),
         }
@@ -169,7 +183,8 @@ impl Row {
     /// [`RowError::Memory`] where memory was refused.
     pub fn outcome(&mut self) -> Result<&[u8], RowError> {
         if !self.story.is_empty() && !self.has_outcome {
-            put_run(&mut self.shown, self.alloc, &self.setting, &self.story)?;
+            let shown = &mut self.shown;
+            put_run(shown, self.alloc, &self.setting, self.mode, &self.story)?;
             self.has_outcome = true;
         }
         if !self.shown.is_empty() {

@@ -1,11 +1,25 @@
 //! Stories that are played, by a run over an input or call by call.
 
-use crate::names::{Place, Reply, Session, run, status};
+use crate::names::{Mode, OpenFault, Place, Reply, Session, run, status};
 use rows::{RowError, Setting, Shown, written_bytes};
 use std::alloc::Global;
 
-/// Opens a story, runs it on the row's input, and adds the transcript and how it ended; or adds why
-/// it is not opened.
+/// Opens a story in a mode, under the row's conditions.
+///
+/// # Errors
+///
+/// Why the story is not opened.
+pub fn open(
+    alloc: Global,
+    setting: &Setting,
+    mode: Mode,
+    story: Vec<u8>,
+) -> Result<Session, OpenFault> {
+    Session::open_with(alloc, story, mode, setting.fuel, setting.keep)
+}
+
+/// Opens a story in a mode, runs it on the row's input, and adds the transcript and how it ended; or
+/// adds why it is not opened.
 ///
 /// # Errors
 ///
@@ -14,10 +28,11 @@ pub fn put_run(
     shown: &mut Shown,
     alloc: Global,
     setting: &Setting,
+    mode: Mode,
     story: &[u8],
 ) -> Result<(), RowError> {
     let story = story.to_vec(alloc)?;
-    match Session::open_with(alloc, story, setting.fuel, setting.keep) {
+    match open(alloc, setting, mode, story) {
         Ok(mut session) => put_played(shown, setting, &mut session),
         Err(fault) => shown.display_line(&fault),
     }
