@@ -13,7 +13,7 @@ use thiserror::Error;
 use zcore::{Beside, Header};
 use zcore_standard::{LoadedStory, LoadingFault, characters, load};
 
-/// Why a file is not played. `Display` writes the number of the refusal alone, or its name.
+/// Why a file is not played. `Display` writes the number of the refusal alone.
 #[derive(Clone, Copy, Debug, PartialEq, Eq, Error)]
 pub enum StandardFault {
     /// The file is refused.

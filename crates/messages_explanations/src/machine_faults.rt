@@ -7,11 +7,11 @@ pub(crate) static MACHINE_FAULTS: [Explanation; 12] = [
     Explanation {
         name: "M1",
         title: "opcode that is not known",
-        rule: "The story reached an instruction that the player does not have, such as random,
-save, or one for sound, colours or windows, or an instruction with too few or
-too many operands. docs/MACHINE.md lists those that it has. Stories made by
-inform use no others; use another player for stories that do. /undo takes the
-line back.",
+        rule: "The story reached an instruction that the player does not have, or one with too
+few or too many operands. Games built on a library use more instructions than
+stories made by inform: play --standard has them all but set_window, read_char
+and output_stream 3. docs/MACHINE.md lists those that play has without it. /undo
+takes the line back.",
         example: None,
     },
     Explanation {

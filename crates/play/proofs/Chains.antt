@@ -1,110 +1,92 @@
--- The six arguments of the command line, as a chain of calls adds them.
-use Rattle.std.proofs.Common.{◌≡◌, ◌<◌, ◌∙◌, ap, sym, zero, suc, ℕ, Bool, true, false, List, [], ◌∷◌, length, codes}
+-- The arguments of the command line, as a chain of calls adds them: their names are all different.
+use Rattle.std.proofs.Common.{◌≡◌, ◌<◌, ◌∙◌, ◌&&◌, ap, sym, not, zero, suc, ℕ, Bool, true, false, List, [], ◌∷◌, length, codes}
 use Rattle.std.proofs.Common.{refl, inl, inr, arith}
 use Rattle.std.specs.Prelude.{⊤}
 use Rattle.std.specs.List.{All, slice_index_or}
 use Rattle.std.specs.Str.{bytes_eq}
+use Rattle.std.proofs.lemmas.Slice.Eq.{bytes_eq-Decides}
 use Rattle.clap.specs.Built.{IsAuto, HasDistinctIds}
 use Rattle.clap.specs.declared.builder.arg.Arg.{Arg}
 use Rattle.play.proofs.Optional.{Joins}
 
--- an id that begins with neither letter of `help` and `version`
-pub joins : (a : Arg) (x : ℕ) (xs : List ℕ) → a.groups.items ≡ [] → a.global ≡ false → a.id.now ≡ x ∷ xs
-    → (x ≡ 104 → ⊥) → (x ≡ 118 → ⊥) → Joins a
-joins a x xs groups global id no_help no_version = (
-  groups,
-  global,
-  (λ e. let bad : x ∷ xs ≡ [] = sym id ∙ e in cc),
-  (λ auto. elim auto [
-    | inl h ↦ no_help (ap (λ l. slice_index_or l 0 0) (sym id ∙ h))
-    | inr h ↦ no_version (ap (λ l. slice_index_or l 0 0) (sym id ∙ h))
-  ]),
-)
+-- a name that is not empty, and that `clap` gives no argument of its own
+abbrev pub is_free : List ℕ → Bool
+is_free name =
+    not (bytes_eq name []) && (not (bytes_eq name (codes "help")) && not (bytes_eq name (codes "version")))
 
-pub all_six : (P : Arg → Type 0) (a b c d e f : Arg) → P a → P b → P c → P d → P e → P f
-    → All P (a ∷ b ∷ c ∷ d ∷ e ∷ f ∷ [])
-all_six P a b c d e f p q r s t u zero x lt = p
-all_six P a b c d e f p q r s t u (suc zero) x lt = q
-all_six P a b c d e f p q r s t u (suc (suc zero)) x lt = r
-all_six P a b c d e f p q r s t u (suc (suc (suc zero))) x lt = s
-all_six P a b c d e f p q r s t u (suc (suc (suc (suc zero)))) x lt = t
-all_six P a b c d e f p q r s t u (suc (suc (suc (suc (suc zero))))) x lt = u
-all_six P a b c d e f p q r s t u (suc (suc (suc (suc (suc (suc k)))))) x lt = absurd (omega arith)
+abbrev pub is_unlike : List ℕ → List (List ℕ) → Bool
+is_unlike name [] = true
+is_unlike name (other ∷ others) = not (bytes_eq name other) && is_unlike name others
 
--- two arguments with ids of their own
-record IsOther (a b : Arg) : Type 0 where
-  pub there : bytes_eq a.id.now b.id.now ≡ false
-  pub back : bytes_eq b.id.now a.id.now ≡ false
+-- all are free, and no two are one
+abbrev pub are_own : List (List ℕ) → Bool
+are_own [] = true
+are_own (name ∷ names) = is_free name && (is_unlike name names && are_own names)
 
-abbrev IsUnlike : Arg → List Arg → Type 0
-IsUnlike a [] = ⊤
-IsUnlike a (b ∷ bs) = IsOther a b × IsUnlike a bs
+-- an argument of this name, in no group and not global
+abbrev pub IsNamed : List ℕ → Arg → Type 0
+IsNamed name a = (a.id.now ≡ name) × (a.groups.items ≡ []) × (a.global ≡ false)
 
-others : (a b : Arg) (s t : List ℕ) → a.id.now ≡ s → b.id.now ≡ t → bytes_eq s t ≡ false → bytes_eq t s ≡ false
-    → IsOther a b
-others a b s t p q there back = record {
-  there = ap (λ l. bytes_eq l b.id.now) p ∙ ap (bytes_eq s) q ∙ there;
-  back = ap (λ l. bytes_eq l a.id.now) q ∙ ap (bytes_eq t) p ∙ back;
-}
+abbrev pub AreNamed : List (List ℕ) → List Arg → Type 0
+AreNamed [] [] = ⊤
+AreNamed (name ∷ names) (a ∷ given) = IsNamed name a × AreNamed names given
+AreNamed _ _ = ⊥
 
-other_at : (a : Arg) (bs : List Arg) (k : ℕ) (d : Arg) → IsUnlike a bs → k < length bs
-    → IsOther a (slice_index_or bs k d)
-other_at a [] k d unlike lt = absurd (omega arith)
-other_at a (b ∷ bs) zero d unlike lt = unlike.0
-other_at a (b ∷ bs) (suc k) d unlike lt = other_at a bs k d unlike.1 (omega arith)
+both : (a b : Bool) → a && b ≡ true → (a ≡ true) × (b ≡ true)
+both true b h = (refl, h)
+both false b h = let bad : false ≡ true = h in cc
 
-no_and_yes : (b : Bool) → b ≡ false → b ≡ true → ⊥
-no_and_yes b is_false is_true = let bad : false ≡ true = sym is_false ∙ is_true in cc
+denied : (b : Bool) → not b ≡ true → b ≡ true → ⊥
+denied true h holds = let bad : false ≡ true = h in cc
+denied false h holds = let bad : false ≡ true = holds in cc
 
-distinct_none : HasDistinctIds []
-distinct_none j k d e in_j in_k same = absurd (omega arith)
+differ : (xs ys : List ℕ) → not (bytes_eq xs ys) ≡ true → xs ≡ ys → ⊥
+differ xs ys h same = denied (bytes_eq xs ys) h ((bytes_eq-Decides xs ys).1 same)
 
-distinct_with : (a : Arg) (bs : List Arg) → IsUnlike a bs → HasDistinctIds bs → HasDistinctIds (a ∷ bs)
-distinct_with a bs unlike rest zero zero d e in_j in_k same = refl
-distinct_with a bs unlike rest zero (suc k) d e in_j in_k same =
-    absurd (no_and_yes _ (other_at a bs k d unlike (omega arith)).there same)
-distinct_with a bs unlike rest (suc j) zero d e in_j in_k same =
-    absurd (no_and_yes _ (other_at a bs j e unlike (omega arith)).back same)
-distinct_with a bs unlike rest (suc j) (suc k) d e in_j in_k same =
-    ap suc (rest j k d e (omega arith) (omega arith) same)
-
-pub six_ids : (a b c d e f : Arg) → a.id.now ≡ codes "fuel" → b.id.now ≡ codes "undo" → c.id.now ≡ codes "why"
-    → d.id.now ≡ codes "check" → e.id.now ≡ codes "explain" → f.id.now ≡ codes "story"
-    → HasDistinctIds (a ∷ b ∷ c ∷ d ∷ e ∷ f ∷ [])
-six_ids a b c d e f p q r s t u =
-    distinct_with a (b ∷ c ∷ d ∷ e ∷ f ∷ []) (
-      others a b (codes "fuel") (codes "undo") p q refl refl,
-      (
-        others a c (codes "fuel") (codes "why") p r refl refl,
-        (
-          others a d (codes "fuel") (codes "check") p s refl refl,
-          (
-            others a e (codes "fuel") (codes "explain") p t refl refl,
-            (others a f (codes "fuel") (codes "story") p u refl refl, tt),
-          ),
-        ),
-      ),
+joins : (name : List ℕ) (a : Arg) → is_free name ≡ true → IsNamed name a → Joins a
+joins name a free named =
+    let some = both _ _ free in
+    let own = both _ _ some.1 in (
+      named.1,
+      named.2,
+      (λ empty. differ name [] some.0 (sym named.0 ∙ empty)),
+      (λ auto. elim auto [
+        | inl h ↦ differ name (codes "help") own.0 (sym named.0 ∙ h)
+        | inr h ↦ differ name (codes "version") own.1 (sym named.0 ∙ h)
+      ]),
     )
-    (distinct_with b (c ∷ d ∷ e ∷ f ∷ []) (
-      others b c (codes "undo") (codes "why") q r refl refl,
-      (
-        others b d (codes "undo") (codes "check") q s refl refl,
-        (
-          others b e (codes "undo") (codes "explain") q t refl refl,
-          (others b f (codes "undo") (codes "story") q u refl refl, tt),
-        ),
-      ),
-    )
-    (distinct_with c (d ∷ e ∷ f ∷ []) (
-      others c d (codes "why") (codes "check") r s refl refl,
-      (
-        others c e (codes "why") (codes "explain") r t refl refl,
-        (others c f (codes "why") (codes "story") r u refl refl, tt),
-      ),
-    )
-    (distinct_with d (e ∷ f ∷ []) (
-      others d e (codes "check") (codes "explain") s t refl refl,
-      (others d f (codes "check") (codes "story") s u refl refl, tt),
-    )
-    (distinct_with e (f ∷ []) (others e f (codes "explain") (codes "story") t u refl refl, tt)
-    (distinct_with f [] tt distinct_none)))))
+
+-- each argument of such a list joins a chain
+pub all_join : (names : List (List ℕ)) (given : List Arg) → are_own names ≡ true → AreNamed names given → All Joins given
+all_join [] [] own named k d lt = absurd (omega arith)
+all_join (name ∷ names) (a ∷ given) own named zero d lt = joins name a (both _ _ own).0 named.0
+all_join (name ∷ names) (a ∷ given) own named (suc k) d lt =
+    all_join names given (both _ _ (both _ _ own).1).1 named.1 k d (omega arith)
+all_join [] (a ∷ given) own named k d lt = absurd named
+all_join (name ∷ names) [] own named k d lt = absurd named
+
+other_at : (name : List ℕ) (names : List (List ℕ)) (given : List Arg) (k : ℕ) (d : Arg) → is_unlike name names ≡ true
+    → AreNamed names given → k < length given → name ≡ (slice_index_or given k d).id.now → ⊥
+other_at name [] [] k d unlike named lt same = absurd (omega arith)
+other_at name (other ∷ others) (a ∷ given) zero d unlike named lt same =
+    differ name other (both _ _ unlike).0 (same ∙ named.0.0)
+other_at name (other ∷ others) (a ∷ given) (suc k) d unlike named lt same =
+    other_at name others given k d (both _ _ unlike).1 named.1 (omega arith) same
+other_at name [] (a ∷ given) k d unlike named lt same = absurd named
+other_at name (other ∷ others) [] k d unlike named lt same = absurd named
+
+-- no two of them have one id
+pub all_distinct : (names : List (List ℕ)) (given : List Arg) → are_own names ≡ true → AreNamed names given
+    → HasDistinctIds given
+all_distinct [] [] own named j k d e in_j in_k same = absurd (omega arith)
+all_distinct (name ∷ names) (a ∷ given) own named zero zero d e in_j in_k same = refl
+all_distinct (name ∷ names) (a ∷ given) own named zero (suc k) d e in_j in_k same =
+    absurd (other_at name names given k d (both _ _ (both _ _ own).1).0 named.1 (omega arith)
+    (sym named.0.0 ∙ (bytes_eq-Decides _ _).0 same))
+all_distinct (name ∷ names) (a ∷ given) own named (suc j) zero d e in_j in_k same =
+    absurd (other_at name names given j e (both _ _ (both _ _ own).1).0 named.1 (omega arith)
+    (sym named.0.0 ∙ sym ((bytes_eq-Decides _ _).0 same)))
+all_distinct (name ∷ names) (a ∷ given) own named (suc j) (suc k) d e in_j in_k same =
+    ap suc (all_distinct names given (both _ _ (both _ _ own).1).1 named.1 j k d e (omega arith) (omega arith) same)
+all_distinct [] (a ∷ given) own named j k d e in_j in_k same = absurd named
+all_distinct (name ∷ names) [] own named j k d e in_j in_k same = absurd named

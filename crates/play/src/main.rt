@@ -101,14 +101,20 @@ fn play(rt: &HostRuntime, words: Words<'_>) -> ExitCode
     let Ok(story) = story_in(rt, words.story) else {
         return refuse(rt, format_args!("cannot read {}", OneLine(words.story)));
     };
-    let mut session = match Session::open_with(rt.alloc(), story, words.fuel, words.keep) {
+    let mut session = match Session::open_with(
+        rt.alloc(),
+        story,
+        words.mode,
+        words.fuel,
+        words.keep,
+    ) {
         Ok(session) => session,
         Err(fault) => return refuse(rt, fault),
     };
     let mut transcript = Transcript::new(rt, rt.stdout());
     let ran = run(&mut rt.stdin(), &mut transcript, &mut session);
     if words.why && ran.is_ok() {
-        let standing = Standing::of(&session);
+        let standing = Standing::of(&session, words.mode);
         let _ = eprintln!(rt; "{standing}");
     }
     // The process ends here: what each turn kept is not given back piece by piece.

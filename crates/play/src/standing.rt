@@ -1,10 +1,18 @@
 //! Where a story stands at the end, and why it was stopped.
 
 use messages_explanations::Program;
-use session::{Place, Session};
+use session::{Mode, Place, Session};
 use std::fmt;
-use survey_opcodes::Opcode;
+use survey_opcodes::{Numbering, Opcode};
 use zcore::Fault;
+
+/// The opcodes among those of any number of operands that `--standard` does not play yet.
+const SET_WINDOW: u8 = 11;
+
+const READ_CHAR: u8 = 22;
+
+/// That of which `--standard` does not play stream 3 yet.
+const OUTPUT_STREAM: u8 = 19;
 
 /// Where a story stands. `Display` writes it in words, a fault as `M7: division by zero at 0F31`.
 #[derive(Clone, Copy)]
@@ -16,16 +24,20 @@ pub struct Standing {
 
     /// The opcode there, where the memory has one.
     opcode: Option<Opcode>,
+
+    /// Which opcodes the story may use.
+    mode: Mode,
 }
 
 impl Standing {
-    /// Where the story of a session stands.
-    pub fn of(session: &Session) -> Standing {
+    /// Where the story of a session stands that is played in a mode.
+    pub fn of(session: &Session, mode: Mode) -> Standing {
         let at = session.program_counter();
         Standing {
             place: session.place(),
             at,
             opcode: Opcode::read(session.memory(), at as usize),
+            mode,
         }
     }
 }
@@ -49,7 +61,7 @@ fn write_fault<W: fmt::Write>(
 ) -> fmt::Result {
     let at = standing.at;
     match (fault, standing.opcode) {
-        (Fault::Opcode, Some(opcode)) => write_opcode(f, opcode, at),
+        (Fault::Opcode, Some(opcode)) => write_opcode(f, opcode, at, standing.mode),
         _ => match Program::Play.explanations().find(name_of(fault)) {
             Some(explanation) => {
                 let title = explanation.title;
@@ -78,17 +90,42 @@ fn name_of(fault: Fault) -> &'static str {
     }
 }
 
-/// Writes what is wrong with an opcode: it is outside the profile, or has operands that it does not
-/// take.
-fn write_opcode<W: fmt::Write>(f: &mut fmt::Formatter<W>, opcode: Opcode, at: u32) -> fmt::Result {
+/// Writes what is wrong with an opcode.
+fn write_opcode<W: fmt::Write>(
+    f: &mut fmt::Formatter<W>,
+    opcode: Opcode,
+    at: u32,
+    mode: Mode,
+) -> fmt::Result {
     let fault = Fault::Opcode;
     let number = opcode.number_alone();
     write!(f, "{fault}: opcode {number}")?;
     if let Some(name) = opcode.name() {
         write!(f, " ({name})")?;
     }
+    let wrong = match mode {
+        Mode::Profile => wrong_in_profile(opcode),
+        Mode::Standard(_) => wrong_in_standard(opcode),
+    };
+    write!(f, " at {at:04X} {wrong}")
+}
+
+/// What is wrong with an opcode in the profile: it is outside, or has operands that it does not
+/// take.
+fn wrong_in_profile(opcode: Opcode) -> &'static str {
     match opcode.operation() {
-        Some(_) => write!(f, " at {at:04X} has operands that it does not take"),
-        None => write!(f, " at {at:04X} is outside the profile"),
+        Some(_) => "has operands that it does not take",
+        None => "is outside the profile",
+    }
+}
+
+/// What is wrong with an opcode with `--standard`: it is not played yet, it is none that the
+/// Standard names, or it has operands that it does not take.
+fn wrong_in_standard(opcode: Opcode) -> &'static str {
+    match (opcode.numbering, opcode.number) {
+        (Numbering::Several, SET_WINDOW | READ_CHAR) => "is not played yet",
+        (Numbering::Several, OUTPUT_STREAM) => "has operands that are not played yet",
+        _ if opcode.name().is_some() => "has operands that it does not take",
+        _ => "is not known",
     }
 }

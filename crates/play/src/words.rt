@@ -1,20 +1,24 @@
 //! The words of the command line.
 
-ghost use Rattle.std.specs.Prelude.{IfOk, codes};
+ghost use Rattle.std.specs.Prelude.{◌<◌, IfOk, IfSome, codes, length};
 ghost use Rattle.play.specs.Range.{IsAskedInRange, least_fuel, most_fuel, most_undo};
 ghost use Rattle.play.specs.Arguments.{HasNoArgument, IsAloneNamed, IsPlainNamed, TakesNumber};
 
-use clap::{Arg, ArgAction, Command, Error, value_parser};
-use std::alloc::Global;
+use clap::{Arg, ArgAction, ArgMatches, Command, Error, value_parser};
+use session::Mode;
+use std::alloc::{AllocError, Global};
 
 /// The units of fuel of a turn without `--fuel`.
 const FUEL: u32 = 1_000_000;
+
+/// The seed of the random numbers without `--seed`.
+const SEED: u32 = 12_345;
 
 /// The end of the help: the player's own lines, an example, and the documents that say more.
 const MORE: &str = "The line /undo takes back the latest turn, and the line /redo does it again.
 At a terminal, ctrl-D ends the input.
 
-With `--format tsv` directly after it, --check prints a line of 8 columns for each STORY.
+With `--format tsv` beside it, --check prints a line of 8 columns for each STORY.
 
 Example, which keeps the lines and the transcript:
   tee lines | play game.z5 | tee transcript
@@ -63,6 +67,9 @@ pub struct Words<'a> {
 
     /// Whether to say at the end where the story is.
     pub why: bool,
+
+    /// Which opcodes the story may use.
+    pub mode: Mode,
 }
 
 /// The units of fuel of a turn.
@@ -99,6 +106,35 @@ fn why_argument<'a>(alloc: Global) -> Arg<'a>
         .long("why")
         .help("Say at the end on standard error where the story is, and why it was stopped")
         .action(ArgAction::SetTrue)
+}
+
+/// Whether to play every opcode of the Standard.
+fn standard_argument<'a>(alloc: Global) -> Arg<'a>
+    ensures { IsPlainNamed (codes "standard") result }
+{
+    Arg::new(alloc, "standard")
+        .long("standard")
+        .help("Play every opcode of the Z-Machine Standards Document 1.1, as library games need")
+        .action(ArgAction::SetTrue)
+}
+
+/// The seed of the random numbers, any 32 bits. It needs `--standard`.
+///
+/// # Errors
+///
+/// Memory was refused.
+fn seed_argument<'a>(alloc: Global) -> Result<Arg<'a>, AllocError>
+    ensures { IfOk result (IsPlainNamed (codes "seed")) }
+{
+    Arg::new(alloc, "seed")
+        .long("seed")
+        .value_name("N")
+        .help(
+            "With --standard, begin the random numbers with N, from 0 to 4294967295 [default: 12345]",
+        )
+        .action(ArgAction::Set)
+        .value_parser(value_parser!(u32))
+        .requires_arg("standard")
 }
 
 /// The files to check. No other argument may be given; [`take_format`] has taken `--format tsv`.
@@ -150,25 +186,40 @@ fn program<'a>(alloc: Global) -> Command<'a>
         .after_help(MORE)
 }
 
-/// Takes `--format tsv` out of the words of a command line, if it is directly after `--check` and
-/// that is the first word after the program's name. Says how the answers are printed.
+/// Takes `--format tsv` out of the words of a command line that has `--check`, wherever it is before
+/// `--`. Says how the answers are printed.
 pub fn take_format(given: &mut Vec<String>) -> Format {
-    match given.as_slice() {
-        [_, check, format, tsv, ..]
-            if check.as_str() == "--check"
-                && format.as_str() == "--format"
-                && tsv.as_str() == "tsv" => {
-            given.remove(3);
-            given.remove(2);
-            Format::Columns
-        }
-        [_, check, format, ..]
-            if check.as_str() == "--check" && format.as_str() == "--format=tsv" => {
-            given.remove(2);
+    if place_of(given, "--check").is_none() {
+        return Format::Words;
+    }
+    if let Some(place) = place_of(given, "--format=tsv") {
+        given.remove(place);
+        return Format::Columns;
+    }
+    match place_of(given, "--format") {
+        Some(place) if place + 1 < given.len() && given[place + 1].as_str() == "tsv" => {
+            given.remove(place + 1);
+            given.remove(place);
             Format::Columns
         }
         _ => Format::Words,
     }
+}
+
+/// The place of a word after the program's name and before `--`.
+fn place_of(given: &[String], wanted: &str) -> Option<usize>
+    ensures { IfSome result (λ place. place < length given.now) }
+{
+    for place in 1..given.len() {
+        let word = given[place].as_str();
+        if word == "--" {
+            return None;
+        }
+        if word == wanted {
+            return Some(place);
+        }
+    }
+    None
 }
 
 /// Reads the words of a command line. Its numbers are in their ranges.
@@ -184,6 +235,8 @@ pub fn words_of<'a>(alloc: Global, given: &'a [String]) -> Result<Asked<'a>, Err
         .arg(fuel_argument(alloc))?
         .arg(undo_argument(alloc))?
         .arg(why_argument(alloc))?
+        .arg(standard_argument(alloc))?
+        .arg(seed_argument(alloc)?)?
         .arg(check_argument(alloc))?
         .arg(explain_argument(alloc))?
         .arg(story_argument(alloc))?;
@@ -203,5 +256,15 @@ pub fn words_of<'a>(alloc: Global, given: &'a [String]) -> Result<Asked<'a>, Err
         fuel: fuel.unwrap_or(FUEL),
         keep,
         why: matches.get_flag("why"),
+        mode: mode_in(&matches),
     }))
+}
+
+/// Which opcodes a story may use by a command line.
+fn mode_in(matches: &ArgMatches<'_>) -> Mode {
+    if matches.get_flag("standard") {
+        Mode::Standard(matches.get_one::<u32>("seed").unwrap_or(SEED))
+    } else {
+        Mode::Profile
+    }
 }

@@ -16,7 +16,7 @@ use zcore::layout::{
 use zcore::{Dictionary, Header, HeaderFault, Version};
 use ztext::read_word;
 
-/// Why a file is not played by the whole Standard.
+/// Why a file is not played by the whole Standard. `Display` writes its name alone, Z4 to Z7 or Z10.
 #[derive(Clone, Copy, Debug, PartialEq, Eq, Error)]
 pub enum LoadingFault {
     /// The header refuses it: its size, its version, its length or an address. The sum never does.
@@ -24,7 +24,7 @@ pub enum LoadingFault {
     Header(HeaderFault),
 
     /// The story has alphabets of its own (word $34, section 3.5.5), which are not played yet.
-    #[error("own alphabets")]
+    #[error("Z10")]
     OwnAlphabets,
 }
 
