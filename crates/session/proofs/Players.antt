@@ -67,7 +67,6 @@ answers_turn line s fuel whole h =
     ∙ follows_turn (given h.0 line fuel (resumed (play_of s)))
     (ended (record { program_counter = (play_of s).program_counter; fuel = fuel })) whole h.2
 
-
 -- a machine of the profile that was loaded
 pub profile_player : (story : List ℕ) (machine : Machine) (s : Contents) → IsLoaded story machine s
     → IsPlayerOf Profile story (record { header = machine.header; loaded = None }) s

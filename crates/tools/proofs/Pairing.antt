@@ -1,5 +1,5 @@
 -- A compiled story tells what its source means; and it is refused for want of memory alone.
-use Rattle.std.proofs.Common.{◌≡◌, ℕ, List, [], ◌∷◌, map, refl, ap, ◌∙◌, subst, Option, None, Some, Ok, Err, inl, inr}
+use Rattle.std.proofs.Common.{◌≡◌, ℕ, List, [], ◌∷◌, map, refl, ap, ◌∙◌, subst, Option, None, Some, Result, Ok, Err, inl, inr}
 use Rattle.std.specs.Io.KnownBytes.{Keeps}
 use Rattle.zcore.specs.Turn.{Whole, plays, last_text}
 use Rattle.zcore.specs.declared.header.Version.{Version}
@@ -15,7 +15,15 @@ use Rattle.machine.specs.declared.load.LoadFault.TheVariants as loads
 use Rattle.session.specs.declared.fault.OpenFault.{OpenFault}
 use Rattle.session.specs.declared.fault.OpenFault.TheVariants as opens
 use Rattle.session.specs.Replies.{OpensSession}
-use Rattle.session.specs.Game.{Game, telling_of}
+use Rattle.session.specs.declared.mode.Mode.TheVariants.{Profile}
+use Rattle.session.specs.declared.fault.RunFault.{RunFault}
+use Rattle.session.specs.declared.fault.RunFault.TheVariants.{Reading, Writing}
+use Rattle.session.specs.Game.{game_of, telling_of}
+use Rattle.session.specs.Input.{lines_of, whole_lines}
+use Rattle.session.specs.Ran.{Streams, Played, Ran, RanToWrite, in_opening, in_reply}
+use Rattle.session.specs.Standing.{Standing}
+use Rattle.session.specs.Telling.{Telling}
+use Rattle.zcore.specs.declared.place.Place.{Place}
 use Rattle.session.proofs.Said.{Agree}
 use Rattle.tools.specs.Headline.{last_of, meant_by, WantsMemory}
 
@@ -26,10 +34,11 @@ last_said (w ∷ []) = refl
 last_said (w ∷ v ∷ ws) = last_said (v ∷ ws)
 
 -- a story that plays a program tells what the program means
-pub agrees : (game : Game) (p : ProgramOf) → ((lines : List (List ℕ)) → Plays game.story p game.fuel lines)
-    → Agree (telling_of game) (meant_by p game.fuel)
-agrees game p h = record {
-  texts = λ lines. last_said (plays game.story game.fuel lines) ∙ ap last_of (h lines).texts;
+pub agrees : (story : List ℕ) (fuel : ℕ) (keep : Option ℕ) (p : ProgramOf)
+    → ((lines : List (List ℕ)) → Plays story p fuel lines)
+    → Agree (telling_of (game_of Profile story fuel keep)) (meant_by p fuel)
+agrees story fuel keep p h = record {
+  texts = λ lines. last_said (plays story fuel lines) ∙ ap last_of (h lines).texts;
   places = λ lines. (h lines).place;
 }
 
@@ -51,11 +60,66 @@ read_whole story h WrongAddress p q = q.1.4 (p.3, p.4)
 
 -- so memory was refused where it is not opened
 pub wants_memory : (story : List ℕ) (fuel : ℕ) (keep : Option ℕ) (h : Header) (f : OpenFault) → Reads story (Ok h)
-    → OpensSession story fuel keep (Err f) → WantsMemory f
+    → OpensSession (game_of Profile story fuel keep) (Err f) → WantsMemory f
 wants_memory story fuel keep h (opens.Load (loads.Header f)) p q = absurd (read_whole story h f p q)
 wants_memory story fuel keep h (opens.Load loads.Memory) p q = inl refl
+wants_memory story fuel keep h (opens.Standard f) p q = absurd q
 wants_memory story fuel keep h opens.Memory p q = inr refl
 
 pub keeps_all : (known : Option (List ℕ)) → Keeps known known
 keeps_all None = tt
 keeps_all (Some bytes) = refl
+
+-- What is known of the lines that stand after a run may be followed by something else.
+
+played_so : (telling : Telling) (keep : Option ℕ) (lines : List (List ℕ)) (written : List ℕ)
+    (P Q : Standing → Type 0) → ((s : Standing) → P s → Q s) → Played telling keep lines written P
+    → Played telling keep lines written Q
+played_so telling keep lines written P Q so h = record {
+  typed = h.typed;
+  said = h.said;
+  wrote = h.wrote;
+  stands = so _ h.stands;
+}
+
+write_so : (telling : Telling) (keep : Option ℕ) (io : Streams) (P Q : Standing → Type 0)
+    → ((s : Standing) → P s → Q s) → RanToWrite telling keep io P → RanToWrite telling keep io Q
+write_so telling keep io P Q so (in_opening h) = in_opening (record {
+  unread = h.unread;
+  wrote = h.wrote;
+  stands = so _ h.stands;
+})
+write_so telling keep io P Q so (in_reply h) = in_reply (record {
+  input = h.input;
+  typed = h.typed;
+  last = h.last;
+  more = h.more;
+  took = h.took;
+  said = h.said;
+  part = h.part;
+  rest = h.rest;
+  whole = h.whole;
+  wrote = h.wrote;
+  stands = so _ h.stands;
+})
+
+pub ran_so : (telling : Telling) (keep : Option ℕ) (io : Streams) (P Q : Standing → Type 0)
+    → ((s : Standing) → P s → Q s) → (result : Result Place RunFault) → Ran telling keep io P result
+    → Ran telling keep io Q result
+ran_so telling keep io P Q so (Ok place) h = record {
+  input = h.input;
+  written = h.written;
+  took = h.took;
+  ended = h.ended;
+  wrote = h.wrote;
+  played = played_so telling keep (lines_of h.input) h.written (λ s. P s × (place ≡ telling.place s.done))
+      (λ s. Q s × (place ≡ telling.place s.done)) (λ s p. (so s p.0, p.1)) h.played;
+}
+ran_so telling keep io P Q so (Err Reading) h = record {
+  input = h.input;
+  written = h.written;
+  took = h.took;
+  wrote = h.wrote;
+  played = played_so telling keep (whole_lines h.input) h.written P Q so h.played;
+}
+ran_so telling keep io P Q so (Err Writing) h = write_so telling keep io P Q so h

@@ -3,7 +3,7 @@
 ghost use Rattle.std.specs.Prelude.{◌≡◌};
 ghost use Rattle.tools.specs.Headline.{Pairs};
 
-use session::{OpenFault, RunFault, Session, run};
+use session::{Mode, OpenFault, RunFault, Session, run};
 use std::alloc::Global;
 use std::io::{Read, Write};
 use story::compile_for;
@@ -60,7 +60,13 @@ pub fn compile_and_run<R: Read, W: Write>(
         Ok(story) => story,
         Err(fault) => return Err(PairFault::Source(fault)),
     };
-    let mut session = match Session::open_with(alloc, story.into_bytes(), fuel, keep) {
+    let mut session = match Session::open_with(
+        alloc,
+        story.into_bytes(),
+        Mode::Profile,
+        fuel,
+        keep,
+    ) {
         Ok(session) => session,
         Err(fault) => return Err(PairFault::Open(fault)),
     };

@@ -3,12 +3,13 @@ use Rattle.zcore.specs.Header.{Reads}
 use Rattle.checker.specs.Programs.{resolve_program}
 use Rattle.zcore.specs.Turn.{by_profile}
 use Rattle.session.specs.Sessions.{IsSession}
+use Rattle.session.specs.declared.mode.Mode.TheVariants.{Profile}
 use Rattle.session.specs.Standing.{nothing}
-use Rattle.session.specs.Game.{Game, telling_of}
+use Rattle.session.specs.Game.{Game, game_of, telling_of, IsSessionOf}
 use Rattle.session.proofs.Going.{streams}
 use Rattle.session.proofs.Said.{ran_same}
 use Rattle.tools.specs.Headline.{meant_by}
-use Rattle.tools.proofs.Pairing.{agrees, wants_memory, keeps_all}
+use Rattle.tools.proofs.Pairing.{agrees, wants_memory, keeps_all, ran_so}
 use Rattle.tools.proofs.pair.compile_and_run.Goals as goal
 
 pub returns-in-Err : goal.returns-in-Err
@@ -29,19 +30,19 @@ returns-in-Ok-run g c =
     let playable = c.in-Ok.ensures.playable in
     let io = streams (g.R.Read.remaining c.args.reader.now) (g.R.Read.remaining c.run.new.reader)
     (g.W.Write.contents c.args.writer.now) (g.W.Write.contents c.run.new.writer) in
-    let game : Game = record { story = c.in-Ok.story; fuel = c.args.fuel; keep = c.args.keep } in
-    let opened = subst (λ b. IsSession b c.args.fuel (by_profile b c.args.fuel) c.args.keep nothing
-    c.in-Ok-open_with.session)
-    c.into_bytes.ensures c.in-Ok-open_with.ensures.session in (
+    let game : Game = game_of Profile c.in-Ok.story c.args.fuel c.args.keep in
+    let opened = subst (λ b. IsSessionOf (game_of Profile b c.args.fuel c.args.keep) nothing c.in-Ok-open_with.session)
+    c.into_bytes.ensures c.in-Ok-open_with.ensures.1 in (
       c.in-Ok-run._place,
       record {
         story = c.in-Ok.story;
         compiled = playable;
         ran = ran_same (telling_of game) (meant_by (resolve_program playable.tree) c.args.fuel) c.args.keep
-            (agrees game (resolve_program playable.tree) (playable.plays c.args.fuel)) io
-            (λ s. IsSession c.in-Ok.story c.args.fuel (by_profile c.in-Ok.story c.args.fuel) c.args.keep s
+            (agrees c.in-Ok.story c.args.fuel c.args.keep (resolve_program playable.tree) (playable.plays c.args.fuel))
+            io (λ s. IsSession c.in-Ok.story c.args.fuel (by_profile c.in-Ok.story c.args.fuel) c.args.keep s
             c.run.new.session) (Ok c.in-Ok-run._place)
-            (c.in-Ok-run.ensures game opened);
+            (ran_so (telling_of game) c.args.keep io (λ s. IsSessionOf game s c.run.new.session) _
+            (λ s h. h.session) (Ok c.in-Ok-run._place) (c.in-Ok-run.ensures game opened));
       },
     )
 
@@ -50,18 +51,18 @@ returns-in-Err-run g c =
     let playable = c.in-Ok.ensures.playable in
     let io = streams (g.R.Read.remaining c.args.reader.now) (g.R.Read.remaining c.run.new.reader)
     (g.W.Write.contents c.args.writer.now) (g.W.Write.contents c.run.new.writer) in
-    let game : Game = record { story = c.in-Ok.story; fuel = c.args.fuel; keep = c.args.keep } in
-    let opened = subst (λ b. IsSession b c.args.fuel (by_profile b c.args.fuel) c.args.keep nothing
-    c.in-Ok-open_with.session)
-    c.into_bytes.ensures c.in-Ok-open_with.ensures.session in (
+    let game : Game = game_of Profile c.in-Ok.story c.args.fuel c.args.keep in
+    let opened = subst (λ b. IsSessionOf (game_of Profile b c.args.fuel c.args.keep) nothing c.in-Ok-open_with.session)
+    c.into_bytes.ensures c.in-Ok-open_with.ensures.1 in (
       c.run.new.session,
       record {
         story = c.in-Ok.story;
         compiled = playable;
         ran = ran_same (telling_of game) (meant_by (resolve_program playable.tree) c.args.fuel) c.args.keep
-            (agrees game (resolve_program playable.tree) (playable.plays c.args.fuel)) io
-            (λ s. IsSession c.in-Ok.story c.args.fuel (by_profile c.in-Ok.story c.args.fuel) c.args.keep s
+            (agrees c.in-Ok.story c.args.fuel c.args.keep (resolve_program playable.tree) (playable.plays c.args.fuel))
+            io (λ s. IsSession c.in-Ok.story c.args.fuel (by_profile c.in-Ok.story c.args.fuel) c.args.keep s
             c.run.new.session) (Err c.in-Err-run.fault)
-            (c.in-Err-run.ensures game opened);
+            (ran_so (telling_of game) c.args.keep io (λ s. IsSessionOf game s c.run.new.session) _
+            (λ s h. h.session) (Err c.in-Err-run.fault) (c.in-Err-run.ensures game opened));
       },
     )
