@@ -28,7 +28,7 @@ CITATION = re.compile(
 )
 EACH = re.compile(rf"each function of (?P<crates>{LIST})(?: but (?P<names>{LIST}))?, over (?P<words>{LIST})")
 TITLES = ("Contract", "Definition", "Refused by")
-TURN = ("machine_frames", "machine_quick_steps")
+TURNS = (("machine_frames", "machine_quick_steps"), ("machine_standard_opcodes", "machine_standard_steps"))
 
 
 class NotThere(Exception):
@@ -76,7 +76,8 @@ class Promises:
         self.functions = [found for found in read_functions() if found.is_public]
         self.definitions = list(read_definitions())
         self.crates = re.findall(r"^(\w+):", (TOP / "crates.txt").read_text(), re.M)
-        turn = self.crates[self.crates.index(TURN[0]) : self.crates.index(TURN[1]) + 1]
+        parts = [self.crates[self.crates.index(first) : self.crates.index(last) + 1] for first, last in TURNS]
+        turn = {crate for part in parts for crate in part}
         self.asking = {(one.crate, one.name) for one in self.functions if one.required and one.crate not in turn}
         self.count = 0
 
