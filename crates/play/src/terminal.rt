@@ -24,7 +24,7 @@ pub struct Transcript<'a, W> {
 impl<'a, W: Write> Transcript<'a, W> {
     /// The transcript that a writer is given. The user is at a terminal if standard input is one.
     pub fn new(rt: &'a HostRuntime, writer: W) -> Transcript<'a, W>
-        ensures { result.writer ≡ writer.entry }
+        ensures { result.writer ≡ writer }
     {
         Transcript {
             writer,
