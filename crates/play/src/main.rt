@@ -10,7 +10,7 @@ mod words;
 
 ghost use Rattle.play.specs.Range.{IsInRange};
 
-use crate::checking::check;
+use crate::checking::{check, take_mode};
 use crate::reading::read_story;
 use crate::standing::Standing;
 use crate::terminal::Transcript;
@@ -42,10 +42,11 @@ fn main(rt: HostRuntime) -> ExitCode {
         Err(_) => return refuse(&rt, "cannot read the command line"),
     };
     let format = take_format(&mut given);
+    let mode = take_mode(&mut given);
     match words_of(alloc, given.as_slice()) {
         Ok(Asked::Play(words)) => play(&rt, words),
         Ok(Asked::Explain(name)) => explain(&rt, name),
-        Ok(Asked::Check(files)) => check(&rt, files.as_slice(), format),
+        Ok(Asked::Check(files)) => check(&rt, files.as_slice(), mode, format),
         Err(error) => {
             let status = if error.use_stderr() { REFUSED } else { 0 };
             match error.print(&rt) {

@@ -19,6 +19,7 @@ const MORE: &str = "The line /undo takes back the latest turn, and the line /red
 At a terminal, ctrl-D ends the input.
 
 With `--format tsv` beside it, --check prints a line of 8 columns for each STORY.
+With --standard beside it, --check names the opcodes that --standard does not play.
 
 Example, which keeps the lines and the transcript:
   tee lines | play game.z5 | tee transcript
@@ -137,7 +138,8 @@ fn seed_argument<'a>(alloc: Global) -> Result<Arg<'a>, AllocError>
         .requires_arg("standard")
 }
 
-/// The files to check. No other argument may be given; [`take_format`] has taken `--format tsv`.
+/// The files to check. No other argument may be given: [`take_format`] has taken `--format tsv`,
+/// and `take_mode` has taken `--standard`.
 fn check_argument<'a>(alloc: Global) -> Arg<'a>
     ensures { IsAloneNamed (codes "check") result }
 {
@@ -207,7 +209,7 @@ pub fn take_format(given: &mut Vec<String>) -> Format {
 }
 
 /// The place of a word after the program's name and before `--`.
-fn place_of(given: &[String], wanted: &str) -> Option<usize>
+pub(crate) fn place_of(given: &[String], wanted: &str) -> Option<usize>
     ensures { IfSome result (λ place. place < length given.now) }
 {
     for place in 1..given.len() {

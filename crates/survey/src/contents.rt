@@ -1,8 +1,11 @@
 //! What a story holds.
 
-ghost use Rattle.std.specs.Prelude.{◌≡◌, ◌≤◌, IfOk, Ok};
-ghost use Rattle.zcore.specs.Header.{Reads, dictionary_of, entry_count};
+ghost use Rattle.std.specs.Prelude.{◌≡◌, ◌≤◌, IfOk, length};
+ghost use Rattle.zcore.specs.Header.{IsHeaderOf};
+ghost use Rattle.zcore.specs.Layout.{longest_story};
+ghost use Rattle.survey.specs.Verdict.{HasWordsOf};
 
+use crate::mode::Mode;
 use crate::outside::Outside;
 use crate::reach::reach;
 use std::alloc::{AllocError, Global};
@@ -35,7 +38,10 @@ pub struct Contents {
     /// constant targets.
     pub instructions: usize,
 
-    /// Each opcode outside the profile among them, or with operands outside it.
+    /// For which machine it was surveyed.
+    pub mode: Mode,
+
+    /// Each opcode among them that this machine does not play, or not with such operands.
     pub outside: Vec<Outside>,
 }
 
@@ -51,31 +57,38 @@ impl fmt::Display for Contents {
         writeln!(f, "abbreviations {abbreviations}")?;
         writeln!(f, "routines reached {routines}")?;
         writeln!(f, "instructions reached {instructions}")?;
+        let refusal = self.mode.refusal();
         for outside in &self.outside {
-            writeln!(f, "outside the profile: {outside}")?;
+            writeln!(f, "{refusal}: {outside}")?;
         }
         Ok(())
     }
 }
 
 impl Contents {
-    /// What a story holds.
+    /// What a story holds, with what a machine does not play of it.
     ///
     /// # Errors
     ///
     /// Memory was refused.
-    pub(crate) fn read(alloc: Global, story: &[u8], header: &Header) -> Result<Contents, AllocError>
-        requires { Reads story.now (Ok header.now) }
-        ensures words { IfOk result
-            (λ contents. contents.words ≡ entry_count story.now (dictionary_of story.now)) }
+    pub(crate) fn read(
+        alloc: Global,
+        story: &[u8],
+        header: &Header,
+        mode: Mode,
+    ) -> Result<Contents, AllocError>
+        requires length { length story.now ≤ longest_story }
+        requires header { IsHeaderOf story.now header.now }
+        ensures words { IfOk result (HasWordsOf story.now) }
     {
-        let reached = reach(alloc, story, header)?;
+        let reached = reach(alloc, story, header, mode)?;
         Ok(Contents {
             objects: count_objects(story, header),
             words: header.dictionary.entries,
             abbreviations: count_abbreviations(story, header.abbreviations),
             routines: reached.routines,
             instructions: reached.instructions,
+            mode,
             outside: reached.outside,
         })
     }

@@ -4,10 +4,12 @@ ghost use Rattle.std.specs.Prelude.{◌≡◌, ◌*◌, ◌≤◌, IfSome, lengt
 ghost use Rattle.zcore.specs.Header.{scale_of};
 ghost use Rattle.zcore.specs.Layout.{longest_story};
 ghost use Rattle.zcore.specs.Parts.{jump_target, branch_target};
+ghost use Rattle.survey.specs.declared.mode.Mode.TheVariants.{Profile};
 
+use crate::mode::Mode;
 use crate::outside::{Outside, note};
 use std::alloc::{AllocError, Global};
-use survey_opcodes::{Lead, Opcode, Shape, lack_at, lead_at};
+use survey_opcodes::{Lack, Lead, Opcode, Shape, lack_at, lead_at, standard_lack_at};
 use zcore::layout::{HEADER_LENGTH, MOST_LOCALS};
 use zcore::{Header, Operand, Operation, Version};
 
@@ -20,8 +22,8 @@ pub(crate) struct Reached {
     /// How many instructions.
     pub instructions: usize,
 
-    /// Each opcode outside the profile among them, or with operands outside it, in the order in
-    /// which they were met.
+    /// Each opcode among them that the machine does not play, or not with such operands, in the
+    /// order in which they were met.
     pub outside: Vec<Outside>,
 }
 
@@ -31,6 +33,9 @@ pub(crate) struct Reached {
 struct Walk {
     /// By whose scale packed addresses count.
     version: Version,
+
+    /// The machine that is to play the story.
+    mode: Mode,
 
     /// The addresses at which instructions begin that can be reached.
     starts: Vec<bool>,
@@ -72,10 +77,15 @@ enum Onward {
 /// # Errors
 ///
 /// Memory was refused.
-pub(crate) fn reach(alloc: Global, story: &[u8], header: &Header) -> Result<Reached, AllocError>
+pub(crate) fn reach(
+    alloc: Global,
+    story: &[u8],
+    header: &Header,
+    mode: Mode,
+) -> Result<Reached, AllocError>
     requires { length story.now ≤ longest_story }
 {
-    let mut walk = Walk::new(alloc, story, header.version)?;
+    let mut walk = Walk::new(alloc, story, header.version, mode)?;
     walk.start(usize::from(header.first_instruction))?;
     // No address becomes pending twice.
     for _ in 0..story.len() {
@@ -89,9 +99,10 @@ pub(crate) fn reach(alloc: Global, story: &[u8], header: &Header) -> Result<Reac
 
 impl Walk {
     /// A walk that has reached nothing.
-    fn new(alloc: Global, story: &[u8], version: Version) -> Result<Walk, AllocError> {
+    fn new(alloc: Global, story: &[u8], version: Version, mode: Mode) -> Result<Walk, AllocError> {
         Ok(Walk {
             version,
+            mode,
             starts: vec![in alloc; false; story.len()]?,
             routines: vec![in alloc; false; story.len()]?,
             words: vec![in alloc; false; story.len()]?,
@@ -120,8 +131,8 @@ impl Walk {
             return Ok(());
         };
         let lack = lack_at(story, at);
-        if let Some(lack) = lack {
-            note(&mut self.found.outside, opcode, lack, at)?;
+        if let Some(refused) = refused_at(self.mode, story, at, lack) {
+            note(&mut self.found.outside, opcode, refused, at)?;
         }
         let lead = way_on(story, opcode, at);
         if lack.is_some() || lead.is_some() {
@@ -201,6 +212,17 @@ impl Walk {
             }
         }
         Ok(())
+    }
+}
+
+/// What of the instruction at an address a machine does not play, of which the profile lacks this.
+fn refused_at(mode: Mode, story: &[u8], at: usize, lack: Option<Lack>) -> Option<Lack>
+    requires { length story.now ≤ longest_story }
+    ensures profile { mode ≡ Profile → result ≡ lack }
+{
+    match mode {
+        Mode::Profile => lack,
+        Mode::Standard => standard_lack_at(story, at),
     }
 }
 

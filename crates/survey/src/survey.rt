@@ -4,15 +4,18 @@ ghost use Rattle.std.specs.Prelude.{◌≡◌, IfOk, IfSome, IfNone, length};
 ghost use Rattle.zcore.specs.Header.{HasHeader, IsKnownVersion};
 ghost use Rattle.survey.specs.Facts.{IsFactsOf};
 ghost use Rattle.survey.specs.Verdict.{IsVerdict};
+ghost use Rattle.survey.specs.declared.mode.Mode.TheVariants.{Profile, Standard};
 
 use crate::beginning::Beginning;
 use crate::contents::Contents;
 use crate::facts::Facts;
 use crate::misplaced::{Misplaced, find_misplaced};
+use crate::mode::Mode;
 use std::alloc::{AllocError, Global};
 use std::fmt;
 use zcore::layout::{HEADER_LENGTH, LONGEST_STORY};
 use zcore::{Header, HeaderFault};
+use zcore_standard::{LoadingFault, load};
 
 /// So many bytes no story has with the filling behind it.
 const TOO_LONG: usize = LONGEST_STORY + 512;
@@ -21,6 +24,9 @@ const TOO_LONG: usize = LONGEST_STORY + 512;
 /// lines say that it loads, and what it holds, or why it is refused.
 #[derive(Drop)]
 pub struct Survey {
+    /// For which machine.
+    pub mode: Mode,
+
     /// How many bytes of it were read.
     pub size: usize,
 
@@ -30,11 +36,11 @@ pub struct Survey {
     /// What its header says, where it has one of version 5 or 8.
     pub facts: Option<Facts>,
 
-    /// The first address of the header that is wrong.
+    /// The first address of the header that is wrong for the profile.
     pub misplaced: Option<Misplaced>,
 
     /// What it holds, or why it is not loaded.
-    pub found: Result<Contents, HeaderFault>,
+    pub found: Result<Contents, LoadingFault>,
 }
 
 /// A survey in a few words: `loads`, `Z7`, or `needs random, aread with 4 operands`.
@@ -46,30 +52,82 @@ pub struct Brief<'a>(pub &'a Survey);
 struct Parted(usize);
 
 impl Survey {
-    /// The survey of a file, which is taken for a story. It takes time and memory linear in the
-    /// file.
+    /// The survey of a file, which is taken for a story, for a machine. It takes time and memory
+    /// linear in the file.
     ///
     /// # Errors
     ///
     /// Memory was refused.
-    pub fn read(alloc: Global, story: &[u8]) -> Result<Survey, AllocError>
+    pub fn read(alloc: Global, story: &[u8], mode: Mode) -> Result<Survey, AllocError>
         ensures size { IfOk result (λ s. s.size ≡ length story.now) }
-        ensures verdict { IfOk result (λ s. IsVerdict story.now s.found) }
+        ensures verdict { IfOk result (λ s. IsVerdict mode story.now s.found) }
         ensures facts { IfOk result (λ s. IfSome s.facts (IsFactsOf story.now)) }
         ensures untold { IfOk result
             (λ s. IfNone s.facts (¬ (HasHeader story.now × IsKnownVersion story.now))) }
     {
-        let found = match Header::read(story) {
-            Ok(header) => Ok(Contents::read(alloc, story, &header)?),
-            Err(fault) => Err(fault),
+        let found = match mode {
+            Mode::Profile => read_for_profile(alloc, story)?,
+            Mode::Standard => read_for_standard(alloc, story)?,
         };
         Ok(Survey {
+            mode,
             size: story.len(),
             beginning: Beginning::read(story),
             facts: Facts::read(story),
             misplaced: first_misplaced(story),
             found,
         })
+    }
+}
+
+/// What a story holds, or why the profile's machine does not load it.
+fn read_for_profile(
+    alloc: Global,
+    story: &[u8],
+) -> Result<Result<Contents, LoadingFault>, AllocError>
+    ensures { IfOk result (IsVerdict Profile story.now) }
+{
+    match Header::read(story) {
+        Ok(header) => {
+            let contents = Contents::read(alloc, story, &header, Mode::Profile)?;
+            Ok(Ok(contents))
+        }
+        Err(fault) => Ok(Err(LoadingFault::Header(fault))),
+    }
+}
+
+/// What a file holds, or why the Standard's machine does not load it. It loads a copy.
+fn read_for_standard(
+    alloc: Global,
+    file: &[u8],
+) -> Result<Result<Contents, LoadingFault>, AllocError>
+    ensures { IfOk result (IsVerdict Standard file.now) }
+{
+    let copy = copy_of(alloc, file)?;
+    read_copy(alloc, copy)
+}
+
+/// A copy of a file.
+fn copy_of(alloc: Global, file: &[u8]) -> Result<Vec<u8>, AllocError>
+    ensures { IfOk result (λ copy. copy.items ≡ file.now) }
+{
+    let mut copy = Vec::new(alloc);
+    copy.extend_from_slice(file)?;
+    Ok(copy)
+}
+
+/// What the copy of a file holds that the Standard's machine loads, or why it does not.
+#[tactic(auto, using(crate::proofs::Loading::short_memory))]
+fn read_copy(alloc: Global, file: Vec<u8>) -> Result<Result<Contents, LoadingFault>, AllocError>
+    ensures { IfOk result (IsVerdict Standard file.items) }
+{
+    let mut memory = file;
+    match load(&mut memory) {
+        Ok(story) => {
+            let contents = Contents::read(alloc, &memory, &story.header, Mode::Standard)?;
+            Ok(Ok(contents))
+        }
+        Err(fault) => Ok(Err(fault)),
     }
 }
 
@@ -110,7 +168,11 @@ impl fmt::Display for Survey {
         }
         match &self.found {
             Ok(contents) => write!(f, "loads\n{contents}"),
-            Err(fault) => write_cause(f, self, *fault),
+            Err(LoadingFault::Header(fault)) => write_cause(f, self, *fault),
+            Err(LoadingFault::OwnAlphabets) => {
+                let fault = LoadingFault::OwnAlphabets;
+                writeln!(f, "{fault}: the story has its own alphabets")
+            }
         }
     }
 }
@@ -145,6 +207,9 @@ fn write_cause<W: fmt::Write>(
                 "{fault}: the header states the sum {stated:04X}, the bytes have {sum:04X}"
             )
         }
+        (HeaderFault::WrongAddress, Some(_)) if survey.mode == Mode::Standard => {
+            writeln!(f, "{fault}: a table lies where none can be")
+        }
         (HeaderFault::WrongAddress, Some(facts)) => match survey.misplaced {
             Some(misplaced) => writeln!(f, "{fault}: {misplaced}"),
             None => {
@@ -168,7 +233,7 @@ impl fmt::Display for Brief<'_> {
     }
 }
 
-/// Writes what a story that loads needs beyond the profile.
+/// Writes what a story that loads needs beyond what the machine plays.
 fn write_needs<W: fmt::Write>(f: &mut fmt::Formatter<W>, contents: &Contents) -> fmt::Result {
     if contents.outside.is_empty() {
         return f.write_str("loads");
@@ -177,7 +242,7 @@ fn write_needs<W: fmt::Write>(f: &mut fmt::Formatter<W>, contents: &Contents) ->
     write_outside(f, contents)
 }
 
-/// Writes the opcodes outside the profile that a story reaches, with a comma between two.
+/// Writes the opcodes that the machine does not play and a story reaches, with a comma between two.
 pub(crate) fn write_outside<W: fmt::Write>(
     f: &mut fmt::Formatter<W>,
     contents: &Contents,

@@ -67,7 +67,7 @@ pub fn lead_at(story: &[u8], at: usize, shape: Shape) -> Option<Lead>
 
 /// The types of operands of the instruction at an address, and the address of the first operand
 /// (section 4.4).
-fn kinds_at(story: &[u8], at: usize, more: bool) -> Option<([u8; 8], usize)>
+pub(crate) fn kinds_at(story: &[u8], at: usize, more: bool) -> Option<([u8; 8], usize)>
     requires { length story.now ≤ longest_story }
     ensures { IfSome result (λ x. x.1 ≤ length story.now + 3) }
 {
