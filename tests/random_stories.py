@@ -79,7 +79,8 @@ def words_of_text():
 
 
 class Scope:
-    """Where an instruction is: the version, how many locals there are, and the wildness."""
+    """Where an instruction is: the version, how many locals there are, and the wildness: how often an operand is
+    anything, from 0 to 1."""
 
     def __init__(self, version, variables, wildness):
         self.scale = 4 if version == 5 else 8
@@ -197,7 +198,7 @@ def routine(table, version, wildness):
 
 
 def random_story(tables, wildness, version):
-    """A story of random instructions from tables of opcodes. An operand is anything with a probability, the wildness."""
+    """A story of random instructions from tables of opcodes, of a wildness."""
     table = [opcode for text in tables for opcode in opcodes(text)]
     scope = Scope(version, 0, wildness)
     first = variable_form(5, ord(">")) + EMPTY_BUFFER + variable_form(4, LETTERS, WORDS, store=Variable(16))
