@@ -1,13 +1,14 @@
 -- A look-up in memory that keeps a story's static part finds what one in the story finds: a word.
 use Rattle.std.proofs.Common.{◌≡◌, ℕ, zero, suc, ◌+◌, ◌-◌, ◌*◌, ◌==◌, ◌<◌, ◌≤◌, Bool, true, false, cond, List, take}
-use Rattle.std.proofs.Common.{drop, slice_index, refl, sym, ap, ◌∙◌, arith}
+use Rattle.std.proofs.Common.{drop, length, slice_index, refl, sym, ap, ◌∙◌, subst, arith}
 use Rattle.std.specs.Prelude.{if◌then◌else◌}
 use Rattle.std.proofs.Math.Nat.{suc-mul}
-use Rattle.std.proofs.lemmas.List.{get_or-drop}
+use Rattle.std.proofs.lemmas.List.{get_or-drop, length-drop}
 use Rattle.byteorder.specs.Endian.{big_number}
 use Rattle.ztext.specs.Bytes.{word_at}
 use Rattle.zcore.specs.Header.{key_at, first_entry, entry_length_of, entry_count, IsDictionary}
 use Rattle.zcore.specs.Dictionary.{entry_in, entry_of}
+use Rattle.zcore.proofs.Searching.{dictionary_same, entry_listed}
 use Rattle.zcore.specs.Parsing.{separators_of}
 use Rattle.code.proofs.Regions.{same_on}
 
@@ -28,12 +29,12 @@ low_in story at bytes (suc count) key end some room fits =
 
 pub entry_word : (story : List ℕ) (dictionary key : ℕ) → IsDictionary story dictionary
     → entry_of story dictionary key < 65536
-unfolding entry_of
 entry_word story dictionary key is =
     let whole = is.whole in
     let long = is.entry_length in
-    low_in story (first_entry story dictionary) (entry_length_of story dictionary) (entry_count story dictionary) key
-    65536 (omega (arith, long)) (omega arith) (omega (arith, whole))
+    subst (λ n. n < 65536) (sym (entry_listed story dictionary key is))
+    (low_in story (first_entry story dictionary) (entry_length_of story dictionary) (entry_count story dictionary) key
+    65536 (omega (arith, long)) (omega arith) (omega (arith, whole)))
 
 module _ (base : ℕ) (story m : List ℕ) (kept : drop base m ≡ drop base story) where
   byte_same : (q : ℕ) → base ≤ q → slice_index m q ≡ slice_index story q
@@ -59,12 +60,20 @@ module _ (base : ℕ) (story m : List ℕ) (kept : drop base m ≡ drop base sto
       ∙ ap (λ (x : ℕ). if key_at story at == key then at else x)
       (entries_same (at + bytes) bytes count key (omega (arith, high)))
 
-  pub entry_same : (dictionary key : ℕ) → base ≤ dictionary → entry_of m dictionary key ≡ entry_of story dictionary key
-  unfolding entry_of
-  entry_same dictionary key high =
+  -- what lies from static base on is as long in the one as in the other
+  long_same : (dictionary : ℕ) → base ≤ dictionary → IsDictionary story dictionary → length m ≡ length story
+  long_same dictionary high is =
+      let whole = is.whole in
+      omega (arith, high, whole, length-drop base m, length-drop base story, ap length kept)
+
+  pub entry_same : (dictionary key : ℕ) → base ≤ dictionary → IsDictionary story dictionary
+      → entry_of m dictionary key ≡ entry_of story dictionary key
+  entry_same dictionary key high is =
       let n = slice_index story dictionary in
       let at = dictionary + 4 + n in
-      ap (λ (k : ℕ). entry_in m (dictionary + 4 + k) (slice_index m (dictionary + 1 + k))
+      let long = long_same dictionary high is in
+      entry_listed m dictionary key (dictionary_same story m base kept dictionary high long is)
+      ∙ ap (λ (k : ℕ). entry_in m (dictionary + 4 + k) (slice_index m (dictionary + 1 + k))
       (word_at m (dictionary + 2 + k)) key) (byte_same dictionary high)
       ∙ ap (λ (k : ℕ). entry_in m at k (word_at m (dictionary + 2 + n)) key)
       (byte_same (dictionary + 1 + n) (omega (arith, high)))
@@ -72,6 +81,7 @@ module _ (base : ℕ) (story m : List ℕ) (kept : drop base m ≡ drop base sto
       (word_same (dictionary + 2 + n) (omega (arith, high)))
       ∙ entries_same at (slice_index story (dictionary + 1 + n)) (word_at story (dictionary + 2 + n)) key
       (omega (arith, high))
+      ∙ sym (entry_listed story dictionary key is)
 
   pub separators_same : (dictionary : ℕ) → base ≤ dictionary
       → separators_of m dictionary ≡ separators_of story dictionary

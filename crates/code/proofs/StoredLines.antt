@@ -81,6 +81,7 @@ module _ (story : List ℕ) (a : Addresses) (p : ProgramOf) (holds : HoldsProgra
         ∙ holds.keys.separators;
     numbers = λ key. ap (λ d. entry_of memory d key) dictionary_same
         ∙ entry_same base story memory stored.kept (dictionary_of story) key holds.dictionary_above
+        holds.keys.dictionary
         ∙ sym (mod-eq_of_lt (entry_word story (dictionary_of story) key holds.keys.dictionary))
         ∙ ap (λ (n : ℕ). n % 65536)
         (holds.keys.numbers key ∙ ap (λ d. key_number d p.keys key) holds.dictionary_there);

@@ -1,5 +1,5 @@
 -- The store of a story that was loaded.
-use Rattle.std.proofs.Common.{◌≡◌, ℕ, List, [], ap, sym, subst, Ok}
+use Rattle.std.proofs.Common.{◌≡◌, ℕ, List, [], ap, sym, subst, arith, Ok}
 use Rattle.zcore.specs.declared.header.Header.{Header}
 use Rattle.zcore.specs.Header.{Reads}
 use Rattle.zcore.specs.State.{State}
@@ -18,7 +18,8 @@ headed_by story header h = record {
   abbreviations = h.5.abbreviations;
   dictionary = h.5.dictionary.address;
   behind = h.3.dictionary;
-  searchable = h.4;
+  head = omega (arith, h.4.whole);
+  searchable = λ ordered. h.4;
 }
 
 pub loaded : (story : List ℕ) (machine : Machine) (s : Contents) → Reads story (Ok machine.header) → IsSound s

@@ -189,6 +189,7 @@ fn fill_buffers(
     let words = parse(
         memory,
         header.dictionary.address,
+        header.dictionary.is_ordered,
         letters,
         memory[parse_buffer],
         &mut bytes,

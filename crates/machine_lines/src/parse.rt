@@ -1,28 +1,31 @@
 //! The words of a line as bytes for a parse buffer (Z-Machine Standards Document 1.1, section
 //! 13.6).
 
-ghost use Rattle.std.specs.Prelude.{◌≡◌, ◌≤◌, ◌+◌, ◌*◌, ◌++◌, length, take};
-ghost use Rattle.zcore.specs.Header.{IsDictionary};
+ghost use Rattle.std.specs.Prelude.{◌≡◌, ◌≤◌, ◌+◌, ◌*◌, ◌++◌, true, length, take};
+ghost use Rattle.zcore.specs.Header.{HasDictionaryHead, IsDictionary};
 ghost use Rattle.zcore.specs.Parsing.{separators_of, first_words, word_bytes};
 ghost use Rattle.machine_lines.specs.Lines.{words_parsed};
 ghost use Rattle.tables.specs.Placed.{word_of};
 
-use tables::{Word, cut_line, lookup};
+use tables::{Word, cut_line, find_entry};
 use zcore::word_key;
 
 /// The bytes of as many words as a parse buffer can have room for.
 pub(crate) const WORDS_LENGTH: usize = 4 * 255;
 
 /// Writes four bytes for each of the first words of a line, at most so many, and answers how many
-/// words they are. It takes no memory.
+/// words they are. A dictionary that is known to be in order is searched by halving. It takes no
+/// memory.
 pub(crate) fn parse(
     memory: &[u8],
     dictionary: u16,
+    is_ordered: bool,
     letters: &[u8],
     most: u8,
     bytes: &mut [u8; 1020],
 ) -> u8
-    requires dictionary { IsDictionary memory.now dictionary }
+    requires head { HasDictionaryHead memory.now dictionary }
+    requires ordered { is_ordered ≡ true → IsDictionary memory.now dictionary }
     requires few { length letters.now ≤ 255 }
     ensures count { result ≡ length (first_words memory.now dictionary letters.now most) }
     ensures few { result ≤ most }
@@ -34,7 +37,14 @@ pub(crate) fn parse(
     while count < most {
         match words.next() {
             Some(word) => {
-                put_word(memory, dictionary, word, bytes, 4 * count as usize);
+                put_word(
+                    memory,
+                    dictionary,
+                    is_ordered,
+                    word,
+                    bytes,
+                    4 * count as usize,
+                );
                 count += 1;
             }
             None => break,
@@ -45,7 +55,7 @@ pub(crate) fn parse(
 
 /// The bytes that a dictionary names as separators.
 fn separators(memory: &[u8], dictionary: u16) -> &[u8]
-    requires { IsDictionary memory.now dictionary }
+    requires { HasDictionaryHead memory.now dictionary }
     ensures { result.now ≡ separators_of memory.now dictionary }
 {
     let start = dictionary as usize + 1;
@@ -53,14 +63,21 @@ fn separators(memory: &[u8], dictionary: u16) -> &[u8]
 }
 
 /// Writes the four bytes of a word.
-fn put_word(memory: &[u8], dictionary: u16, word: Word, bytes: &mut [u8; 1020], at: usize)
-    requires dictionary { IsDictionary memory.now dictionary }
+fn put_word(
+    memory: &[u8],
+    dictionary: u16,
+    is_ordered: bool,
+    word: Word,
+    bytes: &mut [u8; 1020],
+    at: usize,
+)
+    requires ordered { is_ordered ≡ true → IsDictionary memory.now dictionary }
     requires room { at + 4 ≤ 1020 }
     requires within { word.place + length word.bytes.now ≤ 255 }
     ensures { take (at + 4) bytes.new
         ≡ take at bytes.old ++ word_bytes memory.now dictionary (word_of word.entry) }
 {
-    let entry = lookup(memory, dictionary, &word_key(word.bytes));
+    let entry = find_entry(memory, dictionary, is_ordered, &word_key(word.bytes));
     bytes[at] = (entry / 256) as u8;
     bytes[at + 1] = (entry % 256) as u8;
     bytes[at + 2] = word.bytes.len() as u8;

@@ -26,7 +26,8 @@ headed_by memory header p = record {
   abbreviations = p.read.abbreviations;
   dictionary = p.read.dictionary.address;
   behind = p.placed.dictionary;
-  searchable = p.dictionary;
+  head = p.dictionary;
+  searchable = p.read.dictionary.ordered.0;
 }
 
 -- what loading fixes, part by part

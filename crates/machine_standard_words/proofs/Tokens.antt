@@ -7,11 +7,12 @@ use Rattle.journal.specs.Recording.{Recording}
 use Rattle.zcore.specs.declared.next.Next.{Next}
 use Rattle.zcore.specs.declared.place.Fault.TheVariants as faults
 use Rattle.zcore.specs.declared.place.Place.TheVariants as places
+use Rattle.zcore.specs.Dictionary.{is_dictionary}
 use Rattle.zcore.specs.Header.{static_base_of}
 use Rattle.zcore.specs.Parsing.{first_words}
 use Rattle.zcore.specs.State.{done}
 use Rattle.zcore.specs.Turn.{with_bytes}
-use Rattle.zcore_standard.specs.Words.{dictionary_for, is_dictionary, letters_in, has_letters, has_slots}
+use Rattle.zcore_standard.specs.Words.{dictionary_for, letters_in, has_letters, has_slots}
 use Rattle.zcore_standard.specs.Words.{slots_bytes, with_slots, test_letters, test_slots, test_dictionary, fill_slots}
 use Rattle.zcore_standard.specs.Words.{tokenise}
 use Rattle.machine_frames.specs.Contents.{Contents, memory_of}

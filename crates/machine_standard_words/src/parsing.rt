@@ -1,6 +1,7 @@
 //! The words of a text in memory (Z-Machine Standards Document 1.1, section 15, `tokenise`).
 
 ghost use Rattle.std.specs.Prelude.{◌≡◌, ◌≤◌, true, length, OnOk, OnErr};
+ghost use Rattle.zcore.specs.Dictionary as dictionaries;
 ghost use Rattle.zcore.specs.Header.{dictionary_of, static_base_of};
 ghost use Rattle.zcore_standard.specs.Words as definitions;
 ghost use Rattle.machine_frames.specs.Contents.{memory_of};
@@ -9,10 +10,10 @@ ghost use Rattle.machine_frames.specs.Went.{GivenUp, Went};
 ghost use Rattle.machine_lines.specs.Lines.{Filled};
 
 use crate::fill::{are_writable, fill_counted};
-use crate::search::is_dictionary;
 use crate::slots::{SLOTS_LENGTH, Search, slots};
 use journal::{NoMemory, Recorded};
 use machine_frames::{End, Store};
+use tables::is_dictionary;
 use zcore::layout::READABLE;
 use zcore::{Fault, Header, Next, Place};
 
@@ -61,14 +62,15 @@ pub fn tokenise(
 fn search_for(header: &Header, dictionary: u16, flag: u16) -> Search
     ensures dictionary { (memory : _) → header.now.dictionary.address ≡ dictionary_of memory
         → result.dictionary ≡ definitions.dictionary_for memory dictionary }
-    ensures story { result.is_story ≡ true → result.dictionary ≡ header.now.dictionary.address }
+    ensures own { result.is_ordered ≡ true → result.dictionary ≡ header.now.dictionary.address }
+    ensures ordered { result.is_ordered ≡ true → header.now.dictionary.is_ordered ≡ true }
     ensures flag { result.flag ≡ flag }
 {
     let own = header.dictionary.address;
     let address = if dictionary == 0 { own } else { dictionary };
     Search {
         dictionary: address,
-        is_story: address == own,
+        is_ordered: address == own && header.dictionary.is_ordered,
         flag,
     }
 }
@@ -114,8 +116,9 @@ fn fill_slots(
     requires store { IsStoreOf header.now store.old.store }
     requires letters { definitions.has_letters (memory_of store.old.store) text ≡ true }
     requires slots { definitions.has_slots (memory_of store.old.store) parse ≡ true }
-    requires dictionary { definitions.is_dictionary (memory_of store.old.store) search.dictionary ≡ true }
-    requires story { search.is_story ≡ true → search.dictionary ≡ header.now.dictionary.address }
+    requires dictionary { dictionaries.is_dictionary (memory_of store.old.store) search.dictionary ≡ true }
+    requires own { search.is_ordered ≡ true → search.dictionary ≡ header.now.dictionary.address }
+    requires ordered { search.is_ordered ≡ true → header.now.dictionary.is_ordered ≡ true }
     ensures filled { OnOk result (Filled store.old store.new
         (definitions.with_slots (memory_of store.old.store) text parse search.dictionary search.flag)) }
     ensures given_up { OnErr result (GivenUp store.old store.new) }

@@ -4,7 +4,8 @@
 ghost use Rattle.std.specs.Prelude.{◌≡◌, ◌≤◌, ◌+◌, ◌*◌, ◌++◌, ◌∷◌, [], true, length, take};
 ghost use Rattle.zcore.specs.Header.{IsDictionary, static_end};
 ghost use Rattle.zcore.specs.Parsing.{separators_of, first_words};
-ghost use Rattle.zcore_standard.specs.Words.{is_dictionary, slot_bytes, slots_bytes};
+ghost use Rattle.zcore.specs.Dictionary.{is_dictionary};
+ghost use Rattle.zcore_standard.specs.Words.{slot_bytes, slots_bytes};
 ghost use Rattle.tables.specs.Placed.{word_of};
 
 use crate::search::entry_with_form;
@@ -18,8 +19,8 @@ pub(crate) const SLOTS_LENGTH: usize = 4 * 255;
 pub(crate) struct Search {
     /// The address of a dictionary that can be read.
     pub(crate) dictionary: u16,
-    /// Whether it is the story's own, whose entries are in order.
-    pub(crate) is_story: bool,
+    /// Whether it is known to be in order, and can be searched by halving.
+    pub(crate) is_ordered: bool,
     /// Not 0 where a word that is not found leaves its slot as it is.
     pub(crate) flag: u16,
 }
@@ -36,7 +37,7 @@ pub(crate) fn slots(
     bytes: &mut [u8; 1020],
 ) -> u8
     requires readable { is_dictionary memory.now search.dictionary ≡ true }
-    requires ordered { search.is_story ≡ true → IsDictionary memory.now search.dictionary }
+    requires ordered { search.is_ordered ≡ true → IsDictionary memory.now search.dictionary }
     requires few { length letters.now ≤ 255 }
     requires room { at + 4 * most ≤ static_end memory.now }
     ensures count { result ≡ length (first_words memory.now search.dictionary letters.now most) }
@@ -77,15 +78,14 @@ fn put_slot(
     bytes: &mut [u8; 1020],
     place: usize,
 )
-    requires readable { is_dictionary memory.now search.dictionary ≡ true }
-    requires ordered { search.is_story ≡ true → IsDictionary memory.now search.dictionary }
+    requires ordered { search.is_ordered ≡ true → IsDictionary memory.now search.dictionary }
     requires slot { at + 4 ≤ static_end memory.now }
     requires room { place + 4 ≤ 1020 }
     requires within { word.place + length word.bytes.now ≤ 255 }
     ensures { take (place + 4) bytes.new ≡ take place bytes.old
         ++ slot_bytes memory.now search.dictionary search.flag at (word_of word.entry) }
 {
-    let entry = entry_with_form(memory, search.dictionary, search.is_story, word.bytes);
+    let entry = entry_with_form(memory, search.dictionary, search.is_ordered, word.bytes);
     if entry == 0 && search.flag != 0 {
         put_four(
             bytes,

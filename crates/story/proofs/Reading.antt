@@ -1,5 +1,5 @@
 -- Stories are read.
-use Rattle.std.proofs.Common.{◌≡◌, inr, ℕ, ◌+◌, ◌*◌, ◌/◌, ◌%◌, ◌^◌, ◌<◌, ◌≤◌, List, ◌++◌, length, drop, Ok, refl, sym}
+use Rattle.std.proofs.Common.{◌≡◌, inr, ℕ, ◌+◌, ◌*◌, ◌/◌, ◌%◌, ◌^◌, ◌<◌, ◌≤◌, List, ◌++◌, length, drop, Ok, true, refl, sym}
 use Rattle.std.proofs.Common.{ap, ◌∙◌, subst, arith}
 use Rattle.std.specs.Prelude.{map, slice_index, sum}
 use Rattle.std.specs.List.{All}
@@ -100,7 +100,13 @@ header_read version p = record {
   abbreviations = 64;
   high_memory = start_place p;
   first_instruction = start_place p;
-  dictionary = record { address = dictionary_place p; separators = 3; entry_length = 9; entries = length p.keys };
+  dictionary = record {
+    address = dictionary_place p;
+    separators = 3;
+    entry_length = 9;
+    entries = length p.keys;
+    is_ordered = true;
+  };
 }
 
 module _ (version : Version) (p : ProgramOf) (story rest : List ℕ) (said : SaysInHeader version p story)
@@ -133,6 +139,7 @@ module _ (version : Version) (p : ProgramOf) (story rest : List ℕ) (said : Say
     separators = sym (separators_are story rest p.keys (dictionary_place p) stands);
     entry_length = sym (entry_length_is story rest p.keys (dictionary_place p) stands);
     entries = sym (entries_are story rest p.keys (dictionary_place p) stands);
+    ordered = (λ h. are_keys_read.dictionary, λ d. refl);
   }
 
   pub is_read : Reads story (Ok (header_read version p))

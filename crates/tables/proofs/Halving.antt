@@ -4,7 +4,8 @@ use Rattle.std.proofs.Common.{sym, ◌∙◌, subst, arith}
 use Rattle.std.proofs.lemmas.Bool.{cases_lt, cases_order, cases_Bool, eqb-true, eqb-false}
 use Rattle.zcore.specs.Header.{entry_length_of, entry_count, first_entry, key_at, AreAscending, IsDictionary}
 use Rattle.tables.specs.declared.dictionary.Entries.{Entries}
-use Rattle.zcore.specs.Dictionary.{entry_in, entry_of}
+use Rattle.zcore.specs.Dictionary.{entry_in}
+use Rattle.zcore.proofs.Searching.{entry_listed}
 use Rattle.tables.specs.Dictionary.{Finds}
 use Rattle.tables.specs.Searched.{AreEntriesAt, IsFoundIn}
 
@@ -134,7 +135,6 @@ entry_is story bytes (suc count) at key result found none = go (entry_is story b
 pub finds : (story : List ℕ) (dictionary key result : ℕ) (entries : Entries) → AreEntriesAt story dictionary entries
     → (AreAscending story entries.first entries.bytes entries.count → IsFoundIn story entries key result)
     → IsDictionary story dictionary → Finds story dictionary key result
-unfolding entry_of
 finds story dictionary key result entries at h d =
     let place : (k : ℕ) → entries.first + k * entries.bytes
     ≡ first_entry story dictionary + k * entry_length_of story dictionary =
@@ -158,5 +158,5 @@ finds story dictionary key result entries at h d =
       found = found;
       none = none;
       entry = entry_is story (entry_length_of story dictionary) (entry_count story dictionary)
-          (first_entry story dictionary) key result found none;
+          (first_entry story dictionary) key result found none ∙ sym (entry_listed story dictionary key d);
     }

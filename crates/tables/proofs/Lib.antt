@@ -1,6 +1,7 @@
 pub mod Runs
 pub mod Cut
 pub mod Halving
+pub mod FirstEntries
 pub mod Written
 pub mod Walking
 pub mod Sizes

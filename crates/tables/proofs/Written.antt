@@ -9,9 +9,11 @@ use Rattle.std.proofs.lemmas.List.{get_or-take, get_or-drop, length-map, get_or_
 use Rattle.byteorder.specs.Endian.{big_from}
 use Rattle.ztext.specs.Bytes.{word_at}
 use Rattle.zcore.specs.Header.{separator_count, entry_length_of, entry_count, first_entry, static_end, key_at}
+use Rattle.zcore.specs.Header.{IsDictionary}
 use Rattle.ztext.specs.Text.{Holds}
 use Rattle.ztext.proofs.Holding.{holds_append}
-use Rattle.zcore.specs.Dictionary.{number_of_key, entry_in, entry_of}
+use Rattle.zcore.specs.Dictionary.{number_of_key, entry_in}
+use Rattle.zcore.proofs.Searching.{entry_listed}
 use Rattle.tables.specs.Dictionary.{head_bytes, entry_bytes, dictionary_bytes, ReadsKeys}
 use Rattle.tables.specs.KeyNumbers.{place_in}
 use Rattle.tables.specs.Laws.{NumbersAreByRank}
@@ -94,7 +96,6 @@ pub reads_back : (story : List ℕ) (at : ℕ) (keys : List (List ℕ)) → AreK
     → IsStrictlyIncreasing (map number_of_key keys) → length keys ≤ 7281
     → Holds story at (dictionary_bytes keys) → at + length (dictionary_bytes keys) ≤ static_end story
     → ReadsKeys story at (map number_of_key keys)
-unfolding entry_of
 reads_back story at keys six ascending few h within =
     let n = length keys in
     let p = holds_append story at (head_bytes n) (flat_map entry_bytes keys) h in
@@ -121,17 +122,19 @@ reads_back story at keys six ascending few h within =
     ≡ slice_index (map number_of_key keys) k =
     λ k lt. ap (λ a. key_at story (a + k * entry_length_of story at)) first
     ∙ ap (λ b. key_at story (at + 7 + k * b)) bytes ∙ entries_read story keys (at + 7) six p.1 k lt in
+    let dictionary : IsDictionary story at = record {
+      whole = rw (first, count, bytes) (omega (arith, within, size));
+      entry_length = rw bytes (omega arith);
+      count = rw count (omega (arith, few));
+      ascending = λ k lt.
+          rw (key k (omega (arith, lt, count)), key (k + 1) (omega (arith, lt, count)))
+          (ascending k (omega (arith, lt, count, length-map keys number_of_key)));
+    } in
     record {
-      dictionary = record {
-        whole = rw (first, count, bytes) (omega (arith, within, size));
-        entry_length = rw bytes (omega arith);
-        count = rw count (omega (arith, few));
-        ascending = λ k lt.
-            rw (key k (omega (arith, lt, count)), key (k + 1) (omega (arith, lt, count)))
-            (ascending k (omega (arith, lt, count, length-map keys number_of_key)));
-      };
+      dictionary = dictionary;
       separators = named;
-      numbers = λ x. ap (λ a. entry_in story a (entry_length_of story at) (entry_count story at) x) first
+      numbers = λ x. entry_listed story at x dictionary
+          ∙ ap (λ a. entry_in story a (entry_length_of story at) (entry_count story at) x) first
           ∙ ap (λ b. entry_in story (at + 7) b (entry_count story at) x) bytes
           ∙ ap (λ c. entry_in story (at + 7) 9 c x) count ∙ numbers_read story keys (at + 7) x six p.1;
     }

@@ -7,4 +7,5 @@ pub mod Found
 pub mod KeyNumbers
 pub mod Dictionary
 pub mod Searched
+pub mod Unordered
 pub mod Laws

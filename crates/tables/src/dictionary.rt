@@ -67,14 +67,14 @@ fn put_entry(bytes: &mut Vec<u8>, key: &[u8; 6]) -> Result<(), TableFault>
     Ok(())
 }
 
-/// The entries of a dictionary that is whole.
+/// The entries of a dictionary.
 #[derive(Clone, Copy)]
-struct Entries {
+pub(crate) struct Entries {
     /// The address of the first.
-    first: usize,
+    pub(crate) first: usize,
     /// The bytes of one.
-    bytes: usize,
-    count: usize,
+    pub(crate) bytes: usize,
+    pub(crate) count: usize,
 }
 
 /// The address of the entry that has the key, or 0 where none has it. It asks nothing of the story:
@@ -90,7 +90,7 @@ pub fn lookup(story: &[u8], dictionary: u16, key: &[u8; 6]) -> u16
 }
 
 /// Where dynamic and static memory end at the latest.
-fn end_of_static(story: &[u8]) -> usize
+pub(crate) fn end_of_static(story: &[u8]) -> usize
     ensures { result ≡ static_end story.now }
 {
     story.len().min(READABLE)
@@ -150,7 +150,7 @@ fn find(story: &[u8], entries: Entries, key: u64) -> u16
 
 /// The six bytes of the key at an address, as a number.
 #[tactic(auto, unfolding(zcore::specs::Header::key_at))]
-fn read_key(story: &[u8], at: usize) -> u64
+pub(crate) fn read_key(story: &[u8], at: usize) -> u64
     requires { at + 6 ≤ length story.now }
     ensures { result ≡ key_at story.now at }
 {

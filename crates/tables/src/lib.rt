@@ -12,6 +12,7 @@ mod link;
 mod objects;
 mod properties;
 mod row;
+mod unordered;
 mod words;
 
 pub use cutting::cut_line;
@@ -28,4 +29,5 @@ pub use properties::{
     ListedProperty, Standing, long_size, property, property_count, search_list, stands_at,
 };
 pub use row::ObjectRow;
+pub use unordered::{find_entry, is_dictionary};
 pub use words::{Word, Words};

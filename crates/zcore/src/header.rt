@@ -111,6 +111,9 @@ pub struct Dictionary {
     pub entry_length: u8,
     /// The number of entries.
     pub entries: u16,
+    /// Whether its entries are whole and in the order of their keys, so that it can be searched by
+    /// halving (section 13.5).
+    pub is_ordered: bool,
 }
 
 impl Header {
@@ -222,8 +225,9 @@ fn is_placed(story: &[u8]) -> bool
 }
 
 impl Dictionary {
-    /// The dictionary at an address, where there is one that can be searched.
-    fn read(story: &[u8], address: u16) -> Option<Dictionary>
+    /// The dictionary at an address, where there is one that can be searched by halving. It takes no
+    /// memory.
+    pub fn read(story: &[u8], address: u16) -> Option<Dictionary>
         ensures { MatchOption result (¬ IsDictionary story.now address)
             (λ dictionary. IsDictionary story.now address
             × IsDictionaryOf story.now address dictionary) }
@@ -253,6 +257,7 @@ impl Dictionary {
                 separators,
                 entry_length,
                 entries,
+                is_ordered: true,
             })
         } else {
             None

@@ -7,7 +7,7 @@ use Rattle.ztext.specs.Alphabets.{spelling_of}
 use Rattle.ztext.specs.Words.{packed}
 use Rattle.zcore.specs.Header.{key_at}
 use Rattle.zcore.specs.Cutting.{words_of}
-use Rattle.zcore.specs.Dictionary.{number_of_key}
+use Rattle.zcore.specs.Dictionary.{number_of_key, entry_of}
 use Rattle.zcore.specs.Parsing.{first_words}
 use Rattle.zcore.specs.State.{State, done}
 use Rattle.zcore.specs.Parts.{fault}
@@ -51,19 +51,19 @@ memory = memory_of_text (codes "take,it")
 -- `take`, the comma and `it` by the story's dictionary
 by_the_story : take 14 (drop 76 (with_slots memory 64 76 100 0))
     ≡ 3 ∷ 3 ∷ 0 ∷ 107 ∷ 4 ∷ 2 ∷ 0 ∷ 0 ∷ 1 ∷ 6 ∷ 0 ∷ 0 ∷ 2 ∷ 7 ∷ []
-unfolding form_of entry_with_form first_words words_of number_of_key key_at packed spelling_of
+unfolding form_of entry_with_form entry_of first_words words_of number_of_key key_at packed spelling_of
 by_the_story = refl
 
 -- with the flag, words that are not found leave their slots
 with_flag : take 14 (drop 76 (with_slots memory 64 76 100 1))
     ≡ 3 ∷ 3 ∷ 0 ∷ 107 ∷ 4 ∷ 2 ∷ 9 ∷ 9 ∷ 9 ∷ 9 ∷ 9 ∷ 9 ∷ 9 ∷ 9 ∷ []
-unfolding form_of entry_with_form first_words words_of number_of_key key_at packed spelling_of
+unfolding form_of entry_with_form entry_of first_words words_of number_of_key key_at packed spelling_of
 with_flag = refl
 
 -- the other dictionary names no separators, and its entries are in no order
 in_no_order : take 10 (drop 76 (with_slots (memory_of_text (codes "it take")) 64 76 113 0))
     ≡ 3 ∷ 2 ∷ 0 ∷ 123 ∷ 2 ∷ 2 ∷ 0 ∷ 117 ∷ 4 ∷ 5 ∷ []
-unfolding form_of entry_with_form first_words words_of number_of_key key_at packed spelling_of
+unfolding form_of entry_with_form entry_of first_words words_of number_of_key key_at packed spelling_of
 in_no_order = refl
 
 -- the memory of the samples, in a state

@@ -7,8 +7,8 @@ use Rattle.zcore.specs.declared.beside.Beside.{Beside}
 use Rattle.zcore.specs.declared.header.Header.{Header}
 use Rattle.zcore.specs.declared.header.HeaderFault.{HeaderFault}
 use Rattle.zcore.specs.declared.header.HeaderFault.TheVariants as causes
-use Rattle.zcore.specs.Header.{HasHeader, IsKnownVersion, IsWithin, IsDictionary, IsHeaderOf, static_end, static_base_of}
-use Rattle.zcore.specs.Header.{globals_of, defaults_of, abbreviations_of, dictionary_of, first_instruction_of}
+use Rattle.zcore.specs.Header.{HasHeader, IsKnownVersion, IsWithin, HasDictionaryHead, IsHeaderOf, static_end}
+use Rattle.zcore.specs.Header.{static_base_of, globals_of, defaults_of, abbreviations_of, dictionary_of, first_instruction_of}
 use Rattle.zcore.specs.Layout.{header_size, globals_size, defaults_size, longest_story}
 use Rattle.zcore.specs.Parts.{scale_in, with_word}
 use Rattle.zcore.specs.Turn.{Play, with_bytes}
@@ -137,11 +137,12 @@ memory_for file = with_header (story_in file)
 abbrev pub is_sum_right : List ℕ → Bool
 is_sum_right story = word_at story 0x1C == sum (drop header_size story) % 65536
 
--- the memory of a story whose header is this, and which can be played
+-- The memory of a story whose header is this, and which can be played. The order and the number of the dictionary's
+-- entries refuse nothing.
 pub record IsPlayable (memory : List ℕ) (header : Header) : Type 0 where
   pub read : IsHeaderOf memory header
   pub placed : IsPlaced memory
-  pub dictionary : IsDictionary memory (dictionary_of memory)
+  pub dictionary : HasDictionaryHead memory (dictionary_of memory)
   pub alphabets : alphabets_of memory ≡ 0
 
 -- the story of a file is whole, and of a version that is played
@@ -157,12 +158,11 @@ IsNotWhole file causes.UnknownVersion = HasHeader file × ¬ IsKnownVersion file
 IsNotWhole file causes.WrongLength = HasHeader file × IsKnownVersion file × ¬ HasStory file
 IsNotWhole file _ = ⊥
 
--- The header of a memory, or the first fact that does not hold. For now a story with alphabets of its own is refused,
--- and one whose dictionary is not in order.
+-- The header of a memory, or the first fact that does not hold. For now a story with alphabets of its own is refused.
 abbrev pub ReadsMemory : List ℕ → Result Header LoadingFault → Type 0
 ReadsMemory memory (Ok header) = IsPlayable memory header
 ReadsMemory memory (Err (faults.Header causes.WrongAddress)) =
-    ¬ (IsPlaced memory × IsDictionary memory (dictionary_of memory))
+    ¬ (IsPlaced memory × HasDictionaryHead memory (dictionary_of memory))
 ReadsMemory memory (Err faults.OwnAlphabets) = alphabets_of memory ≢ 0
 ReadsMemory memory (Err _) = ⊥
 

@@ -1,16 +1,15 @@
 -- Words of a text, and their form in a dictionary (Z-Machine Standards Document 1.1, section 13, and section 15,
 -- `tokenise` and `encode_text`).
-use Rattle.std.specs.Prelude.{◌==◌, ◌&&◌, ◌||◌, ◌+◌, ◌-◌, ◌*◌, ◌/◌, ◌%◌, ℕ, nat_le, Bool, if◌then◌else◌}
+use Rattle.std.specs.Prelude.{◌==◌, ◌&&◌, ◌||◌, ◌+◌, ◌*◌, ◌/◌, ◌%◌, ℕ, nat_le, Bool, if◌then◌else◌}
 use Rattle.std.specs.Prelude.{List, [], ◌∷◌, ◌++◌, length, take, replicate, slice_index, slice_range}
 use Rattle.zcore.specs.declared.next.Next.{Next}
 use Rattle.zcore.specs.declared.place.Fault.TheVariants as faults
 use Rattle.ztext.specs.Alphabets.{spelled}
 use Rattle.ztext.specs.Words.{packed}
-use Rattle.zcore.specs.Arithmetic.{magnitude}
-use Rattle.zcore.specs.Header.{dictionary_of, static_base_of, static_end, entry_length_of, entry_count, first_entry}
-use Rattle.zcore.specs.Layout.{header_size, key_size}
+use Rattle.zcore.specs.Header.{dictionary_of, static_base_of, static_end}
+use Rattle.zcore.specs.Layout.{header_size}
 use Rattle.zcore.specs.Cutting.{Word}
-use Rattle.zcore.specs.Dictionary.{number_of_key, entry_in}
+use Rattle.zcore.specs.Dictionary.{number_of_key, entry_of, is_dictionary}
 use Rattle.zcore.specs.Parsing.{first_words}
 use Rattle.zcore.specs.State.{State, Out, done, ◌>>=◌}
 use Rattle.zcore.specs.Parts.{test, fault, goes_on}
@@ -35,21 +34,6 @@ form_of word = packed (take 9 (spelled word ++ replicate 9 5))
 abbrev pub dictionary_for : List ℕ → ℕ → ℕ
 dictionary_for memory dictionary = if dictionary == 0 then dictionary_of memory else dictionary
 
--- how many entries a dictionary has; a negative number is of entries in no order
-abbrev pub entries_in : List ℕ → ℕ → ℕ
-entries_in memory dictionary = magnitude (entry_count memory dictionary)
-
--- where the key of the last entry ends
-abbrev pub keys_end : List ℕ → ℕ → ℕ
-keys_end memory dictionary =
-    first_entry memory dictionary + (entries_in memory dictionary - 1) * entry_length_of memory dictionary + key_size
-
--- whether a dictionary can be read: what comes before its entries, and the key of each
-abbrev pub is_dictionary : List ℕ → ℕ → Bool
-is_dictionary memory dictionary =
-    nat_le (first_entry memory dictionary) (static_end memory)
-    && ((entries_in memory dictionary == 0) || nat_le (keys_end memory dictionary) (static_end memory))
-
 unfoldable pub test_dictionary : ℕ → State → Out (Unit {0})
 test_dictionary dictionary s = test (is_dictionary s.memory (dictionary_for s.memory dictionary)) faults.Read s
 
@@ -73,9 +57,7 @@ test_slots parse s = test (has_slots s.memory parse) faults.Buffer s
 
 -- the address of the first entry that has the form of a word, or 0
 unfoldable pub entry_with_form : List ℕ → ℕ → List ℕ → ℕ
-entry_with_form memory dictionary word =
-    entry_in memory (first_entry memory dictionary) (entry_length_of memory dictionary) (entries_in memory dictionary)
-    (number_of_key (form_of word))
+entry_with_form memory dictionary word = entry_of memory dictionary (number_of_key (form_of word))
 
 -- the four bytes of a word: the address of its entry, its length, and its place in the text buffer
 abbrev pub four_bytes : ℕ → Word → List ℕ

@@ -1,15 +1,14 @@
 //! Whether the addresses that a header names lie where they have to.
 
-ghost use Rattle.std.specs.Prelude.{◌≡◌, ◌+◌, ◌*◌, ◌<◌, ◌≤◌, ◌↔◌, IsTrue, MatchOption, length};
-ghost use Rattle.zcore.specs.Header.{HasHeader, IsDictionary, IsDictionaryOf, IsWithin, AreAscending, key_at, static_end};
+ghost use Rattle.std.specs.Prelude.{◌≡◌, ◌+◌, ◌*◌, ◌≤◌, ◌↔◌, IsTrue, MatchOption};
+ghost use Rattle.zcore.specs.Header.{HasDictionaryHead, HasHeader, IsDictionary, IsDictionaryOf, IsWithin, static_end};
 ghost use Rattle.zcore_standard.specs.Loading as definitions;
 ghost use Rattle.zcore_standard.specs.Loading.{IsPlaced, IsTable, IsExtension, IsUnicode};
 
-use byteorder::{BigEndian, ByteOrder};
 use zcore::Dictionary;
 use zcore::layout::{
     ABBREVIATIONS_WORD, DEFAULTS_LENGTH, DEFAULTS_WORD, DICTIONARY_WORD, FIRST_INSTRUCTION_WORD,
-    GLOBAL_COUNT, GLOBALS_WORD, HEADER_LENGTH, KEY_LENGTH, READABLE, STATIC_BASE_WORD,
+    GLOBAL_COUNT, GLOBALS_WORD, HEADER_LENGTH, READABLE, STATIC_BASE_WORD,
 };
 use ztext::{MOST_ABBREVIATIONS, read_word};
 
@@ -21,9 +20,6 @@ const GLOBALS_LENGTH: usize = 2 * GLOBAL_COUNT;
 
 /// So are addresses of abbreviations (section 3.3).
 const ABBREVIATIONS_LENGTH: usize = 2 * MOST_ABBREVIATIONS;
-
-/// An entry of a dictionary begins with a key.
-const SHORTEST_ENTRY: u8 = KEY_LENGTH as u8;
 
 /// The word of the extension that is the address of the Unicode table (section 11.1.7).
 const UNICODE_TABLE: u16 = 3;
@@ -121,10 +117,10 @@ pub(crate) fn is_placed(story: &[u8]) -> bool
         && has_unicode(story)
 }
 
-/// The dictionary at an address, where there is one that can be searched.
+/// The dictionary at an address, where what comes before its entries can be read.
 pub(crate) fn read_dictionary(story: &[u8], address: u16) -> Option<Dictionary>
-    ensures { MatchOption result (¬ IsDictionary story.now address)
-        (λ dictionary. IsDictionary story.now address
+    ensures { MatchOption result (¬ HasDictionaryHead story.now address)
+        (λ dictionary. HasDictionaryHead story.now address
         × IsDictionaryOf story.now address dictionary) }
 {
     let end = end_of_static(story);
@@ -134,51 +130,21 @@ pub(crate) fn read_dictionary(story: &[u8], address: u16) -> Option<Dictionary>
     }
     let separators = story[start];
     let lengths = start + 1 + usize::from(separators);
-    let first_entry = lengths + 3;
-    if first_entry > end {
+    if lengths + 3 > end {
         return None;
     }
-    let entry_length = story[lengths];
-    let entries = read_word(story, lengths + 1);
-    let bytes = usize::from(entry_length);
-    let count = usize::from(entries);
-    // Entries of six bytes that end by address 65,536 are too few for a negative count.
-    if first_entry + count * bytes <= end
-        && entry_length >= SHORTEST_ENTRY
-        && are_ascending(story, first_entry, bytes, count)
-    {
-        Some(Dictionary {
-            address,
-            separators,
-            entry_length,
-            entries,
-        })
-    } else {
-        None
-    }
+    Some(Dictionary {
+        address,
+        separators,
+        entry_length: story[lengths],
+        entries: read_word(story, lengths + 1),
+        is_ordered: is_ordered(story, address),
+    })
 }
 
-/// Whether so many entries, the first at an address and each of so many bytes, have keys each above
-/// the one before it.
-fn are_ascending(story: &[u8], first: usize, bytes: usize, entries: usize) -> bool
-    requires whole { first + entries * bytes ≤ length story.now }
-    requires key { 6 ≤ bytes }
-    ensures { IsTrue result ↔ AreAscending story.now first bytes entries }
+/// Whether the dictionary at an address can be searched by halving.
+fn is_ordered(story: &[u8], address: u16) -> bool
+    ensures { IsTrue result ↔ IsDictionary story.now address }
 {
-    for entry in 1..entries {
-        let before = first + (entry - 1) * bytes;
-        if read_key(story, before) >= read_key(story, before + bytes) {
-            return false;
-        }
-    }
-    true
-}
-
-/// The six bytes of the key at an address, as a number.
-#[tactic(auto, unfolding(zcore::specs::Header::key_at))]
-fn read_key(story: &[u8], at: usize) -> u64
-    requires { at + 6 ≤ length story.now }
-    ensures { result ≡ key_at story.now at }
-{
-    BigEndian::read_u48(&story[at..])
+    Dictionary::read(story, address).is_some()
 }

@@ -1,9 +1,25 @@
-use Rattle.std.proofs.Common.{◌≡◌, ◌*◌, ap, ◌∙◌, arith, length, slice_index}
+use Rattle.std.proofs.Common.{◌≡◌, ◌*◌, ap, sym, subst, ◌∙◌, arith, length, slice_index}
 use Rattle.std.proofs.lemmas.List.{length-take-le}
+use Rattle.zcore.specs.Header.{HasDictionaryHead, IsDictionary}
 use Rattle.machine_frames.specs.Contents.{memory_of}
 use Rattle.machine_lines.proofs.Lines.{base_kept}
 use Rattle.machine_lines.proofs.Buffers.{line_filled}
 use Rattle.machine_lines.proofs.line.fill_buffers.Goals as goal
+
+pub parse-words-requires-clause-head : goal.parse-words-requires-clause-head
+parse-words-requires-clause-head c =
+    let headed = c.requires.store.headed in
+    subst (λ m. HasDictionaryHead m c.args.header.now.dictionary.address)
+    (sym (c.memory-memory.ensures ∙ ap memory_of c.store.ensures))
+    (subst (HasDictionaryHead (memory_of c.args.store.now.store)) (sym headed.dictionary) headed.head)
+
+pub parse-words-requires-clause-ordered : goal.parse-words-requires-clause-ordered
+parse-words-requires-clause-ordered c =
+    let headed = c.requires.store.headed in
+    λ ordered.
+    subst (λ m. IsDictionary m c.args.header.now.dictionary.address)
+    (sym (c.memory-memory.ensures ∙ ap memory_of c.store.ensures))
+    (subst (IsDictionary (memory_of c.args.store.now.store)) (sym headed.dictionary) (headed.searchable ordered))
 
 pub fill_counted-requires-3-clause-room : goal.fill_counted-requires-3-clause-room
 fill_counted-requires-3-clause-room c =

@@ -11,5 +11,5 @@ returns c =
     four_written c.args.bytes.now c.args.at _ _ _ _ (omega (arith, c.requires.room, c.told-bytes))
     ∙ ap (λ x. take c.args.at c.args.bytes.now ++ (x / 256) ∷ (x % 256) ∷ length w.bytes.now ∷ ((w.place + 2) % 256)
     ∷ [])
-    ((c.lookup-entry.ensures c.requires.dictionary).entry
+    (c.find_entry-entry.ensures
     ∙ ap (λ k. entry_of c.args.memory.now c.args.dictionary (number_of_key k)) c.word_key.ensures)

@@ -1,5 +1,6 @@
-use Rattle.std.proofs.Common.{◌≡◌, ◌*◌, ap, ◌∙◌, arith, length, slice_index}
+use Rattle.std.proofs.Common.{◌≡◌, ◌*◌, ap, sym, subst, ◌∙◌, arith, length, slice_index}
 use Rattle.std.proofs.lemmas.List.{length-take-le}
+use Rattle.zcore.specs.Header.{IsDictionary}
 use Rattle.machine_frames.specs.Contents.{memory_of}
 use Rattle.machine_frames.proofs.Kept.{length-memory}
 use Rattle.machine_standard_words.proofs.Tokens.{slots_numbers, slots_filled}
@@ -31,6 +32,15 @@ slots-words-requires-clause-room c =
       ap length is,
       length-memory s c.requires.store.sound,
     )
+
+pub slots-words-requires-clause-ordered : goal.slots-words-requires-clause-ordered
+slots-words-requires-clause-ordered c =
+    let headed = c.requires.store.headed in
+    λ ordered.
+    subst (λ m. IsDictionary m c.args.search.dictionary)
+    (sym (c.memory-memory.ensures ∙ ap memory_of c.store.ensures))
+    (subst (IsDictionary (memory_of c.args.store.now.store)) (sym (c.requires.own ordered ∙ headed.dictionary))
+    (headed.searchable (c.requires.ordered ordered)))
 
 pub fill_counted-requires-clause-behind_header : goal.fill_counted-requires-clause-behind_header
 fill_counted-requires-clause-behind_header c =

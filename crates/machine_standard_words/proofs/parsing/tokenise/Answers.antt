@@ -1,5 +1,6 @@
 use Rattle.std.proofs.Common.{ap, ◌∙◌, sym, subst}
-use Rattle.zcore_standard.specs.Words.{has_letters, has_slots, is_dictionary, dictionary_for, with_slots}
+use Rattle.zcore.specs.Dictionary.{is_dictionary}
+use Rattle.zcore_standard.specs.Words.{has_letters, has_slots, dictionary_for, with_slots}
 use Rattle.machine_frames.specs.Contents.{memory_of}
 use Rattle.machine_lines.specs.Lines.{Filled}
 use Rattle.machine_standard_words.proofs.Tokens.{no_letters, no_slots, no_dictionary, tokens_filled}

@@ -1,8 +1,8 @@
--- What the search of a dictionary goes over.
+-- What the search of a dictionary goes over whose entries are in any order.
 use Rattle.std.specs.Prelude.{◌≡◌, ◌+◌, ◌*◌, ◌<◌, ◌≤◌, ℕ, nat_le, true, false, List}
 use Rattle.zcore.specs.Header.{entry_length_of, entry_count, first_entry, static_end}
-use Rattle.zcore_standard.specs.Words.{entries_in, is_dictionary}
-use Rattle.machine_standard_words.specs.declared.search.Entries.{Entries}
+use Rattle.zcore.specs.Dictionary.{entries_in, is_dictionary}
+use Rattle.tables.specs.declared.dictionary.Entries.{Entries}
 
 -- what comes before the entries of the dictionary at an address
 pub record IsHeadOf (memory : List ℕ) (dictionary : ℕ) (head : Entries) : Type 0 where

@@ -1,14 +1,12 @@
 -- The search of entries, one after the other.
-use Rattle.std.proofs.Common.{◌≡◌, ◌≢◌, ◌==◌, ℕ, zero, suc, ◌+◌, ◌-◌, ◌*◌, ◌<◌, ◌≤◌, List, true, false, refl, sym, ap, ◌∙◌, arith}
-use Rattle.std.proofs.lemmas.Bool.{eq-eqb, ne_eqb, lt-leb}
+use Rattle.std.proofs.Common.{◌≡◌, ◌≢◌, ◌==◌, ℕ, zero, suc, ◌+◌, ◌-◌, ◌*◌, ◌<◌, ◌≤◌, List, true, false, refl, sym, ap}
+use Rattle.std.proofs.Common.{◌∙◌, arith}
+use Rattle.std.proofs.lemmas.Bool.{eq-eqb, ne_eqb}
 use Rattle.std.proofs.Math.Nat.{suc-mul}
-use Rattle.zcore.specs.Arithmetic.{is_negative}
-use Rattle.zcore.specs.Dictionary.{number_of_key, entry_in, entry_of}
-use Rattle.zcore.specs.Header.{key_at, entry_count, entry_length_of, first_entry, IsDictionary}
-use Rattle.tables.specs.Dictionary.{Finds}
-use Rattle.zcore_standard.specs.Words.{form_of, entries_in, entry_with_form}
-use Rattle.machine_standard_words.specs.declared.search.Entries.{Entries}
-use Rattle.machine_standard_words.specs.Searched.{AreEntriesOf}
+use Rattle.zcore.specs.Dictionary.{entry_in, entry_of, entries_in, is_dictionary}
+use Rattle.zcore.specs.Header.{key_at, entry_length_of, first_entry}
+use Rattle.tables.specs.declared.dictionary.Entries.{Entries}
+use Rattle.tables.specs.Unordered.{AreEntriesOf}
 
 entry_here : (memory : List ℕ) (at bytes count key : ℕ) → 0 < count → (key_at memory at == key) ≡ true
     → entry_in memory at bytes count key ≡ at
@@ -58,31 +56,21 @@ none_left memory first bytes count key k all left =
     let e : count - k ≡ 0 = omega (arith, all) in
     sym (left ∙ ap (λ n. entry_in memory (first + k * bytes) bytes n key) e)
 
--- A dictionary that was tested at loading has no negative number of entries.
-pub entry_of_story : (memory : List ℕ) (dictionary : ℕ) (form word : List ℕ) (result : ℕ)
-    → IsDictionary memory dictionary → Finds memory dictionary (number_of_key form) result → form ≡ form_of word
-    → result ≡ entry_with_form memory dictionary word
-unfolding entry_with_form entry_of
-entry_of_story memory dictionary form word result is finds e =
-    let positive : is_negative (entry_count memory dictionary) ≡ false = lt-leb 32768 (entry_count memory dictionary)
-    (omega (arith, is.count)) in
-    let same : entry_count memory dictionary ≡ entries_in memory dictionary = rw positive refl in
-    finds.entry
-    ∙ ap (λ n. entry_in memory (first_entry memory dictionary) (entry_length_of memory dictionary) n
-    (number_of_key form)) same
-    ∙ ap (λ f. entry_in memory (first_entry memory dictionary) (entry_length_of memory dictionary)
-    (entries_in memory dictionary) (number_of_key f)) e
+-- The entry that the definition gives
 
-pub entry_found : (memory : List ℕ) (dictionary : ℕ) (entries : Entries) (form word : List ℕ) (key result : ℕ)
-    → AreEntriesOf memory dictionary entries → key ≡ number_of_key form → form ≡ form_of word
-    → result ≡ entry_in memory entries.first entries.bytes entries.count key
-    → result ≡ entry_with_form memory dictionary word
-unfolding entry_with_form
-entry_found memory dictionary entries form word key result are number e found =
-    found
-    ∙ ap (λ n. entry_in memory entries.first entries.bytes entries.count n) (number ∙ ap number_of_key e)
-    ∙ ap (λ a. entry_in memory a entries.bytes entries.count (number_of_key (form_of word))) are.first
-    ∙ ap (λ b. entry_in memory (first_entry memory dictionary) b entries.count (number_of_key (form_of word)))
-    are.bytes
-    ∙ ap (λ n. entry_in memory (first_entry memory dictionary) (entry_length_of memory dictionary) n
-    (number_of_key (form_of word))) are.count
+pub first_found : (story : List ℕ) (dictionary : ℕ) (entries : Entries) (key number result : ℕ)
+    → AreEntriesOf story dictionary entries → key ≡ number
+    → result ≡ entry_in story entries.first entries.bytes entries.count key
+    → result ≡ entry_of story dictionary number
+unfolding entry_of
+first_found story dictionary entries key number result are is found =
+    rw are.readable (found
+    ∙ ap (entry_in story entries.first entries.bytes entries.count) is
+    ∙ ap (λ a. entry_in story a entries.bytes entries.count number) are.first
+    ∙ ap (λ b. entry_in story (first_entry story dictionary) b entries.count number) are.bytes
+    ∙ ap (λ n. entry_in story (first_entry story dictionary) (entry_length_of story dictionary) n number) are.count)
+
+pub none_readable : (story : List ℕ) (dictionary number : ℕ) → is_dictionary story dictionary ≡ false
+    → 0 ≡ entry_of story dictionary number
+unfolding entry_of
+none_readable story dictionary number none = rw none refl
