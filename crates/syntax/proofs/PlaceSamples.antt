@@ -8,6 +8,7 @@ use Rattle.syntax_lexer.specs.declared.token.Word.TheVariants as w
 use Rattle.syntax_lexer.specs.Token.{Lexeme, name, number, reserved, sign, end}
 use Rattle.syntax_parsing.specs.Stop.{unfit, deep}
 use Rattle.syntax_parsing.specs.Parse as tokens
+use Rattle.syntax_expression_parts.specs.Parse as operands
 use Rattle.syntax_expressions.specs.Parse as expressions
 use Rattle.syntax_statement_parts.specs.Nesting as cases
 use Rattle.syntax_statement_parts.specs.Parse as parts
@@ -118,15 +119,15 @@ stand : StandsAt else_alone 3 × StandsAt default_again 10 × StandsAt case_behi
     × StandsAt value_alone 12 × StandsAt hundred_deep 206
     × IsDeepAt parentheses 103 × IsDeepAt operators 104 × IsDeepAt braces 53
 unfolding tokens.expect tokens.expect_word tokens.further tokens.list tokens.as_long tokens.repeated
-    expressions.array_at expressions.expect_name expressions.chain expressions.property_next expressions.properties
-    expressions.entry_of expressions.lengthened expressions.tested_next expressions.suffixed expressions.after_name
-    expressions.enclosed expressions.related expressions.atom expressions.primary expressions.stepped
-    expressions.unary expressions.entry expressions.owned expressions.unindexed expressions.indexed
-    expressions.complemented expressions.product expressions.sum expressions.equated expressions.compared
-    expressions.comparison expressions.negated expressions.condition expressions.assigned expressions.assignment
-    expressions.expression expressions.called expressions.nested cases.begins_case parts.flag parts.flags
-    parts.known_value parts.range parts.ranges parts.cast parts.value parts.item parts.items parts.enclosed_condition
-    parts.optional parts.optional_effect parts.heading parts.looped parts.enclosed_heading parts.enclosed_loop
+    operands.array_at operands.expect_name operands.property_next operands.properties operands.entry_of
+    operands.lengthened operands.tested_next operands.suffixed expressions.chain expressions.after_name
+    expressions.enclosed expressions.related expressions.atom expressions.primary expressions.stepped expressions.unary
+    expressions.entry expressions.owned expressions.unindexed expressions.indexed expressions.complemented
+    expressions.product expressions.sum expressions.equated expressions.compared expressions.comparison
+    expressions.negated expressions.condition expressions.assigned expressions.assignment expressions.expression
+    expressions.called expressions.nested cases.begins_case parts.flag parts.flags parts.known_value parts.range
+    parts.ranges parts.cast parts.value parts.item parts.items parts.enclosed_condition parts.optional
+    parts.optional_effect parts.heading parts.looped parts.enclosed_heading parts.enclosed_loop
     beginnings.begins_statement statements.ended statements.line_read statements.printed
     statements.returned statements.given statements.moved statements.removed statements.alone statements.entered
     statements.braced statements.otherwise statements.one_case statements.cases statements.choice

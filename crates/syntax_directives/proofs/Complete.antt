@@ -8,7 +8,7 @@ use Rattle.syntax_trees.specs.Tree.{NameTree}
 use Rattle.syntax_parsing.specs.Stop.{Stop}
 use Rattle.syntax_parsing.specs.Parse.{head, expect}
 use Rattle.syntax_expressions.proofs.Limited.{Limited, then, at_once}
-use Rattle.syntax_expressions.specs.Parse.{expect_name}
+use Rattle.syntax_expression_parts.specs.Parse.{expect_name}
 use Rattle.syntax_statement_parts.specs.Tree.{LiteralTree}
 use Rattle.syntax_statement_parts.specs.Parse.{known_value, begins_value}
 use Rattle.syntax_statements.specs.Tree.{StatementTrees}

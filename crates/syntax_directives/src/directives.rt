@@ -9,7 +9,7 @@ use crate::objects::object;
 use crate::parts;
 use crate::routines::routine;
 use crate::tree::Directive;
-use syntax_expressions::expect_name;
+use syntax_expression_parts::expect_name;
 use syntax_lexer::{Kind, Sign, Word};
 use syntax_parsing::{Fault, ParseError, Parser, expect, fault_at, is_sign, pass, peek};
 use syntax_statement_parts::{begins_value, known_value};

@@ -5,7 +5,7 @@ ghost use Rattle.syntax_trees.specs.Views.{name_tree};
 ghost use Rattle.syntax_parsing.specs.Returned.{ahead, Takes};
 ghost use Rattle.syntax_directives.specs.Parse as spec;
 
-use syntax_expressions::name_of;
+use syntax_expression_parts::name_of;
 use syntax_parsing::{Fault, ParseError, Parser, fault_at, pass, peek};
 use syntax_trees::Name;
 

@@ -12,7 +12,7 @@ use crate::names::names;
 use crate::parts::in_box;
 use crate::tree::{Directive, Routine};
 use crate::weight::weight_before;
-use syntax_expressions::expect_name;
+use syntax_expression_parts::expect_name;
 use syntax_lexer::Sign;
 use syntax_parsing::{ParseError, Parser, expect, pass};
 use syntax_statements::{Statement, statements};

@@ -18,14 +18,13 @@ use Rattle.syntax_trees.specs.Tree.{step_after, compare, equal, contained, teste
 use Rattle.syntax_trees.specs.Views.{trees_of}
 use Rattle.syntax_parsing.specs.Stop.{Stop}
 use Rattle.syntax_parsing.specs.Parse.{◌>>=◌, head, is_sign, is_word, expect, list}
-use Rattle.syntax_expressions.specs.Operators.{logical, comparing, equating, containing, testing, adding, scaling}
-use Rattle.syntax_expressions.specs.Operators.{stepping, prefixes, relating, indexing}
-use Rattle.syntax_expressions.specs.Nesting.{begins_expression}
+use Rattle.syntax_expression_parts.specs.Operators.{logical, comparing, equating, containing, testing, adding, scaling}
+use Rattle.syntax_expression_parts.specs.Operators.{stepping, prefixes, relating, indexing, begins_expression}
 use Rattle.syntax_expressions.specs.Parse.{assignment, compared, whole, negation, complement, prefix, operand}
-use Rattle.syntax_expressions.specs.Parse.{arguments, expect_name, entry_of, lengthened, tested_next, nested}
-use Rattle.syntax_expressions.specs.Parse.{after_name, enclosed, related, atom, primary, suffixed, stepped, unary}
-use Rattle.syntax_expressions.specs.Parse.{array_at, entry, owned, unindexed, indexed, complemented, product, sum}
-use Rattle.syntax_expressions.specs.Parse.{equated, comparison, negated, condition, assigned, expression, called}
+use Rattle.syntax_expressions.specs.Parse.{arguments, nested, after_name, enclosed, related, atom, primary, stepped}
+use Rattle.syntax_expressions.specs.Parse.{unary, entry, owned, unindexed, indexed, complemented, product, sum, equated}
+use Rattle.syntax_expressions.specs.Parse.{comparison, negated, condition, assigned, expression, called}
+use Rattle.syntax_expression_parts.specs.Parse.{expect_name, entry_of, lengthened, tested_next, suffixed, array_at}
 use Rattle.syntax_expressions.proofs.Limited.{Limited, bound, then, at_once, same, Chained, begins}
 use Rattle.syntax_expressions.proofs.Properties.{Owned, owner_begins, owner_stops}
 use Rattle.syntax_expressions.proofs.Follow.{Stops, equating_only, containing_only, testing_only, stepping_only}

@@ -1,44 +1,17 @@
--- Where an array's entry stands, and where none does.
-use Rattle.std.proofs.Common.{◌≡◌, false, List, Option, Some, None, refl}
+-- Where no array's entry stands, by what derives.
+use Rattle.std.proofs.Common.{◌≡◌, false, List, Some, None, refl}
 use Rattle.syntax_lexer.specs.declared.token.Sign.TheVariants as s
-use Rattle.syntax_lexer.specs.Token.{Lexeme, name, sign}
-use Rattle.syntax_trees.specs.declared.tree.Name.{Name}
+use Rattle.syntax_lexer.specs.Token.{Lexeme, sign}
 use Rattle.syntax_trees.specs.declared.tree.Step.{Step}
-use Rattle.syntax_trees.specs.declared.tree.Width.{Width}
 use Rattle.syntax_trees.specs.Tree.{ExpressionTree}
-use Rattle.syntax_trees.specs.Views.{name_tree}
-use Rattle.syntax_parsing.specs.Parse.{head, tail}
-use Rattle.syntax_expressions.specs.Operators.{stepping, indexing}
-use Rattle.syntax_expressions.specs.Parse.{is_name, array_of, array_at}
+use Rattle.syntax_parsing.specs.Parse.{head}
+use Rattle.syntax_expression_parts.specs.Operators.{stepping, indexing}
+use Rattle.syntax_expression_parts.specs.Parse.{is_name, array_at}
+use Rattle.syntax_expression_parts.proofs.Arrays.{array_no_name, no_arrow}
 use Rattle.syntax_expressions.specs.Grammar.{IsU, u_plain, u_minus, u_before, u_after, u_length, IsP, p_property}
 use Rattle.syntax_expressions.specs.Grammar.{p_number, p_character, p_word, p_true, p_false, p_nothing, p_name, p_call}
 use Rattle.syntax_expressions.specs.Grammar.{p_call_with, p_relative, p_parenthesised}
 use Rattle.syntax_expressions.proofs.Follow.{Stops, indexing_stops}
-
--- ---- by what the code found
-
-pub array_found : (ts : List Lexeme) (n : Name) (width : Width) → indexing (head (tail ts)) ≡ Some width
-    → head ts ≡ name n.text.now n.position → array_at ts ≡ Some (name_tree n, width)
-unfolding array_at
-array_found ts n width i e = rw (i, e) refl
-
-not_a_name : (t : Lexeme) (o : Option Width) → is_name t ≡ false → array_of t o ≡ None
-not_a_name (name n p) o e = absurd cc
-not_a_name _ o e = refl
-
-pub array_no_name : (ts : List Lexeme) → is_name (head ts) ≡ false → array_at ts ≡ None
-unfolding array_at
-array_no_name ts e = not_a_name (head ts) (indexing (head (tail ts))) e
-
-pub no_arrow : (t : Lexeme) → array_of t None ≡ None
-no_arrow (name n p) = refl
-no_arrow _ = refl
-
-pub array_no_arrow : (ts : List Lexeme) → indexing (head (tail ts)) ≡ None → array_at ts ≡ None
-unfolding array_at
-array_no_arrow ts e = rw e (no_arrow (head ts))
-
--- ---- by what derives
 
 step_no_index : (t : Lexeme) (op : Step) → stepping t ≡ Some op → indexing t ≡ None
 step_no_index (sign s.Increment p) op e = refl

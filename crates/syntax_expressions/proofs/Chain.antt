@@ -1,26 +1,18 @@
 -- The loop over a chain, a turn at a time.
-use Rattle.std.proofs.Common.{◌≡◌, ℕ, zero, suc, ◌+◌, ◌-◌, ◌<◌, ◌≤◌, List, [], ◌∷◌, ◌++◌, length, Option, Some, None}
+use Rattle.std.proofs.Common.{◌≡◌, ℕ, zero, suc, ◌+◌, ◌-◌, ◌<◌, ◌≤◌, List, length, Option, Some, None}
 use Rattle.std.proofs.Common.{Result, Ok, Err, refl, sym, ap, ◌∙◌, arith}
-use Rattle.std.specs.Prelude.{map}
 use Rattle.syntax_lexer.specs.Token.{Lexeme}
 use Rattle.syntax_trees.specs.declared.tree.Binary.{Binary}
-use Rattle.syntax_trees.specs.declared.tree.Expression.{Expression}
 use Rattle.syntax_trees.specs.Tree.{ExpressionTree, binary}
-use Rattle.syntax_trees.specs.Views.{chained, expression_tree, link}
 use Rattle.syntax_parsing.specs.Stop.{Stop, stop_of}
 use Rattle.syntax_parsing.specs.declared.error.ParseError.{ParseError}
 use Rattle.syntax_parsing.specs.declared.error.ParseError.TheVariants as errors
 use Rattle.syntax_parsing.specs.Parse.{◌>>=◌, Fails, Parse, head, tail}
-use Rattle.syntax_expressions.specs.declared.operators.Operators.{Operators}
-use Rattle.syntax_expressions.specs.declared.operators.Operators.TheVariants as operators
+use Rattle.syntax_expression_parts.specs.declared.operators.Operators.{Operators}
+use Rattle.syntax_expression_parts.specs.declared.operators.Operators.TheVariants as operators
 use Rattle.syntax_expressions.specs.Parse.{Level, chain, condition, sum, product}
-use Rattle.syntax_expressions.specs.Levels.{operator_of, operand_of, chain_of}
-
--- one more operator and operand in a chain
-pub chained_push : (e : ExpressionTree) (ls : List (Binary × Expression)) (op : Binary) (x : Expression)
-    → chained e (map link (ls ++ (op, x) ∷ [])) ≡ binary op (chained e (map link ls)) (expression_tree x)
-chained_push e [] op x = refl
-chained_push e (l ∷ ls) op x = chained_push (binary l.0 e (expression_tree l.1)) ls op x
+use Rattle.syntax_expression_parts.specs.Levels.{operator_of}
+use Rattle.syntax_expressions.specs.Levels.{operand_of, chain_of}
 
 module _ (ops : Lexeme → Option Binary) (p : Parse ExpressionTree) where
   pub chain_stop : (n : ℕ) (left : ExpressionTree) (ts : List Lexeme) → ops (head ts) ≡ None

@@ -2,23 +2,21 @@
 use Rattle.std.proofs.Common.{◌≡◌, ℕ, ◌<◌, true, List, None, refl, arith}
 use Rattle.syntax_lexer.specs.Token.{Lexeme}
 use Rattle.syntax_parsing.specs.Parse.{head}
-use Rattle.syntax_expressions.specs.Nesting.{begins_expression, DeepE, deep_e_left, deep_e_first, deep_e_right}
-use Rattle.syntax_expressions.specs.Nesting.{DeepE1}
-use Rattle.syntax_expressions.specs.Nesting.{deep_e1_first, deep_e1_next, DeepN1, deep_n1_plain, deep_n1_not}
-use Rattle.syntax_expressions.specs.Nesting.{deep_n1_in, DeepE2, deep_e2_left, deep_e2_compare, deep_e2_equal}
-use Rattle.syntax_expressions.specs.Nesting.{deep_e2_contained, DeepE3}
+use Rattle.syntax_expression_parts.specs.Operators.{begins_expression}
+use Rattle.syntax_expressions.specs.Nesting.{DeepE, deep_e_left, deep_e_first, deep_e_right, DeepE1, deep_e1_first}
+use Rattle.syntax_expressions.specs.Nesting.{deep_e1_next, DeepN1, deep_n1_plain, deep_n1_not, deep_n1_in, DeepE2}
+use Rattle.syntax_expressions.specs.Nesting.{deep_e2_left, deep_e2_compare, deep_e2_equal, deep_e2_contained, DeepE3}
 use Rattle.syntax_expressions.specs.Nesting.{deep_e3_first, deep_e3_next, DeepE4, deep_e4_first, deep_e4_next, DeepN4}
 use Rattle.syntax_expressions.specs.Nesting.{deep_n4_plain, deep_n4_complement, deep_n4_in, DeepE5, deep_e5_plain}
 use Rattle.syntax_expressions.specs.Nesting.{deep_e5_index, deep_e5_entry, DeepU, deep_u_plain, deep_u_minus}
 use Rattle.syntax_expressions.specs.Nesting.{deep_u_minus_in, deep_u_before, deep_u_before_in, DeepP, deep_p_call}
-use Rattle.syntax_expressions.specs.Nesting.{deep_p_arguments, deep_p_relative, deep_p_relative_in}
-use Rattle.syntax_expressions.specs.Nesting.{deep_p_parenthesis}
+use Rattle.syntax_expressions.specs.Nesting.{deep_p_arguments, deep_p_relative, deep_p_relative_in, deep_p_parenthesis}
 use Rattle.syntax_expressions.specs.Nesting.{deep_p_in, DeepArguments, deep_arguments_first, deep_arguments_next}
-use Rattle.syntax_expressions.specs.Parse.{array_at}
+use Rattle.syntax_expression_parts.specs.Parse.{array_at}
 use Rattle.syntax_expressions.proofs.Begins.{begins}
 use Rattle.syntax_expressions.proofs.Begins.{begins_any, step_begins, relating_begins}
 use Rattle.syntax_expressions.proofs.Begins.{begin_P, begin_E1, begin_E3, begin_E4, begin_E}
-use Rattle.syntax_expressions.proofs.Arrays.{no_arrow}
+use Rattle.syntax_expression_parts.proofs.Arrays.{no_arrow}
 
 -- ---- the token with which what is read begins
 

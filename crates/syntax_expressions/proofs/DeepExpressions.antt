@@ -14,28 +14,23 @@ use Rattle.syntax_trees.specs.Tree.{NameTree, ExpressionTree, index, relative_of
 use Rattle.syntax_trees.specs.Tree.{contained, call}
 use Rattle.syntax_trees.specs.Views.{trees_of}
 use Rattle.syntax_parsing.specs.Parse.{◌>>=◌, head, is_sign, is_word, expect, list}
-use Rattle.syntax_expressions.specs.Operators.{comparing, equating, containing, stepping}
-use Rattle.syntax_expressions.specs.Operators.{prefixes, relating, indexing}
-use Rattle.syntax_expressions.specs.Nesting.{begins_expression, DeepE, deep_e_left, deep_e_first, deep_e_right}
-use Rattle.syntax_expressions.specs.Nesting.{DeepE1}
-use Rattle.syntax_expressions.specs.Nesting.{deep_e1_first, deep_e1_next, DeepN1, deep_n1_plain, deep_n1_not}
-use Rattle.syntax_expressions.specs.Nesting.{deep_n1_in, DeepE2, deep_e2_left, deep_e2_compare, deep_e2_equal}
-use Rattle.syntax_expressions.specs.Nesting.{deep_e2_contained, DeepChoice, deep_choice_first, deep_choice_next}
-use Rattle.syntax_expressions.specs.Nesting.{DeepE3}
-use Rattle.syntax_expressions.specs.Nesting.{deep_e3_first, deep_e3_next, DeepE4, deep_e4_first, deep_e4_next, DeepN4}
-use Rattle.syntax_expressions.specs.Nesting.{deep_n4_plain, deep_n4_complement, deep_n4_in, DeepE5, deep_e5_plain}
-use Rattle.syntax_expressions.specs.Nesting.{deep_e5_index, deep_e5_entry, DeepU, deep_u_plain, deep_u_minus}
-use Rattle.syntax_expressions.specs.Nesting.{deep_u_minus_in, deep_u_before, deep_u_before_in, DeepP, deep_p_call}
-use Rattle.syntax_expressions.specs.Nesting.{deep_p_arguments, deep_p_relative, deep_p_relative_in}
-use Rattle.syntax_expressions.specs.Nesting.{deep_p_parenthesis}
-use Rattle.syntax_expressions.specs.Nesting.{deep_p_in, DeepArguments, deep_arguments_first, deep_arguments_next}
-use Rattle.syntax_expressions.specs.Parse.{assignment, whole, negation, complement, prefix, operand, arguments}
-use Rattle.syntax_expressions.specs.Parse.{nested}
-use Rattle.syntax_expressions.specs.Parse.{expect_name, entry_of, after_name, enclosed, related, atom, primary}
-use Rattle.syntax_expressions.specs.Parse.{suffixed}
-use Rattle.syntax_expressions.specs.Parse.{stepped, unary, array_at, entry, owned, unindexed, indexed, complemented}
-use Rattle.syntax_expressions.specs.Parse.{product, sum, compared, equated, comparison, negated, condition, assigned}
-use Rattle.syntax_expressions.specs.Parse.{expression, called}
+use Rattle.syntax_expression_parts.specs.Operators.{comparing, equating, containing, stepping, prefixes, relating}
+use Rattle.syntax_expression_parts.specs.Operators.{indexing, begins_expression}
+use Rattle.syntax_expressions.specs.Nesting.{DeepE, deep_e_left, deep_e_first, deep_e_right, DeepE1, deep_e1_first}
+use Rattle.syntax_expressions.specs.Nesting.{deep_e1_next, DeepN1, deep_n1_plain, deep_n1_not, deep_n1_in, DeepE2}
+use Rattle.syntax_expressions.specs.Nesting.{deep_e2_left, deep_e2_compare, deep_e2_equal, deep_e2_contained}
+use Rattle.syntax_expressions.specs.Nesting.{DeepChoice, deep_choice_first, deep_choice_next, DeepE3, deep_e3_first}
+use Rattle.syntax_expressions.specs.Nesting.{deep_e3_next, DeepE4, deep_e4_first, deep_e4_next, DeepN4, deep_n4_plain}
+use Rattle.syntax_expressions.specs.Nesting.{deep_n4_complement, deep_n4_in, DeepE5, deep_e5_plain, deep_e5_index}
+use Rattle.syntax_expressions.specs.Nesting.{deep_e5_entry, DeepU, deep_u_plain, deep_u_minus, deep_u_minus_in}
+use Rattle.syntax_expressions.specs.Nesting.{deep_u_before, deep_u_before_in, DeepP, deep_p_call, deep_p_arguments}
+use Rattle.syntax_expressions.specs.Nesting.{deep_p_relative, deep_p_relative_in, deep_p_parenthesis, deep_p_in}
+use Rattle.syntax_expressions.specs.Nesting.{DeepArguments, deep_arguments_first, deep_arguments_next}
+use Rattle.syntax_expressions.specs.Parse.{assignment, whole, negation, complement, prefix, operand, arguments, nested}
+use Rattle.syntax_expressions.specs.Parse.{after_name, enclosed, related, atom, primary, stepped, unary, entry, owned}
+use Rattle.syntax_expressions.specs.Parse.{unindexed, indexed, complemented, product, sum, compared, equated}
+use Rattle.syntax_expressions.specs.Parse.{comparison, negated, condition, assigned, expression, called}
+use Rattle.syntax_expression_parts.specs.Parse.{expect_name, entry_of, suffixed, array_at}
 use Rattle.syntax_expressions.proofs.Limited.{Limited}
 use Rattle.syntax_expressions.proofs.Follow.{comparing_binds, equating_binds, containing_binds, logical_binds}
 use Rattle.syntax_expressions.proofs.Follow.{adding_binds, scaling_binds, equating_only, containing_only}
@@ -43,7 +38,8 @@ use Rattle.syntax_expressions.proofs.Follow.{stepping_only}
 use Rattle.syntax_expressions.proofs.Begins.{begins_not, begins_tilde, begins_minus, begins_step, begins_prefix}
 use Rattle.syntax_expressions.proofs.Begins.{begins_close, step_prefixes}
 use Rattle.syntax_expressions.proofs.Begins.{begin_P}
-use Rattle.syntax_expressions.proofs.Arrays.{no_array_P, step_no_name, array_no_name}
+use Rattle.syntax_expression_parts.proofs.Arrays.{array_no_name}
+use Rattle.syntax_expressions.proofs.Arrays.{no_array_P, step_no_name}
 use Rattle.syntax_expressions.proofs.Short.{short_E, short_E1, short_E3, short_E4, short_P}
 use Rattle.syntax_expressions.proofs.Alternatives.{owner_ends}
 use Rattle.syntax_expressions.proofs.Complete.{at_E, at_E1, chain_E1, at_E3, chain_E3, chain_E4, owner_P}

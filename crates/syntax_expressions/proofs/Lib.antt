@@ -1,8 +1,4 @@
-pub mod Judged
-pub mod Tokens
-pub mod NamesRead
 pub mod Chain
-pub mod Built
 pub mod Nested
 pub mod Limited
 pub mod Properties

@@ -1,4 +1,3 @@
-pub mod Operators
 pub mod Grammar
 pub mod Nesting
 pub mod Parse

@@ -5,12 +5,11 @@
 -- deep in it. What lies before that token in its parts is complete. A parenthesis, also that of a call or behind
 -- `parent`, `child` and `sibling`, and an operator before its operand stand one deeper than what holds them, and so
 -- does the first token of the right side of an assignment.
-use Rattle.std.specs.Prelude.{◌≡◌, Bool, true, false, ℕ, suc, List, ◌∷◌, Some}
+use Rattle.std.specs.Prelude.{◌≡◌, true, ℕ, suc, List, ◌∷◌, Some}
 use Rattle.syntax_lexer.specs.declared.token.Position.{Position}
 use Rattle.syntax_lexer.specs.declared.token.Sign.TheVariants as s
-use Rattle.syntax_lexer.specs.declared.token.Word.{Word}
 use Rattle.syntax_lexer.specs.declared.token.Word.TheVariants as w
-use Rattle.syntax_lexer.specs.Token.{Lexeme, name, number, character, dictionary_word, reserved, sign}
+use Rattle.syntax_lexer.specs.Token.{Lexeme, name, reserved, sign}
 use Rattle.syntax_trees.specs.declared.tree.Binary.{Binary}
 use Rattle.syntax_trees.specs.declared.tree.Comparison.{Comparison}
 use Rattle.syntax_trees.specs.declared.tree.Equality.{Equality}
@@ -19,34 +18,9 @@ use Rattle.syntax_trees.specs.declared.tree.Relative.{Relative}
 use Rattle.syntax_trees.specs.declared.tree.Step.{Step}
 use Rattle.syntax_trees.specs.declared.tree.Width.{Width}
 use Rattle.syntax_trees.specs.Tree.{ExpressionTree}
-use Rattle.syntax_expressions.specs.Operators.{logical, comparing, equating, containing, adding, scaling, stepping}
-use Rattle.syntax_expressions.specs.Operators.{indexing, relating}
+use Rattle.syntax_expression_parts.specs.Operators.{logical, comparing, equating, containing, adding, scaling, stepping}
+use Rattle.syntax_expression_parts.specs.Operators.{indexing, relating, begins_expression}
 use Rattle.syntax_expressions.specs.Grammar.{IsE, IsE1, IsE3, IsE4, IsP}
-
--- the reserved words with which an expression can begin
-abbrev pub word_begins : Word → Bool
-word_begins w.True = true
-word_begins w.False = true
-word_begins w.Nothing = true
-word_begins w.Parent = true
-word_begins w.Child = true
-word_begins w.Sibling = true
-word_begins _ = false
-
--- the tokens with which an expression can begin
-abbrev pub begins_expression : Lexeme → Bool
-begins_expression (name _ _) = true
-begins_expression (number _ _) = true
-begins_expression (character _ _) = true
-begins_expression (dictionary_word _ _) = true
-begins_expression (reserved w _) = word_begins w
-begins_expression (sign s.OpenParenthesis _) = true
-begins_expression (sign s.Minus _) = true
-begins_expression (sign s.Tilde _) = true
-begins_expression (sign s.Not _) = true
-begins_expression (sign s.Increment _) = true
-begins_expression (sign s.Decrement _) = true
-begins_expression _ = false
 
 mutual
   -- E = E1 ["=" E]

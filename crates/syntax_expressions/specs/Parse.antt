@@ -1,7 +1,6 @@
 -- Words of proofs: expressions, read from left to right, as functions from a list of tokens to a tree and the tokens
 -- after it.
-use Rattle.std.specs.Prelude.{if◌then◌else◌, Bool, true, false, ℕ, zero, suc, List, length, Option, Some, None, Result}
-use Rattle.std.specs.Prelude.{Ok, Err}
+use Rattle.std.specs.Prelude.{if◌then◌else◌, ℕ, zero, suc, List, length, Option, Some, None, Result, Ok, Err}
 use Rattle.syntax_lexer.specs.declared.token.Sign.TheVariants as s
 use Rattle.syntax_lexer.specs.declared.token.Word.{Word}
 use Rattle.syntax_lexer.specs.declared.token.Word.TheVariants as w
@@ -10,46 +9,20 @@ use Rattle.syntax_trees.specs.declared.tree.Binary.{Binary}
 use Rattle.syntax_trees.specs.declared.tree.Comparison.{Comparison}
 use Rattle.syntax_trees.specs.declared.tree.Equality.{Equality}
 use Rattle.syntax_trees.specs.declared.tree.Containment.{Containment}
-use Rattle.syntax_trees.specs.declared.tree.ObjectTest.{ObjectTest}
 use Rattle.syntax_trees.specs.declared.tree.Prefix.TheVariants as op
 use Rattle.syntax_trees.specs.declared.tree.Relative.{Relative}
 use Rattle.syntax_trees.specs.declared.tree.Step.{Step}
 use Rattle.syntax_trees.specs.declared.tree.Width.{Width}
 use Rattle.syntax_trees.specs.Tree.{NameTree, ExpressionTree, constant, word, named, call, index, parenthesised}
-use Rattle.syntax_trees.specs.Tree.{prefixed, relative_of, property, property_length, property_entry, step_before}
-use Rattle.syntax_trees.specs.Tree.{step_after, binary, compare, equal, contained, tested, assign, none}
+use Rattle.syntax_trees.specs.Tree.{prefixed, relative_of, property_entry, step_before, binary, compare, equal}
+use Rattle.syntax_trees.specs.Tree.{contained, assign, none}
 use Rattle.syntax_trees.specs.Views.{trees_of}
 use Rattle.syntax_parsing.specs.Parse.{Parse, ◌>>=◌, head, tail, is_sign, is_word, expect, list}
 use Rattle.syntax_parsing.specs.Stop.{Stop, unfit, deep}
-use Rattle.syntax_expressions.specs.Operators.{logical, comparing, equating, containing, testing, adding, scaling}
-use Rattle.syntax_expressions.specs.Operators.{stepping, prefixes, relating_word, indexing}
-use Rattle.syntax_expressions.specs.Nesting.{begins_expression}
-
--- ---- one token
-
-abbrev pub is_name : Lexeme → Bool
-is_name (name _ _) = true
-is_name _ = false
-
--- the array whose entry comes next, and the width of its entries: a name, and an arrow behind it
-abbrev pub array_of : Lexeme → Option Width → Option (NameTree × Width)
-array_of (name n p) (Some width) = Some (record { text = n; position = p }, width)
-array_of _ _ = None
-
-unfoldable pub array_at : List Lexeme → Option (NameTree × Width)
-array_at ts = array_of (head ts) (indexing (head (tail ts)))
-
--- the name that comes next, and the tokens after it; of the tokens, the first comes next
-abbrev pub name_on : Lexeme → List Lexeme → Result (NameTree × List Lexeme) Stop
-name_on (name n p) ts = Ok (record { text = n; position = p }, tail ts)
-name_on _ ts = Err (unfit (length ts))
-
-unfoldable pub expect_name : Parse NameTree
-expect_name ts = name_on (head ts) ts
-
--- what stands in parentheses, with the second of them
-abbrev pub closed : {A B : Type 0} → (A → B) → A × List Lexeme → Result (B × List Lexeme) Stop
-closed make x = expect s.CloseParenthesis x.1 >>= λ r. Ok (make x.0, r)
+use Rattle.syntax_expression_parts.specs.Operators.{logical, comparing, equating, containing, adding, scaling, stepping}
+use Rattle.syntax_expression_parts.specs.Operators.{prefixes, relating_word, begins_expression}
+use Rattle.syntax_expression_parts.specs.Parse.{closed, properties, entry_of, word_value, valued, suffixed, array_at}
+use Rattle.syntax_expression_parts.specs.Parse.{tested_next}
 
 -- ---- chains and lists. The number bounds the turns; the count of tokens is enough.
 
@@ -63,48 +36,7 @@ unfoldable pub chain : (Lexeme → Option Binary) → Parse ExpressionTree → �
 chain operator operand zero left ts = Ok (left, ts)
 chain operator operand (suc n) left ts = chain_on (chain operator operand n) operand left ts (operator (head ts))
 
--- ---- what stands behind an object
-
--- a property of an owner, from behind its sign on
-unfoldable pub property_next : ExpressionTree → Parse ExpressionTree
-property_next e ts = expect_name ts >>= λ x. Ok (property e x.0, x.1)
-
--- {"." name} after an owner
-unfoldable pub properties : ℕ → ExpressionTree → Parse ExpressionTree
-properties zero e ts = Ok (e, ts)
-properties (suc n) e ts =
-    if is_sign s.Dot (head ts) then (property_next e (tail ts) >>= λ x. properties n x.0 x.1) else Ok (e, ts)
-
--- the name of a property whose entry is read, behind its sign, and the arrow behind it
-unfoldable pub entry_of : Parse NameTree
-entry_of ts = expect_name ts >>= λ x. expect s.LongArrow x.1 >>= λ r. Ok (x.0, r)
-
--- the length of a property of an operand, from behind its sign on
-abbrev pub length_next : ExpressionTree → Parse ExpressionTree
-length_next e ts = expect_name ts >>= λ x. Ok (property_length e x.0, x.1)
-
-unfoldable pub lengthened : ExpressionTree → Parse ExpressionTree
-lengthened e ts = if is_sign s.DotHash (head ts) then length_next e (tail ts) else Ok (e, ts)
-
-abbrev pub tested_on : ExpressionTree → List Lexeme → Option ObjectTest → Result (ExpressionTree × List Lexeme) Stop
-tested_on e ts None = Ok (e, ts)
-tested_on e ts (Some test) = expect_name (tail ts) >>= λ x. Ok (tested test e x.0, x.1)
-
-unfoldable pub tested_next : ExpressionTree → Parse ExpressionTree
-tested_next e ts = tested_on e ts (testing (head ts))
-
 -- ---- the levels of the grammar
-
--- the value of a reserved word
-abbrev pub word_value : Word → Option ℕ
-word_value w.True = Some 1
-word_value w.False = Some 0
-word_value w.Nothing = Some 0
-word_value _ = None
-
-abbrev pub valued : Option ℕ → Parse ExpressionTree
-valued None ts = Err (unfit (length ts))
-valued (Some n) ts = Ok (constant n, tail ts)
 
 -- what is read one nesting further in
 pub data Level : Type 0 where
@@ -114,14 +46,6 @@ pub data Level : Type 0 where
   prefix : Level
   operand : Level
   arguments : NameTree → Level
-
--- an operand, and `++`, `--` or the length of a property where it stands after it
-abbrev pub step_on : ExpressionTree → List Lexeme → Option Step → Result (ExpressionTree × List Lexeme) Stop
-step_on e ts None = lengthened e ts
-step_on e ts (Some op) = Ok (step_after e op (position_of (head ts)), tail ts)
-
-unfoldable pub suffixed : ExpressionTree → Parse ExpressionTree
-suffixed e ts = step_on e ts (stepping (head ts))
 
 -- over the levels one nesting further in, each with the number of tokens that are left from the token on that opens
 -- the nesting

@@ -6,8 +6,8 @@
 //! end too, at each of its ways out.
 //!
 //! Ten of these functions are on the way from a nesting to the next one. So what makes a tree or
-//! drops one is in `parts`, and no part of them in machine code: each would have room for a tree on
-//! its stack.
+//! drops one is in `parts` of `syntax_expression_parts`, and no part of them in machine code: each
+//! would have room for a tree on its stack.
 
 ghost use Rattle.std.specs.Prelude.{map, length, Some};
 ghost use Rattle.syntax_trees.specs.Views.{name_tree, expression_tree};
@@ -15,16 +15,16 @@ ghost use Rattle.syntax_parsing.specs.Parse as reading;
 ghost use Rattle.syntax_parsing.specs.Parse.{tail};
 ghost use Rattle.syntax_parsing.specs.Returned.{ahead, Takes};
 ghost use Rattle.syntax_expressions.specs.Parse as spec;
-ghost use Rattle.syntax_expressions.specs.Operators as operators;
-ghost use Rattle.syntax_expressions.specs.Returned.{TakesExpression, values_tree};
-ghost use Rattle.syntax_expressions.specs.Levels.{operator_of, operand_of, chain_of};
+ghost use Rattle.syntax_expression_parts.specs.Operators as operators;
+ghost use Rattle.syntax_expression_parts.specs.Returned.{TakesExpression};
+ghost use Rattle.syntax_expressions.specs.Returned.{values_tree};
+ghost use Rattle.syntax_expression_parts.specs.Levels.{operator_of};
+ghost use Rattle.syntax_expressions.specs.Levels.{operand_of, chain_of};
 
-use crate::operators::{
-    Operators, begins_expression, comparing, containing, equating, operator, prefixes,
-    relating_word, stepping,
+use syntax_expression_parts::{
+    Operators, array, begins_expression, comparing, containing, equating, operator, parts,
+    prefixes, property_name, relating_word, stepping,
 };
-use crate::parts;
-use crate::reading::{array, property_name};
 use syntax_lexer::{Kind, Sign, Word};
 use syntax_parsing::{
     Fault, ParseError, Parser, fault_at, is_sign, is_word, open, pass, peek, position,
@@ -716,21 +716,8 @@ fn arguments<'t, 'a>(
     ensures { Takes (λ xs. map expression_tree xs.items) result parser.new (reading.list
         (reading.is_sign Sign.Comma) (spec.expression (spec.nested depth)) (ahead parser.old)) }
 {
-    // Most calls have one argument. A first `push` would ask for several places.
-    let mut arguments = Vec::with_capacity(parser.alloc, 1)?;
-    match expression(parser, depth) {
-        Ok(first) => match parts::add(&mut arguments, first) {
-            Ok(()) => {}
-            Err(e) => {
-                parts::discard(arguments);
-                return Err(e);
-            }
-        },
-        Err(e) => {
-            parts::discard(arguments);
-            return Err(e);
-        }
-    }
+    let first = expression(parser, depth)?;
+    let mut arguments = parts::alone(parser, first)?;
     for _turn in 0..parser.tokens.len() {
         if !is_sign(peek(parser.tokens), Sign::Comma) {
             break;

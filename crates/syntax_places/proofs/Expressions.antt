@@ -16,17 +16,15 @@ use Rattle.syntax_trees.specs.Tree.{step_after, binary, compare, equal, containe
 use Rattle.syntax_trees.specs.Views.{trees_of}
 use Rattle.syntax_parsing.specs.Stop.{Stop, unfit}
 use Rattle.syntax_parsing.specs.Parse.{Parse, ◌>>=◌, head, tail, is_sign, is_word, expect, list}
-use Rattle.syntax_expressions.specs.Operators.{logical, comparing, equating, containing, testing, adding, scaling}
-use Rattle.syntax_expressions.specs.Operators.{stepping, prefixes, relating_word, indexing}
-use Rattle.syntax_expressions.specs.Nesting.{begins_expression}
+use Rattle.syntax_expression_parts.specs.Operators.{logical, comparing, equating, containing, testing, adding, scaling}
+use Rattle.syntax_expression_parts.specs.Operators.{stepping, prefixes, relating_word, indexing, begins_expression}
 use Rattle.syntax_expressions.specs.Parse as parse
-use Rattle.syntax_expressions.specs.Parse.{expect_name, closed, chain_on, chain, property_next, properties, entry_of}
-use Rattle.syntax_expressions.specs.Parse.{lengthened, tested_on, tested_next, word_value, valued, Level, whole}
-use Rattle.syntax_expressions.specs.Parse.{step_on, suffixed, after_name, enclosed, related, word_on}
-use Rattle.syntax_expressions.specs.Parse.{atom, stepped, unary_on, entry, owned, unindexed, array_of, array_at}
-use Rattle.syntax_expressions.specs.Parse.{indexed_on, complemented, compared, compared_on}
-use Rattle.syntax_expressions.specs.Parse.{equated, equated_on, contained_on, negated, assigned, assignment, called}
-use Rattle.syntax_expressions.specs.Parse.{nested}
+use Rattle.syntax_expression_parts.specs.Parse.{expect_name, property_next, properties, entry_of, lengthened, tested_on}
+use Rattle.syntax_expression_parts.specs.Parse.{tested_next, word_value, valued, step_on, suffixed, array_of, array_at}
+use Rattle.syntax_expressions.specs.Parse.{chain_on, chain, Level, whole, after_name, enclosed, related, word_on, atom}
+use Rattle.syntax_expressions.specs.Parse.{stepped, unary_on, entry, owned, unindexed, indexed_on, complemented}
+use Rattle.syntax_expressions.specs.Parse.{compared, compared_on, equated, equated_on, contained_on, negated, assigned}
+use Rattle.syntax_expressions.specs.Parse.{assignment, called, nested}
 use Rattle.syntax_statement_parts.specs.Grammar.{has_effect}
 use Rattle.syntax_token_machine.proofs.Frames.{Frame, token, any_name, close, primary, unary, indexed, complement}
 use Rattle.syntax_token_machine.proofs.Frames.{product, sum}

@@ -7,7 +7,7 @@ use Rattle.syntax_trees.specs.Tree.{ExpressionTree}
 use Rattle.syntax_trees.specs.Views.{name_tree}
 use Rattle.syntax_parsing.specs.Parse.{head, expect}
 use Rattle.syntax_expressions.specs.Parse.{nested, condition}
-use Rattle.syntax_expressions.proofs.NamesRead.{name_found}
+use Rattle.syntax_expression_parts.proofs.NamesRead.{name_found}
 use Rattle.syntax_statement_parts.specs.Parse.{loop_of, looped}
 
 pub looped_read : (d : ℕ) (ts us r : List Lexeme) (n : Name) (e : ExpressionTree)

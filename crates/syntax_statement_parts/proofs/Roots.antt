@@ -8,7 +8,7 @@ use Rattle.syntax_trees.specs.declared.tree.Expression.TheVariants as from
 use Rattle.syntax_trees.specs.declared.tree.Expression.TheFolds.{fold-roll-Expression}
 use Rattle.syntax_trees.specs.Tree.{NameTree, ExpressionTree, binary, property}
 use Rattle.syntax_trees.specs.Views.{chained, propertied, expression_tree, name_tree, layer, link}
-use Rattle.syntax_expressions.proofs.Built.{properties_built}
+use Rattle.syntax_expression_parts.proofs.Built.{properties_built}
 
 module _ {A : Type 0} (f : ExpressionTree → A) (x : A) where
   chained_root : ((op : Binary) (a b : ExpressionTree) → x ≡ f (binary op a b)) → (op : Binary) (a b : ExpressionTree)

@@ -13,7 +13,8 @@ use Rattle.syntax_trees.specs.Tree.{NameTree, ExpressionTree, contained}
 use Rattle.syntax_trees.specs.Tree as expressions
 use Rattle.syntax_parsing.specs.Stop.{Stop, unfit, deep}
 use Rattle.syntax_parsing.specs.Parse.{Parse, ◌>>=◌, head, tail, is_sign, is_word, expect, list, repeated}
-use Rattle.syntax_expressions.specs.Parse.{expect_name, whole, nested, condition, expression}
+use Rattle.syntax_expression_parts.specs.Parse.{expect_name}
+use Rattle.syntax_expressions.specs.Parse.{whole, nested, condition, expression}
 use Rattle.syntax_statement_parts.specs.Tree.{LiteralTree, number_value, word_value, named_value, RangeTree}
 use Rattle.syntax_statement_parts.specs.Tree.{PrintItemTree, text_item, character_item, number_item, FlagTree}
 use Rattle.syntax_statement_parts.specs.Tree.{object_item, LoopTree, over_all, over_in, over_where}

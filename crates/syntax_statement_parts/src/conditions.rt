@@ -2,7 +2,7 @@
 
 ghost use Rattle.std.specs.Prelude.{◌<◌, IfOk};
 ghost use Rattle.syntax_parsing.specs.Returned.{ahead};
-ghost use Rattle.syntax_expressions.specs.Returned.{TakesExpression};
+ghost use Rattle.syntax_expression_parts.specs.Returned.{TakesExpression};
 ghost use Rattle.syntax_statement_parts.specs.Parse as spec;
 
 use syntax_expressions::expression;

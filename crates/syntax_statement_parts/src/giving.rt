@@ -6,7 +6,7 @@ ghost use Rattle.syntax_parsing.specs.Returned.{ahead, Takes};
 ghost use Rattle.syntax_statement_parts.specs.Views.{flag_tree};
 ghost use Rattle.syntax_statement_parts.specs.Parse as parts;
 
-use syntax_expressions::expect_name;
+use syntax_expression_parts::expect_name;
 use syntax_lexer::{Kind, Sign, Token};
 use syntax_parsing::{ParseError, Parser, is_sign, pass, peek};
 use syntax_trees::Name;

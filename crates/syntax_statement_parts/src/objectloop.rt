@@ -8,7 +8,8 @@ ghost use Rattle.syntax_statement_parts.specs.Views.{part_tree, loop_tree};
 ghost use Rattle.syntax_statement_parts.specs.Parse as spec;
 
 use crate::tree::Loop;
-use syntax_expressions::{name_of, unassigned};
+use syntax_expression_parts::name_of;
+use syntax_expressions::unassigned;
 use syntax_lexer::Sign;
 use syntax_parsing::{Fault, ParseError, Parser, expect, fault_at, open, peek};
 use syntax_trees::{Containment, Expression, Name};
@@ -115,7 +116,7 @@ fn loop_of<'a>(variable: Name<'a>, found: Box<Expression<'a>>) -> Loop<'a>
 }
 
 // What the loop goes over, with the parenthesis behind it.
-#[tactic(auto, unfolding(crate::specs::Parse::looped), using(syntax_expressions::proofs::NamesRead::name_found, syntax_expressions::proofs::NamesRead::no_name))]
+#[tactic(auto, unfolding(crate::specs::Parse::looped), using(syntax_expression_parts::proofs::NamesRead::name_found, syntax_expression_parts::proofs::NamesRead::no_name))]
 fn looped<'t, 'a>(parser: &mut Parser<'t, 'a>, depth: usize) -> Result<Box<Loop<'a>>, ParseError>
     ensures { Takes (λ x. loop_tree x.value) result parser.new
         (spec.looped depth (ahead parser.old)) }

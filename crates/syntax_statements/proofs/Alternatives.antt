@@ -8,8 +8,9 @@ use Rattle.syntax_lexer.specs.Token.{Lexeme, name, number, text, character, dict
 use Rattle.syntax_lexer.specs.Token.{position_of}
 use Rattle.syntax_trees.specs.Tree.{ExpressionTree}
 use Rattle.syntax_parsing.specs.Parse.{◌>>=◌, head, is_sign, is_word, expect, expect_word}
-use Rattle.syntax_expressions.specs.Nesting.{begins_expression}
-use Rattle.syntax_expressions.specs.Parse.{whole, nested, expression, expect_name}
+use Rattle.syntax_expression_parts.specs.Operators.{begins_expression}
+use Rattle.syntax_expression_parts.specs.Parse.{expect_name}
+use Rattle.syntax_expressions.specs.Parse.{whole, nested, expression}
 use Rattle.syntax_expressions.proofs.Limited.{Limited, bound, then, at_once, same}
 use Rattle.syntax_statement_parts.specs.Tree.{RangeTree, PrintItemTree, FlagTree, LoopTree}
 use Rattle.syntax_statement_parts.specs.Views.{HeadingTree}

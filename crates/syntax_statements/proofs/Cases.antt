@@ -7,7 +7,7 @@ use Rattle.syntax_lexer.specs.Token.{Lexeme}
 use Rattle.syntax_trees.specs.Tree.{ExpressionTree}
 use Rattle.syntax_parsing.specs.Stop.{unfit}
 use Rattle.syntax_parsing.specs.Parse.{◌>>=◌, Parse, head, tail, is_sign, is_word, expect}
-use Rattle.syntax_expressions.specs.Parse.{closed}
+use Rattle.syntax_expression_parts.specs.Parse.{closed}
 use Rattle.syntax_statement_parts.specs.Tree.{LoopTree}
 use Rattle.syntax_statement_parts.specs.Views.{HeadingTree}
 use Rattle.syntax_statement_parts.specs.Parse.{enclosed_condition, enclosed_heading, enclosed_loop}

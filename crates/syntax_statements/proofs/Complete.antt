@@ -6,7 +6,7 @@ use Rattle.syntax_lexer.specs.declared.token.Word.TheVariants as w
 use Rattle.syntax_lexer.specs.Token.{Lexeme, name, number, character, dictionary_word, reserved, sign}
 use Rattle.syntax_parsing.specs.Parse.{head, is_sign, as_long, repeated}
 use Rattle.syntax_expressions.specs.Grammar.{nesting}
-use Rattle.syntax_expressions.specs.Nesting.{begins_expression}
+use Rattle.syntax_expression_parts.specs.Operators.{begins_expression}
 use Rattle.syntax_expressions.proofs.Begins.{first_E}
 use Rattle.syntax_expressions.proofs.Limited.{Limited, same, in_whole}
 use Rattle.syntax_expressions.proofs.Short.{short_E}

@@ -9,10 +9,10 @@ use Rattle.syntax_lexer.specs.Token.{Lexeme, reserved, sign, position_of}
 use Rattle.syntax_trees.specs.Tree.{ExpressionTree}
 use Rattle.syntax_parsing.specs.Stop.{Stop, deep, TooDeep}
 use Rattle.syntax_parsing.specs.Parse.{◌>>=◌, Parse, head, tail, is_sign, is_word, expect, as_long}
-use Rattle.syntax_expressions.specs.Nesting.{begins_expression, DeepE, deep_e_left, deep_e_first, deep_e_right, DeepE1}
-use Rattle.syntax_expressions.specs.Nesting.{deep_e1_first, deep_e1_next, DeepN1, deep_n1_plain, deep_n1_not}
-use Rattle.syntax_expressions.specs.Nesting.{deep_n1_in, DeepE2, deep_e2_left, deep_e2_compare, deep_e2_equal}
-use Rattle.syntax_expressions.specs.Nesting.{deep_e2_contained, DeepE3}
+use Rattle.syntax_expression_parts.specs.Operators.{begins_expression}
+use Rattle.syntax_expressions.specs.Nesting.{DeepE, deep_e_left, deep_e_first, deep_e_right, DeepE1, deep_e1_first}
+use Rattle.syntax_expressions.specs.Nesting.{deep_e1_next, DeepN1, deep_n1_plain, deep_n1_not, deep_n1_in, DeepE2}
+use Rattle.syntax_expressions.specs.Nesting.{deep_e2_left, deep_e2_compare, deep_e2_equal, deep_e2_contained, DeepE3}
 use Rattle.syntax_expressions.specs.Nesting.{deep_e3_first, deep_e3_next, DeepE4, deep_e4_first, deep_e4_next, DeepN4}
 use Rattle.syntax_expressions.specs.Nesting.{deep_n4_plain, deep_n4_complement, deep_n4_in, DeepE5, deep_e5_plain}
 use Rattle.syntax_expressions.specs.Nesting.{deep_e5_index, deep_e5_entry, DeepU, deep_u_plain, deep_u_minus}

@@ -7,8 +7,9 @@ use Rattle.syntax_lexer.specs.declared.token.Word.TheVariants as w
 use Rattle.syntax_lexer.specs.Token.{Lexeme, name, reserved, sign}
 use Rattle.syntax_trees.specs.Tree.{ExpressionTree}
 use Rattle.syntax_parsing.specs.Parse.{◌>>=◌, head, is_sign, expect, expect_word, as_long, repeated}
-use Rattle.syntax_expressions.specs.Nesting.{begins_expression}
-use Rattle.syntax_expressions.specs.Parse.{whole, nested, condition, expression, expect_name}
+use Rattle.syntax_expression_parts.specs.Operators.{begins_expression}
+use Rattle.syntax_expression_parts.specs.Parse.{expect_name}
+use Rattle.syntax_expressions.specs.Parse.{whole, nested, condition, expression}
 use Rattle.syntax_expressions.proofs.Limited.{Limited}
 use Rattle.syntax_expressions.proofs.Deepened.{Deepened, deep_in, deep_behind, deep_same, deep_opened}
 use Rattle.syntax_expressions.proofs.DeepBeginnings.{deep_starts_E}

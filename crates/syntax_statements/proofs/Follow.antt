@@ -7,7 +7,7 @@ use Rattle.syntax_trees.specs.declared.tree.Relative.{Relative}
 use Rattle.syntax_trees.specs.declared.tree.Step.{Step}
 use Rattle.syntax_trees.specs.Tree.{ExpressionTree}
 use Rattle.syntax_parsing.specs.Parse.{head, tail, is_sign, is_word}
-use Rattle.syntax_expressions.specs.Operators.{stepping, relating}
+use Rattle.syntax_expression_parts.specs.Operators.{stepping, relating, begins_expression}
 use Rattle.syntax_expressions.specs.Grammar.{IsE, e_plain, e_assign, IsE1, e1_plain, e1_logical, IsN1, n1_plain, n1_not}
 use Rattle.syntax_expressions.specs.Grammar.{IsE2, e2_plain, e2_compare, e2_equal, e2_contained, e2_tested, IsE3}
 use Rattle.syntax_expressions.specs.Grammar.{e3_plain, e3_add, IsE4, e4_plain, e4_scale, IsN4, n4_plain, n4_complement}
@@ -15,7 +15,6 @@ use Rattle.syntax_expressions.specs.Grammar.{IsE5, e5_plain, e5_index, e5_entry,
 use Rattle.syntax_expressions.specs.Grammar.{u_after, u_length, IsP, p_property, p_number, p_character, p_word, p_true}
 use Rattle.syntax_expressions.specs.Grammar.{p_false, p_nothing, p_name, p_call, p_call_with, p_relative}
 use Rattle.syntax_expressions.specs.Grammar.{p_parenthesised}
-use Rattle.syntax_expressions.specs.Nesting.{begins_expression}
 use Rattle.syntax_expressions.proofs.Begins.{first_E}
 use Rattle.syntax_expressions.proofs.Short.{short_E}
 use Rattle.syntax_statement_parts.specs.Tree.{PrintItemTree, FlagTree}

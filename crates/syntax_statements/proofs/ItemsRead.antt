@@ -8,7 +8,7 @@ use Rattle.syntax_trees.specs.Tree.{ExpressionTree}
 use Rattle.syntax_parsing.specs.Stop.{Stop}
 use Rattle.syntax_parsing.specs.Parse.{◌>>=◌, head, tail, is_sign, is_word, expect}
 use Rattle.syntax_expressions.proofs.Short.{short_E}
-use Rattle.syntax_expressions.specs.Nesting.{begins_expression}
+use Rattle.syntax_expression_parts.specs.Operators.{begins_expression}
 use Rattle.syntax_expressions.specs.Parse.{nested, expression}
 use Rattle.syntax_expressions.proofs.Follow.{Stops}
 use Rattle.syntax_expressions.proofs.Begins.{first_E}

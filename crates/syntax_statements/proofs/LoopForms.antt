@@ -7,7 +7,7 @@ use Rattle.syntax_trees.specs.declared.tree.Containment.{Containment}
 use Rattle.syntax_trees.specs.declared.tree.Containment.TheVariants as containment
 use Rattle.syntax_trees.specs.Tree as tree
 use Rattle.syntax_trees.specs.Tree.{NameTree, ExpressionTree, contained}
-use Rattle.syntax_expressions.specs.Operators.{containing}
+use Rattle.syntax_expression_parts.specs.Operators.{containing}
 use Rattle.syntax_expressions.specs.Grammar.{IsE1, e1_plain, e1_logical, n1_plain, n1_not, IsE2, e2_plain, e2_compare}
 use Rattle.syntax_expressions.specs.Grammar.{e2_equal, e2_contained, e2_tested, IsE3, e3_plain, e3_add, e4_plain}
 use Rattle.syntax_expressions.specs.Grammar.{e4_scale, IsN4, n4_plain, n4_complement, e5_plain, e5_index, e5_entry, IsU}

@@ -7,12 +7,12 @@ use Rattle.syntax_lexer.specs.declared.token.Sign.TheVariants as s
 use Rattle.syntax_lexer.specs.Token.{Lexeme, sign}
 use Rattle.syntax_trees.specs.Tree.{ExpressionTree}
 use Rattle.syntax_parsing.specs.Parse.{◌>>=◌, Parse, head, is_sign, as_long, repeated}
-use Rattle.syntax_expressions.specs.Nesting.{begins_expression}
+use Rattle.syntax_expression_parts.specs.Operators.{begins_expression}
 use Rattle.syntax_expressions.proofs.Follow.{Stops}
 use Rattle.syntax_expressions.proofs.Begins.{first_E}
 use Rattle.syntax_expressions.proofs.Limited.{Limited, bound, then, at_once, same}
 use Rattle.syntax_expressions.proofs.Complete.{at_E}
-use Rattle.syntax_expressions.specs.Parse.{expect_name}
+use Rattle.syntax_expression_parts.specs.Parse.{expect_name}
 use Rattle.syntax_statement_parts.specs.Tree.{FlagTree}
 use Rattle.syntax_statement_parts.specs.Grammar.{effect_or_none, IsOptional, optional_none, optional_some}
 use Rattle.syntax_statement_parts.specs.Grammar.{optional_nesting, IsFlag, flag_given, flag_taken, IsFlags, flags_none}

@@ -10,9 +10,9 @@ use Rattle.syntax_trees.specs.Tree.{ExpressionTree}
 use Rattle.syntax_parsing.specs.Parse.{head, tail, is_sign, expect}
 use Rattle.syntax_expressions.specs.Grammar.{IsE, nesting}
 use Rattle.syntax_expressions.specs.Nesting.{DeepE}
-use Rattle.syntax_expressions.proofs.Judged.{Judged, judged_read, judged_grammar, judged_deep, judged_then}
-use Rattle.syntax_expressions.proofs.Judged.{judged_after, judged_by, judged_as}
-use Rattle.syntax_expressions.proofs.Tokens.{expect_ok, expect_not_deep}
+use Rattle.syntax_expression_parts.proofs.Judged.{Judged, judged_read, judged_grammar, judged_deep, judged_then}
+use Rattle.syntax_expression_parts.proofs.Judged.{judged_after, judged_by, judged_as}
+use Rattle.syntax_expression_parts.proofs.Tokens.{expect_ok, expect_not_deep}
 use Rattle.syntax_expressions.proofs.SoundOperands.{Within}
 use Rattle.syntax_expressions.proofs.Sound.{judged_E, judged_whole, no_more}
 use Rattle.syntax_statement_parts.specs.Views.{HeadingTree}

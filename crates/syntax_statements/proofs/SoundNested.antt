@@ -8,9 +8,10 @@ use Rattle.syntax_lexer.specs.Token.{Lexeme, reserved, sign, position_of}
 use Rattle.syntax_parsing.specs.Parse.{head, tail, is_word, expect, expect_word}
 use Rattle.syntax_expressions.specs.Grammar.{IsE}
 use Rattle.syntax_expressions.specs.Nesting.{DeepE}
-use Rattle.syntax_expressions.proofs.Judged.{Judged, judged_read, judged_grammar, judged_then, judged_after, judged_by}
-use Rattle.syntax_expressions.proofs.Judged.{judged_as}
-use Rattle.syntax_expressions.proofs.Tokens.{at_word, expect_ok, expect_not_deep, expect_word_ok, expect_word_not_deep}
+use Rattle.syntax_expression_parts.proofs.Judged.{Judged, judged_read, judged_grammar, judged_then, judged_after}
+use Rattle.syntax_expression_parts.proofs.Judged.{judged_by, judged_as}
+use Rattle.syntax_expression_parts.proofs.Tokens.{at_word, expect_ok, expect_not_deep, expect_word_ok}
+use Rattle.syntax_expression_parts.proofs.Tokens.{expect_word_not_deep}
 use Rattle.syntax_expressions.proofs.SoundOperands.{Within, deeper}
 use Rattle.syntax_statement_parts.specs.Grammar.{IsRanges}
 use Rattle.syntax_statement_parts.specs.Nesting.{DeepHeading}

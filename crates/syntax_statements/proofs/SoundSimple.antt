@@ -8,14 +8,14 @@ use Rattle.syntax_lexer.specs.Token.{Lexeme, name, text, reserved, sign, positio
 use Rattle.syntax_trees.specs.Tree.{ExpressionTree}
 use Rattle.syntax_parsing.specs.Parse.{head, tail, is_sign, is_word, expect, expect_word, repeated}
 use Rattle.syntax_expressions.specs.Grammar.{IsE}
-use Rattle.syntax_expressions.proofs.Judged.{Judged, judged_read, judged_grammar, judged_deep, judged_then}
-use Rattle.syntax_expressions.proofs.Judged.{judged_after, judged_by}
-use Rattle.syntax_expressions.proofs.Tokens.{at_sign, at_word, is_that_sign, expect_ok, expect_not_deep, expect_word_ok}
-use Rattle.syntax_expressions.proofs.Tokens.{expect_word_not_deep}
+use Rattle.syntax_expression_parts.proofs.Judged.{Judged, judged_read, judged_grammar, judged_deep, judged_then}
+use Rattle.syntax_expression_parts.proofs.Judged.{judged_after, judged_by}
+use Rattle.syntax_expression_parts.proofs.Tokens.{at_sign, at_word, is_that_sign, expect_ok, expect_not_deep}
+use Rattle.syntax_expression_parts.proofs.Tokens.{expect_word_ok, expect_word_not_deep}
 use Rattle.syntax_expressions.proofs.Repeated.{list_judged}
 use Rattle.syntax_expressions.proofs.Short.{short_E}
 use Rattle.syntax_expressions.proofs.Sound.{judged_E}
-use Rattle.syntax_expressions.proofs.NamesRead.{name_judged}
+use Rattle.syntax_expression_parts.proofs.NamesRead.{name_judged}
 use Rattle.syntax_statement_parts.specs.Tree.{PrintItemTree, text_item, character_item, number_item, object_item}
 use Rattle.syntax_statement_parts.specs.Grammar.{has_effect, IsItem, item_text, item_character, item_number, IsItems}
 use Rattle.syntax_statement_parts.specs.Grammar.{items_last, items_comma, item_nesting, items_nesting, item_object}

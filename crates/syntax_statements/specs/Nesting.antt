@@ -14,7 +14,8 @@ use Rattle.syntax_lexer.specs.declared.token.Word.TheVariants as w
 use Rattle.syntax_lexer.specs.Token.{Lexeme, name, text, reserved, sign, head}
 use Rattle.syntax_trees.specs.Tree.{ExpressionTree}
 use Rattle.syntax_expressions.specs.Grammar.{IsE}
-use Rattle.syntax_expressions.specs.Nesting.{begins_expression, DeepE, DeepE1}
+use Rattle.syntax_expression_parts.specs.Operators.{begins_expression}
+use Rattle.syntax_expressions.specs.Nesting.{DeepE, DeepE1}
 use Rattle.syntax_statement_parts.specs.Nesting.{begins_case, DeepItems, DeepHeading}
 use Rattle.syntax_statement_parts.specs.Tree.{RangeTree, LoopTree}
 use Rattle.syntax_statement_parts.specs.Grammar.{IsRanges, IsOptional, effect_or_none, IsLoop}

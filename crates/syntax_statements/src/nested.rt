@@ -13,7 +13,7 @@ ghost use Rattle.syntax_statements.specs.Parse as spec;
 use crate::parts;
 use crate::parts::plain;
 use crate::tree::Statement;
-use syntax_expressions::begins_expression;
+use syntax_expression_parts::begins_expression;
 use syntax_lexer::{Kind, Position, Sign, Token, Word};
 use syntax_parsing::{
     Fault, ParseError, Parser, expect, expect_word, fault_at, is_sign, is_word, open, pass, peek,

@@ -9,7 +9,8 @@ ghost use Rattle.syntax_statements.specs.Returned.{TakesSimple};
 ghost use Rattle.syntax_statements.specs.Parse as spec;
 
 use crate::tree::SimpleStatement;
-use syntax_expressions::{expect_name, expression};
+use syntax_expression_parts::expect_name;
+use syntax_expressions::expression;
 use syntax_lexer::{Kind, Position, Sign, Word};
 use syntax_parsing::{
     Fault, ParseError, Parser, expect, expect_word, fault_at, is_sign, pass, peek, position,

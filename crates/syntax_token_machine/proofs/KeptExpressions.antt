@@ -5,8 +5,8 @@ use Rattle.syntax_lexer.specs.declared.token.Sign.TheVariants as s
 use Rattle.syntax_lexer.specs.declared.token.Word.{Word}
 use Rattle.syntax_lexer.specs.Token.{Lexeme, name, number, text, character, dictionary_word, reserved, sign, end}
 use Rattle.syntax_parsing.specs.Parse.{is_sign}
-use Rattle.syntax_expressions.specs.Operators.{stepping, prefixes, relating_word}
-use Rattle.syntax_expressions.specs.Parse.{word_value}
+use Rattle.syntax_expression_parts.specs.Operators.{stepping, prefixes, relating_word}
+use Rattle.syntax_expression_parts.specs.Parse.{word_value}
 use Rattle.syntax_token_machine.proofs.Frames.{Frame, token, close}
 use Rattle.syntax_token_machine.proofs.Frames.{primary, unary, complement}
 use Rattle.syntax_token_machine.proofs.Frames.{negation, expression, name_behind, array_behind}

@@ -3,7 +3,7 @@ use Rattle.syntax_trees.specs.Views.{name_tree}
 use Rattle.syntax_parsing.specs.Returned.{ahead}
 use Rattle.syntax_parsing.specs.Parse.{repeated}
 use Rattle.syntax_parsing.proofs.Loops.{joined}
-use Rattle.syntax_expressions.specs.Parse.{is_name, expect_name}
+use Rattle.syntax_expression_parts.specs.Parse.{is_name, expect_name}
 use Rattle.syntax_directives.specs.Parse as spec
 use Rattle.syntax_directives.proofs.names.names.Given as goal
 

@@ -1,4 +1,5 @@
 use Rattle.std.proofs.Common.{refl, sym, ◌∙◌, arith, ◌∷◌}
+use Rattle.std.proofs.lemmas.Result.{err_from_is_err_and}
 use Rattle.syntax_lexer.specs.declared.token.Sign.TheVariants as s
 use Rattle.syntax_lexer.specs.declared.token.Word.TheVariants as w
 use Rattle.syntax_trees.specs.Views.{expression_tree}
@@ -6,7 +7,8 @@ use Rattle.syntax_parsing.specs.Parse.{is_sign, is_word}
 use Rattle.syntax_parsing.specs.Returned.{ahead}
 use Rattle.syntax_parsing.proofs.Loops.{further_out, further_done, further_more, further_fails, list_fails, list_begins}
 use Rattle.syntax_expressions.specs.Parse.{nested, expression, sum}
-use Rattle.syntax_expressions.specs.Levels.{operator_of, operand_of}
+use Rattle.syntax_expression_parts.specs.Levels.{operator_of}
+use Rattle.syntax_expressions.specs.Levels.{operand_of}
 use Rattle.syntax_expressions.proofs.Chain.{chain_fails, chain_more, level_fails}
 use Rattle.syntax_expressions.proofs.parser.+expression.Goals.{values-else-loop-turn-test}
 use Rattle.syntax_expressions.proofs.parser.+expression.Goals.{values-then-loop-turn-test+then-not-is_word}
@@ -69,26 +71,29 @@ values-returns-after-loop-turn t c =
 
 -- ---- arguments
 
-pub arguments-returns-in-Err : goal.arguments-returns-in-Err
-arguments-returns-in-Err t c = list_fails expression_tree (is_sign s.Comma) (expression (nested c.args.depth))
-    c.in-Err.e (ahead c.args.parser.now) c.in-Err.ensures
+pub arguments-returns-in_err-first : goal.arguments-returns-in_err-first
+arguments-returns-in_err-first t c =
+    let p = err_from_is_err_and c.from_residual.result c.from_residual.ensures.1 in
+    rw (p.1, p.2)
+    (list_fails expression_tree (is_sign s.Comma) (expression (nested c.args.depth)) c.in_err-first.field-0.0
+    (ahead c.args.parser.now) c.in_err-first.ensures)
 
 pub arguments-loop-turn-init : goal.arguments-loop-turn-init
 arguments-loop-turn-init t c =
-    rw (c.in-Ok-add.ensures.ok, c.in_ok-arguments.ensures.items)
+    rw c.in_ok-arguments.ensures.ok
     (list_begins expression_tree (is_sign s.Comma) (expression (nested c.args.depth)) (ahead c.args.parser.now) _
-    c.in-Ok.first.value c.in-Ok.ensures)
+    c.in_ok-first.first.value c.in_ok-first.ensures)
 
-pub arguments-returns-in-Err-expression : goal.arguments-returns-in-Err-expression
-arguments-returns-in-Err-expression t c = further_fails expression_tree (is_sign s.Comma)
-    (expression (nested c.args.depth)) c.in-Err-expression.e _ c.loop-turn._turn c.loop-turn.arguments.items
+pub arguments-returns-in-Err : goal.arguments-returns-in-Err
+arguments-returns-in-Err t c = further_fails expression_tree (is_sign s.Comma)
+    (expression (nested c.args.depth)) c.in-Err.e _ c.loop-turn._turn c.loop-turn.arguments.items
     (ahead c.loop-turn.parser) _ c.loop-turn-test.true (grind arith)
-    (rw c.pass.ensures at c.in-Err-expression.ensures) c.loop-turn.invariant
+    (rw c.pass.ensures at c.in-Err.ensures) c.loop-turn.invariant
 
 pub arguments-loop-turn-preserved : goal.arguments-loop-turn-preserved
 arguments-loop-turn-preserved t c =
-    rw c.in-Ok-add-2.ensures.ok
+    rw c.in-Ok-add.ensures.ok
     (sym (further_more expression_tree (is_sign s.Comma) (expression (nested c.args.depth)) _ c.loop-turn._turn
-    c.loop-turn.arguments.items (ahead c.loop-turn.parser) c.in-Ok-expression.next.value _
-    c.loop-turn-test.true (grind arith) (rw c.pass.ensures at c.in-Ok-expression.ensures))
+    c.loop-turn.arguments.items (ahead c.loop-turn.parser) c.in-Ok.next.value _
+    c.loop-turn-test.true (grind arith) (rw c.pass.ensures at c.in-Ok.ensures))
     ∙ c.loop-turn.invariant)

@@ -1,5 +1,5 @@
 -- Trees of what the code builds.
-use Rattle.std.proofs.Common.{◌≡◌, ◌∷◌, [], ◌++◌, sym, ap, ◌∙◌}
+use Rattle.std.proofs.Common.{◌≡◌, List, ◌∷◌, [], ◌++◌, refl, sym, ap, ◌∙◌}
 use Rattle.std.specs.Prelude.{map}
 use Rattle.std.specs.Global.{Box, Vec}
 use Rattle.syntax_trees.specs.declared.tree.Name.{Name}
@@ -10,7 +10,6 @@ use Rattle.syntax_trees.specs.declared.tree.Expression.TheFolds.{fold-roll-Expre
 use Rattle.syntax_trees.specs.Tree as trees
 use Rattle.syntax_trees.specs.Tree.{ExpressionTree, binary}
 use Rattle.syntax_trees.specs.Views.{expression_tree, name_tree, propertied, layer, chained, link}
-use Rattle.syntax_expressions.proofs.Chain.{chained_push}
 
 pub properties_built : (e : Box Expression) (n : Name) (ns : Vec Name)
     → expression_tree (from.Property e n ns)
@@ -25,6 +24,11 @@ chain_built a op b ls = ap expression_tree (sym (from.rolls-Chain a op b ls))
     ∙ fold-roll-Expression ExpressionTree layer _
 
 -- a chain with one more operator and operand
+chained_push : (e : ExpressionTree) (ls : List (Binary × Expression)) (op : Binary) (x : Expression)
+    → chained e (map link (ls ++ (op, x) ∷ [])) ≡ binary op (chained e (map link ls)) (expression_tree x)
+chained_push e [] op x = refl
+chained_push e (l ∷ ls) op x = chained_push (binary l.0 e (expression_tree l.1)) ls op x
+
 pub longer_built : (e x : Expression) (a b : Box Expression) (op next : Binary) (ls ms : Vec (Binary × Expression))
     → e ≡ from.Chain a op b ls → ms.items ≡ ls.items ++ (next, x) ∷ []
     → expression_tree (from.Chain a op b ms) ≡ binary next (expression_tree e) (expression_tree x)

@@ -1,6 +1,6 @@
--- Which tokens are operators, level by level.
+-- Which tokens are operators, level by level, and with which an expression can begin.
 use Rattle.std.specs.Prelude.{Bool, true, false, Option, Some, None}
-use Rattle.syntax_lexer.specs.Token.{Lexeme, reserved, sign}
+use Rattle.syntax_lexer.specs.Token.{Lexeme, name, number, character, dictionary_word, reserved, sign}
 use Rattle.syntax_lexer.specs.declared.token.Sign.TheVariants as s
 use Rattle.syntax_lexer.specs.declared.token.Word.{Word}
 use Rattle.syntax_lexer.specs.declared.token.Word.TheVariants as w
@@ -98,3 +98,28 @@ abbrev pub indexing : Lexeme → Option Width
 indexing (sign s.Arrow _) = Some width.Byte
 indexing (sign s.LongArrow _) = Some width.Word
 indexing _ = None
+
+-- the reserved words with which an expression can begin
+abbrev pub word_begins : Word → Bool
+word_begins w.True = true
+word_begins w.False = true
+word_begins w.Nothing = true
+word_begins w.Parent = true
+word_begins w.Child = true
+word_begins w.Sibling = true
+word_begins _ = false
+
+-- the tokens with which an expression can begin
+abbrev pub begins_expression : Lexeme → Bool
+begins_expression (name _ _) = true
+begins_expression (number _ _) = true
+begins_expression (character _ _) = true
+begins_expression (dictionary_word _ _) = true
+begins_expression (reserved w _) = word_begins w
+begins_expression (sign s.OpenParenthesis _) = true
+begins_expression (sign s.Minus _) = true
+begins_expression (sign s.Tilde _) = true
+begins_expression (sign s.Not _) = true
+begins_expression (sign s.Increment _) = true
+begins_expression (sign s.Decrement _) = true
+begins_expression _ = false

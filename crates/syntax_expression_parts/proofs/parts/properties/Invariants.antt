@@ -2,8 +2,8 @@ use Rattle.std.proofs.Common.{◌≡◌, ◌-◌, length}
 use Rattle.syntax_trees.specs.Tree.{property}
 use Rattle.syntax_trees.specs.Views.{expression_tree, name_tree, propertied}
 use Rattle.syntax_parsing.specs.Returned.{ahead}
-use Rattle.syntax_expressions.specs.Parse as spec
-use Rattle.syntax_expressions.proofs.parts.properties.Given as goal
+use Rattle.syntax_expression_parts.specs.Parse as spec
+use Rattle.syntax_expression_parts.proofs.parts.properties.Given as goal
 
 abbrev pub invariant-loop-turn : goal.invariant-loop-turn
 invariant-loop-turn l =

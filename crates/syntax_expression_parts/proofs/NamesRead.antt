@@ -6,9 +6,9 @@ use Rattle.syntax_trees.specs.declared.tree.Name.{Name}
 use Rattle.syntax_trees.specs.Views.{name_tree}
 use Rattle.syntax_parsing.specs.Stop.{unfit}
 use Rattle.syntax_parsing.specs.Parse.{head, tail, expect}
-use Rattle.syntax_expressions.specs.Parse.{is_name, name_on, expect_name, entry_of}
-use Rattle.syntax_expressions.proofs.Judged.{Judged, judged_read, judged_grammar, judged_then, judged_after}
-use Rattle.syntax_expressions.proofs.Tokens.{expect_ok, expect_not_deep}
+use Rattle.syntax_expression_parts.specs.Parse.{is_name, name_on, expect_name, entry_of}
+use Rattle.syntax_expression_parts.proofs.Judged.{Judged, judged_read, judged_grammar, judged_then, judged_after}
+use Rattle.syntax_expression_parts.proofs.Tokens.{expect_ok, expect_not_deep}
 
 pub name_found : (ts : List Lexeme) (n : Name) → head ts ≡ name n.text.now n.position
     → expect_name ts ≡ Ok (name_tree n, tail ts)

@@ -3,12 +3,12 @@ use Rattle.std.proofs.lemmas.Result.{err_from_is_err_and}
 use Rattle.syntax_trees.specs.Tree.{property}
 use Rattle.syntax_trees.specs.Views.{name_tree, expression_tree}
 use Rattle.syntax_parsing.specs.Returned.{ahead}
-use Rattle.syntax_expressions.proofs.Built.{properties_built}
-use Rattle.syntax_expressions.proofs.Properties.{properties_none, properties_begin, properties_begin_fails}
-use Rattle.syntax_expressions.proofs.Properties.{properties_next, properties_fail, properties_read}
-use Rattle.syntax_expressions.proofs.parts.properties.Goals.{else-loop-turn-test}
-use Rattle.syntax_expressions.proofs.parts.properties.Goals.{then-loop-turn-test+then-not-is_sign-2}
-use Rattle.syntax_expressions.proofs.parts.properties.Goals as goal
+use Rattle.syntax_expression_parts.proofs.Built.{properties_built}
+use Rattle.syntax_expression_parts.proofs.Properties.{properties_none, properties_begin, properties_begin_fails}
+use Rattle.syntax_expression_parts.proofs.Properties.{properties_next, properties_fail, properties_read}
+use Rattle.syntax_expression_parts.proofs.parts.properties.Goals.{else-loop-turn-test}
+use Rattle.syntax_expression_parts.proofs.parts.properties.Goals.{then-loop-turn-test+then-not-is_sign-2}
+use Rattle.syntax_expression_parts.proofs.parts.properties.Goals as goal
 
 pub returns-then-not-is_sign : goal.returns-then-not-is_sign
 returns-then-not-is_sign c = properties_none (expression_tree c.args.owner.value) (ahead c.args.parser.now)

@@ -4,7 +4,7 @@ ghost use Rattle.std.specs.Prelude.{◌≡◌, false, MatchOption, None, Some};
 ghost use Rattle.syntax_lexer.specs.Token.{lexeme, lexemes, name};
 ghost use Rattle.syntax_trees.specs.Views.{name_tree};
 ghost use Rattle.syntax_parsing.specs.Returned.{ahead, Takes};
-ghost use Rattle.syntax_expressions.specs.Parse as spec;
+ghost use Rattle.syntax_expression_parts.specs.Parse as spec;
 
 use crate::operators::indexing;
 use syntax_lexer::{Kind, Sign, Token};

@@ -2,10 +2,9 @@
 
 ghost use Rattle.std.specs.Prelude.{◌≡◌};
 ghost use Rattle.syntax_lexer.specs.Token.{lexeme};
-ghost use Rattle.syntax_expressions.specs.Operators as spec;
-ghost use Rattle.syntax_expressions.specs.Nesting as nesting;
-ghost use Rattle.syntax_expressions.specs.Levels.{level_of, operator_of};
-ghost use Rattle.syntax_expressions.specs.Parse as parse;
+ghost use Rattle.syntax_expression_parts.specs.Operators as spec;
+ghost use Rattle.syntax_expression_parts.specs.Levels.{level_of, operator_of};
+ghost use Rattle.syntax_expression_parts.specs.Parse as parse;
 
 use syntax_lexer::{Kind, Sign, Token, Word};
 use syntax_trees::{Binary, Comparison, Containment, Equality, ObjectTest, Relative, Step, Width};
@@ -197,7 +196,7 @@ pub fn indexing(token: Token<'_>) -> Option<Width>
 }
 
 fn word_begins(word: Word) -> bool
-    ensures { result ≡ nesting.word_begins word }
+    ensures { result ≡ spec.word_begins word }
 {
     matches!(
         word,
@@ -207,7 +206,7 @@ fn word_begins(word: Word) -> bool
 
 /// Whether an expression can begin with the token.
 pub fn begins_expression(token: Token<'_>) -> bool
-    ensures { result ≡ nesting.begins_expression (lexeme token.entry) }
+    ensures { result ≡ spec.begins_expression (lexeme token.entry) }
 {
     match token.kind {
         Kind::Name(_) | Kind::Number(_) | Kind::Character(_) | Kind::DictionaryWord(_) => true,

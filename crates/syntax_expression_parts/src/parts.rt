@@ -18,8 +18,8 @@ ghost use Rattle.syntax_trees.specs.Tree as tree;
 ghost use Rattle.syntax_trees.specs.Views.{chained, link, name_tree, expression_tree, trees_of};
 ghost use Rattle.syntax_parsing.specs.Parse as reading;
 ghost use Rattle.syntax_parsing.specs.Returned.{ahead};
-ghost use Rattle.syntax_expressions.specs.Parse as spec;
-ghost use Rattle.syntax_expressions.specs.Returned.{TakesExpression};
+ghost use Rattle.syntax_expression_parts.specs.Parse as spec;
+ghost use Rattle.syntax_expression_parts.specs.Returned.{TakesExpression};
 
 use crate::operators::{level, stepping, testing, word_value};
 use crate::reading::expect_name;
@@ -193,6 +193,21 @@ pub fn link<'t, 'a>(
         return lengthened_chain(parser, left, operator, right);
     }
     pair(parser, left, operator, right)
+}
+
+/// A list of one expression. Most calls have one argument, and a first `push` would ask for several
+/// places.
+#[inline(never)]
+pub fn alone<'t, 'a>(
+    parser: &Parser<'t, 'a>,
+    first: Box<Expression<'a>>,
+) -> Result<Vec<Expression<'a>>, ParseError>
+    ensures ok { IfOk result (λ xs. xs.items ≡ first.entry.value ∷ []) }
+    ensures err { IfErr result (λ e. e ≡ ParseError.Memory) }
+{
+    let mut expressions = Vec::with_capacity(parser.alloc, 1)?;
+    expressions.push(Box::into_inner(first))?;
+    Ok(expressions)
 }
 
 /// One more expression in a list.

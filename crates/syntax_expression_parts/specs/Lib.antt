@@ -1,0 +1,4 @@
+pub mod Operators
+pub mod Levels
+pub mod Parse
+pub mod Returned
