@@ -1,17 +1,18 @@
 //! Waiting for a line, and the line that is then given.
 
-ghost use Rattle.std.specs.Prelude.{◌≡◌, ◌≢◌, ◌≤◌, length, map, take, OnOk, OnErr};
+ghost use Rattle.std.specs.Prelude.{◌≡◌, ◌≢◌, ◌≤◌, ◌*◌, length, map, take, slice_index, OnOk, OnErr};
 ghost use Rattle.zcore.specs.Header.{static_base_of};
 ghost use Rattle.zcore.specs.Layout.{header_size};
 ghost use Rattle.zcore.specs.Parts.{is_text_buffer, test_text_buffer, is_parse_buffer, test_parse_buffer, wait};
 ghost use Rattle.ztext.specs.Text as texts;
 ghost use Rattle.machine_lines.specs.Lines.{FillsBuffers, HasRoomForLetters, HasRoomForWords, WaitsNoMore};
+ghost use Rattle.machine_frames.specs.Contents.{memory_of};
 ghost use Rattle.machine_frames.specs.Playing.{IsWaiting, TakesLine};
 ghost use Rattle.machine_frames.specs.States.{IsSound, IsStoreOf};
 ghost use Rattle.machine_frames.specs.Went.{GivenUp, Went};
 
 use crate::fill::fill_counted;
-use crate::parse::{WORDS_LENGTH, parse};
+use crate::parse::{USUAL_LENGTH, USUAL_WORDS, WORDS_LENGTH, parse};
 use journal::{NoMemory, Recorded};
 use machine_frames::layout::{PARSE_BUFFER, RESULT_VARIABLE, RETURN_ADDRESS, TEXT_BUFFER, WAITING};
 use machine_frames::{End, Store, cell, long, put_all, store_result, variable_cell, variable_in};
@@ -135,6 +136,7 @@ pub fn wait(
 ///
 /// M6 where the stack is full, M4 where the frame has not the local, both of the result.
 /// `End::Memory` where memory was refused: the turn is given up.
+#[inline(always)]
 pub fn give_line(
     header: &Header,
     store: &mut Recorded<Store>,
@@ -184,15 +186,61 @@ fn fill_buffers(
     if parse_buffer == 0 {
         return fill_counted(store, text_buffer + 1, letters.len() as u8, letters);
     }
+    // A row of bytes is filled with zeros first: one for 255 words would cost more than the words.
+    if store.store().memory()[parse_buffer] <= USUAL_WORDS {
+        let mut bytes = [0; USUAL_LENGTH];
+        fill_words(
+            header,
+            store,
+            text_buffer,
+            parse_buffer,
+            letters,
+            &mut bytes,
+        )
+    } else {
+        let mut bytes = [0; WORDS_LENGTH];
+        fill_words(
+            header,
+            store,
+            text_buffer,
+            parse_buffer,
+            letters,
+            &mut bytes,
+        )
+    }
+}
+
+/// Fills both buffers of a line, by way of a row of bytes with room for the words.
+fn fill_words(
+    header: &Header,
+    store: &mut Recorded<Store>,
+    text_buffer: usize,
+    parse_buffer: usize,
+    letters: &[u8],
+    bytes: &mut [u8],
+) -> Result<(), NoMemory>
+    requires store { IsStoreOf header.now store.old.store }
+    requires few { length letters.now ≤ 255 }
+    requires behind_header { header_size ≤ text_buffer }
+    requires room { HasRoomForLetters store.old.store text_buffer (length letters.now) }
+    requires given { parse_buffer ≢ 0 }
+    requires words_behind_header { header_size ≤ parse_buffer }
+    requires words_room { HasRoomForWords store.old.store parse_buffer }
+    requires bytes_room { 4 * slice_index (memory_of store.old.store) parse_buffer ≤ length bytes.old }
+    ensures filled { OnOk result (FillsBuffers store.old store.new
+        text_buffer parse_buffer letters.now) }
+    ensures given_up { OnErr result (GivenUp store.old store.new) }
+{
     let memory = store.store().memory();
-    let mut bytes = [0; WORDS_LENGTH];
+    let most = memory[parse_buffer];
+    let dictionary = header.dictionary;
     let words = parse(
         memory,
-        header.dictionary.address,
-        header.dictionary.is_ordered,
+        dictionary.address,
+        dictionary.is_ordered,
         letters,
-        memory[parse_buffer],
-        &mut bytes,
+        most,
+        bytes,
     );
     fill_counted(store, text_buffer + 1, letters.len() as u8, letters)?;
     fill_counted(store, parse_buffer + 1, words, &bytes[..4 * words as usize])

@@ -13,6 +13,12 @@ use zcore::word_key;
 /// The bytes of as many words as a parse buffer can have room for.
 pub(crate) const WORDS_LENGTH: usize = 4 * 255;
 
+/// Room for as many words as most stories ask for, Inform's library for 15.
+pub(crate) const USUAL_WORDS: u8 = 16;
+
+/// The bytes of these words.
+pub(crate) const USUAL_LENGTH: usize = 4 * 16;
+
 /// Writes four bytes for each of the first words of a line, at most so many, and answers how many
 /// words they are. A dictionary that is known to be in order is searched by halving. It takes no
 /// memory.
@@ -22,11 +28,13 @@ pub(crate) fn parse(
     is_ordered: bool,
     letters: &[u8],
     most: u8,
-    bytes: &mut [u8; 1020],
+    bytes: &mut [u8],
 ) -> u8
     requires head { HasDictionaryHead memory.now dictionary }
     requires ordered { is_ordered ≡ true → IsDictionary memory.now dictionary }
     requires few { length letters.now ≤ 255 }
+    requires room { 4 * most ≤ length bytes.old }
+    ensures size { length bytes.new ≡ length bytes.old }
     ensures count { result ≡ length (first_words memory.now dictionary letters.now most) }
     ensures few { result ≤ most }
     ensures bytes { take (4 * result) bytes.new
@@ -68,13 +76,14 @@ fn put_word(
     dictionary: u16,
     is_ordered: bool,
     word: Word,
-    bytes: &mut [u8; 1020],
+    bytes: &mut [u8],
     at: usize,
 )
     requires ordered { is_ordered ≡ true → IsDictionary memory.now dictionary }
-    requires room { at + 4 ≤ 1020 }
+    requires room { at + 4 ≤ length bytes.old }
     requires within { word.place + length word.bytes.now ≤ 255 }
-    ensures { take (at + 4) bytes.new
+    ensures size { length bytes.new ≡ length bytes.old }
+    ensures written { take (at + 4) bytes.new
         ≡ take at bytes.old ++ word_bytes memory.now dictionary (word_of word.entry) }
 {
     let entry = find_entry(memory, dictionary, is_ordered, &word_key(word.bytes));

@@ -15,6 +15,7 @@ use zcore::{Header, Next};
 ///
 /// M12 where the text buffer cannot take a line or the parse buffer no words, then M6 and M4 of the
 /// result. `End::Memory` where memory was refused: the turn is given up.
+#[inline(always)]
 pub fn read(
     header: &Header,
     store: &mut Recorded<Store>,

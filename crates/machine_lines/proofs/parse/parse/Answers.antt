@@ -1,4 +1,4 @@
-use Rattle.std.proofs.Common.{◌≡◌, [], ap, ◌∙◌, sym, subst, arith}
+use Rattle.std.proofs.Common.{◌≡◌, [], refl, ap, ◌∙◌, sym, subst, arith}
 use Rattle.zcore.specs.Cutting.{words_of}
 use Rattle.tables.specs.Placed.{words_left}
 use Rattle.zcore.specs.Parsing.{separators_of}
@@ -14,7 +14,8 @@ loop-count-init c =
     record {
       parses = parse_begins m c.args.dictionary c.args.letters.now c.args.most c.args.bytes.now _ e;
       few = omega arith;
-      long = c.told-bytes;
+      long = c.requires.room;
+      kept = refl;
       within = subst (AreWithin 255) (sym e) (words_within (separators_of m c.args.dictionary) [] c.args.letters.now 0
           255 (omega (arith, c.requires.few)));
     }
@@ -23,8 +24,9 @@ pub loop-count-preserved : goal.loop-count-preserved
 loop-count-preserved c = record {
   parses = parse_goes_on c.args.memory.now c.args.dictionary c.args.letters.now c.args.most c.loop-count.bytes
       c.put_word.new.bytes c.loop-count.count _ _ _ c.loop-count.invariant.parses c.loop-count-test.true
-      c.in-Some.ensures.steps c.put_word.ensures;
+      c.in-Some.ensures.steps c.put_word.ensures.written;
   few = omega (arith, c.loop-count-test.true);
-  long = c.put_word.array_long;
+  long = omega (arith, c.put_word.ensures.size, c.loop-count.invariant.long);
+  kept = c.put_word.ensures.size ∙ c.loop-count.invariant.kept;
   within = (subst (AreWithin 255) c.in-Some.ensures.steps c.loop-count.invariant.within).1;
 }

@@ -1,4 +1,4 @@
-use Rattle.std.proofs.Common.{◌≡◌, ◌-◌, ◌≤◌, length}
+use Rattle.std.proofs.Common.{◌≡◌, ◌-◌, ◌*◌, ◌≤◌, length}
 use Rattle.tables.specs.Placed.{words_left}
 use Rattle.machine_lines.proofs.Words.{AreWithin, Parses}
 use Rattle.machine_lines.proofs.parse.parse.Given as goal
@@ -8,7 +8,8 @@ abbrev pub invariant-loop-count : goal.invariant-loop-count
 invariant-loop-count l = record {
   parses : Parses l.memory l.dictionary l.letters l.most l.bytes l.count (words_left l.words);
   few : l.count ≤ l.most;
-  long : length l.bytes ≡ 1020;
+  long : 4 * l.most ≤ length l.bytes;
+  kept : length l.bytes ≡ length l.fn.bytes;
   within : AreWithin 255 (words_left l.words);
 }
 

@@ -4,11 +4,11 @@ use Rattle.zcore.specs.Parsing.{entry_for}
 use Rattle.machine_lines.proofs.Words.{four_written}
 use Rattle.machine_lines.proofs.parse.put_word.Goals as goal
 
-pub returns : goal.returns
+pub returns-clause-written : goal.returns-clause-written
 unfolding entry_for
-returns c =
+returns-clause-written c =
     let w = c.args.word in
-    four_written c.args.bytes.now c.args.at _ _ _ _ (omega (arith, c.requires.room, c.told-bytes))
+    four_written c.args.bytes.now c.args.at _ _ _ _ (omega (arith, c.requires.room))
     ∙ ap (λ x. take c.args.at c.args.bytes.now ++ (x / 256) ∷ (x % 256) ∷ length w.bytes.now ∷ ((w.place + 2) % 256)
     ∷ [])
     (c.find_entry-entry.ensures

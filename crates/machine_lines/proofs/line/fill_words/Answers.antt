@@ -4,7 +4,7 @@ use Rattle.zcore.specs.Header.{HasDictionaryHead, IsDictionary}
 use Rattle.machine_frames.specs.Contents.{memory_of}
 use Rattle.machine_lines.proofs.Lines.{base_kept}
 use Rattle.machine_lines.proofs.Buffers.{line_filled}
-use Rattle.machine_lines.proofs.line.fill_buffers.Goals as goal
+use Rattle.machine_lines.proofs.line.fill_words.Goals as goal
 
 pub parse-words-requires-clause-head : goal.parse-words-requires-clause-head
 parse-words-requires-clause-head c =
@@ -21,20 +21,20 @@ parse-words-requires-clause-ordered c =
     (sym (c.memory-memory.ensures ∙ ap memory_of c.store.ensures))
     (subst (IsDictionary (memory_of c.args.store.now.store)) (sym headed.dictionary) (headed.searchable ordered))
 
-pub fill_counted-requires-3-clause-room : goal.fill_counted-requires-3-clause-room
-fill_counted-requires-3-clause-room c =
-    let base = base_kept c.args.store.now c.fill_counted-2.new.store c.in_ok-fill_counted.ensures.filled.goes_on in
-    let size : length c.parse-words.new.bytes ≡ 1020 = c.parse-words.array_long in
-    let long = length-take-le (4 * c.parse-words.result) c.parse-words.new.bytes
-    (omega (arith, c.parse-words.type_inv)) in
+pub fill_counted-requires-2-clause-room : goal.fill_counted-requires-2-clause-room
+fill_counted-requires-2-clause-room c =
+    let base = base_kept c.args.store.now c.fill_counted.new.store c.in_ok-fill_counted.ensures.filled.goes_on in
     let e = ap (λ m. slice_index m c.args.parse_buffer) (c.memory-memory.ensures ∙ ap memory_of c.store.ensures) in
-    omega (arith, base, long, e, c.parse-words.ensures.few, c.requires.words_room c.if-parse_buffer-eq0.false)
+    let parse = c.parse-words.ensures in
+    let long = length-take-le (4 * c.parse-words.result) c.parse-words.new.bytes
+    (omega (arith, parse.size, parse.few, c.requires.bytes_room, e)) in
+    omega (arith, base, long, e, parse.few, c.requires.words_room c.requires.given)
 
 pub returns-clause-filled : goal.returns-clause-filled
 returns-clause-filled c =
-    line_filled c.args.store.now c.fill_counted-2.new.store c.fill_counted-3.new.store c.memory-memory.result.now
+    line_filled c.args.store.now c.fill_counted.new.store c.fill_counted-2.new.store c.memory-memory.result.now
     c.args.header.now.dictionary.address c.args.text_buffer c.args.parse_buffer _ c.args.letters.now _
-    c.fill_counted-3.result
-    c.if-parse_buffer-eq0.false (c.memory-memory.ensures ∙ ap memory_of c.store.ensures)
+    c.fill_counted-2.result
+    c.requires.given (c.memory-memory.ensures ∙ ap memory_of c.store.ensures)
     c.requires.store.headed.dictionary c.parse-words.ensures.count c.parse-words.ensures.bytes
-    c.in_ok-fill_counted.ensures.filled c.fill_counted-3.ensures.filled
+    c.in_ok-fill_counted.ensures.filled c.fill_counted-2.ensures.filled
