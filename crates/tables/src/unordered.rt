@@ -117,8 +117,6 @@ fn find_first(story: &[u8], entries: Entries, key: u64) -> u16
 /// The address of the first entry of a dictionary that has the key, or 0. Where the dictionary is
 /// known to be in order it is searched by halving, and otherwise from its first entry to its last.
 /// One that cannot be read has no entry.
-#[inline(always)]
-#[inline(always)]
 pub fn find_entry(story: &[u8], dictionary: u16, is_ordered: bool, key: &[u8; 6]) -> u16
     requires { is_ordered ≡ true → IsDictionary story.now dictionary }
     ensures { result ≡ entry_of story.now dictionary (number_of_key key.now) }
