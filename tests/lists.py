@@ -6,6 +6,7 @@
 - in docs/CHANGING.md the crates by their parts, and the table of what a change costs: how many crates, and minutes
 - in docs/COSTS.md the table of the gate, by the seconds in seconds.txt
 - in docs/PROVING.md the number of crates
+- in docs/DIFFERENCES.md the table of what is missing, by the table of the crate `messages_features`
 - in the READMEs of `rows_of_sources` and `rows_of_machine` how many rows their file `stdin` has
 
 `./lists` writes them, and `tests/documents` fails where one is stale."""
@@ -154,6 +155,24 @@ def with_number(text, crates):
     return re.sub(r"\d+( crates in which every function is proved)", rf"{len(crates.libraries)}\1", text)
 
 
+def with_features(text, _):
+    """DIFFERENCES.md with the table of what is missing."""
+    table = (TOP / "crates/messages_features/src/table.rt").read_text()
+    rows = ["| Missing here | Write instead | Section |", "|---|---|---|"]
+    for feature in re.findall(r"Feature = Feature \{(.*?)\n\};", table, re.S):
+        missing, instead, section = (field_of(feature, name) for name in ("missing", "instead", "section"))
+        instead = re.sub(r"(examples/(\w+)\.inf)", r"[\2](../\1)", instead)
+        place = f"[{section}](#{section.lower()})" if section else ""
+        rows.append(f"| {missing} | {instead} | {place} |".replace("  |", " |"))
+    return between(text, "<!-- From messages_features, by ./lists. -->\n", "<!-- End. -->", "\n".join(["", *rows, "", ""]))
+
+
+def field_of(feature, name):
+    """A field of a feature, with what a table's row escapes."""
+    text = re.search(rf'{name}: "((?:[^"\\]|\\.)*)"', feature).group(1)
+    return text.replace('\\"', '"').replace("\\\\", "\\").replace("|", r"\|")
+
+
 def rows_of(name):
     """How many rows the file `stdin` of a crate has in each of its parts, which begin with `# Sources`."""
     parts = (TOP / "crates" / name / "stdin").read_text().split("\n# Sources ")
@@ -180,6 +199,7 @@ def documents():
         ("docs/CHANGING.md", lambda text, crates: with_costs(with_map(text, crates), crates)),
         ("docs/COSTS.md", with_seconds),
         ("docs/PROVING.md", with_number),
+        ("docs/DIFFERENCES.md", with_features),
     ):
         now = (TOP / name).read_text()
         yield TOP / name, now, change(now, crates)

@@ -1,6 +1,7 @@
 //! Why no text, no character and no word begins at a quote (E02).
 
 use crate::runs::{Class, byte_of_line, from, front, run_length};
+use messages_features::ACCENTS;
 use std::alloc::{AllocError, Global};
 
 /// Where what is quoted has no end.
@@ -22,6 +23,10 @@ fn said(alloc: Global, sentence: &str) -> Result<Option<String>, AllocError> {
 
 /// That a byte may not stand there.
 pub fn misplaced(alloc: Global, byte: u8, place: &str) -> Result<Option<String>, AllocError> {
+    if !byte.is_ascii() {
+        let instead = ACCENTS.instead;
+        return Ok(Some(format!(in alloc; "byte {byte} is not allowed {place}: write {instead}")?));
+    }
     if !matches!(byte, b' '..=b'~') {
         return Ok(Some(format!(in alloc; "byte {byte} is not allowed {place}")?));
     }

@@ -3,11 +3,27 @@
 use crate::numbers::number;
 use crate::quoted::{misplaced, quoted};
 use crate::runs::{Class, from, run_length};
+use messages_features::{Absent, DIRECTIVE_SIGN, Feature, OPCODES};
 use std::alloc::{AllocError, Global};
 use syntax_lexer::{BAD_NUMBER, BAD_TEXT, NAME_TOO_LONG, STRAY_BYTE};
 
+/// The feature of Inform 6 that begins with a sign and a letter, and how it is called.
+fn feature_of(bytes: &[u8]) -> Option<(&'static str, Feature)> {
+    match bytes {
+        [b'#', next, ..] if next.is_ascii_alphabetic() => {
+            Some(("'#' before a directive", DIRECTIVE_SIGN))
+        }
+        [b'@', next, ..] if next.is_ascii_alphabetic() => Some(("an opcode", OPCODES)),
+        _ => None,
+    }
+}
+
 /// What is wrong with a byte that begins no token.
 fn stray(alloc: Global, bytes: &[u8]) -> Result<Option<String>, AllocError> {
+    if let Some((what, feature)) = feature_of(bytes) {
+        let absent = Absent(what, feature);
+        return Ok(Some(format!(in alloc; "{absent}")?));
+    }
     match bytes.first().copied() {
         None => Ok(None),
         Some(byte) if matches!(byte, b' '..=b'~') => {

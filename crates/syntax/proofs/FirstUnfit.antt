@@ -2,7 +2,7 @@
 -- before it begin a program, and with it they begin none.
 use Rattle.std.proofs.Common.{◌≡◌, ℕ, suc, ◌<◌, ◌≤◌, ◌*◌, ◌-◌, false, List, [], ◌∷◌, ◌++◌, append_assoc}
 use Rattle.std.proofs.Common.{length, Option, Some, None, Result, Ok, Err, refl, sym, ap, subst, ◌∙◌, drop, arith}
-use Rattle.syntax_lexer.specs.Token.{Lexeme, end, position_of}
+use Rattle.syntax_lexer.specs.Token.{Lexeme, lexemes, end, position_of}
 use Rattle.syntax_lexer.specs.Tokens.{EndsOnce}
 use Rattle.syntax_parsing.specs.Stop.{Stop, unfit, deep}
 use Rattle.syntax_parsing.specs.Errors.{place_of}
@@ -17,7 +17,14 @@ use Rattle.syntax.specs.Tree.{ProgramTree}
 use Rattle.syntax.specs.Grammar.{IsProgram, program_nesting}
 use Rattle.syntax.specs.Nesting.{DeepEntries, deep_entries_first, deep_entries_next}
 use Rattle.syntax.specs.Parse.{program}
-use Rattle.syntax.specs.Places.{Begins}
+use Rattle.syntax.specs.Places.{Begins, IsUnfitBehind}
+use Rattle.syntax_lexer.specs.declared.token.Token.{Token}
+use Rattle.syntax_parsing.specs.declared.error.ParseError.{ParseError}
+use Rattle.syntax_parsing.specs.declared.error.ParseError.TheVariants as errors
+use Rattle.syntax_parsing.specs.Parse.{Fails}
+use Rattle.syntax_parsing.specs.declared.error.Fault.{Fault}
+use Rattle.syntax_parsing.specs.declared.error.Fault.TheVariants.{Grammar, Deep}
+use Rattle.syntax_parsing.specs.Stop.{stop_of}
 use Rattle.syntax.proofs.Complete.{within, short_Entry}
 use Rattle.syntax.proofs.EntriesFollow.{program_stops, program_taken, taken_fits}
 use Rattle.syntax.proofs.Main.{found, too_deep}
@@ -66,7 +73,7 @@ taken_derives ts none = go (program (2 * length ts) ts) refl
     go (Err (unfit n)) q = absurd (taken_fits (2 * length ts) n ts none q)
     go (Err (deep n)) q = absurd (omega (arith, shallow_Program (too_deep (2 * length ts) n ts q).is))
 
-begins : (front : List Lexeme) (k : Stack) → Fits false k
+pub begins : (front : List Lexeme) (k : Stack) → Fits false k
     → ((vs : List Lexeme) → stop false file (front ++ vs) ≡ stop false k vs) → Begins front
 begins front k h on = let a = taken_derives (front ++ words k) (on (words k) ∙ taken k h) in (words k, a.0, a.1)
 
@@ -77,7 +84,7 @@ stops_there : (k : Stack) (t : Lexeme) (ts : List Lexeme) → shift false k t �
 unfolding stop
 stops_there k t ts e = rw e refl
 
-begins_none : (front : List Lexeme) (k : Stack) (t : Lexeme) → shift false k t ≡ None
+pub begins_none : (front : List Lexeme) (k : Stack) (t : Lexeme) → shift false k t ≡ None
     → ((vs : List Lexeme) → stop false file (front ++ vs) ≡ stop false k vs) → Begins (front ++ t ∷ []) → ⊥
 begins_none front k t e on a =
     let all : List Lexeme = (front ++ t ∷ []) ++ a.0 in
@@ -137,3 +144,45 @@ pub place_found : (ts front : List Lexeme) (t : Lexeme) (behind : List Lexeme) (
 place_found ts front t behind n is counts =
     let before : length (front ++ t ∷ behind) - suc (length behind) ≡ length front = length_front front (t ∷ behind) in
     rw (is, sym counts, before, drop_front front (t ∷ behind)) refl
+
+-- ---- its number
+
+no_place_deep : (n : ℕ) (ts : List Lexeme) → program (2 * length ts) ts ≡ Err (deep n) → ⊥
+no_place_deep n ts e = absurd (omega (arith, shallow_Program (too_deep (2 * length ts) n ts e).is))
+
+front_is : (ts front : List Lexeme) (t : Lexeme) (behind : List Lexeme) (n : ℕ) → ts ≡ front ++ t ∷ behind
+    → suc (length behind) ≡ n → length front ≡ length ts - n
+front_is ts front t behind n is counts = rw (is, sym counts) (sym (length_front front (t ∷ behind)))
+
+unfit_behind : (d n : ℕ) (ts : List Lexeme) → EndsOnce ts → program d ts ≡ Err (unfit n)
+    → IsUnfitBehind ts (length ts - n)
+unfit_behind d n ts once e =
+    let a = first_unfit d n ts once e in
+    record {
+      front = a.front;
+      token = a.token;
+      behind = a.behind;
+      is = a.is;
+      counts = front_is ts a.front a.token a.behind n a.is a.counts;
+      fits = a.fits;
+      does_not = a.does_not;
+    }
+
+pub as_many : (ts : List Token) → length ts * 2 ≡ 2 * length (lexemes ts)
+as_many [] = refl
+as_many (t ∷ ts) = omega (arith, as_many ts)
+
+by_fault : (d n : ℕ) (f : Fault) (ts : List Lexeme) → d ≡ 2 * length ts
+    → program d ts ≡ Err (stop_of f n) → EndsOnce ts → IsUnfitBehind ts (length ts - n)
+by_fault d n Grammar ts is e once = unfit_behind d n ts once e
+by_fault d n Deep ts is e once = absurd (no_place_deep n ts (subst (λ x. program x ts ≡ Err (deep n)) is e))
+
+-- what is answered, by how the parser with that depth fails
+pub answers_unfit : (d m n : ℕ) (f : Fault) (e : ParseError) (ts : List Lexeme) → d ≡ 2 * length ts
+    → e ≡ errors.Fault f n → Fails e (program d ts) → m ≡ length ts - n → EndsOnce ts → IsUnfitBehind ts m
+answers_unfit d m n f e ts is was h counts once =
+    subst (λ k. IsUnfitBehind ts k) (sym counts)
+    (by_fault d n f ts is (subst (λ x. Fails x (program d ts)) was h) once)
+
+pub answers_none : (d : ℕ) (p : ProgramTree) (ts : List Lexeme) → program d ts ≡ Ok p → (q : ProgramTree) × IsProgram ts q
+answers_none d p ts e = (p, (found d ts p e).0)

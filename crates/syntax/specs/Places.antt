@@ -1,5 +1,5 @@
 -- Where tokens leave the grammar of programs, and where they stand too deep.
-use Rattle.std.specs.Prelude.{◌≡◌, ◌<◌, ◌≤◌, ℕ, suc, List, [], ◌∷◌, ◌++◌, length}
+use Rattle.std.specs.Prelude.{◌≡◌, ◌<◌, ◌≤◌, ℕ, suc, List, [], ◌∷◌, ◌++◌, length, Option, Some, None}
 use Rattle.syntax_lexer.specs.declared.token.Position.{Position}
 use Rattle.syntax_lexer.specs.Token.{Lexeme, position_of}
 use Rattle.syntax.specs.Tree.{ProgramTree}
@@ -32,3 +32,18 @@ pub record IsFirstDeep (most : ℕ) (ts : List Lexeme) (P : Position → Type 0)
   -- what stands before it stands no deeper
   pub first : (n : ℕ) (u : List Lexeme) → DeepEntries n ts u → length (token ∷ behind) < length u → n ≤ most
   pub stands : P (position_of token)
+
+-- some program begins with so many tokens, and none with one more
+pub record IsUnfitBehind (ts : List Lexeme) (count : ℕ) : Type 0 where
+  pub front : List Lexeme
+  pub token : Lexeme
+  pub behind : List Lexeme
+  pub is : ts ≡ front ++ token ∷ behind
+  pub counts : length front ≡ count
+  pub fits : Begins front
+  pub does_not : Begins (front ++ token ∷ []) → ⊥
+
+-- the number of the first token with which no program begins; none, where the tokens are a program
+abbrev pub AnswersUnfit : List Lexeme → Option ℕ → Type 0
+AnswersUnfit ts None = (p : ProgramTree) × IsProgram ts p
+AnswersUnfit ts (Some n) = IsUnfitBehind ts n

@@ -5,6 +5,7 @@ mod entries;
 mod laws;
 mod program;
 mod tree;
+mod unfit;
 mod words;
 
 pub use laws::{printable_trees, weighed_routines};
@@ -20,3 +21,4 @@ pub use syntax_trees::{
     Step, Width,
 };
 pub use tree::Program;
+pub use unfit::first_unfit;

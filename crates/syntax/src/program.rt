@@ -71,12 +71,23 @@ fn whole<'t, 'a>(
     })
 }
 
+/// The program that the tokens are, with `depth` nestings to open in a statement, or why they are
+/// none, and how many tokens are left there.
+///
+/// # Errors
+///
+/// `Fault::Grammar` at the first token with which no program begins, `Fault::Deep` at the first for
+/// which no nesting is left, and `Memory` where a growth is refused.
 #[tactic(auto, unfolding(crate::specs::Parse::program))]
-fn program<'a>(alloc: Global, tokens: &[Token<'a>]) -> Result<Program<'a>, ParseError>
-    ensures { Gives program_tree result (spec.program 100 (lexemes tokens.now)) }
+pub fn program<'a>(
+    alloc: Global,
+    tokens: &[Token<'a>],
+    depth: usize,
+) -> Result<Program<'a>, ParseError>
+    ensures { Gives program_tree result (spec.program depth (lexemes tokens.now)) }
 {
     let mut parser = Parser { alloc, tokens };
-    match entries(&mut parser, MOST_NESTED) {
+    match entries(&mut parser, depth) {
         Ok(found) => whole(&parser, found, tokens),
         Err(e) => Err(e),
     }
@@ -152,7 +163,7 @@ pub fn parse_placed<'a>(alloc: Global, tokens: &[Token<'a>]) -> Result<Program<'
     ensures numbers { IfErr result (λ f. (f.fault.number ≡ 5) ⊎ (f.fault.number ≡ 10)
         ⊎ (f ≡ nowhere no_memory)) }
 {
-    match program(alloc, tokens) {
+    match program(alloc, tokens, MOST_NESTED) {
         Ok(found) => Ok(found),
         Err(e) => Err(e.placed(tokens)),
     }

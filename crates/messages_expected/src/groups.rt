@@ -1,0 +1,287 @@
+//! Groups of kinds that have one name.
+
+use crate::kinds::TokenKind;
+use std::alloc::{AllocError, Global};
+use syntax::{Sign, Word};
+
+/// Kinds that are named together.
+#[derive(Clone, Copy)]
+pub enum Group {
+    Statement,
+    Expression,
+    Operand,
+    Value,
+    Operator,
+    BinaryOperator,
+    Directive,
+}
+
+/// The same kinds as in a list: whole groups, and the kinds that are in none of these.
+#[derive(Drop)]
+pub struct Grouped {
+    pub kinds: Vec<TokenKind>,
+    pub groups: Vec<Group>,
+}
+
+impl Grouped {
+    /// Whether a text is in the list, alone or in a group.
+    pub fn has_text(&self) -> bool {
+        self.kinds.contains(&TokenKind::Text) || is_in_any(&self.groups, TokenKind::Text)
+    }
+
+    /// Whether a sign is in the list and in no group.
+    pub fn has_alone(&self, sign: Sign) -> bool {
+        self.kinds.contains(&TokenKind::Sign(sign))
+    }
+
+    /// Whether a sign is all that is in the list.
+    pub fn is_only(&self, sign: Sign) -> bool {
+        match (self.kinds.as_slice(), self.groups.as_slice()) {
+            ([TokenKind::Sign(only)], []) => *only == sign,
+            _ => false,
+        }
+    }
+}
+
+/// All groups. One that contains another is before it.
+const GROUPS: [Group; 7] = [
+    Group::Statement,
+    Group::Expression,
+    Group::Operand,
+    Group::Value,
+    Group::Operator,
+    Group::BinaryOperator,
+    Group::Directive,
+];
+
+/// What a statement begins with.
+const STATEMENT: [TokenKind; 38] = [
+    TokenKind::Name,
+    TokenKind::Number,
+    TokenKind::Text,
+    TokenKind::Character,
+    TokenKind::DictionaryWord,
+    TokenKind::Reserved(Word::Break),
+    TokenKind::Reserved(Word::Child),
+    TokenKind::Reserved(Word::Continue),
+    TokenKind::Reserved(Word::Do),
+    TokenKind::Reserved(Word::False),
+    TokenKind::Reserved(Word::For),
+    TokenKind::Reserved(Word::Give),
+    TokenKind::Reserved(Word::If),
+    TokenKind::Reserved(Word::Move),
+    TokenKind::Reserved(Word::NewLine),
+    TokenKind::Reserved(Word::Nothing),
+    TokenKind::Reserved(Word::Objectloop),
+    TokenKind::Reserved(Word::Parent),
+    TokenKind::Reserved(Word::Print),
+    TokenKind::Reserved(Word::PrintRet),
+    TokenKind::Reserved(Word::Quit),
+    TokenKind::Reserved(Word::Read),
+    TokenKind::Reserved(Word::Remove),
+    TokenKind::Reserved(Word::Return),
+    TokenKind::Reserved(Word::Rfalse),
+    TokenKind::Reserved(Word::Rtrue),
+    TokenKind::Reserved(Word::Sibling),
+    TokenKind::Reserved(Word::Switch),
+    TokenKind::Reserved(Word::True),
+    TokenKind::Reserved(Word::While),
+    TokenKind::Sign(Sign::OpenParenthesis),
+    TokenKind::Sign(Sign::OpenBrace),
+    TokenKind::Sign(Sign::Semicolon),
+    TokenKind::Sign(Sign::Not),
+    TokenKind::Sign(Sign::Tilde),
+    TokenKind::Sign(Sign::Increment),
+    TokenKind::Sign(Sign::Minus),
+    TokenKind::Sign(Sign::Decrement),
+];
+
+/// What an expression begins with.
+const EXPRESSION: [TokenKind; 16] = [
+    TokenKind::Name,
+    TokenKind::Number,
+    TokenKind::Character,
+    TokenKind::DictionaryWord,
+    TokenKind::Reserved(Word::Child),
+    TokenKind::Reserved(Word::False),
+    TokenKind::Reserved(Word::Nothing),
+    TokenKind::Reserved(Word::Parent),
+    TokenKind::Reserved(Word::Sibling),
+    TokenKind::Reserved(Word::True),
+    TokenKind::Sign(Sign::OpenParenthesis),
+    TokenKind::Sign(Sign::Not),
+    TokenKind::Sign(Sign::Tilde),
+    TokenKind::Sign(Sign::Increment),
+    TokenKind::Sign(Sign::Minus),
+    TokenKind::Sign(Sign::Decrement),
+];
+
+/// What an operand of a sum or a product begins with.
+const OPERAND: [TokenKind; 15] = [
+    TokenKind::Name,
+    TokenKind::Number,
+    TokenKind::Character,
+    TokenKind::DictionaryWord,
+    TokenKind::Reserved(Word::Child),
+    TokenKind::Reserved(Word::False),
+    TokenKind::Reserved(Word::Nothing),
+    TokenKind::Reserved(Word::Parent),
+    TokenKind::Reserved(Word::Sibling),
+    TokenKind::Reserved(Word::True),
+    TokenKind::Sign(Sign::OpenParenthesis),
+    TokenKind::Sign(Sign::Tilde),
+    TokenKind::Sign(Sign::Increment),
+    TokenKind::Sign(Sign::Minus),
+    TokenKind::Sign(Sign::Decrement),
+];
+
+/// What a value that is known before a story runs begins with.
+const VALUE: [TokenKind; 8] = [
+    TokenKind::Name,
+    TokenKind::Number,
+    TokenKind::Character,
+    TokenKind::DictionaryWord,
+    TokenKind::Reserved(Word::False),
+    TokenKind::Reserved(Word::Nothing),
+    TokenKind::Reserved(Word::True),
+    TokenKind::Sign(Sign::Minus),
+];
+
+/// What may follow an operand that is not a name alone.
+const OPERATOR: [TokenKind; 26] = [
+    TokenKind::Reserved(Word::Has),
+    TokenKind::Reserved(Word::Hasnt),
+    TokenKind::Reserved(Word::In),
+    TokenKind::Reserved(Word::Notin),
+    TokenKind::Reserved(Word::Provides),
+    TokenKind::Sign(Sign::Dot),
+    TokenKind::Sign(Sign::DotAmpersand),
+    TokenKind::Sign(Sign::DotHash),
+    TokenKind::Sign(Sign::Assign),
+    TokenKind::Sign(Sign::Equal),
+    TokenKind::Sign(Sign::NotEqual),
+    TokenKind::Sign(Sign::Greater),
+    TokenKind::Sign(Sign::GreaterOrEqual),
+    TokenKind::Sign(Sign::Less),
+    TokenKind::Sign(Sign::LessOrEqual),
+    TokenKind::Sign(Sign::AndAlso),
+    TokenKind::Sign(Sign::Ampersand),
+    TokenKind::Sign(Sign::OrElse),
+    TokenKind::Sign(Sign::Bar),
+    TokenKind::Sign(Sign::Plus),
+    TokenKind::Sign(Sign::Increment),
+    TokenKind::Sign(Sign::Minus),
+    TokenKind::Sign(Sign::Decrement),
+    TokenKind::Sign(Sign::Star),
+    TokenKind::Sign(Sign::Slash),
+    TokenKind::Sign(Sign::Percent),
+];
+
+/// Operators between two operands, `=` apart.
+const BINARY_OPERATOR: [TokenKind; 20] = [
+    TokenKind::Reserved(Word::Has),
+    TokenKind::Reserved(Word::Hasnt),
+    TokenKind::Reserved(Word::In),
+    TokenKind::Reserved(Word::Notin),
+    TokenKind::Reserved(Word::Provides),
+    TokenKind::Sign(Sign::Equal),
+    TokenKind::Sign(Sign::NotEqual),
+    TokenKind::Sign(Sign::Greater),
+    TokenKind::Sign(Sign::GreaterOrEqual),
+    TokenKind::Sign(Sign::Less),
+    TokenKind::Sign(Sign::LessOrEqual),
+    TokenKind::Sign(Sign::AndAlso),
+    TokenKind::Sign(Sign::Ampersand),
+    TokenKind::Sign(Sign::OrElse),
+    TokenKind::Sign(Sign::Bar),
+    TokenKind::Sign(Sign::Plus),
+    TokenKind::Sign(Sign::Minus),
+    TokenKind::Sign(Sign::Star),
+    TokenKind::Sign(Sign::Slash),
+    TokenKind::Sign(Sign::Percent),
+];
+
+/// What a directive begins with.
+const DIRECTIVE: [TokenKind; 8] = [
+    TokenKind::Reserved(Word::Abbreviate),
+    TokenKind::Reserved(Word::Array),
+    TokenKind::Reserved(Word::Attribute),
+    TokenKind::Reserved(Word::Constant),
+    TokenKind::Reserved(Word::Global),
+    TokenKind::Reserved(Word::Object),
+    TokenKind::Reserved(Word::Property),
+    TokenKind::Sign(Sign::OpenBracket),
+];
+
+/// The kinds of a group.
+fn members(group: Group) -> &'static [TokenKind] {
+    match group {
+        Group::Statement => &STATEMENT,
+        Group::Expression => &EXPRESSION,
+        Group::Operand => &OPERAND,
+        Group::Value => &VALUE,
+        Group::Operator => &OPERATOR,
+        Group::BinaryOperator => &BINARY_OPERATOR,
+        Group::Directive => &DIRECTIVE,
+    }
+}
+
+/// Whether all of these kinds are in a list.
+fn has_all(kinds: &[TokenKind], members: &[TokenKind]) -> bool {
+    for member in members {
+        if !kinds.contains(member) {
+            return false;
+        }
+    }
+    true
+}
+
+/// Whether a kind is in one of these groups.
+fn is_in_any(groups: &[Group], kind: TokenKind) -> bool {
+    for group in groups {
+        if members(*group).contains(&kind) {
+            return true;
+        }
+    }
+    false
+}
+
+/// Whether each kind of a group is in one of these groups.
+fn is_covered(groups: &[Group], group: Group) -> bool {
+    for member in members(group) {
+        if !is_in_any(groups, *member) {
+            return false;
+        }
+    }
+    true
+}
+
+/// The groups of which all kinds are in a list, without those that others contain.
+fn whole_groups(alloc: Global, kinds: &[TokenKind]) -> Result<Vec<Group>, AllocError> {
+    let mut groups = Vec::new(alloc);
+    for group in &GROUPS {
+        if has_all(kinds, members(*group)) && !is_covered(&groups, *group) {
+            groups.push(*group)?;
+        }
+    }
+    Ok(groups)
+}
+
+/// Kinds in groups. A group is named only if all its kinds are in the list.
+///
+/// # Errors
+///
+/// `AllocError` if memory is refused.
+pub fn in_groups(alloc: Global, kinds: &[TokenKind]) -> Result<Grouped, AllocError> {
+    let groups = whole_groups(alloc, kinds)?;
+    let mut alone = Vec::new(alloc);
+    for kind in kinds {
+        if !is_in_any(&groups, *kind) {
+            alone.push(*kind)?;
+        }
+    }
+    Ok(Grouped {
+        kinds: alone,
+        groups,
+    })
+}

@@ -1,0 +1,90 @@
+//! A feature, how it is found by a name, and how its absence is said.
+
+use crate::table::{ALL, IN_EXPRESSIONS};
+use std::fmt::{self, Display, Formatter};
+
+/// A feature of Inform 6, or one that authors expect there, that is not in this language. In its
+/// texts code is between backquotes.
+#[derive(Clone, Copy)]
+pub struct Feature {
+    /// How it is written in Inform 6.
+    pub missing: &'static str,
+
+    /// What to write here: `nothing`, or words that end `write ..`.
+    pub instead: &'static str,
+
+    /// The section of docs/DIFFERENCES.md that says more, or nothing.
+    pub section: &'static str,
+
+    /// The names by which it is recognized, in small letters.
+    pub names: &'static [&'static str],
+}
+
+/// That something is not in this language, and what to write instead: `'random' is not in this
+/// language: write a routine of your own`.
+#[derive(Clone, Copy)]
+pub struct Absent<N>(pub N, pub Feature);
+
+/// What to write in the place of a feature: `write a routine of your own`.
+#[derive(Clone, Copy)]
+pub struct Instead(pub Feature);
+
+/// A text with quotes in the place of backquotes.
+#[derive(Clone, Copy)]
+struct Plain(&'static str);
+
+impl Display for Plain {
+    fn fmt<W: fmt::Write>(&self, f: &mut Formatter<W>) -> fmt::Result {
+        for sign in self.0.chars() {
+            f.write_char(if sign == '`' { '\'' } else { sign })?;
+        }
+        Ok(())
+    }
+}
+
+impl Display for Instead {
+    fn fmt<W: fmt::Write>(&self, f: &mut Formatter<W>) -> fmt::Result {
+        if self.0.instead == "nothing" {
+            f.write_str("leave it out")
+        } else {
+            write!(f, "write {}", Plain(self.0.instead))
+        }
+    }
+}
+
+impl<N: Display> Display for Absent<N> {
+    fn fmt<W: fmt::Write>(&self, f: &mut Formatter<W>) -> fmt::Result {
+        let instead = Instead(self.1);
+        write!(f, "{} is not in this language: {instead}", self.0)
+    }
+}
+
+/// Whether a feature has this name, in capital or small letters.
+fn has_name(feature: &Feature, text: &[u8]) -> bool {
+    for name in feature.names {
+        if name.as_bytes().eq_ignore_ascii_case(text) {
+            return true;
+        }
+    }
+    false
+}
+
+/// The first feature of a list that has a name, in capital or small letters.
+fn find(features: &[Feature], text: &[u8]) -> Option<Feature> {
+    for feature in features {
+        if has_name(feature, text) {
+            return Some(*feature);
+        }
+    }
+    None
+}
+
+/// The feature that is recognized by a name, in capital or small letters.
+pub fn named(text: &[u8]) -> Option<Feature> {
+    find(&ALL, text)
+}
+
+/// The feature that is recognized by a name in an expression, in capital or small letters.
+pub fn named_in_expression(text: &[u8]) -> Option<Feature> {
+    find(&IN_EXPRESSIONS, text)
+}

@@ -1,0 +1,313 @@
+//! The features, in the order of the table in docs/DIFFERENCES.md, which `./lists` writes from this
+//! file.
+
+use crate::feature::Feature;
+
+const LIBRARY: Feature = Feature {
+    missing: "the Inform library, `Include`, `Verb`, `Extend`, actions (`<Look>`)",
+    instead: "routines and a `read` loop, as in examples/skeleton.inf",
+    section: "Directives",
+    names: &["include", "verb", "extend"],
+};
+
+const CONDITIONS: Feature = Feature {
+    missing: "`Ifdef`, `Ifndef`, `Ifnot`, `Endif`",
+    instead: "only the branch that you need",
+    section: "",
+    names: &[
+        "ifdef", "ifndef", "iftrue", "iffalse", "ifnot", "ifv3", "ifv5", "endif",
+    ],
+};
+
+const SETTINGS: Feature = Feature {
+    missing: "`Release`, `Serial`, `Switches`, `Replace`, `Default`",
+    instead: "nothing",
+    section: "",
+    names: &[
+        "release",
+        "serial",
+        "switches",
+        "replace",
+        "statusline",
+        "lowstring",
+        "zcharacter",
+    ],
+};
+
+/// `#` before a directive.
+pub const DIRECTIVE_SIGN: Feature = Feature {
+    missing: "`#` before directives",
+    instead: "the directive without it",
+    section: "",
+    names: &[],
+};
+
+const MAIN_LOCALS: Feature = Feature {
+    missing: "locals of `Main`",
+    instead: "globals, or a routine that `Main` calls",
+    section: "Definitions",
+    names: &[],
+};
+
+/// Values that have to be computed before the story runs.
+pub const CONSTANT_EXPRESSIONS: Feature = Feature {
+    missing: "`Constant size = 2 + 3;`, `Constant size 5;`, `Constant debug;`",
+    instead: "one value, as in `Constant size = 5;` and `Constant debug = 0;`",
+    section: "",
+    names: &[],
+};
+
+const BUFFERS: Feature = Feature {
+    missing: "`Array line buffer 20`",
+    instead: "`Array line -> 22`, and `line-->0 = 20` at the start of `Main`",
+    section: "",
+    names: &[],
+};
+
+const ARRAY_VALUES: Feature = Feature {
+    missing: "texts, brackets and parentheses in arrays",
+    instead: "characters and plain values, and a `Constant` for a negative one",
+    section: "",
+    names: &[],
+};
+
+/// Texts, routines and other things that are no numbers as values.
+pub const OTHER_VALUES: Feature = Feature {
+    missing: "routines, arrays, attributes, properties, texts as values",
+    instead: "a number, and a `switch` over it",
+    section: "Values",
+    names: &[],
+};
+
+const FUNCTIONS: Feature = Feature {
+    missing: "`random`, `children`, `youngest`, `indirect`, `metaclass`",
+    instead: "a routine of your own",
+    section: "",
+    names: &[
+        "random",
+        "children",
+        "youngest",
+        "eldest",
+        "elder",
+        "younger",
+        "indirect",
+        "metaclass",
+    ],
+};
+
+const STEPS: Feature = Feature {
+    missing: "`bag.p++`, `(a->1)++`",
+    instead: "`bag.p = bag.p + 1`, `a->1 = a->1 + 1`",
+    section: "Operators",
+    names: &[],
+};
+
+/// Operators that also assign.
+pub const ASSIGNING_OPERATORS: Feature = Feature {
+    missing: "`a += b`, which Inform 6 lacks too",
+    instead: "`a = a + b`",
+    section: "",
+    names: &[],
+};
+
+/// `!=`, which begins a comment.
+pub const INEQUALITY: Feature = Feature {
+    missing: "`a != b`, which Inform 6 lacks too",
+    instead: "`a ~= b`, since `!` begins a comment",
+    section: "",
+    names: &[],
+};
+
+/// `!` as an operator, which begins a comment.
+pub const NEGATION: Feature = Feature {
+    missing: "`!a`, which Inform 6 lacks too",
+    instead: "`~~a`, since `!` begins a comment",
+    section: "",
+    names: &[],
+};
+
+const ALTERNATIVES: Feature = Feature {
+    missing: "`n > 6 or 4`, `o has a or b`",
+    instead: "`n > 6 || n > 4`, `o has a || o has b`",
+    section: "",
+    names: &[],
+};
+
+const COMMAS: Feature = Feature {
+    missing: "`for (i = 0, j = 9 : ..`",
+    instead: "one statement for each expression",
+    section: "",
+    names: &[],
+};
+
+const NESTED_NEGATIONS: Feature = Feature {
+    missing: "`a + ~~b`, `-~a`",
+    instead: "`a + (~~b)`, `-(~a)`",
+    section: "",
+    names: &[],
+};
+
+/// The forms of `print`.
+pub const PRINT_FORMS: Feature = Feature {
+    missing: "`print (name) x`, `print (The) x`, `print (string) x`, `print (Stars) 3`",
+    instead: "`(object)` for a short name, `(char)` for a character, or a statement that calls, as `Stars(3);`",
+    section: "Statements",
+    names: &[],
+};
+
+const LONG_TEXTS: Feature = Feature {
+    missing: "texts of several lines; `@` and `\\` in texts",
+    instead: "several print items; `(char) 64`, `(char) 92`",
+    section: "",
+    names: &[],
+};
+
+/// Letters with accents.
+pub const ACCENTS: Feature = Feature {
+    missing: "accented letters, also in comments",
+    instead: "letters without accents",
+    section: "",
+    names: &[],
+};
+
+const CHARACTERS: Feature = Feature {
+    missing: "`'^'`, `'~'`, `'''`, `'lamps//p'`",
+    instead: "94, 126, 39, `'lamps'`",
+    section: "",
+    names: &[],
+};
+
+/// Places to jump to.
+pub const LABELS: Feature = Feature {
+    missing: "`jump`, labels",
+    instead: "a loop",
+    section: "",
+    names: &["jump"],
+};
+
+const OBJECT_LOOPS: Feature = Feature {
+    missing: "`objectloop (x from y)`",
+    instead: "`for (x = y : x : x = sibling(x))`",
+    section: "",
+    names: &[],
+};
+
+const READING: Feature = Feature {
+    missing: "`read` with a variable, 0 or a third operand",
+    instead: "the names of two arrays of bytes",
+    section: "",
+    names: &[],
+};
+
+const SPACES: Feature = Feature {
+    missing: "`spaces`",
+    instead: "a `print` with a text of spaces",
+    section: "",
+    names: &["spaces"],
+};
+
+/// Opcodes of the machine.
+pub const OPCODES: Feature = Feature {
+    missing: "opcodes such as `@print_num`",
+    instead: "a statement such as `print`",
+    section: "",
+    names: &[],
+};
+
+const STYLES: Feature = Feature {
+    missing: "`font`, `style`, `box`, `inversion`, `string`",
+    instead: "nothing",
+    section: "",
+    names: &["font", "style", "box", "inversion"],
+};
+
+const SAVING: Feature = Feature {
+    missing: "`save`, `restore`",
+    instead: "`/undo` in the player, or keep the lines that you type",
+    section: "",
+    names: &["save", "restore"],
+};
+
+const CLASSES: Feature = Feature {
+    missing: "`Class`, `ofclass`",
+    instead: "an attribute and a property",
+    section: "Objects",
+    names: &["class", "ofclass"],
+};
+
+/// The operators of classes.
+pub const SUPERCLASSES: Feature = Feature {
+    missing: "`..`, `::`",
+    instead: "`.` and a property of each object",
+    section: "",
+    names: &[],
+};
+
+const MESSAGES: Feature = Feature {
+    missing: "`self`, messages, routines as property values",
+    instead: "a routine with a `switch` over objects",
+    section: "",
+    names: &["self"],
+};
+
+const UNDECLARED: Feature = Feature {
+    missing: "undeclared properties, `with p,`, `with name \"bag\"`",
+    instead: "`Property p;`, `with p 0`, `with name 'bag'`",
+    section: "",
+    names: &[],
+};
+
+const OBJECT_HEADS: Feature = Feature {
+    missing: "`Object \"bag\"`, `has lit with p 3`, `has ~lit`",
+    instead: "`Object bag \"bag\"`, `with p 3, has lit`, nothing",
+    section: "",
+    names: &[],
+};
+
+const ADDRESSES: Feature = Feature {
+    missing: "`a = bag.&p`",
+    instead: "`bag.&p-->0`",
+    section: "",
+    names: &[],
+};
+
+/// The features whose names are in expressions.
+pub(crate) const IN_EXPRESSIONS: [Feature; 2] = [FUNCTIONS, MESSAGES];
+
+/// All features.
+pub(crate) const ALL: [Feature; 34] = [
+    LIBRARY,
+    CONDITIONS,
+    SETTINGS,
+    DIRECTIVE_SIGN,
+    MAIN_LOCALS,
+    CONSTANT_EXPRESSIONS,
+    BUFFERS,
+    ARRAY_VALUES,
+    OTHER_VALUES,
+    FUNCTIONS,
+    STEPS,
+    ASSIGNING_OPERATORS,
+    INEQUALITY,
+    NEGATION,
+    ALTERNATIVES,
+    COMMAS,
+    NESTED_NEGATIONS,
+    PRINT_FORMS,
+    LONG_TEXTS,
+    ACCENTS,
+    CHARACTERS,
+    LABELS,
+    OBJECT_LOOPS,
+    READING,
+    SPACES,
+    OPCODES,
+    STYLES,
+    SAVING,
+    CLASSES,
+    SUPERCLASSES,
+    MESSAGES,
+    UNDECLARED,
+    OBJECT_HEADS,
+    ADDRESSES,
+];
