@@ -12,6 +12,7 @@ complete -c play -l check -d 'Say whether story files load, and which opcodes ou
 complete -c play -l why -d 'Say at the end where the story is'
 complete -c play -l standard -d 'Play every opcode of the Standard'
 complete -c play -l seed -x -d 'Begin the random numbers with this'
+complete -c play -l wrap -x -d 'Break lines at words for a terminal of this many columns'
 complete -c play -n '__fish_contains_opt check' -l format -x -a tsv -d 'Print a line of columns for each file'
 complete -c play -s h -l help -d 'Print help'
 complete -c play -s V -l version -d 'Print the version'

@@ -1,4 +1,2 @@
-pub mod Range
-pub mod Arguments
 pub mod Filling
 pub mod Reading

@@ -1,8 +1,8 @@
 //! What is in story files, without running them.
 
-use crate::words::{Format, place_of};
 use crate::{broken, refuse, story_in};
 use one_line::OneLine;
+use play_arguments::{Format, place_of};
 use session::{LoadFault, RunFault};
 use std::fmt::Display;
 use std::io;

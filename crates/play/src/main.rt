@@ -6,22 +6,23 @@ mod filling;
 mod reading;
 mod standing;
 mod terminal;
-mod words;
 
-ghost use Rattle.play.specs.Range.{IsInRange};
+ghost use Rattle.play_arguments.specs.Range.{IsInRange};
 
 use crate::checking::{check, take_mode};
 use crate::reading::read_story;
 use crate::standing::Standing;
 use crate::terminal::Transcript;
-use crate::words::{Asked, Words, take_format, words_of};
 use messages_explanations::Program;
 use one_line::OneLine;
-use session::{RunFault, Session, run, status};
+use play_arguments::{Asked, Words, take_format, words_of};
+use session::{Mode, Place, RunFault, Session, run, status};
 use std::fmt::Display;
 use std::fs::File;
+use std::io::Write;
 use std::process::ExitCode;
 use std::{env, io, mem};
+use wrapping::Wrapped;
 
 /// The exit status where the story cannot be played.
 const REFUSED: u8 = 1;
@@ -95,27 +96,31 @@ pub(crate) fn story_in(rt: &HostRuntime, name: &str) -> io::Result<Vec<u8>> {
 
 /// Plays a story file on the lines of standard input. The transcript goes to standard output, each
 /// reply as soon as its line was read. Zero bytes with which Inform 6 filled the file do not count.
-/// Where it is asked for, a line on standard error says at the end where the story stands.
+/// Where it is asked for, its lines are broken at words, and a line on standard error says at the
+/// end where the story stands.
 fn play(rt: &HostRuntime, words: Words<'_>) -> ExitCode
     requires { IsInRange words }
 {
     let Ok(story) = story_in(rt, words.story) else {
         return refuse(rt, format_args!("cannot read {}", OneLine(words.story)));
     };
-    let mut session = match Session::open_with(
-        rt.alloc(),
-        story,
-        words.mode,
-        words.fuel,
-        words.keep,
-    ) {
+    let mode = match words.seed {
+        Some(seed) => Mode::Standard(seed),
+        None => Mode::Profile,
+    };
+    let mut session = match Session::open_with(rt.alloc(), story, mode, words.fuel, words.keep) {
         Ok(session) => session,
         Err(fault) => return refuse(rt, fault),
     };
-    let mut transcript = Transcript::new(rt, rt.stdout());
-    let ran = run(&mut rt.stdin(), &mut transcript, &mut session);
+    let ran = match words.wrap {
+        None => run_to(rt, rt.stdout(), &mut session),
+        Some(columns) => {
+            let wrapped = Wrapped::new(rt.alloc(), rt.stdout(), columns as usize);
+            run_to(rt, wrapped, &mut session)
+        }
+    };
     if words.why && ran.is_ok() {
-        let standing = Standing::of(&session, words.mode);
+        let standing = Standing::of(&session, mode);
         let _ = eprintln!(rt; "{standing}");
     }
     // The process ends here: what each turn kept is not given back piece by piece.
@@ -124,4 +129,14 @@ fn play(rt: &HostRuntime, words: Words<'_>) -> ExitCode
         Ok(place) => ExitCode::from(status(&place)),
         Err(fault) => broken(rt, fault),
     }
+}
+
+/// Plays a session on the lines of standard input. The transcript goes to a writer.
+fn run_to<W: Write + Drop>(
+    rt: &HostRuntime,
+    writer: W,
+    session: &mut Session,
+) -> Result<Place, RunFault> {
+    let mut transcript = Transcript::new(rt, writer);
+    run(&mut rt.stdin(), &mut transcript, session)
 }

@@ -1,5 +1,5 @@
 -- The memory of a file that the whole Standard loads.
-use Rattle.std.proofs.Common.{◌≡◌, ◌≤◌, ℕ, List, length, arith}
+use Rattle.std.proofs.Common.{◌≤◌, ℕ, List, length, arith}
 use Rattle.std.proofs.lemmas.List.{length-take-le}
 use Rattle.std.specs.Prelude.{Ok}
 use Rattle.zcore.specs.Layout.{longest_story}

@@ -41,7 +41,11 @@ pub struct Contents {
     /// For which machine it was surveyed.
     pub mode: Mode,
 
-    /// Each opcode among them that this machine does not play, or not with such operands.
+    /// Whether calls or jumps by variables are among them, which are not followed.
+    pub computed: bool,
+
+    /// Each opcode among them that this machine does not play, or not with such operands, and then
+    /// those in routines to which no direct call leads.
     pub outside: Vec<Outside>,
 }
 
@@ -60,6 +64,9 @@ impl fmt::Display for Contents {
         let refusal = self.mode.refusal();
         for outside in &self.outside {
             writeln!(f, "{refusal}: {outside}")?;
+        }
+        if self.computed {
+            f.write_str("computed calls are not followed\n")?;
         }
         Ok(())
     }
@@ -89,6 +96,7 @@ impl Contents {
             routines: reached.routines,
             instructions: reached.instructions,
             mode,
+            computed: reached.computed,
             outside: reached.outside,
         })
     }

@@ -10,6 +10,8 @@ mod mode;
 mod outside;
 mod reach;
 mod survey;
+mod sweep;
+mod ways;
 
 pub use beginning::Beginning;
 pub use columns::Columns;

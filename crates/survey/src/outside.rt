@@ -9,7 +9,8 @@ use survey_opcodes::{Lack, Opcode};
 
 /// An opcode outside the profile among the instructions that can be reached, or an opcode with
 /// operands outside it. `Display` writes it with its first address, as `random (VAR 7) at 1A2C, 3
-/// times`, or `aread (VAR 4) with 4 operands at 1A2C, once`.
+/// times`, or `aread (VAR 4) with 4 operands at 1A2C, once`; behind it `, where no direct call leads`,
+/// if it is so.
 #[derive(Clone, Copy)]
 pub struct Outside {
     /// The opcode.
@@ -23,6 +24,9 @@ pub struct Outside {
 
     /// How many instructions are so.
     pub times: usize,
+
+    /// Whether they are in routines to which no direct call leads.
+    pub is_swept: bool,
 }
 
 impl fmt::Display for Outside {
@@ -32,25 +36,32 @@ impl fmt::Display for Outside {
         let first = self.first;
         write!(f, "{opcode}{lack} at {first:04X}, ")?;
         match self.times {
-            1 => f.write_str("once"),
-            2 => f.write_str("twice"),
-            times => write!(f, "{times} times"),
+            1 => f.write_str("once")?,
+            2 => f.write_str("twice")?,
+            times => write!(f, "{times} times")?,
         }
+        if self.is_swept {
+            f.write_str(", where no direct call leads")?;
+        }
+        Ok(())
     }
 }
 
-/// Notes that the machine refuses this of the instruction at an address, which has this opcode.
+/// Notes that the machine refuses this of the instruction at an address, which has this opcode, and
+/// stands in a routine to which a direct call leads or none.
 pub(crate) fn note(
     outside: &mut Vec<Outside>,
     opcode: Opcode,
     lack: Lack,
     at: usize,
+    is_swept: bool,
 ) -> Result<(), AllocError>
     ensures noted { OnOk result (IsNoted outside.new.items opcode lack) }
 {
     let known = outside.len();
     for i in 0..known {
-        if outside[i].opcode == opcode && outside[i].lack == lack {
+        let is_same = outside[i].opcode == opcode && outside[i].lack == lack;
+        if is_same && outside[i].is_swept == is_swept {
             outside[i] = again(outside[i], at);
             return Ok(());
         }
@@ -60,6 +71,7 @@ pub(crate) fn note(
         lack,
         first: at,
         times: 1,
+        is_swept,
     })?;
     Ok(())
 }
@@ -74,5 +86,6 @@ fn again(found: Outside, at: usize) -> Outside
         lack: found.lack,
         first: found.first.min(at),
         times: found.times.saturating_add(1),
+        is_swept: found.is_swept,
     }
 }

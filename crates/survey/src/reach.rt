@@ -1,19 +1,26 @@
-//! The instructions and routines that can be reached from the start of a story.
+//! The instructions and routines that can be reached from the start of a story, and the routines to
+//! which no direct call leads.
 
-ghost use Rattle.std.specs.Prelude.{◌≡◌, ◌*◌, ◌≤◌, IfSome, length};
+ghost use Rattle.std.specs.Prelude.{◌≡◌, ◌*◌, ◌≤◌, length};
 ghost use Rattle.zcore.specs.Header.{scale_of};
 ghost use Rattle.zcore.specs.Layout.{longest_story};
-ghost use Rattle.zcore.specs.Parts.{jump_target, branch_target};
 ghost use Rattle.survey.specs.declared.mode.Mode.TheVariants.{Profile};
 
 use crate::mode::Mode;
 use crate::outside::{Outside, note};
+use crate::sweep::Sweep;
+use crate::ways::{Onward, branch_target, constant, jump_target, way_on};
 use std::alloc::{AllocError, Global};
-use survey_opcodes::{Lack, Lead, Opcode, Shape, lack_at, lead_at, standard_lack_at};
+use survey_opcodes::{Lack, Lead, Opcode, lack_at, standard_lack_at};
 use zcore::layout::{HEADER_LENGTH, MOST_LOCALS};
-use zcore::{Header, Operand, Operation, Version};
+use zcore::{Header, Operand, Version};
 
-/// What can be reached. It is followed along branches, jumps and calls by constants.
+/// Behind the last routine no other is looked for so many bytes away: instructions that are never
+/// run may stand between two.
+const MOST_BETWEEN: usize = 16;
+
+/// What can be reached. It is followed along branches, jumps and calls by constants. What stands in
+/// other routines, which are found by a sweep, does not count as reached.
 #[derive(Drop)]
 pub(crate) struct Reached {
     /// How many routines are called.
@@ -22,8 +29,11 @@ pub(crate) struct Reached {
     /// How many instructions.
     pub instructions: usize,
 
+    /// Whether a call or a jump by a variable is among them, which is not followed.
+    pub computed: bool,
+
     /// Each opcode among them that the machine does not play, or not with such operands, in the
-    /// order in which they were met.
+    /// order in which they were met, and then those in other routines.
     pub outside: Vec<Outside>,
 }
 
@@ -46,30 +56,20 @@ struct Walk {
     /// Those of words of texts that are printed, and then passed.
     words: Vec<bool>,
 
+    /// Those of the bytes of instructions and texts that were passed.
+    covered: Vec<bool>,
+
+    /// The address behind the last of those.
+    end: usize,
+
+    /// Whether what is looked at now was found by a sweep.
+    is_swept: bool,
+
     /// The starts that were not looked at yet.
     pending: Vec<usize>,
 
     /// What was found.
     found: Reached,
-}
-
-/// How an operation goes on.
-#[derive(Clone, Copy)]
-enum Onward {
-    /// With the instruction after it.
-    Next,
-
-    /// With none.
-    Nowhere,
-
-    /// With that to which it jumps.
-    Jump,
-
-    /// With a routine, and then with the instruction after it.
-    Call,
-
-    /// With the instruction after the text.
-    Text,
 }
 
 /// What can be reached of a story.
@@ -87,13 +87,10 @@ pub(crate) fn reach(
 {
     let mut walk = Walk::new(alloc, story, header.version, mode)?;
     walk.start(usize::from(header.first_instruction))?;
-    // No address becomes pending twice.
-    for _ in 0..story.len() {
-        let Some(at) = walk.pending.pop() else {
-            break;
-        };
-        walk.look(story, at)?;
-    }
+    walk.look_at_all(story)?;
+    walk.is_swept = true;
+    let mut sweep = Sweep::new(alloc, story)?;
+    walk.sweep(story, &mut sweep)?;
     Ok(walk.found)
 }
 
@@ -106,13 +103,58 @@ impl Walk {
             starts: vec![in alloc; false; story.len()]?,
             routines: vec![in alloc; false; story.len()]?,
             words: vec![in alloc; false; story.len()]?,
+            covered: vec![in alloc; false; story.len()]?,
+            end: 0,
+            is_swept: false,
             pending: Vec::new(alloc),
             found: Reached {
                 routines: 0,
                 instructions: 0,
+                computed: false,
                 outside: Vec::new(alloc),
             },
         })
+    }
+
+    /// Looks at all instructions that were reached and those to which they lead.
+    fn look_at_all(&mut self, story: &[u8]) -> Result<(), AllocError>
+        requires { length story.now ≤ longest_story }
+    {
+        // No address becomes pending twice.
+        for _ in 0..story.len() {
+            let Some(at) = self.pending.pop() else {
+                break;
+            };
+            self.look(story, at)?;
+        }
+        Ok(())
+    }
+
+    /// Looks at the routines to which no direct call leads. They begin at packed addresses between
+    /// what was passed, and behind it as long as one follows another closely.
+    fn sweep(&mut self, story: &[u8], sweep: &mut Sweep) -> Result<(), AllocError>
+        requires { length story.now ≤ longest_story }
+    {
+        let first = self.covered.iter().position(|is_covered| *is_covered);
+        let scale = self.version.scale() as usize;
+        let from = first.unwrap_or(story.len()) / scale;
+        for packed in from..story.len() {
+            let at = packed * scale;
+            if story.len() <= at {
+                break;
+            }
+            if self.covered.get(at) != Some(&false) {
+                continue;
+            }
+            if sweep.finds_routine(story, &self.covered, at) {
+                mark(&mut self.routines, at);
+                self.start(at + 1)?;
+                self.look_at_all(story)?;
+            } else if MOST_BETWEEN <= at.saturating_sub(self.end) {
+                break;
+            }
+        }
+        Ok(())
     }
 
     /// An instruction begins at an address, where instructions may stand.
@@ -132,21 +174,41 @@ impl Walk {
         };
         let lack = lack_at(story, at);
         if let Some(refused) = refused_at(self.mode, story, at, lack) {
-            note(&mut self.found.outside, opcode, refused, at)?;
+            note(&mut self.found.outside, opcode, refused, at, self.is_swept)?;
         }
         let lead = way_on(story, opcode, at);
         if lack.is_some() || lead.is_some() {
             self.count();
         }
         match lead {
-            Some((onward, lead)) => self.follow(story, onward, lead),
+            Some((onward, lead)) => {
+                self.cover(at, lead.after);
+                self.follow(story, onward, lead)
+            }
             None => Ok(()),
         }
     }
 
     /// One instruction more.
     fn count(&mut self) {
-        self.found.instructions = self.found.instructions.saturating_add(1);
+        if !self.is_swept {
+            self.found.instructions = self.found.instructions.saturating_add(1);
+        }
+    }
+
+    /// The bytes from an address to another were passed.
+    fn cover(&mut self, from: usize, to: usize) {
+        if from <= to && to <= self.covered.len() {
+            self.covered[from..to].fill(true);
+        }
+        self.end = self.end.max(to);
+    }
+
+    /// A call or a jump is met whose target is known only when it runs.
+    fn meet_computed(&mut self) {
+        if !self.is_swept {
+            self.found.computed = true;
+        }
     }
 
     /// Reaches the instructions to which one leads.
@@ -160,13 +222,23 @@ impl Walk {
             Onward::Nowhere => Ok(()),
             Onward::Jump => match constant(lead.first) {
                 Some(offset) => self.start(jump_target(after, offset)),
-                None => Ok(()),
+                None => {
+                    self.meet_computed();
+                    Ok(())
+                }
             },
             Onward::Call => {
                 self.call(story, lead.first)?;
                 self.start(after)
             }
-            Onward::Text => self.text(story, after),
+            Onward::Text => match self.text_end(story, after) {
+                Some(end) => self.start(end),
+                None => Ok(()),
+            },
+            Onward::LastText => {
+                let _ = self.text_end(story, after);
+                Ok(())
+            }
         }
     }
 
@@ -184,6 +256,7 @@ impl Walk {
     /// call of 0 calls nothing.
     fn call(&mut self, story: &[u8], routine: Option<Operand>) -> Result<(), AllocError> {
         let Some(packed) = constant(routine) else {
+            self.meet_computed();
             return Ok(());
         };
         let at = unpacked(self.version, packed);
@@ -191,27 +264,31 @@ impl Walk {
             return Ok(());
         }
         if usize::from(story[at]) <= MOST_LOCALS && mark(&mut self.routines, at) {
-            self.found.routines = self.found.routines.saturating_add(1);
+            if !self.is_swept {
+                self.found.routines = self.found.routines.saturating_add(1);
+            }
             return self.start(at + 1);
         }
         Ok(())
     }
 
-    /// Reaches the instruction after a text, which ends with the first word whose top bit is set
-    /// (section 3.2). Behind a word that was passed before nothing new is reached.
-    fn text(&mut self, story: &[u8], from: usize) -> Result<(), AllocError> {
+    /// Passes a text, which ends with the first word whose top bit is set (section 3.2), and says
+    /// where the instruction after it begins. Behind a word that was passed before nothing new is
+    /// reached.
+    fn text_end(&mut self, story: &[u8], from: usize) -> Option<usize> {
         let mut at = from;
         for _ in 0..story.len() {
             if story.len() <= at || !mark(&mut self.words, at) {
-                return Ok(());
+                return None;
             }
             let ends = 0x80 <= story[at];
             at += 2;
             if ends {
-                return self.start(at);
+                self.cover(from, at);
+                return Some(at);
             }
         }
-        Ok(())
+        None
     }
 }
 
@@ -226,19 +303,6 @@ fn refused_at(mode: Mode, story: &[u8], at: usize, lack: Option<Lack>) -> Option
     }
 }
 
-/// How the instruction with an opcode at an address goes on, and where it leads, whether the machine
-/// knows it or not. `None` where nothing is reached from it.
-fn way_on(story: &[u8], opcode: Opcode, at: usize) -> Option<(Onward, Lead)>
-    requires { length story.now ≤ longest_story }
-    ensures { IfSome result (λ way. way.1.after ≤ length story.now) }
-{
-    let (onward, shape) = match opcode.operation() {
-        Some(operation) => (onward_of(operation), Shape::known(operation)),
-        None => (Onward::Next, Shape::outside(opcode)?),
-    };
-    Some((onward, lead_at(story, at, shape)?))
-}
-
 /// Marks an address, where there is one that was not marked.
 fn mark(marks: &mut [bool], at: usize) -> bool {
     if marks.len() <= at || marks[at] {
@@ -248,16 +312,6 @@ fn mark(marks: &mut [bool], at: usize) -> bool {
     true
 }
 
-/// The value of an operand that is a constant.
-fn constant(operand: Option<Operand>) -> Option<u16> {
-    match operand {
-        Some(Operand::Large(value)) => Some(value),
-        Some(Operand::Small(value)) => Some(u16::from(value)),
-        Some(Operand::Variable(_)) => None,
-        None => None,
-    }
-}
-
 /// The byte address of a packed one (section 1.2.3).
 fn unpacked(version: Version, packed: u16) -> usize
     ensures { result ≡ packed * scale_of version }
@@ -265,54 +319,5 @@ fn unpacked(version: Version, packed: u16) -> usize
     match version {
         Version::V5 => usize::from(packed) * 4,
         Version::V8 => usize::from(packed) * 8,
-    }
-}
-
-/// Where a jump by an offset leads, of which the address after it is given; 0 below 0.
-fn jump_target(after: usize, offset: u16) -> usize
-    requires { after ≤ longest_story }
-    ensures { result ≡ jump_target after offset }
-{
-    let sum = after + usize::from(offset);
-    if offset < 0x8000 {
-        sum.saturating_sub(2)
-    } else {
-        sum.saturating_sub(0x10002)
-    }
-}
-
-/// Where a branch leads; 0 below 0.
-fn branch_target(after: usize, offset: u16) -> usize
-    requires { after ≤ longest_story }
-    ensures { result ≡ branch_target after offset }
-{
-    let sum = after + usize::from(offset);
-    if offset < 0x2000 {
-        sum.saturating_sub(2)
-    } else {
-        sum.saturating_sub(0x4002)
-    }
-}
-
-/// How an operation goes on.
-fn onward_of(operation: Operation) -> Onward {
-    match operation {
-        Operation::Return
-        | Operation::ReturnTrue
-        | Operation::ReturnFalse
-        | Operation::ReturnPopped
-        | Operation::PrintReturn
-        | Operation::Quit => Onward::Nowhere,
-        Operation::Jump => Onward::Jump,
-        Operation::Print => Onward::Text,
-        Operation::Call1s
-        | Operation::Call1n
-        | Operation::Call2s
-        | Operation::Call2n
-        | Operation::CallVs
-        | Operation::CallVn
-        | Operation::CallVs2
-        | Operation::CallVn2 => Onward::Call,
-        _ => Onward::Next,
     }
 }

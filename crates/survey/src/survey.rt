@@ -11,6 +11,7 @@ use crate::contents::Contents;
 use crate::facts::Facts;
 use crate::misplaced::{Misplaced, find_misplaced};
 use crate::mode::Mode;
+use crate::outside::Outside;
 use std::alloc::{AllocError, Global};
 use std::fmt;
 use zcore::layout::{HEADER_LENGTH, LONGEST_STORY};
@@ -249,6 +250,9 @@ pub(crate) fn write_outside<W: fmt::Write>(
 ) -> fmt::Result {
     let mut before = "";
     for outside in &contents.outside {
+        if outside.is_swept && is_reached(contents, outside) {
+            continue;
+        }
         f.write_str(before)?;
         match outside.opcode.name() {
             Some(name) => f.write_str(name)?,
@@ -259,7 +263,17 @@ pub(crate) fn write_outside<W: fmt::Write>(
         }
         let lack = outside.lack;
         write!(f, "{lack}")?;
+        if outside.is_swept {
+            f.write_str(" (no direct call)")?;
+        }
         before = ", ";
     }
     Ok(())
+}
+
+/// Whether the same is also met where direct calls lead.
+fn is_reached(contents: &Contents, swept: &Outside) -> bool {
+    contents.outside.iter().any(|outside| {
+        !outside.is_swept && outside.opcode == swept.opcode && outside.lack == swept.lack
+    })
 }

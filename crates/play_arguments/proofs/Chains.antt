@@ -1,13 +1,13 @@
 -- The arguments of the command line, as a chain of calls adds them: their names are all different.
 use Rattle.std.proofs.Common.{◌≡◌, ◌<◌, ◌∙◌, ◌&&◌, ap, sym, not, zero, suc, ℕ, Bool, true, false, List, [], ◌∷◌, length, codes}
 use Rattle.std.proofs.Common.{refl, inl, inr, arith}
-use Rattle.std.specs.Prelude.{⊤}
 use Rattle.std.specs.List.{All, slice_index_or}
 use Rattle.std.specs.Str.{bytes_eq}
 use Rattle.std.proofs.lemmas.Slice.Eq.{bytes_eq-Decides}
-use Rattle.clap.specs.Built.{IsAuto, HasDistinctIds}
+use Rattle.clap.specs.Built.{HasDistinctIds}
 use Rattle.clap.specs.declared.builder.arg.Arg.{Arg}
-use Rattle.play.proofs.Optional.{Joins}
+use Rattle.play_arguments.specs.Arguments.{AreNamed, IsNamed}
+use Rattle.play_arguments.proofs.Optional.{Joins}
 
 -- a name that is not empty, and that `clap` gives no argument of its own
 abbrev pub is_free : List ℕ → Bool
@@ -22,15 +22,6 @@ is_unlike name (other ∷ others) = not (bytes_eq name other) && is_unlike name 
 abbrev pub are_own : List (List ℕ) → Bool
 are_own [] = true
 are_own (name ∷ names) = is_free name && (is_unlike name names && are_own names)
-
--- an argument of this name, in no group and not global
-abbrev pub IsNamed : List ℕ → Arg → Type 0
-IsNamed name a = (a.id.now ≡ name) × (a.groups.items ≡ []) × (a.global ≡ false)
-
-abbrev pub AreNamed : List (List ℕ) → List Arg → Type 0
-AreNamed [] [] = ⊤
-AreNamed (name ∷ names) (a ∷ given) = IsNamed name a × AreNamed names given
-AreNamed _ _ = ⊥
 
 both : (a b : Bool) → a && b ≡ true → (a ≡ true) × (b ≡ true)
 both true b h = (refl, h)

@@ -1,2 +1,3 @@
 pub mod Optional
 pub mod Chains
+pub mod Numbers

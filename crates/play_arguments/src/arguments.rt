@@ -1,18 +1,12 @@
-//! The words of the command line.
+//! The arguments of the command line.
 
-ghost use Rattle.std.specs.Prelude.{◌<◌, IfOk, IfSome, codes, length};
-ghost use Rattle.play.specs.Range.{IsAskedInRange, least_fuel, most_fuel, most_undo};
-ghost use Rattle.play.specs.Arguments.{HasNoArgument, IsAloneNamed, IsPlainNamed, TakesNumber};
+ghost use Rattle.std.specs.Prelude.{IfOk, codes};
+ghost use Rattle.play_arguments.specs.Range.{least_fuel, most_fuel, most_undo};
+ghost use Rattle.play_arguments.specs.Arguments.{AreArguments, HasNoArgument, IsAloneNamed, IsPlainNamed};
+ghost use Rattle.play_arguments.specs.Arguments.{ReadsNumber, TakesNumber};
 
-use clap::{Arg, ArgAction, ArgMatches, Command, Error, value_parser};
-use session::Mode;
+use clap::{Arg, ArgAction, Command, value_parser};
 use std::alloc::{AllocError, Global};
-
-/// The units of fuel of a turn without `--fuel`.
-const FUEL: u32 = 1_000_000;
-
-/// The seed of the random numbers without `--seed`.
-const SEED: u32 = 12_345;
 
 /// The end of the help: the player's own lines, an example, and the documents that say more.
 const MORE: &str = "The line /undo takes back the latest turn, and the line /redo does it again.
@@ -30,48 +24,6 @@ The installed documents and examples are in share/doc/felgoniz:
   docs/MACHINE.md     the player, with its limits and machine faults
   docs/STORY_FILE.md  the story file, and why one is refused (Z4 to Z8)
 The man page play(6) is shorter.";
-
-/// How the answers to `--check` are printed.
-#[derive(Clone, Copy)]
-pub enum Format {
-    /// In words for people: a page for one file, a line for each of several.
-    Words,
-
-    /// A line of columns for each file, with a tab between two columns.
-    Columns,
-}
-
-/// What the command line asks for.
-#[derive(Drop)]
-pub enum Asked<'a> {
-    /// To explain the answer of this name, or without one to list all answers.
-    Explain(Option<&'a str>),
-
-    /// To play a story.
-    Play(Words<'a>),
-
-    /// To say what is in one or more files, without running them.
-    Check(Vec<&'a str>),
-}
-
-/// What is played, and how.
-#[derive(Clone, Copy)]
-pub struct Words<'a> {
-    /// The story file's name.
-    pub story: &'a str,
-
-    /// The units that a turn may spend, from 1 to 10,000,000.
-    pub fuel: u32,
-
-    /// How many turns can be taken back, up to 100,000; `None` for all of them.
-    pub keep: Option<u32>,
-
-    /// Whether to say at the end where the story is.
-    pub why: bool,
-
-    /// Which opcodes the story may use.
-    pub mode: Mode,
-}
 
 /// The units of fuel of a turn.
 fn fuel_argument<'a>(alloc: Global) -> Arg<'a>
@@ -138,8 +90,20 @@ fn seed_argument<'a>(alloc: Global) -> Result<Arg<'a>, AllocError>
         .requires_arg("standard")
 }
 
-/// The files to check. No other argument may be given: [`take_format`] has taken `--format tsv`,
-/// and `take_mode` has taken `--standard`.
+/// The width of the lines.
+fn wrap_argument<'a>(alloc: Global) -> Arg<'a>
+    ensures { IsPlainNamed (codes "wrap") result }
+{
+    Arg::new(alloc, "wrap")
+        .long("wrap")
+        .value_name("N")
+        .help("Break lines at words for a terminal N columns wide, from 1 to 1000 [default: never]")
+        .action(ArgAction::Set)
+        .value_parser(value_parser!(u32).range(1..=1000))
+}
+
+/// The files to check. No other argument may be given: `take_format` has taken `--format tsv`,
+/// and the player has taken `--standard`.
 fn check_argument<'a>(alloc: Global) -> Arg<'a>
     ensures { IsAloneNamed (codes "check") result }
 {
@@ -188,85 +152,36 @@ fn program<'a>(alloc: Global) -> Command<'a>
         .after_help(MORE)
 }
 
-/// Takes `--format tsv` out of the words of a command line that has `--check`, wherever it is before
-/// `--`. Says how the answers are printed.
-pub fn take_format(given: &mut Vec<String>) -> Format {
-    if place_of(given, "--check").is_none() {
-        return Format::Words;
-    }
-    if let Some(place) = place_of(given, "--format=tsv") {
-        given.remove(place);
-        return Format::Columns;
-    }
-    match place_of(given, "--format") {
-        Some(place) if place + 1 < given.len() && given[place + 1].as_str() == "tsv" => {
-            given.remove(place + 1);
-            given.remove(place);
-            Format::Columns
-        }
-        _ => Format::Words,
-    }
-}
-
-/// The place of a word after the program's name and before `--`.
-pub(crate) fn place_of(given: &[String], wanted: &str) -> Option<usize>
-    ensures { IfSome result (λ place. place < length given.now) }
-{
-    for place in 1..given.len() {
-        let word = given[place].as_str();
-        if word == "--" {
-            return None;
-        }
-        if word == wanted {
-            return Some(place);
-        }
-    }
-    None
-}
-
-/// Reads the words of a command line. Its numbers are in their ranges.
+/// All arguments.
 ///
 /// # Errors
 ///
-/// What `clap` says of words that it refuses, and of those that ask for help or for the version; or
-/// that memory was refused.
-pub fn words_of<'a>(alloc: Global, given: &'a [String]) -> Result<Asked<'a>, Error>
-    ensures { IfOk result IsAskedInRange }
+/// Memory was refused.
+fn arguments<'a>(alloc: Global) -> Result<Vec<Arg<'a>>, AllocError>
+    ensures { IfOk result (λ arguments. AreArguments arguments.items) }
 {
-    let command = program(alloc)
-        .arg(fuel_argument(alloc))?
-        .arg(undo_argument(alloc))?
-        .arg(why_argument(alloc))?
-        .arg(standard_argument(alloc))?
-        .arg(seed_argument(alloc)?)?
-        .arg(check_argument(alloc))?
-        .arg(explain_argument(alloc))?
-        .arg(story_argument(alloc))?;
-    let matches = command.try_get_matches_from(given)?;
-    if matches.contains_id("explain") {
-        return Ok(Asked::Explain(matches.get_str("explain")));
-    }
-    if let Some(names) = matches.get_strs("check") {
-        let mut files = Vec::new(alloc);
-        files.extend_from_slice(names)?;
-        return Ok(Asked::Check(files));
-    }
-    let fuel = matches.get_one::<u32>("fuel");
-    let keep = matches.get_one::<u32>("undo");
-    Ok(Asked::Play(Words {
-        story: matches.get_str("story").unwrap_or(""),
-        fuel: fuel.unwrap_or(FUEL),
-        keep,
-        why: matches.get_flag("why"),
-        mode: mode_in(&matches),
-    }))
+    let seed = seed_argument(alloc)?;
+    Ok(vec![in alloc;
+        fuel_argument(alloc),
+        undo_argument(alloc),
+        why_argument(alloc),
+        standard_argument(alloc),
+        seed,
+        wrap_argument(alloc),
+        check_argument(alloc),
+        explain_argument(alloc),
+        story_argument(alloc),
+    ]?)
 }
 
-/// Which opcodes a story may use by a command line.
-fn mode_in(matches: &ArgMatches<'_>) -> Mode {
-    if matches.get_flag("standard") {
-        Mode::Standard(matches.get_one::<u32>("seed").unwrap_or(SEED))
-    } else {
-        Mode::Profile
-    }
+/// The program's command line.
+///
+/// # Errors
+///
+/// Memory was refused.
+pub(crate) fn command<'a>(alloc: Global) -> Result<Command<'a>, AllocError>
+    ensures fuel { IfOk result (ReadsNumber (codes "fuel") least_fuel most_fuel) }
+    ensures undo { IfOk result (ReadsNumber (codes "undo") 0 most_undo) }
+{
+    program(alloc).args(arguments(alloc)?)
 }

@@ -1,19 +1,20 @@
 -- What a caller reads of an argument that may be left out, after a parse.
-use Rattle.std.proofs.Common.{◌++◌, ◌||◌, ◌≡◌, ◌⊎◌, ◌∙◌, ◌<◌, ◌≤◌, ap, suc, zero, ℕ, Bool, true, false, List, [], ◌∷◌}
+use Rattle.std.proofs.Common.{◌++◌, ◌||◌, ◌≡◌, ◌∙◌, ◌<◌, ◌≤◌, ap, suc, zero, ℕ, Bool, true, false, List, [], ◌∷◌}
 use Rattle.std.proofs.Common.{length, Option, Some, None, refl, sym, subst, inl, inr, arith, append-nil, append_assoc}
 use Rattle.std.specs.List.{All, slice_index_or}
 use Rattle.std.specs.Str.{bytes_eq}
-use Rattle.std.specs.Prelude.{option_map, slice_get, unwrap_or, pos, IfSome, Result, ◌^◌}
+use Rattle.std.specs.Prelude.{unwrap_or, pos, IfSome, Result, ◌^◌}
 use Rattle.std.specs.Str.Parse.{ParsesUnsigned}
 use Rattle.std.specs.Borrow.{Bor}
 use Rattle.std.proofs.lemmas.Slice.Eq.{bytes_eq-Decides}
-use Rattle.std.proofs.lemmas.List.Elements.{All-get_or, All-nil, All-drop, All-push}
-use Rattle.clap.specs.Facts.{args_of, groups_of, IsParsed, Entry, EntryPasses, ValuesPass, PassesArg, HasReading}
+use Rattle.std.proofs.lemmas.List.Elements.{All-get_or, All-nil, All-push}
+use Rattle.clap.specs.Facts.{args_of, groups_of, Entry, EntryPasses, ValuesPass, PassesArg, HasReading}
 use Rattle.clap.specs.Facts.{parser_of, parser_of_value}
 use Rattle.clap.specs.Built.{NamesNoGroup, IsParsedFrom, IsAuto, AddsArg, AddsInTurn, SameRules, KeepsList}
 use Rattle.clap.specs.Built.{HasDistinctIds}
-use Rattle.clap.specs.Matches.{matched_of, one_text, found_of, has_subcommand, ReadsOne}
+use Rattle.clap.specs.Matches.{matched_of, one_text, found_of, ReadsOne}
 use Rattle.clap.specs.declared.parser.matches.Found.{Found}
+use Rattle.play_arguments.specs.Arguments.{MayRead}
 use Rattle.clap.specs.Values.{Accepts, read_as, reading_of}
 use Rattle.clap.specs.declared.builder.value_parser.Reading.{Reading}
 use Rattle.clap.proofs.CallerReads.{signed_reads}
@@ -40,10 +41,6 @@ added_ungrouped old new a added none own = (
   rw added.args (All-push (λ b. b.groups.items ≡ []) (args_of old) added.arg none.0 (added.rules.groups ∙ own)),
   added.groups ∙ none.1,
 )
-
--- nothing was read of an id, or a text of which Q holds, as the parser reads it
-abbrev pub MayRead : Found → List ℕ → (List ℕ → Type 0) → Reading → Type 0
-MayRead f id Q how = (one_text f id ≡ None) ⊎ ((t : List ℕ) × (one_text f id ≡ Some (read_as how t)) × Q t)
 
 none_at : (f : Found) (id : List ℕ) → matched_of f id ≡ None → one_text f id ≡ None
 none_at f id found = rw found refl
