@@ -94,6 +94,14 @@ pub fn begins_statement(tokens: &[Token<'_>], at: usize) -> bool {
         || is_word(tokens, last, Word::Do)
 }
 
+/// The bytes of the token of a number. None if there is no such token.
+pub fn text_at<'a>(tokens: &[Token<'a>], number: usize) -> &'a [u8] {
+    match tokens.get(number) {
+        Some(token) => token.text,
+        None => b"",
+    }
+}
+
 /// Whether the token of a number is in a statement after a reserved word.
 pub fn is_after_word(tokens: &[Token<'_>], at: usize, word: Word) -> bool {
     for count in 1..at {

@@ -94,7 +94,10 @@ fn is_in_constant(tokens: &[Token<'_>], number: usize) -> bool {
 
 /// The bytes from the end of the token of a number on, without blanks.
 fn bytes_after<'s>(source: &'s [u8], tokens: &[Token<'_>], number: usize) -> &'s [u8] {
-    let end = tokens.get(number).map_or(source.len(), |token| token.end);
+    let end = match tokens.get(number) {
+        Some(token) => token.end,
+        None => source.len(),
+    };
     source.split_at(end.min(source.len())).1.trim_ascii_start()
 }
 

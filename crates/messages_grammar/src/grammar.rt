@@ -6,7 +6,7 @@ ghost use Rattle.syntax_lexer.specs.Tokens.{EndsOnce};
 use crate::causes::{Cause, Missing, begins_line, likely_cause};
 use crate::features::{Meant, meant_at, meant_by_comment};
 use crate::openings::open_before;
-use messages_contexts::{before, line_of};
+use messages_contexts::{before, line_of, text_at};
 use messages_expected::{Expected, Grouped, expected, in_groups};
 use messages_features::{Absent, PRINT_FORMS};
 use messages_tokens::{Met, Quoted};
@@ -67,8 +67,7 @@ fn reserved(
     place: usize,
 ) -> Result<String, AllocError> {
     let wanted = found.wanted;
-    let text = tokens.get(place).map_or(found.token.text, |word| word.text);
-    let word = Quoted(text);
+    let word = Quoted(text_at(tokens, place));
     format!(in alloc; "{wanted} expected: {word} is reserved and cannot be a name")
 }
 
@@ -188,10 +187,8 @@ fn by_cause(
 fn absent(alloc: Global, tokens: &[Token<'_>], meant: Meant) -> Result<Misfit, AllocError> {
     let sentence = match meant {
         Meant::Name(number, feature) => {
-            let text = tokens
-                .get(number)
-                .map_or(b"".as_slice(), |token| token.text);
-            format!(in alloc; "{}", Absent(Quoted(text), feature))
+            let name = Quoted(text_at(tokens, number));
+            format!(in alloc; "{}", Absent(name, feature))
         }
         Meant::Other(what, feature) => format!(in alloc; "{}", Absent(what, feature)),
     };

@@ -3,7 +3,7 @@
 use crate::wanted::{
     ARRAY, ATTRIBUTE, CONSTANT, OBJECT, PROPERTY, ROUTINE, VALUE, VARIABLE, wanted,
 };
-use messages_contexts::{Defined, Definition, around, defined_at, is_name};
+use messages_contexts::{Defined, Definition, around, defined_at, is_name, text_at};
 use std::alloc::{AllocError, Global};
 use strsim::generic_levenshtein;
 use syntax::Token;
@@ -62,10 +62,7 @@ fn nearer(
     asked: Asked<'_>,
     found: Option<Near>,
 ) -> Result<Option<Near>, AllocError> {
-    let text = tokens
-        .get(number)
-        .map_or(b"".as_slice(), |token| token.text);
-    let defined = in_small_letters(alloc, text)?;
+    let defined = in_small_letters(alloc, text_at(tokens, number))?;
     let edits = generic_levenshtein(alloc, asked.name, defined.as_slice())?;
     let is_nearer = match found {
         None => is_near(asked.name, edits),
@@ -149,7 +146,7 @@ pub fn nearest<'a>(
         wanted: wanted(tokens, at, around, false),
     };
     match nearest_in(alloc, tokens, around, asked)? {
-        Some(near) => Ok(tokens.get(near.number).map(|token| token.text)),
+        Some(near) => Ok(Some(text_at(tokens, near.number))),
         None => Ok(None),
     }
 }
