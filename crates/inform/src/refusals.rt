@@ -1,7 +1,7 @@
 //! Why and where a source is refused, on standard error.
 
 use messages_diagnosis::{Diagnosis, Shown};
-use messages_sentences::sentence;
+use messages_sentences::message_of;
 use one_line::OneLine;
 use std::process::ExitCode;
 use syntax_lexer::SourceFault;
@@ -24,16 +24,16 @@ pub fn show(
     version: Version,
     diagnosis: Diagnosis,
 ) -> ExitCode {
-    let sentence = match sentence(rt.alloc(), source, version, &diagnosis) {
-        Ok(sentence) => sentence,
+    let message = match message_of(rt.alloc(), source, version, diagnosis) {
+        Ok(message) => message,
         Err(refusal) => return refused(rt, SourceFault::from(refusal)),
     };
     let status = refused(rt, diagnosis.fault);
     let shown = Shown {
         source,
         name: OneLine(name),
-        sentence: sentence.as_str(),
-        diagnosis,
+        sentence: message.sentence.as_str(),
+        diagnosis: message.diagnosis,
     };
     let _ = eprint!(rt; "{shown}");
     status

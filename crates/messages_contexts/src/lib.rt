@@ -15,6 +15,6 @@ pub use objects::{
 };
 pub use operands::{begins_expression, ends_operand, is_step, owns_parentheses};
 pub use tokens::{
-    before, behind, divides_at, ends_within, is_after_word, is_name, is_named, is_sign, is_text,
-    is_word, kind_at, line_of,
+    before, begins_statement, behind, divides_at, ends_within, is_after_word, is_name, is_named,
+    is_sign, is_text, is_word, kind_at, line_of, text_at,
 };

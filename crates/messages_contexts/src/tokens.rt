@@ -81,6 +81,27 @@ pub fn divides_at(tokens: &[Token<'_>], at: usize) -> bool {
     }
 }
 
+/// Whether the token of a number may begin a statement or a directive: it is the first of the
+/// source, or after the end of a statement, of a list of cases, of a condition, or of the first half
+/// of an `if` or a `do`.
+pub fn begins_statement(tokens: &[Token<'_>], at: usize) -> bool {
+    let last = before(at, 1);
+    at == 0
+        || divides_at(tokens, last)
+        || is_sign(tokens, last, Sign::Colon)
+        || is_sign(tokens, last, Sign::CloseParenthesis)
+        || is_word(tokens, last, Word::Else)
+        || is_word(tokens, last, Word::Do)
+}
+
+/// The bytes of the token of a number. None if there is no such token.
+pub fn text_at<'a>(tokens: &[Token<'a>], number: usize) -> &'a [u8] {
+    match tokens.get(number) {
+        Some(token) => token.text,
+        None => b"",
+    }
+}
+
 /// Whether the token of a number is in a statement after a reserved word.
 pub fn is_after_word(tokens: &[Token<'_>], at: usize, word: Word) -> bool {
     for count in 1..at {

@@ -1,6 +1,9 @@
 //! What may be the cause of a token that does not fit.
 
-use crate::repairs::{end_of_routine_helps, fits_after_semicolon, name_helps, sign_helps};
+use crate::repairs::{
+    absence_helps, end_of_routine_helps, equality_helps, fits_after_semicolon, name_helps,
+    sign_helps,
+};
 use messages_contexts::{
     Definition, around, before, behind, ends_within, is_after_word, is_behind_has, is_name,
     is_named, is_sign, is_text, is_word, kind_at, line_of, owns_parentheses,
@@ -20,36 +23,79 @@ pub enum Cause {
     /// It is the same as the token before it.
     Repeated,
 
+    /// It is `=`, and `==` in its place would do.
+    Assigns,
+
     /// It is in a `print`, in parentheses or after them, where a form of Inform 6 may be meant that
     /// there is not.
     PrintForm,
 
-    /// A sign is missing, perhaps, before the token of a number.
-    Missing(&'static str, usize),
+    /// Signs may be missing before the token of a number: with them a program could go on after the
+    /// end of the statement.
+    Missing(Missing, usize),
+
+    /// It may be one token too many: without it a program could go on after the end of the
+    /// statement.
+    Extra,
 
     Unknown,
 }
 
-/// A sign, and how it is written.
-type Written = (Sign, &'static str);
+/// Signs that may be missing.
+#[derive(Clone, Copy)]
+pub struct Missing {
+    /// The last of them that closes something, or the only one.
+    pub sign: Sign,
+
+    /// How they are written.
+    pub written: &'static str,
+}
 
 /// The most tokens of a source in which signs are tried: more than the weight of a source for
 /// version 8 allows.
 const MOST_TOKENS: usize = 15_000;
 
-const SEMICOLON: &str = ";";
+const SEMICOLON: Missing = Missing {
+    sign: Sign::Semicolon,
+    written: ";",
+};
 
-const END_OF_ROUTINE: &str = "];";
+const END_OF_ROUTINE: Missing = Missing {
+    sign: Sign::CloseBracket,
+    written: "];",
+};
 
 /// Signs that may be missing, those first whose want is the surer cause where they help.
-const SIGNS: [Written; 7] = [
-    (Sign::CloseParenthesis, ")"),
-    (Sign::OpenParenthesis, "("),
-    (Sign::OpenBrace, "{"),
-    (Sign::CloseBrace, "}"),
-    (Sign::Comma, ","),
-    (Sign::Semicolon, SEMICOLON),
-    (Sign::Colon, ":"),
+const SIGNS: [Missing; 8] = [
+    Missing {
+        sign: Sign::CloseParenthesis,
+        written: ")",
+    },
+    Missing {
+        sign: Sign::OpenParenthesis,
+        written: "(",
+    },
+    Missing {
+        sign: Sign::OpenBrace,
+        written: "{",
+    },
+    Missing {
+        sign: Sign::CloseBrace,
+        written: "}",
+    },
+    Missing {
+        sign: Sign::Comma,
+        written: ",",
+    },
+    SEMICOLON,
+    Missing {
+        sign: Sign::Colon,
+        written: ":",
+    },
+    Missing {
+        sign: Sign::Assign,
+        written: "=",
+    },
 ];
 
 /// The words of forms of `print` of Inform 6 that there are not.
@@ -65,7 +111,7 @@ const FORMS: [&[u8]; 8] = [
 ];
 
 /// Whether the token of a number is on a later line than the one before it.
-fn begins_line(tokens: &[Token<'_>], number: usize) -> bool {
+pub fn begins_line(tokens: &[Token<'_>], number: usize) -> bool {
     line_of(tokens, before(number, 1)) < line_of(tokens, number)
 }
 
@@ -224,12 +270,12 @@ fn missing_before(
     alloc: Global,
     tokens: &mut Vec<Token<'_>>,
     number: usize,
-) -> Result<Option<&'static str>, AllocError> {
-    for written in &SIGNS {
-        if is_likely(tokens, number, written.0)
-            && sign_helps(alloc, tokens, number, number, written.0)?
+) -> Result<Option<Missing>, AllocError> {
+    for missing in &SIGNS {
+        if is_likely(tokens, number, missing.sign)
+            && sign_helps(alloc, tokens, number, number, missing.sign)?
         {
-            return Ok(Some(written.1));
+            return Ok(Some(*missing));
         }
     }
     Ok(None)
@@ -252,8 +298,8 @@ fn unended_line(
     Ok(None)
 }
 
-/// Which sign may be missing, if one may. Each sign costs a parse, so none is tried in a source of
-/// very many tokens.
+/// Which sign may be missing, if one may, or else whether the token of a number is one too many.
+/// Each sign costs a parse, so none is tried in a source of very many tokens.
 fn missing_sign(
     alloc: Global,
     tokens: &mut Vec<Token<'_>>,
@@ -262,14 +308,17 @@ fn missing_sign(
     if tokens.len() > MOST_TOKENS {
         return Ok(Cause::Unknown);
     }
-    if let Some(sign) = missing_before(alloc, tokens, number)? {
-        return Ok(Cause::Missing(sign, number));
+    if let Some(missing) = missing_before(alloc, tokens, number)? {
+        return Ok(Cause::Missing(missing, number));
     }
     if let Some(place) = unended_line(alloc, tokens, number)? {
         return Ok(Cause::Missing(SEMICOLON, place));
     }
-    match end_of_routine_helps(alloc, tokens, number) {
-        Ok(true) => Ok(Cause::Missing(END_OF_ROUTINE, number)),
+    if end_of_routine_helps(alloc, tokens, number)? {
+        return Ok(Cause::Missing(END_OF_ROUTINE, number));
+    }
+    match absence_helps(alloc, tokens, number) {
+        Ok(true) => Ok(Cause::Extra),
         Ok(false) => Ok(Cause::Unknown),
         Err(refused) => Err(refused),
     }
@@ -289,6 +338,15 @@ fn lacks_semicolon(
         fits_after_semicolon(alloc, tokens, number)
     } else {
         sign_helps(alloc, tokens, number, number, Sign::Semicolon)
+    }
+}
+
+/// Whether the token of a number is `=`, and `==` in its place would do.
+fn assigns(alloc: Global, tokens: &mut Vec<Token<'_>>, number: usize) -> Result<bool, AllocError> {
+    if is_sign(tokens, number, Sign::Assign) {
+        equality_helps(alloc, tokens, number)
+    } else {
+        Ok(false)
     }
 }
 
@@ -313,6 +371,9 @@ pub fn likely_cause(
     }
     if let Some(place) = reserved_name(alloc, tokens, number)? {
         return Ok(Cause::Reserved(place));
+    }
+    if assigns(alloc, tokens, number)? {
+        return Ok(Cause::Assigns);
     }
     if is_in_form(tokens, number) {
         return Ok(Cause::PrintForm);

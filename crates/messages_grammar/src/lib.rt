@@ -2,7 +2,9 @@
 #![tactic(auto)]
 
 mod causes;
+mod features;
 mod grammar;
+mod openings;
 mod repairs;
 
-pub use grammar::{misfit, too_deep};
+pub use grammar::{Misfit, misfit_at, too_deep};

@@ -31,14 +31,16 @@ fn put<'a>(tokens: &mut Vec<Token<'a>>, number: usize, kind: Kind<'a>) {
     }
 }
 
-/// The offset of the first token that does not fit where a name is in the place of a token.
-fn reach_with_name(
+/// The offset of the first token that does not fit where another kind is in the place of that of a
+/// token.
+fn reach_with<'a>(
     alloc: Global,
-    tokens: &mut Vec<Token<'_>>,
+    tokens: &mut Vec<Token<'a>>,
     number: usize,
+    other: Kind<'a>,
 ) -> Result<usize, AllocError> {
     let kind = kind_at(tokens, number);
-    put(tokens, number, Kind::Name(b"name"));
+    put(tokens, number, other);
     let reached = reach(alloc, tokens);
     put(tokens, number, kind);
     reached
@@ -82,6 +84,24 @@ fn reach_with_sign(
     reached
 }
 
+/// The offset of the first token that does not fit without the token of a number, which the list
+/// has.
+fn reach_without(
+    alloc: Global,
+    tokens: &mut Vec<Token<'_>>,
+    number: usize,
+) -> Result<usize, AllocError> {
+    if number >= tokens.len() {
+        return Ok(0);
+    }
+    let token = tokens.remove(number);
+    let reached = reach(alloc, tokens);
+    if tokens.insert(number, token).is_err() {
+        return Err(AllocError);
+    }
+    reached
+}
+
 /// Whether a program could go on after the end of a statement or a definition, or of its head, if a
 /// name were in the place of a token. The token that does not fit has a number.
 ///
@@ -94,7 +114,24 @@ pub fn name_helps(
     number: usize,
     place: usize,
 ) -> Result<bool, AllocError> {
-    match reach_with_name(alloc, tokens, place) {
+    match reach_with(alloc, tokens, place, Kind::Name(b"name")) {
+        Ok(offset) => Ok(is_after(tokens, offset, end_from(tokens, number))),
+        Err(refused) => Err(refused),
+    }
+}
+
+/// Whether a program could go on after the end of a statement or a definition, or of its head, if
+/// `==` were in the place of the token of a number, which does not fit.
+///
+/// # Errors
+///
+/// `AllocError` where memory is refused.
+pub fn equality_helps(
+    alloc: Global,
+    tokens: &mut Vec<Token<'_>>,
+    number: usize,
+) -> Result<bool, AllocError> {
+    match reach_with(alloc, tokens, number, Kind::Sign(Sign::Equal)) {
         Ok(offset) => Ok(is_after(tokens, offset, end_from(tokens, number))),
         Err(refused) => Err(refused),
     }
@@ -115,6 +152,28 @@ pub fn sign_helps(
 ) -> Result<bool, AllocError> {
     match reach_with_sign(alloc, tokens, place, sign) {
         Ok(offset) => Ok(is_after(tokens, offset, end_from(tokens, number))),
+        Err(refused) => Err(refused),
+    }
+}
+
+/// Whether a program could go on after the end of a statement or a definition, or of its head,
+/// without the token of a number, which does not fit and is not the last.
+///
+/// # Errors
+///
+/// `AllocError` where memory is refused.
+pub fn absence_helps(
+    alloc: Global,
+    tokens: &mut Vec<Token<'_>>,
+    number: usize,
+) -> Result<bool, AllocError> {
+    let next = number.saturating_add(1);
+    if next >= tokens.len() {
+        return Ok(false);
+    }
+    let end = end_from(tokens, next);
+    match reach_without(alloc, tokens, number) {
+        Ok(offset) => Ok(is_after(tokens, offset, end)),
         Err(refused) => Err(refused),
     }
 }

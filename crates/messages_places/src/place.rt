@@ -18,7 +18,8 @@ pub struct Place {
     /// Where it begins in its line, in bytes from 1.
     pub column: usize,
 
-    /// How many bytes it has: none at the end of the source, at least one anywhere else.
+    /// How many bytes it has: at least one for what is there, and none for what is missing there
+    /// and at the end of the source.
     pub length: usize,
 }
 
@@ -63,6 +64,19 @@ fn span(number: u8, line: &[u8]) -> usize
         _ => token_length(line),
     };
     length.max(1).min(line.len())
+}
+
+impl Place {
+    /// The place between two bytes of a source, at an offset.
+    pub fn between(source: &[u8], offset: usize) -> Place
+        ensures { result.offset ≡ offset }
+    {
+        Place {
+            offset,
+            column: column_behind(front(source, offset)),
+            length: 0,
+        }
+    }
 }
 
 /// The place of a fault, if it has one.

@@ -8,10 +8,11 @@ mod assignments;
 mod duplicates;
 mod kinds;
 mod limits;
+mod nearest;
 mod sentence;
 mod unknown;
 mod wanted;
 mod weights;
 mod wrong_kinds;
 
-pub use sentence::program_sentence;
+pub use sentence::{Told, program_sentence};

@@ -1,5 +1,8 @@
 //! The sentence of a fault of the grammar or of a program.
 
+ghost use Rattle.syntax_lexer.specs.Token.{lexemes};
+ghost use Rattle.syntax_lexer.specs.Tokens.{EndsOnce};
+
 use crate::arguments::too_many_arguments;
 use crate::arrays::bad_array;
 use crate::assignments::{not_assignable, outside};
@@ -11,14 +14,23 @@ use crate::wrong_kinds::wrong_kind;
 use checker_names::Table;
 use messages_contexts::around;
 use messages_facts::table_of;
-use messages_grammar::{misfit, too_deep};
+use messages_grammar::{misfit_at, too_deep};
 use std::alloc::{AllocError, Global};
-use syntax::{Token, lex};
+use syntax::{Position, Token, lex};
 use syntax_lexer::{
     BAD_ABBREVIATION, BAD_ARRAY, BREAK_OUTSIDE, DEFINED_TWICE, EXPRESSION_TOO_LARGE,
     NESTED_TOO_DEEP, NO_MEMORY, NO_PROPER_MAIN, NOT_ASSIGNABLE, NOT_IN_GRAMMAR, ROUTINE_TOO_LARGE,
     TOO_MANY, TOO_MANY_ARGUMENTS, UNKNOWN_NAME, WRONG_KIND,
 };
+
+/// What is wrong, in a sentence, and the place to show if it is not the fault's.
+#[derive(Drop)]
+pub struct Told {
+    pub sentence: String,
+
+    /// Where a token ends after which something is expected, with its line.
+    pub place: Option<Position>,
+}
 
 /// What is wrong at a token, which has a number, by the number of a rule that asks what names of
 /// the program stand for.
@@ -95,22 +107,43 @@ fn begins_at(tokens: &[Token<'_>], number: usize, offset: usize) -> bool {
     }
 }
 
+/// A sentence about the place of the fault itself.
+fn at_place(sentence: Option<String>) -> Option<Told> {
+    match sentence {
+        None => None,
+        Some(sentence) => Some(Told {
+            sentence,
+            place: None,
+        }),
+    }
+}
+
 /// What is wrong at an offset of tokens, by the number of the broken rule.
 fn at_offset(
     alloc: Global,
+    source: &[u8],
     mut tokens: Vec<Token<'_>>,
     offset: usize,
     rule: u8,
-) -> Result<Option<String>, AllocError> {
+) -> Result<Option<Told>, AllocError>
+    requires { EndsOnce (lexemes tokens.entry.items) }
+{
     let at = number_at(&tokens, offset);
     let Some(token) = tokens.get(at).copied() else {
         return Ok(None);
     };
-    match rule {
-        NESTED_TOO_DEEP => Ok(Some(too_deep(alloc, token)?)),
-        NOT_IN_GRAMMAR => Ok(Some(misfit(alloc, &mut tokens, at, token)?)),
-        _ => by_rule(alloc, &tokens, at, token, rule),
+    if rule == NOT_IN_GRAMMAR {
+        let misfit = misfit_at(alloc, source, &mut tokens, at, token)?;
+        return Ok(Some(Told {
+            sentence: misfit.sentence,
+            place: misfit.place,
+        }));
     }
+    let sentence = match rule {
+        NESTED_TOO_DEEP => Some(too_deep(alloc, token)?),
+        _ => by_rule(alloc, &tokens, at, token, rule)?,
+    };
+    Ok(at_place(sentence))
 }
 
 /// What is wrong at an offset of a source whose tokens are right, by the number of the broken rule:
@@ -125,9 +158,9 @@ pub fn program_sentence(
     source: &[u8],
     rule: u8,
     offset: usize,
-) -> Result<Option<String>, AllocError> {
+) -> Result<Option<Told>, AllocError> {
     match lex(alloc, source) {
-        Ok(tokens) => at_offset(alloc, tokens, offset, rule),
+        Ok(tokens) => at_offset(alloc, source, tokens, offset, rule),
         Err(fault) => {
             if fault.number == NO_MEMORY {
                 Err(AllocError)

@@ -1,8 +1,10 @@
 //! A name that is not known (E20), and a program without a proper Main (E21).
 
 use crate::kinds::kind_of;
+use crate::nearest::nearest;
 use checker_names::{Binding, Table, find};
 use messages_contexts::{behind, first_definition, is_sign, line_of};
+use messages_features::{Absent, named_in_expression};
 use messages_tokens::{Counted, Figure, Quoted};
 use std::alloc::{AllocError, Global};
 use syntax::{Kind, Sign, Token};
@@ -27,11 +29,31 @@ fn arrow(alloc: Global, count: usize) -> Result<String, AllocError> {
     format!(in alloc; "these {arrows} arrows have no object with {fewer} to go into")
 }
 
+/// What is wrong with a name that is defined nowhere, the token of a number.
+fn undefined(
+    alloc: Global,
+    tokens: &[Token<'_>],
+    at: usize,
+    text: &[u8],
+) -> Result<String, AllocError> {
+    let name = Quoted(text);
+    if let Some(feature) = named_in_expression(text) {
+        return format!(in alloc; "{}", Absent(name, feature));
+    }
+    match nearest(alloc, tokens, at, text)? {
+        Some(meant) => {
+            let meant = Quoted(meant);
+            format!(in alloc; "unknown name {name}; did you mean {meant}?")
+        }
+        None => format!(in alloc; "unknown name {name}"),
+    }
+}
+
 /// What is wrong with a name that is the token of a number.
 fn name(alloc: Global, tokens: &[Token<'_>], at: usize, text: &[u8]) -> Result<String, AllocError> {
     let name = Quoted(text);
     match first_definition(tokens, text) {
-        None => format!(in alloc; "unknown name {name}"),
+        None => undefined(alloc, tokens, at, text),
         Some(defined) if defined > at => {
             let line = line_of(tokens, defined);
             format!(in alloc;

@@ -1,27 +1,28 @@
 //! What is wanted in the place of a name (E23). The tokens are those of a program.
 
 use messages_contexts::{
-    before, begins_expression, behind, divides_at, ends_operand, is_after_word, is_behind_has,
-    is_parent, is_property, is_sign, is_step, is_word, kind_at, owns_parentheses,
+    Defined, Definition, before, begins_expression, behind, divides_at, ends_operand,
+    is_after_word, is_behind_has, is_parent, is_property, is_sign, is_step, is_word, kind_at,
+    owns_parentheses,
 };
 use syntax::{Kind, Sign, Token, Word};
 
-const ARRAY: &str = "an array";
+pub const ARRAY: &str = "an array";
 
-const ATTRIBUTE: &str = "an attribute";
+pub const ATTRIBUTE: &str = "an attribute";
 
 /// What is wanted as a value that is known before a story runs.
 pub const CONSTANT: &str = "a Constant or an object";
 
-const OBJECT: &str = "an object";
+pub const OBJECT: &str = "an object";
 
-const PROPERTY: &str = "a property";
+pub const PROPERTY: &str = "a property";
 
-const ROUTINE: &str = "a routine";
+pub const ROUTINE: &str = "a routine";
 
-const VALUE: &str = "a value";
+pub const VALUE: &str = "a value";
 
-const VARIABLE: &str = "a variable";
+pub const VARIABLE: &str = "a variable";
 
 /// What is wanted in the place of the token of a number within the object whose name has a number.
 pub fn wanted_in_object(tokens: &[Token<'_>], object: usize, at: usize) -> &'static str {
@@ -211,5 +212,15 @@ pub fn wanted_in_statement(tokens: &[Token<'_>], at: usize, variable: bool) -> &
                 wanted_in_expression(tokens, at, variable)
             }
         }
+    }
+}
+
+/// What is wanted in a definition where a name stands, which may be a variable.
+pub fn wanted(tokens: &[Token<'_>], at: usize, around: Defined, variable: bool) -> &'static str {
+    match around.what {
+        Definition::Object => wanted_in_object(tokens, around.name, at),
+        Definition::Routine if is_read(tokens, at) => ARRAY,
+        Definition::Routine => wanted_in_statement(tokens, at, variable),
+        _ => CONSTANT,
     }
 }

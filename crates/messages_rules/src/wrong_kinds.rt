@@ -1,9 +1,10 @@
 //! A name of the wrong kind (E23): what it is, and what is wanted where it stands.
 
 use crate::kinds::{array_kind, is_variable, kind_of};
-use crate::wanted::{CONSTANT, is_read, wanted_in_object, wanted_in_statement};
+use crate::wanted::{CONSTANT, VALUE, is_read, wanted};
 use checker_names::{Binding, Table};
 use messages_contexts::{Defined, Definition, binding_in, may_lack_comma, may_lack_has};
+use messages_features::{Instead, OTHER_VALUES};
 use messages_tokens::Quoted;
 use std::alloc::{AllocError, Global};
 use syntax::{ArrayKind, Token};
@@ -33,15 +34,15 @@ fn read(alloc: Global, name: &[u8], binding: Binding) -> Result<String, AllocErr
 fn other(alloc: Global, name: &[u8], binding: Binding, wanted: &str) -> Result<String, AllocError> {
     let name = Quoted(name);
     let kind = kind_of(binding);
-    format!(in alloc; "{name} is {kind}; {wanted} is expected here")
-}
-
-/// What is wanted in a definition where a name stands, which may be a variable.
-fn wanted(tokens: &[Token<'_>], at: usize, around: Defined, variable: bool) -> &'static str {
-    match around.what {
-        Definition::Object => wanted_in_object(tokens, around.name, at),
-        Definition::Routine => wanted_in_statement(tokens, at, variable),
-        _ => CONSTANT,
+    let instead = Instead(OTHER_VALUES);
+    match binding {
+        Binding::Routine(_, _) if wanted == VALUE => format!(in alloc;
+            "{name} is {kind}; {wanted} is expected here: call it, or {instead}"
+        ),
+        Binding::Routine(_, _) if wanted == CONSTANT => format!(in alloc;
+            "{name} is {kind}; {wanted} is expected here: {instead}"
+        ),
+        _ => format!(in alloc; "{name} is {kind}; {wanted} is expected here"),
     }
 }
 

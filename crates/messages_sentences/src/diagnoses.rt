@@ -2,13 +2,24 @@
 
 use meaning::greatest_weight;
 use messages_figures::{MOST_TABLE_BYTES, measure};
-use messages_places::Diagnosis;
-use messages_rules::program_sentence;
+use messages_places::{Diagnosis, Place};
+use messages_rules::{Told, program_sentence};
 use messages_tokens::{Figure, source_sentence};
 use std::alloc::{AllocError, Global};
 use syntax_directives::weight_of;
-use syntax_lexer::{NAME_TOO_LONG, NO_MEMORY, STORY_TOO_LARGE, TABLES_TOO_LARGE, lex};
+use syntax_lexer::{NAME_TOO_LONG, NO_MEMORY, STORY_TOO_LARGE, SourceFault, TABLES_TOO_LARGE, lex};
 use zcore::Version;
+
+/// What is wrong with a source that is refused.
+#[derive(Drop)]
+pub struct Message {
+    /// What is wrong and what would be right, on one line and without its end.
+    pub sentence: String,
+
+    /// The diagnosis with the place and the line to show: those of the fault, or where something is
+    /// expected at the end of an earlier line.
+    pub diagnosis: Diagnosis,
+}
 
 /// The figures of a source that is too large as a whole: the bytes of its tables, and whether it is
 /// a story of version 8.
@@ -84,38 +95,73 @@ fn large_tables(alloc: Global, source: &[u8]) -> Result<Option<String>, AllocErr
     )?))
 }
 
-/// The sentence of a diagnosis, if one is found.
+/// A sentence about the place of the fault itself.
+fn at_place(sentence: Option<String>) -> Option<Told> {
+    match sentence {
+        None => None,
+        Some(sentence) => Some(Told {
+            sentence,
+            place: None,
+        }),
+    }
+}
+
+/// What a diagnosis says, if a sentence is found.
 fn found(
     alloc: Global,
     source: &[u8],
     version: Version,
     diagnosis: &Diagnosis,
-) -> Result<Option<String>, AllocError> {
+) -> Result<Option<Told>, AllocError> {
     let rule = diagnosis.fault.number;
     match (rule, diagnosis.place) {
-        (TABLES_TOO_LARGE, _) => large_tables(alloc, source),
-        (STORY_TOO_LARGE, _) => heavy(alloc, source, version),
+        (TABLES_TOO_LARGE, _) => Ok(at_place(large_tables(alloc, source)?)),
+        (STORY_TOO_LARGE, _) => Ok(at_place(heavy(alloc, source, version)?)),
         (_, None) => Ok(None),
-        (1..=NAME_TOO_LONG, Some(place)) => source_sentence(alloc, source, rule, place.offset),
+        (1..=NAME_TOO_LONG, Some(place)) => {
+            Ok(at_place(source_sentence(alloc, source, rule, place.offset)?))
+        }
         (_, Some(place)) => program_sentence(alloc, source, rule, place.offset),
     }
 }
 
-/// What is wrong with a source that a version's compiler refuses, in a sentence on one line without
-/// its end: what stands at the place and what would do. Where none is found it is the broken rule
-/// in words.
+/// A diagnosis as it is shown: at the place that a sentence is about.
+fn shown(source: &[u8], diagnosis: Diagnosis, told: &Told) -> Diagnosis {
+    match told.place {
+        None => diagnosis,
+        Some(position) => Diagnosis {
+            fault: SourceFault {
+                number: diagnosis.fault.number,
+                line: position.line,
+            },
+            place: Some(Place::between(source, position.offset)),
+        },
+    }
+}
+
+/// What is wrong with a source that a version's compiler refuses. If no sentence is found, it is the
+/// broken rule in words.
 ///
 /// # Errors
 ///
 /// `AllocError` where memory is refused.
-pub fn sentence(
+pub fn message_of(
     alloc: Global,
     source: &[u8],
     version: Version,
-    diagnosis: &Diagnosis,
-) -> Result<String, AllocError> {
-    match found(alloc, source, version, diagnosis)? {
-        Some(sentence) => Ok(sentence),
-        None => String::from_str(alloc, diagnosis.fault.rule()),
+    diagnosis: Diagnosis,
+) -> Result<Message, AllocError> {
+    match found(alloc, source, version, &diagnosis)? {
+        Some(told) => {
+            let diagnosis = shown(source, diagnosis, &told);
+            Ok(Message {
+                sentence: told.sentence,
+                diagnosis,
+            })
+        }
+        None => Ok(Message {
+            sentence: String::from_str(alloc, diagnosis.fault.rule())?,
+            diagnosis,
+        }),
     }
 }

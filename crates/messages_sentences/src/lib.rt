@@ -3,4 +3,4 @@
 
 mod diagnoses;
 
-pub use diagnoses::sentence;
+pub use diagnoses::{Message, message_of};
