@@ -10,8 +10,6 @@ mod mode;
 mod outside;
 mod reach;
 mod survey;
-mod sweep;
-mod ways;
 
 pub use beginning::Beginning;
 pub use columns::Columns;

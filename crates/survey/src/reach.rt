@@ -8,10 +8,9 @@ ghost use Rattle.survey.specs.declared.mode.Mode.TheVariants.{Profile};
 
 use crate::mode::Mode;
 use crate::outside::{Outside, note};
-use crate::sweep::Sweep;
-use crate::ways::{Onward, branch_target, constant, jump_target, way_on};
 use std::alloc::{AllocError, Global};
 use survey_opcodes::{Lack, Lead, Opcode, lack_at, standard_lack_at};
+use survey_routines::{Onward, Sweep, branch_target, constant, jump_target, way_on};
 use zcore::layout::{HEADER_LENGTH, MOST_LOCALS};
 use zcore::{Header, Operand, Version};
 

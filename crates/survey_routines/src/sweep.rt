@@ -11,7 +11,7 @@ use zcore::layout::MOST_LOCALS;
 /// A sweep over a story. Each address is looked at once as an instruction, so that the sweep takes
 /// time linear in the story.
 #[derive(Drop)]
-pub(crate) struct Sweep {
+pub struct Sweep {
     /// The addresses of instructions and of words of texts that were looked at.
     tried: Vec<bool>,
 }
@@ -31,15 +31,20 @@ struct Step {
 
 impl Sweep {
     /// A sweep that has looked at nothing.
-    pub(crate) fn new(alloc: Global, story: &[u8]) -> Result<Sweep, AllocError> {
+    ///
+    /// # Errors
+    ///
+    /// `AllocError` where memory is refused.
+    pub fn new(alloc: Global, story: &[u8]) -> Result<Sweep, AllocError> {
         Ok(Sweep {
             tried: vec![in alloc; false; story.len()]?,
         })
     }
 
-    /// Whether a routine may begin at an address: instructions that the Standard names follow one
-    /// another up to one that does not go on with the next, and no branch leads behind it.
-    pub(crate) fn finds_routine(&mut self, story: &[u8], covered: &[bool], at: usize) -> bool
+    /// Whether a routine may begin at an address, of a story of which some bytes were passed before:
+    /// instructions that the Standard names follow one another up to one that does not go on with the
+    /// next, and no branch leads behind it.
+    pub fn finds_routine(&mut self, story: &[u8], covered: &[bool], at: usize) -> bool
         requires short { length story.now ≤ longest_story }
         requires at { at < length story.now }
     {

@@ -9,7 +9,7 @@ use zcore::{Operand, Operation};
 
 /// How an operation goes on.
 #[derive(Clone, Copy)]
-pub(crate) enum Onward {
+pub enum Onward {
     /// With the instruction after it.
     Next,
 
@@ -31,14 +31,14 @@ pub(crate) enum Onward {
 
 impl Onward {
     /// Whether the instruction after it is reached by no other way than a branch.
-    pub(crate) fn is_last(self) -> bool {
+    pub fn is_last(self) -> bool {
         matches!(self, Onward::Nowhere | Onward::LastText | Onward::Jump)
     }
 }
 
 /// How the instruction with an opcode at an address goes on, and where it leads, whether the machine
 /// knows it or not. `None` where nothing is reached from it.
-pub(crate) fn way_on(story: &[u8], opcode: Opcode, at: usize) -> Option<(Onward, Lead)>
+pub fn way_on(story: &[u8], opcode: Opcode, at: usize) -> Option<(Onward, Lead)>
     requires { length story.now ≤ longest_story }
     ensures { IfSome result (λ way. way.1.after ≤ length story.now) }
 {
@@ -69,7 +69,7 @@ const OPERANDS_ALONE: Shape = Shape {
 };
 
 /// The value of an operand that is a constant.
-pub(crate) fn constant(operand: Option<Operand>) -> Option<u16> {
+pub fn constant(operand: Option<Operand>) -> Option<u16> {
     match operand {
         Some(Operand::Large(value)) => Some(value),
         Some(Operand::Small(value)) => Some(u16::from(value)),
@@ -79,7 +79,7 @@ pub(crate) fn constant(operand: Option<Operand>) -> Option<u16> {
 }
 
 /// Where a jump by an offset leads, of which the address after it is given; 0 below 0.
-pub(crate) fn jump_target(after: usize, offset: u16) -> usize
+pub fn jump_target(after: usize, offset: u16) -> usize
     requires { after ≤ longest_story }
     ensures { result ≡ jump_target after offset }
 {
@@ -92,7 +92,7 @@ pub(crate) fn jump_target(after: usize, offset: u16) -> usize
 }
 
 /// Where a branch leads; 0 below 0.
-pub(crate) fn branch_target(after: usize, offset: u16) -> usize
+pub fn branch_target(after: usize, offset: u16) -> usize
     requires { after ≤ longest_story }
     ensures { result ≡ branch_target after offset }
 {
