@@ -126,7 +126,7 @@ fn at_offset(
     offset: usize,
     rule: u8,
 ) -> Result<Option<Told>, AllocError>
-    requires { EndsOnce (lexemes tokens.entry.items) }
+    requires { EndsOnce (lexemes tokens.items) }
 {
     let at = number_at(&tokens, offset);
     let Some(token) = tokens.get(at).copied() else {
