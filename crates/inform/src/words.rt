@@ -101,36 +101,22 @@ fn story_argument<'a>(alloc: Global) -> Result<Arg<'a>, AllocError> {
     Ok(story.action(ArgAction::Set))
 }
 
-/// All arguments.
-///
-/// # Errors
-///
-/// Memory was refused.
-fn arguments<'a>(alloc: Global) -> Result<Vec<Arg<'a>>, AllocError> {
-    let sizes = sizes_argument(alloc)?;
-    let story = story_argument(alloc)?;
-    Ok(vec![in alloc;
-        version_argument(alloc),
-        explain_argument(alloc),
-        show_argument(alloc),
-        sizes,
-        source_argument(alloc),
-        story,
-    ]?)
-}
-
 /// The program's command line.
 ///
 /// # Errors
 ///
 /// Memory was refused.
 pub fn command<'a>(alloc: Global) -> Result<Command<'a>, AllocError> {
-    let arguments = arguments(alloc)?;
     Command::new(alloc, "inform")
         .version("1.1.0")
         .about("Compiles a source file to a Z-machine story file")
         .after_help(MORE)
-        .args(arguments)
+        .arg(version_argument(alloc))?
+        .arg(explain_argument(alloc))?
+        .arg(show_argument(alloc))?
+        .arg(sizes_argument(alloc)?)?
+        .arg(source_argument(alloc))?
+        .arg(story_argument(alloc)?)
 }
 
 /// What the words of a command line that passed `command` ask for; `None` if they name a version
