@@ -78,6 +78,17 @@ impl<'a, W: Write> Transcript<'a, W> {
         }
     }
 
+    /// Notes what is written, for a user at a terminal: nobody else is told anything.
+    fn note(&mut self, text: &[u8])
+        ensures { self.new.writer ≡ self.old.writer }
+    {
+        self.latest = latest_of(text);
+        if self.is_shown && self.latest == Latest::Story {
+            self.prompt.clear();
+            let _ = self.prompt.extend_from_slice(last_line(text));
+        }
+    }
+
     /// Tells the user what the latest text asks for.
     fn tell(&mut self)
         ensures { self.new.writer ≡ self.old.writer }
@@ -107,10 +118,8 @@ impl<W: Write> Write for Transcript<'_, W> {
     ghost contents = { λ transcript. W.contents transcript.writer };
 
     fn write(&mut self, buf: &[u8]) -> io::Result<usize> {
-        self.latest = latest_of(buf);
-        if self.is_shown && self.latest == Latest::Story {
-            self.prompt.clear();
-            let _ = self.prompt.extend_from_slice(last_line(buf));
+        if self.is_waiting || self.is_shown {
+            self.note(buf);
         }
         self.writer.write(buf)
     }
