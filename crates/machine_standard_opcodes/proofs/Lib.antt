@@ -1,3 +1,5 @@
+pub mod Codes
+pub mod Streams
 pub mod Keeping
 pub mod Returning
 pub mod Anew

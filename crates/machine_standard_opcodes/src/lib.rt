@@ -2,18 +2,23 @@
 //! running story.
 #![tactic(auto)]
 
+mod around;
 mod beginning;
 mod dice;
 mod flow;
 mod loaded;
 mod screen;
 mod shifts;
+mod streams;
 mod unicode;
+mod zscii;
 
+pub use around::{Around, MOST_STREAMS};
 pub use beginning::restart;
 pub use dice::random;
 pub use flow::{catch, throw};
 pub use loaded::Loaded;
-pub use screen::{font_of, get_cursor, output_stream};
+pub use screen::{font_of, get_cursor};
 pub use shifts::{shifted, shifted_with_sign};
+pub use streams::{close_all, cut_to_heard, output_stream};
 pub use unicode::{abilities, print_unicode};

@@ -1,7 +1,6 @@
 -- Further operations on the values of their operands.
 use Rattle.std.proofs.Common.{◌≡◌, ◌≢◌, ℕ, Bool, true, false, List, Option, Result, Ok, refl, ap}
 use Rattle.journal.specs.Recording.{Recording}
-use Rattle.zcore.specs.declared.beside.Beside.{Beside}
 use Rattle.zcore.specs.declared.instruction.Branch.{Branch}
 use Rattle.zcore.specs.declared.next.Next.{Next}
 use Rattle.zcore.specs.Effects.{give_result}
@@ -9,10 +8,9 @@ use Rattle.zcore.specs.Parts.{branch_on}
 use Rattle.zcore.specs.State.{State, Out, done}
 use Rattle.zcore_standard.specs.declared.operations.Further.{Further}
 use Rattle.zcore_standard.specs.declared.operations.Further.TheVariants as operations
-use Rattle.zcore_standard.specs.Place.{Here, within}
+use Rattle.zcore_standard.specs.Place.{Here, on, within}
 use Rattle.zcore_standard.specs.Loaded.{Loaded}
 use Rattle.zcore_standard.specs.Further.{perform_keeping, perform_further}
-use Rattle.zcore_standard.specs.Machine.{begins}
 use Rattle.machine_frames.specs.Contents.{Contents}
 use Rattle.machine_frames.specs.States.{state_of, IsSound}
 use Rattle.machine_frames.specs.Went.{Went, Told}
@@ -81,25 +79,27 @@ pub quiet : (operation : Further) → does_nothing operation ≡ false → gives
     → is_quiet operation ≡ true
 quiet operation a b c m n = rw (a, b, c, prints_not operation m n) refl
 
--- window and dice stay
+-- window, dice and streams stay
 
-pub keeping_is : (loaded : Loaded) (operation : Further) (here : Here) (after : ℕ) (result : Option ℕ)
+keeping_is : (loaded : Loaded) (operation : Further) (here : Here) (after : ℕ) (result : Option ℕ)
     (branch : Option Branch) (values : List ℕ) (s : State) → operation ≢ operations.Restart
-    → operation ≢ operations.Random
+    → operation ≢ operations.Random → operation ≢ operations.Read → operation ≢ operations.OutputStream
     → perform_further loaded operation here after result branch values s
     ≡ within here (perform_keeping loaded operation here.next after result branch values s)
 unfolding perform_further
-keeping_is loaded operations.Restart here after result branch values s m n = absurd (m refl)
-keeping_is loaded operations.Random here after result branch values s m n = absurd (n refl)
-keeping_is loaded _ here after result branch values s m n = refl
+keeping_is loaded operations.Restart here after result branch values s m n k l = absurd (m refl)
+keeping_is loaded operations.Random here after result branch values s m n k l = absurd (n refl)
+keeping_is loaded operations.Read here after result branch values s m n k l = absurd (k refl)
+keeping_is loaded operations.OutputStream here after result branch values s m n k l = absurd (l refl)
+keeping_is loaded _ here after result branch values s m n k l = refl
 
 pub keeping_told : {s t : Recording Contents} {x y : List ℕ} (r : Result Next End) (loaded : Loaded)
-    (operation : Further) (beside : Beside) (here : Next) (after : ℕ) (result : Option ℕ) (branch : Option Branch)
-    (values : List ℕ) → operation ≢ operations.Restart → operation ≢ operations.Random
-    → Told r s x t y (perform_keeping loaded operation here after result branch values)
-    → Told (seen (begins beside) r) s x t y
-    (perform_further loaded operation (begins beside here) after result branch values)
-keeping_told {s} {x = x} r loaded operation beside here after result branch values m n w =
-    told_as (seen (begins beside) r) (perform_further loaded operation (begins beside here) after result branch values)
-    (keeping_is loaded operation (begins beside here) after result branch values (state_of s.store x) m n)
-    (told_within r (begins beside here) (perform_keeping loaded operation here after result branch values) w)
+    (operation : Further) (here : Here) (after : ℕ) (result : Option ℕ) (branch : Option Branch)
+    (values : List ℕ) → operation ≢ operations.Restart → operation ≢ operations.Random → operation ≢ operations.Read
+    → operation ≢ operations.OutputStream
+    → Told r s x t y (perform_keeping loaded operation here.next after result branch values)
+    → Told (seen (on here) r) s x t y (perform_further loaded operation here after result branch values)
+keeping_told {s} {x = x} r loaded operation here after result branch values m n k l w =
+    told_as (seen (on here) r) (perform_further loaded operation here after result branch values)
+    (keeping_is loaded operation here after result branch values (state_of s.store x) m n k l)
+    (told_within r here (perform_keeping loaded operation here.next after result branch values) w)

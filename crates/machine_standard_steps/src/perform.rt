@@ -5,22 +5,23 @@ ghost use Rattle.zcore.specs.Execution.{first, second};
 ghost use Rattle.zcore.specs.Header.{static_base_of};
 ghost use Rattle.zcore.specs.Layout.{longest_story};
 ghost use Rattle.zcore_standard.specs.Further as definitions;
-ghost use Rattle.zcore_standard.specs.Machine.{begins};
 ghost use Rattle.zcore_standard.specs.Operations.{row_of};
 ghost use Rattle.zcore_standard.specs.Tables as tables;
 ghost use Rattle.machine_frames.specs.Contents.{memory_of};
 ghost use Rattle.machine_frames.specs.States.{IsSound, IsStoreOf};
 ghost use Rattle.machine_opcodes.specs.Printed.{HasBegun, Grew, ToldFrom};
 ghost use Rattle.machine_opcodes.specs.Seen.{seen};
+ghost use Rattle.machine_standard_opcodes.specs.Around.{place, Keeps};
 
 use crate::effects::{perform_quietly, value_or};
 use crate::kinds::{condition_of, does_nothing, word_of};
+use crate::reading::read_line;
 use journal::Recorded;
 use machine_frames::{End, Store};
 use machine_opcodes::{Ending, branch_on, give_result};
-use machine_standard_opcodes::{Loaded, print_unicode, random, restart};
+use machine_standard_opcodes::{Around, Loaded, output_stream, print_unicode, random, restart};
 use machine_standard_tables::print_table;
-use zcore::{Beside, Header, Next};
+use zcore::{Header, Next};
 use zcore_standard::Further;
 
 /// The rows of a table that is printed, where their number is left out.
@@ -33,7 +34,7 @@ pub(crate) fn perform_further(
     text: &mut Vec<u8>,
     start: usize,
     loaded: &Loaded,
-    beside: &mut Beside,
+    around: &mut Around,
     here: Next,
     operation: Further,
     values: &[u16],
@@ -44,38 +45,46 @@ pub(crate) fn perform_further(
     requires text { HasBegun start text.old.items }
     requires enough { (row_of operation).least_operands ≤ length values.now }
     requires after { ending.after ≤ longest_story }
-    ensures told { ToldFrom start (seen (begins beside.new) result) store.old text.old.items
+    ensures told { ToldFrom start (seen (place around.new) result) store.old text.old.items
         store.new text.new.items (definitions.perform_further loaded.now operation
-        (begins beside.old here) ending.after ending.result ending.branch values.now) }
-    ensures text { Grew start text.old.items text.new.items }
-    ensures beside { OnErr result (beside.new ≡ beside.old) }
+        (place around.old here) ending.after ending.result ending.branch values.now) }
+    ensures text { Keeps start text.old.items text.new.items }
+    ensures around { OnErr result (around.new ≡ around.old) }
 {
     match operation {
-        Further::Restart => match restart(store, loaded, here) {
-            Ok(next) => {
-                *beside = loaded.dice();
-                Ok(next)
-            }
-            Err(end) => Err(end),
-        },
+        Further::Restart => restart(store, text, start, loaded, around, here),
         Further::Random => {
             random(
                 header,
                 store,
-                beside,
+                around,
                 here,
                 ending.after,
                 ending.result,
                 values[0],
             )
         }
+        Further::Read => read_line(
+            header, store, text, start, loaded, around, here, values, ending,
+        ),
+        Further::OutputStream => output_stream(
+            header,
+            store,
+            text,
+            start,
+            loaded,
+            around,
+            here,
+            ending.after,
+            values,
+        ),
         _ => perform_keeping(
             header, store, text, start, loaded, here, operation, values, ending,
         ),
     }
 }
 
-/// Does a further operation that leaves window and dice as they are.
+/// Does a further operation that leaves window, dice and streams as they are.
 fn perform_keeping(
     header: &Header,
     store: &mut Recorded<Store>,

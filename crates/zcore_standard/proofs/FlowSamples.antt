@@ -40,12 +40,16 @@ abbrev with_frames : List Frame → State
 with_frames frames = record (first_state (story 1)) { frames = frames }
 
 abbrev playing : Here
-playing = record { next = here; beside = record { window = 0; random = 7; interval = 3; counter = 2 } }
+playing = record {
+  next = here;
+  beside = record { window = 0; random = 7; interval = 3; counter = 2 };
+  streams = record { table = 64; from = 1 } ∷ [];
+}
 
--- dynamic memory, frames and dice are as at loading, and a unit is spent; the text stays
+-- dynamic memory, frames and dice are as at loading, and a unit is spent; the text stays, without that of the stream
 restarted : restart loaded playing
-    (record (first_state (story 5)) { frames = called 70 ∷ first_environment ∷ []; text = 65 ∷ [] })
-    ≡ done (record { next = record { program_counter = 66; fuel = 4 }; beside = seeded 12345 })
+    (record (first_state (story 5)) { frames = called 70 ∷ first_environment ∷ []; text = 65 ∷ 66 ∷ [] })
+    ≡ done (record { next = record { program_counter = 66; fuel = 4 }; beside = seeded 12345; streams = [] })
     (record (first_state (story 1)) { text = 65 ∷ [] })
 unfolding restart spend
 restarted = refl

@@ -1,7 +1,7 @@
 -- `aread` with two operands is the same instruction in the profile and here.
-use Rattle.std.proofs.Common.{◌≡◌, ℕ, ◌+◌, ◌<◌, List, length, refl, ap, sym, ◌∙◌, Bool, true, false}
-use Rattle.std.proofs.Common.{arith, slice_index, Option, Some, None, Result, Ok, Err}
-use Rattle.std.specs.Prelude.{◌&&◌, nat_le}
+use Rattle.std.proofs.Common.{◌≡◌, ℕ, ◌+◌, ◌<◌, List, [], ◌∷◌, length, refl, ap, sym, ◌∙◌, Bool, true, false}
+use Rattle.std.proofs.Common.{arith, slice_index, slice_index_or, Option, Some, None, Result, Ok, Err}
+use Rattle.std.specs.Prelude.{◌&&◌, ◌||◌, nat_le}
 use Rattle.std.proofs.lemmas.Bool.{and_parts, leb-true}
 use Rattle.zcore.specs.declared.instruction.Operand.{Operand}
 use Rattle.zcore.specs.declared.instruction.Operation.TheVariants as operations
@@ -11,16 +11,18 @@ use Rattle.ztext.specs.Results.{◌>>=◌}
 use Rattle.zcore.specs.Instruction as profile
 use Rattle.zcore.specs.Instruction.{Opcode, operands, variable_types, given_types, opcode_of, opcode, decode}
 use Rattle.zcore.specs.Instruction.{result_variable, branch}
-use Rattle.zcore.specs.Execution.{perform, execute, step}
-use Rattle.zcore.specs.Parts.{is_code, operand_values}
-use Rattle.zcore.specs.State.{State, Out, done, halt, bound}
+use Rattle.zcore.specs.Execution.{perform, execute, step, read}
+use Rattle.zcore.specs.Parts.{is_code, operand_values, test_text_buffer, test_parse_buffer, test_result, wait}
+use Rattle.zcore.specs.State.{Pending, State, Out, done, halt, bound}
 use Rattle.zcore.proofs.Ahead as ahead
 use Rattle.zcore_standard.specs.declared.operations.Further.TheVariants.{Read}
+use Rattle.zcore_standard.specs.declared.streams.Stream.{Stream}
 use Rattle.zcore_standard.specs.Place.{Here, within}
 use Rattle.zcore_standard.specs.Loaded.{Loaded}
-use Rattle.zcore_standard.specs.Laws.{ends_in_fault}
+use Rattle.zcore_standard.specs.Laws.{ends_in_fault, is_done, is_none_open, closes_none}
 use Rattle.zcore_standard.specs.Instruction.{types_at, counted, result_at, branch_after, decode_further}
-use Rattle.zcore_standard.specs.Further.{perform_keeping, perform_further, execute_further}
+use Rattle.zcore_standard.specs.Further.{perform_further, execute_further}
+use Rattle.zcore_standard.specs.Streams.{close_all, read_line}
 use Rattle.zcore_standard.proofs.Refusing.{IsReadByte, opcode_is}
 
 -- the opcode as the profile reads it
@@ -127,14 +129,57 @@ within_bound : {A : Type 0} (here : Here) (o : Out A) (k : A → State → Out N
 within_bound here (done a s) k = refl
 within_bound here (halt place s) k = refl
 
+-- the same after a part, whatever it came to
+after_alike : {A B : Type 0} (o : Out A) (k m : A → State → Out B) → ((a : A) (t : State) → k a t ≡ m a t)
+    → bound o k ≡ bound o m
+after_alike (done a s) k m same = same a s
+after_alike (halt place s) k m same = refl
+
+-- where no stream is open, `aread` waits as in the profile
+line_read : (extra : List ℕ) (here : Here) (after : ℕ) (result : Option ℕ) (text_buffer parse_buffer : ℕ) (s : State)
+    → here.streams ≡ []
+    → read_line extra here after result text_buffer parse_buffer s
+    ≡ within here (read here.next after result text_buffer parse_buffer s)
+unfolding read_line close_all
+line_read extra here after result text_buffer parse_buffer s e = rw e refl
+
 executes_alike : (loaded : Loaded) (here : Here) (s : State) (given : List Operand) (result : Option ℕ) (after : ℕ)
+    → here.streams ≡ []
     → execute_further loaded Read here (Ok (record { operands = given; result = result; branch = None }, after)) s
     ≡ within here (execute here.next
     (Ok (record { operation = operations.Read; operands = given; result = result; branch = None }, after)) s)
-unfolding perform perform_further perform_keeping
-executes_alike loaded here s given result after =
-    sym (within_bound here (operand_values given s)
+unfolding perform perform_further
+executes_alike loaded here s given result after none =
+    after_alike (operand_values given s) _ _ (λ values t.
+    line_read loaded.characters here after result (slice_index values 0) (slice_index_or values 1 0) t none)
+    ∙ sym (within_bound here (operand_values given s)
     (λ values. perform operations.Read here.next after result None values))
+
+-- `aread` never goes on
+
+not_done : {A B : Type 0} (o : Out A) (k : A → State → Out B) → ((a : A) (t : State) → is_done (k a t) ≡ false)
+    → is_done (bound o k) ≡ false
+not_done (done a s) k not = not a s
+not_done (halt place s) k not = refl
+
+wait_not_done : (pending : Pending) (s : State) → is_done (wait pending s) ≡ false
+unfolding wait
+wait_not_done pending s = refl
+
+read_not_done : (here : Next) (after : ℕ) (result : Option ℕ) (text_buffer parse_buffer : ℕ) (s : State)
+    → is_done (read here after result text_buffer parse_buffer s) ≡ false
+unfolding read
+read_not_done here after result text_buffer parse_buffer s =
+    not_done (test_text_buffer text_buffer s) _ (λ _ t.
+    not_done (test_parse_buffer parse_buffer t) _ (λ _ u.
+    not_done (test_result result u) _ (λ _ v. wait_not_done _ v)))
+
+execute_not_done : (here : Next) (s : State) (given : List Operand) (result : Option ℕ) (after : ℕ)
+    → is_done (execute here
+    (Ok (record { operation = operations.Read; operands = given; result = result; branch = None }, after)) s) ≡ false
+unfolding perform
+execute_not_done here s given result after = not_done (operand_values given s) _ (λ values t.
+    read_not_done here after result (slice_index values 0) (slice_index values 1) t)
 
 steps_as : (here : Next) (s : State) (r : Result (profile.Instruction × ℕ) Fault)
     → is_code s.memory here.program_counter ≡ true → decode s.memory here.program_counter ≡ r
@@ -146,26 +191,36 @@ neither : (b : Bool) → b ≡ false → b ≡ true → ⊥
 neither true e f = cc
 neither false e f = cc
 
+-- no stream is open
+none_open : (here : Here) (o : Out Next) (streams : List Stream) → here.streams ≡ streams → closes_none here o ≡ true
+    → is_done o ≡ false → here.streams ≡ []
+none_open here o [] e quiet not = e
+none_open here o (stream ∷ streams) e quiet not = absurd (neither _ not (sym (ap (λ l. is_none_open l || is_done o) e)
+    ∙ quiet))
+
 read_by : (loaded : Loaded) (here : Here) (s : State) (r : Result (profile.Instruction × ℕ) Fault)
     → is_code s.memory here.next.program_counter ≡ true → here.next.program_counter < length s.memory
     → IsReadByte (slice_index s.memory here.next.program_counter) → decode s.memory here.next.program_counter ≡ r
-    → ends_in_fault (step here.next s) ≡ false
+    → ends_in_fault (step here.next s) ≡ false → closes_none here (step here.next s) ≡ true
     → execute_further loaded Read here (decode_further s.memory here.next.program_counter Read) s
     ≡ within here (step here.next s)
-read_by loaded here s (Err cause) code inside is e plays =
+read_by loaded here s (Err cause) code inside is e plays quiet =
     absurd (neither _ plays (ap ends_in_fault (steps_as here.next s (Err cause) code e)))
-read_by loaded here s (Ok x) code inside is e plays =
+read_by loaded here s (Ok x) code inside is e plays quiet =
     let at = here.next.program_counter in
     let a = reads_alike s.memory at x inside is e in
+    let steps = steps_as here.next s _ code a.plain in
+    let none = none_open here (step here.next s) here.streams refl quiet
+    (ap is_done steps ∙ execute_not_done here.next s a.given a.result a.after) in
     ap (λ r. execute_further loaded Read here r s) a.further
-    ∙ executes_alike loaded here s a.given a.result a.after
-    ∙ sym (ap (within here) (steps_as here.next s _ code a.plain))
+    ∙ executes_alike loaded here s a.given a.result a.after none
+    ∙ sym (ap (within here) steps)
 
--- where the profile meets no fault, `aread` is the same here
+-- where the profile meets no fault, and no stream is open, `aread` is the same here
 pub read_keeps : (loaded : Loaded) (here : Here) (s : State) → is_code s.memory here.next.program_counter ≡ true
     → here.next.program_counter < length s.memory → IsReadByte (slice_index s.memory here.next.program_counter)
-    → ends_in_fault (step here.next s) ≡ false
+    → ends_in_fault (step here.next s) ≡ false → closes_none here (step here.next s) ≡ true
     → execute_further loaded Read here (decode_further s.memory here.next.program_counter Read) s
     ≡ within here (step here.next s)
-read_keeps loaded here s code inside is plays =
-    read_by loaded here s (decode s.memory here.next.program_counter) code inside is refl plays
+read_keeps loaded here s code inside is plays quiet =
+    read_by loaded here s (decode s.memory here.next.program_counter) code inside is refl plays quiet

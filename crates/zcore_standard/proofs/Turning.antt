@@ -18,7 +18,7 @@ use Rattle.zcore_standard.specs.Loaded.{Loaded}
 use Rattle.zcore_standard.specs.Operations.{further_at}
 use Rattle.zcore_standard.specs.Machine.{chosen, standard, standard_step, standard_turn, standard_pending}
 use Rattle.zcore_standard.specs.Machine.{standard_turn_on, with_beside, begins}
-use Rattle.zcore_standard.specs.Laws.{EndsOneWay, is_fault, ends_in_fault}
+use Rattle.zcore_standard.specs.Laws.{EndsOneWay, is_fault, ends_in_fault, closes_none}
 use Rattle.zcore_standard.proofs.Known.{known_keeps}
 use Rattle.zcore_standard.proofs.Reading.{read_keeps}
 use Rattle.zcore_standard.proofs.Refusing.{IsReadByte, Stands, stands, step_refused}
@@ -72,26 +72,27 @@ neither false e f = cc
 -- at a further operation the profile faults, or both read `aread`
 further_keeps : (loaded : Loaded) (here : Here) (s : State) (operation : Further)
     → Stands s.memory here.next.program_counter operation → ends_in_fault (step here.next s) ≡ false
+    → closes_none here (step here.next s) ≡ true
     → (step here.next s ≡ halt (places.Fault faults.Opcode) s)
     ⊎ ((operation ≡ Read) × IsReadByte (slice_index s.memory here.next.program_counter))
     → chosen loaded (Some operation) here s ≡ within here (step here.next s)
-further_keeps loaded here s operation a plays (inl e) = absurd (neither _ plays (ap ends_in_fault e))
-further_keeps loaded here s operation a plays (inr r) =
-    ap (λ o. chosen loaded (Some o) here s) r.0 ∙ read_keeps loaded here s a.code a.within r.1 plays
+further_keeps loaded here s operation a plays quiet (inl e) = absurd (neither _ plays (ap ends_in_fault e))
+further_keeps loaded here s operation a plays quiet (inr r) =
+    ap (λ o. chosen loaded (Some o) here s) r.0 ∙ read_keeps loaded here s a.code a.within r.1 plays quiet
 
 chosen_keeps : (loaded : Loaded) (here : Here) (s : State) (o : Option Further)
     → further_at s.memory here.next.program_counter ≡ o → ends_in_fault (step here.next s) ≡ false
-    → chosen loaded o here s ≡ within here (step here.next s)
-chosen_keeps loaded here s None e plays = ap (within here) (known_keeps here.next s plays)
-chosen_keeps loaded here s (Some operation) e plays =
-    further_keeps loaded here s operation (stands s.memory here.next.program_counter operation e) plays
+    → closes_none here (step here.next s) ≡ true → chosen loaded o here s ≡ within here (step here.next s)
+chosen_keeps loaded here s None e plays quiet = ap (within here) (known_keeps here.next s plays)
+chosen_keeps loaded here s (Some operation) e plays quiet =
+    further_keeps loaded here s operation (stands s.memory here.next.program_counter operation e) plays quiet
     (step_refused here.next s operation e)
 
 pub standard_steps : (loaded : Loaded) (here : Here) (s : State) → ends_in_fault (step here.next s) ≡ false
-    → standard_step loaded here s ≡ within here (step here.next s)
+    → closes_none here (step here.next s) ≡ true → standard_step loaded here s ≡ within here (step here.next s)
 unfolding standard_step
-standard_steps loaded here s plays =
-    chosen_keeps loaded here s (further_at s.memory here.next.program_counter) refl plays
+standard_steps loaded here s plays quiet =
+    chosen_keeps loaded here s (further_at s.memory here.next.program_counter) refl plays quiet
 
 -- Turns that the profile plays
 
@@ -124,7 +125,7 @@ turn_in_keeps loaded beside zero here s whole e plays = absurd (cc)
 turn_in_keeps loaded beside (suc count) here s whole e plays =
     after_keeps loaded beside here s count whole (step here s)
     (λ next t h. turn_in_keeps loaded beside count next t whole h plays) plays
-    (λ h. standard_steps loaded (begins beside here) s h) e
+    (λ h. standard_steps loaded (begins beside here) s h refl) e
 
 pub standard_turn_keeps : (loaded : Loaded) (beside : Beside) (here : Next) (s : State) (whole : Whole)
     → turn_from here s ≡ Some whole → is_fault whole.place ≡ false

@@ -26,13 +26,15 @@ use Rattle.zcore_standard.specs.Shifts.{log_shift, art_shift}
 use Rattle.zcore_standard.specs.Dice.{rolled, random}
 use Rattle.zcore_standard.specs.Unicode.{transcript_of, print_whole, print_unicode, check_unicode}
 use Rattle.zcore_standard.specs.Flow.{restart, catch, frames_at, leave_frame, throw, verify}
-use Rattle.zcore_standard.specs.Screen.{get_cursor, set_font, is_memory_stream, output_stream}
+use Rattle.zcore_standard.specs.Screen.{get_cursor, set_font}
+use Rattle.zcore_standard.specs.Streams.{read_line}
 use Rattle.zcore_standard.specs.Further.{perform_keeping, perform_further, execute_further, words_of_table, one_row}
 use Rattle.zcore_standard.specs.Nothing.{step_known}
 use Rattle.zcore_standard.specs.Machine.{chosen, standard_step}
 use Rattle.zcore_standard.proofs.Known.{waits_step_known}
 use Rattle.zcore_standard.proofs.TableFacts.{waits_scan_table, waits_copy_table, waits_print_table}
 use Rattle.zcore_standard.proofs.WordFacts.{waits_tokenise, waits_encode_text}
+use Rattle.zcore_standard.proofs.StreamFacts.{waits_close_all, waits_output_stream}
 
 -- The operations that leave window and dice as they are
 
@@ -71,12 +73,6 @@ waits_get_cursor here after table =
 waits_set_font : (here : Next) (after : ℕ) (result : Option ℕ) (font : ℕ) → Waits (set_font here after result font)
 unfolding set_font
 waits_set_font here after result font = waits_give_result here after result _
-
-waits_output_stream : (here : Next) (after number : ℕ) → Waits (output_stream here after number)
-unfolding output_stream
-waits_output_stream here after number =
-    waits_chosen (is_memory_stream number) _ _ (λ s t h. waits_fault faults.Opcode s t h)
-    (waits_goes_on after here.fuel)
 
 waits_catch : (here : Next) (after : ℕ) (result : Option ℕ) → Waits (catch here after result)
 unfolding catch
@@ -123,11 +119,7 @@ waits_perform_keeping loaded operations.Verify here after result branch values =
 waits_perform_keeping loaded operations.Piracy here after result branch values = waits_branch_on here after branch true
 waits_perform_keeping loaded operations.Throw here after result branch values = waits_throw here
     (slice_index values 0) (slice_index values 1)
-waits_perform_keeping loaded operations.Read here after result branch values = waits_read here after result
-    (slice_index values 0) (slice_index_or values 1 0)
 waits_perform_keeping loaded operations.GetCursor here after result branch values = waits_get_cursor here after
-    (slice_index values 0)
-waits_perform_keeping loaded operations.OutputStream here after result branch values = waits_output_stream here after
     (slice_index values 0)
 waits_perform_keeping loaded operations.ScanTable here after result branch values = waits_scan_table here after result
     branch (slice_index values 0) (slice_index values 1) (slice_index values 2)
@@ -193,6 +185,13 @@ waits_restart : (loaded : Loaded) (here : Here) → Waits (restart loaded here)
 unfolding restart
 waits_restart loaded here = waits_then _ _ (waits_spend here.next.fuel) (λ fuel s t h. waits_done _ _ t h)
 
+waits_read_line : (extra : List ℕ) (here : Here) (after : ℕ) (result : Option ℕ) (text_buffer parse_buffer : ℕ)
+    → Waits (read_line extra here after result text_buffer parse_buffer)
+unfolding read_line
+waits_read_line extra here after result text_buffer parse_buffer =
+    waits_then _ _ (waits_close_all extra here.streams)
+    (λ _. waits_within here _ (waits_read here.next after result text_buffer parse_buffer))
+
 waits_keeping : (loaded : Loaded) (operation : Further) (here : Here) (after : ℕ) (result : Option ℕ)
     (branch : Option Branch) (values : List ℕ)
     → Waits (λ s. within here (perform_keeping loaded operation here.next after result branch values s))
@@ -206,6 +205,10 @@ unfolding perform_further
 waits_perform_further loaded operations.Restart here after result branch values = waits_restart loaded here
 waits_perform_further loaded operations.Random here after result branch values = waits_random here after result
     (slice_index values 0)
+waits_perform_further loaded operations.Read here after result branch values = waits_read_line loaded.characters here
+    after result (slice_index values 0) (slice_index_or values 1 0)
+waits_perform_further loaded operations.OutputStream here after result branch values = waits_output_stream
+    loaded.characters here after values
 waits_perform_further loaded operation here after result branch values = waits_keeping loaded operation here after
     result branch values
 

@@ -1,5 +1,5 @@
 -- The laws of the Standard's machine that functions of `laws` carry as their contracts.
-use Rattle.std.specs.Prelude.{◌≡◌, ℕ, Bool, true, false, not, List, Some, map}
+use Rattle.std.specs.Prelude.{◌≡◌, ◌||◌, ℕ, Bool, true, false, not, List, [], ◌∷◌, Some, map}
 use Rattle.std.specs.List.{list_all}
 use Rattle.zcore.specs.State.{State, Out, done, halt}
 use Rattle.zcore.specs.declared.beside.Beside.{Beside}
@@ -8,6 +8,7 @@ use Rattle.zcore.specs.declared.place.Place.{Place}
 use Rattle.zcore.specs.declared.place.Place.TheVariants as places
 use Rattle.zcore.specs.Execution.{step}
 use Rattle.zcore.specs.Turn.{StateOfPlay, Whole, TurnsBy, turn_from, turn_on, plays, plays_of}
+use Rattle.zcore_standard.specs.declared.streams.Stream.{Stream}
 use Rattle.zcore_standard.specs.Place.{Here, within}
 use Rattle.zcore_standard.specs.Loaded.{Loaded}
 use Rattle.zcore_standard.specs.Machine.{standard, standard_step, standard_turn, standard_turn_on, begins, by_standard}
@@ -31,11 +32,24 @@ abbrev pub ends_in_fault : {H : Type 0} → Out H → Bool
 ends_in_fault (done next s) = false
 ends_in_fault (halt place s) = is_fault place
 
--- a step of the profile that meets no fault is the Standard's step, and leaves window and dice as they are
+abbrev pub is_done : {H : Type 0} → Out H → Bool
+is_done (done next s) = true
+is_done (halt place s) = false
+
+abbrev pub is_none_open : List Stream → Bool
+is_none_open [] = true
+is_none_open (stream ∷ streams) = false
+
+-- there is no stream that a step which ends the turn may close: none is open, or the turn goes on
+abbrev pub closes_none : Here → Out Next → Bool
+closes_none here o = is_none_open here.streams || is_done o
+
+-- A step of the profile that meets no fault is the Standard's step, and leaves window, dice and streams as they are.
+-- It may not be an `aread` while a stream is open, which the profile has not: the stream is closed.
 abbrev pub KeepsWhatTheProfileSteps : Type 0
 KeepsWhatTheProfileSteps =
     (loaded : Loaded) (here : Here) (s : State) → ends_in_fault (step here.next s) ≡ false
-    → standard_step loaded here s ≡ within here (step here.next s)
+    → closes_none here (step here.next s) ≡ true → standard_step loaded here s ≡ within here (step here.next s)
 
 -- A turn of the profile that ends in no fault is the Standard's turn: with the same text, memory, frames, place and
 -- program counter, and with the window and the dice that it began with.

@@ -1,5 +1,5 @@
 -- The Standard's machine: a further operation where its opcode is found, and else a step of the profile.
-use Rattle.std.specs.Prelude.{ℕ, List, Option, Some, None}
+use Rattle.std.specs.Prelude.{ℕ, List, [], Option, Some, None}
 use Rattle.zcore.specs.declared.next.Next.{Next}
 use Rattle.zcore.specs.declared.place.Place.{Place}
 use Rattle.zcore.specs.declared.beside.Beside.{Beside}
@@ -12,6 +12,7 @@ use Rattle.zcore_standard.specs.Loaded.{Loaded}
 use Rattle.zcore_standard.specs.Operations.{further_at}
 use Rattle.zcore_standard.specs.Instruction.{decode_further}
 use Rattle.zcore_standard.specs.Further.{execute_further}
+use Rattle.zcore_standard.specs.Streams.{heard}
 use Rattle.zcore_standard.specs.Nothing.{step_known}
 
 abbrev pub chosen : Loaded → Option Further → Here → State → Out Here
@@ -26,9 +27,10 @@ standard_step loaded here s = chosen loaded (further_at s.memory here.next.progr
 abbrev pub with_beside : Beside → Whole → Whole
 with_beside beside whole = record whole { state = record whole.state { beside = beside } }
 
--- window and dice last from turn to turn
+-- Window and dice last from turn to turn. What was printed to streams that are open at the end is dropped.
 abbrev pub standard_ended : Here → Place → State → Whole
-standard_ended here place s = with_beside here.beside (ended here.next place s)
+standard_ended here place s =
+    with_beside here.beside (ended here.next place (record s { text = heard here.streams s.text }))
 
 -- the machine of a story that was loaded so
 abbrev pub standard : Loaded → Machine Here
@@ -38,9 +40,9 @@ standard loaded = record { step = standard_step loaded; ended = standard_ended }
 unfoldable pub standard_turn : Loaded → Here → State → Option Whole
 standard_turn loaded here s = turn_by (standard loaded) (weight here.next s) here s
 
--- where a turn begins
+-- where a turn begins, with no stream open
 abbrev pub begins : Beside → Next → Here
-begins beside next = record { next = next; beside = beside }
+begins beside next = record { next = next; beside = beside; streams = [] }
 
 -- The opening of a story, as its memory is after loading.
 unfoldable pub standard_opening : Loaded → List ℕ → ℕ → Option Whole

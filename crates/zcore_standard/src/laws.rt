@@ -8,8 +8,9 @@ pub fn every_standard_turn_ends()
     ensures { EveryStandardTurnEnds }
 {}
 
-/// A step of the profile's machine that meets no fault is the Standard's step, and leaves window and
-/// dice as they are.
+/// A step of the profile's machine that meets no fault is the Standard's step, and leaves window,
+/// dice and streams as they are. It is no `aread` while a stream is open, which the profile does not
+/// have.
 pub fn keeps_what_the_profile_steps()
     ensures { KeepsWhatTheProfileSteps }
 {}

@@ -1,21 +1,33 @@
 use Rattle.zcore_standard.specs.Further.{perform_further}
 use Rattle.machine_frames.proofs.Steps.{told_went}
+use Rattle.machine_standard_opcodes.specs.Around.{place}
+use Rattle.machine_standard_opcodes.proofs.Streams.{keeps_still, keeps_grew}
 use Rattle.machine_standard_steps.proofs.Doing.{keeping_told}
 use Rattle.machine_standard_steps.proofs.perform.perform_further.Goals as goal
 
-pub returns-in-Ok-clause-told : goal.returns-in-Ok-clause-told
+pub returns-in-Restart-clause-told : goal.returns-in-Restart-clause-told
 unfolding perform_further
-returns-in-Ok-clause-told c = rw (c.in-Restart.is, c.dice.ensures) (told_went _ _ (c.in-Ok.ensures c.args.beside.now))
-
-pub returns-in-Err-clause-told : goal.returns-in-Err-clause-told
-unfolding perform_further
-returns-in-Err-clause-told c = rw c.in-Restart.is (told_went _ _ (c.in-Err.ensures c.args.beside.now))
+returns-in-Restart-clause-told c = rw c.in-Restart.is c.restart.ensures.told
 
 pub returns-in-Random-clause-told : goal.returns-in-Random-clause-told
 unfolding perform_further
 returns-in-Random-clause-told c = rw c.in-Random.is (told_went _ _ c.random.ensures.went)
 
+pub returns-in-Random-clause-text : goal.returns-in-Random-clause-text
+returns-in-Random-clause-text c = keeps_still _ _ c.requires.text
+
+pub returns-in-Read-clause-told : goal.returns-in-Read-clause-told
+unfolding perform_further
+returns-in-Read-clause-told c = rw c.in-Read.is c.read_line.ensures.told
+
+pub returns-in-OutputStream-clause-told : goal.returns-in-OutputStream-clause-told
+unfolding perform_further
+returns-in-OutputStream-clause-told c = rw c.in-OutputStream.is c.output_stream.ensures.told
+
 pub returns-in_default-clause-told : goal.returns-in_default-clause-told
-returns-in_default-clause-told c = keeping_told _ c.args.loaded.now c.args.operation c.args.beside.now c.args.here
+returns-in_default-clause-told c = keeping_told _ c.args.loaded.now c.args.operation (place c.args.around.now c.args.here)
     c.args.ending.after c.args.ending.result c.args.ending.branch c.args.values.now c.in_default.not-Restart
-    c.in_default.not-Random c.perform_keeping.ensures.told
+    c.in_default.not-Random c.in_default.not-Read c.in_default.not-OutputStream c.perform_keeping.ensures.told
+
+pub returns-in_default-clause-text : goal.returns-in_default-clause-text
+returns-in_default-clause-text c = keeps_grew c.requires.text c.perform_keeping.ensures.text
