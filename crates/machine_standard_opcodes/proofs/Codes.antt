@@ -1,6 +1,6 @@
 -- The ZSCII codes of a text.
 use Rattle.std.proofs.Common.{◌≡◌, ◌≢◌, ℕ, ◌+◌, ◌<◌, ◌≤◌, List, [], ◌∷◌, ◌++◌, length, take, drop, map, refl, ap, sym}
-use Rattle.std.proofs.Common.{◌∙◌, arith, slice_index, true, false}
+use Rattle.std.proofs.Common.{◌∙◌, arith, slice_index, zero, suc, subst, true, false}
 use Rattle.std.specs.Prelude.{◌==◌, if◌then◌else◌}
 use Rattle.std.proofs.lemmas.Bool.{ne_eqb, eq-eqb}
 use Rattle.std.proofs.lemmas.List.{append-nil, append_assoc, drop_all, drop_more, get_or-take, length-map, length-drop}
@@ -8,17 +8,20 @@ use Rattle.std.proofs.Math.ListN.{get_or-append}
 use Rattle.std.proofs.Math.Seq.{take-append_seam}
 use Rattle.zcore_standard.specs.declared.streams.Begun.{Begun}
 use Rattle.zcore_standard.specs.Streams.{between, next_byte, characters_in, code_among, zscii_of, zscii_in}
-use Rattle.machine_standard_opcodes.specs.Begun.{IsBegun}
+use Rattle.machine_standard_opcodes.specs.Begun.{IsBegun, AddsWhole}
 
 -- One of some characters
 
-pub among_next : (cs : List ℕ) (i most code character : ℕ) → i < most → i < length (take most cs)
+pub among_next : (cs : List ℕ) (i most base character : ℕ) → i < most → i < length (take most cs)
     → slice_index cs i ≢ character
-    → code_among (drop i (take most cs)) code character ≡ code_among (drop (i + 1) (take most cs)) (code + 1) character
+    → code_among (drop i (take most cs)) (base + i) character
+    ≡ code_among (drop (i + 1) (take most cs)) (base + (i + 1)) character
 unfolding code_among
-among_next cs i most code character few lt other =
+among_next cs i most base character few lt other =
     let at : slice_index (take most cs) i ≡ slice_index cs i = get_or-take most cs i 0 few in
-    rw (drop_more (take most cs) i 0 lt, at, ne_eqb (slice_index cs i) character other) refl
+    let place : base + i + 1 ≡ base + (i + 1) = omega arith in
+    rw (drop_more (take most cs) i 0 lt, at, ne_eqb (slice_index cs i) character other)
+    (ap (λ n. code_among (drop (i + 1) (take most cs)) n character) place)
 
 pub among_found : (cs : List ℕ) (i most code character : ℕ) → i < most → i < length (take most cs)
     → slice_index cs i ≡ character → code_among (drop i (take most cs)) code character ≡ code
@@ -37,14 +40,14 @@ pub record Added (extra old now : List ℕ) (from i : ℕ) (begun : Begun) : Typ
   pub codes : List ℕ
   pub text : now ≡ old ++ codes
   pub rest : zscii_in extra (drop from old) ≡ codes ++ map (zscii_of extra) (characters_in begun (drop i old))
-  pub begun : IsBegun begun
+  pub state : IsBegun begun
 
 pub added_none : (extra old : List ℕ) (from : ℕ) → Added extra old old from from between
 added_none extra old from = record {
   codes = [];
   text = sym (append-nil old);
   rest = refl;
-  begun = record { few = omega arith; whole = omega arith; one = λ h. omega (arith, h); two = λ h. omega (arith, h) };
+  state = record { few = omega arith; whole = omega arith; one = λ h. omega (arith, h); two = λ h. omega (arith, h) };
 }
 
 -- a byte that ends a character
@@ -86,7 +89,7 @@ added_code extra old now more from i byte code begun after a lt is e none c text
       rest = a.rest ∙ ap (λ l. a.codes ++ map (zscii_of extra) (characters_in begun l)) front
           ∙ code_more extra a.codes (drop (i + 1) old) begun byte done
           ∙ ap (λ x. (a.codes ++ x ∷ []) ++ map (zscii_of extra) (characters_in between (drop (i + 1) old))) (sym same);
-      begun = record {
+      state = record {
         few = omega arith;
         whole = omega arith;
         one = λ h. omega (arith, h);
@@ -106,8 +109,25 @@ added_later extra old now from i byte begun after a lt is e b more =
       rest = a.rest ∙ ap (λ l. a.codes ++ map (zscii_of extra) (characters_in begun l)) front
           ∙ code_later extra a.codes (drop (i + 1) old) begun byte later
           ∙ ap (λ x. a.codes ++ map (zscii_of extra) (characters_in x (drop (i + 1) old))) (sym e);
-      begun = b;
+      state = b;
     }
+
+pub added_next : (extra old now more : List ℕ) (from i byte : ℕ) (begun after next : Begun)
+    → Added extra old now from i begun → i < length old → byte ≡ slice_index now i → after ≡ next_byte begun byte
+    → IsBegun after → AddsWhole extra after now more next → Added extra old more from (i + 1) next
+added_next extra old now more from i byte begun after next a lt is e b w =
+    elim after.more as (λ n. after.more ≡ n → Added extra old more from (i + 1) next) [
+      | zero ↦ λ none.
+          let x = w.whole none in
+          subst (Added extra old more from (i + 1)) (sym x.1)
+          (added_code extra old now more from i byte (zscii_of extra after.bits) begun after a lt is e none refl x.0)
+      | suc k ↦ λ some.
+          let y = w.parted (λ none. absurd (omega (arith, some, none))) in
+          subst (λ l. Added extra old l from (i + 1) next) (sym y.0)
+          (subst (Added extra old now from (i + 1)) (sym y.1)
+          (added_later extra old now from i byte begun after a lt is e b
+          (λ none. absurd (omega (arith, some, none)))))
+    ] refl
 
 pub added_all : (extra old now : List ℕ) (from i : ℕ) (begun : Begun) → Added extra old now from i begun
     → length old ≤ i → now ≡ old ++ zscii_in extra (drop from old)
@@ -138,3 +158,7 @@ pub few_codes : (extra bytes : List ℕ) → length (zscii_in extra bytes) ≤ l
 few_codes extra bytes =
     let h = fewer_characters between bytes in
     omega (arith, h, length-map (characters_in between bytes) (zscii_of extra))
+
+pub some_more : (n : ℕ) → n ≢ 0 → 1 ≤ n
+some_more zero h = absurd (h refl)
+some_more (suc n) h = omega arith

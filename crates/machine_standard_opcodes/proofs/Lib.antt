@@ -1,5 +1,5 @@
 pub mod Codes
-pub mod Streams
+pub mod Cuts
 pub mod Keeping
 pub mod Returning
 pub mod Anew

@@ -210,13 +210,18 @@ fn close(
         (definitions.close extra.now stream) }
     ensures text { Keeps start text.old.items text.new.items }
 {
-    let end = text.len();
-    let from = start + (stream.from as usize).min(end - start);
-    let written = write_zscii(header, store, text, from, extra, stream.table);
-    text.truncate(end);
-    written?;
-    text.truncate(from);
-    Ok(())
+    let printed = text.len();
+    let kept = (stream.from as usize).min(printed - start);
+    match write_zscii(header, store, text, start + kept, extra, stream.table) {
+        Ok(()) => {
+            text.truncate(start + kept);
+            Ok(())
+        }
+        Err(end) => {
+            text.truncate(printed);
+            Err(end)
+        }
+    }
 }
 
 /// Writes the ZSCII codes of the bytes of a text from one on to a table. The text has them behind

@@ -1,8 +1,8 @@
 //! From the text of a turn to ZSCII (Z-Machine Standards Document 1.1, section 3.8).
 
-ghost use Rattle.std.specs.Prelude.{◌≡◌, ◌≤◌, ◌<◌, ◌++◌, length, take, drop, OnOk};
+ghost use Rattle.std.specs.Prelude.{◌≡◌, ◌≤◌, ◌++◌, length, take, drop, IfOk, OnOk, OnErr};
 ghost use Rattle.zcore_standard.specs.Streams as definitions;
-ghost use Rattle.machine_standard_opcodes.specs.Begun.{IsBegun};
+ghost use Rattle.machine_standard_opcodes.specs.Begun.{IsBegun, AddsWhole};
 
 use std::alloc::AllocError;
 use zcore::layout::NEW_LINE;
@@ -37,13 +37,23 @@ pub(crate) fn add_zscii(text: &mut Vec<u8>, from: usize, extra: &[u16]) -> Resul
     let end = text.len();
     let mut begun = BETWEEN;
     for i in from..end {
-        begun = next_byte(begun, text[i]);
-        if begun.more == 0 {
-            text.push(zscii_of(extra, begun.bits))?;
-            begun = BETWEEN;
-        }
+        let next = next_byte(begun, text[i]);
+        begun = add_whole(text, extra, next)?;
     }
     Ok(())
+}
+
+/// Adds the code of a character that is whole, and begins another. One that is not whole goes on.
+fn add_whole(text: &mut Vec<u8>, extra: &[u16], begun: Begun) -> Result<Begun, AllocError>
+    ensures added { IfOk result
+        (AddsWhole extra.now begun text.old.items text.new.items) }
+    ensures same { OnErr result (text.new.items ≡ text.old.items) }
+{
+    if begun.more != 0 {
+        return Ok(begun);
+    }
+    text.push(zscii_of(extra, begun.bits))?;
+    Ok(BETWEEN)
 }
 
 /// A character with its first byte.
@@ -105,7 +115,8 @@ fn code_among(extra: &[u16], character: u32) -> u8
 {
     let count = extra.len().min(MOST_EXTRA);
     for i in 0..count {
-        if extra[i] as u32 == character {
+        let candidate = extra[i] as u32;
+        if candidate == character {
             return FIRST_EXTRA + i as u8;
         }
     }

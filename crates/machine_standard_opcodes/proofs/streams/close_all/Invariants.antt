@@ -1,6 +1,6 @@
 use Rattle.std.proofs.Common.{drop}
 use Rattle.machine_standard_opcodes.specs.Around.{Keeps}
-use Rattle.machine_standard_opcodes.proofs.Streams.{Closing}
+use Rattle.machine_standard_opcodes.proofs.Cuts.{Closing}
 use Rattle.machine_standard_opcodes.proofs.streams.close_all.Given as goal
 
 abbrev pub invariant-loop-i : goal.invariant-loop-i

@@ -1,7 +1,7 @@
 use Rattle.zcore_standard.specs.Further.{perform_further}
 use Rattle.machine_frames.proofs.Steps.{told_went}
 use Rattle.machine_standard_opcodes.specs.Around.{place}
-use Rattle.machine_standard_opcodes.proofs.Streams.{keeps_still, keeps_grew}
+use Rattle.machine_standard_opcodes.proofs.Cuts.{keeps_still, keeps_grew}
 use Rattle.machine_standard_steps.proofs.Doing.{keeping_told}
 use Rattle.machine_standard_steps.proofs.perform.perform_further.Goals as goal
 

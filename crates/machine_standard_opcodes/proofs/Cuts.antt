@@ -1,12 +1,16 @@
 -- Streams that are opened and closed.
-use Rattle.std.proofs.Common.{◌≡◌, ◌≢◌, ℕ, zero, suc, ◌+◌, ◌-◌, ◌*◌, ◌/◌, ◌%◌, ◌<◌, ◌≤◌, List, [], ◌∷◌, ◌++◌, length}
+use Rattle.std.proofs.Common.{◌≡◌, ◌≢◌, ℕ, ◌+◌, ◌-◌, ◌*◌, ◌/◌, ◌%◌, ◌<◌, ◌≤◌, List, [], ◌∷◌, ◌++◌, length}
 use Rattle.std.proofs.Common.{take, drop}
 use Rattle.std.proofs.Common.{get_or, set, min, refl, ap, sym, ◌∙◌, subst, arith, true, false, inl, inr, slice_index}
 use Rattle.std.proofs.Common.{slice_index_or, Result, Ok, Err}
 use Rattle.std.specs.List.{insert, remove}
 use Rattle.std.proofs.lemmas.Bool.{lt-ltb, le-ltb, ne_eqb, eq-eqb, cases_lt}
-use Rattle.std.proofs.lemmas.List.{drop-take, drop_all, drop_more, take_all, take-take, length-drop, length-take-le}
+use Rattle.std.proofs.lemmas.List.{drop-drop, drop-take, drop_all, drop_more, take_all, take-take, length-drop, length-take-le}
 use Rattle.std.proofs.lemmas.List.{get_or-set_other, length-set, drop-set-add, set-append_left}
+use Rattle.std.proofs.Math.Seq.{drop-append_seam}
+use Rattle.std.specs.Prelude.{OnOk}
+use Rattle.std.specs.Result.{IsErrAnd}
+use Rattle.std.proofs.lemmas.Result.{err_from_is_err_and}
 use Rattle.journal.specs.Recording.{Recording}
 use Rattle.zcore.specs.declared.next.Next.{Next}
 use Rattle.zcore.specs.declared.place.Fault.TheVariants as faults
@@ -29,6 +33,7 @@ use Rattle.machine_frames.proofs.Steps.{goes_on_after, given_up_after, goes_on_s
 use Rattle.machine_lines.specs.Lines.{Filled, Fills}
 use Rattle.machine_lines.proofs.Filling.{filled_then}
 use Rattle.machine_opcodes.specs.Printed.{HasBegun, Grew}
+use Rattle.machine_opcodes.specs.Seen.{seen}
 use Rattle.machine_standard_opcodes.specs.Around.{Keeps}
 
 -- The text of a turn
@@ -68,22 +73,23 @@ text_cut start from kept x begun is = elim (cases_lt from (length x - start)) [
       ∙ sym (take_all from (drop start x) (omega (arith, ge, length-drop start x)))
 ]
 
-drop_twice : (m n : ℕ) (x : List ℕ) → drop n (drop m x) ≡ drop (m + n) x
-drop_twice zero n x = refl
-drop_twice (suc m) n [] = drop_all n [] (omega arith)
-drop_twice (suc m) n (a ∷ as) = drop_twice m n as
-
 pub text_behind : (start from kept : ℕ) (x : List ℕ) → start ≤ length x → kept ≡ min from (length x - start)
     → drop from (drop start x) ≡ drop (start + kept) x
 text_behind start from kept x begun is = elim (cases_lt from (length x - start)) [
   | inl lt ↦
       let e : from ≡ kept = omega (arith, is, lt) in
-      drop_twice start from x ∙ ap (λ n. drop (start + n) x) e
+      drop-drop from start x ∙ ap (λ n. drop (start + n) x) e
   | inr ge ↦
       let e : kept ≡ length x - start = omega (arith, is, ge) in
       drop_all from (drop start x) (omega (arith, ge, length-drop start x))
       ∙ sym (drop_all (start + kept) x (omega (arith, e, begun)))
 ]
+
+-- a text behind which something was added, and which is then cut
+pub cut_again : (from : ℕ) (x w y : List ℕ) → take (length x) w ≡ x → from ≤ length x → y ≡ take from w
+    → y ≡ take from x
+cut_again from x w y front le is =
+    is ∙ sym (take-take from (length x) w le) ∙ ap (take from) front
 
 -- a part that comes after a definition has been followed so far
 pub told_on : {A : Type 0} (b : Result A End) {r s t : Recording Contents} {x y z : List ℕ} (f g : State → Out A)
@@ -141,6 +147,46 @@ stream_stays {e = ends.Stop p} x extra stream w = record {
   told = (w.did.0, ap (λ o. bound o (λ _ u. done tt (record u { text = take stream.from u.text }))) (w.did.1 x));
 }
 
+-- the same in a text whose front is not of the turn, and behind which something was added
+
+pub closed_as : {s t : Recording Contents} (start kept : ℕ) (x w y extra : List ℕ) (stream : Stream) → start ≤ length x
+    → kept ≡ min stream.from (length x - start) → take (length x) w ≡ x → y ≡ take (start + kept) w
+    → Went (Ok tt) s t (write_bytes stream.table (counted (zscii_in extra (drop (start + kept) x))))
+    → Told (Ok tt) s (drop start x) t (drop start y) (close extra stream)
+closed_as {s} {t} start kept x w y extra stream begun is front cut went =
+    let le : start + kept ≤ length x = omega (arith, is, begun) in
+    let text : drop start y ≡ take stream.from (drop start x) =
+    ap (drop start) (cut_again (start + kept) x w y front le cut) ∙ text_cut start stream.from kept x begun is in
+    let behind : drop (start + kept) x ≡ drop stream.from (drop start x) =
+    sym (text_behind start stream.from kept x begun is) in
+    subst (λ l. Told (Ok tt) s (drop start x) t l (close extra stream)) (sym text)
+    (stream_closed (drop start x) extra stream
+    (subst (λ l. Went (Ok tt) s t (write_bytes stream.table (counted (zscii_in extra l)))) behind went))
+
+pub stays_as : {s t : Recording Contents} (start kept cut : ℕ) (x w y extra : List ℕ) (stream : Stream) (e : End)
+    → start ≤ length x → kept ≡ min stream.from (length x - start) → take (length x) w ≡ x → y ≡ take cut w
+    → cut ≡ length x
+    → Went {A = Unit {0}} (Err e) s t (write_bytes stream.table (counted (zscii_in extra (drop (start + kept) x))))
+    → Told {A = Unit {0}} (Err e) s (drop start x) t (drop start y) (close extra stream)
+stays_as {s} {t} start kept cut x w y extra stream e begun is front same all went =
+    let text : y ≡ x = same ∙ ap (λ n. take n w) all ∙ front in
+    let behind : drop (start + kept) x ≡ drop stream.from (drop start x) =
+    sym (text_behind start stream.from kept x begun is) in
+    subst (λ l. Told {A = Unit {0}} (Err e) s (drop start x) t (drop start l) (close extra stream)) (sym text)
+    (stream_stays (drop start x) extra stream
+    (subst (λ l. Went {A = Unit {0}} (Err e) s t (write_bytes stream.table (counted (zscii_in extra l)))) behind went))
+
+-- what was added behind a text
+pub behind_text : (x y more : List ℕ) → y ≡ x ++ more → drop (length x) y ≡ more
+behind_text x y more is = ap (drop (length x)) is ∙ drop-append_seam x more
+
+-- at the exit of a `?`
+pub told_seen_err : {s t : Recording Contents} {x y : List ℕ} {e : End} {f : State → Out Here} (view : Next → Here)
+    (r : Result Next End) → IsErrAnd r (λ q. q ≡ e) → Told {A = Here} (Err e) s x t y f → Told (seen view r) s x t y f
+told_seen_err view r h w =
+    let p = err_from_is_err_and r h in
+    rw (p.1, p.2) w
+
 -- the innermost
 
 pub none_closed : (s : Recording Contents) (x extra : List ℕ) (here : Here) (after : ℕ) (streams : List Stream)
@@ -148,7 +194,7 @@ pub none_closed : (s : Recording Contents) (x extra : List ℕ) (here : Here) (a
     → Told (Ok (record here { next = record here.next { program_counter = after } })) s x s x
     (close_first extra here after streams)
 none_closed s x extra here after [] sound e = record { told = (goes_on_still s sound, refl) }
-none_closed s x extra here after (a ∷ as) sound e = absurd (omega (arith, e))
+none_closed s x extra here after (a ∷ others) sound e = absurd (omega (arith, e))
 
 pub first_closed : {s t : Recording Contents} {x y : List ℕ} (extra : List ℕ) (here : Here) (after : ℕ)
     (streams left : List Stream) (stream : Stream) → length streams ≢ 0 → stream ≡ slice_index_or streams 0 stream
@@ -156,7 +202,7 @@ pub first_closed : {s t : Recording Contents} {x y : List ℕ} (extra : List ℕ
     → Told (Ok (record here { next = record here.next { program_counter = after }; streams = left })) s x t y
     (close_first extra here after streams)
 first_closed extra here after [] left stream some is rest w = absurd (some refl)
-first_closed {s} {t} {x} {y} extra here after (a ∷ as) left stream some is rest w =
+first_closed {s} {t} {x} {y} extra here after (a ∷ others) left stream some is rest w =
     let same : close extra stream (state_of s.store x) ≡ close extra a (state_of s.store x) =
     ap (λ c. close extra c (state_of s.store x)) is in
     record {
@@ -164,7 +210,7 @@ first_closed {s} {t} {x} {y} extra here after (a ∷ as) left stream some is res
         w.told.0,
         ap (λ o. bound o (λ _ u. done (record here {
           next = record here.next { program_counter = after };
-          streams = as;
+          streams = others;
         }) u)) (sym same ∙ w.told.1)
             ∙ ap (λ l. done (record here { next = record here.next { program_counter = after }; streams = l })
             (state_of t.store y)) (sym rest),
@@ -176,8 +222,8 @@ pub first_stays : {e : End} {s t : Recording Contents} {x y : List ℕ} (extra :
     → Told {A = Unit {0}} (Err e) s x t y (close extra stream)
     → Told {A = Here} (Err e) s x t y (close_first extra here after streams)
 first_stays extra here after [] stream some is w = absurd (some refl)
-first_stays {e = ends.Memory} extra here after (a ∷ as) stream some is w = record { told = w.told }
-first_stays {e = ends.Stop p} {s} {t} {x} {y} extra here after (a ∷ as) stream some is w =
+first_stays {e = ends.Memory} extra here after (a ∷ others) stream some is w = record { told = w.told }
+first_stays {e = ends.Stop p} {s} {t} {x} {y} extra here after (a ∷ others) stream some is w =
     let same : close extra stream (state_of s.store x) ≡ close extra a (state_of s.store x) =
     ap (λ c. close extra c (state_of s.store x)) is in
     record {
@@ -185,7 +231,7 @@ first_stays {e = ends.Stop p} {s} {t} {x} {y} extra here after (a ∷ as) stream
         w.told.0,
         ap (λ o. bound o (λ _ u. done (record here {
           next = record here.next { program_counter = after };
-          streams = as;
+          streams = others;
         }) u)) (sym same ∙ w.told.1),
       );
     }
@@ -316,6 +362,14 @@ transcript_told s t flags bit v sound is e cells fixed beginning =
     let same : set m 17 v ≡ with_transcript m bit = ap (set m 17) (e ∙ ap (λ f. f / 2 * 2 + bit) is) in
     subst (Filled s t) same
     (record { goes_on = writes_goes_on s t _ sound w; state = λ text. writes_state s t _ text sound w })
+
+pub transcript_as : {E : Type 0} (r : Result (Unit {0}) E) (s t : Recording Contents) (flags bit : ℕ) → IsSound s.store
+    → flags ≡ slice_index (memory_of s.store) 17
+    → OnOk r (t.store.cells ≡ set s.store.cells 72576 (flags / 2 * 2 + bit)) → t.store.fixed ≡ s.store.fixed
+    → OnOk r (t.beginning ≡ s.beginning) → OnOk r (Filled s t (with_transcript (memory_of s.store) bit))
+transcript_as (Ok a) s t flags bit sound is cells fixed beginning =
+    transcript_told s t flags bit (flags / 2 * 2 + bit) sound is refl cells fixed beginning
+transcript_as (Err e) s t flags bit sound is cells fixed beginning = tt
 
 -- output_stream, by the number
 
