@@ -176,9 +176,18 @@ stays_as {s} {t} start kept cut x w y extra stream e begun is front same all wen
     (stream_stays (drop start x) extra stream
     (subst (λ l. Went {A = Unit {0}} (Err e) s t (write_bytes stream.table (counted (zscii_in extra l)))) behind went))
 
+pub keeps_same : (start : ℕ) (x y : List ℕ) → HasBegun start x → y ≡ x → Keeps start x y
+keeps_same start x y h is = subst (Keeps start x) (sym is) (keeps_still start x h)
+
 -- what was added behind a text
 pub behind_text : (x y more : List ℕ) → y ≡ x ++ more → drop (length x) y ≡ more
 behind_text x y more is = ap (drop (length x)) is ∙ drop-append_seam x more
+
+pub behind_slice : (x y z more : List ℕ) (n : ℕ) → n ≡ length x → z ≡ y → y ≡ x ++ more
+    → take (length z - n) (drop n z) ≡ more
+behind_slice x y z more n all same is =
+    take_all (length z - n) (drop n z) (omega (arith, length-drop n z)) ∙ ap (drop n) same
+    ∙ ap (λ k. drop k y) all ∙ behind_text x y more is
 
 -- at the exit of a `?`
 pub told_seen_err : {s t : Recording Contents} {x y : List ℕ} {e : End} {f : State → Out Here} (view : Next → Here)
@@ -197,42 +206,44 @@ none_closed s x extra here after [] sound e = record { told = (goes_on_still s s
 none_closed s x extra here after (a ∷ others) sound e = absurd (omega (arith, e))
 
 pub first_closed : {s t : Recording Contents} {x y : List ℕ} (extra : List ℕ) (here : Here) (after : ℕ)
-    (streams left : List Stream) (stream : Stream) → length streams ≢ 0 → stream ≡ slice_index_or streams 0 stream
-    → left ≡ remove streams 0 → Told (Ok tt) s x t y (close extra stream)
+    (streams left seen : List Stream) (stream d : Stream) → length streams ≢ 0 → seen ≡ streams
+    → stream ≡ get_or seen 0 d → left ≡ remove streams 0 → Told (Ok tt) s x t y (close extra stream)
     → Told (Ok (record here { next = record here.next { program_counter = after }; streams = left })) s x t y
     (close_first extra here after streams)
-first_closed extra here after [] left stream some is rest w = absurd (some refl)
-first_closed {s} {t} {x} {y} extra here after (a ∷ others) left stream some is rest w =
-    let same : close extra stream (state_of s.store x) ≡ close extra a (state_of s.store x) =
-    ap (λ c. close extra c (state_of s.store x)) is in
+first_closed extra here after [] left seen stream d some same is rest w = absurd (some refl)
+first_closed {s} {t} {x} {y} extra here after (a ∷ others) left seen stream d some same is rest w =
+    let first : stream ≡ a = is ∙ ap (λ l. get_or l 0 d) same in
+    let closes : close extra stream (state_of s.store x) ≡ close extra a (state_of s.store x) =
+    ap (λ c. close extra c (state_of s.store x)) first in
     record {
       told = (
         w.told.0,
         ap (λ o. bound o (λ _ u. done (record here {
           next = record here.next { program_counter = after };
           streams = others;
-        }) u)) (sym same ∙ w.told.1)
+        }) u)) (sym closes ∙ w.told.1)
             ∙ ap (λ l. done (record here { next = record here.next { program_counter = after }; streams = l })
             (state_of t.store y)) (sym rest),
       );
     }
 
 pub first_stays : {e : End} {s t : Recording Contents} {x y : List ℕ} (extra : List ℕ) (here : Here) (after : ℕ)
-    (streams : List Stream) (stream : Stream) → length streams ≢ 0 → stream ≡ slice_index_or streams 0 stream
+    (streams seen : List Stream) (stream d : Stream) → length streams ≢ 0 → seen ≡ streams → stream ≡ get_or seen 0 d
     → Told {A = Unit {0}} (Err e) s x t y (close extra stream)
     → Told {A = Here} (Err e) s x t y (close_first extra here after streams)
-first_stays extra here after [] stream some is w = absurd (some refl)
-first_stays {e = ends.Memory} extra here after (a ∷ others) stream some is w = record { told = w.told }
-first_stays {e = ends.Stop p} {s} {t} {x} {y} extra here after (a ∷ others) stream some is w =
-    let same : close extra stream (state_of s.store x) ≡ close extra a (state_of s.store x) =
-    ap (λ c. close extra c (state_of s.store x)) is in
+first_stays extra here after [] seen stream d some same is w = absurd (some refl)
+first_stays {e = ends.Memory} extra here after (a ∷ others) seen stream d some same is w = record { told = w.told }
+first_stays {e = ends.Stop p} {s} {t} {x} {y} extra here after (a ∷ others) seen stream d some same is w =
+    let first : stream ≡ a = is ∙ ap (λ l. get_or l 0 d) same in
+    let closes : close extra stream (state_of s.store x) ≡ close extra a (state_of s.store x) =
+    ap (λ c. close extra c (state_of s.store x)) first in
     record {
       told = (
         w.told.0,
         ap (λ o. bound o (λ _ u. done (record here {
           next = record here.next { program_counter = after };
           streams = others;
-        }) u)) (sym same ∙ w.told.1),
+        }) u)) (sym closes ∙ w.told.1),
       );
     }
 

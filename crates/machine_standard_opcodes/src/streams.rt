@@ -305,7 +305,16 @@ pub fn cut_to_heard(text: &mut Vec<u8>, start: usize, streams: &[Stream])
     ensures text { Keeps start text.old.items text.new.items }
 {
     for i in 0..streams.len() {
-        let kept = (streams[i].from as usize).min(text.len() - start);
-        text.truncate(start + kept);
+        cut(text, start, streams[i].from);
     }
+}
+
+/// Cuts a text after so many bytes of the turn, if there are more.
+fn cut(text: &mut Vec<u8>, start: usize, from: u32)
+    requires { HasBegun start text.old.items }
+    ensures cut { drop start text.new.items ≡ take from (drop start text.old.items) }
+    ensures text { Keeps start text.old.items text.new.items }
+{
+    let kept = (from as usize).min(text.len() - start);
+    text.truncate(start + kept);
 }
