@@ -10,6 +10,8 @@ use Rattle.zcore.specs.Parts.{spend}
 use Rattle.zcore.specs.Turn.{first_environment}
 use Rattle.ztext.specs.Bytes.{word_at}
 use Rattle.zcore_standard.specs.Flow.{restarted, restart}
+use Rattle.zcore.specs.declared.beside.Beside.{Beside}
+use Rattle.zcore_standard.specs.declared.streams.Stream.{Stream}
 use Rattle.zcore_standard.specs.Place.{Here}
 use Rattle.zcore_standard.specs.Loaded.{Loaded}
 use Rattle.zcore_standard.specs.Streams.{heard}
@@ -91,21 +93,21 @@ emptied s m t first waits =
     }
 
 pub begun_anew : (s m t : Recording Contents) (x y : List ℕ) (loaded : Loaded) (here : Here) (address : ℕ)
-    → here.next.fuel ≢ 0 → address ≡ word_at (memory_of s.store) 6 → Fills s m 64 (drop 64 loaded.dynamic)
+    (beside : Beside) (streams : List Stream) → beside ≡ loaded.dice → streams ≡ [] → here.next.fuel ≢ 0 → address ≡ word_at (memory_of s.store) 6 → Fills s m 64 (drop 64 loaded.dynamic)
     → Empties m t → y ≡ heard here.streams x
     → Told (Ok (record {
       next = record { program_counter = address; fuel = here.next.fuel - 1 };
-      beside = loaded.dice;
-      streams = [];
+      beside = beside;
+      streams = streams;
     })) s x t y (restart loaded here)
 unfolding restart spend
-begun_anew s m t x y loaded here address some e f n cut = record {
+begun_anew s m t x y loaded here address beside streams first none some e f n cut = record {
   told = (
     goes_on_after f.goes_on n.goes_on,
     let state : state_of t.store y ≡ restarted loaded here.streams (state_of s.store x) = n.state y
     ∙ ap (λ (z : State). record z { frames = first_environment ∷ []; pending = None }) (f.state y)
     ∙ ap (λ l. record (restarted loaded here.streams (state_of s.store x)) { text = l }) cut in
-    rw (ne_eqb here.next.fuel 0 some, e, state) refl,
+    rw (ne_eqb here.next.fuel 0 some, e, state, first, none) refl,
   );
 }
 

@@ -43,8 +43,8 @@ pub returns-clause-told : goal.returns-clause-told
 returns-clause-told c =
     let memory = c.memory-memory.ensures ∙ ap memory_of c.store.ensures in
     begun_anew c.args.store.now c.fill.new.store c.empty.new.store _ _ c.args.loaded.now
-    (place c.args.around.now c.args.here) _
-    c.if-here-eq0.false (ap (λ m. word_at m 6) memory) (subst (λ bytes. Fills c.args.store.now c.fill.new.store 64 bytes)
+    (place c.args.around.now c.args.here) _ c.dice-around.result c.clear.new.self.items c.dice-around.ensures
+    c.clear.ensures c.if-here-eq0.false (ap (λ m. word_at m 6) memory) (subst (λ bytes. Fills c.args.store.now c.fill.new.store 64 bytes)
     (c.after_header.ensures ∙ ap (drop 64) c.dynamic.ensures) c.in_ok-fill.ensures.filled) c.in_ok-empty.ensures.emptied
     (c.cut_to_heard.ensures.heard
     ∙ ap (λ l. heard l (drop c.args.start c.args.text.now.items)) c.as_slice.ensures.value)

@@ -13,12 +13,12 @@ returns-then-as_slice-eq0-clause-text c = keeps_still _ _ c.requires.text
 
 pub returns-in_err-close-clause-told : goal.returns-in_err-close-clause-told
 returns-in_err-close-clause-told c = told_seen_err (place c.args.around.now) _ c.from_residual.ensures.1
-    (first_stays _ (place c.args.around.now c.args.here) c.args.after c.args.around.now.streams.items
+    (first_stays c.args.loaded.now.characters (place c.args.around.now c.args.here) c.args.after c.args.around.now.streams.items
     c.as_slice-2.result.now _ _ (λ e. c.if-as_slice-eq0.false (ap length c.as_slice.ensures.value ∙ e))
-    c.as_slice-2.ensures.value refl c.in_err-close.ensures.told)
+    c.as_slice-2.ensures.value refl (rw c.characters.ensures at c.in_err-close.ensures.told))
 
 pub returns-clause-told : goal.returns-clause-told
-returns-clause-told c = first_closed _ (place c.args.around.now c.args.here) c.args.after
+returns-clause-told c = first_closed c.args.loaded.now.characters (place c.args.around.now c.args.here) c.args.after
     c.args.around.now.streams.items _ c.as_slice-2.result.now _ _
     (λ e. c.if-as_slice-eq0.false (ap length c.as_slice.ensures.value ∙ e)) c.as_slice-2.ensures.value refl
-    c.remove.ensures.items c.in_ok-close.ensures.told
+    c.remove.ensures.items (rw c.characters.ensures at c.in_ok-close.ensures.told)

@@ -1,4 +1,4 @@
-use Rattle.std.proofs.Common.{ap, ◌∙◌, arith, slice_index, length}
+use Rattle.std.proofs.Common.{◌+◌, ◌*◌, ◌/◌, ap, ◌∙◌, arith, slice_index, length}
 use Rattle.machine_frames.specs.Contents.{memory_of}
 use Rattle.machine_frames.proofs.Bytes.{byte_within}
 use Rattle.machine_frames.proofs.Kept.{length-memory}
@@ -11,7 +11,7 @@ byte-flags-requires c =
     omega (arith, e, length-memory c.args.store.now.store c.requires.sound, c.requires.sound.static_base)
 
 pub put-requires-clause-within : goal.put-requires-clause-within
-put-requires-clause-within c = byte_within _ _ (omega arith)
+put-requires-clause-within c = byte_within 72576 (c.byte-flags.result / 2 * 2 + c.args.bit) (omega arith)
 
 pub returns-clause-told : goal.returns-clause-told
 returns-clause-told c = transcript_as c.put.result c.args.store.now c.put.new.self c.byte-flags.result c.args.bit
