@@ -105,9 +105,9 @@ begun_anew s m t x y loaded here address beside streams first none some e f n cu
   told = (
     goes_on_after f.goes_on n.goes_on,
     let state : state_of t.store y ≡ restarted loaded here.streams (state_of s.store x) = n.state y
-    ∙ ap (λ (z : State). record z { frames = first_environment ∷ []; pending = None }) (f.state y)
-    ∙ ap (λ l. record (restarted loaded here.streams (state_of s.store x)) { text = l }) cut in
-    rw (ne_eqb here.next.fuel 0 some, e, state, first, none) refl,
+        ∙ ap (λ (z : State). record z { frames = first_environment ∷ []; pending = None }) (f.state y)
+        ∙ ap (λ l. record (restarted loaded here.streams (state_of s.store x)) { text = l }) cut in
+        rw (ne_eqb here.next.fuel 0 some, e, state, first, none) refl,
   );
 }
 

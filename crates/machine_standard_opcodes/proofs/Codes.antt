@@ -150,9 +150,9 @@ fewer_characters begun [] = omega arith
 fewer_characters begun (byte ∷ bytes) = elim ((next_byte begun byte).more == 0) as (λ b.
     length (if b then (next_byte begun byte).bits ∷ characters_in between bytes
     else characters_in (next_byte begun byte) bytes) ≤ length (byte ∷ bytes)) [
-  | true ↦ let h = fewer_characters between bytes in omega (arith, h)
-  | false ↦ let h = fewer_characters (next_byte begun byte) bytes in omega (arith, h)
-]
+      | true ↦ let h = fewer_characters between bytes in omega (arith, h)
+      | false ↦ let h = fewer_characters (next_byte begun byte) bytes in omega (arith, h)
+    ]
 
 pub few_codes : (extra bytes : List ℕ) → length (zscii_in extra bytes) ≤ length bytes
 few_codes extra bytes =

@@ -74,9 +74,7 @@ pub fn output_stream(
     };
     match values[0] {
         MEMORY_STREAM => open_table(store, text, start, around, here, after, values),
-        NO_MEMORY_STREAM => {
-            close_first(header, store, text, start, loaded, around, here, after)
-        }
+        NO_MEMORY_STREAM => { close_first(header, store, text, start, loaded, around, here, after) }
         TRANSCRIPT => {
             set_transcript(store, 1)?;
             Ok(next)
