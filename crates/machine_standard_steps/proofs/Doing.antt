@@ -83,23 +83,24 @@ quiet operation a b c m n = rw (a, b, c, prints_not operation m n) refl
 
 keeping_is : (loaded : Loaded) (operation : Further) (here : Here) (after : ℕ) (result : Option ℕ)
     (branch : Option Branch) (values : List ℕ) (s : State) → operation ≢ operations.Restart
-    → operation ≢ operations.Random → operation ≢ operations.Read → operation ≢ operations.OutputStream
-    → perform_further loaded operation here after result branch values s
+    → operation ≢ operations.Random → operation ≢ operations.Read → operation ≢ operations.ReadChar
+    → operation ≢ operations.OutputStream → perform_further loaded operation here after result branch values s
     ≡ within here (perform_keeping loaded operation here.next after result branch values s)
 unfolding perform_further
-keeping_is loaded operations.Restart here after result branch values s m n k l = absurd (m refl)
-keeping_is loaded operations.Random here after result branch values s m n k l = absurd (n refl)
-keeping_is loaded operations.Read here after result branch values s m n k l = absurd (k refl)
-keeping_is loaded operations.OutputStream here after result branch values s m n k l = absurd (l refl)
-keeping_is loaded _ here after result branch values s m n k l = refl
+keeping_is loaded operations.Restart here after result branch values s m n k j l = absurd (m refl)
+keeping_is loaded operations.Random here after result branch values s m n k j l = absurd (n refl)
+keeping_is loaded operations.Read here after result branch values s m n k j l = absurd (k refl)
+keeping_is loaded operations.ReadChar here after result branch values s m n k j l = absurd (j refl)
+keeping_is loaded operations.OutputStream here after result branch values s m n k j l = absurd (l refl)
+keeping_is loaded _ here after result branch values s m n k j l = refl
 
 pub keeping_told : {s t : Recording Contents} {x y : List ℕ} (r : Result Next End) (loaded : Loaded)
     (operation : Further) (here : Here) (after : ℕ) (result : Option ℕ) (branch : Option Branch)
     (values : List ℕ) → operation ≢ operations.Restart → operation ≢ operations.Random → operation ≢ operations.Read
-    → operation ≢ operations.OutputStream
+    → operation ≢ operations.ReadChar → operation ≢ operations.OutputStream
     → Told r s x t y (perform_keeping loaded operation here.next after result branch values)
     → Told (seen (on here) r) s x t y (perform_further loaded operation here after result branch values)
-keeping_told {s} {x = x} r loaded operation here after result branch values m n k l w =
+keeping_told {s} {x = x} r loaded operation here after result branch values m n k j l w =
     told_as (seen (on here) r) (perform_further loaded operation here after result branch values)
-    (keeping_is loaded operation here after result branch values (state_of s.store x) m n k l)
+    (keeping_is loaded operation here after result branch values (state_of s.store x) m n k j l)
     (told_within r here (perform_keeping loaded operation here.next after result branch values) w)

@@ -15,7 +15,7 @@ ghost use Rattle.machine_standard_opcodes.specs.Around.{place, Keeps};
 
 use crate::effects::{perform_quietly, value_or};
 use crate::kinds::{condition_of, does_nothing, word_of};
-use crate::reading::read_line;
+use crate::reading::{read_key, read_line};
 use journal::Recorded;
 use machine_frames::{End, Store};
 use machine_opcodes::{Ending, branch_on, give_result};
@@ -65,8 +65,9 @@ pub(crate) fn perform_further(
             )
         }
         Further::Read => read_line(
-            header, store, text, start, loaded, around, here, values, ending,
+            header, store, text, start, loaded, around, values, ending,
         ),
+        Further::ReadChar => read_key(header, store, text, start, loaded, around, ending),
         Further::OutputStream => output_stream(
             header,
             store,

@@ -6,14 +6,16 @@ use Rattle.std.proofs.lemmas.Bool.{and_parts, leb-true}
 use Rattle.zcore.specs.declared.instruction.Operand.{Operand}
 use Rattle.zcore.specs.declared.instruction.Operation.TheVariants as operations
 use Rattle.zcore.specs.declared.place.Fault.{Fault}
+use Rattle.zcore.specs.declared.place.Fault.TheVariants as faults
 use Rattle.zcore.specs.declared.next.Next.{Next}
 use Rattle.ztext.specs.Results.{◌>>=◌}
 use Rattle.zcore.specs.Instruction as profile
 use Rattle.zcore.specs.Instruction.{Opcode, operands, variable_types, given_types, opcode_of, opcode, decode}
 use Rattle.zcore.specs.Instruction.{result_variable, branch}
 use Rattle.zcore.specs.Execution.{perform, execute, step, read}
-use Rattle.zcore.specs.Parts.{is_code, operand_values, test_text_buffer, test_parse_buffer, test_result, wait}
-use Rattle.zcore.specs.State.{Pending, State, Out, done, halt, bound}
+use Rattle.zcore.specs.Parts.{is_code, operand_values, test, is_text_buffer, test_text_buffer, is_parse_buffer}
+use Rattle.zcore.specs.Parts.{test_parse_buffer, test_result}
+use Rattle.zcore.specs.State.{State, Out, done, halt, bound}
 use Rattle.zcore.proofs.Ahead as ahead
 use Rattle.zcore_standard.specs.declared.operations.Further.TheVariants.{Read}
 use Rattle.zcore_standard.specs.declared.streams.Stream.{Stream}
@@ -22,7 +24,10 @@ use Rattle.zcore_standard.specs.Loaded.{Loaded}
 use Rattle.zcore_standard.specs.Laws.{ends_in_fault, is_done, is_none_open, closes_none}
 use Rattle.zcore_standard.specs.Instruction.{types_at, counted, result_at, branch_after, decode_further}
 use Rattle.zcore_standard.specs.Further.{perform_further, execute_further}
-use Rattle.zcore_standard.specs.Streams.{close_all, read_line}
+use Rattle.zcore_standard.specs.Reading.{has_room, test_room, has_slots_or_none, test_slots_or_none, wait_for_line}
+use Rattle.zcore_standard.specs.Reading.{read_line}
+use Rattle.zcore_standard.specs.Streams.{close_all}
+use Rattle.zcore_standard.proofs.Awaiting.{neither, not_done, wait_not_done, room_of_text, slots_of_parse}
 use Rattle.zcore_standard.proofs.Refusing.{IsReadByte, opcode_is}
 
 -- the opcode as the profile reads it
@@ -123,48 +128,56 @@ reads_alike memory at x within is h = elim (opcode memory at) as (λ r. opcode m
       (sym (decoded_by memory at _ (e ∙ ap Ok c.1)) ∙ h)
 ] refl
 
--- a part of the profile's machine that comes after another
-within_bound : {A : Type 0} (here : Here) (o : Out A) (k : A → State → Out Next)
-    → within here (bound o k) ≡ bound o (λ a t. within here (k a t))
-within_bound here (done a s) k = refl
-within_bound here (halt place s) k = refl
+-- `aread` waits where the profile's does
+
+-- a test that the profile's machine makes, and a weaker one
+tested_alike : (b c : Bool) (cause : Fault) (s : State) (f g : Unit {0} → State → Out Next) → (b ≡ true → c ≡ true)
+    → ends_in_fault (bound (test b cause s) f) ≡ false
+    → (ends_in_fault (f tt s) ≡ false → g tt s ≡ f tt s)
+    → bound (test c cause s) g ≡ bound (test b cause s) f
+tested_alike true c cause s f g right plays same = rw (right refl) (same plays)
+tested_alike false c cause s f g right plays same = absurd (neither true plays refl)
+
+line_waits : (here : Next) (after : ℕ) (result : Option ℕ) (text parse : ℕ) (s : State)
+    → ends_in_fault (read here after result text parse s) ≡ false
+    → wait_for_line after result text parse s ≡ read here after result text parse s
+unfolding read wait_for_line test_text_buffer test_parse_buffer test_room test_slots_or_none
+line_waits here after result text parse s plays =
+    tested_alike (is_text_buffer s.memory text) (has_room s.memory text) faults.Buffer s _ _
+    (room_of_text s.memory text) plays (λ plays.
+    tested_alike (is_parse_buffer s.memory parse) (has_slots_or_none s.memory parse) faults.Buffer s _ _
+    (slots_of_parse s.memory parse) plays (λ _. refl))
+
+-- where no stream is open, and the profile meets no fault
+line_read : (extra : List ℕ) (here : Here) (after : ℕ) (result : Option ℕ) (text parse : ℕ) (s : State)
+    → here.streams ≡ [] → ends_in_fault (read here.next after result text parse s) ≡ false
+    → read_line extra here after result text parse s ≡ within here (read here.next after result text parse s)
+unfolding read_line close_all
+line_read extra here after result text parse s e plays =
+    ap (λ streams. bound (close_all extra streams s) (λ _ t. within here (wait_for_line after result text parse t))) e
+    ∙ ap (within here) (line_waits here.next after result text parse s plays)
 
 -- the same after a part, whatever it came to
-after_alike : {A B : Type 0} (o : Out A) (k m : A → State → Out B) → ((a : A) (t : State) → k a t ≡ m a t)
-    → bound o k ≡ bound o m
-after_alike (done a s) k m same = same a s
-after_alike (halt place s) k m same = refl
-
--- where no stream is open, `aread` waits as in the profile
-line_read : (extra : List ℕ) (here : Here) (after : ℕ) (result : Option ℕ) (text_buffer parse_buffer : ℕ) (s : State)
-    → here.streams ≡ []
-    → read_line extra here after result text_buffer parse_buffer s
-    ≡ within here (read here.next after result text_buffer parse_buffer s)
-unfolding read_line close_all
-line_read extra here after result text_buffer parse_buffer s e = rw e refl
+after_alike : {A : Type 0} (here : Here) (o : Out A) (k : A → State → Out Here) (m : A → State → Out Next)
+    → ends_in_fault (bound o m) ≡ false
+    → ((a : A) (t : State) → ends_in_fault (m a t) ≡ false → k a t ≡ within here (m a t))
+    → bound o k ≡ within here (bound o m)
+after_alike here (done a s) k m plays same = same a s plays
+after_alike here (halt place s) k m plays same = refl
 
 executes_alike : (loaded : Loaded) (here : Here) (s : State) (given : List Operand) (result : Option ℕ) (after : ℕ)
     → here.streams ≡ []
+    → ends_in_fault (execute here.next
+    (Ok (record { operation = operations.Read; operands = given; result = result; branch = None }, after)) s) ≡ false
     → execute_further loaded Read here (Ok (record { operands = given; result = result; branch = None }, after)) s
     ≡ within here (execute here.next
     (Ok (record { operation = operations.Read; operands = given; result = result; branch = None }, after)) s)
 unfolding perform perform_further
-executes_alike loaded here s given result after none =
-    after_alike (operand_values given s) _ _ (λ values t.
-    line_read loaded.characters here after result (slice_index values 0) (slice_index_or values 1 0) t none)
-    ∙ sym (within_bound here (operand_values given s)
-    (λ values. perform operations.Read here.next after result None values))
+executes_alike loaded here s given result after none plays =
+    after_alike here (operand_values given s) _ _ plays (λ values t plays.
+    line_read loaded.characters here after result (slice_index values 0) (slice_index_or values 1 0) t none plays)
 
 -- `aread` never goes on
-
-not_done : {A B : Type 0} (o : Out A) (k : A → State → Out B) → ((a : A) (t : State) → is_done (k a t) ≡ false)
-    → is_done (bound o k) ≡ false
-not_done (done a s) k not = not a s
-not_done (halt place s) k not = refl
-
-wait_not_done : (pending : Pending) (s : State) → is_done (wait pending s) ≡ false
-unfolding wait
-wait_not_done pending s = refl
 
 read_not_done : (here : Next) (after : ℕ) (result : Option ℕ) (text_buffer parse_buffer : ℕ) (s : State)
     → is_done (read here after result text_buffer parse_buffer s) ≡ false
@@ -186,10 +199,6 @@ steps_as : (here : Next) (s : State) (r : Result (profile.Instruction × ℕ) Fa
     → step here s ≡ execute here r s
 unfolding step
 steps_as here s r code e = rw (code, e) refl
-
-neither : (b : Bool) → b ≡ false → b ≡ true → ⊥
-neither true e f = cc
-neither false e f = cc
 
 -- no stream is open
 none_open : (here : Here) (o : Out Next) (streams : List Stream) → here.streams ≡ streams → closes_none here o ≡ true
@@ -213,7 +222,7 @@ read_by loaded here s (Ok x) code inside is e plays quiet =
     let none = none_open here (step here.next s) here.streams refl quiet
     (ap is_done steps ∙ execute_not_done here.next s a.given a.result a.after) in
     ap (λ r. execute_further loaded Read here r s) a.further
-    ∙ executes_alike loaded here s a.given a.result a.after none
+    ∙ executes_alike loaded here s a.given a.result a.after none (sym (ap ends_in_fault steps) ∙ plays)
     ∙ sym (ap (within here) steps)
 
 -- where the profile meets no fault, and no stream is open, `aread` is the same here

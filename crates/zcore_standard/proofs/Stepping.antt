@@ -10,7 +10,6 @@ use Rattle.zcore.specs.declared.next.Next.{Next}
 use Rattle.zcore.specs.Instruction.{byte, operands, variable_types, given_types, branch_at}
 use Rattle.zcore.specs.State.{State, Out, done, halt}
 use Rattle.zcore.specs.Layout.{header_size}
-use Rattle.zcore.specs.Execution.{read}
 use Rattle.zcore.specs.Parts.{operand_values, spend}
 use Rattle.zcore.specs.Turn.{with_bytes}
 use Rattle.zcore.proofs.Ahead as ahead
@@ -19,7 +18,6 @@ use Rattle.zcore.proofs.KeepingReads.{done_state, done_value, never, both, keeps
 use Rattle.zcore.proofs.FallsOfParts as parts
 use Rattle.zcore.proofs.FallsOfParts.{Falls, falls_alike}
 use Rattle.zcore.proofs.FallsOfEffects.{give_result_falls}
-use Rattle.zcore.proofs.FallsOfOperations.{read_falls}
 use Rattle.zcore_standard.specs.declared.operations.Further.{Further}
 use Rattle.zcore_standard.specs.declared.operations.Further.TheVariants as operations
 use Rattle.zcore_standard.specs.Place.{Here, on, within}
@@ -29,13 +27,13 @@ use Rattle.zcore_standard.specs.Instruction.{Instruction, typed, types_at, count
 use Rattle.zcore_standard.specs.Instruction.{decode_further}
 use Rattle.zcore_standard.specs.Dice.{rolled, random}
 use Rattle.zcore_standard.specs.Flow.{restart}
-use Rattle.zcore_standard.specs.Streams.{close_all, read_line}
 use Rattle.zcore_standard.specs.Further.{perform_keeping, perform_further, execute_further}
 use Rattle.zcore_standard.specs.Nothing.{step_known}
 use Rattle.zcore_standard.specs.Machine.{chosen, standard_step}
 use Rattle.zcore_standard.proofs.Falling.{perform_keeping_falls}
 use Rattle.zcore_standard.proofs.Known.{step_known_falls}
-use Rattle.zcore_standard.proofs.StreamFacts.{FallsFrom, keeps_close_all, output_stream_falls}
+use Rattle.zcore_standard.proofs.Awaiting.{read_line_falls, read_key_falls}
+use Rattle.zcore_standard.proofs.StreamFacts.{FallsFrom, output_stream_falls}
 use Rattle.zcore_standard.proofs.Refusing.{stands}
 
 -- a part of the profile's machine that went on
@@ -79,17 +77,6 @@ restart_falls loaded here s t next inside h =
     let fuel : next.next.fuel ≡ p.value = ap (λ (x : Here). x.next.fuel) v in
     parts.spent here.next next.next s t memory (omega (arith, frames)) (rw fuel less) (λ _. omega (arith, frames))
 
-read_line_falls : (extra : List ℕ) (here : Here) (after : ℕ) (result : Option ℕ) (text_buffer parse_buffer : ℕ)
-    → FallsFrom here (read_line extra here after result text_buffer parse_buffer)
-unfolding read_line
-read_line_falls extra here after result text_buffer parse_buffer s t next inside h =
-    let p = both (close_all extra here.streams s)
-    (λ _ u. within here (read here.next after result text_buffer parse_buffer u)) next t h in
-    let alike = keeps_close_all extra here.streams s p.between p.value p.first in
-    falls_alike here.next next.next s p.between t alike
-    (within_falls here here _ (read_falls here.next after result text_buffer parse_buffer) p.between t next
-    (omega (arith, alike.memory)) p.second)
-
 keeping_falls : (loaded : Loaded) (operation : Further) (here : Here) (after : ℕ) (result : Option ℕ)
     (branch : Option Branch) (values : List ℕ) → here.next.program_counter < after
     → FallsFrom here (λ s. within here (perform_keeping loaded operation here.next after result branch values s))
@@ -105,6 +92,8 @@ perform_further_falls loaded operations.Random here after result branch values p
     (slice_index values 0) past
 perform_further_falls loaded operations.Read here after result branch values past = read_line_falls loaded.characters
     here after result (slice_index values 0) (slice_index_or values 1 0)
+perform_further_falls loaded operations.ReadChar here after result branch values past = read_key_falls
+    loaded.characters here after result
 perform_further_falls loaded operations.OutputStream here after result branch values past = output_stream_falls
     loaded.characters here after values past
 perform_further_falls loaded operation here after result branch values past = keeping_falls loaded operation here after

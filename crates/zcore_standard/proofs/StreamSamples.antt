@@ -4,15 +4,15 @@ use Rattle.std.specs.Prelude.{codes}
 use Rattle.zcore.specs.declared.next.Next.{Next}
 use Rattle.zcore.specs.declared.place.Fault.TheVariants as faults
 use Rattle.zcore.specs.declared.place.Place.TheVariants as places
-use Rattle.zcore.specs.Execution.{read}
-use Rattle.zcore.specs.Parts.{test_text_buffer, test_parse_buffer, test_result, wait}
+use Rattle.zcore.specs.Parts.{test_result, wait}
 use Rattle.zcore.specs.State.{State, done, halt}
 use Rattle.zcore.specs.Turn.{first_state}
 use Rattle.zcore_standard.specs.declared.streams.Stream.{Stream}
 use Rattle.zcore_standard.specs.Loading.{seeded}
 use Rattle.zcore_standard.specs.Place.{Here}
+use Rattle.zcore_standard.specs.Reading.{test_room, test_slots_or_none, wait_for_line, read_line}
 use Rattle.zcore_standard.specs.Streams.{characters_in, code_among, zscii_in, open_stream, close, close_all, heard}
-use Rattle.zcore_standard.specs.Streams.{set_transcript, output_stream, read_line}
+use Rattle.zcore_standard.specs.Streams.{set_transcript, output_stream}
 use Rattle.zcore_standard.specs.Unicode.{default_characters}
 use Rattle.zcore_standard.specs.Words.{write_bytes}
 
@@ -111,7 +111,7 @@ reads : read_line [] (with_streams (stream 68 4 ∷ stream 64 2 ∷ []) 104) 107
       memory = replicate 15 0 ++ (80 ∷ []) ++ replicate 48 0 ++ (0 ∷ 2 ∷ codes "Hi") ++ (0 ∷ 1 ∷ 33 ∷ 0 ∷ 2 ∷ []) ++ replicate 7 0;
       pending = Some (record { text_buffer = 72; parse_buffer = 0; result = None; return_address = 107 });
     })
-unfolding read_line close_all close characters_in write_bytes read test_text_buffer test_parse_buffer test_result wait
+unfolding read_line close_all close characters_in write_bytes wait_for_line test_room test_slots_or_none test_result wait
 reads = refl
 
 -- Streams 2, 1 and 4

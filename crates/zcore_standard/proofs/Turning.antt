@@ -2,12 +2,14 @@
 -- no fault is one of them.
 use Rattle.std.proofs.Common.{◌≡◌, ℕ, zero, suc, ◌⊎◌, inl, inr, List, refl, ap, ◌∙◌, arith}
 use Rattle.std.proofs.Common.{Bool, true, false, Option, Some, None, slice_index}
+use Rattle.std.specs.Prelude.{IfSome}
 use Rattle.zcore.specs.declared.beside.Beside.{Beside}
 use Rattle.zcore.specs.declared.next.Next.{Next}
 use Rattle.zcore.specs.declared.place.Fault.TheVariants as faults
 use Rattle.zcore.specs.declared.place.Place.TheVariants as places
 use Rattle.zcore.specs.State.{Pending, State, Out, done, halt}
 use Rattle.zcore.specs.Execution.{step}
+use Rattle.zcore.specs.Parts.{is_text_buffer}
 use Rattle.zcore.specs.Turn.{StateOfPlay, Whole, TurnsBy, after_step, turn_by, turn_in, turn_from, weight}
 use Rattle.zcore.specs.Turn.{ended, given, resumed, turn_pending, turn_on}
 use Rattle.zcore.proofs.Turning.{IsWeight, weight_some, turn_by_ends, turns_by_same}
@@ -17,8 +19,9 @@ use Rattle.zcore_standard.specs.Place.{Here, within}
 use Rattle.zcore_standard.specs.Loaded.{Loaded}
 use Rattle.zcore_standard.specs.Operations.{further_at}
 use Rattle.zcore_standard.specs.Machine.{chosen, standard, standard_step, standard_turn, standard_pending}
-use Rattle.zcore_standard.specs.Machine.{standard_turn_on, with_beside, begins}
-use Rattle.zcore_standard.specs.Laws.{EndsOneWay, is_fault, ends_in_fault, closes_none}
+use Rattle.zcore_standard.specs.Machine.{standard_turn_on, standard_ended, with_beside, begins}
+use Rattle.zcore_standard.specs.Laws.{EndsOneWay, WaitsAsTheProfile, is_fault, ends_in_fault, closes_none}
+use Rattle.zcore_standard.proofs.GivenAlike.{given_alike}
 use Rattle.zcore_standard.proofs.Known.{known_keeps}
 use Rattle.zcore_standard.proofs.Reading.{read_keeps}
 use Rattle.zcore_standard.proofs.Refusing.{IsReadByte, Stands, stands, step_refused}
@@ -136,7 +139,7 @@ standard_turn_keeps loaded beside here s whole e plays =
 
 -- The turn of a line
 
-given_keeps : (loaded : Loaded) (fuel : ℕ) (play : StateOfPlay) (whole : Whole) (o : Out Next)
+line_keeps : (loaded : Loaded) (fuel : ℕ) (play : StateOfPlay) (whole : Whole) (o : Out Next)
     → is_fault whole.place ≡ false
     → after_step o turn_from
     (λ place s. Some (ended (record { program_counter = play.program_counter; fuel = fuel }) place s)) ≡ Some whole
@@ -144,21 +147,26 @@ given_keeps : (loaded : Loaded) (fuel : ℕ) (play : StateOfPlay) (whole : Whole
     (λ place s. Some (with_beside play.beside
     (ended (record { program_counter = play.program_counter; fuel = fuel }) place s)))
     ≡ Some (with_beside play.beside whole)
-given_keeps loaded fuel play whole (done next t) plays e =
+line_keeps loaded fuel play whole (done next t) plays e =
     standard_turn_keeps loaded play.beside next t whole e plays
-given_keeps loaded fuel play whole (halt place t) plays e =
+line_keeps loaded fuel play whole (halt place t) plays e =
     ap (λ x. Some (with_beside play.beside x)) (some_is _ whole e)
 
 pending_keeps : (loaded : Loaded) (line : List ℕ) (fuel : ℕ) (play : StateOfPlay) (whole : Whole) (p : Option Pending)
+    → IfSome p (λ pending. is_text_buffer play.memory pending.text_buffer ≡ true)
     → turn_pending p line fuel play ≡ Some whole → is_fault whole.place ≡ false
     → standard_pending loaded p line fuel play ≡ Some (with_beside play.beside whole)
-pending_keeps loaded line fuel play whole None e plays = absurd (cc)
-pending_keeps loaded line fuel play whole (Some pending) e plays =
-    given_keeps loaded fuel play whole (given pending line fuel (resumed play)) plays e
+pending_keeps loaded line fuel play whole None waits e plays = absurd (cc)
+pending_keeps loaded line fuel play whole (Some pending) waits e plays =
+    ap (λ o. after_step o (λ next s. standard_turn loaded (begins play.beside next) s)
+    (λ place s. Some (standard_ended
+    (begins play.beside (record { program_counter = play.program_counter; fuel = fuel })) place s)))
+    (given_alike pending line fuel (resumed play) waits)
+    ∙ line_keeps loaded fuel play whole (given pending line fuel (resumed play)) plays e
 
 pub standard_turn_on_keeps : (loaded : Loaded) (line : List ℕ) (fuel : ℕ) (play : StateOfPlay) (whole : Whole)
-    → turn_on line fuel play ≡ Some whole → is_fault whole.place ≡ false
+    → WaitsAsTheProfile play → turn_on line fuel play ≡ Some whole → is_fault whole.place ≡ false
     → standard_turn_on loaded line fuel play ≡ Some (with_beside play.beside whole)
 unfolding turn_on standard_turn_on
-standard_turn_on_keeps loaded line fuel play whole e plays =
-    pending_keeps loaded line fuel play whole play.pending e plays
+standard_turn_on_keeps loaded line fuel play whole waits e plays =
+    pending_keeps loaded line fuel play whole play.pending waits e plays

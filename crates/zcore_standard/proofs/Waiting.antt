@@ -1,4 +1,4 @@
--- A step of the Standard's machine that waits for a line leaves buffers that can be filled.
+-- A step of the Standard's machine waits only for what can be given.
 use Rattle.std.proofs.Common.{◌≡◌, ℕ, ◌-◌, List, length, true, Option, Some, None}
 use Rattle.std.proofs.Common.{Result, Ok, Err, slice_index, slice_index_or, [], ◌∷◌, ◌+◌}
 use Rattle.std.specs.Prelude.{◌==◌, ◌&&◌, nat_le, nat_lt}
@@ -15,7 +15,6 @@ use Rattle.zcore.proofs.WaitingTests.{WaitsWell, Waits, waits_done, waits_fault,
 use Rattle.zcore.proofs.WaitingTests.{waits_bound, waits_chosen, waits_test}
 use Rattle.zcore.proofs.WaitingParts.{waits_operand_values, waits_store_result, waits_goes_on, waits_write_word}
 use Rattle.zcore.proofs.WaitingEffects.{waits_branch_on, waits_give_result}
-use Rattle.zcore.proofs.WaitingOperations.{waits_read}
 use Rattle.zcore_standard.specs.declared.operations.Further.{Further}
 use Rattle.zcore_standard.specs.declared.operations.Further.TheVariants as operations
 use Rattle.zcore_standard.specs.Place.{Here, within}
@@ -27,14 +26,15 @@ use Rattle.zcore_standard.specs.Dice.{rolled, random}
 use Rattle.zcore_standard.specs.Unicode.{transcript_of, print_whole, print_unicode, check_unicode}
 use Rattle.zcore_standard.specs.Flow.{restart, catch, frames_at, leave_frame, throw, verify}
 use Rattle.zcore_standard.specs.Screen.{get_cursor, set_font}
-use Rattle.zcore_standard.specs.Streams.{read_line}
 use Rattle.zcore_standard.specs.Further.{perform_keeping, perform_further, execute_further, words_of_table, one_row}
 use Rattle.zcore_standard.specs.Nothing.{step_known}
 use Rattle.zcore_standard.specs.Machine.{chosen, standard_step}
 use Rattle.zcore_standard.proofs.Known.{waits_step_known}
 use Rattle.zcore_standard.proofs.TableFacts.{waits_scan_table, waits_copy_table, waits_print_table}
 use Rattle.zcore_standard.proofs.WordFacts.{waits_tokenise, waits_encode_text}
-use Rattle.zcore_standard.proofs.StreamFacts.{waits_close_all, waits_output_stream}
+use Rattle.zcore_standard.proofs.Awaiting.{WaitsRight, WaitsFor, waits_right, for_then, for_well, for_read_line}
+use Rattle.zcore_standard.proofs.Awaiting.{for_read_key, halt_within}
+use Rattle.zcore_standard.proofs.StreamFacts.{waits_output_stream}
 
 -- The operations that leave window and dice as they are
 
@@ -162,11 +162,6 @@ waits_perform_keeping loaded _ here after result branch values = λ s t h. waits
 
 -- Steps
 
-halt_within : (here : Here) (o : Out Next) (t : State) → within here o ≡ halt places.Waiting t
-    → o ≡ halt places.Waiting t
-halt_within here (done n u) t h = cc
-halt_within here (halt x u) t h = cc
-
 waits_within : (here : Here) (f : State → Out Next) → Waits f → Waits (λ s. within here (f s))
 waits_within here f w s t h = w s t (halt_within here (f s) t h)
 
@@ -185,13 +180,6 @@ waits_restart : (loaded : Loaded) (here : Here) → Waits (restart loaded here)
 unfolding restart
 waits_restart loaded here = waits_then _ _ (waits_spend here.next.fuel) (λ fuel s t h. waits_done _ _ t h)
 
-waits_read_line : (extra : List ℕ) (here : Here) (after : ℕ) (result : Option ℕ) (text_buffer parse_buffer : ℕ)
-    → Waits (read_line extra here after result text_buffer parse_buffer)
-unfolding read_line
-waits_read_line extra here after result text_buffer parse_buffer =
-    waits_then _ _ (waits_close_all extra here.streams)
-    (λ _. waits_within here _ (waits_read here.next after result text_buffer parse_buffer))
-
 waits_keeping : (loaded : Loaded) (operation : Further) (here : Here) (after : ℕ) (result : Option ℕ)
     (branch : Option Branch) (values : List ℕ)
     → Waits (λ s. within here (perform_keeping loaded operation here.next after result branch values s))
@@ -200,33 +188,35 @@ waits_keeping loaded operation here after result branch values =
 
 waits_perform_further : (loaded : Loaded) (operation : Further) (here : Here) (after : ℕ) (result : Option ℕ)
     (branch : Option Branch) (values : List ℕ)
-    → Waits (perform_further loaded operation here after result branch values)
+    → WaitsFor (perform_further loaded operation here after result branch values)
 unfolding perform_further
-waits_perform_further loaded operations.Restart here after result branch values = waits_restart loaded here
-waits_perform_further loaded operations.Random here after result branch values = waits_random here after result
-    (slice_index values 0)
-waits_perform_further loaded operations.Read here after result branch values = waits_read_line loaded.characters here
+waits_perform_further loaded operations.Restart here after result branch values = for_well _ (waits_restart loaded here)
+waits_perform_further loaded operations.Random here after result branch values = for_well _ (waits_random here after
+    result (slice_index values 0))
+waits_perform_further loaded operations.Read here after result branch values = for_read_line loaded.characters here
     after result (slice_index values 0) (slice_index_or values 1 0)
-waits_perform_further loaded operations.OutputStream here after result branch values = waits_output_stream
-    loaded.characters here after values
-waits_perform_further loaded operation here after result branch values = waits_keeping loaded operation here after
-    result branch values
+waits_perform_further loaded operations.ReadChar here after result branch values = for_read_key loaded.characters here
+    after result
+waits_perform_further loaded operations.OutputStream here after result branch values = for_well _ (waits_output_stream
+    loaded.characters here after values)
+waits_perform_further loaded operation here after result branch values = for_well _ (waits_keeping loaded operation here
+    after result branch values)
 
 waits_execute_further : (loaded : Loaded) (operation : Further) (here : Here) (r : Result (Instruction × ℕ) Fault)
-    → Waits (execute_further loaded operation here r)
-waits_execute_further loaded operation here (Err cause) = λ s t h. waits_fault cause s t h
-waits_execute_further loaded operation here (Ok x) = waits_then _ _ (waits_operand_values x.0.operands)
+    → WaitsFor (execute_further loaded operation here r)
+waits_execute_further loaded operation here (Err cause) = for_well _ (λ s t h. waits_fault cause s t h)
+waits_execute_further loaded operation here (Ok x) = for_then _ _ (waits_operand_values x.0.operands)
     (λ values. waits_perform_further loaded operation here x.1 x.0.result x.0.branch values)
 
 waits_chosen_step : (loaded : Loaded) (here : Here) (s t : State) (o : Option Further)
-    → chosen loaded o here s ≡ halt places.Waiting t → WaitsWell t
-waits_chosen_step loaded here s t None h = waits_step_known here.next s t
-    (halt_within here (step_known here.next s) t h)
+    → chosen loaded o here s ≡ halt places.Waiting t → WaitsRight t
+waits_chosen_step loaded here s t None h = waits_right t (waits_step_known here.next s t
+    (halt_within here (step_known here.next s) t h))
 waits_chosen_step loaded here s t (Some operation) h =
     waits_execute_further loaded operation here (decode_further s.memory here.next.program_counter operation) s t h
 
 pub standard_step_waits : (loaded : Loaded) (here : Here) (s t : State)
-    → standard_step loaded here s ≡ halt places.Waiting t → WaitsWell t
+    → standard_step loaded here s ≡ halt places.Waiting t → WaitsRight t
 unfolding standard_step
 standard_step_waits loaded here s t h =
     waits_chosen_step loaded here s t (further_at s.memory here.next.program_counter) h

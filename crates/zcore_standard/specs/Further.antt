@@ -14,6 +14,7 @@ use Rattle.zcore_standard.specs.declared.operations.Further.TheVariants.{SetColo
 use Rattle.zcore_standard.specs.declared.operations.Further.TheVariants.{EraseWindow, EraseLine, SetCursor}
 use Rattle.zcore_standard.specs.declared.operations.Further.TheVariants.{GetCursor, SetTextStyle, BufferMode}
 use Rattle.zcore_standard.specs.declared.operations.Further.TheVariants.{OutputStream, InputStream, SoundEffect}
+use Rattle.zcore_standard.specs.declared.operations.Further.TheVariants.{ReadChar}
 use Rattle.zcore_standard.specs.declared.operations.Further.TheVariants.{ScanTable, Tokenise, EncodeText}
 use Rattle.zcore_standard.specs.declared.operations.Further.TheVariants.{CopyTable, PrintTable, Save, Restore}
 use Rattle.zcore_standard.specs.declared.operations.Further.TheVariants.{LogShift, ArtShift, SetFont, SaveUndo}
@@ -27,7 +28,8 @@ use Rattle.zcore_standard.specs.Dice.{random}
 use Rattle.zcore_standard.specs.Unicode.{print_unicode, check_unicode}
 use Rattle.zcore_standard.specs.Flow.{restart, catch, throw, verify, failed, has_no_undo}
 use Rattle.zcore_standard.specs.Screen.{get_cursor, set_font}
-use Rattle.zcore_standard.specs.Streams.{output_stream, read_line}
+use Rattle.zcore_standard.specs.Streams.{output_stream}
+use Rattle.zcore_standard.specs.Reading.{read_line, read_key}
 use Rattle.zcore_standard.specs.Tables.{scan_table, copy_table, print_table}
 use Rattle.zcore_standard.specs.Words.{tokenise, encode_text}
 
@@ -47,7 +49,7 @@ abbrev pub one_row : ℕ
 one_row = 1
 
 -- The operations that leave window, dice and streams as they are, with the address after the instruction, the variable
--- for the result, the branch, and the values of the operands. Windows and keys are not played yet: M1.
+-- for the result, the branch, and the values of the operands. Windows are not played yet: M1.
 unfoldable pub perform_keeping :
     Loaded → Further → Next → ℕ → Option ℕ → Option Branch → List ℕ → State → Out Next
 perform_keeping loaded Catch here after result branch values = catch here after result
@@ -97,6 +99,7 @@ perform_further loaded Restart here after result branch values = restart loaded 
 perform_further loaded Random here after result branch values = random here after result (first values)
 perform_further loaded Read here after result branch values = read_line loaded.characters here after result
     (first values) (slice_index_or values 1 0)
+perform_further loaded ReadChar here after result branch values = read_key loaded.characters here after result
 perform_further loaded OutputStream here after result branch values = output_stream loaded.characters here after values
 perform_further loaded operation here after result branch values = λ s.
     within here (perform_keeping loaded operation here.next after result branch values s)

@@ -1,5 +1,5 @@
 -- The laws of the Standard's machine that functions of `laws` carry as their contracts.
-use Rattle.std.specs.Prelude.{◌≡◌, ◌||◌, ℕ, Bool, true, false, not, List, [], ◌∷◌, Some, map}
+use Rattle.std.specs.Prelude.{◌≡◌, ◌||◌, ℕ, Bool, true, false, not, List, [], ◌∷◌, Some, map, IfSome}
 use Rattle.std.specs.List.{list_all}
 use Rattle.zcore.specs.State.{State, Out, done, halt}
 use Rattle.zcore.specs.declared.beside.Beside.{Beside}
@@ -7,6 +7,7 @@ use Rattle.zcore.specs.declared.next.Next.{Next}
 use Rattle.zcore.specs.declared.place.Place.{Place}
 use Rattle.zcore.specs.declared.place.Place.TheVariants as places
 use Rattle.zcore.specs.Execution.{step}
+use Rattle.zcore.specs.Parts.{is_text_buffer}
 use Rattle.zcore.specs.Turn.{StateOfPlay, Whole, TurnsBy, turn_from, turn_on, plays, plays_of}
 use Rattle.zcore_standard.specs.declared.streams.Stream.{Stream}
 use Rattle.zcore_standard.specs.Place.{Here, within}
@@ -58,10 +59,15 @@ KeepsWhatTheProfilePlays =
     (loaded : Loaded) (beside : Beside) (next : Next) (s : State) (whole : Whole) → turn_from next s ≡ Some whole
     → is_fault whole.place ≡ false → standard_turn loaded (begins beside next) s ≡ Some (with_beside beside whole)
 
--- and so is the turn of a line
+-- A line is waited for as the profile does it: no letter is left over in the text buffer, which is after the header.
+abbrev pub WaitsAsTheProfile : StateOfPlay → Type 0
+WaitsAsTheProfile play = IfSome play.pending (λ pending. is_text_buffer play.memory pending.text_buffer ≡ true)
+
+-- And so is the turn of a line. While the profile waits for one, its text buffer is one that its `aread` has tested: it
+-- holds no letters. This machine would keep letters that are left over in it.
 abbrev pub KeepsWhatTheProfileAnswers : Type 0
 KeepsWhatTheProfileAnswers =
-    (loaded : Loaded) (line : List ℕ) (fuel : ℕ) (play : StateOfPlay) (whole : Whole)
+    (loaded : Loaded) (line : List ℕ) (fuel : ℕ) (play : StateOfPlay) (whole : Whole) → WaitsAsTheProfile play
     → turn_on line fuel play ≡ Some whole → is_fault whole.place ≡ false
     → standard_turn_on loaded line fuel play ≡ Some (with_beside play.beside whole)
 

@@ -4,7 +4,7 @@ use Rattle.zcore.specs.declared.next.Next.{Next}
 use Rattle.zcore.specs.declared.place.Place.{Place}
 use Rattle.zcore.specs.declared.beside.Beside.{Beside}
 use Rattle.zcore.specs.State.{Pending, State, Out}
-use Rattle.zcore.specs.Turn.{StateOfPlay, Whole, Machine, Play, after_step, turn_by, weight, given, resumed}
+use Rattle.zcore.specs.Turn.{StateOfPlay, Whole, Machine, Play, after_step, turn_by, weight, resumed}
 use Rattle.zcore.specs.Turn.{first_next, first_state, ended}
 use Rattle.zcore_standard.specs.declared.operations.Further.{Further}
 use Rattle.zcore_standard.specs.Place.{Here, within}
@@ -13,6 +13,7 @@ use Rattle.zcore_standard.specs.Operations.{further_at}
 use Rattle.zcore_standard.specs.Instruction.{decode_further}
 use Rattle.zcore_standard.specs.Further.{execute_further}
 use Rattle.zcore_standard.specs.Streams.{heard}
+use Rattle.zcore_standard.specs.Reading.{standard_given}
 use Rattle.zcore_standard.specs.Nothing.{step_known}
 
 abbrev pub chosen : Loaded → Option Further → Here → State → Out Here
@@ -52,7 +53,8 @@ standard_opening loaded story fuel =
 abbrev pub standard_pending : Loaded → Option Pending → List ℕ → ℕ → StateOfPlay → Option Whole
 standard_pending loaded None line fuel play = None
 standard_pending loaded (Some pending) line fuel play =
-    after_step (given pending line fuel (resumed play)) (λ next s. standard_turn loaded (begins play.beside next) s)
+    after_step (standard_given pending line fuel (resumed play))
+    (λ next s. standard_turn loaded (begins play.beside next) s)
     (λ place s. Some (standard_ended
     (begins play.beside (record { program_counter = play.program_counter; fuel = fuel })) place s))
 

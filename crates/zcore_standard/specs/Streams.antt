@@ -4,12 +4,12 @@
 use Rattle.std.specs.Prelude.{◌==◌, ◌+◌, ◌-◌, ◌*◌, ◌/◌, ◌%◌, ℕ, nat_lt, if◌then◌else◌, List, [], ◌∷◌}
 use Rattle.std.specs.Prelude.{drop, length, map, slice_index, slice_set, take, Option}
 use Rattle.zcore.specs.declared.place.Fault.TheVariants as faults
-use Rattle.zcore.specs.Execution.{first, second, read}
+use Rattle.zcore.specs.Execution.{first, second}
 use Rattle.zcore.specs.Parts.{fault, test}
 use Rattle.zcore.specs.State.{State, Out, done, ◌>>=◌}
 use Rattle.zcore_standard.specs.declared.streams.Begun.{Begun}
 use Rattle.zcore_standard.specs.declared.streams.Stream.{Stream}
-use Rattle.zcore_standard.specs.Place.{Here, within}
+use Rattle.zcore_standard.specs.Place.{Here}
 use Rattle.zcore_standard.specs.Words.{write_bytes}
 
 -- From the text of a turn to ZSCII
@@ -143,11 +143,3 @@ select_stream extra here after number values =
 
 unfoldable pub output_stream : List ℕ → Here → ℕ → List ℕ → State → Out Here
 output_stream extra here after values = select_stream extra here after (first values) values
-
--- Waiting for a line
-
--- aread: every stream is closed first
-unfoldable pub read_line : List ℕ → Here → ℕ → Option ℕ → ℕ → ℕ → State → Out Here
-read_line extra here after result text_buffer parse_buffer = do
-  _ ← close_all extra here.streams
-  (λ s. within here (read here.next after result text_buffer parse_buffer s))

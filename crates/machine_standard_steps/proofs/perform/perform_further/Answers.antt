@@ -18,7 +18,11 @@ returns-in-Random-clause-text c = keeps_still _ _ c.requires.text
 
 pub returns-in-Read-clause-told : goal.returns-in-Read-clause-told
 unfolding perform_further
-returns-in-Read-clause-told c = rw c.in-Read.is c.read_line.ensures.told
+returns-in-Read-clause-told c = rw c.in-Read.is (c.read_line.ensures.told c.args.here)
+
+pub returns-in-ReadChar-clause-told : goal.returns-in-ReadChar-clause-told
+unfolding perform_further
+returns-in-ReadChar-clause-told c = rw c.in-ReadChar.is (c.read_key.ensures.told c.args.here)
 
 pub returns-in-OutputStream-clause-told : goal.returns-in-OutputStream-clause-told
 unfolding perform_further
@@ -27,7 +31,8 @@ returns-in-OutputStream-clause-told c = rw c.in-OutputStream.is c.output_stream.
 pub returns-in_default-clause-told : goal.returns-in_default-clause-told
 returns-in_default-clause-told c = keeping_told _ c.args.loaded.now c.args.operation (place c.args.around.now c.args.here)
     c.args.ending.after c.args.ending.result c.args.ending.branch c.args.values.now c.in_default.not-Restart
-    c.in_default.not-Random c.in_default.not-Read c.in_default.not-OutputStream c.perform_keeping.ensures.told
+    c.in_default.not-Random c.in_default.not-Read c.in_default.not-ReadChar c.in_default.not-OutputStream
+    c.perform_keeping.ensures.told
 
 pub returns-in_default-clause-text : goal.returns-in_default-clause-text
 returns-in_default-clause-text c = keeps_grew c.requires.text c.perform_keeping.ensures.text

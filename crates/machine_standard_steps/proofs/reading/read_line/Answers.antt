@@ -1,5 +1,4 @@
-use Rattle.std.proofs.Common.{ap, ◌∙◌}
-use Rattle.zcore_standard.specs.Streams.{read_line}
+use Rattle.zcore_standard.specs.Reading.{read_line}
 use Rattle.machine_frames.proofs.Steps.{told_then, told_no_further, told_went, told_store}
 use Rattle.machine_standard_opcodes.specs.Around.{place}
 use Rattle.machine_standard_opcodes.proofs.Keeping.{told_within}
@@ -8,13 +7,13 @@ use Rattle.machine_standard_steps.proofs.reading.read_line.Goals as goal
 
 pub returns-in_err-close_all-clause-told : goal.returns-in_err-close_all-clause-told
 unfolding read_line
-returns-in_err-close_all-clause-told c = told_err_seen (place c.args.around.now) _ c.from_residual.ensures.1
+returns-in_err-close_all-clause-told c here = told_err_seen (place c.args.around.now) _ c.from_residual.ensures.1
     (told_no_further _ c.in_err-close_all.ensures.told)
 
-pub read-requires-clause-store : goal.read-requires-clause-store
-read-requires-clause-store c = told_store c.requires.store c.in_ok-close_all.ensures.told
+pub wait_for_line-requires : goal.wait_for_line-requires
+wait_for_line-requires c = told_store c.requires.store c.in_ok-close_all.ensures.told
 
 pub returns-clause-told : goal.returns-clause-told
 unfolding read_line
-returns-clause-told c = told_then _ c.in_ok-close_all.ensures.told
-    (told_within c.read.result (place c.args.around.now c.args.here) _ (told_went _ _ c.read.ensures))
+returns-clause-told c here = told_then _ c.in_ok-close_all.ensures.told
+    (told_within c.wait_for_line.result (place c.args.around.now here) _ (told_went _ _ c.wait_for_line.ensures))
