@@ -9,18 +9,19 @@ use Rattle.zcore.specs.declared.next.Next.{Next}
 use Rattle.zcore.specs.declared.place.Place.{Place}
 use Rattle.zcore.specs.declared.place.Place.TheVariants as places
 use Rattle.zcore.specs.State.{State, Out, done, halt}
-use Rattle.zcore.specs.Parts.{is_text_buffer, is_parse_buffer}
 use Rattle.zcore.specs.Execution.{step}
 use Rattle.zcore.specs.Turn.{Reaches, ReachesBy, TurnsBy, Whole, ended, first_next, first_state, notice}
 use Rattle.zcore_standard.specs.Laws.{ends_in_fault, is_none_open, closes_none}
 use Rattle.zcore_standard.specs.Place.{Here, within}
 use Rattle.zcore_standard.specs.Loaded.{Loaded}
 use Rattle.zcore_standard.specs.Machine.{standard, standard_step, standard_ended, shown, with_beside, begins}
+use Rattle.zcore_standard.specs.Reading.{can_take}
 use Rattle.zcore_standard.specs.Streams.{heard}
 use Rattle.zcore_standard.proofs.Turning.{standard_steps, ended_all}
+use Rattle.zcore_standard.proofs.Awaiting.{WaitsRight}
 use Rattle.zcore_standard.proofs.Waiting.{standard_step_waits}
 use Rattle.machine_frames.specs.Contents.{Contents, memory_of}
-use Rattle.machine_frames.specs.Playing.{StopsBy, IsOpening, IsWaiting, whole_of}
+use Rattle.machine_frames.specs.Playing.{StopsBy, IsOpening, whole_of}
 use Rattle.machine_frames.specs.States.{state_of, program_counter_of, beside_of}
 use Rattle.machine_frames.specs.Went.{GoesOn}
 use Rattle.machine_frames.proofs.Steps.{store_after}
@@ -28,7 +29,7 @@ use Rattle.machine_lines.proofs.Lines.{base_kept}
 use Rattle.machine.proofs.Turning.{stops_whole}
 use Rattle.machine_standard_opcodes.specs.Around.{place, Keeps}
 use Rattle.machine_standard_opcodes.specs.declared.around.Around.{Around}
-use Rattle.machine.proofs.Waiting.{waiting}
+use Rattle.machine_standard_words.specs.Taking.{CanBeGiven}
 use Rattle.machine_standard.specs.Loads.{IsStoreFor}
 use Rattle.machine_standard.specs.Playing.{OpensStandard}
 use Rattle.machine_standard.specs.declared.turn.StandardMachine.{StandardMachine}
@@ -140,16 +141,23 @@ standard_whole loaded first around here end s m n x z y long h same counter kept
     rw (words, counter, kept) refl in
     subst (λ w. TurnsBy (standard loaded) first s w) (e ∙ f) turn
 
+-- what the machine waits for can be given to a store of the same state
+pub right_after : (m n : Contents) (text : List ℕ) → WaitsRight (state_of m text)
+    → ((l : List ℕ) → state_of n l ≡ state_of m l) → CanBeGiven n
+right_after m n text w same = record {
+  pending = w.pending;
+  waits = ap (λ (t : State). t.pending) (same text) ∙ w.waits;
+  right = ap (λ (t : State). can_take t.memory w.pending.text_buffer w.pending.parse_buffer) (same text) ∙ w.right;
+}
+
 -- a turn that stopped to wait
 pub standard_waits : (loaded : Loaded) (first here : Here) (end : Place) (s : State) (m n : Contents) (text : List ℕ)
     → StopsBy (standard_step loaded) first s here end (state_of m text)
-    → ((l : List ℕ) → state_of n l ≡ state_of m l) → end ≡ places.Waiting → IsWaiting n
+    → ((l : List ℕ) → state_of n l ≡ state_of m l) → end ≡ places.Waiting → CanBeGiven n
 standard_waits loaded first here end s m n text stops same e =
-    let w = standard_step_waits loaded here stops.before (state_of m text)
-    (stops.stops ∙ ap (λ p. halt p (state_of m text)) e) in
-    waiting n text w.pending (ap (λ (t : State). t.pending) (same text) ∙ w.waits)
-    (ap (λ (t : State). is_text_buffer t.memory w.pending.text_buffer) (same text) ∙ w.text_buffer)
-    (ap (λ (t : State). is_parse_buffer t.memory w.pending.parse_buffer) (same text) ∙ w.parse_buffer)
+    right_after m n text
+    (standard_step_waits loaded here stops.before (state_of m text)
+    (stops.stops ∙ ap (λ p. halt p (state_of m text)) e)) same
 
 -- a line that ends the turn at once
 pub stopped_standard : (m n : Contents) (beside : Beside) (fuel counter : ℕ) (end : Place) (x y : List ℕ)
