@@ -19,7 +19,8 @@ use Rattle.zcore_standard.specs.Nothing.{perform_on_nothing, step_known}
 use Rattle.zcore_standard.specs.Place.{Here}
 use Rattle.zcore_standard.specs.Loaded.{Loaded}
 use Rattle.zcore_standard.specs.Shifts.{log_shift}
-use Rattle.zcore_standard.specs.Streams.{close_all, read_line}
+use Rattle.zcore_standard.specs.Windows.{show_upper}
+use Rattle.zcore_standard.specs.Streams.{close_all, begin_read, read_line}
 
 -- a story with static base 80, and bytes from 64 on
 abbrev story : List ℕ → State
@@ -56,7 +57,7 @@ read_one : (loaded : Loaded) → standard_step loaded (at 64) (story reads_one)
     ≡ halt places.Waiting (record (story reads_one) {
       pending = Some (record { text_buffer = 72; parse_buffer = 0; result = Some 0; return_address = 68 });
     })
-unfolding standard_step decode_further types_at result_at branch_after byte operand operands operand_values operand_value perform_further read_line close_all read test_text_buffer test_parse_buffer test_result wait
+unfolding standard_step decode_further types_at result_at branch_after byte operand operands operand_values operand_value perform_further read_line begin_read show_upper close_all read test_text_buffer test_parse_buffer test_result wait
 read_one loaded = refl
 
 -- aread 72 0 10 80 -> sp: the time is not used
@@ -67,7 +68,7 @@ read_four : (loaded : Loaded) → standard_step loaded (at 64) (story reads_four
     ≡ halt places.Waiting (record (story reads_four) {
       pending = Some (record { text_buffer = 72; parse_buffer = 0; result = Some 0; return_address = 71 });
     })
-unfolding standard_step decode_further types_at result_at branch_after byte operand operands operand_values operand_value perform_further read_line close_all read test_text_buffer test_parse_buffer test_result wait
+unfolding standard_step decode_further types_at result_at branch_after byte operand operands operand_values operand_value perform_further read_line begin_read show_upper close_all read test_text_buffer test_parse_buffer test_result wait
 read_four loaded = refl
 
 -- M12: the text buffer has no room
@@ -76,7 +77,7 @@ reads_nothing = 0xE4 ∷ 0x7F ∷ 72 ∷ 0 ∷ 0 ∷ 0 ∷ 0 ∷ 0 ∷ 0 ∷ 0 �
 
 read_nothing : (loaded : Loaded) → standard_step loaded (at 64) (story reads_nothing)
     ≡ halt (places.Fault faults.Buffer) (story reads_nothing)
-unfolding standard_step decode_further types_at result_at branch_after byte operand operands operand_values operand_value perform_further read_line close_all read test_text_buffer
+unfolding standard_step decode_further types_at result_at branch_after byte operand operands operand_values operand_value perform_further read_line begin_read show_upper close_all read test_text_buffer
 read_nothing loaded = refl
 
 -- get_child 0 -> sp ?(66): the profile's instruction, which it plays with M8

@@ -29,13 +29,15 @@ use Rattle.zcore_standard.specs.Instruction.{Instruction, typed, types_at, count
 use Rattle.zcore_standard.specs.Instruction.{decode_further}
 use Rattle.zcore_standard.specs.Dice.{rolled, random}
 use Rattle.zcore_standard.specs.Flow.{restart}
-use Rattle.zcore_standard.specs.Streams.{close_all, read_line}
+use Rattle.zcore_standard.specs.Streams.{begin_read, read_line}
 use Rattle.zcore_standard.specs.Further.{perform_keeping, perform_further, execute_further}
 use Rattle.zcore_standard.specs.Nothing.{step_known}
 use Rattle.zcore_standard.specs.Machine.{chosen, standard_step}
 use Rattle.zcore_standard.proofs.Falling.{perform_keeping_falls}
 use Rattle.zcore_standard.proofs.Known.{step_known_falls}
-use Rattle.zcore_standard.proofs.StreamFacts.{FallsFrom, keeps_close_all, output_stream_falls}
+use Rattle.zcore_standard.proofs.StreamFacts.{output_stream_falls, keeps_begin_read}
+use Rattle.zcore_standard.proofs.WindowFacts.{FallsFrom, set_window_falls, set_cursor_falls, erase_window_falls}
+use Rattle.zcore_standard.proofs.WindowFacts.{split_window_falls}
 use Rattle.zcore_standard.proofs.Refusing.{stands}
 
 -- a part of the profile's machine that went on
@@ -83,9 +85,9 @@ read_line_falls : (extra : List ℕ) (here : Here) (after : ℕ) (result : Optio
     → FallsFrom here (read_line extra here after result text_buffer parse_buffer)
 unfolding read_line
 read_line_falls extra here after result text_buffer parse_buffer s t next inside h =
-    let p = both (close_all extra here.streams s)
+    let p = both (begin_read extra here s)
     (λ _ u. within here (read here.next after result text_buffer parse_buffer u)) next t h in
-    let alike = keeps_close_all extra here.streams s p.between p.value p.first in
+    let alike = keeps_begin_read extra here s p.between p.value p.first in
     falls_alike here.next next.next s p.between t alike
     (within_falls here here _ (read_falls here.next after result text_buffer parse_buffer) p.between t next
     (omega (arith, alike.memory)) p.second)
@@ -107,6 +109,14 @@ perform_further_falls loaded operations.Read here after result branch values pas
     here after result (slice_index values 0) (slice_index_or values 1 0)
 perform_further_falls loaded operations.OutputStream here after result branch values past = output_stream_falls
     loaded.characters here after values past
+perform_further_falls loaded operations.SetWindow here after result branch values past = set_window_falls here after
+    (slice_index values 0) past
+perform_further_falls loaded operations.SetCursor here after result branch values past = set_cursor_falls here after
+    (slice_index values 0) (slice_index values 1) past
+perform_further_falls loaded operations.EraseWindow here after result branch values past = erase_window_falls here
+    after (slice_index values 0) past
+perform_further_falls loaded operations.SplitWindow here after result branch values past = split_window_falls here
+    after (slice_index values 0) past
 perform_further_falls loaded operation here after result branch values past = keeping_falls loaded operation here after
     result branch values past
 

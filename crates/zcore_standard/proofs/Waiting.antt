@@ -18,7 +18,7 @@ use Rattle.zcore.proofs.WaitingEffects.{waits_branch_on, waits_give_result}
 use Rattle.zcore.proofs.WaitingOperations.{waits_read}
 use Rattle.zcore_standard.specs.declared.operations.Further.{Further}
 use Rattle.zcore_standard.specs.declared.operations.Further.TheVariants as operations
-use Rattle.zcore_standard.specs.Place.{Here, within}
+use Rattle.zcore_standard.specs.Place.{Here, past, within}
 use Rattle.zcore_standard.specs.Loaded.{Loaded}
 use Rattle.zcore_standard.specs.Operations.{further_at}
 use Rattle.zcore_standard.specs.Instruction.{Instruction, decode_further}
@@ -34,9 +34,11 @@ use Rattle.zcore_standard.specs.Machine.{chosen, standard_step}
 use Rattle.zcore_standard.proofs.Known.{waits_step_known}
 use Rattle.zcore_standard.proofs.TableFacts.{waits_scan_table, waits_copy_table, waits_print_table}
 use Rattle.zcore_standard.proofs.WordFacts.{waits_tokenise, waits_encode_text}
-use Rattle.zcore_standard.proofs.StreamFacts.{waits_close_all, waits_output_stream}
+use Rattle.zcore_standard.proofs.StreamFacts.{waits_begin_read, waits_output_stream}
+use Rattle.zcore_standard.proofs.WindowFacts.{waits_set_window, waits_set_cursor, waits_erase_window}
+use Rattle.zcore_standard.proofs.WindowFacts.{waits_split_window}
 
--- The operations that leave window and dice as they are
+-- The operations that leave windows, dice and streams as they are
 
 waits_log_shift : (here : Next) (after : ℕ) (result : Option ℕ) (word places : ℕ)
     → Waits (log_shift here after result word places)
@@ -149,10 +151,7 @@ waits_perform_keeping loaded operations.CheckUnicode here after result branch va
     loaded.characters here after result (slice_index values 0)
 waits_perform_keeping loaded operations.ShowStatus here after result branch values = waits_goes_on after here.fuel
 waits_perform_keeping loaded operations.SetColour here after result branch values = waits_goes_on after here.fuel
-waits_perform_keeping loaded operations.SplitWindow here after result branch values = waits_goes_on after here.fuel
-waits_perform_keeping loaded operations.EraseWindow here after result branch values = waits_goes_on after here.fuel
 waits_perform_keeping loaded operations.EraseLine here after result branch values = waits_goes_on after here.fuel
-waits_perform_keeping loaded operations.SetCursor here after result branch values = waits_goes_on after here.fuel
 waits_perform_keeping loaded operations.SetTextStyle here after result branch values = waits_goes_on after here.fuel
 waits_perform_keeping loaded operations.BufferMode here after result branch values = waits_goes_on after here.fuel
 waits_perform_keeping loaded operations.InputStream here after result branch values = waits_goes_on after here.fuel
@@ -189,7 +188,7 @@ waits_read_line : (extra : List ℕ) (here : Here) (after : ℕ) (result : Optio
     → Waits (read_line extra here after result text_buffer parse_buffer)
 unfolding read_line
 waits_read_line extra here after result text_buffer parse_buffer =
-    waits_then _ _ (waits_close_all extra here.streams)
+    waits_then _ _ (waits_begin_read extra here)
     (λ _. waits_within here _ (waits_read here.next after result text_buffer parse_buffer))
 
 waits_keeping : (loaded : Loaded) (operation : Further) (here : Here) (after : ℕ) (result : Option ℕ)
@@ -209,6 +208,14 @@ waits_perform_further loaded operations.Read here after result branch values = w
     after result (slice_index values 0) (slice_index_or values 1 0)
 waits_perform_further loaded operations.OutputStream here after result branch values = waits_output_stream
     loaded.characters here after values
+waits_perform_further loaded operations.SetWindow here after result branch values = waits_set_window (past here after)
+    (slice_index values 0)
+waits_perform_further loaded operations.SetCursor here after result branch values = waits_set_cursor (past here after)
+    (slice_index values 0) (slice_index values 1)
+waits_perform_further loaded operations.EraseWindow here after result branch values = waits_erase_window
+    (past here after) (slice_index values 0)
+waits_perform_further loaded operations.SplitWindow here after result branch values = waits_split_window
+    (past here after) (slice_index values 0)
 waits_perform_further loaded operation here after result branch values = waits_keeping loaded operation here after
     result branch values
 

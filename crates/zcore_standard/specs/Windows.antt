@@ -104,11 +104,11 @@ or_begun None place = begun_at place
 or_begun (Some upper) place = upper
 
 abbrev pub settled_in : List Stream → Here → State → Out Here
-settled_in [] here s =
+settled_in [] here =
     if here.beside.window == 0
-    then done (record here { upper = None }) (record s { text = lower here.upper s.text })
-    else done (record here { upper = Some (or_begun here.upper (length s.text)) }) s
-settled_in (stream ∷ streams) here s = done here s
+    then (λ s. done (record here { upper = None }) (record s { text = lower here.upper s.text }))
+    else (λ s. done (record here { upper = Some (or_begun here.upper (length s.text)) }) s)
+settled_in (stream ∷ streams) here = done here
 
 -- where no stream is open, the upper window is there exactly if it is selected
 unfoldable pub settled : Here → State → Out Here
@@ -157,9 +157,9 @@ shown upper text =
 
 abbrev pub show_in : Option Upper → ℕ → State → Out (Unit {0})
 show_in None window = done tt
-show_in (Some upper) window = λ s.
-    if window == 0 then done tt (record s { text = take upper.from s.text })
-    else redraw (shown upper s.text) s
+show_in (Some upper) window =
+    if window == 0 then (λ s. done tt (record s { text = take upper.from s.text }))
+    else (λ s. redraw (shown upper s.text) s)
 
 -- a read in the upper window shows its text, and one in the lower window drops it
 unfoldable pub show_upper : Here → State → Out (Unit {0})
