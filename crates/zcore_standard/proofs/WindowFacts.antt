@@ -13,7 +13,7 @@ use Rattle.zcore_standard.specs.declared.windows.Upper.{Upper}
 use Rattle.zcore_standard.specs.Place.{Here, past}
 use Rattle.zcore_standard.specs.Windows.{drawn, redraw, put_cursor, open_upper, is_place, cursor_in, set_cursor}
 use Rattle.zcore_standard.specs.Windows.{settled_in, settled, with_window, select_upper, set_window, erased_in}
-use Rattle.zcore_standard.specs.Windows.{erase_upper, erase_window, split_window, shown, show_in, show_upper}
+use Rattle.zcore_standard.specs.Windows.{erase_upper, erase_window, split_window, with_upper, show_in, show_upper}
 
 -- a part of a step: where it goes on, the weight falls
 abbrev pub FallsFrom : Here → (State → Out Here) → Type 0
@@ -143,7 +143,7 @@ keeps_show : (upper : Option Upper) (window : ℕ) → Keeps (show_in upper wind
 keeps_show None window = keeps_done tt
 keeps_show (Some upper) window =
     keeps_either (window == 0) _ _ (λ s t a h. done_alike tt a s t _ (record { memory = refl; frames = refl }) h)
-    (keeps_redraw (λ s. shown upper s.text))
+    (keeps_redraw (λ s. with_upper upper s.text))
 
 pub keeps_show_upper : (here : Here) → Keeps (show_upper here)
 unfolding show_upper
@@ -210,7 +210,7 @@ waits_split_window here lines = waits_chosen (lines == 0) _ _ (waits_erase_upper
 waits_show : (upper : Option Upper) (window : ℕ) → Waits (show_in upper window)
 waits_show None window = waits_done tt
 waits_show (Some upper) window =
-    waits_chosen (window == 0) _ _ (λ s t h. waits_done tt _ t h) (waits_redraw (λ s. shown upper s.text))
+    waits_chosen (window == 0) _ _ (λ s t h. waits_done tt _ t h) (waits_redraw (λ s. with_upper upper s.text))
 
 pub waits_show_upper : (here : Here) → Waits (show_upper here)
 unfolding show_upper

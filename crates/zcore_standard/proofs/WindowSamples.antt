@@ -9,12 +9,12 @@ use Rattle.zcore.specs.Turn.{first_state}
 use Rattle.zcore_standard.specs.declared.streams.Stream.{Stream}
 use Rattle.zcore_standard.specs.declared.windows.Upper.{Upper}
 use Rattle.zcore_standard.specs.Loading.{seeded}
-use Rattle.zcore_standard.specs.Machine.{begins, left}
+use Rattle.zcore_standard.specs.Machine.{begins, shown}
 use Rattle.zcore_standard.specs.Place.{Here, plain}
 use Rattle.zcore_standard.specs.Streams.{close_all, begin_read}
 use Rattle.zcore_standard.specs.Windows.{begun_at, without_spaces, last_line, width, with_new_line, row_of, with_cursor}
 use Rattle.zcore_standard.specs.Windows.{drawn, redraw, put_cursor, set_cursor, settled, set_window, erase_upper}
-use Rattle.zcore_standard.specs.Windows.{erase_window, split_window, shown, show_upper}
+use Rattle.zcore_standard.specs.Windows.{erase_window, split_window, with_upper, show_upper}
 
 abbrev here : ℕ → List Stream → Option Upper → Here
 here window streams upper = record {
@@ -206,28 +206,28 @@ split_3 = refl
 -- A read
 
 abbrev showing : ℕ → List ℕ → List ℕ
-showing from text = shown (record { from = from; mark = from; row = 1 }) text
+showing from text = with_upper (record { from = from; mark = from; row = 1 }) text
 
 -- in lines of its own, without the spaces at its end
 shows : showing 1 (codes ">ab  ") ≡ codes ">" ++ 10 ∷ codes "ab" ++ 10 ∷ []
-unfolding shown without_spaces with_new_line last_line
+unfolding with_upper without_spaces with_new_line last_line
 shows = refl
 
 shows_alone : showing 0 (codes "ab" ++ 10 ∷ []) ≡ codes "ab" ++ 10 ∷ []
-unfolding shown without_spaces with_new_line last_line
+unfolding with_upper without_spaces with_new_line last_line
 shows_alone = refl
 
 shows_after_line : showing 2 (codes ">" ++ 10 ∷ codes "ab") ≡ codes ">" ++ 10 ∷ codes "ab" ++ 10 ∷ []
-unfolding shown without_spaces with_new_line last_line
+unfolding with_upper without_spaces with_new_line last_line
 shows_after_line = refl
 
 shows_nothing : showing 1 (codes ">   ") ≡ codes ">"
-unfolding shown without_spaces
+unfolding with_upper without_spaces
 shows_nothing = refl
 
 -- the lower window is selected when its last stream is closed
 reads : begin_read [] (here 1 [] (upper 1 1 1)) (state (codes ">ab")) ≡ done tt (state (codes ">" ++ 10 ∷ codes "ab" ++ 10 ∷ []))
-unfolding begin_read close_all show_upper redraw shown without_spaces with_new_line last_line
+unfolding begin_read close_all show_upper redraw with_upper without_spaces with_new_line last_line
 reads = refl
 
 reads_lower : begin_read [] (here 0 [] (upper 1 1 1)) (state (codes ">ab")) ≡ done tt (state (codes ">"))
@@ -246,8 +246,8 @@ long_enough text e = rw e refl
 
 -- The end of a turn: all is left where a read waits, and else neither the window's text nor that of a stream
 
-waiting_left : left (here 1 [] (upper 1 1 1)) places.Waiting (codes ">ab") ≡ codes ">ab"
+waiting_left : shown (here 1 [] (upper 1 1 1)) places.Waiting (codes ">ab") ≡ codes ">ab"
 waiting_left = refl
 
-quit_left : left (here 1 (stream ∷ []) (upper 1 1 1)) places.Quit (codes ">ab") ≡ codes ">"
+quit_left : shown (here 1 (stream ∷ []) (upper 1 1 1)) places.Quit (codes ">ab") ≡ codes ">"
 quit_left = refl

@@ -28,14 +28,15 @@ standard_step loaded here s = chosen loaded (further_at s.memory here.next.progr
 abbrev pub with_beside : Beside → Whole → Whole
 with_beside beside whole = record whole { state = record whole.state { beside = beside } }
 
--- the text that is left at the end of a turn: all of it where a read waits, else what is heard of it
-abbrev pub left : Here → Place → List ℕ → List ℕ
-left here place text = if is_waiting place then text else heard_of here text
+-- The text that a turn shows of what it has printed. A read has closed its streams, and has shown the upper window or
+-- dropped its text; at any other end what went to streams and to that window is dropped.
+abbrev pub shown : Here → Place → List ℕ → List ℕ
+shown here place text = if is_waiting place then text else heard_of here text
 
--- Window and dice last from turn to turn.
+-- window and dice last from turn to turn
 abbrev pub standard_ended : Here → Place → State → Whole
 standard_ended here place s =
-    with_beside here.beside (ended here.next place (record s { text = left here place s.text }))
+    with_beside here.beside (ended here.next place (record s { text = shown here place s.text }))
 
 -- the machine of a story that was loaded so
 abbrev pub standard : Loaded → Machine Here

@@ -149,8 +149,8 @@ split_window here lines = if lines == 0 then erase_upper here else done here
 -- A read
 
 -- the text of a turn, where that of the upper window is shown: in lines of its own, without the spaces at its end
-unfoldable pub shown : Upper → List ℕ → List ℕ
-shown upper text =
+unfoldable pub with_upper : Upper → List ℕ → List ℕ
+with_upper upper text =
     let bare = without_spaces (drop upper.from text) in
     let before = take upper.from text in
     if length bare == 0 then before else with_new_line (with_new_line before ++ bare)
@@ -159,7 +159,7 @@ abbrev pub show_in : Option Upper → ℕ → State → Out (Unit {0})
 show_in None window = done tt
 show_in (Some upper) window =
     if window == 0 then (λ s. done tt (record s { text = take upper.from s.text }))
-    else (λ s. redraw (shown upper s.text) s)
+    else (λ s. redraw (with_upper upper s.text) s)
 
 -- a read in the upper window shows its text, and one in the lower window drops it
 unfoldable pub show_upper : Here → State → Out (Unit {0})
