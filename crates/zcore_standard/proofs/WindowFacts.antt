@@ -5,13 +5,14 @@ use Rattle.std.specs.Prelude.{◌==◌, ◌&&◌, ◌||◌}
 use Rattle.zcore.specs.declared.next.Next.{Next}
 use Rattle.zcore.specs.State.{State, Out, done}
 use Rattle.zcore.proofs.KeepingReads.{Alike, Keeps, alike_same, alike_then, done_alike, done_state, done_value, both}
-use Rattle.zcore.proofs.KeepingReads.{keeps_done, tested}
+use Rattle.zcore.proofs.KeepingReads.{keeps_done, keeps_then, tested}
 use Rattle.zcore.proofs.FallsOfParts.{Falls, further, falls_alike}
 use Rattle.zcore.proofs.WaitingTests.{Waits, waits_done, waits_limit, waits_then, waits_chosen, waits_either}
 use Rattle.zcore_standard.specs.declared.streams.Stream.{Stream}
 use Rattle.zcore_standard.specs.declared.windows.Upper.{Upper}
 use Rattle.zcore_standard.specs.Place.{Here, past}
-use Rattle.zcore_standard.specs.Windows.{drawn, redraw, put_cursor, open_upper, is_place, cursor_in, set_cursor}
+use Rattle.zcore_standard.specs.Windows.{drawn, redraw, put_cursor, cursor_to, open_upper, is_place, cursor_in}
+use Rattle.zcore_standard.specs.Windows.{set_cursor}
 use Rattle.zcore_standard.specs.Windows.{settled_in, settled, with_window, select_upper, set_window, erased_in}
 use Rattle.zcore_standard.specs.Windows.{erase_upper, erase_window, split_window, with_upper, show_in, show_upper}
 
@@ -57,12 +58,17 @@ keeps_redraw : (text : State → List ℕ) → Keeps (λ s. redraw (text s) s)
 unfolding redraw
 keeps_redraw text s t a h = tested _ tt a s t _ s _ (record { memory = refl; frames = refl }) h
 
-put_cursor_falls : (here there : Here) (after : ℕ) (upper : Upper) (row column : ℕ) → IsPast here after there
-    → here.next.program_counter < after → FallsFrom here (put_cursor there upper row column)
+keeps_put_cursor : (upper : Upper) (row column : ℕ) → Keeps (put_cursor upper row column)
 unfolding put_cursor
-put_cursor_falls here there after upper row column is ahead s t next inside h =
-    let p = both (redraw (drawn upper row column s.text) s) _ next t h in
-    let alike = keeps_redraw (λ u. drawn upper row column u.text) s p.between p.value p.first in
+keeps_put_cursor upper row column =
+    keeps_then _ _ (keeps_redraw (λ s. drawn upper row column s.text))
+    (λ _ s t a h. keeps_done (record upper { mark = length s.text; row = row }) s t a h)
+
+cursor_to_falls : (here there : Here) (after : ℕ) (upper : Upper) (row column : ℕ) → IsPast here after there
+    → here.next.program_counter < after → FallsFrom here (cursor_to there upper row column)
+cursor_to_falls here there after upper row column is ahead s t next inside h =
+    let p = both (put_cursor upper row column s) _ next t h in
+    let alike = keeps_put_cursor upper row column s p.between p.value p.first in
     falls_alike here.next next.next s p.between t alike
     (moves here _ after p.between p.between t next (alike_same p.between p.between refl) is ahead
     (omega (arith, inside, alike.memory)) p.second)
@@ -71,7 +77,7 @@ cursor_in_falls : (here there : Here) (after : ℕ) (upper : Option Upper) (row 
     → here.next.program_counter < after → FallsFrom here (cursor_in upper there row column)
 cursor_in_falls here there after None row column is ahead = done_falls here there after is ahead
 cursor_in_falls here there after (Some upper) row column is ahead =
-    put_cursor_falls here there after upper row column is ahead
+    cursor_to_falls here there after upper row column is ahead
 
 pub set_cursor_falls : (here : Here) (after row column : ℕ) → here.next.program_counter < after
     → FallsFrom here (set_cursor (past here after) row column)
@@ -98,7 +104,7 @@ settled_falls here there after is ahead = settled_in_falls here there after ther
 select_falls : (here there : Here) (after : ℕ) (upper : Option Upper) → IsPast here after there
     → here.next.program_counter < after → FallsFrom here (select_upper upper there)
 select_falls here there after None is ahead = settled_falls here there after is ahead
-select_falls here there after (Some upper) is ahead = put_cursor_falls here there after upper 1 1 is ahead
+select_falls here there after (Some upper) is ahead = cursor_to_falls here there after upper 1 1 is ahead
 
 pub set_window_falls : (here : Here) (after window : ℕ) → here.next.program_counter < after
     → FallsFrom here (set_window (past here after) window)
@@ -155,14 +161,18 @@ waits_redraw : (text : State → List ℕ) → Waits (λ s. redraw (text s) s)
 unfolding redraw
 waits_redraw text s t h = waits_either _ _ _ t (waits_done tt _ t) (waits_limit _ _ t) h
 
-waits_put_cursor : (here : Here) (upper : Upper) (row column : ℕ) → Waits (put_cursor here upper row column)
+waits_put_cursor : (upper : Upper) (row column : ℕ) → Waits (put_cursor upper row column)
 unfolding put_cursor
-waits_put_cursor here upper row column =
+waits_put_cursor upper row column =
     waits_then _ _ (waits_redraw (λ s. drawn upper row column s.text)) (λ _ s t h. waits_done _ s t h)
+
+waits_cursor_to : (here : Here) (upper : Upper) (row column : ℕ) → Waits (cursor_to here upper row column)
+waits_cursor_to here upper row column =
+    waits_then _ _ (waits_put_cursor upper row column) (λ moved. waits_done (record here { upper = Some moved }))
 
 waits_cursor_in : (upper : Option Upper) (here : Here) (row column : ℕ) → Waits (cursor_in upper here row column)
 waits_cursor_in None here row column = waits_done here
-waits_cursor_in (Some upper) here row column = waits_put_cursor here upper row column
+waits_cursor_in (Some upper) here row column = waits_cursor_to here upper row column
 
 pub waits_set_cursor : (here : Here) (row column : ℕ) → Waits (set_cursor here row column)
 unfolding set_cursor
@@ -181,7 +191,7 @@ waits_settled here = waits_settled_in here.streams here
 
 waits_select : (upper : Option Upper) (here : Here) → Waits (select_upper upper here)
 waits_select None here = waits_settled here
-waits_select (Some upper) here = waits_put_cursor here upper 1 1
+waits_select (Some upper) here = waits_cursor_to here upper 1 1
 
 pub waits_set_window : (here : Here) (window : ℕ) → Waits (set_window here window)
 unfolding set_window

@@ -74,10 +74,15 @@ redraw text s =
     if nat_le (length text) text_limit then done tt (record s { text = text })
     else halt (places.Limit limits.Text) s
 
-unfoldable pub put_cursor : Here → Upper → ℕ → ℕ → State → Out Here
-put_cursor here upper row column = do
+unfoldable pub put_cursor : Upper → ℕ → ℕ → State → Out Upper
+put_cursor upper row column = do
   _ ← (λ s. redraw (drawn upper row column s.text) s)
-  (λ s. done (record here { upper = Some (record upper { mark = length s.text; row = row }) }) s)
+  (λ s. done (record upper { mark = length s.text; row = row }) s)
+
+abbrev pub cursor_to : Here → Upper → ℕ → ℕ → State → Out Here
+cursor_to here upper row column = do
+  moved ← put_cursor upper row column
+  done (record here { upper = Some moved })
 
 -- The opcodes. While a stream is open they leave the upper window as it is.
 
@@ -91,7 +96,7 @@ is_place number = nat_le 1 number && nat_le number 255
 
 abbrev pub cursor_in : Option Upper → Here → ℕ → ℕ → State → Out Here
 cursor_in None here row column = done here
-cursor_in (Some upper) here row column = put_cursor here upper row column
+cursor_in (Some upper) here row column = cursor_to here upper row column
 
 -- where the turn goes on after set_cursor
 unfoldable pub set_cursor : Here → ℕ → ℕ → State → Out Here
@@ -120,7 +125,7 @@ with_window here window = record here { beside = record here.beside { window = w
 -- the upper window is selected: where it is there, its cursor goes to the first place (8.7.2)
 abbrev pub select_upper : Option Upper → Here → State → Out Here
 select_upper None here = settled here
-select_upper (Some upper) here = put_cursor here upper 1 1
+select_upper (Some upper) here = cursor_to here upper 1 1
 
 unfoldable pub set_window : Here → ℕ → State → Out Here
 set_window here window =
