@@ -12,11 +12,12 @@ use crate::effects::value_or;
 use journal::Recorded;
 use machine_frames::{End, Store};
 use machine_opcodes::{Ending, read};
-use machine_standard_opcodes::{Around, Loaded, close_all};
+use machine_standard_opcodes::{Around, Loaded, begin_read};
 use zcore::{Header, Next};
 
 /// Waits for a line: `aread`, of which the parse buffer may be left out; time and routine are not
-/// used. Each open stream is closed first.
+/// used. Each open stream is closed first, and the text of the upper window is shown if that is
+/// selected.
 pub(crate) fn read_line(
     header: &Header,
     store: &mut Recorded<Store>,
@@ -36,8 +37,7 @@ pub(crate) fn read_line(
         ending.after ending.result (first values.now) (slice_index_or values.now 1 0)) }
     ensures text { Keeps start text.old.items text.new.items }
 {
-    let streams = around.streams.as_slice();
-    close_all(header, store, text, start, loaded.characters(), streams)?;
+    begin_read(header, store, text, start, loaded, around)?;
     let parse_buffer = value_or(values, 1, 0);
     read(
         header,

@@ -20,9 +20,9 @@ use Rattle.zcore_standard.specs.Words.{write_bytes}
 -- From the text to ZSCII
 
 -- a new line is 13
-plain : zscii_in [] (codes "Hi" ++ 10 ∷ []) ≡ codes "Hi" ++ 13 ∷ []
+letters : zscii_in [] (codes "Hi" ++ 10 ∷ []) ≡ codes "Hi" ++ 13 ∷ []
 unfolding characters_in
-plain = refl
+letters = refl
 
 -- 155 is an a with two dots, 221 an i with an accent; ZSCII has no euro sign
 accents : zscii_in default_characters (0xC3 ∷ 0xA4 ∷ 0xE2 ∷ 0x82 ∷ 0xAC ∷ 65 ∷ 0xC5 ∷ 0x93 ∷ []) ≡ 155 ∷ 63 ∷ 65 ∷ 220 ∷ []

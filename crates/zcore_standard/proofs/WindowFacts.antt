@@ -14,7 +14,8 @@ use Rattle.zcore_standard.specs.Place.{Here, past}
 use Rattle.zcore_standard.specs.Windows.{drawn, redraw, put_cursor, cursor_to, open_upper, is_place, cursor_in}
 use Rattle.zcore_standard.specs.Windows.{set_cursor}
 use Rattle.zcore_standard.specs.Windows.{settled_in, settled, with_window, select_upper, set_window, erased_in}
-use Rattle.zcore_standard.specs.Windows.{erase_upper, erase_window, split_window, with_upper, show_in, show_upper}
+use Rattle.zcore_standard.specs.Windows.{erase_upper, erase_window, split_window, with_upper, show_text, show_in}
+use Rattle.zcore_standard.specs.Windows.{show_upper}
 
 -- a part of a step: where it goes on, the weight falls
 abbrev pub FallsFrom : Here → (State → Out Here) → Type 0
@@ -145,11 +146,15 @@ keeps_either : (b : Bool) (f g : State → Out (Unit {0})) → Keeps f → Keeps
 keeps_either true f g v w = v
 keeps_either false f g v w = w
 
+keeps_show_text : (upper : Upper) → Keeps (show_text upper)
+unfolding show_text
+keeps_show_text upper = keeps_redraw (λ s. with_upper upper s.text)
+
 keeps_show : (upper : Option Upper) (window : ℕ) → Keeps (show_in upper window)
 keeps_show None window = keeps_done tt
 keeps_show (Some upper) window =
     keeps_either (window == 0) _ _ (λ s t a h. done_alike tt a s t _ (record { memory = refl; frames = refl }) h)
-    (keeps_redraw (λ s. with_upper upper s.text))
+    (keeps_show_text upper)
 
 pub keeps_show_upper : (here : Here) → Keeps (show_upper here)
 unfolding show_upper
@@ -217,10 +222,14 @@ pub waits_split_window : (here : Here) (lines : ℕ) → Waits (split_window her
 unfolding split_window
 waits_split_window here lines = waits_chosen (lines == 0) _ _ (waits_erase_upper here) (waits_done here)
 
+waits_show_text : (upper : Upper) → Waits (show_text upper)
+unfolding show_text
+waits_show_text upper = waits_redraw (λ s. with_upper upper s.text)
+
 waits_show : (upper : Option Upper) (window : ℕ) → Waits (show_in upper window)
 waits_show None window = waits_done tt
 waits_show (Some upper) window =
-    waits_chosen (window == 0) _ _ (λ s t h. waits_done tt _ t h) (waits_redraw (λ s. with_upper upper s.text))
+    waits_chosen (window == 0) _ _ (λ s t h. waits_done tt _ t h) (waits_show_text upper)
 
 pub waits_show_upper : (here : Here) → Waits (show_upper here)
 unfolding show_upper

@@ -14,7 +14,8 @@ use Rattle.zcore_standard.specs.Place.{Here, plain}
 use Rattle.zcore_standard.specs.Streams.{close_all, begin_read}
 use Rattle.zcore_standard.specs.Windows.{begun_at, without_spaces, last_line, width, with_new_line, row_of, with_cursor}
 use Rattle.zcore_standard.specs.Windows.{drawn, redraw, put_cursor, set_cursor, settled, set_window, erase_upper}
-use Rattle.zcore_standard.specs.Windows.{erase_window, split_window, with_upper, show_upper}
+use Rattle.zcore_standard.specs.Windows.{erase_window, split_window, with_upper, show_text}
+use Rattle.zcore_standard.specs.Windows.{show_upper}
 
 abbrev here : ℕ → List Stream → Option Upper → Here
 here window streams upper = record {
@@ -227,7 +228,7 @@ shows_nothing = refl
 
 -- the lower window is selected when its last stream is closed
 reads : begin_read [] (here 1 [] (upper 1 1 1)) (state (codes ">ab")) ≡ done tt (state (codes ">" ++ 10 ∷ codes "ab" ++ 10 ∷ []))
-unfolding begin_read close_all show_upper redraw with_upper without_spaces with_new_line last_line
+unfolding begin_read close_all show_upper show_text redraw with_upper without_spaces with_new_line last_line
 reads = refl
 
 reads_lower : begin_read [] (here 0 [] (upper 1 1 1)) (state (codes ">ab")) ≡ done tt (state (codes ">"))

@@ -55,18 +55,18 @@ with_new_line text = if length (last_line text) == 0 then text else text ++ 10 �
 unfoldable pub row_of : Upper → List ℕ → ℕ
 row_of upper text = upper.row + count_by is_new_line (drop upper.mark text)
 
--- A text with the cursor in a column, in the row where it is or in another one. Nothing that can be seen is lost: unless
--- only spaces are in the row from that column on, the cursor goes to a new line.
+-- A text without spaces at its end, and then as many as take the cursor to a column, in the row where it is or in
+-- another one. Nothing that can be seen is lost: where text reaches that column, the cursor goes to a new line.
 unfoldable pub with_cursor : Bool → ℕ → List ℕ → List ℕ
-with_cursor is_in_row column text =
-    let bare = without_spaces text in
+with_cursor is_in_row column bare =
     let kept = if is_in_row && nat_lt (width bare) column then bare else with_new_line bare in
     kept ++ replicate (column - 1 - width kept) 32
 
 -- the text of a turn, where the cursor of the upper window is set
 unfoldable pub drawn : Upper → ℕ → ℕ → List ℕ → List ℕ
 drawn upper row column text =
-    take upper.from text ++ with_cursor (row_of upper text == row) column (drop upper.from text)
+    take upper.from text
+    ++ with_cursor (row_of upper text == row) column (without_spaces (drop upper.from text))
 
 -- the text of a turn becomes another, or ends the turn where that is too long
 unfoldable pub redraw : List ℕ → State → Out (Unit {0})
@@ -160,11 +160,14 @@ with_upper upper text =
     let before = take upper.from text in
     if length bare == 0 then before else with_new_line (with_new_line before ++ bare)
 
+unfoldable pub show_text : Upper → State → Out (Unit {0})
+show_text upper s = redraw (with_upper upper s.text) s
+
 abbrev pub show_in : Option Upper → ℕ → State → Out (Unit {0})
 show_in None window = done tt
 show_in (Some upper) window =
     if window == 0 then (λ s. done tt (record s { text = take upper.from s.text }))
-    else (λ s. redraw (with_upper upper s.text) s)
+    else show_text upper
 
 -- a read in the upper window shows its text, and one in the lower window drops it
 unfoldable pub show_upper : Here → State → Out (Unit {0})
