@@ -1,6 +1,8 @@
 pub mod Codes
 pub mod Cuts
 pub mod Keeping
+pub mod Lines
+pub mod Drawing
 pub mod Returning
 pub mod Anew
 pub mod Characters

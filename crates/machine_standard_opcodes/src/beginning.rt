@@ -24,7 +24,7 @@ use zcore::{Limit, Next, Place};
 
 /// Begins the story anew: `restart`. Dynamic memory after the header is as it was loaded, the first
 /// environment runs, no line is waited for, window and dice are as at loading, and no stream is
-/// open; what was printed to one is dropped. It takes a unit of fuel.
+/// open; what was printed to one or to the upper window is dropped. It takes a unit of fuel.
 ///
 /// # Errors
 ///
@@ -52,9 +52,10 @@ pub fn restart(
     let program_counter = memory[6] as u32 * 256 + memory[7] as u32;
     fill(store, HEADER_LENGTH, after_header(loaded.dynamic()))?;
     empty(store)?;
-    cut_to_heard(text, start, around.streams.as_slice());
+    cut_to_heard(text, start, around);
     around.beside = loaded.dice();
     around.streams.clear();
+    around.upper = None;
     Ok(Next {
         program_counter,
         fuel: here.fuel - 1,

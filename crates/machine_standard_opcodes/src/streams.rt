@@ -16,6 +16,7 @@ ghost use Rattle.machine_standard_opcodes.specs.Around.{place, Keeps};
 use crate::around::Around;
 use crate::beginning::fill;
 use crate::loaded::Loaded;
+use crate::windows::{drop_upper, settle};
 use crate::zscii::add_zscii;
 use journal::{NoMemory, Recorded};
 use machine_frames::layout::MEMORY;
@@ -139,7 +140,8 @@ fn open_stream(
     }
 }
 
-/// Closes the innermost stream, if there is one. M4.
+/// Closes the innermost stream, if there is one. After the last one the upper window is there if it
+/// is selected. M4.
 fn close_first(
     header: &Header,
     store: &mut Recorded<Store>,
@@ -168,11 +170,12 @@ fn close_first(
     let stream = around.streams.as_slice()[0];
     close(header, store, text, start, loaded.characters(), stream)?;
     around.streams.remove(0);
+    settle(text, start, around);
     Ok(next)
 }
 
 /// Closes each of these streams, of which the innermost is first. M4.
-pub fn close_all(
+pub(crate) fn close_all(
     header: &Header,
     store: &mut Recorded<Store>,
     text: &mut Vec<u8>,
@@ -294,9 +297,20 @@ fn set_transcript(store: &mut Recorded<Store>, bit: u8) -> Result<(), NoMemory>
     store.put(MEMORY + FLAGS_2, (flags / 2 * 2 + bit) as u16)
 }
 
-/// Cuts from a text what was printed while a stream was open, in a turn whose text begins at a
-/// place of it.
-pub fn cut_to_heard(text: &mut Vec<u8>, start: usize, streams: &[Stream])
+/// Cuts from a text what was printed while a stream was open and what the upper window has, in a
+/// turn whose text begins at a place of it.
+pub fn cut_to_heard(text: &mut Vec<u8>, start: usize, around: &Around)
+    requires { HasBegun start text.old.items }
+    ensures heard { (next : Next) → drop start text.new.items
+        ≡ definitions.heard_of (place around.now next) (drop start text.old.items) }
+    ensures text { Keeps start text.old.items text.new.items }
+{
+    cut_streams(text, start, around.streams.as_slice());
+    drop_upper(text, start, around.upper);
+}
+
+/// Cuts from a text what was printed while one of these streams was open.
+fn cut_streams(text: &mut Vec<u8>, start: usize, streams: &[Stream])
     requires { HasBegun start text.old.items }
     ensures heard { drop start text.new.items
         ≡ definitions.heard streams.now (drop start text.old.items) }
@@ -308,7 +322,7 @@ pub fn cut_to_heard(text: &mut Vec<u8>, start: usize, streams: &[Stream])
 }
 
 /// Cuts a text after so many bytes of the turn, if there are more.
-fn cut(text: &mut Vec<u8>, start: usize, from: u32)
+pub(crate) fn cut(text: &mut Vec<u8>, start: usize, from: u32)
     requires { HasBegun start text.old.items }
     ensures cut { drop start text.new.items ≡ take from (drop start text.old.items) }
     ensures text { Keeps start text.old.items text.new.items }

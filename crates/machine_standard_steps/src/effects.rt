@@ -118,6 +118,9 @@ pub(crate) fn perform_quietly(
             copy_table(header, store, here, after, values[0], values[1], values[2])
         }
         Further::SetWindow
+        | Further::SetCursor
+        | Further::EraseWindow
+        | Further::SplitWindow
         | Further::ReadChar
         | Further::Restart
         | Further::Random

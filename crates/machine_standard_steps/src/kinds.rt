@@ -21,10 +21,7 @@ pub(crate) fn does_nothing(operation: Further) -> bool
     match operation {
         Further::ShowStatus
         | Further::SetColour
-        | Further::SplitWindow
-        | Further::EraseWindow
         | Further::EraseLine
-        | Further::SetCursor
         | Further::SetTextStyle
         | Further::BufferMode
         | Further::InputStream

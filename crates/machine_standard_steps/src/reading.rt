@@ -1,5 +1,6 @@
 //! Waiting for a line or a key (Z-Machine Standards Document 1.1, section 15, `aread` and
-//! `read_char`). Each open stream is closed first.
+//! `read_char`). Each open stream is closed first, and the text of the upper window is shown if that is
+//! selected.
 
 ghost use Rattle.std.specs.Prelude.{◌≤◌, slice_index_or, length};
 ghost use Rattle.zcore.specs.Execution.{first};
@@ -14,7 +15,7 @@ use crate::effects::value_or;
 use journal::Recorded;
 use machine_frames::{End, Store};
 use machine_opcodes::Ending;
-use machine_standard_opcodes::{Around, Loaded, close_all};
+use machine_standard_opcodes::{Around, Loaded, begin_read};
 use machine_standard_words::{wait_for_key, wait_for_line};
 use zcore::{Header, Next};
 
@@ -39,8 +40,7 @@ pub(crate) fn read_line(
         ending.after ending.result (first values.now) (slice_index_or values.now 1 0)) }
     ensures text { Keeps start text.old.items text.new.items }
 {
-    let streams = around.streams.as_slice();
-    close_all(header, store, text, start, loaded.characters(), streams)?;
+    begin_read(header, store, text, start, loaded, around)?;
     let parse_buffer = value_or(values, 1, 0);
     wait_for_line(
         header,
@@ -70,7 +70,6 @@ pub(crate) fn read_key(
         ending.after ending.result) }
     ensures text { Keeps start text.old.items text.new.items }
 {
-    let streams = around.streams.as_slice();
-    close_all(header, store, text, start, loaded.characters(), streams)?;
+    begin_read(header, store, text, start, loaded, around)?;
     wait_for_key(store, ending.after, ending.result)
 }

@@ -17,8 +17,9 @@ use Rattle.zcore_standard.specs.Laws.{is_done}
 use Rattle.zcore_standard.specs.Place.{Here, within}
 use Rattle.zcore_standard.specs.Reading.{has_room, test_room, has_slots_or_none, test_slots_or_none, wait_for_line}
 use Rattle.zcore_standard.specs.Reading.{wait_for_key, read_line, read_key, can_take}
-use Rattle.zcore_standard.specs.Streams.{close_all}
-use Rattle.zcore_standard.proofs.StreamFacts.{FallsFrom, waits_close_all}
+use Rattle.zcore_standard.specs.Streams.{begin_read}
+use Rattle.zcore_standard.proofs.StreamFacts.{waits_begin_read}
+use Rattle.zcore_standard.proofs.WindowFacts.{FallsFrom}
 
 -- It never goes on
 
@@ -59,7 +60,7 @@ pub read_line_falls : (extra : List ℕ) (here : Here) (after : ℕ) (result : O
     → FallsFrom here (read_line extra here after result text parse)
 unfolding read_line
 read_line_falls extra here after result text parse =
-    never_falls here _ (λ s. not_done (close_all extra here.streams s) _ (λ _ t.
+    never_falls here _ (λ s. not_done (begin_read extra here s) _ (λ _ t.
     within_not_done here (wait_for_line after result text parse t)
     (line_not_done after result text parse t)))
 
@@ -67,7 +68,7 @@ pub read_key_falls : (extra : List ℕ) (here : Here) (after : ℕ) (result : Op
     → FallsFrom here (read_key extra here after result)
 unfolding read_key
 read_key_falls extra here after result =
-    never_falls here _ (λ s. not_done (close_all extra here.streams s) _ (λ _ t.
+    never_falls here _ (λ s. not_done (begin_read extra here s) _ (λ _ t.
     within_not_done here (wait_for_key after result t) (key_not_done after result t)))
 
 -- What it waits for can be given
@@ -214,12 +215,12 @@ pub for_read_line : (extra : List ℕ) (here : Here) (after : ℕ) (result : Opt
     → WaitsFor (read_line extra here after result text parse)
 unfolding read_line
 for_read_line extra here after result text parse =
-    for_then (close_all extra here.streams) _ (waits_close_all extra here.streams)
+    for_then (begin_read extra here) _ (waits_begin_read extra here)
     (λ _. for_within here _ (line_waits_right after result text parse))
 
 pub for_read_key : (extra : List ℕ) (here : Here) (after : ℕ) (result : Option ℕ)
     → WaitsFor (read_key extra here after result)
 unfolding read_key
 for_read_key extra here after result =
-    for_then (close_all extra here.streams) _ (waits_close_all extra here.streams)
+    for_then (begin_read extra here) _ (waits_begin_read extra here)
     (λ _. for_within here _ (key_waits_right after result))

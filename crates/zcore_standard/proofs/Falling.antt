@@ -174,13 +174,7 @@ perform_keeping_falls loaded operations.SetColour here after result branch value
     ahead
 perform_keeping_falls loaded operations.Throw here after result branch values ahead = throw_falls here
     (slice_index values 0) (slice_index values 1)
-perform_keeping_falls loaded operations.SplitWindow here after result branch values ahead = goes_on_falls here after
-    ahead
-perform_keeping_falls loaded operations.EraseWindow here after result branch values ahead = goes_on_falls here after
-    ahead
 perform_keeping_falls loaded operations.EraseLine here after result branch values ahead = goes_on_falls here after
-    ahead
-perform_keeping_falls loaded operations.SetCursor here after result branch values ahead = goes_on_falls here after
     ahead
 perform_keeping_falls loaded operations.GetCursor here after result branch values ahead = get_cursor_falls here after
     (slice_index values 0) ahead
@@ -232,4 +226,10 @@ perform_keeping_falls loaded operations.Restart here after result branch values 
 perform_keeping_falls loaded operations.Random here after result branch values ahead = fault_falls here faults.Opcode
 perform_keeping_falls loaded operations.Read here after result branch values ahead = fault_falls here faults.Opcode
 perform_keeping_falls loaded operations.OutputStream here after result branch values ahead = fault_falls here
+    faults.Opcode
+perform_keeping_falls loaded operations.SplitWindow here after result branch values ahead = fault_falls here
+    faults.Opcode
+perform_keeping_falls loaded operations.EraseWindow here after result branch values ahead = fault_falls here
+    faults.Opcode
+perform_keeping_falls loaded operations.SetCursor here after result branch values ahead = fault_falls here
     faults.Opcode

@@ -2,6 +2,7 @@
 use Rattle.std.proofs.Common.{◌≡◌, ℕ, ◌+◌, ◌<◌, List, [], ◌∷◌, length, refl, ap, sym, ◌∙◌, Bool, true, false}
 use Rattle.std.proofs.Common.{arith, slice_index, slice_index_or, Option, Some, None, Result, Ok, Err}
 use Rattle.std.specs.Prelude.{◌&&◌, ◌||◌, nat_le}
+use Rattle.std.specs.Option.{is_none}
 use Rattle.std.proofs.lemmas.Bool.{and_parts, leb-true}
 use Rattle.zcore.specs.declared.instruction.Operand.{Operand}
 use Rattle.zcore.specs.declared.instruction.Operation.TheVariants as operations
@@ -19,16 +20,17 @@ use Rattle.zcore.specs.State.{State, Out, done, halt, bound}
 use Rattle.zcore.proofs.Ahead as ahead
 use Rattle.zcore_standard.specs.declared.operations.Further.TheVariants.{Read}
 use Rattle.zcore_standard.specs.declared.streams.Stream.{Stream}
-use Rattle.zcore_standard.specs.Place.{Here, within}
+use Rattle.zcore_standard.specs.Place.{Here, within, is_none_open}
 use Rattle.zcore_standard.specs.Loaded.{Loaded}
-use Rattle.zcore_standard.specs.Laws.{ends_in_fault, is_done, is_none_open, closes_none}
+use Rattle.zcore_standard.specs.Laws.{ends_in_fault, is_done, is_plain, closes_none}
 use Rattle.zcore_standard.specs.Instruction.{types_at, counted, result_at, branch_after, decode_further}
 use Rattle.zcore_standard.specs.Further.{perform_further, execute_further}
 use Rattle.zcore_standard.specs.Reading.{has_room, test_room, has_slots_or_none, test_slots_or_none, wait_for_line}
 use Rattle.zcore_standard.specs.Reading.{read_line}
-use Rattle.zcore_standard.specs.Streams.{close_all}
+use Rattle.zcore_standard.specs.Windows.{show_upper}
+use Rattle.zcore_standard.specs.Streams.{close_all, begin_read}
 use Rattle.zcore_standard.proofs.Awaiting.{neither, not_done, wait_not_done, room_of_text, slots_of_parse}
-use Rattle.zcore_standard.proofs.Refusing.{IsReadByte, opcode_is}
+use Rattle.zcore_standard.proofs.Refusing.{IsReadByte, is_no_some, opcode_is}
 
 -- the opcode as the profile reads it
 read_opcode : (memory : List ℕ) (at : ℕ) → at < length memory → IsReadByte (slice_index memory at)
@@ -130,6 +132,10 @@ reads_alike memory at x within is h = elim (opcode memory at) as (λ r. opcode m
 
 -- `aread` waits where the profile's does
 
+record IsPlain (here : Here) : Type 0 where
+  streams : here.streams ≡ []
+  upper : here.upper ≡ None
+
 -- a test that the profile's machine makes, and a weaker one
 tested_alike : (b c : Bool) (cause : Fault) (s : State) (f g : Unit {0} → State → Out Next) → (b ≡ true → c ≡ true)
     → ends_in_fault (bound (test b cause s) f) ≡ false
@@ -148,13 +154,19 @@ line_waits here after result text parse s plays =
     tested_alike (is_parse_buffer s.memory parse) (has_slots_or_none s.memory parse) faults.Buffer s _ _
     (slots_of_parse s.memory parse) plays (λ _. refl))
 
--- where no stream is open, and the profile meets no fault
+-- where no stream is open and the upper window is not there, nothing comes before the wait
+plain_read : (extra : List ℕ) (here : Here) (after : ℕ) (result : Option ℕ) (text parse : ℕ) (s : State)
+    → here.streams ≡ [] → here.upper ≡ None
+    → read_line extra here after result text parse s ≡ within here (wait_for_line after result text parse s)
+unfolding read_line begin_read close_all show_upper
+plain_read extra here after result text parse s e f = rw (e, f) refl
+
+-- and the profile meets no fault
 line_read : (extra : List ℕ) (here : Here) (after : ℕ) (result : Option ℕ) (text parse : ℕ) (s : State)
-    → here.streams ≡ [] → ends_in_fault (read here.next after result text parse s) ≡ false
+    → IsPlain here → ends_in_fault (read here.next after result text parse s) ≡ false
     → read_line extra here after result text parse s ≡ within here (read here.next after result text parse s)
-unfolding read_line close_all
-line_read extra here after result text parse s e plays =
-    ap (λ streams. bound (close_all extra streams s) (λ _ t. within here (wait_for_line after result text parse t))) e
+line_read extra here after result text parse s bare plays =
+    plain_read extra here after result text parse s bare.streams bare.upper
     ∙ ap (within here) (line_waits here.next after result text parse s plays)
 
 -- the same after a part, whatever it came to
@@ -166,16 +178,16 @@ after_alike here (done a s) k m plays same = same a s plays
 after_alike here (halt place s) k m plays same = refl
 
 executes_alike : (loaded : Loaded) (here : Here) (s : State) (given : List Operand) (result : Option ℕ) (after : ℕ)
-    → here.streams ≡ []
+    → IsPlain here
     → ends_in_fault (execute here.next
     (Ok (record { operation = operations.Read; operands = given; result = result; branch = None }, after)) s) ≡ false
     → execute_further loaded Read here (Ok (record { operands = given; result = result; branch = None }, after)) s
     ≡ within here (execute here.next
     (Ok (record { operation = operations.Read; operands = given; result = result; branch = None }, after)) s)
 unfolding perform perform_further
-executes_alike loaded here s given result after none plays =
+executes_alike loaded here s given result after bare plays =
     after_alike here (operand_values given s) _ _ plays (λ values t plays.
-    line_read loaded.characters here after result (slice_index values 0) (slice_index_or values 1 0) t none plays)
+    line_read loaded.characters here after result (slice_index values 0) (slice_index_or values 1 0) t bare plays)
 
 -- `aread` never goes on
 
@@ -200,12 +212,21 @@ steps_as : (here : Next) (s : State) (r : Result (profile.Instruction × ℕ) Fa
 unfolding step
 steps_as here s r code e = rw (code, e) refl
 
--- no stream is open
-none_open : (here : Here) (o : Out Next) (streams : List Stream) → here.streams ≡ streams → closes_none here o ≡ true
-    → is_done o ≡ false → here.streams ≡ []
-none_open here o [] e quiet not = e
-none_open here o (stream ∷ streams) e quiet not = absurd (neither _ not (sym (ap (λ l. is_none_open l || is_done o) e)
-    ∙ quiet))
+-- no stream is open, and the upper window is not there
+
+one_of : (a b : Bool) → b ≡ false → (a || b) ≡ true → a ≡ true
+one_of true b e f = refl
+one_of false b e f = neither b e f
+
+none_open : (streams : List Stream) → is_none_open streams ≡ true → streams ≡ []
+none_open [] e = refl
+none_open (stream ∷ streams) e = absurd (cc)
+
+plain_place : (here : Here) (o : Out Next) → closes_none here o ≡ true → is_done o ≡ false → IsPlain here
+plain_place here o quiet not =
+    let parts = and_parts (is_none_open here.streams) (is_none here.upper) (one_of (is_plain here) (is_done o) not
+    quiet) in
+    record { streams = none_open here.streams parts.0; upper = is_no_some here.upper parts.1 }
 
 read_by : (loaded : Loaded) (here : Here) (s : State) (r : Result (profile.Instruction × ℕ) Fault)
     → is_code s.memory here.next.program_counter ≡ true → here.next.program_counter < length s.memory
@@ -219,13 +240,13 @@ read_by loaded here s (Ok x) code inside is e plays quiet =
     let at = here.next.program_counter in
     let a = reads_alike s.memory at x inside is e in
     let steps = steps_as here.next s _ code a.plain in
-    let none = none_open here (step here.next s) here.streams refl quiet
+    let bare = plain_place here (step here.next s) quiet
     (ap is_done steps ∙ execute_not_done here.next s a.given a.result a.after) in
     ap (λ r. execute_further loaded Read here r s) a.further
-    ∙ executes_alike loaded here s a.given a.result a.after none (sym (ap ends_in_fault steps) ∙ plays)
+    ∙ executes_alike loaded here s a.given a.result a.after bare (sym (ap ends_in_fault steps) ∙ plays)
     ∙ sym (ap (within here) steps)
 
--- where the profile meets no fault, and no stream is open, `aread` is the same here
+-- where the profile meets no fault, and closes no stream and shows no window, `aread` is the same here
 pub read_keeps : (loaded : Loaded) (here : Here) (s : State) → is_code s.memory here.next.program_counter ≡ true
     → here.next.program_counter < length s.memory → IsReadByte (slice_index s.memory here.next.program_counter)
     → ends_in_fault (step here.next s) ≡ false → closes_none here (step here.next s) ≡ true

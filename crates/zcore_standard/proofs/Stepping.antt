@@ -33,7 +33,9 @@ use Rattle.zcore_standard.specs.Machine.{chosen, standard_step}
 use Rattle.zcore_standard.proofs.Falling.{perform_keeping_falls}
 use Rattle.zcore_standard.proofs.Known.{step_known_falls}
 use Rattle.zcore_standard.proofs.Awaiting.{read_line_falls, read_key_falls}
-use Rattle.zcore_standard.proofs.StreamFacts.{FallsFrom, output_stream_falls}
+use Rattle.zcore_standard.proofs.StreamFacts.{output_stream_falls}
+use Rattle.zcore_standard.proofs.WindowFacts.{FallsFrom, set_window_falls, set_cursor_falls, erase_window_falls}
+use Rattle.zcore_standard.proofs.WindowFacts.{split_window_falls}
 use Rattle.zcore_standard.proofs.Refusing.{stands}
 
 -- a part of the profile's machine that went on
@@ -96,6 +98,14 @@ perform_further_falls loaded operations.ReadChar here after result branch values
     loaded.characters here after result
 perform_further_falls loaded operations.OutputStream here after result branch values past = output_stream_falls
     loaded.characters here after values past
+perform_further_falls loaded operations.SetWindow here after result branch values past = set_window_falls here after
+    (slice_index values 0) past
+perform_further_falls loaded operations.SetCursor here after result branch values past = set_cursor_falls here after
+    (slice_index values 0) (slice_index values 1) past
+perform_further_falls loaded operations.EraseWindow here after result branch values past = erase_window_falls here
+    after (slice_index values 0) past
+perform_further_falls loaded operations.SplitWindow here after result branch values past = split_window_falls here
+    after (slice_index values 0) past
 perform_further_falls loaded operation here after result branch values past = keeping_falls loaded operation here after
     result branch values past
 

@@ -1,4 +1,4 @@
--- output_stream makes the weight of a turn fall, and never waits.
+-- output_stream makes the weight of a turn fall, and never waits; so does what a read does first.
 use Rattle.std.proofs.Common.{◌≡◌, ℕ, ◌+◌, ◌*◌, ◌/◌, ◌<◌, List, [], ◌∷◌, length, set, slice_index, take, drop, refl}
 use Rattle.std.proofs.Common.{ap, ◌∙◌, arith, Bool, true, false, cond}
 use Rattle.std.specs.Prelude.{◌==◌, nat_lt}
@@ -8,20 +8,17 @@ use Rattle.zcore.specs.declared.place.Fault.TheVariants as faults
 use Rattle.zcore.specs.declared.place.Place.TheVariants as places
 use Rattle.zcore.specs.State.{State, Out, done}
 use Rattle.zcore.specs.Parts.{fault, test}
-use Rattle.zcore.proofs.KeepingReads.{Alike, Keeps, alike_same, alike_then, done_alike, done_state, done_value, never}
+use Rattle.zcore.proofs.KeepingReads.{Keeps, alike_same, done_alike, never}
 use Rattle.zcore.proofs.KeepingReads.{both, keeps_then, keeps_done, keeps_test}
-use Rattle.zcore.proofs.FallsOfParts.{Falls, further, falls_alike}
+use Rattle.zcore.proofs.FallsOfParts.{falls_alike}
 use Rattle.zcore.proofs.WaitingTests.{Waits, waits_done, waits_fault, waits_then, waits_chosen, waits_test}
 use Rattle.zcore_standard.specs.declared.streams.Stream.{Stream}
-use Rattle.zcore_standard.specs.Place.{Here}
+use Rattle.zcore_standard.specs.Place.{Here, past}
 use Rattle.zcore_standard.specs.Streams.{zscii_in, most_streams, open_stream, counted, close, close_first, close_all}
-use Rattle.zcore_standard.specs.Streams.{flags_2_low, set_transcript, closing, output_stream}
+use Rattle.zcore_standard.specs.Streams.{flags_2_low, set_transcript, closing, output_stream, begin_read}
+use Rattle.zcore_standard.proofs.WindowFacts.{FallsFrom, moves, either_falls, done_falls, settled_falls}
+use Rattle.zcore_standard.proofs.WindowFacts.{keeps_show_upper, waits_settled, waits_show_upper}
 use Rattle.zcore_standard.proofs.WordFacts.{keeps_write_bytes, waits_write_bytes}
-
--- a part of a step: where it goes on, the weight falls
-abbrev pub FallsFrom : Here → (State → Out Here) → Type 0
-FallsFrom here f = (s t : State) (next : Here) → here.next.program_counter < length s.memory → f s ≡ done next t
-    → Falls here.next s next.next t
 
 -- Parts keep the lengths of the memory and of the list of frames
 
@@ -32,7 +29,7 @@ keeps_close extra stream =
     (counted (zscii_in extra (drop stream.from s.text))) s t a h)
     (λ _ s t a h. done_alike tt a s t _ (record { memory = refl; frames = refl }) h)
 
-pub keeps_close_all : (extra : List ℕ) (streams : List Stream) → Keeps (close_all extra streams)
+keeps_close_all : (extra : List ℕ) (streams : List Stream) → Keeps (close_all extra streams)
 unfolding close_all
 keeps_close_all extra [] = keeps_done tt
 keeps_close_all extra (stream ∷ streams) =
@@ -40,54 +37,33 @@ keeps_close_all extra (stream ∷ streams) =
 
 -- The weight falls
 
--- the turn goes on at a later address
-moves : (here there : Here) (after : ℕ) (s u t : State) (next : Here) → Alike s u
-    → there.next ≡ record here.next { program_counter = after } → here.next.program_counter < after
-    → here.next.program_counter < length s.memory → done there u ≡ done next t → Falls here.next s next.next t
-moves here there after s u t next alike is past inside h =
-    let v : next ≡ there = done_value there next u t h in
-    let n : next.next ≡ record here.next { program_counter = after } = ap (λ (x : Here). x.next) v ∙ is in
-    let counter : next.next.program_counter ≡ after = ap (λ (x : Next). x.program_counter) n in
-    further here.next next.next s t (alike_then s u t alike (alike_same u t (done_state there next u t h)))
-    (ap (λ (x : Next). x.fuel) n) (omega (arith, counter, past)) inside
-
-either_falls : (b : Bool) (here : Here) (f g : State → Out Here) → FallsFrom here f → FallsFrom here g
-    → FallsFrom here (cond b f g)
-either_falls true here f g v w = v
-either_falls false here f g v w = w
-
-passes_falls : (here : Here) (after : ℕ) → here.next.program_counter < after
-    → FallsFrom here (λ s. done (record here { next = record here.next { program_counter = after } }) s)
-passes_falls here after past s t next inside h =
-    moves here _ after s s t next (alike_same s s refl) refl past inside h
-
 open_falls : (here : Here) (after table : ℕ) → here.next.program_counter < after
     → FallsFrom here (open_stream here after table)
 unfolding open_stream
-open_falls here after table past s t next inside h =
+open_falls here after table ahead s t next inside h =
     let p = both (test (nat_lt (length here.streams) most_streams) faults.Buffer s) _ next t h in
     let alike = keeps_test (nat_lt (length here.streams) most_streams) faults.Buffer s p.between p.value p.first in
     falls_alike here.next next.next s p.between t alike
-    (moves here _ after p.between p.between t next (alike_same p.between p.between refl) refl past
+    (moves here _ after p.between p.between t next (alike_same p.between p.between refl) refl ahead
     (omega (arith, alike.memory)) p.second)
 
 close_falls : (extra : List ℕ) (here : Here) (after : ℕ) (streams : List Stream) → here.next.program_counter < after
     → FallsFrom here (close_first extra here after streams)
-close_falls extra here after [] past = passes_falls here after past
-close_falls extra here after (stream ∷ streams) past = λ s t next inside h.
+close_falls extra here after [] ahead = done_falls here (past here after) after refl ahead
+close_falls extra here after (stream ∷ streams) ahead = λ s t next inside h.
     let p = both (close extra stream s) _ next t h in
     let alike = keeps_close extra stream s p.between p.value p.first in
     falls_alike here.next next.next s p.between t alike
-    (moves here _ after p.between p.between t next (alike_same p.between p.between refl) refl past
+    (settled_falls here (record (past here after) { streams = streams }) after refl ahead p.between t next
     (omega (arith, alike.memory)) p.second)
 
 transcript_falls : (here : Here) (after bit : ℕ) → here.next.program_counter < after
     → FallsFrom here (set_transcript here after bit)
 unfolding set_transcript
-transcript_falls here after bit past s t next inside h =
+transcript_falls here after bit ahead s t next inside h =
     moves here _ after s _ t next
     (record { memory = length-set s.memory flags_2_low (slice_index s.memory flags_2_low / 2 * 2 + bit); frames = refl })
-    refl past inside h
+    refl ahead inside h
 
 no_table_falls : (here : Here) → FallsFrom here (fault faults.Opcode)
 no_table_falls here s t next inside h = absurd (never (places.Fault faults.Opcode) next s t h)
@@ -95,15 +71,15 @@ no_table_falls here s t next inside h = absurd (never (places.Fault faults.Opcod
 pub output_stream_falls : (extra : List ℕ) (here : Here) (after : ℕ) (values : List ℕ)
     → here.next.program_counter < after → FallsFrom here (output_stream extra here after values)
 unfolding output_stream
-output_stream_falls extra here after values past =
+output_stream_falls extra here after values ahead =
     let number = slice_index values 0 in
     either_falls (number == 3) here _ _
     (either_falls (length values == 1) here _ _ (no_table_falls here)
-    (open_falls here after (slice_index values 1) past))
-    (either_falls (number == closing 3) here _ _ (close_falls extra here after here.streams past)
-    (either_falls (number == 2) here _ _ (transcript_falls here after 1 past)
-    (either_falls (number == closing 2) here _ _ (transcript_falls here after 0 past)
-    (passes_falls here after past))))
+    (open_falls here after (slice_index values 1) ahead))
+    (either_falls (number == closing 3) here _ _ (close_falls extra here after here.streams ahead)
+    (either_falls (number == 2) here _ _ (transcript_falls here after 1 ahead)
+    (either_falls (number == closing 2) here _ _ (transcript_falls here after 0 ahead)
+    (done_falls here (past here after) after refl ahead))))
 
 -- It never waits
 
@@ -113,7 +89,7 @@ waits_close extra stream =
     waits_then _ _ (λ s t h. waits_write_bytes stream.table
     (counted (zscii_in extra (drop stream.from s.text))) s t h) (λ _ s t h. waits_done tt _ t h)
 
-pub waits_close_all : (extra : List ℕ) (streams : List Stream) → Waits (close_all extra streams)
+waits_close_all : (extra : List ℕ) (streams : List Stream) → Waits (close_all extra streams)
 unfolding close_all
 waits_close_all extra [] = waits_done tt
 waits_close_all extra (stream ∷ streams) =
@@ -127,9 +103,10 @@ waits_open here after table =
 
 waits_close_first : (extra : List ℕ) (here : Here) (after : ℕ) (streams : List Stream)
     → Waits (close_first extra here after streams)
-waits_close_first extra here after [] = λ s t h. waits_done _ s t h
+waits_close_first extra here after [] = waits_done (past here after)
 waits_close_first extra here after (stream ∷ streams) =
-    waits_then _ _ (waits_close extra stream) (λ _ s t h. waits_done _ s t h)
+    waits_then _ _ (waits_close extra stream)
+    (λ _. waits_settled (record (past here after) { streams = streams }))
 
 waits_transcript : (here : Here) (after bit : ℕ) → Waits (set_transcript here after bit)
 unfolding set_transcript
@@ -146,4 +123,16 @@ waits_output_stream extra here after values =
     (waits_chosen (number == closing 3) _ _ (waits_close_first extra here after here.streams)
     (waits_chosen (number == 2) _ _ (waits_transcript here after 1)
     (waits_chosen (number == closing 2) _ _ (waits_transcript here after 0)
-    (λ s t h. waits_done _ s t h))))
+    (waits_done (past here after)))))
+
+-- A read
+
+pub keeps_begin_read : (extra : List ℕ) (here : Here) → Keeps (begin_read extra here)
+unfolding begin_read
+keeps_begin_read extra here =
+    keeps_then _ _ (keeps_close_all extra here.streams) (λ _. keeps_show_upper here)
+
+pub waits_begin_read : (extra : List ℕ) (here : Here) → Waits (begin_read extra here)
+unfolding begin_read
+waits_begin_read extra here =
+    waits_then _ _ (waits_close_all extra here.streams) (λ _. waits_show_upper here)

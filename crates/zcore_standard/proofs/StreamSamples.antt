@@ -9,19 +9,20 @@ use Rattle.zcore.specs.State.{State, done, halt}
 use Rattle.zcore.specs.Turn.{first_state}
 use Rattle.zcore_standard.specs.declared.streams.Stream.{Stream}
 use Rattle.zcore_standard.specs.Loading.{seeded}
-use Rattle.zcore_standard.specs.Place.{Here}
+use Rattle.zcore_standard.specs.Place.{Here, plain}
 use Rattle.zcore_standard.specs.Reading.{test_room, test_slots_or_none, wait_for_line, read_line}
 use Rattle.zcore_standard.specs.Streams.{characters_in, code_among, zscii_in, open_stream, close, close_all, heard}
-use Rattle.zcore_standard.specs.Streams.{set_transcript, output_stream}
+use Rattle.zcore_standard.specs.Streams.{set_transcript, output_stream, begin_read}
 use Rattle.zcore_standard.specs.Unicode.{default_characters}
+use Rattle.zcore_standard.specs.Windows.{settled, show_upper}
 use Rattle.zcore_standard.specs.Words.{write_bytes}
 
 -- From the text to ZSCII
 
 -- a new line is 13
-plain : zscii_in [] (codes "Hi" ++ 10 ∷ []) ≡ codes "Hi" ++ 13 ∷ []
+letters : zscii_in [] (codes "Hi" ++ 10 ∷ []) ≡ codes "Hi" ++ 13 ∷ []
 unfolding characters_in
-plain = refl
+letters = refl
 
 -- 155 is an a with two dots, 221 an i with an accent; ZSCII has no euro sign
 accents : zscii_in default_characters (0xC3 ∷ 0xA4 ∷ 0xE2 ∷ 0x82 ∷ 0xAC ∷ 65 ∷ 0xC5 ∷ 0x93 ∷ []) ≡ 155 ∷ 63 ∷ 65 ∷ 220 ∷ []
@@ -36,11 +37,8 @@ own_table = refl
 -- Stream 3
 
 abbrev with_streams : List Stream → ℕ → Here
-with_streams streams place = record {
-  next = record { program_counter = place; fuel = 5 };
-  beside = seeded 12345;
-  streams = streams;
-}
+with_streams streams place =
+    record (plain (seeded 12345) (record { program_counter = place; fuel = 5 })) { streams = streams }
 
 abbrev stream : ℕ → ℕ → Stream
 stream table from = record { table = table; from = from }
@@ -60,7 +58,7 @@ opened = refl
 
 closed : output_stream [] (with_streams (stream 64 2 ∷ []) 104) 107 (0xFFFD ∷ []) (state 0 empty (codes "abHi!"))
     ≡ done (with_streams [] 107) (state 0 (0 ∷ 3 ∷ codes "Hi!" ++ replicate 3 9) (codes "ab"))
-unfolding output_stream close characters_in write_bytes
+unfolding output_stream close characters_in write_bytes settled
 closed = refl
 
 -- the inner one of two; what it was given is not given to the outer one
@@ -69,7 +67,7 @@ inner : output_stream [] (with_streams (stream 72 4 ∷ stream 64 2 ∷ []) 104)
     (record (state 0 empty (codes "abHi")) {
       memory = replicate 15 0 ++ (80 ∷ []) ++ replicate 48 0 ++ replicate 8 9 ++ 0 ∷ 0 ∷ replicate 6 9;
     })
-unfolding output_stream close characters_in write_bytes
+unfolding output_stream close characters_in write_bytes settled
 inner = refl
 
 none_to_close : output_stream [] (with_streams [] 104) 107 (0xFFFD ∷ []) (state 0 empty (codes "ab"))
@@ -111,7 +109,7 @@ reads : read_line [] (with_streams (stream 68 4 ∷ stream 64 2 ∷ []) 104) 107
       memory = replicate 15 0 ++ (80 ∷ []) ++ replicate 48 0 ++ (0 ∷ 2 ∷ codes "Hi") ++ (0 ∷ 1 ∷ 33 ∷ 0 ∷ 2 ∷ []) ++ replicate 7 0;
       pending = Some (record { text_buffer = 72; parse_buffer = 0; result = None; return_address = 107 });
     })
-unfolding read_line close_all close characters_in write_bytes wait_for_line test_room test_slots_or_none test_result wait
+unfolding read_line begin_read show_upper close_all close characters_in write_bytes wait_for_line test_room test_slots_or_none test_result wait
 reads = refl
 
 -- Streams 2, 1 and 4

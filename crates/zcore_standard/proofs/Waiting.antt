@@ -17,7 +17,7 @@ use Rattle.zcore.proofs.WaitingParts.{waits_operand_values, waits_store_result, 
 use Rattle.zcore.proofs.WaitingEffects.{waits_branch_on, waits_give_result}
 use Rattle.zcore_standard.specs.declared.operations.Further.{Further}
 use Rattle.zcore_standard.specs.declared.operations.Further.TheVariants as operations
-use Rattle.zcore_standard.specs.Place.{Here, within}
+use Rattle.zcore_standard.specs.Place.{Here, past, within}
 use Rattle.zcore_standard.specs.Loaded.{Loaded}
 use Rattle.zcore_standard.specs.Operations.{further_at}
 use Rattle.zcore_standard.specs.Instruction.{Instruction, decode_further}
@@ -35,8 +35,10 @@ use Rattle.zcore_standard.proofs.WordFacts.{waits_tokenise, waits_encode_text}
 use Rattle.zcore_standard.proofs.Awaiting.{WaitsRight, WaitsFor, waits_right, for_then, for_well, for_read_line}
 use Rattle.zcore_standard.proofs.Awaiting.{for_read_key, halt_within}
 use Rattle.zcore_standard.proofs.StreamFacts.{waits_output_stream}
+use Rattle.zcore_standard.proofs.WindowFacts.{waits_set_window, waits_set_cursor, waits_erase_window}
+use Rattle.zcore_standard.proofs.WindowFacts.{waits_split_window}
 
--- The operations that leave window and dice as they are
+-- The operations that leave windows, dice and streams as they are
 
 waits_log_shift : (here : Next) (after : ℕ) (result : Option ℕ) (word places : ℕ)
     → Waits (log_shift here after result word places)
@@ -149,10 +151,7 @@ waits_perform_keeping loaded operations.CheckUnicode here after result branch va
     loaded.characters here after result (slice_index values 0)
 waits_perform_keeping loaded operations.ShowStatus here after result branch values = waits_goes_on after here.fuel
 waits_perform_keeping loaded operations.SetColour here after result branch values = waits_goes_on after here.fuel
-waits_perform_keeping loaded operations.SplitWindow here after result branch values = waits_goes_on after here.fuel
-waits_perform_keeping loaded operations.EraseWindow here after result branch values = waits_goes_on after here.fuel
 waits_perform_keeping loaded operations.EraseLine here after result branch values = waits_goes_on after here.fuel
-waits_perform_keeping loaded operations.SetCursor here after result branch values = waits_goes_on after here.fuel
 waits_perform_keeping loaded operations.SetTextStyle here after result branch values = waits_goes_on after here.fuel
 waits_perform_keeping loaded operations.BufferMode here after result branch values = waits_goes_on after here.fuel
 waits_perform_keeping loaded operations.InputStream here after result branch values = waits_goes_on after here.fuel
@@ -199,6 +198,14 @@ waits_perform_further loaded operations.ReadChar here after result branch values
     after result
 waits_perform_further loaded operations.OutputStream here after result branch values = for_well _ (waits_output_stream
     loaded.characters here after values)
+waits_perform_further loaded operations.SetWindow here after result branch values = for_well _
+    (waits_set_window (past here after) (slice_index values 0))
+waits_perform_further loaded operations.SetCursor here after result branch values = for_well _
+    (waits_set_cursor (past here after) (slice_index values 0) (slice_index values 1))
+waits_perform_further loaded operations.EraseWindow here after result branch values = for_well _
+    (waits_erase_window (past here after) (slice_index values 0))
+waits_perform_further loaded operations.SplitWindow here after result branch values = for_well _
+    (waits_split_window (past here after) (slice_index values 0))
 waits_perform_further loaded operation here after result branch values = for_well _ (waits_keeping loaded operation here
     after result branch values)
 

@@ -11,7 +11,7 @@ use Rattle.zcore.specs.Parts.{test, test_result, store_result, wait, goes_on}
 use Rattle.zcore.specs.State.{Pending, State, Out, ◌>>=◌}
 use Rattle.zcore.specs.Turn.{with_bytes, with_letters}
 use Rattle.zcore_standard.specs.Place.{Here, within}
-use Rattle.zcore_standard.specs.Streams.{close_all}
+use Rattle.zcore_standard.specs.Streams.{begin_read}
 use Rattle.zcore_standard.specs.Words.{are_writable, has_slots, letters_in, slots_bytes}
 
 -- Waiting
@@ -48,16 +48,16 @@ wait_for_key after result = do
   _ ← test_result result
   wait (record { text_buffer = 0; parse_buffer = 0; result = result; return_address = after })
 
--- aread: every stream is closed first
+-- aread: every stream is closed first, and the upper window is shown if that is selected
 unfoldable pub read_line : List ℕ → Here → ℕ → Option ℕ → ℕ → ℕ → State → Out Here
 read_line extra here after result text parse = do
-  _ ← close_all extra here.streams
+  _ ← begin_read extra here
   (λ s. within here (wait_for_line after result text parse s))
 
 -- read_char: the same
 unfoldable pub read_key : List ℕ → Here → ℕ → Option ℕ → State → Out Here
 read_key extra here after result = do
-  _ ← close_all extra here.streams
+  _ ← begin_read extra here
   (λ s. within here (wait_for_key after result s))
 
 -- The line that is given to aread

@@ -2,14 +2,15 @@
 -- what the player writes, are always on. Stream 3 goes to a table in memory: what is printed while it is open is text
 -- of the turn until the stream is closed, and is then cut from the text and written to the table.
 use Rattle.std.specs.Prelude.{◌==◌, ◌+◌, ◌-◌, ◌*◌, ◌/◌, ◌%◌, ℕ, nat_lt, if◌then◌else◌, List, [], ◌∷◌}
-use Rattle.std.specs.Prelude.{drop, length, map, slice_index, slice_set, take, Option}
+use Rattle.std.specs.Prelude.{drop, length, map, slice_index, slice_set, take}
 use Rattle.zcore.specs.declared.place.Fault.TheVariants as faults
 use Rattle.zcore.specs.Execution.{first, second}
 use Rattle.zcore.specs.Parts.{fault, test}
 use Rattle.zcore.specs.State.{State, Out, done, ◌>>=◌}
 use Rattle.zcore_standard.specs.declared.streams.Begun.{Begun}
 use Rattle.zcore_standard.specs.declared.streams.Stream.{Stream}
-use Rattle.zcore_standard.specs.Place.{Here}
+use Rattle.zcore_standard.specs.Place.{Here, past}
+use Rattle.zcore_standard.specs.Windows.{lower, settled, show_upper}
 use Rattle.zcore_standard.specs.Words.{write_bytes}
 
 -- From the text of a turn to ZSCII
@@ -94,11 +95,10 @@ close extra stream = do
 
 -- the innermost stream is closed, if there is one
 abbrev pub close_first : List ℕ → Here → ℕ → List Stream → State → Out Here
-close_first extra here after [] = λ s.
-    done (record here { next = record here.next { program_counter = after } }) s
+close_first extra here after [] = done (past here after)
 close_first extra here after (stream ∷ streams) = do
   _ ← close extra stream
-  (λ s. done (record here { next = record here.next { program_counter = after }; streams = streams }) s)
+  settled (record (past here after) { streams = streams })
 
 -- each stream is closed, the innermost first
 unfoldable pub close_all : List ℕ → List Stream → State → Out (Unit {0})
@@ -112,6 +112,10 @@ abbrev pub heard : List Stream → List ℕ → List ℕ
 heard [] text = text
 heard (stream ∷ streams) text = heard streams (take stream.from text)
 
+-- what is heard of a text: neither what goes to open streams nor what is in the upper window
+abbrev pub heard_of : Here → List ℕ → List ℕ
+heard_of here text = lower here.upper (heard here.streams text)
+
 -- Stream 2
 
 -- the second byte of Flags 2 in the header, of which bit 0 tells whether the transcript is on (7.4 and 11.1)
@@ -123,9 +127,7 @@ with_transcript memory bit = slice_set memory flags_2_low (slice_index memory fl
 
 -- tells so, by 0 or 1; what is written does not change
 unfoldable pub set_transcript : Here → ℕ → ℕ → State → Out Here
-set_transcript here after bit s = done
-    (record here { next = record here.next { program_counter = after } })
-    (record s { memory = with_transcript s.memory bit })
+set_transcript here after bit s = done (past here after) (record s { memory = with_transcript s.memory bit })
 
 -- output_stream
 
@@ -139,7 +141,15 @@ select_stream extra here after number values =
     else (if number == closing 3 then close_first extra here after here.streams
     else (if number == 2 then set_transcript here after 1
     else (if number == closing 2 then set_transcript here after 0
-    else (λ s. done (record here { next = record here.next { program_counter = after } }) s))))
+    else done (past here after))))
 
 unfoldable pub output_stream : List ℕ → Here → ℕ → List ℕ → State → Out Here
 output_stream extra here after values = select_stream extra here after (first values) values
+
+-- Waiting for a line or a key
+
+-- what a read does first: it closes every stream, and shows the upper window if that is selected
+unfoldable pub begin_read : List ℕ → Here → State → Out (Unit {0})
+begin_read extra here = do
+  _ ← close_all extra here.streams
+  show_upper here
