@@ -6,10 +6,8 @@ use std::fmt;
 use survey_opcodes::{Numbering, Opcode};
 use zcore::Fault;
 
-/// The opcodes among those of any number of operands that `--standard` does not play yet.
+/// The opcode among those of any number of operands that `--standard` does not play yet.
 const SET_WINDOW: u8 = 11;
-
-const READ_CHAR: u8 = 22;
 
 /// Where a story stands. `Display` writes it in words, a fault as `M7: division by zero at 0F31`.
 #[derive(Clone, Copy)]
@@ -120,7 +118,7 @@ fn wrong_in_profile(opcode: Opcode) -> &'static str {
 /// Standard names, or it has operands that it does not take.
 fn wrong_in_standard(opcode: Opcode) -> &'static str {
     match (opcode.numbering, opcode.number) {
-        (Numbering::Several, SET_WINDOW | READ_CHAR) => "is not played yet",
+        (Numbering::Several, SET_WINDOW) => "is not played yet",
         _ if opcode.name().is_some() => "has operands that it does not take",
         _ => "is not known",
     }

@@ -1,6 +1,6 @@
 -- A read never goes on, and it waits only for what can be given.
-use Rattle.std.proofs.Common.{◌≡◌, ℕ, ◌+◌, ◌*◌, ◌≤◌, List, [], ◌∷◌, length, refl, ap, arith, Bool, true, false, cond, slice_index}
-use Rattle.std.proofs.Common.{Option, Some, None, subst, sym, ◌∙◌}
+use Rattle.std.proofs.Common.{◌≡◌, ℕ, ◌+◌, ◌*◌, List, [], ◌∷◌, length, refl, ap, arith, Bool, true, false, slice_index}
+use Rattle.std.proofs.Common.{Option, Some, None, subst, ◌∙◌}
 use Rattle.std.specs.Prelude.{◌==◌, ◌&&◌, ◌||◌, nat_le, nat_lt}
 use Rattle.std.proofs.lemmas.Bool.{and_parts, leb-true, le-leb, eqb-true}
 use Rattle.zcore.specs.declared.next.Next.{Next}

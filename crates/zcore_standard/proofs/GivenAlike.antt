@@ -1,19 +1,18 @@
 -- Where no letters are left over, a line is given as in the profile.
-use Rattle.std.proofs.Common.{◌≡◌, ℕ, ◌+◌, ◌-◌, ◌≤◌, ◌<◌, zero, suc, List, [], ◌∷◌, ◌++◌, length, map, take, drop, refl, ap, sym}
-use Rattle.std.proofs.Common.{◌∙◌, arith, Bool, true, false, cond, slice_index, Option, Some, None}
+use Rattle.std.proofs.Common.{◌≡◌, ℕ, ◌+◌, ◌-◌, zero, suc, List, [], ◌∷◌, ◌++◌, length, map, take, refl, ap}
+use Rattle.std.proofs.Common.{◌∙◌, arith, Bool, true, false, cond, slice_index}
 use Rattle.std.specs.Prelude.{◌==◌, ◌&&◌, nat_le}
 use Rattle.std.specs.List.{AllByRecursion, flat_map}
-use Rattle.std.proofs.lemmas.Bool.{and_parts, leb-true, leb-false, lt-leb, eqb-true, ne_eqb}
+use Rattle.std.proofs.lemmas.Bool.{and_parts, leb-true, lt-leb, eqb-true, ne_eqb}
 use Rattle.ztext.specs.Text.{lower_case, key_of}
-use Rattle.zcore.specs.declared.next.Next.{Next}
 use Rattle.zcore.specs.Cutting.{Word, is_among, with_run, words_from, words_of}
 use Rattle.zcore.specs.Header.{dictionary_of}
 use Rattle.zcore.specs.Parsing.{separators_of, first_words, entry_for, word_bytes}
-use Rattle.zcore.specs.Parts.{is_text_buffer, store_result, goes_on}
-use Rattle.zcore.specs.State.{Pending, State, Out, bound}
+use Rattle.zcore.specs.Parts.{is_text_buffer}
+use Rattle.zcore.specs.State.{Pending, State}
 use Rattle.zcore.specs.Turn as turns
 use Rattle.zcore.specs.Turn.{with_bytes, with_letters, letters_for, given}
-use Rattle.zcore_standard.specs.Reading.{letters_with, with_words, with_line, memory_given, result_given, standard_given}
+use Rattle.zcore_standard.specs.Reading.{letters_with, with_words, memory_given, result_given, standard_given}
 use Rattle.zcore_standard.specs.Words.{form_of, entry_with_form, slots_bytes}
 
 -- Letters that are small already

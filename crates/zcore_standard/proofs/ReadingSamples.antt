@@ -1,5 +1,5 @@
 -- The line that is given to a waiting machine, computed.
-use Rattle.std.proofs.Common.{◌≡◌, ℕ, List, [], ◌∷◌, ◌++◌, replicate, Some, None, refl}
+use Rattle.std.proofs.Common.{◌≡◌, ℕ, List, [], ◌∷◌, ◌++◌, replicate, Some, refl}
 use Rattle.std.specs.Prelude.{codes}
 use Rattle.zcore.specs.Cutting.{words_of}
 use Rattle.zcore.specs.Dictionary.{entry_of}
