@@ -1,6 +1,6 @@
 use Rattle.std.proofs.Common.{◌≡◌, ◌+◌, ◌-◌, ap, ◌∙◌, sym, arith, length, take, slice_index}
 use Rattle.std.proofs.lemmas.List.{length-take-le, take_min}
-use Rattle.machine_standard_words.proofs.Typed.{letters_are}
+use Rattle.machine_standard_words.proofs.TypedLines.{letters_are}
 use Rattle.machine_standard_words.proofs.typed.put_letters.Goals as goal
 
 pub returns-clause-letters : goal.returns-clause-letters
