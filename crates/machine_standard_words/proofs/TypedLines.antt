@@ -21,7 +21,6 @@ use Rattle.machine_frames.specs.Went.{Went, Told}
 use Rattle.machine_frames.specs.declared.end.End.{End}
 use Rattle.machine_frames.proofs.Steps.{goes_on_after, went_then, went_no_further, went_still, went_sound}
 use Rattle.machine_lines.specs.Lines.{Filled, WaitsNoMore}
-use Rattle.machine_lines.proofs.Buffers.{given_as}
 use Rattle.machine_lines.proofs.Filling.{filled_then}
 use Rattle.machine_standard_words.proofs.Tokens.{slots_numbers}
 
@@ -43,7 +42,7 @@ room_numbers memory text h =
       left = leb-true (slice_index memory (text + 1)) (slice_index memory text) a.1;
     }
 
-or_false : (a b : Bool) → a ≡ false → (a || b) ≡ true → b ≡ true
+pub or_false : (a b : Bool) → a ≡ false → (a || b) ≡ true → b ≡ true
 or_false true b e h = absurd (cc)
 or_false false b e h = h
 
