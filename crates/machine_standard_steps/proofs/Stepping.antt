@@ -1,5 +1,5 @@
 -- A step of the Standard's machine, from its parts.
-use Rattle.std.proofs.Common.{◌≡◌, ◌<◌, ℕ, List, None, Some, Result, Ok, Err, refl, ap, subst}
+use Rattle.std.proofs.Common.{◌≡◌, ◌<◌, ℕ, List, Option, None, Some, Result, Ok, Err, refl, ap, subst}
 use Rattle.std.specs.Prelude.{IfOk}
 use Rattle.std.specs.Result.{IsErrAnd}
 use Rattle.std.proofs.lemmas.Result.{err_from_is_err_and}
@@ -7,10 +7,13 @@ use Rattle.journal.specs.Recording.{Recording}
 use Rattle.zcore.specs.declared.next.Next.{Next}
 use Rattle.zcore.specs.declared.place.Fault.{Fault}
 use Rattle.zcore.specs.declared.place.Place.TheVariants as places
+use Rattle.zcore.specs.Execution.{read}
 use Rattle.zcore.specs.Parts.{fault, operand_values}
 use Rattle.zcore.specs.State.{State, Out}
 use Rattle.zcore.specs.Turn.{weight}
 use Rattle.zcore_standard.specs.declared.operations.Further.{Further}
+use Rattle.zcore_standard.specs.declared.streams.Stream.{Stream}
+use Rattle.zcore_standard.specs.Streams.{close_all, read_line}
 use Rattle.zcore_standard.specs.Place.{Here, on, within}
 use Rattle.zcore_standard.specs.Loaded.{Loaded}
 use Rattle.zcore_standard.specs.Instruction.{Instruction, decode_further}
@@ -24,7 +27,7 @@ use Rattle.machine_frames.specs.States.{state_of, IsSound}
 use Rattle.machine_frames.specs.Went.{Went, Told}
 use Rattle.machine_frames.specs.declared.end.End.{End}
 use Rattle.machine_frames.specs.declared.end.End.TheVariants as ends
-use Rattle.machine_frames.proofs.Steps.{went_no_further, told_as, told_went, told_then, told_halt}
+use Rattle.machine_frames.proofs.Steps.{went_no_further, told_no_further, told_as, told_went, told_then, told_halt}
 use Rattle.machine_opcodes.specs.Seen.{seen}
 use Rattle.machine_standard_opcodes.specs.Around.{place}
 use Rattle.machine_standard_opcodes.specs.declared.around.Around.{Around}
@@ -99,3 +102,27 @@ pub told_err_seen : {s t : Recording Contents} {x y : List ℕ} {e : End} {f : S
 told_err_seen view r h w =
     let p = err_from_is_err_and r h in
     rw (p.1, p.2) w
+
+-- A line is waited for after the streams are closed
+
+pub read_stops : {s t : Recording Contents} {x y : List ℕ} {e : End} (view : Next → Here) (r : Result Next End)
+    (extra characters : List ℕ) (streams : List Stream) (here : Here) (after : ℕ) (result : Option ℕ)
+    (text_buffer parse_buffer : ℕ) → IsErrAnd r (λ q. q ≡ e) → characters ≡ extra → streams ≡ here.streams
+    → Told {A = Unit {0}} (Err e) s x t y (close_all characters streams)
+    → Told (seen view r) s x t y (read_line extra here after result text_buffer parse_buffer)
+unfolding read_line
+read_stops {s} {t} {x} {y} {e} view r extra characters streams here after result text_buffer parse_buffer h a b w =
+    told_err_seen view r h (told_no_further _ (subst (λ c. Told {A = Unit {0}} (Err e) s x t y
+    (close_all c here.streams)) a (subst (λ l. Told {A = Unit {0}} (Err e) s x t y (close_all characters l)) b w)))
+
+pub read_goes : {s t u : Recording Contents} {x y : List ℕ} (r : Result Next End) (extra characters : List ℕ)
+    (streams : List Stream) (here : Here) (after : ℕ) (result : Option ℕ) (text_buffer parse_buffer : ℕ)
+    → characters ≡ extra → streams ≡ here.streams
+    → Told (Ok tt) s x t y (close_all characters streams)
+    → Went r t u (read here.next after result text_buffer parse_buffer)
+    → Told (seen (on here) r) s x u y (read_line extra here after result text_buffer parse_buffer)
+unfolding read_line
+read_goes {s} {t} {u} {x} {y} r extra characters streams here after result text_buffer parse_buffer a b w v =
+    told_then _ (subst (λ c. Told (Ok tt) s x t y (close_all c here.streams)) a
+    (subst (λ l. Told (Ok tt) s x t y (close_all characters l)) b w))
+    (told_within r here (read here.next after result text_buffer parse_buffer) (told_went _ _ v))

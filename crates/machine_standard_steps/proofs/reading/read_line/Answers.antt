@@ -1,20 +1,17 @@
-use Rattle.std.proofs.Common.{ap, ◌∙◌}
-use Rattle.zcore_standard.specs.Streams.{read_line}
-use Rattle.machine_frames.proofs.Steps.{told_then, told_no_further, told_went, told_store}
+use Rattle.machine_frames.proofs.Steps.{told_store}
 use Rattle.machine_standard_opcodes.specs.Around.{place}
-use Rattle.machine_standard_opcodes.proofs.Keeping.{told_within}
-use Rattle.machine_standard_steps.proofs.Stepping.{told_err_seen}
+use Rattle.machine_standard_steps.proofs.Stepping.{read_stops, read_goes}
 use Rattle.machine_standard_steps.proofs.reading.read_line.Goals as goal
 
 pub returns-in_err-close_all-clause-told : goal.returns-in_err-close_all-clause-told
-unfolding read_line
-returns-in_err-close_all-clause-told c = told_err_seen (place c.args.around.now) _ c.from_residual.ensures.1
-    (told_no_further _ c.in_err-close_all.ensures.told)
+returns-in_err-close_all-clause-told c = read_stops (place c.args.around.now) _ c.args.loaded.now.characters _ _
+    (place c.args.around.now c.args.here) _ _ _ _ c.from_residual.ensures.1 c.characters.ensures
+    c.as_slice-streams.ensures.value c.in_err-close_all.ensures.told
 
-pub read-requires-clause-store : goal.read-requires-clause-store
-read-requires-clause-store c = told_store c.requires.store c.in_ok-close_all.ensures.told
+pub read-requires : goal.read-requires
+read-requires c = told_store c.requires.store c.in_ok-close_all.ensures.told
 
 pub returns-clause-told : goal.returns-clause-told
-unfolding read_line
-returns-clause-told c = told_then _ c.in_ok-close_all.ensures.told
-    (told_within c.read.result (place c.args.around.now c.args.here) _ (told_went _ _ c.read.ensures))
+returns-clause-told c = read_goes c.read.result c.args.loaded.now.characters _ _ (place c.args.around.now c.args.here) _
+    _ _ _ c.characters.ensures c.as_slice-streams.ensures.value c.in_ok-close_all.ensures.told
+    (rw c.value_or-parse_buffer.ensures at c.read.ensures)
