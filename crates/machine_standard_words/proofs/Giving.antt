@@ -16,7 +16,7 @@ use Rattle.machine_frames.specs.declared.end.End.TheVariants as ends
 use Rattle.machine_frames.proofs.Steps.{goes_on_still, goes_on_after, given_up_after, went_then, went_no_further}
 use Rattle.machine_frames.proofs.Steps.{went_still, went_sound}
 use Rattle.machine_lines.specs.Lines.{Filled, WaitsNoMore}
-use Rattle.machine_standard_words.proofs.Typed.{or_false}
+use Rattle.machine_standard_words.proofs.TypedLines.{or_false}
 
 -- What a line is given to
 

@@ -2,6 +2,6 @@ pub mod Forms
 pub mod Filling
 pub mod Encoding
 pub mod Tokens
-pub mod Typed
+pub mod TypedLines
 pub mod Giving
-pub mod Waiting
+pub mod BufferTests

@@ -44,10 +44,7 @@ pub(crate) fn fill_line(
 {
     let mut letters = [0; MOST_LETTERS];
     let count = put_letters(store.store().memory(), text as usize, line, &mut letters);
-    if parse == 0 {
-        return fill_counted(store, text as usize + 1, count as u8, &letters[..count]);
-    }
-    fill_words(header, store, text as usize, parse as usize, &letters[..count])
+    fill_letters(header, store, text as usize, parse as usize, &letters[..count])
 }
 
 /// Writes the letters that a text buffer has after a line to the front of a row, and answers how many
@@ -56,6 +53,7 @@ fn put_letters(memory: &[u8], text: usize, line: &[u8], letters: &mut [u8; 255])
     requires within { text + 2 + slice_index memory.now text ≤ length memory.now }
     requires left { slice_index memory.now (text + 1) ≤ slice_index memory.now text }
     ensures few { result ≤ slice_index memory.now text }
+    ensures most { result ≤ 255 }
     ensures letters { take result letters.new ≡ definitions.letters_with memory.now text line.now }
 {
     let left = memory[text + 1] as usize;
@@ -95,6 +93,30 @@ fn lower_case(letter: u8) -> u8
     } else {
         letter
     }
+}
+
+/// Fills the buffers with letters and their words. Parse buffer 0 is none.
+fn fill_letters(
+    header: &Header,
+    store: &mut Recorded<Store>,
+    text: usize,
+    parse: usize,
+    letters: &[u8],
+) -> Result<(), NoMemory>
+    requires store { IsStoreOf header.now store.old.store }
+    requires few { length letters.now ≤ 255 }
+    requires past_header { header_size ≤ text }
+    requires room { HasRoomForLetters store.old.store text (length letters.now) }
+    requires words_past_header { parse ≢ 0 → header_size ≤ parse }
+    requires words_room { HasRoomForWords store.old.store parse }
+    ensures filled { OnOk result (Filled store.old store.new
+        (definitions.with_line (memory_of store.old.store) text parse letters.now)) }
+    ensures given_up { OnErr result (GivenUp store.old store.new) }
+{
+    if parse == 0 {
+        return fill_counted(store, text + 1, letters.len() as u8, letters);
+    }
+    fill_words(header, store, text, parse, letters)
 }
 
 /// Fills both buffers with letters and their words. The words are found before a byte is written.

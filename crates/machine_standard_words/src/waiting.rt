@@ -90,9 +90,19 @@ fn test_slots_or_none(header: &Header, store: &Recorded<Store>, parse: u16) -> R
     requires { IsStoreOf header.now store.now.store }
     ensures { Went result store.now store.now (definitions.test_slots_or_none parse) }
 {
-    if parse == 0 || has_slots(store.store().memory(), header.static_base, parse) {
+    if has_slots_or_none(store.store().memory(), header.static_base, parse) {
         Ok(())
     } else {
         Err(End::Stop(Place::Fault(Fault::Buffer)))
     }
+}
+
+/// Whether words can be written to a parse buffer, or there is none, in a story with this static
+/// base.
+fn has_slots_or_none(memory: &[u8], static_base: u16, parse: u16) -> bool
+    requires base { static_base ≡ static_base_of memory.now }
+    requires within { static_base ≤ length memory.now }
+    ensures { result ≡ definitions.has_slots_or_none memory.now parse }
+{
+    parse == 0 || has_slots(memory, static_base, parse)
 }

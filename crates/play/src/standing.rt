@@ -6,9 +6,6 @@ use std::fmt;
 use survey_opcodes::{Numbering, Opcode};
 use zcore::Fault;
 
-/// The opcode among those of any number of operands that `--standard` does not play yet.
-const READ_CHAR: u8 = 22;
-
 /// Where a story stands. `Display` writes it in words, a fault as `M7: division by zero at 0F31`.
 #[derive(Clone, Copy)]
 pub struct Standing {
@@ -117,9 +114,8 @@ fn wrong_in_profile(opcode: Opcode) -> &'static str {
 /// What is wrong with an opcode with `--standard`: it is not played yet, it is none that the
 /// Standard names, or it has operands that it does not take.
 fn wrong_in_standard(opcode: Opcode) -> &'static str {
-    match (opcode.numbering, opcode.number) {
-        (Numbering::Several, READ_CHAR) => "is not played yet",
-        _ if opcode.name().is_some() => "has operands that it does not take",
-        _ => "is not known",
+    match opcode.name() {
+        Some(_) => "has operands that it does not take",
+        None => "is not known",
     }
 }

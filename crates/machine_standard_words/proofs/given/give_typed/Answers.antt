@@ -8,8 +8,8 @@ use Rattle.machine_lines.proofs.Lines.{pending_parts}
 use Rattle.machine_standard_words.proofs.Giving.{given_told, word_went, word_stops}
 use Rattle.machine_standard_words.proofs.given.give_typed.Goals as goal
 
-pub take_typed-word-requires-clause-given : goal.take_typed-word-requires-clause-given
-take_typed-word-requires-clause-given c =
+pub take_typed-requires-clause-given : goal.take_typed-requires-clause-given
+take_typed-requires-clause-given c =
     let s = c.args.store.now.store in
     let w = c.requires.waiting in
     let parts = sym (pending_parts (slice_index s.cells) w.pending w.waits) in

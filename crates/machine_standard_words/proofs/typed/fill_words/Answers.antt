@@ -4,7 +4,7 @@ use Rattle.zcore.specs.Header.{HasDictionaryHead, IsDictionary}
 use Rattle.machine_frames.specs.Contents.{memory_of}
 use Rattle.machine_frames.proofs.Kept.{length-memory}
 use Rattle.machine_lines.proofs.Lines.{base_kept}
-use Rattle.machine_standard_words.proofs.Typed.{typed_filled}
+use Rattle.machine_standard_words.proofs.TypedLines.{typed_filled}
 use Rattle.machine_standard_words.proofs.typed.fill_words.Goals as goal
 
 pub bounds-memory-parse : goal.bounds-memory-parse

@@ -1,7 +1,7 @@
 use Rattle.std.proofs.Common.{ap, ◌∙◌, sym, arith, length}
 use Rattle.machine_frames.specs.Contents.{memory_of}
 use Rattle.machine_frames.proofs.Kept.{length-memory}
-use Rattle.machine_standard_words.proofs.Waiting.{room_found, no_room}
+use Rattle.machine_standard_words.proofs.BufferTests.{room_found, no_room}
 use Rattle.machine_standard_words.proofs.waiting.test_room.Goals as goal
 
 pub has_room-requires-clause-within : goal.has_room-requires-clause-within

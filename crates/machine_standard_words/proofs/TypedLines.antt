@@ -1,9 +1,9 @@
 -- The letters and words of a line that is typed.
 use Rattle.std.proofs.Common.{◌≡◌, ◌≢◌, ℕ, suc, ◌+◌, ◌-◌, ◌*◌, ◌<◌, ◌≤◌, List, [], ◌∷◌, ◌++◌, length, map, set, take, drop, ap}
 use Rattle.std.proofs.Common.{sym, ◌∙◌, subst, arith, refl, true, false, Bool, None, Ok, Err, Result, slice_index, append_assoc}
-use Rattle.std.specs.Prelude.{◌==◌, ◌||◌, OnOk}
+use Rattle.std.specs.Prelude.{◌==◌, ◌||◌, OnOk, slice_range}
 use Rattle.std.proofs.lemmas.Bool.{and_parts, leb-true, ne_eqb, eq-eqb}
-use Rattle.std.proofs.lemmas.List.{take_min}
+use Rattle.std.proofs.lemmas.List.{length-take-le, length-drop}
 use Rattle.journal.specs.Recording.{Recording}
 use Rattle.ztext.specs.Text.{lower_case}
 use Rattle.zcore.specs.declared.next.Next.{Next}
@@ -21,7 +21,6 @@ use Rattle.machine_frames.specs.Went.{Went, Told}
 use Rattle.machine_frames.specs.declared.end.End.{End}
 use Rattle.machine_frames.proofs.Steps.{goes_on_after, went_then, went_no_further, went_still, went_sound}
 use Rattle.machine_lines.specs.Lines.{Filled, WaitsNoMore}
-use Rattle.machine_lines.proofs.Buffers.{given_as}
 use Rattle.machine_lines.proofs.Filling.{filled_then}
 use Rattle.machine_standard_words.proofs.Tokens.{slots_numbers}
 
@@ -43,7 +42,7 @@ room_numbers memory text h =
       left = leb-true (slice_index memory (text + 1)) (slice_index memory text) a.1;
     }
 
-or_false : (a b : Bool) → a ≡ false → (a || b) ≡ true → b ≡ true
+pub or_false : (a b : Bool) → a ≡ false → (a || b) ≡ true → b ≡ true
 or_false true b e h = absurd (cc)
 or_false false b e h = h
 
@@ -58,6 +57,19 @@ slots_given memory parse h some =
     record { past = s.past; room = s.room }
 
 -- Letters
+
+-- the letters that were left over, at the front of a row
+pub front_is : (memory : List ℕ) (text left : ℕ) (new : List ℕ) → left ≡ slice_index memory (text + 1)
+    → text + 2 + left ≤ length memory
+    → take (length (slice_range memory (text + 2) (text + 2 + left))) new
+    ≡ slice_range memory (text + 2) (text + 2 + left)
+    → take left new ≡ letters_in memory text
+front_is memory text left new is within e =
+    let many : text + 2 + left - (text + 2) ≡ left = omega arith in
+    let long : length (slice_range memory (text + 2) (text + 2 + left)) ≡ left =
+    length-take-le (text + 2 + left - (text + 2)) (drop (text + 2) memory)
+    (omega (arith, within, length-drop (text + 2) memory)) ∙ many in
+    ap (λ n. take n new) (sym long) ∙ e ∙ ap (λ n. slice_range memory (text + 2) (text + 2 + n)) is
 
 pub letters_are : (memory : List ℕ) (text count left : ℕ) (line old new : List ℕ)
     → left ≡ slice_index memory (text + 1) → length (take count line) ≡ count
