@@ -13,21 +13,20 @@ use Rattle.zcore.specs.Layout.{text_limit}
 use Rattle.zcore.specs.State.{State, Out, done}
 use Rattle.zcore_standard.specs.declared.windows.Upper.{Upper}
 use Rattle.zcore_standard.specs.Place.{Here}
-use Rattle.zcore_standard.specs.Windows.{row_of, with_cursor, without_spaces, drawn, redraw, put_cursor, cursor_to}
+use Rattle.zcore_standard.specs.Windows.{row_of, with_cursor, without_spaces, drawn, redraw, put_cursor}
 use Rattle.zcore_standard.specs.Windows.{with_new_line, with_upper, show_text}
 use Rattle.machine_frames.specs.Contents.{Contents}
 use Rattle.machine_frames.specs.States.{state_of, IsSound}
 use Rattle.machine_frames.specs.Went.{Told}
 use Rattle.machine_frames.specs.declared.end.End.{End}
 use Rattle.machine_frames.specs.declared.end.End.TheVariants as ends
-use Rattle.machine_frames.proofs.Steps.{goes_on_still, told_halt, told_no_further, told_sound, told_still, told_then}
+use Rattle.machine_frames.proofs.Steps.{goes_on_still, told_halt}
 use Rattle.machine_opcodes.specs.Printed.{HasBegun}
-use Rattle.machine_opcodes.specs.Seen.{seen}
 use Rattle.machine_standard_opcodes.specs.Around.{place, Keeps}
 use Rattle.machine_standard_opcodes.specs.Drawn.{Redraws, place_at}
 use Rattle.machine_standard_opcodes.specs.declared.around.Around.{Around}
 use Rattle.machine_standard_opcodes.proofs.Cuts.{text_cut, text_behind, keeps_cut}
-use Rattle.machine_standard_opcodes.proofs.Lines.{lines_apart}
+use Rattle.machine_standard_opcodes.proofs.TextLines.{lines_apart}
 
 -- The text of a turn, of which the end changes
 
@@ -173,11 +172,3 @@ pub redraws_told : (s : Recording Contents) (start : ℕ) (old new : Around) (x 
 redraws_told s start old new x y f next sound r = record {
   told = (goes_on_still s sound, r next (state_of s.store (drop start x)));
 }
-
--- the cursor was set, and the place is another
-pub cursor_told : {s t : Recording Contents} {x y : List ℕ} (r : Result Upper End) (here : Here) (upper : Upper)
-    (row column : ℕ) → Told r s x t y (put_cursor upper row column)
-    → Told (seen (λ moved. record here { upper = Some moved }) r) s x t y (cursor_to here upper row column)
-cursor_told (Ok moved) here upper row column w =
-    told_then _ w (told_still _ _ _ (told_sound w) refl)
-cursor_told (Err e) here upper row column w = told_no_further _ w

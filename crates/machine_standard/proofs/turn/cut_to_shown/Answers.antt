@@ -11,4 +11,4 @@ pub returns-in-Waiting-clause-text : goal.returns-in-Waiting-clause-text
 returns-in-Waiting-clause-text c = keeps_still _ _ c.requires
 
 pub returns-clause-shown : goal.returns-clause-shown
-returns-clause-shown c = λ here. c.cut_to_heard.ensures.heard ∙ sym (shown_heard (place c.args.around.now here) _ _ c.match-end.other)
+returns-clause-shown c = λ here. c.cut_to_heard.ensures.heard here ∙ sym (shown_heard (place c.args.around.now here) _ _ c.match-end.other)

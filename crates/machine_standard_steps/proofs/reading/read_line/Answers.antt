@@ -6,15 +6,15 @@ use Rattle.machine_standard_opcodes.proofs.Keeping.{told_within}
 use Rattle.machine_standard_steps.proofs.Stepping.{told_err_seen}
 use Rattle.machine_standard_steps.proofs.reading.read_line.Goals as goal
 
-pub returns-in_err-close_all-clause-told : goal.returns-in_err-close_all-clause-told
+pub returns-in_err-begin_read-clause-told : goal.returns-in_err-begin_read-clause-told
 unfolding read_line
-returns-in_err-close_all-clause-told c = told_err_seen (place c.args.around.now) _ c.from_residual.ensures.1
-    (told_no_further _ c.in_err-close_all.ensures.told)
+returns-in_err-begin_read-clause-told c = told_err_seen (place c.args.around.now) _ c.from_residual.ensures.1
+    (told_no_further _ (c.in_err-begin_read.ensures.told c.args.here))
 
 pub read-requires-clause-store : goal.read-requires-clause-store
-read-requires-clause-store c = told_store c.requires.store c.in_ok-close_all.ensures.told
+read-requires-clause-store c = told_store c.requires.store (c.in_ok-begin_read.ensures.told c.args.here)
 
 pub returns-clause-told : goal.returns-clause-told
 unfolding read_line
-returns-clause-told c = told_then _ c.in_ok-close_all.ensures.told
+returns-clause-told c = told_then _ (c.in_ok-begin_read.ensures.told c.args.here)
     (told_within c.read.result (place c.args.around.now c.args.here) _ (told_went _ _ c.read.ensures))
