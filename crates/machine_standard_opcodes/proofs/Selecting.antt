@@ -1,5 +1,6 @@
 -- The opcodes of windows, by the windows that are there.
-use Rattle.std.proofs.Common.{◌≡◌, ◌≢◌, ℕ, ◌-◌, ◌≤◌, List, [], ◌∷◌, length, drop, refl, ap, sym, ◌∙◌, subst, arith}
+use Rattle.std.proofs.Common.{◌≡◌, ◌≢◌, ℕ, ◌-◌, ◌≤◌, List, [], ◌∷◌, length, take, drop, refl, ap, sym}
+use Rattle.std.proofs.Common.{◌∙◌, subst, arith, ◌⊎◌, inl, inr}
 use Rattle.std.proofs.Common.{Bool, true, false, Option, Some, None, Result, Ok, Err}
 use Rattle.std.specs.Prelude.{◌&&◌}
 use Rattle.std.specs.Result.{IsErrAnd}
@@ -13,12 +14,12 @@ use Rattle.zcore_standard.specs.declared.windows.Upper.{Upper}
 use Rattle.zcore_standard.specs.Place.{Here, is_none_open}
 use Rattle.zcore_standard.specs.Windows.{lower, begun_at, put_cursor, cursor_to, open_upper, is_place, set_cursor}
 use Rattle.zcore_standard.specs.Windows.{settled_in, settled, with_window, set_window, erased_in, erase_upper}
-use Rattle.zcore_standard.specs.Windows.{show_upper, show_text}
+use Rattle.zcore_standard.specs.Windows.{erase_window, split_window, show_in, show_text}
 use Rattle.machine_frames.specs.Contents.{Contents}
 use Rattle.machine_frames.specs.States.{state_of, IsSound}
 use Rattle.machine_frames.specs.Went.{Told}
 use Rattle.machine_frames.specs.declared.end.End.{End}
-use Rattle.machine_frames.proofs.Steps.{told_no_further, told_sound, told_still, told_then}
+use Rattle.machine_frames.proofs.Steps.{goes_on_still, told_no_further, told_sound, told_still, told_then}
 use Rattle.machine_opcodes.specs.Seen.{seen}
 use Rattle.machine_standard_opcodes.specs.Around.{place}
 use Rattle.machine_standard_opcodes.specs.Drawn.{Redraws}
@@ -72,14 +73,14 @@ settles_lower start around x y none e cut next s =
     rw (eq-eqb around.beside.window 0 e) refl in
     first ∙ second ∙ ap (λ l. done (record (place around next) { upper = None }) (record s { text = l })) (sym cut)
 
-pub settles_begun : (start from : ℕ) (around : Around) (x : List ℕ) → length around.streams.items ≡ 0
-    → around.beside.window ≢ 0 → around.upper ≡ None → from ≡ length (drop start x)
-    → Redraws start around (record around { upper = Some (begun_at from) }) x x settled
-settles_begun start from around x none not e long next s =
+pub settles_begun : (start from : ℕ) (fresh : Upper) (around : Around) (x : List ℕ) → length around.streams.items ≡ 0
+    → around.beside.window ≢ 0 → around.upper ≡ None → fresh ≡ begun_at from → from ≡ length (drop start x)
+    → Redraws start around (record around { upper = Some fresh }) x x settled
+settles_begun start from fresh around x none not e new long next s =
     let first = settled_shut (place around next) (record s { text = drop start x }) none in
     let second : settled_in [] (place around next) (record s { text = drop start x })
-    ≡ done (record (place around next) { upper = Some (begun_at from) }) (record s { text = drop start x }) =
-    rw (ne_eqb around.beside.window 0 not, e, long) refl in
+    ≡ done (record (place around next) { upper = Some fresh }) (record s { text = drop start x }) =
+    rw (ne_eqb around.beside.window 0 not, e, new, long) refl in
     first ∙ second
 
 pub settles_on : (start : ℕ) (around : Around) (upper : Upper) (x : List ℕ) → length around.streams.items ≡ 0
@@ -150,11 +151,58 @@ unfolding erase_upper
 erases_none start around x e next s =
     ap (λ u. erased_in u (place around next) (record s { text = drop start x })) (sym (e next))
 
-pub erases_some : (start : ℕ) (around : Around) (upper : Upper) (x y : List ℕ)
-    → ((next : Next) → Some upper ≡ open_upper (place around next))
+pub erases_some : (start : ℕ) (around : Around) (upper fresh : Upper) (x y : List ℕ)
+    → ((next : Next) → Some upper ≡ open_upper (place around next)) → fresh ≡ begun_at upper.from
     → drop start y ≡ lower (Some upper) (drop start x)
-    → Redraws start around (record around { upper = Some (begun_at upper.from) }) x y erase_upper
+    → Redraws start around (record around { upper = Some fresh }) x y erase_upper
 unfolding erase_upper
-erases_some start around upper x y e cut next s =
+erases_some start around upper fresh x y e new cut next s =
     ap (λ u. erased_in u (place around next) (record s { text = drop start x })) (sym (e next))
     ∙ ap (λ l. done (record (place around next) { upper = Some (begun_at upper.from) }) (record s { text = l })) (sym cut)
+    ∙ ap (λ u. done (record (place around next) { upper = Some u }) (record s { text = drop start y })) (sym new)
+
+-- by another definition of the same
+pub redraws_by : (start : ℕ) (old new : Around) (x y : List ℕ) (f g : Here → State → Out Here)
+    → ((here : Here) → g here ≡ f here) → Redraws start old new x y f → Redraws start old new x y g
+redraws_by start old new x y f g e r next s =
+    ap (λ k. k (record s { text = drop start x })) (e (place old next)) ∙ r next s
+
+pub redraws_nothing : (start : ℕ) (around : Around) (x : List ℕ) (g : Here → State → Out Here)
+    → ((here : Here) → g here ≡ done here) → Redraws start around around x x g
+redraws_nothing start around x g e next s = ap (λ k. k (record s { text = drop start x })) (e (place around next))
+
+pub erases_upper : (window : ℕ) → (window ≡ 1) ⊎ (window ≡ 65534)
+    → (here : Here) → erase_window here window ≡ erase_upper here
+unfolding erase_window
+erases_upper window (inl e) here = rw e refl
+erases_upper window (inr e) here = rw e refl
+
+pub erases_both : (window : ℕ) → window ≡ 65535 → (here : Here) → erase_window here window ≡ set_window here 0
+unfolding erase_window
+erases_both window e here = rw e refl
+
+pub erases_nothing : (window : ℕ) → window ≢ 1 → window ≢ 65534 → window ≢ 65535
+    → (here : Here) → erase_window here window ≡ done here
+unfolding erase_window
+erases_nothing window a b c here = rw (ne_eqb window 1 a, ne_eqb window 65534 b, ne_eqb window 65535 c) refl
+
+pub splits_none : (lines : ℕ) → lines ≡ 0 → (here : Here) → split_window here lines ≡ erase_upper here
+unfolding split_window
+splits_none lines e here = rw e refl
+
+pub splits_some : (lines : ℕ) → lines ≢ 0 → (here : Here) → split_window here lines ≡ done here
+unfolding split_window
+splits_some lines not here = rw (ne_eqb lines 0 not) refl
+
+-- A read
+
+pub read_drops : (s : Recording Contents) (x y : List ℕ) (upper : Upper) (window : ℕ) → IsSound s.store
+    → window ≡ 0 → y ≡ take upper.from x → Told (Ok tt) s x s y (show_in (Some upper) window)
+read_drops s x y upper window sound e cut = record {
+  told = (goes_on_still s sound, rw (eq-eqb window 0 e, cut) refl);
+}
+
+pub read_shows : {s t : Recording Contents} {x y : List ℕ} (r : Result (Unit {0}) End) (upper : Upper) (window : ℕ)
+    → window ≢ 0 → Told r s x t y (show_text upper) → Told r s x t y (show_in (Some upper) window)
+read_shows r upper window not w = told_by r (show_text upper) (show_in (Some upper) window)
+    (rw (ne_eqb window 0 not) refl) w
