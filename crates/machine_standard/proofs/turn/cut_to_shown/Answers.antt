@@ -10,5 +10,6 @@ returns-in-Waiting-clause-shown c = λ here. rw c.in-Waiting.is refl
 pub returns-in-Waiting-clause-text : goal.returns-in-Waiting-clause-text
 returns-in-Waiting-clause-text c = keeps_still _ _ c.requires
 
-pub returns-clause-shown : goal.returns-clause-shown
-returns-clause-shown c = λ here. c.cut_to_heard.ensures.heard here ∙ sym (shown_heard (place c.args.around.now here) _ _ c.match-end.other)
+pub returns-in_default-clause-shown : goal.returns-in_default-clause-shown
+returns-in_default-clause-shown c = λ here. c.cut_to_heard.ensures.heard here
+    ∙ sym (shown_heard (place c.args.around.now here) _ _ c.in_default.not-Waiting)
