@@ -1,7 +1,7 @@
 -- A whole turn of the Standard's machine.
 use Rattle.std.proofs.Common.{◌≡◌, ◌≢◌, ℕ, zero, suc, ◌≤◌, List, [], ◌++◌, length, take, drop, refl, ap, sym, ◌∙◌}
-use Rattle.std.proofs.Common.{subst, arith, slice_index, Result, Ok, Err, Bool, true, false}
-use Rattle.std.specs.Prelude.{◌||◌, IfOk, OnOk}
+use Rattle.std.proofs.Common.{subst, arith, slice_index, Result, Ok, Err, Bool, true, false, cond, None, Some}
+use Rattle.std.specs.Prelude.{◌==◌, ◌||◌, if◌then◌else◌, IfOk, OnOk}
 use Rattle.std.proofs.lemmas.List.{drop-append-le, drop_all, take_all}
 use Rattle.journal.specs.Recording.{Recording}
 use Rattle.zcore.specs.declared.beside.Beside.{Beside}
@@ -11,13 +11,14 @@ use Rattle.zcore.specs.declared.place.Place.TheVariants as places
 use Rattle.zcore.specs.State.{State, Out, done, halt}
 use Rattle.zcore.specs.Execution.{step}
 use Rattle.zcore.specs.Turn.{Reaches, ReachesBy, TurnsBy, Whole, ended, first_next, first_state, notice}
-use Rattle.zcore_standard.specs.Laws.{ends_in_fault, is_none_open, closes_none}
-use Rattle.zcore_standard.specs.Place.{Here, within}
+use Rattle.zcore_standard.specs.Laws.{ends_in_fault, is_plain, closes_none}
+use Rattle.zcore_standard.specs.Place.{Here, plain, within}
 use Rattle.zcore_standard.specs.Loaded.{Loaded}
 use Rattle.zcore_standard.specs.Machine.{standard, standard_step, standard_ended, shown, with_beside, begins}
 use Rattle.zcore_standard.specs.Reading.{can_take}
-use Rattle.zcore_standard.specs.Streams.{heard}
-use Rattle.zcore_standard.proofs.Turning.{standard_steps, ended_all}
+use Rattle.zcore_standard.specs.Windows.{begun_at, lower}
+use Rattle.zcore_standard.specs.Streams.{heard_of}
+use Rattle.zcore_standard.proofs.Turning.{standard_steps}
 use Rattle.zcore_standard.proofs.Awaiting.{WaitsRight}
 use Rattle.zcore_standard.proofs.Waiting.{standard_step_waits}
 use Rattle.machine_frames.specs.Contents.{Contents, memory_of}
@@ -59,7 +60,7 @@ standard_goes_on : (loaded : Loaded) (around : Around) (here next : Next) (s t :
     → standard_step loaded (place around here) s ≡ done (place around next) t
 standard_goes_on loaded around here next s t e =
     standard_steps loaded (place around here) s (ap ends_in_fault e)
-    (ap (closes_none (place around here)) e ∙ or_true (is_none_open around.streams.items))
+    (ap (closes_none (place around here)) e ∙ or_true (is_plain (place around here)))
     ∙ ap (within (place around here)) e
 
 pub reaches_standard : (loaded : Loaded) (around : Around) (count : ℕ) (first here : Next) (s t : State)
@@ -99,10 +100,12 @@ stops_around loaded {first} {s} {t} {here} {p} a b e h =
 
 -- where a turn begins
 pub begun_place : (around : Around) (beside : Beside) (next : Next) → around.beside ≡ beside
-    → around.streams.items ≡ [] → place around next ≡ begins beside next
-begun_place around beside next e f =
-    ap (λ b. let h : Here = record { next = next; beside = b; streams = around.streams.items } in h) e
-    ∙ ap (λ l. let h : Here = record { next = next; beside = beside; streams = l } in h) f
+    → around.streams.items ≡ [] → around.upper ≡ (if beside.window == 0 then None else Some (begun_at 0))
+    → place around next ≡ begins beside next
+begun_place around beside next e f g =
+    ap (λ b. let h : Here = record (place around next) { beside = b } in h) e
+    ∙ ap (λ l. let h : Here = record (place around next) { beside = beside; streams = l } in h) f
+    ∙ ap (λ u. let h : Here = record (plain beside next) { upper = u } in h) g
 
 -- The text of a turn
 
@@ -114,11 +117,27 @@ front_kept was now k = k.front ∙ take_all (length was) was (omega arith)
 
 -- a turn that does not wait shows what is heard
 pub shown_heard : (here : Here) (end : Place) (text : List ℕ) → end ≢ places.Waiting
-    → shown here end text ≡ heard here.streams text
+    → shown here end text ≡ heard_of here text
 shown_heard here places.Waiting text not = absurd (not refl)
 shown_heard here places.Quit text not = refl
 shown_heard here (places.Limit limit) text not = refl
 shown_heard here (places.Fault cause) text not = refl
+
+-- one that printed nothing shows nothing
+lower_nothing : (b : Bool) → lower (cond b None (Some (begun_at 0))) [] ≡ []
+lower_nothing true = refl
+lower_nothing false = refl
+
+shown_nothing : (beside : Beside) (next : Next) (end : Place) → shown (begins beside next) end [] ≡ []
+shown_nothing beside next places.Waiting = refl
+shown_nothing beside next places.Quit = lower_nothing (beside.window == 0)
+shown_nothing beside next (places.Limit limit) = lower_nothing (beside.window == 0)
+shown_nothing beside next (places.Fault cause) = lower_nothing (beside.window == 0)
+
+ended_nothing : (beside : Beside) (next : Next) (end : Place) (m : Contents)
+    → standard_ended (begins beside next) end (state_of m []) ≡ with_beside beside (ended next end (state_of m []))
+ended_nothing beside next end m =
+    ap (λ l. with_beside beside (ended next end (state_of m l))) (shown_nothing beside next end)
 
 -- The end of a turn
 
@@ -172,7 +191,7 @@ stopped_standard m n beside fuel counter end x y same kept rest text =
     ∙ ap (λ l. l ++ notice end) (drop_all (length x) x (omega arith)) in
     let f : whole_of n end (drop (length x) y) ≡ with_beside beside (ended here.next end (state_of n [])) =
     rw (d, kept, rest) refl in
-    f ∙ sym (ended_all beside here.next end (state_of n [])) ∙ ap (standard_ended here end) (same [])
+    f ∙ sym (ended_nothing beside here.next end n) ∙ ap (standard_ended here end) (same [])
 
 -- the opening
 opens : (loaded : Loaded) (s : Contents) (fuel : ℕ) (first : Next) (memory : List ℕ) (whole : Whole) → IsOpening s

@@ -14,7 +14,7 @@ use Rattle.zcore.specs.declared.beside.Beside.{Beside}
 use Rattle.zcore_standard.specs.declared.streams.Stream.{Stream}
 use Rattle.zcore_standard.specs.Place.{Here}
 use Rattle.zcore_standard.specs.Loaded.{Loaded}
-use Rattle.zcore_standard.specs.Streams.{heard}
+use Rattle.zcore_standard.specs.Streams.{heard_of}
 use Rattle.machine_frames.specs.Contents.{Contents, Wrote, memory_of}
 use Rattle.machine_frames.specs.States.{base_of, frames_of, state_of, IsSound}
 use Rattle.machine_frames.specs.Went.{GoesOn, Told}
@@ -94,19 +94,20 @@ emptied s m t first waits =
 
 pub begun_anew : (s m t : Recording Contents) (x y : List ℕ) (loaded : Loaded) (here : Here) (address : ℕ)
     (beside : Beside) (streams : List Stream) → beside ≡ loaded.dice → streams ≡ [] → here.next.fuel ≢ 0 → address ≡ word_at (memory_of s.store) 6 → Fills s m 64 (drop 64 loaded.dynamic)
-    → Empties m t → y ≡ heard here.streams x
+    → Empties m t → y ≡ heard_of here x
     → Told (Ok (record {
       next = record { program_counter = address; fuel = here.next.fuel - 1 };
       beside = beside;
       streams = streams;
+      upper = None;
     })) s x t y (restart loaded here)
 unfolding restart spend
 begun_anew s m t x y loaded here address beside streams first none some e f n cut = record {
   told = (
     goes_on_after f.goes_on n.goes_on,
-    let state : state_of t.store y ≡ restarted loaded here.streams (state_of s.store x) = n.state y
+    let state : state_of t.store y ≡ restarted loaded here (state_of s.store x) = n.state y
         ∙ ap (λ (z : State). record z { frames = first_environment ∷ []; pending = None }) (f.state y)
-        ∙ ap (λ l. record (restarted loaded here.streams (state_of s.store x)) { text = l }) cut in
+        ∙ ap (λ l. record (restarted loaded here (state_of s.store x)) { text = l }) cut in
         rw (ne_eqb here.next.fuel 0 some, e, state, first, none) refl,
   );
 }

@@ -19,7 +19,8 @@ use Rattle.zcore.specs.Layout.{text_limit}
 use Rattle.zcore.specs.State.{State, Out, done, bound}
 use Rattle.zcore.specs.Turn.{with_bytes}
 use Rattle.zcore_standard.specs.declared.streams.Stream.{Stream}
-use Rattle.zcore_standard.specs.Place.{Here}
+use Rattle.zcore_standard.specs.Place.{Here, past}
+use Rattle.zcore_standard.specs.Windows.{settled}
 use Rattle.zcore_standard.specs.Streams.{most_streams, open_stream, open_table, counted, zscii_in, close, close_first}
 use Rattle.zcore_standard.specs.Streams.{close_all, heard, flags_2_low, with_transcript, set_transcript, output_stream}
 use Rattle.zcore_standard.specs.Words.{are_writable, write_bytes}
@@ -205,25 +206,23 @@ pub none_closed : (s : Recording Contents) (x extra : List ℕ) (here : Here) (a
 none_closed s x extra here after [] sound e = record { told = (goes_on_still s sound, refl) }
 none_closed s x extra here after (a ∷ others) sound e = absurd (omega (arith, e))
 
-pub first_closed : {s t : Recording Contents} {x y : List ℕ} (extra : List ℕ) (here : Here) (after : ℕ)
-    (streams left seen : List Stream) (stream d : Stream) → length streams ≢ 0 → seen ≡ streams
-    → stream ≡ get_or seen 0 d → left ≡ remove streams 0 → Told (Ok tt) s x t y (close extra stream)
-    → Told (Ok (record here { next = record here.next { program_counter = after }; streams = left })) s x t y
-    (close_first extra here after streams)
-first_closed extra here after [] left seen stream d some same is rest w = absurd (some refl)
-first_closed {s} {t} {x} {y} extra here after (a ∷ others) left seen stream d some same is rest w =
+pub first_closed : {s t : Recording Contents} {x y z : List ℕ} (extra : List ℕ) (here : Here) (after : ℕ)
+    (streams left seen : List Stream) (stream d : Stream) (there : Here) → length streams ≢ 0 → seen ≡ streams
+    → stream ≡ get_or seen 0 d → left ≡ remove streams 0
+    → ((u : State) → settled (record (past here after) { streams = left }) (record u { text = y })
+    ≡ done there (record u { text = z }))
+    → Told (Ok tt) s x t y (close extra stream) → Told (Ok there) s x t z (close_first extra here after streams)
+first_closed extra here after [] left seen stream d there some same is rest settles w = absurd (some refl)
+first_closed {s} {t} {x} {y} extra here after (a ∷ others) left seen stream d there some same is rest settles w =
     let first : stream ≡ a = is ∙ ap (λ l. get_or l 0 d) same in
     let closes : close extra stream (state_of s.store x) ≡ close extra a (state_of s.store x) =
     ap (λ c. close extra c (state_of s.store x)) first in
     record {
       told = (
         w.told.0,
-        ap (λ o. bound o (λ _ u. done (record here {
-          next = record here.next { program_counter = after };
-          streams = others;
-        }) u)) (sym closes ∙ w.told.1)
-            ∙ ap (λ l. done (record here { next = record here.next { program_counter = after }; streams = l })
-            (state_of t.store y)) (sym rest),
+        ap (λ o. bound o (λ _. settled (record (past here after) { streams = others }))) (sym closes ∙ w.told.1)
+            ∙ ap (λ l. settled (record (past here after) { streams = l }) (state_of t.store y)) (sym rest)
+            ∙ settles (state_of t.store y),
       );
     }
 
@@ -240,10 +239,7 @@ first_stays {e = ends.Stop p} {s} {t} {x} {y} extra here after (a ∷ others) se
     record {
       told = (
         w.told.0,
-        ap (λ o. bound o (λ _ u. done (record here {
-          next = record here.next { program_counter = after };
-          streams = others;
-        }) u)) (sym closes ∙ w.told.1),
+        ap (λ o. bound o (λ _. settled (record (past here after) { streams = others }))) (sym closes ∙ w.told.1),
       );
     }
 

@@ -1,10 +1,11 @@
 -- The upper window in the text of a turn.
 use Rattle.std.proofs.Common.{◌≡◌, ◌≢◌, ℕ, ◌+◌, ◌-◌, ◌<◌, ◌≤◌, List, [], ◌∷◌, ◌++◌, length, take, drop, replicate, min}
 use Rattle.std.proofs.Common.{refl, ap, sym, ◌∙◌, subst, arith, Bool, true, false, Option, Some, None, Result, Ok, Err}
-use Rattle.std.specs.Prelude.{◌==◌, nat_le}
+use Rattle.std.specs.Prelude.{◌==◌, nat_le, if◌then◌else◌, is_ok, OnOk}
+use Rattle.std.specs.List.{count_by}
 use Rattle.std.proofs.lemmas.Bool.{eq-eqb, le-leb, lt-leb, ne_eqb}
 use Rattle.std.proofs.lemmas.List.{append_assoc, drop-append-le, drop-take, length-append, length-drop, length-take-le}
-use Rattle.std.proofs.lemmas.List.{length-replicate, take-append-drop, take-take, take_all}
+use Rattle.std.proofs.lemmas.List.{length-replicate, length-take, take-append-drop, take-take, take_all}
 use Rattle.journal.specs.Recording.{Recording}
 use Rattle.zcore.specs.declared.next.Next.{Next}
 use Rattle.zcore.specs.declared.place.Limit.TheVariants as limits
@@ -13,21 +14,20 @@ use Rattle.zcore.specs.Layout.{text_limit}
 use Rattle.zcore.specs.State.{State, Out, done}
 use Rattle.zcore_standard.specs.declared.windows.Upper.{Upper}
 use Rattle.zcore_standard.specs.Place.{Here}
-use Rattle.zcore_standard.specs.Windows.{row_of, with_cursor, without_spaces, drawn, redraw, put_cursor, cursor_to}
-use Rattle.zcore_standard.specs.Windows.{with_new_line, with_upper, show_text}
+use Rattle.zcore_standard.specs.Windows.{row_of, with_cursor, without_spaces, drawn, redraw, put_cursor}
+use Rattle.zcore_standard.specs.Windows.{is_new_line, with_new_line, with_upper, show_text}
 use Rattle.machine_frames.specs.Contents.{Contents}
 use Rattle.machine_frames.specs.States.{state_of, IsSound}
 use Rattle.machine_frames.specs.Went.{Told}
 use Rattle.machine_frames.specs.declared.end.End.{End}
 use Rattle.machine_frames.specs.declared.end.End.TheVariants as ends
-use Rattle.machine_frames.proofs.Steps.{goes_on_still, told_halt, told_no_further, told_sound, told_still, told_then}
+use Rattle.machine_frames.proofs.Steps.{goes_on_still, told_halt}
 use Rattle.machine_opcodes.specs.Printed.{HasBegun}
-use Rattle.machine_opcodes.specs.Seen.{seen}
 use Rattle.machine_standard_opcodes.specs.Around.{place, Keeps}
 use Rattle.machine_standard_opcodes.specs.Drawn.{Redraws, place_at}
 use Rattle.machine_standard_opcodes.specs.declared.around.Around.{Around}
 use Rattle.machine_standard_opcodes.proofs.Cuts.{text_cut, text_behind, keeps_cut}
-use Rattle.machine_standard_opcodes.proofs.Lines.{lines_apart}
+use Rattle.machine_standard_opcodes.proofs.TextLines.{lines_apart}
 
 -- The text of a turn, of which the end changes
 
@@ -70,7 +70,60 @@ keeps_changed start end x y h le within same begun few = record {
   within = few;
 }
 
+pub keeps_blanks : (start end more : ℕ) (x t y : List ℕ) → HasBegun start x → start ≤ end → end ≤ length x
+    → t ≡ take end x → take (length t) y ≡ t → length y ≤ length t + more → end + more - start ≤ text_limit
+    → Keeps start x y
+keeps_blanks start end more x t y h after le cut same few room =
+    let long : length t ≡ end = ap length cut ∙ length-take-le end x le in
+    let front : take end y ≡ take end x = ap (λ n. take n y) (sym long) ∙ same ∙ cut in
+    let enough : end ≤ length y = omega (arith, ap length front, length-take end y, length-take-le end x le) in
+    keeps_changed start end x y h after le front enough (omega (arith, few, long, room, after))
+
+pub keeps_apart : (start begin end more : ℕ) (x t y : List ℕ) → HasBegun start x → start ≤ begin → begin ≤ end
+    → end ≤ length x → t ≡ take end x → take begin y ≡ take begin t → length t ≤ length y
+    → length y ≤ length t + more → end + more - start ≤ text_limit → Keeps start x y
+keeps_apart start begin end more x t y h first second le cut same longer few room =
+    let long : length t ≡ end = ap length cut ∙ length-take-le end x le in
+    keeps_changed start begin x y h first (omega (arith, second, le))
+    (same ∙ ap (take begin) cut ∙ take-take begin end x second)
+    (omega (arith, second, long, longer)) (omega (arith, few, long, room, first, second))
+
+-- parts of a text
+
+pub rest_is : (z x : List ℕ) (n : ℕ) → z ≡ x → take (length z - n) (drop n z) ≡ drop n x
+rest_is z x n e =
+    take_all (length z - n) (drop n z) (omega (arith, length-drop n z)) ∙ ap (drop n) e
+
+pub part_is : (z x : List ℕ) (begin end n : ℕ) → z ≡ x → end ≡ begin + n
+    → take (end - begin) (drop begin z) ≡ take n (drop begin x)
+part_is z x begin end n e f =
+    let k : end - begin ≡ n = omega (arith, f) in
+    ap (λ m. take m (drop begin z)) k ∙ ap (λ l. take n (drop begin l)) e
+
+pub front_part : (z x : List ℕ) (start begin : ℕ) → z ≡ x → start ≤ begin
+    → take (begin - start) (drop start z) ≡ drop start (take begin x)
+front_part z x start begin e le =
+    let k : start + (begin - start) ≡ begin = omega (arith, le) in
+    ap (λ l. take (begin - start) (drop start l)) e ∙ sym (drop-take start (begin - start) x)
+    ∙ ap (λ m. drop start (take m x)) k
+
+pub bare_in : (z x : List ℕ) (begin n : ℕ) → z ≡ x
+    → take n (take (length z - begin) (drop begin z)) ≡ without_spaces (take (length z - begin) (drop begin z))
+    → take n (drop begin x) ≡ without_spaces (drop begin x)
+bare_in z x begin n e bare =
+    let rest = rest_is z x begin e in
+    ap (take n) (sym rest) ∙ bare ∙ ap without_spaces rest
+
 -- The cursor
+
+-- its row
+pub row_is : (upper : Upper) (text : List ℕ) (start at count : ℕ) → start ≤ length text
+    → at ≡ place_at start upper.mark text → count ≡ count_by is_new_line (take (length text - at) (drop at text))
+    → upper.row + count ≡ row_of upper (drop start text)
+unfolding row_of
+row_is upper text start at count begun is e =
+    ap (λ n. upper.row + n) (e ∙ ap (count_by is_new_line) (rest_is text text at refl
+    ∙ behind_is start upper.mark at text begun is))
 
 -- the text that is drawn, where the cursor goes over newlines and spaces
 pub drawn_as : (start begin n lines spaces row column : ℕ) (upper : Upper) (b : Bool) (x y : List ℕ)
@@ -88,35 +141,116 @@ drawn_as start begin n lines spaces row column upper b x y begun is bare is_in_r
     (sym way ∙ ap (λ l. with_cursor b column l) (bare ∙ ap without_spaces behind)
     ∙ ap (λ v. with_cursor v column (without_spaces (drop upper.from (drop start x)))) is_in_row)
 
-pub cursor_put : (s : Recording Contents) (x y : List ℕ) (upper moved : Upper) (row column : ℕ) → IsSound s.store
-    → y ≡ drawn upper row column x → length y ≤ text_limit → moved ≡ record upper { mark = length y; row = row }
-    → Told (Ok moved) s x s y (put_cursor upper row column)
-unfolding put_cursor redraw
-cursor_put s x y upper moved row column sound e few is = record {
-  told = (
-    goes_on_still s sound,
-    rw (is, sym e, le-leb (length y) text_limit few) refl,
-  );
-}
+-- the way of the cursor in a text: from a place on, up to the end of what stays, and what is added
+pub record Way (start begin end lines spaces row column : ℕ) (upper : Upper) (x : List ℕ) : Type 0 where
+  pub begun : start ≤ length x
+  pub begin : begin ≡ place_at start upper.from x
+  pub behind : begin ≤ end
+  pub within : end ≤ length x
+  pub bare : take (end - begin) (drop begin x) ≡ without_spaces (drop begin x)
+  pub way : with_cursor (row_of upper (drop start x) == row) column (take (end - begin) (drop begin x))
+      ≡ take (end - begin) (drop begin x) ++ (replicate lines 10 ++ replicate spaces 32)
 
-pub cursor_limited : (s : Recording Contents) (x : List ℕ) (upper : Upper) (row column : ℕ) → IsSound s.store
-    → text_limit < length (drawn upper row column x)
-    → Told {A = Upper} (Err (ends.Stop (places.Limit limits.Text))) s x s x (put_cursor upper row column)
+pub way_of : (start begin end n lines spaces row column now : ℕ) (upper : Upper) (b : Bool) (z x : List ℕ) → z ≡ x
+    → start ≤ length x → begin ≡ place_at start upper.from z → end ≡ begin + n
+    → take n (take (length z - begin) (drop begin z)) ≡ without_spaces (take (length z - begin) (drop begin z))
+    → n ≤ length (take (length z - begin) (drop begin z)) → b ≡ (now == row)
+    → now ≡ row_of upper (drop start z)
+    → with_cursor b column (take (end - begin) (drop begin z))
+    ≡ take (end - begin) (drop begin z) ++ (replicate lines 10 ++ replicate spaces 32)
+    → Way start begin end lines spaces row column upper x
+way_of start begin end n lines spaces row column now upper b z x e begun at long bare le is counts way =
+    let size : end - begin ≡ n = omega (arith, long) in
+    let rest = rest_is z z begin refl in
+    let inside : n ≤ length z - begin = omega (arith, le, ap length rest, length-drop begin z) in
+    let first : begin ≤ length z = omega (arith, at, begun, ap length e) in
+    subst (λ l. Way start begin end lines spaces row column upper l) e (record {
+      begun = omega (arith, begun, ap length e);
+      begin = at;
+      behind = omega (arith, long);
+      within = omega (arith, long, inside, first);
+      bare = ap (λ k. take k (drop begin z)) size ∙ bare_in z z begin n refl bare;
+      way = ap (λ c. with_cursor (c == row) column (take (end - begin) (drop begin z))) (sym counts)
+          ∙ ap (λ c. with_cursor c column (take (end - begin) (drop begin z))) (sym is) ∙ way;
+    })
+
+pub way_drawn : {start begin end lines spaces row column : ℕ} {upper : Upper} {x : List ℕ} (y : List ℕ)
+    → Way start begin end lines spaces row column upper x
+    → y ≡ take end x ++ (replicate lines 10 ++ replicate spaces 32)
+    → drop start y ≡ drawn upper row column (drop start x)
+way_drawn {start} {begin} {end} {lines} {spaces} {row} {column} {upper} {x} y w e =
+    let size : begin + (end - begin) ≡ end = omega (arith, w.behind) in
+    drawn_as start begin (end - begin) lines spaces row column upper (row_of upper (drop start x) == row) x y w.begun
+    w.begin w.bare refl w.way
+    (e ∙ ap (λ k. take k x ++ (replicate lines 10 ++ replicate spaces 32)) (sym size))
+
+length-way : (end lines spaces : ℕ) (x : List ℕ) → end ≤ length x
+    → length (take end x ++ (replicate lines 10 ++ replicate spaces 32)) ≡ end + lines + spaces
+length-way end lines spaces x le =
+    omega (
+      arith,
+      length-append (take end x) (replicate lines 10 ++ replicate spaces 32),
+      length-append (replicate lines 10) (replicate spaces 32),
+      length-take-le end x le,
+      length-replicate lines 10,
+      length-replicate spaces 32,
+    )
+
+-- how long the turn's text is then
+pub way_long : {start begin end lines spaces row column : ℕ} {upper : Upper} {x : List ℕ}
+    → Way start begin end lines spaces row column upper x
+    → length (drawn upper row column (drop start x)) ≡ end + lines + spaces - start
+way_long {start} {begin} {end} {lines} {spaces} {row} {column} {upper} {x} w =
+    let y = take end x ++ (replicate lines 10 ++ replicate spaces 32) in
+    omega (
+      arith,
+      ap length (way_drawn y w refl),
+      length-drop start y,
+      length-way end lines spaces x w.within,
+    )
+
+pub cursor_put : (s : Recording Contents) (start begin end lines spaces row column long : ℕ) (upper : Upper)
+    (x y : List ℕ) → IsSound s.store → Way start begin end lines spaces row column upper x
+    → y ≡ take end x ++ (replicate lines 10 ++ replicate spaces 32) → long ≡ end + lines + spaces - start
+    → long ≤ text_limit
+    → Told (Ok (record { from = upper.from; mark = long; row = row })) s (drop start x) s (drop start y)
+    (put_cursor upper row column)
 unfolding put_cursor redraw
-cursor_limited s x upper row column sound lt =
-    told_halt s (put_cursor upper row column) x sound
-    (rw (lt-leb (length (drawn upper row column x)) text_limit lt) refl)
+cursor_put s start begin end lines spaces row column long upper x y sound w e is few =
+    let text = way_drawn y w e in
+    let size : length (drawn upper row column (drop start x)) ≡ long = way_long w ∙ sym is in
+    record {
+      told = (
+        goes_on_still s sound,
+        rw (text, size, le-leb long text_limit few) refl,
+      );
+    }
+
+pub cursor_limited : (s : Recording Contents) (start begin end lines spaces row column : ℕ) (upper : Upper)
+    (x : List ℕ) → IsSound s.store → Way start begin end lines spaces row column upper x
+    → text_limit < end + lines + spaces - start
+    → Told {A = Upper} (Err (ends.Stop (places.Limit limits.Text))) s (drop start x) s (drop start x)
+    (put_cursor upper row column)
+unfolding put_cursor redraw
+cursor_limited s start begin end lines spaces row column upper x sound w lt =
+    let size = way_long w in
+    told_halt s (put_cursor upper row column) (drop start x) sound
+    (rw (lt-leb (length (drawn upper row column (drop start x))) text_limit (omega (arith, size, lt))) refl)
 
 -- The text that is shown
 
-pub shown_none : (start begin n : ℕ) (upper : Upper) (x y : List ℕ) → start ≤ length x
-    → begin ≡ place_at start upper.from x → take n (drop begin x) ≡ without_spaces (drop begin x) → n ≡ 0
-    → y ≡ take begin x → drop start y ≡ with_upper upper (drop start x)
+-- where it is empty
+pub shown_none : (start begin n : ℕ) (upper : Upper) (z x y : List ℕ) → z ≡ x → start ≤ length x
+    → begin ≡ place_at start upper.from z
+    → take n (take (length z - begin) (drop begin z)) ≡ without_spaces (take (length z - begin) (drop begin z))
+    → n ≡ 0 → y ≡ take begin x → drop start y ≡ with_upper upper (drop start x)
 unfolding with_upper
-shown_none start begin n upper x y begun is bare none e =
+shown_none start begin n upper z x y same begun at bare none e =
+    let is : begin ≡ place_at start upper.from x = at ∙ ap (place_at start upper.from) same in
     let behind = behind_is start upper.from begin x begun is in
     let empty : length (without_spaces (drop upper.from (drop start x))) ≡ 0 =
-    ap length (sym (ap without_spaces behind) ∙ sym bare ∙ ap (λ k. take k (drop begin x)) none) in
+    ap length (sym (ap without_spaces behind) ∙ sym (bare_in z x begin n same bare)
+    ∙ ap (λ k. take k (drop begin x)) none) in
     rw (eq-eqb _ 0 empty) (ap (drop start) e ∙ front_is start upper.from begin x begun is)
 
 -- what is shown, by the text before it and its own
@@ -131,25 +265,86 @@ shown_is upper x front bare a b some =
     ∙ ap (λ l. with_new_line l ++ with_new_line (without_spaces (drop upper.from x))) (sym a)
     ∙ ap (λ l. with_new_line front ++ with_new_line l) (sym b))
 
-pub shown_as : (start begin n before after : ℕ) (upper : Upper) (x y front : List ℕ) → start ≤ length x
-    → begin ≡ place_at start upper.from x → take n (drop begin x) ≡ without_spaces (drop begin x) → n ≢ 0
-    → n ≤ length (drop begin x) → front ≡ drop start (take begin x)
-    → with_new_line front ≡ front ++ replicate before 10
-    → with_new_line (take n (drop begin x)) ≡ take n (drop begin x) ++ replicate after 10
-    → y ≡ take begin x ++ (replicate before 10 ++ (take n (drop begin x) ++ replicate after 10))
+-- the parts of the text that is shown, and the newlines that they lack
+pub record Lines (start begin end before after : ℕ) (upper : Upper) (x : List ℕ) : Type 0 where
+  pub begun : start ≤ length x
+  pub begin : begin ≡ place_at start upper.from x
+  pub behind : begin < end
+  pub within : end ≤ length x
+  pub bare : take (end - begin) (drop begin x) ≡ without_spaces (drop begin x)
+  pub first : with_new_line (drop start (take begin x)) ≡ drop start (take begin x) ++ replicate before 10
+  pub second : with_new_line (take (end - begin) (drop begin x))
+      ≡ take (end - begin) (drop begin x) ++ replicate after 10
+
+pub lines_of : (start begin end n before after : ℕ) (upper : Upper) (z x : List ℕ) → z ≡ x → start ≤ length x
+    → begin ≡ place_at start upper.from z → end ≡ begin + n
+    → take n (take (length z - begin) (drop begin z)) ≡ without_spaces (take (length z - begin) (drop begin z))
+    → n ≤ length (take (length z - begin) (drop begin z)) → end ≢ begin
+    → with_new_line (take (begin - start) (drop start z)) ≡ take (begin - start) (drop start z) ++ replicate before 10
+    → with_new_line (take (end - begin) (drop begin z)) ≡ take (end - begin) (drop begin z) ++ replicate after 10
+    → Lines start begin end before after upper x
+lines_of start begin end n before after upper z x e begun at long bare le some front back =
+    let size : end - begin ≡ n = omega (arith, long) in
+    let rest = rest_is z z begin refl in
+    let inside : n ≤ length z - begin = omega (arith, le, ap length rest, length-drop begin z) in
+    let first : begin ≤ length z = omega (arith, at, begun, ap length e) in
+    let part = front_part z z start begin refl (omega (arith, at)) in
+    subst (λ l. Lines start begin end before after upper l) e (record {
+      begun = omega (arith, begun, ap length e);
+      begin = at;
+      behind = omega (arith, long, some);
+      within = omega (arith, long, inside, first);
+      bare = ap (λ k. take k (drop begin z)) size ∙ bare_in z z begin n refl bare;
+      first = ap with_new_line (sym part) ∙ front ∙ ap (λ l. l ++ replicate before 10) part;
+      second = back;
+    })
+
+pub lines_shown : {start begin end before after : ℕ} {upper : Upper} {x : List ℕ} (y : List ℕ)
+    → Lines start begin end before after upper x
+    → y ≡ take begin x ++ (replicate before 10 ++ (take (end - begin) (drop begin x) ++ replicate after 10))
     → drop start y ≡ with_upper upper (drop start x)
-shown_as start begin n before after upper x y front begun is bare some le f a b e =
-    let behind = behind_is start upper.from begin x begun is in
-    let ahead : front ≡ take upper.from (drop start x) = f ∙ front_is start upper.from begin x begun is in
-    let within : start ≤ length (take begin x) = omega (arith, is, length-take-le begin x (omega (arith, is, begun))) in
+lines_shown {start} {begin} {end} {before} {after} {upper} {x} y w e =
+    let ahead = front_is start upper.from begin x w.begun w.begin in
+    let behind = behind_is start upper.from begin x w.begun w.begin in
+    let long = length-take-le begin x (omega (arith, w.behind, w.within)) in
+    let size = length-take-le (end - begin) (drop begin x) (omega (arith, w.within, length-drop begin x)) in
+    let bare = take (end - begin) (drop begin x) in
     ap (drop start) e
-    ∙ drop-append-le start (take begin x) _ within
-    ∙ ap (λ l. l ++ (replicate before 10 ++ (take n (drop begin x) ++ replicate after 10))) (sym f)
-    ∙ sym (append_assoc front (replicate before 10) (take n (drop begin x) ++ replicate after 10))
-    ∙ ap (λ l. l ++ (take n (drop begin x) ++ replicate after 10)) (sym a)
-    ∙ ap (λ l. with_new_line front ++ l) (sym b)
-    ∙ sym (shown_is upper (drop start x) front (take n (drop begin x)) ahead (bare ∙ ap without_spaces behind)
-    (λ none. some (sym (length-take-le n (drop begin x) le) ∙ none)))
+    ∙ drop-append-le start (take begin x) (replicate before 10 ++ (bare ++ replicate after 10))
+    (omega (arith, long, w.begin))
+    ∙ sym (append_assoc (drop start (take begin x)) (replicate before 10) (bare ++ replicate after 10))
+    ∙ ap (λ l. l ++ (bare ++ replicate after 10)) (sym w.first)
+    ∙ ap (λ l. with_new_line (drop start (take begin x)) ++ l) (sym w.second)
+    ∙ sym (shown_is upper (drop start x) (drop start (take begin x)) bare ahead (w.bare ∙ ap without_spaces behind)
+    (λ none. absurd (omega (arith, size, none, w.behind))))
+
+length-lines : (begin end before after : ℕ) (x : List ℕ) → begin < end → end ≤ length x
+    → length (take begin x ++ (replicate before 10 ++ (take (end - begin) (drop begin x) ++ replicate after 10)))
+    ≡ end + before + after
+length-lines begin end before after x lt le =
+    omega (
+      arith,
+      length-append (take begin x) (replicate before 10 ++ (take (end - begin) (drop begin x) ++ replicate after 10)),
+      length-append (replicate before 10) (take (end - begin) (drop begin x) ++ replicate after 10),
+      length-append (take (end - begin) (drop begin x)) (replicate after 10),
+      length-take-le begin x (omega (arith, lt, le)),
+      length-take-le (end - begin) (drop begin x) (omega (arith, le, length-drop begin x)),
+      length-replicate before 10,
+      length-replicate after 10,
+      lt,
+    )
+
+pub lines_long : {start begin end before after : ℕ} {upper : Upper} {x : List ℕ}
+    → Lines start begin end before after upper x
+    → length (with_upper upper (drop start x)) ≡ end + before + after - start
+lines_long {start} {begin} {end} {before} {after} {upper} {x} w =
+    let y = take begin x ++ (replicate before 10 ++ (take (end - begin) (drop begin x) ++ replicate after 10)) in
+    omega (
+      arith,
+      ap length (lines_shown y w refl),
+      length-drop start y,
+      length-lines begin end before after x w.behind w.within,
+    )
 
 pub text_shown : (s : Recording Contents) (x y : List ℕ) (upper : Upper) → IsSound s.store → y ≡ with_upper upper x
     → length y ≤ text_limit → Told (Ok tt) s x s y (show_text upper)
@@ -165,6 +360,31 @@ unfolding show_text redraw
 show_limited s x upper sound lt =
     told_halt s (show_text upper) x sound (rw (lt-leb (length (with_upper upper x)) text_limit lt) refl)
 
+-- what was cut and was then put in lines of its own
+pub apart_is : (begin end before after : ℕ) (x t y : List ℕ) → begin ≤ end → t ≡ take end x
+    → y ≡ take begin t ++ (replicate before 10 ++ (drop begin t ++ replicate after 10))
+    → y ≡ take begin x ++ (replicate before 10 ++ (take (end - begin) (drop begin x) ++ replicate after 10))
+apart_is begin end before after x t y le cut e =
+    let size : begin + (end - begin) ≡ end = omega (arith, le) in
+    let front : take begin t ≡ take begin x = ap (take begin) cut ∙ take-take begin end x le in
+    let back : drop begin t ≡ take (end - begin) (drop begin x) =
+    ap (drop begin) cut ∙ ap (λ k. drop begin (take k x)) (sym size) ∙ drop-take begin (end - begin) x in
+    e ∙ ap (λ l. l ++ (replicate before 10 ++ (drop begin t ++ replicate after 10))) front
+    ∙ ap (λ l. take begin x ++ (replicate before 10 ++ (l ++ replicate after 10))) back
+
+pub set_apart_is : {E : Type 0} (r : Result (Unit {0}) E) (at n before after : ℕ) (x t y : List ℕ)
+    → t ≡ take at x ++ (replicate before 10 ++ drop at x) → n ≡ length t + after
+    → y ≡ (if is_ok r then take n t ++ replicate (n - length t) 10 else t)
+    → OnOk r (y ≡ take at x ++ (replicate before 10 ++ (drop at x ++ replicate after 10)))
+set_apart_is (Ok u) at n before after x t y e long items =
+    let all : take n t ≡ t = take_all n t (omega (arith, long)) in
+    let more : n - length t ≡ after = omega (arith, long) in
+    items ∙ ap (λ l. l ++ replicate (n - length t) 10) (all ∙ e)
+    ∙ ap (λ k. take at x ++ (replicate before 10 ++ drop at x) ++ replicate k 10) more
+    ∙ append_assoc (take at x) (replicate before 10 ++ drop at x) (replicate after 10)
+    ∙ ap (λ l. take at x ++ l) (append_assoc (replicate before 10) (drop at x) (replicate after 10))
+set_apart_is (Err f) at n before after x t y e long items = tt
+
 -- A part that changes the text and the place alone
 
 pub redraws_told : (s : Recording Contents) (start : ℕ) (old new : Around) (x y : List ℕ) (f : Here → State → Out Here)
@@ -173,11 +393,3 @@ pub redraws_told : (s : Recording Contents) (start : ℕ) (old new : Around) (x 
 redraws_told s start old new x y f next sound r = record {
   told = (goes_on_still s sound, r next (state_of s.store (drop start x)));
 }
-
--- the cursor was set, and the place is another
-pub cursor_told : {s t : Recording Contents} {x y : List ℕ} (r : Result Upper End) (here : Here) (upper : Upper)
-    (row column : ℕ) → Told r s x t y (put_cursor upper row column)
-    → Told (seen (λ moved. record here { upper = Some moved }) r) s x t y (cursor_to here upper row column)
-cursor_told (Ok moved) here upper row column w =
-    told_then _ w (told_still _ _ _ (told_sound w) refl)
-cursor_told (Err e) here upper row column w = told_no_further _ w

@@ -1,7 +1,7 @@
 //! The upper window (Z-Machine Standards Document 1.1, sections 8.6, 8.7 and 15). Its text is the
 //! end of the turn's text, until a read shows it or it is dropped.
 
-ghost use Rattle.std.specs.Prelude.{◌≡◌, ◌≤◌, ◌<◌, ◌+◌, ◌++◌, length, take, drop, replicate, OnOk, OnErr};
+ghost use Rattle.std.specs.Prelude.{◌≡◌, ◌≤◌, ◌<◌, ◌+◌, ◌++◌, ◌&&◌, length, take, drop, replicate, OnOk, OnErr, Some};
 ghost use Rattle.zcore_standard.specs.Windows as definitions;
 ghost use Rattle.machine_frames.specs.States.{IsSound};
 ghost use Rattle.machine_opcodes.specs.Printed.{HasBegun, ToldFrom};
@@ -56,14 +56,18 @@ pub fn set_window(
         select_lower(text, start, around);
         return Ok(next);
     }
-    let Some(upper) = open_upper(around) else {
-        begin_upper(text, start, around);
-        return Ok(next);
-    };
-    let moved = put_cursor(store, text, start, upper, 1, 1)?;
-    around.beside.window = UPPER;
-    around.upper = Some(moved);
-    Ok(next)
+    match open_upper(around) {
+        None => {
+            begin_upper(text, start, around);
+            Ok(next)
+        }
+        Some(upper) => {
+            let moved = put_cursor(store, text, start, upper, 1, 1)?;
+            around.beside.window = UPPER;
+            around.upper = Some(moved);
+            Ok(next)
+        }
+    }
 }
 
 /// Selects the lower window.
@@ -104,8 +108,9 @@ pub(crate) fn settle(text: &mut Vec<u8>, start: usize, around: &mut Around)
         around.upper = None;
         return;
     }
-    if let None = around.upper {
-        around.upper = Some(begun_at((text.len() - start) as u32));
+    match around.upper {
+        None => around.upper = Some(begun_at((text.len() - start) as u32)),
+        Some(_) => {}
     }
 }
 
@@ -116,8 +121,9 @@ pub(crate) fn drop_upper(text: &mut Vec<u8>, start: usize, upper: Option<Upper>)
         ≡ definitions.lower upper (drop start text.old.items) }
     ensures text { Keeps start text.old.items text.new.items }
 {
-    if let Some(upper) = upper {
-        cut(text, start, upper.from);
+    match upper {
+        None => {}
+        Some(upper) => cut(text, start, upper.from),
     }
 }
 
@@ -136,11 +142,10 @@ fn begun_at(from: u32) -> Upper
 fn open_upper(around: &Around) -> Option<Upper>
     ensures { (next : Next) → result ≡ definitions.open_upper (place around.now next) }
 {
-    if around.streams.as_slice().len() == 0 {
-        around.upper
-    } else {
-        None
+    if around.streams.as_slice().len() != 0 {
+        return None;
     }
+    around.upper
 }
 
 /// Sets the cursor of the upper window: `set_cursor`.
@@ -164,15 +169,24 @@ pub fn set_cursor(
     ensures text { Keeps start text.old.items text.new.items }
     ensures around { OnErr result (around.new ≡ around.old) }
 {
-    if !is_place(row) || !is_place(column) {
+    if !are_places(row, column) {
         return Ok(next);
     }
-    let Some(upper) = open_upper(around) else {
-        return Ok(next);
-    };
-    let moved = put_cursor(store, text, start, upper, row, column)?;
-    around.upper = Some(moved);
-    Ok(next)
+    match open_upper(around) {
+        None => Ok(next),
+        Some(upper) => {
+            let moved = put_cursor(store, text, start, upper, row, column)?;
+            around.upper = Some(moved);
+            Ok(next)
+        }
+    }
+}
+
+/// Whether these are a row and a column.
+fn are_places(row: u16, column: u16) -> bool
+    ensures { result ≡ (definitions.is_place row && definitions.is_place column) }
+{
+    is_place(row) && is_place(column)
 }
 
 /// Whether a number is that of a row or a column.
@@ -198,10 +212,11 @@ fn put_cursor(
         (definitions.put_cursor upper row column) }
     ensures text { Keeps start text.old.items text.new.items }
 {
-    let begin = place_at(start, upper.from, text);
-    let end = begin + bare_length(&text[begin..]);
-    let is_in_row = row_of(upper, text, start) == row as usize;
-    let (lines, spaces) = way_to(is_in_row, column as usize, &text[begin..end]);
+    let printed = text.as_slice();
+    let begin = place_at(start, upper.from, printed);
+    let end = begin + bare_length(&printed[begin..]);
+    let is_in_row = row_of(upper, printed, start) == row as usize;
+    let (lines, spaces) = way_to(is_in_row, column as usize, &printed[begin..end]);
     let long = end + lines + spaces;
     if TEXT_LIMIT < long - start {
         return Err(End::Stop(Place::Limit(Limit::Text)));
@@ -290,9 +305,10 @@ pub fn split_window(text: &mut Vec<u8>, start: usize, around: &mut Around, lines
         (λ here. definitions.split_window here lines) }
     ensures text { Keeps start text.old.items text.new.items }
 {
-    if lines == 0 {
-        erase_upper(text, start, around);
+    if lines != 0 {
+        return;
     }
+    erase_upper(text, start, around);
 }
 
 /// Erases the upper window, where it is there and no stream is open.
@@ -302,9 +318,12 @@ fn erase_upper(text: &mut Vec<u8>, start: usize, around: &mut Around)
         definitions.erase_upper }
     ensures text { Keeps start text.old.items text.new.items }
 {
-    if let Some(upper) = open_upper(around) {
-        cut(text, start, upper.from);
-        around.upper = Some(begun_at(upper.from));
+    match open_upper(around) {
+        None => {}
+        Some(upper) => {
+            cut(text, start, upper.from);
+            around.upper = Some(begun_at(upper.from));
+        }
     }
 }
 
@@ -324,15 +343,29 @@ pub(crate) fn show_upper(
 {
     match around.upper {
         None => Ok(()),
-        Some(upper) => {
-            if around.beside.window == LOWER {
-                cut(text, start, upper.from);
-                Ok(())
-            } else {
-                show_text(store, text, start, upper)
-            }
-        }
+        Some(upper) => show_or_drop(store, text, start, upper, around.beside.window),
     }
+}
+
+/// The same, where the upper window is there.
+fn show_or_drop(
+    store: &mut Recorded<Store>,
+    text: &mut Vec<u8>,
+    start: usize,
+    upper: Upper,
+    window: u16,
+) -> Result<(), End>
+    requires sound { IsSound store.old.store }
+    requires text { HasBegun start text.old.items }
+    ensures told { ToldFrom start result store.old text.old.items store.new text.new.items
+        (definitions.show_in (Some upper) window) }
+    ensures text { Keeps start text.old.items text.new.items }
+{
+    if window == LOWER {
+        cut(text, start, upper.from);
+        return Ok(());
+    }
+    show_text(store, text, start, upper)
 }
 
 /// Shows the text of the upper window, in lines of its own. The limit of text, and then the text
@@ -349,14 +382,15 @@ fn show_text(
         (definitions.show_text upper) }
     ensures text { Keeps start text.old.items text.new.items }
 {
-    let begin = place_at(start, upper.from, text);
-    let end = begin + bare_length(&text[begin..]);
+    let printed = text.as_slice();
+    let begin = place_at(start, upper.from, printed);
+    let end = begin + bare_length(&printed[begin..]);
     if end == begin {
         text.truncate(begin);
         return Ok(());
     }
-    let before = missing_lines(&text[start..begin]);
-    let after = missing_lines(&text[begin..end]);
+    let before = missing_lines(&printed[start..begin]);
+    let after = missing_lines(&printed[begin..end]);
     if TEXT_LIMIT < end + before + after - start {
         return Err(End::Stop(Place::Limit(Limit::Text)));
     }
@@ -386,10 +420,25 @@ fn set_apart(
     ensures longer { length text.old.items ≤ length text.new.items }
     ensures few { length text.new.items ≤ length text.old.items + before + after }
 {
-    if before == 1 {
-        let Ok(()) = text.insert(at, b'\n') else {
-            return Err(AllocError);
-        };
-    }
+    insert_lines(text, at, before)?;
     text.resize(text.len() + after, b'\n')
+}
+
+/// Puts newlines into a text: none or one.
+fn insert_lines(text: &mut Vec<u8>, at: usize, lines: usize) -> Result<(), AllocError>
+    requires at { at ≤ length text.old.items }
+    requires few { lines ≤ 1 }
+    ensures inserted { OnOk result (text.new.items
+        ≡ take at text.old.items ++ (replicate lines 10 ++ drop at text.old.items)) }
+    ensures front { take at text.new.items ≡ take at text.old.items }
+    ensures longer { length text.old.items ≤ length text.new.items }
+    ensures few { length text.new.items ≤ length text.old.items + lines }
+{
+    if lines == 0 {
+        return Ok(());
+    }
+    match text.insert(at, b'\n') {
+        Ok(()) => Ok(()),
+        Err(_) => Err(AllocError),
+    }
 }

@@ -18,7 +18,8 @@ use Rattle.machine_frames.specs.declared.end.End.{End}
 use Rattle.machine_frames.proofs.Steps.{told_as, told_went, told_still}
 use Rattle.machine_opcodes.specs.Seen.{seen}
 use Rattle.machine_standard_opcodes.proofs.Keeping.{told_within}
-use Rattle.machine_standard_steps.specs.Kinds.{does_nothing, gives_word, branches, prints, is_quiet, GivesWord}
+use Rattle.machine_standard_steps.specs.Kinds.{does_nothing, is_on_windows, gives_word, branches, prints, is_quiet}
+use Rattle.machine_standard_steps.specs.Kinds.{GivesWord}
 use Rattle.machine_standard_steps.specs.Kinds.{BranchesBy}
 
 -- the operations that do nothing
@@ -30,10 +31,7 @@ nothing_done : (loaded : Loaded) (operation : Further) (here : Next) (after : �
 unfolding perform_keeping
 nothing_done loaded operations.ShowStatus here after result branch values s e = refl
 nothing_done loaded operations.SetColour here after result branch values s e = refl
-nothing_done loaded operations.SplitWindow here after result branch values s e = refl
-nothing_done loaded operations.EraseWindow here after result branch values s e = refl
 nothing_done loaded operations.EraseLine here after result branch values s e = refl
-nothing_done loaded operations.SetCursor here after result branch values s e = refl
 nothing_done loaded operations.SetTextStyle here after result branch values s e = refl
 nothing_done loaded operations.BufferMode here after result branch values s e = refl
 nothing_done loaded operations.InputStream here after result branch values s e = refl
@@ -79,28 +77,41 @@ pub quiet : (operation : Further) → does_nothing operation ≡ false → gives
     → is_quiet operation ≡ true
 quiet operation a b c m n = rw (a, b, c, prints_not operation m n) refl
 
--- window, dice and streams stay
+-- windows, dice and streams stay
 
 keeping_is : (loaded : Loaded) (operation : Further) (here : Here) (after : ℕ) (result : Option ℕ)
     (branch : Option Branch) (values : List ℕ) (s : State) → operation ≢ operations.Restart
     → operation ≢ operations.Random → operation ≢ operations.Read → operation ≢ operations.ReadChar
-    → operation ≢ operations.OutputStream → perform_further loaded operation here after result branch values s
+    → operation ≢ operations.OutputStream → is_on_windows operation ≡ false
+    → perform_further loaded operation here after result branch values s
     ≡ within here (perform_keeping loaded operation here.next after result branch values s)
 unfolding perform_further
-keeping_is loaded operations.Restart here after result branch values s m n k j l = absurd (m refl)
-keeping_is loaded operations.Random here after result branch values s m n k j l = absurd (n refl)
-keeping_is loaded operations.Read here after result branch values s m n k j l = absurd (k refl)
-keeping_is loaded operations.ReadChar here after result branch values s m n k j l = absurd (j refl)
-keeping_is loaded operations.OutputStream here after result branch values s m n k j l = absurd (l refl)
-keeping_is loaded _ here after result branch values s m n k j l = refl
+keeping_is loaded operations.Restart here after result branch values s m n k j l e = absurd (m refl)
+keeping_is loaded operations.Random here after result branch values s m n k j l e = absurd (n refl)
+keeping_is loaded operations.Read here after result branch values s m n k j l e = absurd (k refl)
+keeping_is loaded operations.ReadChar here after result branch values s m n k j l e = absurd (j refl)
+keeping_is loaded operations.OutputStream here after result branch values s m n k j l e = absurd (l refl)
+keeping_is loaded operations.SetWindow here after result branch values s m n k j l e = absurd (cc)
+keeping_is loaded operations.SetCursor here after result branch values s m n k j l e = absurd (cc)
+keeping_is loaded operations.EraseWindow here after result branch values s m n k j l e = absurd (cc)
+keeping_is loaded operations.SplitWindow here after result branch values s m n k j l e = absurd (cc)
+keeping_is loaded _ here after result branch values s m n k j l e = refl
+
+pub not_on_windows : (operation : Further) → operation ≢ operations.SetWindow → operation ≢ operations.SetCursor
+    → operation ≢ operations.EraseWindow → operation ≢ operations.SplitWindow → is_on_windows operation ≡ false
+not_on_windows operations.SetWindow a b c d = absurd (a refl)
+not_on_windows operations.SetCursor a b c d = absurd (b refl)
+not_on_windows operations.EraseWindow a b c d = absurd (c refl)
+not_on_windows operations.SplitWindow a b c d = absurd (d refl)
+not_on_windows _ a b c d = refl
 
 pub keeping_told : {s t : Recording Contents} {x y : List ℕ} (r : Result Next End) (loaded : Loaded)
     (operation : Further) (here : Here) (after : ℕ) (result : Option ℕ) (branch : Option Branch)
     (values : List ℕ) → operation ≢ operations.Restart → operation ≢ operations.Random → operation ≢ operations.Read
-    → operation ≢ operations.ReadChar → operation ≢ operations.OutputStream
+    → operation ≢ operations.ReadChar → operation ≢ operations.OutputStream → is_on_windows operation ≡ false
     → Told r s x t y (perform_keeping loaded operation here.next after result branch values)
     → Told (seen (on here) r) s x t y (perform_further loaded operation here after result branch values)
-keeping_told {s} {x = x} r loaded operation here after result branch values m n k j l w =
+keeping_told {s} {x = x} r loaded operation here after result branch values m n k j l e w =
     told_as (seen (on here) r) (perform_further loaded operation here after result branch values)
-    (keeping_is loaded operation here after result branch values (state_of s.store x) m n k j l)
+    (keeping_is loaded operation here after result branch values (state_of s.store x) m n k j l e)
     (told_within r here (perform_keeping loaded operation here.next after result branch values) w)

@@ -11,8 +11,6 @@ use Rattle.zcore.specs.Parts.{fault, operand_values}
 use Rattle.zcore.specs.State.{State, Out, ◌>>=◌}
 use Rattle.zcore.specs.Turn.{weight}
 use Rattle.zcore_standard.specs.declared.operations.Further.{Further}
-use Rattle.zcore_standard.specs.declared.streams.Stream.{Stream}
-use Rattle.zcore_standard.specs.Streams.{close_all}
 use Rattle.zcore_standard.specs.Place.{Here, on, within}
 use Rattle.zcore_standard.specs.Loaded.{Loaded}
 use Rattle.zcore_standard.specs.Instruction.{Instruction, decode_further}
@@ -26,7 +24,7 @@ use Rattle.machine_frames.specs.States.{state_of, IsSound}
 use Rattle.machine_frames.specs.Went.{Went, Told}
 use Rattle.machine_frames.specs.declared.end.End.{End}
 use Rattle.machine_frames.specs.declared.end.End.TheVariants as ends
-use Rattle.machine_frames.proofs.Steps.{went_no_further, told_no_further, told_as, told_went, told_then, told_halt}
+use Rattle.machine_frames.proofs.Steps.{went_no_further, told_as, told_went, told_then, told_halt}
 use Rattle.machine_opcodes.specs.Seen.{seen}
 use Rattle.machine_standard_opcodes.specs.Around.{place}
 use Rattle.machine_standard_opcodes.specs.declared.around.Around.{Around}
@@ -102,22 +100,6 @@ told_err_seen view r h w =
     let p = err_from_is_err_and r h in
     rw (p.1, p.2) w
 
--- A line or a key is waited for after the streams are closed
-
-pub read_stops : {s t : Recording Contents} {x y : List ℕ} {e : End} (view : Next → Here) (r : Result Next End)
-    (extra characters : List ℕ) (streams : List Stream) (here : Here) (f : State → Out Next)
-    → IsErrAnd r (λ q. q ≡ e) → characters ≡ extra → streams ≡ here.streams
-    → Told {A = Unit {0}} (Err e) s x t y (close_all characters streams)
-    → Told (seen view r) s x t y (close_all extra here.streams >>= λ _ u. within here (f u))
-read_stops {s} {t} {x} {y} {e} view r extra characters streams here f h a b w =
-    told_err_seen view r h (told_no_further _ (subst (λ c. Told {A = Unit {0}} (Err e) s x t y
-    (close_all c here.streams)) a (subst (λ l. Told {A = Unit {0}} (Err e) s x t y (close_all characters l)) b w)))
-
-pub read_goes : {s t u : Recording Contents} {x y : List ℕ} (r : Result Next End) (extra characters : List ℕ)
-    (streams : List Stream) (here : Here) (f : State → Out Next) → characters ≡ extra → streams ≡ here.streams
-    → Told (Ok tt) s x t y (close_all characters streams) → Went r t u f
-    → Told (seen (on here) r) s x u y (close_all extra here.streams >>= λ _ v. within here (f v))
-read_goes {s} {t} {u} {x} {y} r extra characters streams here f a b w v =
-    told_then _ (subst (λ c. Told (Ok tt) s x t y (close_all c here.streams)) a
-    (subst (λ l. Told (Ok tt) s x t y (close_all characters l)) b w))
-    (told_within r here f (told_went _ _ v))
+-- a place where no turn goes on, for what holds of every place
+pub nowhere : Next
+nowhere = record { program_counter = 0; fuel = 0 }

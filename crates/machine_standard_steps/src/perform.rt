@@ -119,15 +119,20 @@ fn perform_on_windows(
         fuel: here.fuel,
     };
     match operation {
-        Further::SetWindow => return set_window(store, text, start, around, next, values[0]),
+        Further::SetWindow => set_window(store, text, start, around, next, values[0]),
         Further::SetCursor => {
-            return set_cursor(store, text, start, around, next, values[0], values[1]);
+            set_cursor(store, text, start, around, next, values[0], values[1])
         }
-        Further::EraseWindow => erase_window(text, start, around, values[0]),
-        Further::SplitWindow => split_window(text, start, around, values[0]),
+        Further::EraseWindow => {
+            erase_window(text, start, around, values[0]);
+            Ok(next)
+        }
+        Further::SplitWindow => {
+            split_window(text, start, around, values[0]);
+            Ok(next)
+        }
         _ => unreachable!(),
     }
-    Ok(next)
 }
 
 /// Does a further operation that leaves windows, dice and streams as they are.

@@ -1,7 +1,6 @@
 use Rattle.std.proofs.Common.{◌∙◌, ap, drop, length, subst, arith}
 use Rattle.std.proofs.lemmas.List.{length-drop}
 use Rattle.ztext.specs.Bytes.{word_at}
-use Rattle.zcore_standard.specs.Streams.{heard}
 use Rattle.machine_frames.specs.Contents.{memory_of}
 use Rattle.machine_lines.specs.Lines.{Fills}
 use Rattle.machine_frames.proofs.Kept.{length-memory}
@@ -46,5 +45,4 @@ returns-clause-told c =
     (place c.args.around.now c.args.here) _ c.dice-around.result c.clear.new.self.items c.dice-around.ensures
     c.clear.ensures c.if-here-eq0.false (ap (λ m. word_at m 6) memory) (subst (λ bytes. Fills c.args.store.now c.fill.new.store 64 bytes)
     (c.after_header.ensures ∙ ap (drop 64) c.dynamic.ensures) c.in_ok-fill.ensures.filled) c.in_ok-empty.ensures.emptied
-    (c.cut_to_heard.ensures.heard
-    ∙ ap (λ l. heard l (drop c.args.start c.args.text.now.items)) c.as_slice.ensures.value)
+    (c.cut_to_heard.ensures.heard c.args.here)

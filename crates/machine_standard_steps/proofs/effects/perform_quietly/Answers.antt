@@ -39,5 +39,8 @@ returns-in-SetWindow c = λ loaded. elim c.in-SetWindow.is [
   | inr (inr (inl e)) ↦ rw e (went_halt _ _ c.requires.store.sound (λ t. refl))
   | inr (inr (inr (inl e))) ↦ rw e (went_halt _ _ c.requires.store.sound (λ t. refl))
   | inr (inr (inr (inr (inl e)))) ↦ rw e (went_halt _ _ c.requires.store.sound (λ t. refl))
-  | inr (inr (inr (inr (inr e)))) ↦ rw e (went_halt _ _ c.requires.store.sound (λ t. refl))
+  | inr (inr (inr (inr (inr (inl e))))) ↦ rw e (went_halt _ _ c.requires.store.sound (λ t. refl))
+  | inr (inr (inr (inr (inr (inr (inl e)))))) ↦ rw e (went_halt _ _ c.requires.store.sound (λ t. refl))
+  | inr (inr (inr (inr (inr (inr (inr (inl e))))))) ↦ rw e (went_halt _ _ c.requires.store.sound (λ t. refl))
+  | inr (inr (inr (inr (inr (inr (inr (inr e))))))) ↦ rw e (went_halt _ _ c.requires.store.sound (λ t. refl))
 ]

@@ -38,7 +38,8 @@ returns c =
     let stops = subst (λ first. StopsBy (standard_step c.args.self.now.loaded) first (state_of c.args.store.now.store [])
     (place c.run.new.around c.in_ok-here.here) c.in_ok-here.place
     (state_of c.run.new.store.store (drop (length c.args.text.now.items) c.run.new.text.items)))
-    (begun_place _ c.args.kept c.args.first c.new-around.ensures.beside c.new-around.ensures.streams) r.stops in
+    (begun_place _ c.args.kept c.args.first c.new-around.ensures.beside c.new-around.ensures.streams
+    c.new-around.ensures.upper) r.stops in
     record {
       whole = standard_whole c.args.self.now.loaded _ c.run.new.around c.in_ok-here.here c.in_ok-here.place _
           c.run.new.store.store c.end.new.store.store c.run.new.text.items c.cut_to_shown.new.text.items

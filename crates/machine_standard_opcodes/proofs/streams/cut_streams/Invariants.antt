@@ -1,7 +1,7 @@
 use Rattle.std.proofs.Common.{◌≡◌, drop}
 use Rattle.zcore_standard.specs.Streams.{heard}
 use Rattle.machine_standard_opcodes.specs.Around.{Keeps}
-use Rattle.machine_standard_opcodes.proofs.streams.cut_to_heard.Given as goal
+use Rattle.machine_standard_opcodes.proofs.streams.cut_streams.Given as goal
 
 abbrev pub invariant-loop-i : goal.invariant-loop-i
 invariant-loop-i l = record {

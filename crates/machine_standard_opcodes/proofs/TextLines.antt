@@ -5,6 +5,7 @@ use Rattle.std.specs.Prelude.{◌==◌, ◌&&◌, nat_lt}
 use Rattle.std.specs.List.{count_by, prefix_len, suffix_len}
 use Rattle.std.proofs.lemmas.Bool.{eqb-true, eq-eqb, ne_eqb, lt-ltb, le-ltb}
 use Rattle.std.proofs.lemmas.List.{append-nil, append_assoc, drop_all, length-append, length-drop, nil_from_length, reverse-append}
+use Rattle.std.proofs.lemmas.List.{take_all}
 use Rattle.std.proofs.lemmas.List.Sums.{suffix_len-le-length}
 use Rattle.std.proofs.Math.Seq.{drop-append-add}
 use Rattle.zcore_standard.specs.Windows.{begins_character, is_space, without_spaces, last_line, width, with_new_line}
@@ -31,6 +32,11 @@ bare_is text n e = ap (λ k. take k text) e
 pub last_is : (text : List ℕ) (n : ℕ) → n ≡ length text - suffix_len is_in_line text → drop n text ≡ last_line text
 unfolding last_line
 last_is text n e = ap (λ k. drop k text) e
+
+-- the same, of a part of a text
+pub last_part : (text : List ℕ) (n : ℕ) → n ≡ length text - suffix_len is_in_line text
+    → take (length text - n) (drop n text) ≡ last_line text
+last_part text n e = take_all (length text - n) (drop n text) (omega (arith, length-drop n text)) ∙ last_is text n e
 
 length-last_line : (text : List ℕ) → length (last_line text) ≡ suffix_len is_in_line text
 unfolding last_line

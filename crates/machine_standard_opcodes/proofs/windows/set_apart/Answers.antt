@@ -1,0 +1,6 @@
+use Rattle.machine_standard_opcodes.proofs.Drawing.{set_apart_is}
+use Rattle.machine_standard_opcodes.proofs.windows.set_apart.Goals as goal
+
+pub returns-clause-apart : goal.returns-clause-apart
+returns-clause-apart c = set_apart_is c.resize.result c.args.at _ c.args.before c.args.after c.args.text.now.items
+    c.insert_lines.new.text.items _ c.in_ok-insert_lines.ensures.inserted (omega arith) c.resize.ensures.items
