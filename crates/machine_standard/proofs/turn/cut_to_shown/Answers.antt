@@ -11,5 +11,5 @@ pub returns-in-Waiting-clause-text : goal.returns-in-Waiting-clause-text
 returns-in-Waiting-clause-text c = keeps_still _ _ c.requires
 
 pub returns-in_default-clause-shown : goal.returns-in_default-clause-shown
-returns-in_default-clause-shown c = λ here. c.cut_to_heard.ensures.heard
+returns-in_default-clause-shown c = λ here. (rw c.as_slice.ensures.value at c.cut_to_heard.ensures.heard)
     ∙ sym (shown_heard (place c.args.around.now here) _ _ c.in_default.not-Waiting)
