@@ -1,3 +1,4 @@
+use Rattle.std.proofs.Common.{arith}
 use Rattle.machine_standard_opcodes.proofs.Drawing.{set_apart_is}
 use Rattle.machine_standard_opcodes.proofs.windows.set_apart.Goals as goal
 
