@@ -287,11 +287,11 @@ apart_are start begin end before after x le first second =
       second = second;
     }
 
-pub lines_shown : {start begin end before after : ℕ} {upper : Upper} {x : List ℕ} (y : List ℕ) → start ≤ length x
+pub lines_shown : {start begin end before after : ℕ} (upper : Upper) {x : List ℕ} (y : List ℕ) → start ≤ length x
     → begin < end → Bounds start begin end upper.from x → Apart start begin end before after x
     → y ≡ take begin x ++ (replicate before 10 ++ (take (end - begin) (drop begin x) ++ replicate after 10))
     → drop start y ≡ with_upper upper (drop start x)
-lines_shown {start} {begin} {end} {before} {after} {upper} {x} y begun some b w e =
+lines_shown {start} {begin} {end} {before} {after} upper {x} y begun some b w e =
     let ahead = front_is start upper.from begin x begun b.at in
     let behind = behind_is start upper.from begin x begun b.at in
     let long = length-take-le begin x (omega (arith, some, b.within)) in
@@ -322,14 +322,14 @@ length-lines begin end before after x lt le =
       lt,
     )
 
-pub lines_long : {start begin end before after : ℕ} {upper : Upper} {x : List ℕ} → start ≤ length x
+pub lines_long : {start begin end before after : ℕ} (upper : Upper) {x : List ℕ} → start ≤ length x
     → begin < end → Bounds start begin end upper.from x → Apart start begin end before after x
     → length (with_upper upper (drop start x)) ≡ end + before + after - start
-lines_long {start} {begin} {end} {before} {after} {upper} {x} begun some b w =
+lines_long {start} {begin} {end} {before} {after} upper {x} begun some b w =
     let y = take begin x ++ (replicate before 10 ++ (take (end - begin) (drop begin x) ++ replicate after 10)) in
     omega (
       arith,
-      ap length (lines_shown y begun some b w refl),
+      ap length (lines_shown upper y begun some b w refl),
       length-drop start y,
       length-lines begin end before after x some b.within,
     )
@@ -360,18 +360,18 @@ apart_is begin end before after x t y le cut e =
     e ∙ ap (λ l. l ++ (replicate before 10 ++ (drop begin t ++ replicate after 10))) front
     ∙ ap (λ l. take begin x ++ (replicate before 10 ++ (l ++ replicate after 10))) back
 
-pub set_apart_is : {E : Type 0} (r : Result (Unit {0}) E) (at n before after : ℕ) (x t y : List ℕ)
-    → t ≡ take at x ++ (replicate before 10 ++ drop at x) → n ≡ length t + after
-    → y ≡ (if is_ok r then take n t ++ replicate (n - length t) 10 else t)
+pub set_apart_is : {E : Type 0} (r : Result (Unit {0}) E) (at n m before after : ℕ) (x t y : List ℕ)
+    → t ≡ take at x ++ (replicate before 10 ++ drop at x) → m ≡ length t → n ≡ m + after
+    → y ≡ (if is_ok r then take n t ++ replicate (n - m) 10 else t)
     → OnOk r (y ≡ take at x ++ (replicate before 10 ++ (drop at x ++ replicate after 10)))
-set_apart_is (Ok u) at n before after x t y e long items =
-    let all : take n t ≡ t = take_all n t (omega (arith, long)) in
-    let more : n - length t ≡ after = omega (arith, long) in
-    items ∙ ap (λ l. l ++ replicate (n - length t) 10) (all ∙ e)
+set_apart_is (Ok u) at n m before after x t y e size long items =
+    let all : take n t ≡ t = take_all n t (omega (arith, long, size)) in
+    let more : n - m ≡ after = omega (arith, long) in
+    items ∙ ap (λ l. l ++ replicate (n - m) 10) (all ∙ e)
     ∙ ap (λ k. take at x ++ (replicate before 10 ++ drop at x) ++ replicate k 10) more
     ∙ append_assoc (take at x) (replicate before 10 ++ drop at x) (replicate after 10)
     ∙ ap (λ l. take at x ++ l) (append_assoc (replicate before 10) (drop at x) (replicate after 10))
-set_apart_is (Err f) at n before after x t y e long items = tt
+set_apart_is (Err f) at n m before after x t y e size long items = tt
 
 -- A part that changes the text and the place alone
 
