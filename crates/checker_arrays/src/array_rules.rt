@@ -61,12 +61,7 @@ fn count_rule(position: Position, kind: ArrayKind, count: usize, least: &mut Lea
 
 // A size, and how many zeros it makes.
 #[tactic(auto, using(checker_names::proofs::Noted::noted_none))]
-fn zeros_of(
-    position: Position,
-    kind: ArrayKind,
-    size: Option<Known>,
-    least: &mut Least,
-) -> usize
+fn zeros_of(position: Position, kind: ArrayKind, size: Option<Known>, least: &mut Least) -> usize
     ensures value { result ≡ spec.zeros kind size }
     ensures breaches { least.new ≡ noted least.old (spec.size_breaches position kind size) }
 {

@@ -85,7 +85,7 @@ first_is (x ∷ bs) (Some b) h = let l = first_from bs x b h in (l.0, (l.1, l.2)
 -- one more of the list
 noted_more : (t : Bool) (l : Least) (b : Breach) (bs : List Breach) → is_after l.after b ≡ t
     → (noted (record l { found = first_of_two l.found b; count = one_more l.count }) bs).found
-      ≡ first_from_list (first_of_two l.found b) (filter (is_after l.after) bs)
+    ≡ first_from_list (first_of_two l.found b) (filter (is_after l.after) bs)
     → (noted l bs).found ≡ first_from_list l.found (filter (is_after l.after) bs)
     → (noted (met l b) bs).found ≡ first_from_list l.found (cond t (b ∷ filter (is_after l.after) bs) (filter (is_after l.after) bs))
 unfolding first_from_list
@@ -104,10 +104,10 @@ counted_more n m = grind (arith, nat_tests)
 
 counts_more : (t : Bool) (l : Least) (b : Breach) (bs : List Breach) → is_after l.after b ≡ t
     → (noted (record l { found = first_of_two l.found b; count = one_more l.count }) bs).count
-      ≡ counted (one_more l.count + length (filter (is_after l.after) bs))
+    ≡ counted (one_more l.count + length (filter (is_after l.after) bs))
     → (noted l bs).count ≡ counted (l.count + length (filter (is_after l.after) bs))
     → (noted (met l b) bs).count
-      ≡ counted (l.count + length (cond t (b ∷ filter (is_after l.after) bs) (filter (is_after l.after) bs)))
+    ≡ counted (l.count + length (cond t (b ∷ filter (is_after l.after) bs) (filter (is_after l.after) bs)))
 counts_more true l b bs e h k = rw e (h ∙ counted_more l.count (length (filter (is_after l.after) bs)))
 counts_more false l b bs e h k = rw e k
 

@@ -32,7 +32,7 @@ one_more count = if nat_lt count most_counted then count + 1 else count
 abbrev pub met : Least → Breach → Least
 met least b =
     if is_after least.after b then
-      record least { found = first_of_two least.found b; count = one_more least.count }
+    record least { found = first_of_two least.found b; count = one_more least.count }
     else least
 
 -- what is known when one that was met and a list are

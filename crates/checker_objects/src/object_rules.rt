@@ -252,11 +252,7 @@ fn repeated_few(names: &[Name<'_>], least: &mut Least)
 }
 
 // Two of one name, where each is looked up in a table of those before it: quick for many names.
-fn repeated_many(
-    names: &[Name<'_>],
-    alloc: Global,
-    least: &mut Least,
-) -> Result<(), AllocError>
+fn repeated_many(names: &[Name<'_>], alloc: Global, least: &mut Least) -> Result<(), AllocError>
     ensures { OnOk result (least.new ≡ noted least.old
         (repeated_breaches [] (map name_tree names.now))) }
 {

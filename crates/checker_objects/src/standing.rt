@@ -61,12 +61,7 @@ fn arrow_rule(above: Option<(usize, usize)>, arrows: &[Position], least: &mut Le
 
 // The name of a parent, by what it stands for: one of the objects before.
 #[tactic(auto, using(checker_names::proofs::Noted::noted_none))]
-fn parent_kind(
-    position: Position,
-    before: usize,
-    found: Option<Binding>,
-    least: &mut Least,
-)
+fn parent_kind(position: Position, before: usize, found: Option<Binding>, least: &mut Least)
     ensures { least.new ≡ noted least.old (spec.parent_breaches position before found) }
 {
     match found {

@@ -741,12 +741,7 @@ fn tested(
 }
 
 // A name as the left side of an assignment, whose operator stands at this position.
-fn left_name(
-    name: Name<'_>,
-    scope: &Scope<'_>,
-    operator: Position,
-    least: &mut Least,
-) -> Value
+fn left_name(name: Name<'_>, scope: &Scope<'_>, operator: Position, least: &mut Least) -> Value
     ensures { IsWalked
         (target_breaches name.entry.position operator (look_in scope.now name.entry.text.now))
         least.old least.new (value_of result)

@@ -56,12 +56,7 @@ fn value_rules(position: Position, found: Option<Binding>, least: &mut Least)
 }
 
 /// A name as a value.
-pub fn value(
-    name: Name<'_>,
-    numbers: &Numbers,
-    found: Option<Binding>,
-    least: &mut Least,
-) -> Value
+pub fn value(name: Name<'_>, numbers: &Numbers, found: Option<Binding>, least: &mut Least) -> Value
     ensures value { value_of result ≡ value_of_binding (number_at numbers.now) found }
     ensures breaches { least.new ≡ noted least.old (value_breaches name.entry.position found) }
 {
@@ -93,12 +88,7 @@ fn wrong_kind(position: Position, least: &mut Least) -> usize
 
 /// A name that is called with so many arguments.
 #[tactic(auto, using(checker_names::proofs::Noted::noted_none))]
-pub fn routine(
-    name: Name<'_>,
-    given: usize,
-    found: Option<Binding>,
-    least: &mut Least,
-) -> usize
+pub fn routine(name: Name<'_>, given: usize, found: Option<Binding>, least: &mut Least) -> usize
     ensures value { result ≡ routine_of_binding found }
     ensures breaches { least.new ≡ noted least.old (call_breaches name.entry.position given found) }
 {
