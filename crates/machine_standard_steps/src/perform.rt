@@ -72,9 +72,7 @@ pub(crate) fn perform_further(
                 values[0],
             )
         }
-        Further::Read => read_line(
-            header, store, text, start, loaded, around, values, ending,
-        ),
+        Further::Read => read_line(header, store, text, start, loaded, around, values, ending),
         Further::ReadChar => read_key(header, store, text, start, loaded, around, ending),
         Further::OutputStream => output_stream(
             header,
