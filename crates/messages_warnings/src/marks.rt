@@ -6,7 +6,7 @@ ghost use Rattle.messages_warnings.specs.InOrder.{AreInOrder};
 use std::alloc::{AllocError, Global};
 
 /// What a warning is about.
-#[derive(Clone, Copy, Debug, PartialEq, Eq)]
+#[derive(Clone, Copy)]
 pub enum Concern {
     /// The `=` of a condition that is an assignment.
     Assigns,
@@ -35,7 +35,7 @@ pub enum Concern {
 }
 
 /// A warning: the number of the token that it is about, and what it says of it.
-#[derive(Clone, Copy, Debug, PartialEq, Eq)]
+#[derive(Clone, Copy)]
 pub struct Warning {
     pub at: usize,
     pub concern: Concern,
