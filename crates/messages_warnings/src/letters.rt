@@ -29,13 +29,13 @@ pub struct Groups {
     letters: Vec<Letter>,
 }
 
-/// What a program means, where values are grouped.
+/// What is known of the tokens: where each name is defined, and where parentheses open.
 #[derive(Clone, Copy)]
-pub struct Meant<'m> {
-    pub meant: &'m [usize],
+pub struct Context<'c> {
+    pub meant: &'c [usize],
 
     /// For each `)` the number of its `(`.
-    pub openings: &'m [usize],
+    pub openings: &'c [usize],
 }
 
 impl Groups {
@@ -96,19 +96,19 @@ fn subject_of(tokens: &[Token<'_>], openings: &[usize], last: usize) -> usize {
 /// The group of what is compared: its last token has a number, and so has the operator.
 fn group_of(
     tokens: &[Token<'_>],
-    meant: Meant<'_>,
+    context: Context<'_>,
     last: usize,
     operator: usize,
     groups: &mut Groups,
 ) -> usize {
-    let subject = subject_of(tokens, meant.openings, last);
+    let subject = subject_of(tokens, context.openings, last);
     if !is_name(tokens, subject) {
         return operator;
     }
     if is_named(tokens, subject, NAME) {
         set_flag(&mut groups.has_words, operator);
     }
-    match number_at(meant.meant, subject) {
+    match number_at(context.meant, subject) {
         NONE => operator,
         definition => definition,
     }
@@ -125,7 +125,7 @@ fn is_compared(tokens: &[Token<'_>], at: usize, last: usize) -> bool {
 /// Takes the values in a routine with which something is compared by `==` and `~=`.
 fn take_compared(
     tokens: &[Token<'_>],
-    meant: Meant<'_>,
+    context: Context<'_>,
     routine: Routine,
     groups: &mut Groups,
 ) -> Result<(), AllocError> {
@@ -133,7 +133,7 @@ fn take_compared(
     let mut last = NONE;
     for at in routine.body..routine.end {
         if is_sign(tokens, at, Sign::Equal) || is_sign(tokens, at, Sign::NotEqual) {
-            group = group_of(tokens, meant, before(at, 1), at, groups);
+            group = group_of(tokens, context, before(at, 1), at, groups);
         } else if is_compared(tokens, at, last) {
             groups.take(tokens, at, group)?;
             last = at;
@@ -145,14 +145,14 @@ fn take_compared(
 /// The group of the values of a `switch` whose `{` has a number; [`NONE`] where that begins a block.
 fn group_of_block(
     tokens: &[Token<'_>],
-    meant: Meant<'_>,
+    context: Context<'_>,
     brace: usize,
     groups: &mut Groups,
 ) -> usize {
     let close = before(brace, 1);
-    let switch = before(number_at(meant.openings, close), 1);
+    let switch = before(number_at(context.openings, close), 1);
     if is_sign(tokens, close, Sign::CloseParenthesis) && is_word(tokens, switch, Word::Switch) {
-        group_of(tokens, meant, before(close, 1), switch, groups)
+        group_of(tokens, context, before(close, 1), switch, groups)
     } else {
         NONE
     }
@@ -162,7 +162,7 @@ fn group_of_block(
 fn take_cases(
     alloc: Global,
     tokens: &[Token<'_>],
-    meant: Meant<'_>,
+    context: Context<'_>,
     routine: Routine,
     groups: &mut Groups,
 ) -> Result<(), AllocError> {
@@ -173,7 +173,7 @@ fn take_cases(
             in_case = is_case(tokens, at);
         }
         if is_sign(tokens, at, Sign::OpenBrace) {
-            blocks.push(group_of_block(tokens, meant, at, groups))?;
+            blocks.push(group_of_block(tokens, context, at, groups))?;
         } else if is_sign(tokens, at, Sign::CloseBrace) {
             blocks.pop();
         } else if in_case {
@@ -185,10 +185,10 @@ fn take_cases(
 }
 
 /// Notes the arrays of words that `read` fills.
-fn note_read(tokens: &[Token<'_>], meant: Meant<'_>, routine: Routine, groups: &mut Groups) {
+fn note_read(tokens: &[Token<'_>], context: Context<'_>, routine: Routine, groups: &mut Groups) {
     for at in routine.body..routine.end {
         if is_word(tokens, at, Word::Read) {
-            let array = number_at(meant.meant, behind(at, 2));
+            let array = number_at(context.meant, behind(at, 2));
             set_flag(&mut groups.has_words, array);
         }
     }
@@ -202,13 +202,13 @@ fn note_read(tokens: &[Token<'_>], meant: Meant<'_>, routine: Routine, groups: &
 pub fn take_routine(
     alloc: Global,
     tokens: &[Token<'_>],
-    meant: Meant<'_>,
+    context: Context<'_>,
     routine: Routine,
     groups: &mut Groups,
 ) -> Result<(), AllocError> {
-    note_read(tokens, meant, routine, groups);
-    take_compared(tokens, meant, routine, groups)?;
-    take_cases(alloc, tokens, meant, routine, groups)
+    note_read(tokens, context, routine, groups);
+    take_compared(tokens, context, routine, groups)?;
+    take_cases(alloc, tokens, context, routine, groups)
 }
 
 /// Whether the values of an array or of a property begin after the token of a number.

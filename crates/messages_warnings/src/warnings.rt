@@ -5,7 +5,7 @@ ghost use Rattle.messages_warnings.specs.InOrder.{AreInOrder};
 
 use crate::calls::calls_of;
 use crate::conditions::mark_conditions;
-use crate::letters::{Groups, Meant, take_definitions, take_routine};
+use crate::letters::{Context, Groups, take_definitions, take_routine};
 use crate::marks::{Marks, Warning, all_marks};
 use crate::meanings::meanings_of;
 use crate::routines::{Routine, routines_of};
@@ -19,7 +19,7 @@ use syntax_lexer::Token;
 fn mark_letters(
     alloc: Global,
     tokens: &[Token<'_>],
-    meant: Meant<'_>,
+    context: Context<'_>,
     routines: &[Routine],
     marks: &mut Marks,
 ) -> Result<(), AllocError> {
@@ -27,7 +27,7 @@ fn mark_letters(
     let mut end = 0;
     for routine in routines {
         take_definitions(tokens, end, routine.name, &mut groups)?;
-        take_routine(alloc, tokens, meant, *routine, &mut groups)?;
+        take_routine(alloc, tokens, context, *routine, &mut groups)?;
         end = routine.end;
     }
     take_definitions(tokens, end, tokens.len(), &mut groups)?;
@@ -55,10 +55,10 @@ pub fn warnings_of(alloc: Global, tokens: &[Token<'_>]) -> Result<Vec<Warning>, 
         mark_unreached(tokens, *routine, &mut marks);
         mark_locals(*routine, &uses, &calls.most_arguments, &mut marks);
     }
-    let meant = Meant {
+    let context = Context {
         meant: &meant,
         openings: &calls.openings,
     };
-    mark_letters(alloc, tokens, meant, &routines, &mut marks)?;
+    mark_letters(alloc, tokens, context, &routines, &mut marks)?;
     all_marks(alloc, &marks, tokens.len())
 }
