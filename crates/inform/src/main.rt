@@ -5,13 +5,14 @@ mod output;
 mod part;
 mod refusals;
 mod source;
-mod words;
+mod warnings;
 
 use crate::output::{is_one_file, write_whole};
 use crate::refusals::{refused, show};
 use crate::source::read_source;
-use crate::words::{Asked, Words, command, words_of};
+use crate::warnings::warn;
 use clap::{ArgMatches, Error};
+use inform_arguments::{Asked, Words, command, words_of};
 use messages_diagnosis::diagnose;
 use messages_explanations::Program;
 use messages_figures::{Figures, measure};
@@ -20,6 +21,7 @@ use std::fmt::Display;
 use std::fs::File;
 use std::process::ExitCode;
 use std::{env, io};
+use syntax_lexer::SourceFault;
 use zcore::Version;
 
 /// The exit status where the words of the command line or the files cannot be used.
@@ -138,12 +140,23 @@ fn build(rt: &HostRuntime, words: Words<'_>) -> ExitCode {
         Err(status) => return status,
     };
     match diagnose(rt.alloc(), &source, words.version) {
-        Ok(story) => match words.story {
-            Some(name) => put(rt, words.source, name, story.bytes()),
-            None => ExitCode::SUCCESS,
-        },
+        Ok(story) => finish(rt, words, &source, story.bytes()),
         Err(diagnosis) if words.show => show(rt, words.source, &source, words.version, diagnosis),
         Err(diagnosis) => refused(rt, diagnosis.fault),
+    }
+}
+
+/// Warns of likely mistakes in an accepted source, if that is asked for, and writes the bytes of its
+/// story, if a file for it is named.
+fn finish(rt: &HostRuntime, words: Words<'_>, source: &[u8], story: &[u8]) -> ExitCode {
+    if words.warn {
+        if let Err(refusal) = warn(rt, words.source, source) {
+            return refused(rt, SourceFault::from(refusal));
+        }
+    }
+    match words.story {
+        Some(name) => put(rt, words.source, name, story),
+        None => ExitCode::SUCCESS,
     }
 }
 

@@ -1,8 +1,7 @@
-//! The words of the command line.
+//! The arguments of the command line.
 
-use clap::{Arg, ArgAction, ArgMatches, Command, value_parser};
+use clap::{Arg, ArgAction, Command, value_parser};
 use std::alloc::{AllocError, Global};
-use zcore::Version;
 
 /// The end of the help: an example, and the documents that say more.
 const MORE: &str = "Example:
@@ -14,35 +13,6 @@ The installed documents and examples are in share/doc/felgoniz:
   docs/STORY_FILE.md  the story file
   docs/COMMANDS.md    all options, messages and statuses
 The man page inform(1) is shorter.";
-
-/// What the command line asks for.
-#[derive(Clone, Copy)]
-pub enum Asked<'a> {
-    /// To explain the fault of this name, or without one to list all faults.
-    Explain(Option<&'a str>),
-
-    /// To compile a source.
-    Compile(Words<'a>),
-
-    /// To print how much the source file of this name takes as a story of a version.
-    Sizes(&'a str, Version),
-}
-
-/// What is compiled to what.
-#[derive(Clone, Copy)]
-pub struct Words<'a> {
-    /// The source file's name.
-    pub source: &'a str,
-
-    /// The name of the story file to write; `None` if the source file is only checked.
-    pub story: Option<&'a str>,
-
-    /// The version of the story file.
-    pub version: Version,
-
-    /// Whether to show where a fault is.
-    pub show: bool,
-}
 
 /// The version of the story file.
 fn version_argument<'a>(alloc: Global) -> Arg<'a> {
@@ -73,6 +43,14 @@ fn show_argument<'a>(alloc: Global) -> Arg<'a> {
         .action(ArgAction::SetTrue)
 }
 
+/// Whether to warn of likely mistakes.
+fn warn_argument<'a>(alloc: Global) -> Arg<'a> {
+    Arg::new(alloc, "warn")
+        .long("warn")
+        .help("Warn of likely mistakes in SOURCE; without STORY only check it")
+        .action(ArgAction::SetTrue)
+}
+
 /// Whether to print the figures of the source file and write no story file.
 fn sizes_argument<'a>(alloc: Global) -> Result<Arg<'a>, AllocError> {
     Arg::new(alloc, "sizes")
@@ -91,14 +69,34 @@ fn source_argument<'a>(alloc: Global) -> Arg<'a> {
         .action(ArgAction::Set)
 }
 
-/// The name of the story file. It is required unless `--show` or `--sizes` is given.
+/// The name of the story file. It is required unless `--show`, `--warn` or `--sizes` is given.
 fn story_argument<'a>(alloc: Global) -> Result<Arg<'a>, AllocError> {
     let story = Arg::new(alloc, "story")
         .value_name("STORY")
         .help("The story file to write")
         .required_unless_present("show")?
+        .required_unless_present("warn")?
         .required_unless_present("sizes")?;
     Ok(story.action(ArgAction::Set))
+}
+
+/// All arguments.
+///
+/// # Errors
+///
+/// Memory was refused.
+fn arguments<'a>(alloc: Global) -> Result<Vec<Arg<'a>>, AllocError> {
+    let sizes = sizes_argument(alloc)?;
+    let story = story_argument(alloc)?;
+    Ok(vec![in alloc;
+        version_argument(alloc),
+        explain_argument(alloc),
+        show_argument(alloc),
+        warn_argument(alloc),
+        sizes,
+        source_argument(alloc),
+        story,
+    ]?)
 }
 
 /// The program's command line.
@@ -107,37 +105,10 @@ fn story_argument<'a>(alloc: Global) -> Result<Arg<'a>, AllocError> {
 ///
 /// Memory was refused.
 pub fn command<'a>(alloc: Global) -> Result<Command<'a>, AllocError> {
+    let arguments = arguments(alloc)?;
     Command::new(alloc, "inform")
         .version("1.1.0")
         .about("Compiles a source file to a Z-machine story file")
         .after_help(MORE)
-        .arg(version_argument(alloc))?
-        .arg(explain_argument(alloc))?
-        .arg(show_argument(alloc))?
-        .arg(sizes_argument(alloc)?)?
-        .arg(source_argument(alloc))?
-        .arg(story_argument(alloc)?)
-}
-
-/// What the words of a command line that passed `command` ask for; `None` if they name a version
-/// other than 5 and 8.
-pub fn words_of<'a>(matches: &ArgMatches<'a>) -> Option<Asked<'a>> {
-    if matches.contains_id("explain") {
-        return Some(Asked::Explain(matches.get_str("explain")));
-    }
-    let version = match matches.get_one::<u32>("version_number") {
-        None | Some(5) => Version::V5,
-        Some(8) => Version::V8,
-        Some(_) => return None,
-    };
-    let source = matches.get_str("source").unwrap_or("");
-    if matches.get_flag("sizes") {
-        return Some(Asked::Sizes(source, version));
-    }
-    Some(Asked::Compile(Words {
-        source,
-        story: matches.get_str("story"),
-        version,
-        show: matches.get_flag("show"),
-    }))
+        .args(arguments)
 }
