@@ -1,12 +1,10 @@
 -- output_stream makes the weight of a turn fall, and never waits; so does what a read does first.
-use Rattle.std.proofs.Common.{◌≡◌, ℕ, ◌+◌, ◌*◌, ◌/◌, ◌<◌, List, [], ◌∷◌, length, set, slice_index, take, drop, refl}
-use Rattle.std.proofs.Common.{ap, ◌∙◌, arith, Bool, true, false, cond}
+use Rattle.std.proofs.Common.{ℕ, ◌+◌, ◌*◌, ◌/◌, ◌<◌, List, [], ◌∷◌, length, slice_index, drop, refl}
+use Rattle.std.proofs.Common.{arith}
 use Rattle.std.specs.Prelude.{◌==◌, nat_lt}
 use Rattle.std.proofs.lemmas.List.{length-set}
-use Rattle.zcore.specs.declared.next.Next.{Next}
 use Rattle.zcore.specs.declared.place.Fault.TheVariants as faults
 use Rattle.zcore.specs.declared.place.Place.TheVariants as places
-use Rattle.zcore.specs.State.{State, Out, done}
 use Rattle.zcore.specs.Parts.{fault, test}
 use Rattle.zcore.proofs.KeepingReads.{Keeps, alike_same, done_alike, never}
 use Rattle.zcore.proofs.KeepingReads.{both, keeps_then, keeps_done, keeps_test}

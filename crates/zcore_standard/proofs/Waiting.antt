@@ -12,7 +12,7 @@ use Rattle.zcore.specs.State.{Frame, State, Out, done, halt}
 use Rattle.zcore.specs.Parts.{test, is_writable, is_code, can_store, returning, spend}
 use Rattle.zcore.specs.Effects.{give_result}
 use Rattle.zcore.proofs.WaitingTests.{WaitsWell, Waits, waits_done, waits_fault, waits_limit, waits_then, waits_either}
-use Rattle.zcore.proofs.WaitingTests.{waits_bound, waits_chosen, waits_test}
+use Rattle.zcore.proofs.WaitingTests.{waits_bound, waits_test}
 use Rattle.zcore.proofs.WaitingParts.{waits_operand_values, waits_store_result, waits_goes_on, waits_write_word}
 use Rattle.zcore.proofs.WaitingEffects.{waits_branch_on, waits_give_result}
 use Rattle.zcore.proofs.WaitingOperations.{waits_read}

@@ -1,7 +1,6 @@
 -- The upper window, computed.
 use Rattle.std.proofs.Common.{◌≡◌, ℕ, List, [], ◌∷◌, ◌++◌, length, replicate, Option, Some, None, refl}
 use Rattle.std.specs.Prelude.{codes}
-use Rattle.zcore.specs.declared.place.Fault.TheVariants as faults
 use Rattle.zcore.specs.declared.place.Limit.TheVariants as limits
 use Rattle.zcore.specs.declared.place.Place.TheVariants as places
 use Rattle.zcore.specs.State.{State, done, halt}
@@ -10,9 +9,9 @@ use Rattle.zcore_standard.specs.declared.streams.Stream.{Stream}
 use Rattle.zcore_standard.specs.declared.windows.Upper.{Upper}
 use Rattle.zcore_standard.specs.Loading.{seeded}
 use Rattle.zcore_standard.specs.Machine.{begins, shown}
-use Rattle.zcore_standard.specs.Place.{Here, plain}
+use Rattle.zcore_standard.specs.Place.{Here}
 use Rattle.zcore_standard.specs.Streams.{close_all, begin_read}
-use Rattle.zcore_standard.specs.Windows.{begun_at, without_spaces, last_line, width, with_new_line, row_of, with_cursor}
+use Rattle.zcore_standard.specs.Windows.{without_spaces, last_line, width, with_new_line, row_of, with_cursor}
 use Rattle.zcore_standard.specs.Windows.{drawn, redraw, put_cursor, set_cursor, settled, set_window, erase_upper}
 use Rattle.zcore_standard.specs.Windows.{erase_window, split_window, with_upper, show_text}
 use Rattle.zcore_standard.specs.Windows.{show_upper}
