@@ -1,6 +1,6 @@
 -- The cursor.
 use Rattle.std.proofs.Common.{◌≡◌, ℕ, ◌+◌, ◌&&◌, true, false}
-use Rattle.std.proofs.Common.{Ok, Err, refl, ap, sym, ◌∙◌}
+use Rattle.std.proofs.Common.{Ok, Err, ap, sym, ◌∙◌}
 use Rattle.journal.specs.Recording.{Recording}
 use Rattle.zcore.specs.declared.header.Header.{Header}
 use Rattle.zcore.specs.declared.place.Fault.TheVariants as faults

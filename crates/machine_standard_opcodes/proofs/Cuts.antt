@@ -2,9 +2,9 @@
 use Rattle.std.proofs.Common.{◌≡◌, ◌≢◌, ℕ, ◌+◌, ◌-◌, ◌*◌, ◌/◌, ◌%◌, ◌<◌, ◌≤◌, List, [], ◌∷◌, ◌++◌, length}
 use Rattle.std.proofs.Common.{take, drop}
 use Rattle.std.proofs.Common.{get_or, set, min, refl, ap, sym, ◌∙◌, subst, arith, true, false, inl, inr, slice_index}
-use Rattle.std.proofs.Common.{slice_index_or, Result, Ok, Err}
+use Rattle.std.proofs.Common.{Result, Ok, Err}
 use Rattle.std.specs.List.{insert, remove}
-use Rattle.std.proofs.lemmas.Bool.{lt-ltb, le-ltb, ne_eqb, eq-eqb, cases_lt}
+use Rattle.std.proofs.lemmas.Bool.{lt-ltb, ne_eqb, cases_lt}
 use Rattle.std.proofs.lemmas.List.{drop-drop, drop-take, drop_all, drop_more, take_all, take-take, length-drop, length-take-le}
 use Rattle.std.proofs.lemmas.List.{get_or-set_other, length-set, drop-set-add, set-append_left}
 use Rattle.std.proofs.Math.Seq.{drop-append_seam}
@@ -15,18 +15,17 @@ use Rattle.journal.specs.Recording.{Recording}
 use Rattle.zcore.specs.declared.next.Next.{Next}
 use Rattle.zcore.specs.declared.place.Fault.TheVariants as faults
 use Rattle.zcore.specs.declared.place.Place.TheVariants as places
-use Rattle.zcore.specs.Layout.{text_limit}
 use Rattle.zcore.specs.State.{State, Out, done, bound}
 use Rattle.zcore.specs.Turn.{with_bytes}
 use Rattle.zcore_standard.specs.declared.streams.Stream.{Stream}
 use Rattle.zcore_standard.specs.Place.{Here, past}
 use Rattle.zcore_standard.specs.Windows.{settled}
 use Rattle.zcore_standard.specs.Streams.{most_streams, open_stream, open_table, counted, zscii_in, close, close_first}
-use Rattle.zcore_standard.specs.Streams.{close_all, heard, flags_2_low, with_transcript, set_transcript, output_stream}
+use Rattle.zcore_standard.specs.Streams.{close_all, heard, with_transcript, set_transcript, output_stream}
 use Rattle.zcore_standard.specs.Words.{are_writable, write_bytes}
 use Rattle.machine_frames.specs.Contents.{Contents, memory_of}
 use Rattle.machine_frames.specs.States.{state_of, IsSound}
-use Rattle.machine_frames.specs.Went.{GoesOn, GivenUp, Went, Told}
+use Rattle.machine_frames.specs.Went.{GoesOn, Went, Told}
 use Rattle.machine_frames.specs.declared.end.End.{End}
 use Rattle.machine_frames.specs.declared.end.End.TheVariants as ends
 use Rattle.machine_frames.proofs.Kept.{Writes, length-memory, writes_goes_on, writes_state}

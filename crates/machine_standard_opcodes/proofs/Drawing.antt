@@ -1,7 +1,7 @@
 -- The upper window in the text of a turn.
-use Rattle.std.proofs.Common.{◌≡◌, ◌≢◌, ℕ, ◌+◌, ◌-◌, ◌<◌, ◌≤◌, List, [], ◌∷◌, ◌++◌, length, take, drop, replicate, min}
-use Rattle.std.proofs.Common.{refl, ap, sym, ◌∙◌, subst, arith, Bool, true, false, Option, Some, None, Result, Ok, Err}
-use Rattle.std.specs.Prelude.{◌==◌, nat_le, if◌then◌else◌, is_ok, OnOk}
+use Rattle.std.proofs.Common.{◌≡◌, ◌≢◌, ℕ, ◌+◌, ◌-◌, ◌<◌, ◌≤◌, List, ◌++◌, length, take, drop, replicate, min}
+use Rattle.std.proofs.Common.{refl, ap, sym, ◌∙◌, subst, arith, Bool, false, Result, Ok, Err}
+use Rattle.std.specs.Prelude.{◌==◌, if◌then◌else◌, is_ok, OnOk}
 use Rattle.std.specs.List.{count_by}
 use Rattle.std.proofs.lemmas.Bool.{eq-eqb, le-leb, lt-leb, ne_eqb}
 use Rattle.std.proofs.lemmas.List.{append_assoc, drop-append-le, drop-take, length-append, length-drop, length-take-le}
@@ -19,14 +19,13 @@ use Rattle.zcore_standard.specs.Windows.{is_new_line, with_new_line, with_upper,
 use Rattle.machine_frames.specs.Contents.{Contents}
 use Rattle.machine_frames.specs.States.{state_of, IsSound}
 use Rattle.machine_frames.specs.Went.{Told}
-use Rattle.machine_frames.specs.declared.end.End.{End}
 use Rattle.machine_frames.specs.declared.end.End.TheVariants as ends
 use Rattle.machine_frames.proofs.Steps.{goes_on_still, told_halt}
 use Rattle.machine_opcodes.specs.Printed.{HasBegun}
 use Rattle.machine_standard_opcodes.specs.Around.{place, Keeps}
 use Rattle.machine_standard_opcodes.specs.Drawn.{Redraws, Bounds, Way, Apart, place_at}
 use Rattle.machine_standard_opcodes.specs.declared.around.Around.{Around}
-use Rattle.machine_standard_opcodes.proofs.Cuts.{text_cut, text_behind, keeps_cut}
+use Rattle.machine_standard_opcodes.proofs.Cuts.{text_cut, text_behind}
 use Rattle.machine_standard_opcodes.proofs.TextLines.{lines_apart}
 
 -- The text of a turn, of which the end changes
@@ -234,7 +233,7 @@ cursor_put s start begin end lines spaces row column long upper x y sound begun 
       told = (
         goes_on_still s sound,
         put ∙ ap (λ m. done (record { from = upper.from; mark = m; row = row })
-        (state_of s.store (drawn upper row column (drop start x)))) size
+            (state_of s.store (drawn upper row column (drop start x)))) size
             ∙ ap (λ l. done (record { from = upper.from; mark = long; row = row }) (state_of s.store l)) (sym text),
       );
     }

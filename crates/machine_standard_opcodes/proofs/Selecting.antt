@@ -1,11 +1,10 @@
 -- The opcodes of windows, by the windows that are there.
-use Rattle.std.proofs.Common.{◌≡◌, ◌≢◌, ℕ, ◌-◌, ◌≤◌, List, [], ◌∷◌, length, take, drop, refl, ap, sym}
+use Rattle.std.proofs.Common.{◌≡◌, ◌≢◌, ℕ, List, [], ◌∷◌, length, take, drop, refl, ap, sym}
 use Rattle.std.proofs.Common.{◌∙◌, subst, arith, ◌⊎◌, inl, inr}
-use Rattle.std.proofs.Common.{Bool, true, false, Option, Some, None, Result, Ok, Err}
+use Rattle.std.proofs.Common.{true, false, Some, None, Result, Ok, Err}
 use Rattle.std.specs.Prelude.{◌&&◌}
 use Rattle.std.specs.Result.{IsErrAnd}
 use Rattle.std.proofs.lemmas.Bool.{eq-eqb, ne_eqb}
-use Rattle.std.proofs.lemmas.List.{length-drop}
 use Rattle.journal.specs.Recording.{Recording}
 use Rattle.zcore.specs.declared.next.Next.{Next}
 use Rattle.zcore.specs.State.{State, Out, done}
@@ -16,7 +15,7 @@ use Rattle.zcore_standard.specs.Windows.{lower, begun_at, put_cursor, cursor_to,
 use Rattle.zcore_standard.specs.Windows.{settled_in, settled, with_window, set_window, erased_in, erase_upper}
 use Rattle.zcore_standard.specs.Windows.{erase_window, split_window, show_in, show_text}
 use Rattle.machine_frames.specs.Contents.{Contents}
-use Rattle.machine_frames.specs.States.{state_of, IsSound}
+use Rattle.machine_frames.specs.States.{IsSound}
 use Rattle.machine_frames.specs.Went.{Told}
 use Rattle.machine_frames.specs.declared.end.End.{End}
 use Rattle.machine_frames.proofs.Steps.{goes_on_still, told_no_further, told_sound, told_still, told_then}

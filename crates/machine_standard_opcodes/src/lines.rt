@@ -17,10 +17,7 @@ pub(crate) fn bare_length(text: &[u8]) -> usize
 fn spaces_at_end(text: &[u8]) -> usize
     ensures { result ≡ suffix_len definitions.is_space text.now }
 {
-    text.iter()
-        .rev()
-        .take_while(|byte| **byte == b' ')
-        .count()
+    text.iter().rev().take_while(|byte| **byte == b' ').count()
 }
 
 /// What comes after the last newline of a text.
@@ -34,10 +31,7 @@ fn last_line(text: &[u8]) -> &[u8]
 fn length_of_last_line(text: &[u8]) -> usize
     ensures { result ≡ suffix_len is_in_line text.now }
 {
-    text.iter()
-        .rev()
-        .take_while(|byte| **byte != b'\n')
-        .count()
+    text.iter().rev().take_while(|byte| **byte != b'\n').count()
 }
 
 /// How many newlines have to be added to a text for its last line to be empty: none or one.
@@ -59,9 +53,7 @@ pub(crate) fn width(text: &[u8]) -> usize
 fn count_characters(text: &[u8]) -> usize
     ensures { result ≡ count_by definitions.begins_character text.now }
 {
-    text.iter()
-        .filter(|byte| begins_character(**byte))
-        .count()
+    text.iter().filter(|byte| begins_character(**byte)).count()
 }
 
 /// Whether a byte of UTF-8 begins a character.

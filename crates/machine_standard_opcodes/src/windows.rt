@@ -233,13 +233,7 @@ fn put_cursor(
 
 /// The way of the cursor: where the text ends that stays, and the newlines and the spaces that are
 /// added to it.
-fn find_way(
-    text: &[u8],
-    start: usize,
-    upper: Upper,
-    row: u16,
-    column: u16,
-) -> (usize, usize, usize)
+fn find_way(text: &[u8], start: usize, upper: Upper, row: u16, column: u16) -> (usize, usize, usize)
     requires text { HasBegun start text.now }
     requires column { 1 ≤ column }
     ensures way { Way start (drawings.place_at start upper.from text.now) result.0 result.1 result.2
@@ -467,16 +461,14 @@ fn lines_around(text: &[u8], start: usize, begin: usize, end: usize) -> (usize, 
     ensures before { result.0 ≤ 1 }
     ensures after { result.1 ≤ 1 }
 {
-    (missing_lines(&text[start..begin]), missing_lines(&text[begin..end]))
+    (
+        missing_lines(&text[start..begin]),
+        missing_lines(&text[begin..end]),
+    )
 }
 
 /// Puts newlines before and after the end of a text, which begins at a place of it: none or one.
-fn set_apart(
-    text: &mut Vec<u8>,
-    at: usize,
-    before: usize,
-    after: usize,
-) -> Result<(), AllocError>
+fn set_apart(text: &mut Vec<u8>, at: usize, before: usize, after: usize) -> Result<(), AllocError>
     requires at { at ≤ length text.old.items }
     requires before { before ≤ 1 }
     requires after { after ≤ 1 }

@@ -118,9 +118,7 @@ fn perform_on_windows(
     };
     match operation {
         Further::SetWindow => set_window(store, text, start, around, next, values[0]),
-        Further::SetCursor => {
-            set_cursor(store, text, start, around, next, values[0], values[1])
-        }
+        Further::SetCursor => { set_cursor(store, text, start, around, next, values[0], values[1]) }
         Further::EraseWindow => {
             erase_window(text, start, around, values[0]);
             Ok(next)

@@ -1,5 +1,4 @@
-use Rattle.std.proofs.Common.{◌≡◌, ◌+◌, ◌++◌, replicate, refl, ap, ◌∙◌, subst, arith, length}
-use Rattle.machine_standard_opcodes.specs.Drawn.{Way}
+use Rattle.std.proofs.Common.{◌+◌, ◌++◌, replicate, ap, ◌∙◌, arith, length}
 use Rattle.machine_standard_opcodes.proofs.Cuts.{keeps_still}
 use Rattle.machine_standard_opcodes.proofs.Drawing.{cursor_put, cursor_limited, keeps_blanks, way_in}
 use Rattle.machine_standard_opcodes.proofs.windows.put_cursor.Goals as goal

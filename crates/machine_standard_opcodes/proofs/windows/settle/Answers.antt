@@ -1,4 +1,4 @@
-use Rattle.std.proofs.Common.{◌≡◌, ap, sym, ◌∙◌, arith, length}
+use Rattle.std.proofs.Common.{ap, sym, ◌∙◌, arith, length}
 use Rattle.std.proofs.lemmas.List.{length-drop}
 use Rattle.machine_standard_opcodes.proofs.Selecting.{settles_open, settles_lower, settles_begun, settles_on}
 use Rattle.machine_standard_opcodes.proofs.windows.settle.Goals as goal

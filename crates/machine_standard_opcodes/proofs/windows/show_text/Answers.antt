@@ -1,4 +1,4 @@
-use Rattle.std.proofs.Common.{arith, ap, length}
+use Rattle.std.proofs.Common.{arith}
 use Rattle.std.proofs.lemmas.List.{length-drop}
 use Rattle.machine_standard_opcodes.proofs.Drawing.{bounds_in, shown_none, text_shown}
 use Rattle.machine_standard_opcodes.proofs.windows.show_text.Goals as goal

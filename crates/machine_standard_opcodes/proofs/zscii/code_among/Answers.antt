@@ -1,6 +1,5 @@
-use Rattle.std.proofs.Common.{◌≡◌, ◌<◌, length, take, refl, ap, sym, ◌∙◌, arith, min}
+use Rattle.std.proofs.Common.{◌≡◌, ◌<◌, length, take, refl, sym, ◌∙◌, arith}
 use Rattle.std.proofs.lemmas.List.{length-take}
-use Rattle.zcore_standard.specs.Streams.{code_among}
 use Rattle.machine_standard_opcodes.proofs.Codes.{among_next, among_found, among_none}
 use Rattle.machine_standard_opcodes.proofs.zscii.code_among.Goals as goal
 
