@@ -10,4 +10,4 @@ mod packed;
 mod words;
 mod write;
 
-pub use write::write_story;
+pub use write::{write_story, write_story_within};
