@@ -1,0 +1,161 @@
+-- What the tests of sizes say, where the weight of a source is limited, and where the length of its story is.
+use Rattle.std.proofs.Common.{◌≡◌, ◌⊎◌, inl, inr, ℕ, ◌<◌, ◌≤◌, Bool, true, false, nat_lt, length, Option, Some, None}
+use Rattle.std.proofs.Common.{refl, sym, ap, ◌∙◌, arith}
+use Rattle.std.specs.Prelude.{if◌then◌else◌}
+use Rattle.std.specs.Option.{option_or}
+use Rattle.std.proofs.lemmas.Bool.{le-ltb, lt-ltb, ltb-false}
+use Rattle.zcore.specs.declared.header.Version.{Version}
+use Rattle.syntax_lexer.specs.declared.fault.SourceFault.{SourceFault}
+use Rattle.syntax_lexer.specs.declared.fault.PlacedFault.{PlacedFault}
+use Rattle.syntax_lexer.specs.declared.token.Position.{Position}
+use Rattle.meaning.specs.Places.{routines_place}
+use Rattle.meaning.specs.Resolved.{ProgramOf}
+use Rattle.meaning.specs.Sizes.{fault, greatest_weight, heavy_fault, size_fault}
+use Rattle.meaning.specs.Views.{CheckedProgram, program_of}
+use Rattle.meaning.specs.CheckedSizes.{checked_size_fault, heavy_place, StandsBySize}
+use Rattle.story_file.specs.Layout.{greatest_length, story_of}
+use Rattle.story.specs.declared.sized.Limit.{Limit}
+use Rattle.story.specs.declared.sized.Limit.TheVariants as limit
+use Rattle.story.specs.Large.{checked_fault_by, length_fault}
+
+-- The outcomes of the tests as plain truth values
+
+abbrev weighed : Bool → Bool → Option Position → Option SourceFault
+weighed large heavy first =
+    if large then Some (fault 30 0) else (if heavy then Some (fault 31 0) else heavy_fault first)
+
+abbrev measured : Bool → Option Position → Bool → Option SourceFault
+measured large first long =
+    if large then Some (fault 30 0) else option_or (heavy_fault first) (if long then Some (fault 31 0) else None)
+
+no_heavy : (first : Option Position) → heavy_fault first ≡ None → first ≡ None
+no_heavy None e = refl
+no_heavy (Some name) e = absurd cc
+
+none_weighed : (large heavy : Bool) (first : Option Position) → weighed large heavy first ≡ None
+    → (large ≡ false) × (heavy ≡ false) × (first ≡ None)
+none_weighed true heavy first e = absurd cc
+none_weighed false true first e = absurd cc
+none_weighed false false first e = (refl, refl, no_heavy first e)
+
+none_measured : (large : Bool) (first : Option Position) (long : Bool) → measured large first long ≡ None
+    → (large ≡ false) × (first ≡ None)
+none_measured true first long e = absurd cc
+none_measured false None long e = (refl, refl)
+none_measured false (Some name) long e = absurd cc
+
+-- a fault but E31 is the same
+same_measured : (large heavy : Bool) (first : Option Position) (long : Bool) (f : SourceFault)
+    → weighed large heavy first ≡ Some f → (f.number ≡ 31 → ⊥) → measured large first long ≡ Some f
+same_measured true heavy first long f e no = e
+same_measured false true first long f e no =
+    let is : fault 31 0 ≡ f = cc in absurd (no (ap (λ (x : SourceFault). x.number) (sym is)))
+same_measured false false first long f e no = ap (λ x. option_or x (if long then Some (fault 31 0) else None)) e
+
+heavy_number : (first : Option Position) (f : SourceFault) → heavy_fault first ≡ Some f → f.number ≡ 31 → ⊥
+heavy_number None f e h = absurd cc
+heavy_number (Some name) f e h =
+    let is : fault 32 name.line ≡ f = cc in
+    let number : 32 ≡ f.number = ap (λ (x : SourceFault). x.number) is in
+    omega (arith, number, h)
+
+-- E31 comes after E30
+by_weight : (large heavy : Bool) (first : Option Position) (f : SourceFault) → weighed large heavy first ≡ Some f
+    → f.number ≡ 31 → (large ≡ false) × (f ≡ fault 31 0)
+by_weight true heavy first f e h =
+    let is : fault 30 0 ≡ f = cc in
+    let number : 30 ≡ f.number = ap (λ (x : SourceFault). x.number) is in
+    absurd (omega (arith, number, h))
+by_weight false true first f e h = let is : fault 31 0 ≡ f = cc in (refl, sym is)
+by_weight false false first f e h = absurd (heavy_number first f e h)
+
+-- Of a program of a weight, whose first routine that is too heavy stands there
+
+module _ (version : Version) (p : ProgramOf) (weight : ℕ) (first : Option Position)
+    (sized : size_fault version (routines_place p) weight first ≡ None) where
+  abbrev heavy : Bool
+  heavy = nat_lt (greatest_weight version) weight
+
+  pub weight_passed : (routines_place p ≤ 65535) × (weight ≤ greatest_weight version)
+  weight_passed =
+      let none = none_weighed (nat_lt 65535 (routines_place p)) heavy first sized in
+      (ltb-false 65535 (routines_place p) none.0, ltb-false (greatest_weight version) weight none.1)
+
+  pub none_by_length : length (story_of version p) ≤ greatest_length version → length_fault version p first ≡ None
+  none_by_length within =
+      let long = nat_lt (greatest_length version) (length (story_of version p)) in
+      let none = none_weighed (nat_lt 65535 (routines_place p)) heavy first sized in
+      ap (λ b. measured b first long) none.0 ∙ ap (λ h. measured false h long) none.2
+      ∙ ap (measured false None) (le-ltb (greatest_length version) (length (story_of version p)) within)
+
+-- Of a checked program
+
+module _ (version : Version) (c : CheckedProgram) where
+  abbrev large : Bool
+  large = nat_lt 65535 (routines_place (program_of c))
+
+  abbrev long : Bool
+  long = nat_lt (greatest_length version) (length (story_of version (program_of c)))
+
+  -- what weighs little is within either limit
+  pub light_by : (by : Limit) → checked_size_fault c version ≡ None
+      → length (story_of version (program_of c)) ≤ greatest_length version → checked_fault_by by version c ≡ None
+  light_by limit.Weight e within = e
+  light_by limit.Length e within = none_by_length version (program_of c) c.weight (heavy_place c) e within
+
+  -- so its parts fit, and each of its routines
+  pub parts_fit : (by : Limit) → checked_fault_by by version c ≡ None
+      → (routines_place (program_of c) ≤ 65535) × (heavy_place c ≡ None)
+  parts_fit limit.Weight e =
+      let none = none_weighed large (nat_lt (greatest_weight version) c.weight) (heavy_place c) e in
+      (ltb-false 65535 (routines_place (program_of c)) none.0, none.2)
+  parts_fit limit.Length e =
+      let none = none_measured large (heavy_place c) long e in
+      (ltb-false 65535 (routines_place (program_of c)) none.0, none.1)
+
+  pub same_fault : (f : SourceFault) → Some f ≡ checked_size_fault c version → (f.number ≡ 31 → ⊥)
+      → checked_fault_by limit.Length version c ≡ Some f
+  same_fault f e no =
+      same_measured large (nat_lt (greatest_weight version) c.weight) (heavy_place c) long f (sym e) no
+
+  pub placed_by_weight : (f : SourceFault) → Some f ≡ checked_size_fault c version → f.number ≡ 31
+      → routines_place (program_of c) ≤ 65535
+  placed_by_weight f e h = ltb-false 65535 (routines_place (program_of c))
+      (by_weight large (nat_lt (greatest_weight version) c.weight) (heavy_place c) f (sym e) h).0
+
+  pub fault_by_weight : (f : SourceFault) → Some f ≡ checked_size_fault c version → f.number ≡ 31 → f ≡ fault 31 0
+  fault_by_weight f e h = (by_weight large (nat_lt (greatest_weight version) c.weight) (heavy_place c) f (sym e) h).1
+
+  -- what weighs too much, but whose parts fit
+
+  pub heavy_by : routines_place (program_of c) ≤ 65535 → (name : Position) → heavy_place c ≡ Some name
+      → checked_fault_by limit.Length version c ≡ Some (fault 32 name.line)
+  heavy_by placed name e =
+      ap (λ b. measured b (heavy_place c) long) (le-ltb 65535 (routines_place (program_of c)) placed)
+      ∙ ap (λ h. measured false h long) e
+
+  pub fits_by : routines_place (program_of c) ≤ 65535 → heavy_place c ≡ None
+      → length (story_of version (program_of c)) ≤ greatest_length version
+      → checked_fault_by limit.Length version c ≡ None
+  fits_by placed e within =
+      ap (λ b. measured b (heavy_place c) long) (le-ltb 65535 (routines_place (program_of c)) placed)
+      ∙ ap (λ h. measured false h long) e
+      ∙ ap (measured false None) (le-ltb (greatest_length version) (length (story_of version (program_of c))) within)
+
+  pub long_by : routines_place (program_of c) ≤ 65535 → heavy_place c ≡ None
+      → greatest_length version < length (story_of version (program_of c))
+      → checked_fault_by limit.Length version c ≡ Some (fault 31 0)
+  long_by placed e far =
+      ap (λ b. measured b (heavy_place c) long) (le-ltb 65535 (routines_place (program_of c)) placed)
+      ∙ ap (λ h. measured false h long) e
+      ∙ ap (measured false None) (lt-ltb (greatest_length version) (length (story_of version (program_of c))) far)
+
+-- the fault of a source as a whole stands nowhere
+pub nowhere_by_weight : (c : CheckedProgram) (e : PlacedFault) → StandsBySize e c → e.fault.number ≡ 31
+    → e.offset ≡ None
+nowhere_by_weight c e stands h = elim stands [
+  | inl whole ↦ whole.1
+  | inr heavy ↦
+      let number : e.fault.number ≡ 32 = ap (λ (x : SourceFault). x.number) heavy.2 in
+      absurd (omega (arith, number, h))
+]
