@@ -11,6 +11,9 @@ use code::Code;
 use std::alloc::{AllocError, Global};
 use zcore::Version;
 
+/// The greatest packed address.
+const MOST_PACKED: usize = 65_535;
+
 /// The first address at or after another to which a packed address leads.
 pub fn aligned(version: Version, at: usize) -> usize
     requires { at + 8 < 2 ^ 64 }
@@ -76,13 +79,20 @@ pub fn packed_addresses(
     Ok(addresses)
 }
 
+/// How many bytes a story of a version has at most, as far as packed addresses reach.
+pub fn greatest_length(version: Version) -> usize
+    ensures { result ≡ layout.greatest_length version }
+{
+    MOST_PACKED * version.scale() as usize
+}
+
 /// Where a part of a size ends that follows an address; `None` where packed addresses do not reach
 /// that end.
 pub fn end_after(version: Version, at: usize, size: usize) -> Option<usize>
     requires { at ≤ layout.greatest_length version }
     ensures { EndsAt version at size result }
 {
-    let most = 65_535 * version.scale() as usize;
+    let most = greatest_length(version);
     let up = aligned(version, at);
     if up > most || size > most - up {
         return None;
@@ -103,7 +113,7 @@ pub fn reach_end(version: Version, place: usize, sizes: &[usize]) -> bool
         };
         at = end;
     }
-    aligned(version, at) <= 65_535 * version.scale() as usize
+    aligned(version, at) <= greatest_length(version)
 }
 
 /// The addresses of arrays of these sizes that stand one behind another from an address on.
