@@ -12,7 +12,7 @@ use crate::refusals::{refused, show};
 use crate::source::read_source;
 use crate::words::{Asked, Words, command, words_of};
 use clap::{ArgMatches, Error};
-use messages_diagnosis::diagnose;
+use messages_diagnosis::{Limit, diagnose};
 use messages_explanations::Program;
 use messages_figures::{Figures, measure};
 use one_line::OneLine;
@@ -48,7 +48,7 @@ fn answer(rt: &HostRuntime, matches: &ArgMatches<'_>) -> ExitCode {
     match words_of(matches) {
         Some(Asked::Compile(words)) => build(rt, words),
         Some(Asked::Explain(name)) => explain(rt, name),
-        Some(Asked::Sizes(source, version)) => show_sizes(rt, source, version),
+        Some(Asked::Sizes(source, version, limit)) => show_sizes(rt, source, version, limit),
         None => misused(rt, "the version after -v is 5 or 8"),
     }
 }
@@ -109,12 +109,12 @@ fn source_of(rt: &HostRuntime, source: &str) -> Result<Vec<u8>, ExitCode> {
 }
 
 /// Prints what the source takes, also where it is refused as too large.
-fn show_sizes(rt: &HostRuntime, source: &str, version: Version) -> ExitCode {
+fn show_sizes(rt: &HostRuntime, source: &str, version: Version, limit: Limit) -> ExitCode {
     let source = match source_of(rt, source) {
         Ok(source) => source,
         Err(status) => return status,
     };
-    match measure(rt.alloc(), &source, version) {
+    match measure(rt.alloc(), &source, version, limit) {
         Ok(figures) => print_figures(rt, &figures),
         Err(fault) => refused(rt, fault),
     }
@@ -137,12 +137,12 @@ fn build(rt: &HostRuntime, words: Words<'_>) -> ExitCode {
         Ok(source) => source,
         Err(status) => return status,
     };
-    match diagnose(rt.alloc(), &source, words.version) {
+    match diagnose(rt.alloc(), &source, words.version, words.limit) {
         Ok(story) => match words.story {
             Some(name) => put(rt, words.source, name, story.bytes()),
             None => ExitCode::SUCCESS,
         },
-        Err(diagnosis) if words.show => show(rt, words.source, &source, words.version, diagnosis),
+        Err(diagnosis) if words.show => show(rt, words, &source, diagnosis),
         Err(diagnosis) => refused(rt, diagnosis.fault),
     }
 }

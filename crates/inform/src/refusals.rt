@@ -1,11 +1,11 @@
 //! Why and where a source is refused, on standard error.
 
+use crate::words::Words;
 use messages_diagnosis::{Diagnosis, Shown};
 use messages_sentences::message_of;
 use one_line::OneLine;
 use std::process::ExitCode;
 use syntax_lexer::SourceFault;
-use zcore::Version;
 
 /// The exit status where the source is refused.
 const REFUSED: u8 = 1;
@@ -16,22 +16,17 @@ pub fn refused(rt: &HostRuntime, fault: SourceFault) -> ExitCode {
     ExitCode::from(REFUSED)
 }
 
-/// Says on standard error why the source of a name is refused for a version, and shows where.
-pub fn show(
-    rt: &HostRuntime,
-    name: &str,
-    source: &[u8],
-    version: Version,
-    diagnosis: Diagnosis,
-) -> ExitCode {
-    let message = match message_of(rt.alloc(), source, version, diagnosis) {
+/// Says on standard error why the source that words name is refused, and shows where.
+pub fn show(rt: &HostRuntime, words: Words<'_>, source: &[u8], diagnosis: Diagnosis) -> ExitCode {
+    let alloc = rt.alloc();
+    let message = match message_of(alloc, source, words.version, words.limit, diagnosis) {
         Ok(message) => message,
         Err(refusal) => return refused(rt, SourceFault::from(refusal)),
     };
     let status = refused(rt, diagnosis.fault);
     let shown = Shown {
         source,
-        name: OneLine(name),
+        name: OneLine(words.source),
         sentence: message.sentence.as_str(),
         diagnosis: message.diagnosis,
     };

@@ -1,6 +1,7 @@
 //! The words of the command line.
 
 use clap::{Arg, ArgAction, ArgMatches, Command, value_parser};
+use messages_diagnosis::Limit;
 use std::alloc::{AllocError, Global};
 use zcore::Version;
 
@@ -24,8 +25,8 @@ pub enum Asked<'a> {
     /// To compile a source.
     Compile(Words<'a>),
 
-    /// To print how much the source file of this name takes as a story of a version.
-    Sizes(&'a str, Version),
+    /// To print how much the source file of this name takes as a story of a version, by a limit.
+    Sizes(&'a str, Version, Limit),
 }
 
 /// What is compiled to what.
@@ -39,6 +40,9 @@ pub struct Words<'a> {
 
     /// The version of the story file.
     pub version: Version,
+
+    /// Whether the weight of the source or the length of the story is limited.
+    pub limit: Limit,
 
     /// Whether to show where a fault is.
     pub show: bool,
@@ -82,6 +86,14 @@ fn sizes_argument<'a>(alloc: Global) -> Result<Arg<'a>, AllocError> {
         .conflicts_with("story")
 }
 
+/// Whether the length of the story is limited, in place of the weight of the source.
+fn large_argument<'a>(alloc: Global) -> Arg<'a> {
+    Arg::new(alloc, "large")
+        .long("large")
+        .help("Refuse SOURCE as too large only if its story is, whatever it weighs")
+        .action(ArgAction::SetTrue)
+}
+
 /// The source file's name.
 fn source_argument<'a>(alloc: Global) -> Arg<'a> {
     Arg::new(alloc, "source")
@@ -115,6 +127,7 @@ pub fn command<'a>(alloc: Global) -> Result<Command<'a>, AllocError> {
         .arg(explain_argument(alloc))?
         .arg(show_argument(alloc))?
         .arg(sizes_argument(alloc)?)?
+        .arg(large_argument(alloc))?
         .arg(source_argument(alloc))?
         .arg(story_argument(alloc)?)
 }
@@ -131,13 +144,19 @@ pub fn words_of<'a>(matches: &ArgMatches<'a>) -> Option<Asked<'a>> {
         Some(_) => return None,
     };
     let source = matches.get_str("source").unwrap_or("");
+    let limit = if matches.get_flag("large") {
+        Limit::Length
+    } else {
+        Limit::Weight
+    };
     if matches.get_flag("sizes") {
-        return Some(Asked::Sizes(source, version));
+        return Some(Asked::Sizes(source, version, limit));
     }
     Some(Asked::Compile(Words {
         source,
         story: matches.get_str("story"),
         version,
+        limit,
         show: matches.get_flag("show"),
     }))
 }
