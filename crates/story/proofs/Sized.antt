@@ -1,7 +1,8 @@
 -- What the tests of sizes say, where the weight of a source is limited, and where the length of its story is.
 use Rattle.std.proofs.Common.{◌≡◌, ◌⊎◌, inl, inr, ℕ, ◌<◌, ◌≤◌, Bool, true, false, nat_lt, length, Option, Some, None}
-use Rattle.std.proofs.Common.{refl, sym, ap, ◌∙◌, arith}
+use Rattle.std.proofs.Common.{refl, sym, ap, ◌∙◌, arith, zero, suc, ◌+◌, List, [], ◌∷◌, drop}
 use Rattle.std.specs.Prelude.{if◌then◌else◌}
+use Rattle.std.specs.List.{slice_get}
 use Rattle.std.specs.Option.{option_or}
 use Rattle.std.proofs.lemmas.Bool.{le-ltb, lt-ltb, ltb-false}
 use Rattle.zcore.specs.declared.header.Version.{Version}
@@ -10,9 +11,10 @@ use Rattle.syntax_lexer.specs.declared.fault.PlacedFault.{PlacedFault}
 use Rattle.syntax_lexer.specs.declared.token.Position.{Position}
 use Rattle.meaning.specs.Places.{routines_place}
 use Rattle.meaning.specs.Resolved.{ProgramOf}
-use Rattle.meaning.specs.Sizes.{fault, greatest_weight, heavy_fault, size_fault}
+use Rattle.meaning.specs.Sizes.{fault, first_heavy, greatest_routine_weight, greatest_weight, heavy_fault, size_fault}
+use Rattle.meaning.specs.declared.checked.CheckedRoutine.{CheckedRoutine}
 use Rattle.meaning.specs.Views.{CheckedProgram, program_of}
-use Rattle.meaning.specs.CheckedSizes.{checked_size_fault, heavy_place, StandsBySize}
+use Rattle.meaning.specs.CheckedSizes.{checked_size_fault, heavy_place, name_place_of, routine_weight, StandsBySize}
 use Rattle.story_file.specs.Layout.{greatest_length, story_of}
 use Rattle.story.specs.declared.sized.Limit.{Limit}
 use Rattle.story.specs.declared.sized.Limit.TheVariants as limit
@@ -68,6 +70,35 @@ by_weight true heavy first f e h =
     absurd (omega (arith, number, h))
 by_weight false true first f e h = let is : fault 31 0 ≡ f = cc in (refl, sym is)
 by_weight false false first f e h = absurd (heavy_number first f e h)
+
+-- The first routine that is too heavy, of those from one on
+
+abbrev heavy_from : List CheckedRoutine → ℕ → Option Position
+heavy_from rs k = first_heavy routine_weight name_place_of (drop k rs)
+
+heavy_next : (rs : List CheckedRoutine) (k : ℕ) (r : CheckedRoutine) → Some r ≡ slice_get rs k
+    → heavy_from rs k ≡ (if nat_lt greatest_routine_weight r.weight then Some r.name.position else heavy_from rs (k + 1))
+heavy_next [] k r e = absurd cc
+heavy_next (x ∷ rs) zero r e =
+    let is : x ≡ r = cc in
+    ap (λ (y : CheckedRoutine). if nat_lt greatest_routine_weight y.weight then Some y.name.position else heavy_from rs 0) is
+heavy_next (x ∷ rs) (suc k) r e =
+    let next : suc k + 1 ≡ suc (k + 1) = omega arith in
+    heavy_next rs k r e
+    ∙ ap (λ j. if nat_lt greatest_routine_weight r.weight then Some r.name.position else heavy_from (x ∷ rs) j) (sym next)
+
+pub heavy_here : (rs : List CheckedRoutine) (k : ℕ) (r : CheckedRoutine) → Some r ≡ slice_get rs k
+    → greatest_routine_weight < r.weight → first_heavy routine_weight name_place_of (drop k rs) ≡ Some r.name.position
+heavy_here rs k r e heavy =
+    heavy_next rs k r e ∙ ap (λ b. if b then Some r.name.position else heavy_from rs (k + 1))
+    (lt-ltb greatest_routine_weight r.weight heavy)
+
+pub heavy_later : (rs : List CheckedRoutine) (k : ℕ) (r : CheckedRoutine) → Some r ≡ slice_get rs k
+    → r.weight ≤ greatest_routine_weight
+    → first_heavy routine_weight name_place_of (drop (k + 1) rs) ≡ first_heavy routine_weight name_place_of (drop k rs)
+heavy_later rs k r e light =
+    sym (heavy_next rs k r e ∙ ap (λ b. if b then Some r.name.position else heavy_from rs (k + 1))
+    (le-ltb greatest_routine_weight r.weight light))
 
 -- Of a program of a weight, whose first routine that is too heavy stands there
 

@@ -139,7 +139,7 @@ fn body_of(
     codes: Vec<Code<'_, '_>>,
 ) -> Result<Vec<u8>, AllocError>
     requires at { at ≡ places_of (program_of checked.now) }
-    requires codes { codes.entry.items ≡ codes_in (program_of checked.now) }
+    requires codes { codes.items ≡ codes_in (program_of checked.now) }
     requires fits { FitsStory version (program_of checked.now) }
     ensures { IfOk result (λ v. v.items ≡ layout.body_of version (program_of checked.now)) }
 {
@@ -163,7 +163,7 @@ fn story_with(
     version: Version,
     codes: Vec<Code<'_, '_>>,
 ) -> Result<Vec<u8>, AllocError>
-    requires codes { codes.entry.items ≡ codes_in (program_of checked.now) }
+    requires codes { codes.items ≡ codes_in (program_of checked.now) }
     requires fits { FitsStory version (program_of checked.now) }
     ensures { IfOk result (λ v. v.items ≡ layout.story_of version (program_of checked.now)) }
 {
