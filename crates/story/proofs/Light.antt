@@ -49,7 +49,10 @@ module _ (one_outcome : (bytes : List ℕ) (o q : TokenOutcome) → Lexes 0 1 by
     (source : List ℕ) (p : ProgramTree) (tree : IsTreeOf source p) where
   same_tokens : (tokens : List SourceToken) → Lexes 0 1 source (Ok tokens) → tokens ≡ tree.tokens
   same_tokens tokens lexed =
-      let same : Ok tokens ≡ Ok tree.tokens = one_outcome source (Ok tokens) (Ok tree.tokens) lexed tree.lexed in cc
+      let one : TokenOutcome = Ok tokens in
+      let other : TokenOutcome = Ok tree.tokens in
+      let same : one ≡ other = one_outcome source one other lexed tree.lexed in
+      cc
 
   same_tree : (q : ProgramTree) → IsTreeOf source q → q ≡ p
   same_tree q other =
@@ -61,7 +64,10 @@ module _ (one_outcome : (bytes : List ℕ) (o q : TokenOutcome) → Lexes 0 1 by
       → RefusesBy tree_length_fault version source f → f ≡ no_memory
   refused version lawful sized f (spec.no_memory is) = is
   refused version lawful sized f (spec.in_tokens lexed) =
-      let same : Err f ≡ Ok tree.tokens = one_outcome source (Err f) (Ok tree.tokens) lexed tree.lexed in absurd cc
+      let one : TokenOutcome = Err f in
+      let other : TokenOutcome = Ok tree.tokens in
+      let same : one ≡ other = one_outcome source one other lexed tree.lexed in
+      absurd cc
   refused version lawful sized f (spec.not_in_grammar tokens lexed none place number) =
       absurd (none p (subst (λ ts. IsProgram (lexemes_of ts) p) (sym (same_tokens tokens lexed)) tree.parsed))
   refused version lawful sized f (spec.too_deep tokens lexed deep place number) =
