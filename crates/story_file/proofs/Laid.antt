@@ -361,19 +361,32 @@ module _ (version : Version) (p : ProgramOf) (k at n : ℕ) (h : k < length p.ro
 
 pub story_too_long : (version : Version) (p : ProgramOf) → FitsTables p → reaches_end version p ≡ false
     → 65535 * scale_of version < length (story_of version p)
-story_too_long version p fits no =
+story_too_long version p fits beyond =
     let end = story_end version p fits.accepted.defaults.0 in
-    let far = leb-false (end_from (scale_of version) (routines_place p) (part_sizes p)) (65535 * scale_of version) no in
+    let far = leb-false (end_from (scale_of version) (routines_place p) (part_sizes p)) (65535 * scale_of version) beyond in
     omega (arith, end, far)
 
 pub story_reached : (version : Version) (p : ProgramOf) → FitsTables p → reaches_end version p ≡ true
     → length (story_of version p) ≤ 65535 * scale_of version
-story_reached version p fits yes =
+story_reached version p fits reached =
     let end = story_end version p fits.accepted.defaults.0 in
-    let near = leb-true (end_from (scale_of version) (routines_place p) (part_sizes p)) (65535 * scale_of version) yes in
+    let near = leb-true (end_from (scale_of version) (routines_place p) (part_sizes p)) (65535 * scale_of version) reached in
     omega (arith, end, near)
 
 -- an address that is a word is one that packed addresses reach
 pub word_reached : (version : Version) (n : ℕ) → n ≤ greatest_word → n ≤ 65535 * scale_of version
 word_reached V5 n h = omega (arith, h)
 word_reached V8 n h = omega (arith, h)
+
+-- the test is on the sizes of codes and of texts, from the first on
+pub reach_as : (version : Version) (p : ProgramOf) (codes : List CodeOf) (place : ℕ) (b : Bool)
+    → place ≡ routines_place p → codes ≡ codes_in p
+    → b ≡ nat_le (end_from (scale_of version) place (map part_size codes ++ map length fault_texts))
+    (65535 * scale_of version)
+    → reaches_end version p ≡ b
+reach_as version p codes place b e t is =
+    sym (is
+    ∙ ap (λ at. nat_le (end_from (scale_of version) at (map part_size codes ++ map length fault_texts))
+    (65535 * scale_of version)) e
+    ∙ ap (λ cs. nat_le (end_from (scale_of version) (routines_place p) (map part_size cs ++ map length fault_texts))
+    (65535 * scale_of version)) t)

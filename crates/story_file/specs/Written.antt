@@ -5,6 +5,7 @@ use Rattle.std.specs.List.{flat_map}
 use Rattle.std.specs.Global.{Vec}
 use Rattle.ztext.specs.Bytes.{most_abbreviations}
 use Rattle.zcore.specs.declared.header.Version.{Version}
+use Rattle.zcore.specs.Header.{scale_of}
 use Rattle.meaning.specs.declared.places.Places.{Places}
 use Rattle.meaning.specs.Places.{empty_text_place, routines_place}
 use Rattle.meaning.specs.Resolved.{RoutineOf, ProgramOf}

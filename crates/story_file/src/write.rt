@@ -192,6 +192,28 @@ pub fn write_story(
     story_with(alloc, checked, version, codes)
 }
 
+/// The story file of a checked program, in a version, whose routines have this code; `None` where
+/// packed addresses do not reach its end.
+fn story_reached(
+    alloc: Global,
+    checked: &Checked<'_>,
+    version: Version,
+    codes: Vec<Code<'_, '_>>,
+) -> Result<Option<Vec<u8>>, AllocError>
+    requires codes { codes.items ≡ codes_in (program_of checked.now) }
+    requires tables { FitsTables (program_of checked.now) }
+    ensures { IfOk result (AnswersStory version (program_of checked.now)) }
+{
+    let at = part_places(checked);
+    let fits = is_within(alloc, version, at.routines, &codes)?;
+    if fits {
+        let story = story_with(alloc, checked, version, codes)?;
+        Ok(Some(story))
+    } else {
+        Ok(None)
+    }
+}
+
 /// The story file of a checked program, in a version; `None` where packed addresses do not reach its
 /// end: it has more than 262,140 bytes in version 5 or 524,280 in version 8.
 ///
@@ -206,13 +228,10 @@ pub fn write_story_within(
     requires { FitsTables (program_of checked.now) }
     ensures { IfOk result (AnswersStory version (program_of checked.now)) }
 {
-    let place = part_places(checked).routines;
-    let Some(codes) = codes_within(alloc, checked, version, place)? else {
-        return Ok(None);
-    };
-    if !is_within(alloc, version, place, &codes)? {
-        return Ok(None);
+    let at = part_places(checked);
+    let within = codes_within(alloc, checked, version, at.routines)?;
+    match within {
+        Some(codes) => story_reached(alloc, checked, version, codes),
+        None => Ok(None),
     }
-    let story = story_with(alloc, checked, version, codes)?;
-    Ok(Some(story))
 }

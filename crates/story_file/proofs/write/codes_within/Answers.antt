@@ -16,7 +16,7 @@ returns-in_default c =
     ap (λ place. nat_le (end_from (scale_of c.args.version) place (part_sizes p)) (65535 * scale_of c.args.version))
     (sym c.requires.at)
     ∙ routine_beyond c.args.version p c.loop-routine.routine c.loop-routine.at c.length.result there
-    (c.length.ensures ∙ ap part_size c.in_ok-code_at.ensures) _ c.loop-routine.invariant.1 c.in_default.ensures
+    (c.length.ensures ∙ ap part_size c.in_ok-code.ensures) _ c.loop-routine.invariant.1 c.in_default.ensures
 
 pub loop-routine-preserved : goal.loop-routine-preserved
 loop-routine-preserved c =
@@ -25,9 +25,9 @@ loop-routine-preserved c =
     let there : c.loop-routine.routine < length p.routines =
     omega (arith, count, c.loop-routine-test.true, c.routines-routine-end.ensures) in
     let next = code_next (sizes_of p) p.routines c.loop-routine.routine there in
-    let code = c.in_ok-code_at.ensures in (
+    let code = c.in_ok-code.ensures in (
       c.in_ok-push.ensures.items
-          ∙ ap (λ z. z ++ c.in_ok-code_at.field-0 ∷ []) c.loop-routine.invariant.0
+          ∙ ap (λ z. z ++ c.in_ok-code.code ∷ []) c.loop-routine.invariant.0
           ∙ ap (λ x. take c.loop-routine.routine (codes_in p) ++ x ∷ []) code
           ∙ sym next,
       end_goes_on c.args.version p c.loop-routine.routine c.loop-routine.at c.length.result there
