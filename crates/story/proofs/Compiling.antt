@@ -44,7 +44,7 @@ use Rattle.story.specs.Refused.{IsTreeOf, Limits, RefusesBy, lexemes_of}
 use Rattle.story.specs.Refused as spec
 use Rattle.story.specs.Laws.{IsStory, StoriesHold}
 use Rattle.story.proofs.Faults.{faults_by, placed_of}
-use Rattle.story.proofs.Sized.{parts_fit}
+use Rattle.story.proofs.SizeTests.{parts_fit}
 use Rattle.story.proofs.Sizes.{all_short, stories_are_short}
 use Rattle.story.proofs.Numbered.{keys_numbered}
 use Rattle.story.proofs.Reading.{version_told}

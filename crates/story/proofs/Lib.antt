@@ -6,7 +6,7 @@ mod PackedParts
 mod Holding
 pub mod Sizes
 pub mod Faults
-pub mod Sized
+pub mod SizeTests
 mod Numbered
 pub mod Compiling
 pub mod Standing

@@ -24,7 +24,7 @@ use Rattle.story.specs.Large.{length_fault, tree_length_fault}
 use Rattle.story.specs.Laws.{LightStoriesFit}
 use Rattle.story.specs.Refused.{IsTreeOf, RefusesBy, lexemes_of, tree_size_fault}
 use Rattle.story.specs.Refused as spec
-use Rattle.story.proofs.Sized.{weight_passed, none_by_length}
+use Rattle.story.proofs.SizeTests.{weight_passed, none_by_length}
 use Rattle.story.proofs.Sizes.{stories_are_short}
 
 routines_are : (p : ProgramTree) → (resolve_program p).routines ≡ routines_of (file_of p) p.directives

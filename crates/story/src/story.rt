@@ -140,9 +140,13 @@ fn compile_in(
     drop(tokens);
     let checked = check_placed(alloc, &program)?;
     let sized = story_within(alloc, &checked, version, limit)?;
-    let bytes = sized?;
-    leave(checked, program, trees);
-    Ok(Story::of_bytes(bytes))
+    match sized {
+        Ok(bytes) => {
+            leave(checked, program, trees);
+            Ok(Story::of_bytes(bytes))
+        }
+        Err(placed) => Err(placed),
+    }
 }
 
 /// The story of a source, as [`compile_for`] makes it by the limit of weight, or the fault with its

@@ -7,7 +7,7 @@ use Rattle.syntax_lexer.specs.Results.{source_tokens}
 use Rattle.syntax.specs.Views.{program_tree}
 use Rattle.syntax.proofs.Main.{unplaced_numbers}
 use Rattle.syntax.proofs.Placing.{unfit_as, deep_less}
-use Rattle.story.specs.Large.{limits_by}
+use Rattle.story.specs.Large.{limits_by, IsStoryWithin}
 use Rattle.story.specs.Refused.{RefusesBy}
 use Rattle.story.proofs.Compiling.{is_tree, unparsed, unchecked, too_large, answered}
 use Rattle.story.proofs.Compiling.{accepted, compiled, light, printable}
@@ -45,21 +45,18 @@ returns-in_err-checked-clause-compiles c =
     answered (limits_by c.args.limit) c.args.version c.args.source.now c.from_residual-in_err-checked.result c.in_err-checked.field-0.0
     c.from_residual-in_err-checked.ensures refused
 
-pub returns-in_err-bytes-clause-compiles : goal.returns-in_err-bytes-clause-compiles
-returns-in_err-bytes-clause-compiles c =
+pub returns-in-Err-clause-compiles : goal.returns-in-Err-clause-compiles
+returns-in-Err-clause-compiles c =
     let lexed : Lexes 0 1 c.args.source.now (Ok (source_tokens c.deref.result.now)) =
     subst (λ ts. Lexes 0 1 c.args.source.now (Ok (source_tokens ts))) (sym c.deref.ensures.value)
     c.in_ok-tokens.ensures.meets in
     let found = c.in_ok-program.ensures.found in
     let p = program_tree c.in_ok-program.program in
     let checked = c.in_ok-checked.ensures.answers in
-    let refused : RefusesBy (limits_by c.args.limit) c.args.version c.args.source.now c.in_err-bytes.field-0.0.fault =
-    too_large c.args.limit c.args.version c.args.source.now p c.in_ok-checked.checked c.in_err-bytes.field-0.0.fault
-    (is_tree c.args.source.now c.deref.result.now lexed p found.0 found.1) checked.0 checked.1
-    c.in_ok-sized_ERR.0 in
-    answered (limits_by c.args.limit) c.args.version c.args.source.now c.from_residual-in_err-bytes.result
-    c.in_err-bytes.field-0.0
-    c.from_residual-in_err-bytes.ensures refused
+    let large = subst (IsStoryWithin c.args.limit c.args.version c.in_ok-checked.checked) c.in-Err.is
+    c.in_ok-sized.ensures in
+    too_large c.args.limit c.args.version c.args.source.now p c.in_ok-checked.checked c.in-Err.placed.fault
+    (is_tree c.args.source.now c.deref.result.now lexed p found.0 found.1) checked.0 checked.1 large.0
 
 pub story_within-requires : goal.story_within-requires
 story_within-requires c =
@@ -81,14 +78,15 @@ story_within-requires c =
           checked.0 checked.1 c.small_sources_have_small_code.ensures c.args.version;
     }
 
-pub returns-clause-compiles : goal.returns-clause-compiles
-returns-clause-compiles c =
+pub returns-in-Ok-clause-compiles : goal.returns-in-Ok-clause-compiles
+returns-in-Ok-clause-compiles c =
     let lexed : Lexes 0 1 c.args.source.now (Ok (source_tokens c.deref.result.now)) =
     subst (λ ts. Lexes 0 1 c.args.source.now (Ok (source_tokens ts))) (sym c.deref.ensures.value)
     c.in_ok-tokens.ensures.meets in
     let found = c.in_ok-program.ensures.found in
     let checked = c.in_ok-checked.ensures.answers in
-    let sized = c.in_ok-sized.ensures in
+    let sized = subst (IsStoryWithin c.args.limit c.args.version c.in_ok-checked.checked) c.in-Ok.is
+    c.in_ok-sized.ensures in
     compiled c.accepted_programs.ensures c.printable_tokens.ensures c.printable_trees.ensures
     c.printable_programs.ensures c.args.source.now c.deref.result.now (program_tree c.in_ok-program.program)
     c.in_ok-checked.checked lexed found.0 checked.0 checked.1
@@ -127,18 +125,17 @@ returns-in_err-checked-clause-stands c =
     (unchecked_stands c.args.source.now p c.in_err-checked.field-0.0
     (is_tree c.args.source.now c.deref.result.now lexed p found.0 found.1) c.in_err-checked.ensures.stands)
 
-pub returns-in_err-bytes-clause-stands : goal.returns-in_err-bytes-clause-stands
-returns-in_err-bytes-clause-stands c =
+pub returns-in-Err-clause-stands : goal.returns-in-Err-clause-stands
+returns-in-Err-clause-stands c =
     let lexed : Lexes 0 1 c.args.source.now (Ok (source_tokens c.deref.result.now)) =
     subst (λ ts. Lexes 0 1 c.args.source.now (Ok (source_tokens ts))) (sym c.deref.ensures.value)
     c.in_ok-tokens.ensures.meets in
     let found = c.in_ok-program.ensures.found in
     let p = program_tree c.in_ok-program.program in
-    stands_answered c.args.source.now c.from_residual-in_err-bytes.result
-    c.in_err-bytes.field-0.0 c.from_residual-in_err-bytes.ensures
-    (too_large_stands c.args.source.now p c.in_ok-checked.checked c.in_err-bytes.field-0.0
-    (is_tree c.args.source.now c.deref.result.now lexed p found.0 found.1) c.in_ok-checked.ensures.answers.1
-    c.in_ok-sized_ERR.1)
+    let large = subst (IsStoryWithin c.args.limit c.args.version c.in_ok-checked.checked) c.in-Err.is
+    c.in_ok-sized.ensures in
+    too_large_stands c.args.source.now p c.in_ok-checked.checked c.in-Err.placed
+    (is_tree c.args.source.now c.deref.result.now lexed p found.0 found.1) c.in_ok-checked.ensures.answers.1 large.1
 
 pub returns-in_err-sized-clause-stands : goal.returns-in_err-sized-clause-stands
 returns-in_err-sized-clause-stands c =

@@ -49,10 +49,10 @@ none_measured false (Some name) long e = absurd cc
 -- a fault but E31 is the same
 same_measured : (large heavy : Bool) (first : Option Position) (long : Bool) (f : SourceFault)
     → weighed large heavy first ≡ Some f → (f.number ≡ 31 → ⊥) → measured large first long ≡ Some f
-same_measured true heavy first long f e no = e
-same_measured false true first long f e no =
-    let is : fault 31 0 ≡ f = cc in absurd (no (ap (λ (x : SourceFault). x.number) (sym is)))
-same_measured false false first long f e no = ap (λ x. option_or x (if long then Some (fault 31 0) else None)) e
+same_measured true heavy first long f e other = e
+same_measured false true first long f e other =
+    let is : fault 31 0 ≡ f = cc in absurd (other (ap (λ (x : SourceFault). x.number) (sym is)))
+same_measured false false first long f e other = ap (λ x. option_or x (if long then Some (fault 31 0) else None)) e
 
 heavy_number : (first : Option Position) (f : SourceFault) → heavy_fault first ≡ Some f → f.number ≡ 31 → ⊥
 heavy_number None f e h = absurd cc
@@ -146,8 +146,8 @@ module _ (version : Version) (c : CheckedProgram) where
 
   pub same_fault : (f : SourceFault) → Some f ≡ checked_size_fault c version → (f.number ≡ 31 → ⊥)
       → checked_fault_by limit.Length version c ≡ Some f
-  same_fault f e no =
-      same_measured large (nat_lt (greatest_weight version) c.weight) (heavy_place c) long f (sym e) no
+  same_fault f e other =
+      same_measured large (nat_lt (greatest_weight version) c.weight) (heavy_place c) long f (sym e) other
 
   pub placed_by_weight : (f : SourceFault) → Some f ≡ checked_size_fault c version → f.number ≡ 31
       → routines_place (program_of c) ≤ 65535
