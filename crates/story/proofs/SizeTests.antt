@@ -46,31 +46,6 @@ none_measured true first long e = absurd cc
 none_measured false None long e = (refl, refl)
 none_measured false (Some name) long e = absurd cc
 
--- a fault but E31 is the same
-same_measured : (large heavy : Bool) (first : Option Position) (long : Bool) (f : SourceFault)
-    → weighed large heavy first ≡ Some f → (f.number ≡ 31 → ⊥) → measured large first long ≡ Some f
-same_measured true heavy first long f e other = e
-same_measured false true first long f e other =
-    let is : fault 31 0 ≡ f = cc in absurd (other (ap (λ (x : SourceFault). x.number) (sym is)))
-same_measured false false first long f e other = ap (λ x. option_or x (if long then Some (fault 31 0) else None)) e
-
-heavy_number : (first : Option Position) (f : SourceFault) → heavy_fault first ≡ Some f → f.number ≡ 31 → ⊥
-heavy_number None f e h = absurd cc
-heavy_number (Some name) f e h =
-    let is : fault 32 name.line ≡ f = cc in
-    let number : 32 ≡ f.number = ap (λ (x : SourceFault). x.number) is in
-    omega (arith, number, h)
-
--- E31 comes after E30
-by_weight : (large heavy : Bool) (first : Option Position) (f : SourceFault) → weighed large heavy first ≡ Some f
-    → f.number ≡ 31 → (large ≡ false) × (f ≡ fault 31 0)
-by_weight true heavy first f e h =
-    let is : fault 30 0 ≡ f = cc in
-    let number : 30 ≡ f.number = ap (λ (x : SourceFault). x.number) is in
-    absurd (omega (arith, number, h))
-by_weight false true first f e h = let is : fault 31 0 ≡ f = cc in (refl, sym is)
-by_weight false false first f e h = absurd (heavy_number first f e h)
-
 -- The first routine that is too heavy, of those from one on
 
 abbrev heavy_from : List CheckedRoutine → ℕ → Option Position
@@ -128,13 +103,7 @@ module _ (version : Version) (c : CheckedProgram) where
   abbrev long : Bool
   long = nat_lt (greatest_length version) (length (story_of version (program_of c)))
 
-  -- what weighs little is within either limit
-  pub light_by : (by : Limit) → checked_size_fault c version ≡ None
-      → length (story_of version (program_of c)) ≤ greatest_length version → checked_fault_by by version c ≡ None
-  light_by limit.Weight e within = e
-  light_by limit.Length e within = none_by_length version (program_of c) c.weight (heavy_place c) e within
-
-  -- so its parts fit, and each of its routines
+  -- the parts of what is not too large fit, and each of its routines
   pub parts_fit : (by : Limit) → checked_fault_by by version c ≡ None
       → (routines_place (program_of c) ≤ 65535) × (heavy_place c ≡ None)
   parts_fit limit.Weight e =
@@ -143,50 +112,3 @@ module _ (version : Version) (c : CheckedProgram) where
   parts_fit limit.Length e =
       let none = none_measured large (heavy_place c) long e in
       (ltb-false 65535 (routines_place (program_of c)) none.0, none.1)
-
-  pub same_fault : (f : SourceFault) → Some f ≡ checked_size_fault c version → (f.number ≡ 31 → ⊥)
-      → checked_fault_by limit.Length version c ≡ Some f
-  same_fault f e other =
-      same_measured large (nat_lt (greatest_weight version) c.weight) (heavy_place c) long f (sym e) other
-
-  pub placed_by_weight : (f : SourceFault) → Some f ≡ checked_size_fault c version → f.number ≡ 31
-      → routines_place (program_of c) ≤ 65535
-  placed_by_weight f e h = ltb-false 65535 (routines_place (program_of c))
-      (by_weight large (nat_lt (greatest_weight version) c.weight) (heavy_place c) f (sym e) h).0
-
-  pub fault_by_weight : (f : SourceFault) → Some f ≡ checked_size_fault c version → f.number ≡ 31 → f ≡ fault 31 0
-  fault_by_weight f e h = (by_weight large (nat_lt (greatest_weight version) c.weight) (heavy_place c) f (sym e) h).1
-
-  -- what weighs too much, but whose parts fit
-
-  pub heavy_by : routines_place (program_of c) ≤ 65535 → (name : Position) → heavy_place c ≡ Some name
-      → checked_fault_by limit.Length version c ≡ Some (fault 32 name.line)
-  heavy_by placed name e =
-      ap (λ b. measured b (heavy_place c) long) (le-ltb 65535 (routines_place (program_of c)) placed)
-      ∙ ap (λ h. measured false h long) e
-
-  pub fits_by : routines_place (program_of c) ≤ 65535 → heavy_place c ≡ None
-      → length (story_of version (program_of c)) ≤ greatest_length version
-      → checked_fault_by limit.Length version c ≡ None
-  fits_by placed e within =
-      ap (λ b. measured b (heavy_place c) long) (le-ltb 65535 (routines_place (program_of c)) placed)
-      ∙ ap (λ h. measured false h long) e
-      ∙ ap (measured false None) (le-ltb (greatest_length version) (length (story_of version (program_of c))) within)
-
-  pub long_by : routines_place (program_of c) ≤ 65535 → heavy_place c ≡ None
-      → greatest_length version < length (story_of version (program_of c))
-      → checked_fault_by limit.Length version c ≡ Some (fault 31 0)
-  long_by placed e far =
-      ap (λ b. measured b (heavy_place c) long) (le-ltb 65535 (routines_place (program_of c)) placed)
-      ∙ ap (λ h. measured false h long) e
-      ∙ ap (measured false None) (lt-ltb (greatest_length version) (length (story_of version (program_of c))) far)
-
--- the fault of a source as a whole stands nowhere
-pub nowhere_by_weight : (c : CheckedProgram) (e : PlacedFault) → StandsBySize e c → e.fault.number ≡ 31
-    → e.offset ≡ None
-nowhere_by_weight c e stands h = elim stands [
-  | inl whole ↦ whole.1
-  | inr heavy ↦
-      let number : e.fault.number ≡ 32 = ap (λ (x : SourceFault). x.number) heavy.2 in
-      absurd (omega (arith, number, h))
-]
