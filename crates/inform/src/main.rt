@@ -8,12 +8,12 @@ mod source;
 mod warnings;
 
 use crate::output::{is_one_file, write_whole};
-use crate::refusals::{refused, show};
+use crate::refusals::{limit_of, refused, show};
 use crate::source::read_source;
 use crate::warnings::warn;
 use clap::{ArgMatches, Error};
 use inform_arguments::{Asked, Words, command, words_of};
-use messages_diagnosis::diagnose;
+use messages_diagnosis::{Limit, diagnose};
 use messages_explanations::Program;
 use messages_figures::{Figures, measure};
 use one_line::OneLine;
@@ -50,7 +50,12 @@ fn answer(rt: &HostRuntime, matches: &ArgMatches<'_>) -> ExitCode {
     match words_of(matches) {
         Some(Asked::Compile(words)) => build(rt, words),
         Some(Asked::Explain(name)) => explain(rt, name),
-        Some(Asked::Sizes(source, version)) => show_sizes(rt, source, version),
+        Some(Asked::Sizes(source, version, large)) => show_sizes(
+            rt,
+            source,
+            version,
+            limit_of(large),
+        ),
         None => misused(rt, "the version after -v is 5 or 8"),
     }
 }
@@ -111,12 +116,12 @@ fn source_of(rt: &HostRuntime, source: &str) -> Result<Vec<u8>, ExitCode> {
 }
 
 /// Prints what the source takes, also where it is refused as too large.
-fn show_sizes(rt: &HostRuntime, source: &str, version: Version) -> ExitCode {
+fn show_sizes(rt: &HostRuntime, source: &str, version: Version, limit: Limit) -> ExitCode {
     let source = match source_of(rt, source) {
         Ok(source) => source,
         Err(status) => return status,
     };
-    match measure(rt.alloc(), &source, version) {
+    match measure(rt.alloc(), &source, version, limit) {
         Ok(figures) => print_figures(rt, &figures),
         Err(fault) => refused(rt, fault),
     }
@@ -139,9 +144,9 @@ fn build(rt: &HostRuntime, words: Words<'_>) -> ExitCode {
         Ok(source) => source,
         Err(status) => return status,
     };
-    match diagnose(rt.alloc(), &source, words.version) {
+    match diagnose(rt.alloc(), &source, words.version, limit_of(words.large)) {
         Ok(story) => finish(rt, words, &source, story.bytes()),
-        Err(diagnosis) if words.show => show(rt, words.source, &source, words.version, diagnosis),
+        Err(diagnosis) if words.show => show(rt, words, &source, diagnosis),
         Err(diagnosis) => refused(rt, diagnosis.fault),
     }
 }

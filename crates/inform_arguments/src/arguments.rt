@@ -60,6 +60,14 @@ fn sizes_argument<'a>(alloc: Global) -> Result<Arg<'a>, AllocError> {
         .conflicts_with("story")
 }
 
+/// Whether the length of the story is limited, in place of the weight of the source.
+fn large_argument<'a>(alloc: Global) -> Arg<'a> {
+    Arg::new(alloc, "large")
+        .long("large")
+        .help("Refuse SOURCE as too large only if its story is, whatever it weighs")
+        .action(ArgAction::SetTrue)
+}
+
 /// The source file's name.
 fn source_argument<'a>(alloc: Global) -> Arg<'a> {
     Arg::new(alloc, "source")
@@ -94,6 +102,7 @@ fn arguments<'a>(alloc: Global) -> Result<Vec<Arg<'a>>, AllocError> {
         show_argument(alloc),
         warn_argument(alloc),
         sizes,
+        large_argument(alloc),
         source_argument(alloc),
         story,
     ]?)

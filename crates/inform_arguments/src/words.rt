@@ -12,8 +12,9 @@ pub enum Asked<'a> {
     /// To compile a source.
     Compile(Words<'a>),
 
-    /// To print how much the source file of this name takes as a story of a version.
-    Sizes(&'a str, Version),
+    /// To print how much the source file of this name takes as a story of a version, and whether the
+    /// story may be large.
+    Sizes(&'a str, Version, bool),
 }
 
 /// What is compiled to what.
@@ -27,6 +28,9 @@ pub struct Words<'a> {
 
     /// The version of the story file.
     pub version: Version,
+
+    /// Whether the length of the story is limited instead of the weight of the source.
+    pub large: bool,
 
     /// Whether to show where a fault is.
     pub show: bool,
@@ -47,13 +51,15 @@ pub fn words_of<'a>(matches: &ArgMatches<'a>) -> Option<Asked<'a>> {
         Some(_) => return None,
     };
     let source = matches.get_str("source").unwrap_or("");
+    let large = matches.get_flag("large");
     if matches.get_flag("sizes") {
-        return Some(Asked::Sizes(source, version));
+        return Some(Asked::Sizes(source, version, large));
     }
     Some(Asked::Compile(Words {
         source,
         story: matches.get_str("story"),
         version,
+        large,
         show: matches.get_flag("show"),
         warn: matches.get_flag("warn"),
     }))

@@ -4,11 +4,11 @@ use Rattle.meaning.specs.Views.{program_of}
 use Rattle.story_file.specs.Layout.{body_of, header_of}
 use Rattle.story_file.specs.Written.{AreWords}
 use Rattle.story_file.proofs.Laid.{body_within, story_laid}
-use Rattle.story_file.proofs.write.write_story.Goals as goal
+use Rattle.story_file.proofs.write.story_with.Goals as goal
 
 pub put_header-requires-clause-words : goal.put_header-requires-clause-words
 put_header-requires-clause-words c =
-    let placed = c.requires.placed in
+    let placed = c.requires.fits.placed in
     subst AreWords (sym c.part_places-at.ensures) (record {
       globals = omega arith;
       defaults = omega (arith, placed);
@@ -18,7 +18,7 @@ put_header-requires-clause-words c =
 
 pub put_header-requires-clause-length : goal.put_header-requires-clause-length
 put_header-requires-clause-length c =
-    body_within c.args.version (program_of c.args.checked.now) c.deref.result.now c.requires (c.deref.ensures.value
+    body_within c.args.version (program_of c.args.checked.now) c.deref.result.now c.requires.fits (c.deref.ensures.value
     ∙ c.in_ok-body.ensures)
 
 pub returns : goal.returns
