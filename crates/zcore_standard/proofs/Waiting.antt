@@ -220,8 +220,8 @@ waits_execute_further loaded operation here (Ok x) = waits_then _ _ (waits_opera
 
 waits_chosen_step : (loaded : Loaded) (here : Here) (s t : State) (o : Option Further)
     → chosen loaded o here s ≡ halt places.Waiting t → WaitsWell t
-waits_chosen_step loaded here s t None h = waits_step_known here.next s t
-    (halt_within here (step_known here.next s) t h)
+waits_chosen_step loaded here s t None h = waits_step_known loaded.characters here.next s t
+    (halt_within here (step_known loaded.characters here.next s) t h)
 waits_chosen_step loaded here s t (Some operation) h =
     waits_execute_further loaded operation here (decode_further s.memory here.next.program_counter operation) s t h
 
