@@ -50,6 +50,13 @@ grew_by {start} {x} {y} h v = record {
   within = v.within;
 }
 
+pub grew_back : (start : ℕ) (was now : List ℕ) → now ≡ was → HasBegun start was → Grew start was now
+grew_back start was now e h = record {
+  front = ap (take start) e;
+  longer = omega (arith, ap length e);
+  within = omega (arith, ap length e, h.within);
+}
+
 -- The bytes of one character
 
 pub whole_put : (start : ℕ) (x y bytes : List ℕ) → HasBegun start x → length x - start + length bytes ≤ text_limit
@@ -186,9 +193,25 @@ pub first_halted : {x y : List ℕ} (halt : Halt) → Prints (Some halt) x y (pr
 unfolding print_each
 first_halted halt v = prints_no_further halt (print_whole (32 ∷ [])) (print_each ((32 ∷ []) ∷ [])) v
 
-pub bytes_as : {x y : List ℕ} (h : Option Halt) (bytes other : List ℕ) → bytes ≡ other
-    → Prints h x y (print_whole bytes) → Prints h x y (print_whole other)
-bytes_as {x} {y} h bytes other e w = subst (λ l. Prints h x y (print_whole l)) e w
+-- the bytes of a Unicode character
+
+pub printed_as : {x y : List ℕ} (h : Option Halt) (bytes : List ℕ) (code : ℕ) → bytes ≡ transcript_of code
+    → Prints h x y (print_whole bytes) → Prints h x y (print_whole (transcript_of code))
+printed_as {x} {y} h bytes code e w = subst (λ l. Prints h x y (print_whole l)) e w
+
+pub unknown_is : (code : ℕ) → is_printed code ≡ false → 63 ∷ [] ≡ transcript_of code
+unknown_is code e = rw e refl
+
+pub one_is : (code : ℕ) → is_printed code ≡ true → code < 128 → code ∷ [] ≡ transcript_of code
+one_is code e lt = rw (e, lt-ltb code 128 lt) refl
+
+pub two_are : (code : ℕ) → is_printed code ≡ true → 128 ≤ code → code < 2048
+    → (192 + code / 64) ∷ (128 + code % 64) ∷ [] ≡ transcript_of code
+two_are code e le lt = rw (e, le-ltb code 128 le, lt-ltb code 2048 lt) refl
+
+pub three_are : (code : ℕ) → is_printed code ≡ true → 2048 ≤ code
+    → (224 + code / 4096) ∷ (128 + code / 64 % 64) ∷ (128 + code % 64) ∷ [] ≡ transcript_of code
+three_are code e le = rw (e, le-ltb code 128 (omega arith), le-ltb code 2048 le) refl
 
 -- Codes behind codes
 

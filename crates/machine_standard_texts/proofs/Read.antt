@@ -22,7 +22,7 @@ use Rattle.machine_standard_texts.specs.declared.pieces.Piece.TheVariants as pie
 use Rattle.machine_standard_texts.specs.declared.pieces.State as declared
 use Rattle.machine_standard_texts.specs.declared.pieces.State.TheVariants as code
 use Rattle.machine_standard_texts.specs.declared.reading.Named.{Named}
-use Rattle.machine_standard_texts.specs.Pieces.{state_of, Comes, behind, ReadsPlain}
+use Rattle.machine_standard_texts.specs.Pieces.{state_of, Comes, behind, ReadsPlain, IsNamedWithin}
 use Rattle.machine_standard_texts.specs.Put.{PrintsOn}
 use Rattle.machine_standard_texts.specs.Read.{GivesCodes, GivesText, rest_of}
 use Rattle.machine_standard_texts.proofs.Printed.{on_none, on_then}
@@ -185,3 +185,114 @@ IsNumbered (Some named) = named.number < 96
 pub behind_behind : (codes more : List ℕ) (r : Result (List ℕ) Cause)
     → behind codes (behind more r) ≡ behind (codes ++ more) r
 behind_behind codes more r = behind_more codes more r
+
+module _ (alphabets story : List ℕ) (number : ℕ) where
+  pub no_table : (fault : TextFault) → fault ≡ faults.Abbreviation → has_abbreviations story ≡ false
+      → FailsText fault (abbreviation_codes alphabets story number)
+  unfolding abbreviation_codes
+  no_table fault e none = rw e (rw none refl)
+
+  alone : (r : Result (List ℕ) Cause) (after : ℕ) → ((r >>= λ codes. Ok (codes, after)) >>= λ x. Ok x.0) ≡ r
+  alone (Ok x) after = refl
+  alone (Err f) after = refl
+
+  -- the text of an abbreviation
+  pub text_alone : (bytes : List ℕ) (at after : ℕ) (zs : List ℕ) → has_abbreviations story ≡ true
+      → at ≡ abbreviation_address story number → bytes ≡ drop at story → unpacked_text at bytes ≡ Ok (zs, after)
+      → abbreviation_codes alphabets story number ≡ read_codes alphabets refused Lower zs
+  unfolding abbreviation_codes
+  text_alone bytes at after zs some is from found =
+      let here : unpacked_text (abbreviation_address story number) (drop (abbreviation_address story number) story)
+      ≡ Ok (zs, after) =
+      ap (λ (k : ℕ). unpacked_text k (drop k story)) (sym is) ∙ ap (unpacked_text at) (sym from) ∙ found in
+      rw (some, here) (alone (read_codes alphabets refused Lower zs) after)
+
+  pub nowhere : (fault : TextFault) (bytes : List ℕ) (at : ℕ) → has_abbreviations story ≡ true
+      → at ≡ abbreviation_address story number → bytes ≡ drop at story → FailsText fault (unpacked_text at bytes)
+      → FailsText fault (abbreviation_codes alphabets story number)
+  unfolding abbreviation_codes
+  nowhere fault bytes at some is from h =
+      let here : FailsText fault
+      (unpacked_text (abbreviation_address story number) (drop (abbreviation_address story number) story)) =
+      subst (λ (k : ℕ). FailsText fault (unpacked_text k (drop k story))) is
+      (subst (λ l. FailsText fault (unpacked_text at l)) from h) in
+      rw some (fails_bind fault _ (λ x. Ok x.0)
+      (fails_bind fault _ (λ x. read_codes alphabets refused Lower x.0 >>= λ codes. Ok (codes, x.1)) here))
+
+-- The rest of a text
+
+module _ (alphabets : List ℕ) (expand : ℕ → Result (List ℕ) Cause) (zs : List ℕ) where
+  pub plain_rest : (from : ℕ) (o : Option Named) (codes : List ℕ) → ReadsPlain alphabets zs from o codes
+      → read_codes alphabets expand Lower (drop from zs) ≡ behind codes (rest_of alphabets expand zs o)
+  plain_rest from None codes h = h expand ∙ ap (λ l. Ok l) (sym (append-nil codes))
+  plain_rest from (Some named) codes h = h expand
+
+  -- an abbreviation that was read, and what stands behind it
+  pub rest_on : (named : Named) (o : Option Named) (got first second : List ℕ) (whole : Result (List ℕ) Cause)
+      → behind got (rest_of alphabets expand zs (Some named)) ≡ whole → expand named.number ≡ Ok first
+      → ReadsPlain alphabets zs named.after o second
+      → behind (got ++ first ++ second) (rest_of alphabets expand zs o) ≡ whole
+  rest_on named o got first second whole so_far e h =
+      sym (behind_behind got (first ++ second) (rest_of alphabets expand zs o))
+      ∙ sym (ap (behind got) (ap (λ r. r >>= λ more. behind more
+      (read_codes alphabets expand Lower (drop named.after zs))) e
+      ∙ ap (behind first) (plain_rest named.after o second h)
+      ∙ behind_behind first second (rest_of alphabets expand zs o)))
+      ∙ so_far
+
+  pub rest_fails : (fault : TextFault) (named : Named) (got : List ℕ) (whole : Result (List ℕ) Cause)
+      → behind got (rest_of alphabets expand zs (Some named)) ≡ whole → FailsText fault (expand named.number)
+      → FailsText fault whole
+  rest_fails fault named got whole so_far h = subst (FailsText fault) so_far
+      (fails_bind fault _ (λ more. Ok (got ++ more))
+      (fails_bind fault (expand named.number) (λ more. behind more
+      (read_codes alphabets expand Lower (drop named.after zs))) h))
+
+pub rest_done : (got : List ℕ) (whole : Result (List ℕ) Cause) → behind got (Ok []) ≡ whole → whole ≡ Ok got
+rest_done got whole e = sym e ∙ ap (λ l. Ok l) (append-nil got)
+
+pub numbered : (from end : ℕ) (o : Option Named) → IsNamedWithin from end o → IsNumbered o
+numbered from end None h = tt
+numbered from end (Some named) h = h.0
+
+pub left_less : (from end k : ℕ) (o : Option Named) → IsNamedWithin from end o → k ≡ suc (end - from) → from ≤ end
+    → left_places end o < k
+left_less from end k None h e le = omega (arith, e)
+left_less from end k (Some named) h e le = omega (arith, e, h.1.0, h.1.1)
+
+-- The text at an address
+
+module _ (alphabets story bytes : List ℕ) (at after : ℕ) (zs : List ℕ) (from : bytes ≡ drop at story)
+    (found : unpacked_text at bytes ≡ Ok (zs, after)) where
+  pub whole : codes_at alphabets story at
+      ≡ (read_codes alphabets (abbreviation_codes alphabets story) Lower zs >>= λ codes. Ok (codes, after))
+  unfolding codes_at
+  whole = ap (λ r. r >>= λ x. read_codes alphabets (abbreviation_codes alphabets story) Lower x.0
+      >>= λ codes. Ok (codes, x.1)) (ap (unpacked_text at) (sym from) ∙ found)
+
+  pub whole_plain : (codes : List ℕ) → ReadsPlain alphabets zs 0 None codes
+      → codes_at alphabets story at ≡ Ok (codes, after)
+  whole_plain codes h = whole
+      ∙ ap (λ r. r >>= λ codes. Ok (codes, after)) (h (abbreviation_codes alphabets story))
+
+  pub whole_rest : (first : Named) (codes more : List ℕ) → ReadsPlain alphabets zs 0 (Some first) codes
+      → rest_of alphabets (abbreviation_codes alphabets story) zs (Some first) ≡ Ok more
+      → codes_at alphabets story at ≡ Ok (codes ++ more, after)
+  whole_rest first codes more h e = whole
+      ∙ ap (λ r. r >>= λ codes. Ok (codes, after))
+      (h (abbreviation_codes alphabets story) ∙ ap (behind codes) e)
+
+  pub whole_fails : (fault : TextFault) (first : Named) (codes : List ℕ) → ReadsPlain alphabets zs 0 (Some first) codes
+      → FailsText fault (rest_of alphabets (abbreviation_codes alphabets story) zs (Some first))
+      → FailsText fault (codes_at alphabets story at)
+  whole_fails fault first codes h e = subst (FailsText fault) (sym whole)
+      (fails_bind fault _ (λ codes. Ok (codes, after))
+      (subst (FailsText fault) (sym (h (abbreviation_codes alphabets story)))
+      (fails_bind fault _ (λ more. Ok (codes ++ more)) e)))
+
+pub no_whole : (alphabets story bytes : List ℕ) (at : ℕ) (fault : TextFault) → bytes ≡ drop at story
+    → FailsText fault (unpacked_text at bytes) → FailsText fault (codes_at alphabets story at)
+unfolding codes_at
+no_whole alphabets story bytes at fault from h = fails_bind fault _ (λ x. read_codes alphabets
+    (abbreviation_codes alphabets story) Lower x.0 >>= λ codes. Ok (codes, x.1))
+    (subst (λ l. FailsText fault (unpacked_text at l)) from h)

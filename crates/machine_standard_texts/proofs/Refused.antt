@@ -332,3 +332,10 @@ anew {s} {x = x} (Err (ends.Stop (places.Fault faults.Character))) q f g still e
     let refused : is_refused (f (state_of s.store x)) ≡ true = ap is_refused w.told.1 in
     anew_by q f g same refused w.told.0 v
 anew (Err (ends.Stop _)) q f g still e w v = absurd (cc)
+
+-- the turn goes on from there
+pub refused_on : {s t : Recording Contents} {x y : List ℕ} {f : State → Out Next} (r : Result Next End)
+    → ends_refused r ≡ true → Told r s x t y f → GoesOn s t
+refused_on (Ok next) e w = w.told.0
+refused_on (Err ends.Memory) e w = absurd (cc)
+refused_on (Err (ends.Stop place)) e w = w.told.0

@@ -145,8 +145,8 @@ fn print_any_address(
         (definitions.print_any_address characters.now here after address) }
     ensures text { Grew start text.old.items text.new.items }
 {
-    let (_behind, halted) = add_text(store, text, start, characters, address)?;
-    finish(store, halted)?;
+    let added = add_text(store, text, start, characters, address)?;
+    finish(store, added.1)?;
     Ok(Next {
         program_counter: after,
         fuel: here.fuel,
@@ -168,10 +168,10 @@ fn print_any_inline(
         (definitions.print_any_inline characters.now here after) }
     ensures text { Grew start text.old.items text.new.items }
 {
-    let (program_counter, halted) = add_text(store, text, start, characters, after)?;
-    finish(store, halted)?;
+    let added = add_text(store, text, start, characters, after)?;
+    finish(store, added.1)?;
     Ok(Next {
-        program_counter,
+        program_counter: added.0,
         fuel: here.fuel,
     })
 }
@@ -193,7 +193,7 @@ fn print_any_return(
     ensures text { Grew start text.old.items text.new.items }
 {
     let end = text.len();
-    let (_behind, halted) = add_text(store, text, start, characters, after)?;
+    let added = add_text(store, text, start, characters, after)?;
     match test_return(store) {
         Ok(_) => {}
         Err(e) => {
@@ -201,7 +201,7 @@ fn print_any_return(
             return Err(e);
         }
     }
-    let halted = put_next(text, start, characters, halted, NEW_LINE as u16);
+    let halted = put_next(text, start, characters, added.1, NEW_LINE as u16);
     finish(store, halted)?;
     give_back(header, store, here.fuel, 1)
 }

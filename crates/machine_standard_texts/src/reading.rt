@@ -149,13 +149,18 @@ fn put_parts(
 {
     let bytes = bytes_from(story, at as usize);
     let words = word_count(bytes, at)?;
+    let after = (at as usize + 2 * words) as u32;
     match put_plain(text, start, characters, alphabets, halted, bytes, words, 0) {
-        Some(first) => put_rest(
-            text, start, characters, alphabets, halted, story, bytes, words, first,
-        )?,
-        None => {}
+        None => Ok(after),
+        Some(first) => {
+            match put_rest(
+                text, start, characters, alphabets, halted, story, bytes, words, first,
+            ) {
+                Ok(()) => Ok(after),
+                Err(fault) => Err(fault),
+            }
+        }
     }
-    Ok((at as usize + 2 * words) as u32)
 }
 
 /// Adds what the text at an address prints. Answers the address after it, and where printing halted:

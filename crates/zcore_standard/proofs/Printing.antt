@@ -1,11 +1,12 @@
 -- The opcodes that print any ZSCII code: they make the weight fall, do not wait, and the profile answers M10 before them
 -- in the same state.
-use Rattle.std.proofs.Common.{◌≡◌, ℕ, ◌+◌, ◌<◌, List, [], ◌∷◌, ◌++◌, refl, ap, sym, Bool, true, false, cond, arith}
+use Rattle.std.proofs.Common.{◌≡◌, ℕ, ◌+◌, ◌^◌, ◌<◌, List, [], ◌∷◌, ◌++◌, refl, ap, sym, Bool, true, false, cond, arith}
 use Rattle.std.proofs.Common.{Option, Some, None, Result, Ok, Err, length, drop}
 use Rattle.std.specs.Prelude.{◌==◌, ◌||◌, ◌&&◌, nat_le, nat_lt}
 use Rattle.std.specs.List.{flat_map}
 use Rattle.ztext.specs.Reading.{Cause, Lower}
-use Rattle.ztext.specs.Results as results
+use Rattle.ztext.specs.Results.{◌>>=◌}
+use Rattle.ztext.specs.Words.{unpacked_text, last_word, three_of}
 use Rattle.ztext.specs.Text.{z_text_at}
 use Rattle.zcore.specs.declared.instruction.Branch.{Branch}
 use Rattle.zcore.specs.declared.instruction.Operation.{Operation}
@@ -18,13 +19,12 @@ use Rattle.zcore.specs.declared.place.Place.{Place}
 use Rattle.zcore.specs.declared.place.Place.TheVariants as places
 use Rattle.zcore.specs.Effects.{read_text}
 use Rattle.zcore.specs.Parts.{fault, goes_on, unpacked}
-use Rattle.zcore.specs.State.{State, Out, done, halt, bound, ◌>>=◌}
+use Rattle.zcore.specs.State.{State, Out, done, halt}
 use Rattle.zcore.proofs.KeepingReads.{Keeps, keeps_then, keeps_done, keeps_halt, tested, never, done_value}
 use Rattle.zcore.proofs.KeepingReads.{keeps_read_byte}
 use Rattle.zcore.proofs.Keeping.{keeps_test_return}
 use Rattle.zcore.proofs.KeepingObjects.{keeps_test_object, keeps_property_table}
 use Rattle.zcore.proofs.FallsOfParts.{FallsFrom, falls_given, falls_then, falls_either, goes_on_falls, give_back_falls}
-use Rattle.zcore.proofs.TextAhead as ahead
 use Rattle.zcore.proofs.WaitingTests.{Waits, waits_done, waits_fault, waits_limit, waits_either, waits_then}
 use Rattle.zcore.proofs.WaitingTests.{waits_chosen, waits_test_return}
 use Rattle.zcore.proofs.WaitingParts.{waits_goes_on, waits_read_byte, waits_give_back}
@@ -61,14 +61,56 @@ keeps_any_text_at address s t a h = keeps_read_text (codes_at default_alphabets 
 
 -- The address after a text
 
+-- two parts, one after the other, that were read
+record Read {A B : Type 0} (r : Result A Cause) (k : A → Result B Cause) (b : B) : Type 0 where
+  value : A
+  first : r ≡ Ok value
+  second : k value ≡ Ok b
+
+read : {A B : Type 0} (r : Result A Cause) (k : A → Result B Cause) (b : B) → (r >>= k) ≡ Ok b → Read r k b
+read (Ok a) k b h = record { value = a; first = refl; second = h }
+read (Err cause) k b h = cc
+
+picked : {A : Type 0} (P : Type 0) (b : Bool) (q r : Result A Cause) (a : A) → (q ≡ Ok a → P) → (r ≡ Ok a → P)
+    → cond b q r ≡ Ok a → P
+picked P true q r a v w h = v h
+picked P false q r a v w h = w h
+
+no_text : {A : Type 0} (cause : Cause) (a : A) → Err cause ≡ Ok a → ⊥
+no_text cause a h = cc
+
+ok_after : {A : Type 0} (a b : A) (at after : ℕ) → (let r : Result (A × ℕ) Cause = Ok (a, at) in r) ≡ Ok (b, after)
+    → after ≡ at
+ok_after {A} a b at after h = let after_of : Result (A × ℕ) Cause → ℕ = λ r. elim r [ Ok x ↦ x.1 | Err e ↦ 0 ] in
+    sym (ap after_of h)
+
+last_word_after : (at high low : ℕ) (x : List ℕ × ℕ) → last_word at high low ≡ Ok x → x.1 ≡ at + 2
+last_word_after at high low x h =
+    picked (x.1 ≡ at + 2) (nat_lt (at + 2) (2 ^ 32)) _ _ x (λ e. ok_after _ x.0 (at + 2) x.1 e)
+    (λ e. absurd (no_text _ x e)) h
+
+-- a text has a word at least
+unpacked_ahead : (at : ℕ) (bytes : List ℕ) (x : List ℕ × ℕ) → unpacked_text at bytes ≡ Ok x → at < x.1
+unfolding unpacked_text
+unpacked_ahead at [] x h = absurd (no_text _ x h)
+unpacked_ahead at (high ∷ []) x h = absurd (no_text _ x h)
+unpacked_ahead at (high ∷ low ∷ bytes) x h =
+    picked (at < x.1) (nat_le 128 high) _ _ x
+    (λ e. let f = last_word_after at high low x e in omega arith)
+    (λ e.
+    let p = read (unpacked_text (at + 2) bytes) (λ y. Ok (three_of high low ++ y.0, y.1)) x e in
+    let one = unpacked_ahead (at + 2) bytes p.value p.first in
+    let two = ok_after _ x.0 p.value.1 x.1 p.second in
+    omega arith) h
+
 codes_ahead : (alphabets story : List ℕ) (at : ℕ) (x : List ℕ × ℕ) → codes_at alphabets story at ≡ Ok x → at < x.1
 unfolding codes_at
 codes_ahead alphabets story at x h =
-    let p = ahead.read (z_text_at story at) _ x h in
-    let q = ahead.read (read_codes alphabets (abbreviation_codes alphabets story) Lower p.value.0)
+    let p = read (z_text_at story at) _ x h in
+    let q = read (read_codes alphabets (abbreviation_codes alphabets story) Lower p.value.0)
     (λ text. Ok (text, p.value.1)) x p.second in
-    let one = ahead.unpacked_ahead at (drop at story) p.value p.first in
-    let two = ahead.ok_after _ x.0 p.value.1 x.1 q.second in
+    let one = unpacked_ahead at (drop at story) p.value p.first in
+    let two = ok_after _ x.0 p.value.1 x.1 q.second in
     omega arith
 
 read_ahead : (at : ℕ) (r : Result (List ℕ × ℕ) Cause) (s t : State) (x : List ℕ × ℕ)

@@ -1,12 +1,13 @@
 -- Characters of ZSCII codes, and texts with codes outside ASCII, computed.
 use Rattle.std.proofs.Common.{◌≡◌, ℕ, List, [], ◌∷◌, length, refl, Ok, Err}
 use Rattle.ztext.specs.Reading.{End, Abbreviation}
+use Rattle.ztext.specs.Words.{unpacked_text}
 use Rattle.zcore.specs.declared.place.Limit.TheVariants as limits
 use Rattle.zcore.specs.declared.place.Place.TheVariants as places
 use Rattle.zcore.specs.State.{State, done, halt}
 use Rattle.zcore.specs.Turn.{first_state}
 use Rattle.zcore_standard.specs.Characters.{shown_by, print_each, print_codes}
-use Rattle.zcore_standard.specs.Texts.{default_alphabets, codes_at, read_codes}
+use Rattle.zcore_standard.specs.Texts.{default_alphabets, codes_at, read_codes, abbreviation_codes}
 use Rattle.zcore_standard.specs.Unicode.{default_characters, print_whole}
 use Rattle.zcore_standard.specs.Printing.{any_text_at, print_any_address, print_any_character}
 
@@ -52,16 +53,16 @@ text : List ℕ
 text = 0x34 ∷ 0xA6 ∷ 0x13 ∷ 0x64 ∷ 0x9C ∷ 0xA5 ∷ []
 
 read : codes_at default_alphabets text 0 ≡ Ok (104 ∷ 155 ∷ 66 ∷ [], 6)
-unfolding codes_at read_codes text
+unfolding codes_at read_codes unpacked_text text
 read = refl
 
 no_end : codes_at default_alphabets (0x34 ∷ 0xA6 ∷ []) 0 ≡ Err End
-unfolding codes_at
+unfolding codes_at unpacked_text
 no_end = refl
 
 -- an abbreviation, where no table can stand
 no_table : codes_at default_alphabets (0x84 ∷ 0x05 ∷ []) 0 ≡ Err Abbreviation
-unfolding codes_at read_codes
+unfolding codes_at read_codes abbreviation_codes unpacked_text
 no_table = refl
 
 -- a character of two bytes where one byte is left of the turn's text
@@ -79,5 +80,5 @@ an_umlaut = refl
 -- print_addr of a text with an accent
 an_address : print_any_address default_characters (record { program_counter = 100; fuel = 5 }) 104 0 (first_state text)
     ≡ done (record { program_counter = 104; fuel = 5 }) (record (first_state text) { text = 104 ∷ 0xC3 ∷ 0xA4 ∷ 66 ∷ [] })
-unfolding print_any_address any_text_at codes_at read_codes text print_each print_whole
+unfolding print_any_address any_text_at codes_at read_codes unpacked_text text print_each print_whole
 an_address = refl
