@@ -1,5 +1,5 @@
 -- A whole turn of the Standard's machine.
-use Rattle.std.proofs.Common.{◌≡◌, ℕ, zero, suc, ◌≤◌, List, [], ◌++◌, length, take, drop, refl, ap, sym, ◌∙◌}
+use Rattle.std.proofs.Common.{◌≡◌, ◌≢◌, ℕ, zero, suc, ◌≤◌, List, [], ◌++◌, length, take, drop, refl, ap, sym, ◌∙◌}
 use Rattle.std.proofs.Common.{subst, arith, slice_index, Result, Ok, Err, Bool, true, false}
 use Rattle.std.specs.Prelude.{◌||◌, IfOk, OnOk}
 use Rattle.std.proofs.lemmas.List.{drop-append-le, drop_all, take_all}
@@ -11,13 +11,13 @@ use Rattle.zcore.specs.declared.place.Place.TheVariants as places
 use Rattle.zcore.specs.State.{State, Out, done, halt}
 use Rattle.zcore.specs.Parts.{is_text_buffer, is_parse_buffer}
 use Rattle.zcore.specs.Execution.{step}
-use Rattle.zcore.specs.Turn.{Reaches, ReachesBy, TurnsBy, Whole, first_next, first_state, notice}
+use Rattle.zcore.specs.Turn.{Reaches, ReachesBy, TurnsBy, Whole, ended, first_next, first_state, notice}
 use Rattle.zcore_standard.specs.Laws.{ends_in_fault, is_none_open, closes_none}
 use Rattle.zcore_standard.specs.Place.{Here, within}
 use Rattle.zcore_standard.specs.Loaded.{Loaded}
-use Rattle.zcore_standard.specs.Machine.{standard, standard_step, standard_ended, begins}
+use Rattle.zcore_standard.specs.Machine.{standard, standard_step, standard_ended, shown, with_beside, begins}
 use Rattle.zcore_standard.specs.Streams.{heard}
-use Rattle.zcore_standard.proofs.Turning.{standard_steps}
+use Rattle.zcore_standard.proofs.Turning.{standard_steps, ended_all}
 use Rattle.zcore_standard.proofs.Waiting.{standard_step_waits}
 use Rattle.machine_frames.specs.Contents.{Contents, memory_of}
 use Rattle.machine_frames.specs.Playing.{StopsBy, IsOpening, IsWaiting, whole_of}
@@ -111,6 +111,14 @@ keeps_at start long was now e k = subst (λ n. Keeps n was now) e k
 pub front_kept : (was now : List ℕ) → Keeps (length was) was now → take (length was) now ≡ was
 front_kept was now k = k.front ∙ take_all (length was) was (omega arith)
 
+-- a turn that does not wait shows what is heard
+pub shown_heard : (here : Here) (end : Place) (text : List ℕ) → end ≢ places.Waiting
+    → shown here end text ≡ heard here.streams text
+shown_heard here places.Waiting text not = absurd (not refl)
+shown_heard here places.Quit text not = refl
+shown_heard here (places.Limit limit) text not = refl
+shown_heard here (places.Fault cause) text not = refl
+
 -- The end of a turn
 
 -- the whole state that is left, where the text was cut
@@ -118,12 +126,12 @@ pub standard_whole : (loaded : Loaded) (first : Here) (around : Around) (here : 
     (m n : Contents) (x z y : List ℕ) (long : ℕ)
     → StopsBy (standard_step loaded) first s (place around here) end (state_of m (drop long x))
     → ((l : List ℕ) → state_of n l ≡ state_of m l) → program_counter_of (slice_index n.cells) ≡ here.program_counter
-    → beside_of (slice_index n.cells) ≡ around.beside → drop long z ≡ heard around.streams.items (drop long x)
+    → beside_of (slice_index n.cells) ≡ around.beside → drop long z ≡ shown (place around here) end (drop long x)
     → y ≡ z ++ notice end → long ≤ length z
     → TurnsBy (standard loaded) first s (whole_of n end (drop long y))
 standard_whole loaded first around here end s m n x z y long h same counter kept cut text le =
     let turn = stops_whole (standard loaded) first (place around here) end s (state_of m (drop long x)) h in
-    let words : drop long y ≡ heard around.streams.items (drop long x) ++ notice end = ap (drop long) text
+    let words : drop long y ≡ shown (place around here) end (drop long x) ++ notice end = ap (drop long) text
     ∙ drop-append-le long z (notice end) le ∙ ap (λ l. l ++ notice end) cut in
     let e : standard_ended (place around here) end (state_of m (drop long x))
     ≡ standard_ended (place around here) end (state_of n (drop long x)) =
@@ -154,9 +162,9 @@ stopped_standard m n beside fuel counter end x y same kept rest text =
     let d : drop (length x) y ≡ notice end = ap (drop (length x)) text
     ∙ drop-append-le (length x) x (notice end) (omega arith)
     ∙ ap (λ l. l ++ notice end) (drop_all (length x) x (omega arith)) in
-    let f : whole_of n end (drop (length x) y) ≡ standard_ended here end (state_of n []) =
+    let f : whole_of n end (drop (length x) y) ≡ with_beside beside (ended here.next end (state_of n [])) =
     rw (d, kept, rest) refl in
-    f ∙ ap (standard_ended here end) (same [])
+    f ∙ sym (ended_all beside here.next end (state_of n [])) ∙ ap (standard_ended here end) (same [])
 
 -- the opening
 opens : (loaded : Loaded) (s : Contents) (fuel : ℕ) (first : Next) (memory : List ℕ) (whole : Whole) → IsOpening s

@@ -11,9 +11,6 @@ const SET_WINDOW: u8 = 11;
 
 const READ_CHAR: u8 = 22;
 
-/// That of which `--standard` does not play stream 3 yet.
-const OUTPUT_STREAM: u8 = 19;
-
 /// Where a story stands. `Display` writes it in words, a fault as `M7: division by zero at 0F31`.
 #[derive(Clone, Copy)]
 pub struct Standing {
@@ -124,7 +121,6 @@ fn wrong_in_profile(opcode: Opcode) -> &'static str {
 fn wrong_in_standard(opcode: Opcode) -> &'static str {
     match (opcode.numbering, opcode.number) {
         (Numbering::Several, SET_WINDOW | READ_CHAR) => "is not played yet",
-        (Numbering::Several, OUTPUT_STREAM) => "has operands that are not played yet",
         _ if opcode.name().is_some() => "has operands that it does not take",
         _ => "is not known",
     }

@@ -15,8 +15,8 @@ use zcore_standard::Further;
 
 /// What of the instruction at an address `play --standard` answers with M1. What the profile plays
 /// it plays too, and a further operation with as many operands as the Standard lets it have, but
-/// not yet `set_window`, `read_char` and stream 3 of `output_stream`. `None` where it refuses
-/// nothing, and where the story does not have the bytes of the opcode and of the operands' types.
+/// not yet `set_window` and `read_char`. `None` where it refuses nothing, and where the story does
+/// not have the bytes of the opcode and of the operands' types.
 pub fn standard_lack_at(story: &[u8], at: usize) -> Option<Lack>
     requires { length story.now ≤ longest_story }
     ensures kept { is_refused (opcode story.now at) ≡ false → result ≡ None }
@@ -28,13 +28,9 @@ pub fn standard_lack_at(story: &[u8], at: usize) -> Option<Lack>
     }
 }
 
-/// Whether a further operation is played, whatever its operands are. Which stream `output_stream`
-/// selects is not known before it is executed.
+/// Whether a further operation is played.
 fn is_played(operation: Further) -> bool {
-    !matches!(
-        operation,
-        Further::SetWindow | Further::OutputStream | Further::ReadChar
-    )
+    !matches!(operation, Further::SetWindow | Further::ReadChar)
 }
 
 /// What is refused of the operands of a further operation.

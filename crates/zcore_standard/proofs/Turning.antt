@@ -5,6 +5,7 @@ use Rattle.std.proofs.Common.{Bool, true, false, Option, Some, None, slice_index
 use Rattle.zcore.specs.declared.beside.Beside.{Beside}
 use Rattle.zcore.specs.declared.next.Next.{Next}
 use Rattle.zcore.specs.declared.place.Fault.TheVariants as faults
+use Rattle.zcore.specs.declared.place.Place.{Place}
 use Rattle.zcore.specs.declared.place.Place.TheVariants as places
 use Rattle.zcore.specs.State.{Pending, State, Out, done, halt}
 use Rattle.zcore.specs.Execution.{step}
@@ -17,7 +18,7 @@ use Rattle.zcore_standard.specs.Place.{Here, within}
 use Rattle.zcore_standard.specs.Loaded.{Loaded}
 use Rattle.zcore_standard.specs.Operations.{further_at}
 use Rattle.zcore_standard.specs.Machine.{chosen, standard, standard_step, standard_turn, standard_pending}
-use Rattle.zcore_standard.specs.Machine.{standard_turn_on, with_beside, begins}
+use Rattle.zcore_standard.specs.Machine.{standard_turn_on, standard_ended, shown, with_beside, begins}
 use Rattle.zcore_standard.specs.Laws.{EndsOneWay, is_fault, ends_in_fault, closes_none}
 use Rattle.zcore_standard.proofs.Known.{known_keeps}
 use Rattle.zcore_standard.proofs.Reading.{read_keeps}
@@ -99,6 +100,19 @@ standard_steps loaded here s plays quiet =
 some_is : (a b : Whole) → (let o : Option Whole = Some a in o) ≡ Some b → a ≡ b
 some_is a b h = cc
 
+-- where no stream is open, the turn shows all that it has printed
+pub shown_all : (beside : Beside) (next : Next) (place : Place) (text : List ℕ)
+    → shown (begins beside next) place text ≡ text
+shown_all beside next places.Waiting text = refl
+shown_all beside next places.Quit text = refl
+shown_all beside next (places.Limit limit) text = refl
+shown_all beside next (places.Fault cause) text = refl
+
+pub ended_all : (beside : Beside) (next : Next) (place : Place) (s : State)
+    → standard_ended (begins beside next) place s ≡ with_beside beside (ended next place s)
+ended_all beside next place s =
+    ap (λ l. with_beside beside (ended next place (record s { text = l }))) (shown_all beside next place s.text)
+
 -- a step of the profile, and what follows it
 after_keeps : (loaded : Loaded) (beside : Beside) (here : Next) (s : State) (count : ℕ) (whole : Whole) (o : Out Next)
     → ((next : Next) (t : State) → turn_in count next t ≡ Some whole
@@ -116,6 +130,7 @@ after_keeps loaded beside here s count whole (halt place t) rest plays same e =
     ap (λ o. after_step o (turn_by (standard loaded) count)
     (λ place u. Some ((standard loaded).ended (begins beside here) place u)))
     (same (ap (λ (x : Whole). is_fault x.place) w ∙ plays))
+    ∙ ap (λ x. Some x) (ended_all beside here place t)
     ∙ ap (λ x. Some (with_beside beside x)) w
 
 turn_in_keeps : (loaded : Loaded) (beside : Beside) (count : ℕ) (here : Next) (s : State) (whole : Whole)
@@ -141,13 +156,14 @@ given_keeps : (loaded : Loaded) (fuel : ℕ) (play : StateOfPlay) (whole : Whole
     → after_step o turn_from
     (λ place s. Some (ended (record { program_counter = play.program_counter; fuel = fuel }) place s)) ≡ Some whole
     → after_step o (λ next s. standard_turn loaded (begins play.beside next) s)
-    (λ place s. Some (with_beside play.beside
-    (ended (record { program_counter = play.program_counter; fuel = fuel }) place s)))
+    (λ place s. Some (standard_ended
+    (begins play.beside (record { program_counter = play.program_counter; fuel = fuel })) place s))
     ≡ Some (with_beside play.beside whole)
 given_keeps loaded fuel play whole (done next t) plays e =
     standard_turn_keeps loaded play.beside next t whole e plays
 given_keeps loaded fuel play whole (halt place t) plays e =
-    ap (λ x. Some (with_beside play.beside x)) (some_is _ whole e)
+    ap (λ x. Some x) (ended_all play.beside (record { program_counter = play.program_counter; fuel = fuel }) place t)
+    ∙ ap (λ x. Some (with_beside play.beside x)) (some_is _ whole e)
 
 pending_keeps : (loaded : Loaded) (line : List ℕ) (fuel : ℕ) (play : StateOfPlay) (whole : Whole) (p : Option Pending)
     → turn_pending p line fuel play ≡ Some whole → is_fault whole.place ≡ false

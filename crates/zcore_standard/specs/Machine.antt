@@ -1,11 +1,11 @@
 -- The Standard's machine: a further operation where its opcode is found, and else a step of the profile.
-use Rattle.std.specs.Prelude.{ℕ, List, [], Option, Some, None}
+use Rattle.std.specs.Prelude.{ℕ, if◌then◌else◌, List, [], Option, Some, None}
 use Rattle.zcore.specs.declared.next.Next.{Next}
 use Rattle.zcore.specs.declared.place.Place.{Place}
 use Rattle.zcore.specs.declared.beside.Beside.{Beside}
 use Rattle.zcore.specs.State.{Pending, State, Out}
 use Rattle.zcore.specs.Turn.{StateOfPlay, Whole, Machine, Play, after_step, turn_by, weight, given, resumed}
-use Rattle.zcore.specs.Turn.{first_next, first_state, ended}
+use Rattle.zcore.specs.Turn.{first_next, first_state, ended, is_waiting}
 use Rattle.zcore_standard.specs.declared.operations.Further.{Further}
 use Rattle.zcore_standard.specs.Place.{Here, within}
 use Rattle.zcore_standard.specs.Loaded.{Loaded}
@@ -27,10 +27,15 @@ standard_step loaded here s = chosen loaded (further_at s.memory here.next.progr
 abbrev pub with_beside : Beside → Whole → Whole
 with_beside beside whole = record whole { state = record whole.state { beside = beside } }
 
--- Window and dice last from turn to turn. What was printed to streams that are open at the end is dropped.
+-- The text that a turn shows of what it has printed. A read has closed its streams; at any other end what was printed
+-- to streams that are open is dropped.
+abbrev pub shown : Here → Place → List ℕ → List ℕ
+shown here place text = if is_waiting place then text else heard here.streams text
+
+-- window and dice last from turn to turn
 abbrev pub standard_ended : Here → Place → State → Whole
 standard_ended here place s =
-    with_beside here.beside (ended here.next place (record s { text = heard here.streams s.text }))
+    with_beside here.beside (ended here.next place (record s { text = shown here place s.text }))
 
 -- the machine of a story that was loaded so
 abbrev pub standard : Loaded → Machine Here

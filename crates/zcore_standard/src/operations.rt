@@ -61,7 +61,7 @@ pub enum Further {
     /// `buffer_mode`, which does nothing.
     BufferMode,
 
-    /// `output_stream`, of which the memory stream is not played yet.
+    /// `output_stream`: the transcript is always written, stream 3 goes to a table.
     OutputStream,
 
     /// `input_stream`, which does nothing.
