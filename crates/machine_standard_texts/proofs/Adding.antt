@@ -1,5 +1,8 @@
 -- Operations that print, from their parts.
-use Rattle.std.proofs.Common.{◌≡◌, ℕ, List, drop, ap, sym, ◌∙◌, subst, Option, Some, None, Result, Ok, Err}
+use Rattle.std.proofs.Common.{◌≡◌, ℕ, ◌+◌, List, [], ◌∷◌, ◌++◌, drop, length, refl, ap, sym, ◌∙◌, subst, Option, Some, None}
+use Rattle.std.proofs.Common.{Result, Ok, Err}
+use Rattle.std.specs.Prelude.{nat_le}
+use Rattle.std.specs.List.{flat_map}
 use Rattle.journal.specs.Recording.{Recording}
 use Rattle.ztext.specs.Reading.{Cause}
 use Rattle.zcore.specs.declared.next.Next.{Next}
@@ -8,7 +11,11 @@ use Rattle.zcore.specs.declared.place.Place.TheVariants as places
 use Rattle.zcore.specs.Effects.{read_text, text_fault, print_address}
 use Rattle.zcore.specs.Execution.{print_packed}
 use Rattle.zcore.specs.Parts.{unpacked}
-use Rattle.zcore.specs.State.{State, Out}
+use Rattle.zcore.specs.State.{State, Out, done, halt, bound}
+use Rattle.zcore.specs.Layout.{text_limit}
+use Rattle.zcore.proofs.KeepingReads.{chosen, done_state, never}
+use Rattle.zcore_standard.specs.Characters.{shown_by, print_each, print_codes}
+use Rattle.zcore_standard.specs.Unicode.{print_whole}
 use Rattle.zcore_standard.specs.Printing.{any_text_at, or_else, print_any_address, print_any_packed}
 use Rattle.zcore_standard.specs.Texts.{default_alphabets, codes_at}
 use Rattle.machine_frames.specs.Contents.{Contents, memory_of}
@@ -16,10 +23,12 @@ use Rattle.machine_frames.specs.States.{state_of, IsSound}
 use Rattle.machine_frames.specs.Went.{Went, Told}
 use Rattle.machine_frames.specs.declared.end.End.{End}
 use Rattle.machine_frames.specs.declared.end.End.TheVariants as ends
-use Rattle.machine_frames.proofs.Steps.{goes_on_still, went_still, went_halt, told_as}
+use Rattle.machine_frames.proofs.Steps.{goes_on_still, went_still, went_halt, told_as, told_no_further, told_still}
+use Rattle.machine_frames.proofs.Steps.{told_then}
 use Rattle.machine_standard_texts.specs.declared.characters.Halt.{Halt}
 use Rattle.machine_standard_texts.specs.declared.characters.Halt.TheVariants as halts
 use Rattle.machine_standard_texts.specs.Put.{Prints}
+use Rattle.machine_standard_texts.proofs.Printed.{codes_append}
 
 pub text_read : (s : Recording Contents) (story : List ℕ) (address : ℕ) (x : List ℕ × ℕ) → IsSound s.store
     → story ≡ memory_of s.store → codes_at default_alphabets story address ≡ Ok x
@@ -67,3 +76,50 @@ pub full : (s : Recording Contents) (h : Option Halt) → h ≡ Some halts.Full 
 full s h e sound was now f p = record {
   told = (goes_on_still s sound, (subst (λ k. Prints k was now f) e p).by (state_of s.store was));
 }
+
+-- Codes that are printed one after the other
+
+pub codes_none : (characters : List ℕ) (s : Recording Contents) (x : List ℕ) → IsSound s.store
+    → Told (Ok tt) s x s x (print_codes characters [])
+unfolding print_each
+codes_none characters s x sound = told_still s (print_codes characters []) x sound refl
+
+pub codes_two : {r : Result (Unit {0}) End} {s t u : Recording Contents} {x y z : List ℕ} (characters a b : List ℕ)
+    → Told (Ok tt) s x t y (print_codes characters a) → Told r t y u z (print_codes characters b)
+    → Told r s x u z (print_codes characters (a ++ b))
+codes_two {r} {s} {x = x} characters a b v w =
+    told_as r (print_codes characters (a ++ b)) (codes_append characters a b (state_of s.store x))
+    (told_then (λ _. print_codes characters b) v w)
+
+pub codes_first : {e : End} {s t : Recording Contents} {x y : List ℕ} (characters a b : List ℕ)
+    → Told {A = Unit {0}} (Err e) s x t y (print_codes characters a)
+    → Told {A = Unit {0}} (Err e) s x t y (print_codes characters (a ++ b))
+codes_first {e} {s} {x = x} characters a b v =
+    told_as (Err e) (print_codes characters (a ++ b)) (codes_append characters a b (state_of s.store x))
+    (told_no_further (λ _. print_codes characters b) v)
+
+-- memory stays
+
+whole_memory : (bytes : List ℕ) (s t : State) → print_whole bytes s ≡ done tt t → t.memory ≡ s.memory
+unfolding print_whole
+whole_memory bytes s t h =
+    chosen (t.memory ≡ s.memory) (nat_le (length s.text + length bytes) text_limit) _ _ tt t
+    (λ _ e. ap (λ (x : State). x.memory) (done_state tt tt _ t e)) (λ _ e. absurd (never _ tt _ t e)) h
+
+each_bound : (o : Out (Unit {0})) (cs : List (List ℕ)) (m : List ℕ) (t : State)
+    → ((u : State) → o ≡ done tt u → u.memory ≡ m)
+    → ((u : State) → print_each cs u ≡ done tt t → t.memory ≡ u.memory)
+    → bound o (λ _. print_each cs) ≡ done tt t → t.memory ≡ m
+each_bound (done a u) cs m t first rest h = rest u h ∙ first u refl
+each_bound (halt place u) cs m t first rest h = absurd (never _ tt _ t h)
+
+each_memory : (cs : List (List ℕ)) (s t : State) → print_each cs s ≡ done tt t → t.memory ≡ s.memory
+unfolding print_each
+each_memory [] s t h = ap (λ (x : State). x.memory) (done_state tt tt s t h)
+each_memory (c ∷ cs) s t h = each_bound (print_whole c s) cs s.memory t (λ u e. whole_memory c s u e)
+    (λ u e. each_memory cs u t e) h
+
+pub told_memory : (r s : Recording Contents) (x y characters codes : List ℕ)
+    → Told (Ok tt) r x s y (print_codes characters codes) → memory_of s.store ≡ memory_of r.store
+told_memory r s x y characters codes w =
+    each_memory (flat_map (shown_by characters) codes) (state_of r.store x) (state_of s.store y) w.told.1

@@ -126,7 +126,7 @@ each_append (c ∷ cs) ds s =
     (λ t. each_append cs ds t)
     ∙ bound_bound (print_whole c s) (print_each cs) (print_each ds)
 
-codes_append : (characters a b : List ℕ) (s : State)
+pub codes_append : (characters a b : List ℕ) (s : State)
     → print_codes characters (a ++ b) s ≡ (print_codes characters a >>= λ _. print_codes characters b) s
 codes_append characters a b s =
     ap (λ l. print_each l s) (flat_map-append (shown_by characters) a b)

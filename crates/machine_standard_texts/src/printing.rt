@@ -1,11 +1,12 @@
 //! The opcodes of the profile that print texts and characters, where any ZSCII code may stand
 //! (Z-Machine Standards Document 1.1, sections 3.8 and 15).
 
-ghost use Rattle.std.specs.Prelude.{◌≡◌, ℕ, List, Err, OnOk};
+ghost use Rattle.std.specs.Prelude.{◌≡◌, ◌∷◌, [], ℕ, List, Err, OnOk};
 ghost use Rattle.zcore.specs.Execution as profile;
 ghost use Rattle.zcore.specs.Objects.{print_object, test_object, property_table};
 ghost use Rattle.zcore.specs.State.{State, Out};
 ghost use Rattle.ztext.specs.Faults.{FailsText};
+ghost use Rattle.zcore_standard.specs.Characters.{print_codes};
 ghost use Rattle.zcore_standard.specs.Texts.{codes_at, default_alphabets};
 ghost use Rattle.zcore_standard.specs.Printing as definitions;
 ghost use Rattle.zcore_standard.specs.Printing.{or_else};
@@ -105,6 +106,29 @@ fn finish(store: &mut Recorded<Store>, halted: Option<Halt>) -> Result<(), End>
     }
 }
 
+/// Prints a ZSCII code: 0 prints nothing, 9 a space, 11 two, 13 a new line, 32 to 126 ASCII, and from
+/// 155 on a code prints its character of these. Any other prints a question mark.
+///
+/// # Errors
+///
+/// The limit of text. `End::Memory` where memory was refused: the turn is given up.
+pub fn print_code(
+    store: &mut Recorded<Store>,
+    text: &mut Vec<u8>,
+    start: usize,
+    characters: &[u16],
+    code: u16,
+) -> Result<(), End>
+    requires sound { IsSound store.old.store }
+    requires text { HasBegun start text.old.items }
+    ensures told { ToldFrom start result store.old text.old.items store.new text.new.items
+        (print_codes characters.now (code ∷ [])) }
+    ensures text { Grew start text.old.items text.new.items }
+{
+    let halted = put_next(text, start, characters, None, code);
+    finish(store, halted)
+}
+
 /// Prints a ZSCII code, and goes on.
 fn print_any_character(
     store: &mut Recorded<Store>,
@@ -121,8 +145,7 @@ fn print_any_character(
         (definitions.print_any_character characters.now here after character) }
     ensures text { Grew start text.old.items text.new.items }
 {
-    let halted = put_next(text, start, characters, None, character);
-    finish(store, halted)?;
+    print_code(store, text, start, characters, character)?;
     Ok(Next {
         program_counter: after,
         fuel: here.fuel,

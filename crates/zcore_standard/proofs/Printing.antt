@@ -29,7 +29,8 @@ use Rattle.zcore.proofs.WaitingTests.{Waits, waits_done, waits_fault, waits_limi
 use Rattle.zcore.proofs.WaitingTests.{waits_chosen, waits_test_return}
 use Rattle.zcore.proofs.WaitingParts.{waits_goes_on, waits_read_byte, waits_give_back}
 use Rattle.zcore.proofs.WaitingObjectParts.{waits_test_object, waits_property_table}
-use Rattle.zcore_standard.specs.Characters.{shown_by, print_each, print_codes}
+use Rattle.zcore_standard.specs.Characters.{print_codes}
+use Rattle.zcore_standard.proofs.Characters.{keeps_print_codes, waits_print_codes}
 use Rattle.zcore_standard.specs.Laws.{ends_in_fault}
 use Rattle.zcore_standard.specs.Printing.{any_text_at, print_any_character, print_any_address, print_any_packed}
 use Rattle.zcore_standard.specs.Printing.{print_any_inline, print_any_return, print_any_object, perform_text}
@@ -38,18 +39,6 @@ use Rattle.zcore_standard.specs.Texts.{default_alphabets, read_codes, codes_with
 use Rattle.zcore_standard.specs.Unicode.{print_whole}
 
 -- What is kept
-
-keeps_print_whole : (bytes : List ℕ) → Keeps (print_whole bytes)
-unfolding print_whole
-keeps_print_whole bytes s t a h = tested _ tt a s t _ s _ (record { memory = refl; frames = refl }) h
-
-keeps_print_each : (characters : List (List ℕ)) → Keeps (print_each characters)
-unfolding print_each
-keeps_print_each [] = keeps_done tt
-keeps_print_each (bytes ∷ others) = keeps_then _ _ (keeps_print_whole bytes) (λ _. keeps_print_each others)
-
-keeps_print_codes : (characters codes : List ℕ) → Keeps (print_codes characters codes)
-keeps_print_codes characters codes = keeps_print_each (flat_map (shown_by characters) codes)
 
 keeps_read_text : (r : Result (List ℕ × ℕ) Cause) → Keeps (read_text r)
 keeps_read_text (Ok text) = keeps_done text
@@ -193,15 +182,6 @@ perform_text_falls characters _ here after values past = fault_falls here faults
 
 -- None waits
 
-waits_print_whole : (bytes : List ℕ) → Waits (print_whole bytes)
-unfolding print_whole
-waits_print_whole bytes s t h = waits_either _ _ _ t (waits_done tt _ t) (waits_limit _ _ t) h
-
-waits_print_each : (characters : List (List ℕ)) → Waits (print_each characters)
-unfolding print_each
-waits_print_each [] = λ s t h. waits_done tt s t h
-waits_print_each (bytes ∷ others) = waits_then _ _ (waits_print_whole bytes) (λ _. waits_print_each others)
-
 waits_read_text : (r : Result (List ℕ × ℕ) Cause) → Waits (read_text r)
 waits_read_text (Ok text) s t h = waits_done text s t h
 waits_read_text (Err cause) s t h = waits_fault _ s t h
@@ -215,7 +195,7 @@ waits_print_any_address : (characters : List ℕ) (here : Next) (after address :
 unfolding print_any_address
 waits_print_any_address characters here after address =
     waits_then _ _ (waits_any_text_at address) (λ text.
-    waits_then _ _ (waits_print_each (flat_map (shown_by characters) text.0))
+    waits_then _ _ (waits_print_codes characters text.0)
     (λ _. waits_goes_on after here.fuel))
 
 waits_print_any_packed : (characters : List ℕ) (here : Next) (after packed : ℕ)
@@ -228,14 +208,14 @@ waits_print_any_character : (characters : List ℕ) (here : Next) (after charact
     → Waits (print_any_character characters here after character)
 unfolding print_any_character
 waits_print_any_character characters here after character =
-    waits_then _ _ (waits_print_each (flat_map (shown_by characters) (character ∷ [])))
+    waits_then _ _ (waits_print_codes characters (character ∷ []))
     (λ _. waits_goes_on after here.fuel)
 
 waits_print_any_inline : (characters : List ℕ) (here : Next) (after : ℕ) → Waits (print_any_inline characters here after)
 unfolding print_any_inline
 waits_print_any_inline characters here after =
     waits_then _ _ (waits_any_text_at after) (λ text.
-    waits_then _ _ (waits_print_each (flat_map (shown_by characters) text.0))
+    waits_then _ _ (waits_print_codes characters text.0)
     (λ _. waits_goes_on text.1 here.fuel))
 
 waits_print_any_return : (characters : List ℕ) (here : Next) (after : ℕ) → Waits (print_any_return characters here after)
@@ -243,7 +223,7 @@ unfolding print_any_return
 waits_print_any_return characters here after =
     waits_then _ _ (waits_any_text_at after) (λ text.
     waits_then _ _ waits_test_return (λ _.
-    waits_then _ _ (waits_print_each (flat_map (shown_by characters) (text.0 ++ 13 ∷ [])))
+    waits_then _ _ (waits_print_codes characters (text.0 ++ 13 ∷ []))
     (λ _. waits_give_back here.fuel 1)))
 
 waits_print_any_object : (characters : List ℕ) (here : Next) (after object : ℕ)

@@ -130,7 +130,8 @@ waits_perform_keeping loaded operations.EncodeText here after result branch valu
     (slice_index values 0) (slice_index values 1) (slice_index values 2) (slice_index_or values 3 0)
 waits_perform_keeping loaded operations.CopyTable here after result branch values = waits_copy_table here after
     (slice_index values 0) (slice_index values 1) (slice_index values 2)
-waits_perform_keeping loaded operations.PrintTable here after result branch values = waits_print_table here after
+waits_perform_keeping loaded operations.PrintTable here after result branch values = waits_print_table
+    loaded.characters here after
     (slice_index values 0) (slice_index values 1) (slice_index_or values 2 one_row) (slice_index_or values 3 0)
 waits_perform_keeping loaded operations.Save here after result branch values = waits_give_result here after result _
 waits_perform_keeping loaded operations.Restore here after result branch values = waits_give_result here after result _
