@@ -131,7 +131,7 @@ fn print_row(
 {
     for i in 0..width {
         let code = store.store().byte(at + i as usize);
-        print_code(store, text, start, characters, u16::from(code))?;
+        print_code(store, text, start, characters, code as u16)?;
     }
     Ok(())
 }

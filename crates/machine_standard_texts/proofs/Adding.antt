@@ -100,26 +100,26 @@ codes_first {e} {s} {x = x} characters a b v =
 
 -- memory stays
 
-whole_memory : (bytes : List ℕ) (s t : State) → print_whole bytes s ≡ done tt t → t.memory ≡ s.memory
+whole_memory : (bytes : List ℕ) (a : Unit {0}) (s t : State) → print_whole bytes s ≡ done a t → t.memory ≡ s.memory
 unfolding print_whole
-whole_memory bytes s t h =
-    chosen (t.memory ≡ s.memory) (nat_le (length s.text + length bytes) text_limit) _ _ tt t
-    (λ _ e. ap (λ (x : State). x.memory) (done_state tt tt _ t e)) (λ _ e. absurd (never _ tt _ t e)) h
+whole_memory bytes a s t h =
+    chosen (t.memory ≡ s.memory) (nat_le (length s.text + length bytes) text_limit) _ _ a t
+    (λ _ e. ap (λ (x : State). x.memory) (done_state tt a _ t e)) (λ _ e. absurd (never _ a _ t e)) h
 
-each_bound : (o : Out (Unit {0})) (cs : List (List ℕ)) (m : List ℕ) (t : State)
-    → ((u : State) → o ≡ done tt u → u.memory ≡ m)
-    → ((u : State) → print_each cs u ≡ done tt t → t.memory ≡ u.memory)
-    → bound o (λ _. print_each cs) ≡ done tt t → t.memory ≡ m
-each_bound (done a u) cs m t first rest h = rest u h ∙ first u refl
-each_bound (halt place u) cs m t first rest h = absurd (never _ tt _ t h)
+each_bound : (o : Out (Unit {0})) (cs : List (List ℕ)) (m : List ℕ) (b : Unit {0}) (t : State)
+    → ((a : Unit {0}) (u : State) → o ≡ done a u → u.memory ≡ m)
+    → ((u : State) → print_each cs u ≡ done b t → t.memory ≡ u.memory)
+    → bound o (λ _. print_each cs) ≡ done b t → t.memory ≡ m
+each_bound (done a u) cs m b t first rest h = rest u h ∙ first a u refl
+each_bound (halt place u) cs m b t first rest h = absurd (never _ b _ t h)
 
-each_memory : (cs : List (List ℕ)) (s t : State) → print_each cs s ≡ done tt t → t.memory ≡ s.memory
+each_memory : (cs : List (List ℕ)) (a : Unit {0}) (s t : State) → print_each cs s ≡ done a t → t.memory ≡ s.memory
 unfolding print_each
-each_memory [] s t h = ap (λ (x : State). x.memory) (done_state tt tt s t h)
-each_memory (c ∷ cs) s t h = each_bound (print_whole c s) cs s.memory t (λ u e. whole_memory c s u e)
-    (λ u e. each_memory cs u t e) h
+each_memory [] a s t h = ap (λ (x : State). x.memory) (done_state tt a s t h)
+each_memory (c ∷ cs) a s t h = each_bound (print_whole c s) cs s.memory a t (λ b u e. whole_memory c b s u e)
+    (λ u e. each_memory cs a u t e) h
 
 pub told_memory : (r s : Recording Contents) (x y characters codes : List ℕ)
     → Told (Ok tt) r x s y (print_codes characters codes) → memory_of s.store ≡ memory_of r.store
 told_memory r s x y characters codes w =
-    each_memory (flat_map (shown_by characters) codes) (state_of r.store x) (state_of s.store y) w.told.1
+    each_memory (flat_map (shown_by characters) codes) tt (state_of r.store x) (state_of s.store y) w.told.1
