@@ -92,8 +92,8 @@ prints_then None f g v w = record { by = λ s. ap (λ o. bound o (λ _. g)) (v.b
 prints_then (Some halts.Full) f g v w = record { by = λ s. ap (λ o. bound o (λ _. g)) (v.by s) ∙ w.by s }
 prints_then (Some halts.Memory) f g v w = record { by = tt }
 
-pub prints_no_further : {x y : List ℕ} (halt : Halt) (f g : State → Out (Unit {0})) → Prints (Some halt) x y f
-    → Prints (Some halt) x y (f >>= λ _. g)
+pub prints_no_further : {x y : List ℕ} (why : Halt) (f g : State → Out (Unit {0})) → Prints (Some why) x y f
+    → Prints (Some why) x y (f >>= λ _. g)
 prints_no_further halts.Full f g v = record { by = λ s. ap (λ o. bound o (λ _. g)) (v.by s) }
 prints_no_further halts.Memory f g v = record { by = tt }
 
@@ -188,10 +188,10 @@ unfolding print_each
 two_put h v w = prints_then h (print_whole (32 ∷ [])) (print_each ((32 ∷ []) ∷ [])) v
     (prints_as h (print_whole (32 ∷ [])) (print_each ((32 ∷ []) ∷ [])) (each_one (32 ∷ [])) w)
 
-pub first_halted : {x y : List ℕ} (halt : Halt) → Prints (Some halt) x y (print_whole (32 ∷ []))
-    → Prints (Some halt) x y (print_each ((32 ∷ []) ∷ (32 ∷ []) ∷ []))
+pub first_halted : {x y : List ℕ} (why : Halt) → Prints (Some why) x y (print_whole (32 ∷ []))
+    → Prints (Some why) x y (print_each ((32 ∷ []) ∷ (32 ∷ []) ∷ []))
 unfolding print_each
-first_halted halt v = prints_no_further halt (print_whole (32 ∷ [])) (print_each ((32 ∷ []) ∷ [])) v
+first_halted why v = prints_no_further why (print_whole (32 ∷ [])) (print_each ((32 ∷ []) ∷ [])) v
 
 -- the bytes of a Unicode character
 
@@ -235,12 +235,12 @@ on_code characters x y h code w = record {
       (prints_then h (print_codes characters printed) (print_codes characters (code ∷ [])) p w);
 }
 
-pub on_halted : (characters x : List ℕ) (halt : Halt) (codes : List ℕ)
-    → PrintsOn characters (Some halt) (Some halt) x x codes
-on_halted characters x halt codes = record {
-  on = λ first printed p. prints_as (Some halt) _ (print_codes characters (printed ++ codes))
+pub on_halted : (characters x : List ℕ) (why : Halt) (codes : List ℕ)
+    → PrintsOn characters (Some why) (Some why) x x codes
+on_halted characters x why codes = record {
+  on = λ first printed p. prints_as (Some why) _ (print_codes characters (printed ++ codes))
       (codes_append characters printed codes)
-      (prints_no_further halt (print_codes characters printed) (print_codes characters codes) p);
+      (prints_no_further why (print_codes characters printed) (print_codes characters codes) p);
 }
 
 -- from nothing on
