@@ -30,7 +30,7 @@ use Rattle.zcore.proofs.WaitingTests.{waits_chosen, waits_test_return}
 use Rattle.zcore.proofs.WaitingParts.{waits_goes_on, waits_read_byte, waits_give_back}
 use Rattle.zcore.proofs.WaitingObjectParts.{waits_test_object, waits_property_table}
 use Rattle.zcore_standard.specs.Characters.{print_codes}
-use Rattle.zcore_standard.proofs.Characters.{keeps_print_codes, waits_print_codes}
+use Rattle.zcore_standard.proofs.PrintedCodes.{keeps_print_codes, waits_print_codes}
 use Rattle.zcore_standard.specs.Laws.{ends_in_fault}
 use Rattle.zcore_standard.specs.Printing.{any_text_at, print_any_character, print_any_address, print_any_packed}
 use Rattle.zcore_standard.specs.Printing.{print_any_inline, print_any_return, print_any_object, perform_text}

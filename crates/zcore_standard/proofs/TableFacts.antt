@@ -20,7 +20,7 @@ use Rattle.zcore.proofs.WaitingEffects.{waits_branch_on, waits_test_branch}
 use Rattle.zcore_standard.specs.Tables.{are_readable, are_writable, test_readable, test_writable, has_words, field_length}
 use Rattle.zcore_standard.specs.Tables.{read_field, find_field, give_found, scan_table, copied_forwards, copied_at_once}
 use Rattle.zcore_standard.specs.Tables.{write_table, copy_table, rows, rows_size, print_table}
-use Rattle.zcore_standard.proofs.Characters.{keeps_print_codes, waits_print_codes}
+use Rattle.zcore_standard.proofs.PrintedCodes.{keeps_print_codes, waits_print_codes}
 
 -- Tests
 
