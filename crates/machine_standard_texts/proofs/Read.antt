@@ -166,7 +166,7 @@ comes_letter alphabets state z r e le h expand =
 
 -- Abbreviations, and what is left of a text
 
-pub left_places : ℕ → Option Named → ℕ
+abbrev pub left_places : ℕ → Option Named → ℕ
 left_places end None = 0
 left_places end (Some named) = suc (end - named.after)
 
@@ -192,7 +192,13 @@ module _ (alphabets story : List ℕ) (number : ℕ) where
   unfolding abbreviation_codes
   no_table fault e none = rw e (rw none refl)
 
-  alone : (r : Result (List ℕ) Cause) (after : ℕ) → ((r >>= λ codes. Ok (codes, after)) >>= λ x. Ok x.0) ≡ r
+  abbrev with_after : ℕ → List ℕ → Result (List ℕ × ℕ) Cause
+  with_after after codes = Ok (codes, after)
+
+  abbrev codes_alone : List ℕ × ℕ → Result (List ℕ) Cause
+  codes_alone x = Ok x.0
+
+  alone : (r : Result (List ℕ) Cause) (after : ℕ) → ((r >>= with_after after) >>= codes_alone) ≡ r
   alone (Ok x) after = refl
   alone (Err f) after = refl
 
@@ -231,7 +237,7 @@ module _ (alphabets : List ℕ) (expand : ℕ → Result (List ℕ) Cause) (zs :
   pub rest_on : (named : Named) (o : Option Named) (got first second : List ℕ) (whole : Result (List ℕ) Cause)
       → behind got (rest_of alphabets expand zs (Some named)) ≡ whole → expand named.number ≡ Ok first
       → ReadsPlain alphabets zs named.after o second
-      → behind (got ++ first ++ second) (rest_of alphabets expand zs o) ≡ whole
+      → behind (got ++ (first ++ second)) (rest_of alphabets expand zs o) ≡ whole
   rest_on named o got first second whole so_far e h =
       sym (behind_behind got (first ++ second) (rest_of alphabets expand zs o))
       ∙ sym (ap (behind got) (ap (λ r. r >>= λ more. behind more
@@ -255,10 +261,14 @@ pub numbered : (from end : ℕ) (o : Option Named) → IsNamedWithin from end o 
 numbered from end None h = tt
 numbered from end (Some named) h = h.0
 
-pub left_less : (from end k : ℕ) (o : Option Named) → IsNamedWithin from end o → k ≡ suc (end - from) → from ≤ end
+pub left_less : (from end k : ℕ) (o : Option Named) → IsNamedWithin from end o → k ≡ suc (end - from)
     → left_places end o < k
-left_less from end k None h e le = omega (arith, e)
-left_less from end k (Some named) h e le = omega (arith, e, h.1.0, h.1.1)
+left_less from end k None h e =
+    let none : left_places end None ≡ 0 = refl in
+    omega (arith, e, none)
+left_less from end k (Some next_named) h e =
+    let some : left_places end (Some next_named) ≡ suc (end - next_named.after) = refl in
+    omega (arith, e, some, h.1, h.2)
 
 -- The text at an address
 

@@ -2,7 +2,10 @@
 use Rattle.std.proofs.Common.{◌≡◌, ℕ, ◌+◌, List, [], ◌∷◌, ◌++◌, length, drop, refl, ap, sym, ◌∙◌, Bool, true, false, cond}
 use Rattle.std.proofs.Common.{Option, Some, None, Result, Ok, Err, slice_index}
 use Rattle.std.specs.Prelude.{◌==◌, ◌||◌, ◌&&◌, nat_le, nat_lt}
+use Rattle.ztext.specs.Bytes.{word_at}
 use Rattle.ztext.specs.Reading.{Cause}
+use Rattle.zcore.specs.Entries.{properties_place}
+use Rattle.zcore.specs.Header.{defaults_of}
 use Rattle.ztext.specs.Text.{decoded}
 use Rattle.zcore.specs.declared.next.Next.{Next}
 use Rattle.zcore.specs.declared.place.Fault.{Fault}
@@ -263,9 +266,15 @@ still_table : (object : ℕ) → Still (property_table object)
 unfolding property_table read_word
 still_table object s t h = absurd (either _ _ _ _ (no_value _ s t) (no_read s t) h)
 
+same_word : (at : ℕ) → Same (read_word at)
+unfolding read_word
+same_word at s t a h = either (is_readable s.memory at && is_readable s.memory (at + 1)) (done (word_at s.memory at) s)
+    (fault faults.Read s) (done a t) (same_done (word_at s.memory at) a s t)
+    (λ e. absurd (no_done (places.Fault faults.Read) a s t e)) h
+
 same_table : (object : ℕ) → Same (property_table object)
-unfolding property_table read_word
-same_table object s t a h = either _ _ _ _ (same_done _ a s t) (λ e. absurd (no_done _ a s t e)) h
+unfolding property_table
+same_table object s t a h = same_word (properties_place (defaults_of s.memory) object) s t a h
 
 still_byte : (at : ℕ) → Still (read_byte at)
 unfolding read_byte
@@ -273,7 +282,8 @@ still_byte at s t h = absurd (either _ _ _ _ (no_value _ s t) (no_read s t) h)
 
 same_byte : (at : ℕ) → Same (read_byte at)
 unfolding read_byte
-same_byte at s t a h = either _ _ _ _ (same_done _ a s t) (λ e. absurd (no_done _ a s t e)) h
+same_byte at s t a h = either (is_readable s.memory at) (done (slice_index s.memory at) s) (fault faults.Read s) (done a t)
+    (same_done (slice_index s.memory at) a s t) (λ e. absurd (no_done (places.Fault faults.Read) a s t e)) h
 
 still_chosen : {A : Type 0} (b : Bool) (f g : State → Out A) → Still f → Still g → Still (cond b f g)
 still_chosen true f g v w = v
@@ -290,8 +300,8 @@ still_object here after object =
 
 -- What is done then
 
-stopped : {A : Type 0} (place : Place) (s : State) → ends_refused {A = Next} (Err (ends.Stop place)) ≡ false
-    → is_refused (stops {A = A} place s) ≡ false
+stopped : (place : Place) (s : State) → ends_refused {A = Next} (Err (ends.Stop place)) ≡ false
+    → is_refused (stops {A = Next} place s) ≡ false
 stopped (places.Fault faults.Character) s e = absurd (cc)
 stopped (places.Fault _) s e = refl
 stopped _ s e = refl
@@ -301,9 +311,9 @@ pub kept : {s t : Recording Contents} {x y : List ℕ} (r : Result Next End) (f 
 kept {s} {x = x} (Ok next) f g e w = told_as (Ok next) (or_else f g)
     (ap (λ (b : Bool). cond b (g (state_of s.store x)) (f (state_of s.store x))) (ap is_refused w.told.1)) w
 kept (Err ends.Memory) f g e w = record { told = w.told }
-kept {s} {x = x} (Err (ends.Stop place)) f g e w = told_as (Err (ends.Stop place)) (or_else f g)
+kept {s} {t} {x} {y} (Err (ends.Stop place)) f g e w = told_as (Err (ends.Stop place)) (or_else f g)
     (ap (λ (b : Bool). cond b (g (state_of s.store x)) (f (state_of s.store x)))
-    (ap is_refused w.told.1 ∙ stopped place (state_of _ _) e)) w
+    (ap is_refused w.told.1 ∙ stopped place (state_of t.store y) e)) w
 
 -- another way, from the same state
 anew_by : {s t u : Recording Contents} {x y z : List ℕ} (q : Result Next End) (f g : State → Out Next)

@@ -9,8 +9,8 @@ pub returns-in-Ok-clause-adds : goal.returns-in-Ok-clause-adds
 returns-in-Ok-clause-adds c =
     let read = c.in-Ok.ensures.read in (
       read.0,
-      text_read _ _ _ _ c.requires.sound (c.memory.ensures ∙ ap memory_of c.store.ensures) read.1.0,
-      read.1.1,
+      text_read _ _ _ _ c.requires.sound (c.memory.ensures ∙ ap memory_of c.store.ensures) read.1,
+      read.2,
     )
 
 pub returns-in-Err-clause-adds : goal.returns-in-Err-clause-adds

@@ -1,4 +1,5 @@
-use Rattle.std.proofs.Common.{Some, ap, ◌∙◌}
+use Rattle.std.proofs.Common.{◌≡◌, Some, subst, sym}
+use Rattle.machine_standard_texts.specs.declared.characters.Halt.{Halt}
 use Rattle.machine_standard_texts.proofs.Adding.{finished, full}
 use Rattle.machine_standard_texts.proofs.printing.finish.Goals as goal
 
@@ -7,4 +8,4 @@ returns-in-None c = λ was now f p. finished c.args.store.now c.args.halted c.in
 
 pub returns-in-Some-Full : goal.returns-in-Some-Full
 returns-in-Some-Full c = λ was now f p. full c.args.store.now c.args.halted
-    (c.in-Some-Full.is ∙ ap Some c.in-Some-Full.field-0-is) c.requires was now f p
+    (subst (λ (h : Halt). c.args.halted ≡ Some h) (sym c.in-Some-Full.field-0-is) c.in-Some-Full.is) c.requires was now f p

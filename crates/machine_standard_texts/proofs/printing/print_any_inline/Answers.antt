@@ -7,7 +7,7 @@ use Rattle.machine_standard_texts.proofs.Printed.{grew_by, on_begun}
 use Rattle.machine_standard_texts.proofs.printing.print_any_inline.Goals as goal
 
 pub finish-requires : goal.finish-requires
-finish-requires c = went_sound c.in_ok-added.ensures.adds.1.0
+finish-requires c = went_sound c.in_ok-added.ensures.adds.1
 
 pub returns-in_err-added-clause-told : goal.returns-in_err-added-clause-told
 unfolding print_any_inline
@@ -23,9 +23,9 @@ pub returns-in_err-finish-clause-told : goal.returns-in_err-finish-clause-told
 unfolding print_any_inline
 returns-in_err-finish-clause-told c =
     told_err _ c.from_residual-in_err-finish.ensures.1
-    (told_then _ (told_went _ _ c.in_ok-added.ensures.adds.1.0)
+    (told_then _ (told_went _ _ c.in_ok-added.ensures.adds.1)
     (told_no_further _
-    (c.in_err-finish.ensures _ _ _ (on_begun _ c.in_ok-added.ensures.adds.1.1))))
+    (c.in_err-finish.ensures _ _ _ (on_begun _ c.in_ok-added.ensures.adds.2))))
 
 pub returns-in_err-finish-clause-text : goal.returns-in_err-finish-clause-text
 returns-in_err-finish-clause-text c = grew_by c.requires.text c.add_text.ensures.text
@@ -33,8 +33,8 @@ returns-in_err-finish-clause-text c = grew_by c.requires.text c.add_text.ensures
 pub returns-clause-told : goal.returns-clause-told
 unfolding print_any_inline
 returns-clause-told c =
-    let told = c.in_ok-finish.ensures _ _ _ (on_begun _ c.in_ok-added.ensures.adds.1.1) in
-    told_then _ (told_went _ _ c.in_ok-added.ensures.adds.1.0)
+    let told = c.in_ok-finish.ensures _ _ _ (on_begun _ c.in_ok-added.ensures.adds.2) in
+    told_then _ (told_went _ _ c.in_ok-added.ensures.adds.1)
     (told_then _ told (told_still _ _ _ (told_sound told) refl))
 
 pub returns-clause-text : goal.returns-clause-text

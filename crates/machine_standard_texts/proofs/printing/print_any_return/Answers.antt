@@ -7,18 +7,18 @@ use Rattle.machine_standard_texts.proofs.Printed.{begun_by, extends_after, grew_
 use Rattle.machine_standard_texts.proofs.printing.print_any_return.Goals as goal
 
 pub test_return-requires : goal.test_return-requires
-test_return-requires c = went_sound c.in_ok-added.ensures.adds.1.0
+test_return-requires c = went_sound c.in_ok-added.ensures.adds.1
 
 pub put_next-halted-requires : goal.put_next-halted-requires
-put_next-halted-requires c = begun_by c.requires.text c.add_text.ensures.text
+put_next-halted-requires c = record { text = begun_by c.requires.text c.add_text.ensures.text }
 
 pub finish-requires : goal.finish-requires
-finish-requires c = went_sound c.in_ok-added.ensures.adds.1.0
+finish-requires c = went_sound c.in_ok-added.ensures.adds.1
 
 pub give_back-requires : goal.give_back-requires
-give_back-requires c = told_store (went_store c.requires.store c.in_ok-added.ensures.adds.1.0)
+give_back-requires c = told_store (went_store c.requires.store c.in_ok-added.ensures.adds.1)
     (c.in_ok-finish.ensures _ _ _
-    (on_begun _ (on_then _ (13 ∷ []) c.in_ok-added.ensures.adds.1.1 c.put_next-halted.ensures.prints)))
+    (on_begun _ (on_then _ (13 ∷ []) c.in_ok-added.ensures.adds.2 c.put_next-halted.ensures.prints)))
 
 pub returns-in_err-added-clause-told : goal.returns-in_err-added-clause-told
 unfolding print_any_return
@@ -36,7 +36,7 @@ returns-in-Err-clause-told c =
     let now : List ℕ = c.add_text.new.text.items in
     told_back c.args.start c.args.text.now.items c.truncate.new.self.items
     (c.truncate.ensures.items ∙ ap (λ k. take k now) (omega arith) ∙ c.add_text.ensures.text.stays)
-    (told_then _ (told_went _ _ c.in_ok-added.ensures.adds.1.0)
+    (told_then _ (told_went _ _ c.in_ok-added.ensures.adds.1)
     (told_went _ _ (went_no_further _ c.in-Err.ensures.went)))
 
 pub returns-in-Err-clause-text : goal.returns-in-Err-clause-text
@@ -49,11 +49,11 @@ pub returns-in_err-finish-clause-told : goal.returns-in_err-finish-clause-told
 unfolding print_any_return
 returns-in_err-finish-clause-told c =
     told_err _ c.from_residual-in_err-finish.ensures.1
-    (told_then _ (told_went _ _ c.in_ok-added.ensures.adds.1.0)
+    (told_then _ (told_went _ _ c.in_ok-added.ensures.adds.1)
     (told_then _ (told_went _ _ c.in-Ok.ensures.went)
     (told_no_further _
     (c.in_err-finish.ensures _ _ _
-    (on_begun _ (on_then _ (13 ∷ []) c.in_ok-added.ensures.adds.1.1 c.put_next-halted.ensures.prints))))))
+    (on_begun _ (on_then _ (13 ∷ []) c.in_ok-added.ensures.adds.2 c.put_next-halted.ensures.prints))))))
 
 pub returns-in_err-finish-clause-text : goal.returns-in_err-finish-clause-text
 returns-in_err-finish-clause-text c = grew_by c.requires.text
@@ -62,11 +62,11 @@ returns-in_err-finish-clause-text c = grew_by c.requires.text
 pub returns-clause-told : goal.returns-clause-told
 unfolding print_any_return
 returns-clause-told c =
-    told_then _ (told_went _ _ c.in_ok-added.ensures.adds.1.0)
+    told_then _ (told_went _ _ c.in_ok-added.ensures.adds.1)
     (told_then _ (told_went _ _ c.in-Ok.ensures.went)
     (told_then _
     (c.in_ok-finish.ensures _ _ _
-    (on_begun _ (on_then _ (13 ∷ []) c.in_ok-added.ensures.adds.1.1 c.put_next-halted.ensures.prints)))
+    (on_begun _ (on_then _ (13 ∷ []) c.in_ok-added.ensures.adds.2 c.put_next-halted.ensures.prints)))
     (told_went _ _ c.give_back.ensures)))
 
 pub returns-clause-text : goal.returns-clause-text

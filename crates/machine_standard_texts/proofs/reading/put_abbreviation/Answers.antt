@@ -32,7 +32,7 @@ returns-in-Some-clause-read c =
     text_alone c.args.alphabets.now c.args.story.now c.args.number c.bytes_from-bytes.result.now
     c.in_ok-address.address _ (words_of c.in_ok-words.words c.bytes_from-bytes.result.now)
     c.in_ok-address.ensures.0 c.in_ok-address.ensures.1 c.bytes_from-bytes.ensures c.in_ok-words.ensures.words
-    ∙ c.in-Some.ensures.read.1.0 refused
+    ∙ c.in-Some.ensures.read.1 refused
 
 pub returns-in-None-clause-read : goal.returns-in-None-clause-read
 returns-in-None-clause-read c =
@@ -41,6 +41,6 @@ returns-in-None-clause-read c =
       text_alone c.args.alphabets.now c.args.story.now c.args.number c.bytes_from-bytes.result.now
           c.in_ok-address.address _ (words_of c.in_ok-words.words c.bytes_from-bytes.result.now)
           c.in_ok-address.ensures.0 c.in_ok-address.ensures.1 c.bytes_from-bytes.ensures c.in_ok-words.ensures.words
-          ∙ read.1.0 refused,
-      read.1.1,
+          ∙ read.1 refused,
+      read.2,
     )

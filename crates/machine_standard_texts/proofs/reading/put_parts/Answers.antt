@@ -23,10 +23,10 @@ returns-in-None-clause-read c =
       read.0,
       whole_plain c.args.alphabets.now c.args.story.now c.bytes_from-bytes.result.now c.args.at _
           (words_of c.in_ok-words.words c.bytes_from-bytes.result.now) c.bytes_from-bytes.ensures
-          c.in_ok-words.ensures.words read.0 read.1.0,
+          c.in_ok-words.ensures.words read.0 read.1,
       subst (λ (h : Option Halt). PrintsOn c.args.characters.now h c.put_plain.new.halted
           (drop c.args.start c.args.text.now.items) (drop c.args.start c.put_plain.new.text.items) read.0)
-          c.requires.begins read.1.1,
+          c.requires.begins read.2,
     )
 
 pub put_rest-requires-clause-text : goal.put_rest-requires-clause-text
@@ -39,10 +39,10 @@ returns-in-Ok-clause-read c =
       first.0 ++ more.0,
       whole_rest c.args.alphabets.now c.args.story.now c.bytes_from-bytes.result.now c.args.at _
           (words_of c.in_ok-words.words c.bytes_from-bytes.result.now) c.bytes_from-bytes.ensures
-          c.in_ok-words.ensures.words c.in-Some.first first.0 more.0 first.1.0 more.1.0,
+          c.in_ok-words.ensures.words c.in-Some.first first.0 more.0 first.1 more.1,
       subst (λ (h : Option Halt). PrintsOn c.args.characters.now h c.put_rest.new.halted
           (drop c.args.start c.args.text.now.items) (drop c.args.start c.put_rest.new.text.items) (first.0 ++ more.0))
-          c.requires.begins (on_then first.0 more.0 first.1.1 more.1.1),
+          c.requires.begins (on_then first.0 more.0 first.2 more.2),
     )
 
 pub returns-in-Ok-clause-text : goal.returns-in-Ok-clause-text
@@ -52,7 +52,7 @@ pub returns-in-Err-clause-fails : goal.returns-in-Err-clause-fails
 returns-in-Err-clause-fails c =
     whole_fails c.args.alphabets.now c.args.story.now c.bytes_from-bytes.result.now c.args.at _
     (words_of c.in_ok-words.words c.bytes_from-bytes.result.now) c.bytes_from-bytes.ensures
-    c.in_ok-words.ensures.words c.in-Err.fault c.in-Some.first c.in-Some.ensures.read.0 c.in-Some.ensures.read.1.0
+    c.in_ok-words.ensures.words c.in-Err.fault c.in-Some.first c.in-Some.ensures.read.0 c.in-Some.ensures.read.1
     c.in-Err.ensures.read
 
 pub returns-in-Err-clause-text : goal.returns-in-Err-clause-text
