@@ -9,5 +9,6 @@ mod reading;
 mod words;
 
 pub use printing::{
-    print_address, print_character, print_code, print_inline, print_object, print_packed, print_return,
+    print_address, print_character, print_code, print_inline, print_object, print_packed,
+    print_return,
 };

@@ -1,7 +1,7 @@
 //! The opcodes of the profile that print texts and characters, where any ZSCII code may stand
 //! (Z-Machine Standards Document 1.1, sections 3.8 and 15).
 
-ghost use Rattle.std.specs.Prelude.{◌≡◌, ◌∷◌, [], ℕ, List, Err, OnOk};
+ghost use Rattle.std.specs.Prelude.{◌≡◌, ◌∷◌, [], ℕ, List, Err, OnOk, Some};
 ghost use Rattle.zcore.specs.Execution as profile;
 ghost use Rattle.zcore.specs.Objects.{print_object, test_object, property_table};
 ghost use Rattle.zcore.specs.State.{State, Out};
@@ -90,6 +90,21 @@ fn add_text(
     }
 }
 
+/// How a turn ends where printing halted: where memory was refused, it is given up.
+fn halted_end(store: &mut Recorded<Store>, halt: Halt) -> End
+    requires { IsSound store.old.store }
+    ensures { (was now : List ℕ) (f : State → Out (Unit {0})) → Prints (Some halt) was now f
+        → Told (Err result) store.old was store.new now f }
+{
+    match halt {
+        Halt::Full => End::Stop(Place::Limit(Limit::Text)),
+        Halt::Memory => {
+            store.abandon();
+            End::Memory
+        }
+    }
+}
+
 /// Ends the turn where printing halted.
 fn finish(store: &mut Recorded<Store>, halted: Option<Halt>) -> Result<(), End>
     requires { IsSound store.old.store }
@@ -98,11 +113,7 @@ fn finish(store: &mut Recorded<Store>, halted: Option<Halt>) -> Result<(), End>
 {
     match halted {
         None => Ok(()),
-        Some(Halt::Full) => Err(End::Stop(Place::Limit(Limit::Text))),
-        Some(Halt::Memory) => {
-            store.abandon();
-            Err(End::Memory)
-        }
+        Some(halt) => Err(halted_end(store, halt)),
     }
 }
 
