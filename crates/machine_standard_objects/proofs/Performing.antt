@@ -1,5 +1,5 @@
 -- Operations that the profile knows, on the values of their operands.
-use Rattle.std.proofs.Common.{◌≡◌, ◌≢◌, ℕ, Bool, true, false, cond, List, Option, refl, ap, Result, Ok}
+use Rattle.std.proofs.Common.{◌≡◌, ◌≢◌, ◌∙◌, ℕ, Bool, true, false, cond, List, Option, refl, ap, Result, Ok}
 use Rattle.std.proofs.lemmas.Bool.{eq-eqb, ne_eqb}
 use Rattle.journal.specs.Recording.{Recording}
 use Rattle.zcore.specs.declared.instruction.Branch.{Branch}
@@ -35,10 +35,10 @@ module _ (characters : List ℕ) (operation : Operation) (here : Next) (after : 
   known_is s b e = ap (λ (x : Bool). cond x (perform_on_nothing operation here after result branch values)
       (perform_printing characters operation here after result branch values) s) e
 
-  printing_is : (s : State) (b c : Bool) → concerns_nothing operation values ≡ false → is_text operation ≡ c
+  printing_is : (s : State) (c : Bool) → concerns_nothing operation values ≡ false → is_text operation ≡ c
       → perform_known characters operation here after result branch values s
       ≡ cond c prints (perform operation here after result branch values) s
-  printing_is s b c e f = known_is s false e
+  printing_is s c e f = known_is s false e
       ∙ ap (λ (x : Bool). cond x prints (perform operation here after result branch values) s) f
 
   pub nothing_went : {s t : Recording Contents} (r : Result Next End) → concerns_nothing operation values ≡ true
@@ -51,20 +51,20 @@ module _ (characters : List ℕ) (operation : Operation) (here : Next) (after : 
       → is_text operation ≡ false → Went r s t (perform operation here after result branch values)
       → Went r s t (perform_known characters operation here after result branch values)
   known_went {s} r e f w = went_as r (perform_known characters operation here after result branch values)
-      (λ x. printing_is (state_of s.store x) false false e f) w
+      (λ x. printing_is (state_of s.store x) false e f) w
 
   pub known_told : {s t : Recording Contents} {x y : List ℕ} (r : Result Next End)
       → concerns_nothing operation values ≡ false → is_text operation ≡ false
       → Told r s x t y (perform operation here after result branch values)
       → Told r s x t y (perform_known characters operation here after result branch values)
   known_told {s} {x = x} r e f w = told_as r (perform_known characters operation here after result branch values)
-      (printing_is (state_of s.store x) false false e f) w
+      (printing_is (state_of s.store x) false e f) w
 
   pub text_told : {s t : Recording Contents} {x y : List ℕ} (r : Result Next End)
       → concerns_nothing operation values ≡ false → is_text operation ≡ true → Told r s x t y prints
       → Told r s x t y (perform_known characters operation here after result branch values)
   text_told {s} {x = x} r e f w = told_as r (perform_known characters operation here after result branch values)
-      (printing_is (state_of s.store x) false true e f) w
+      (printing_is (state_of s.store x) true e f) w
 
 -- which operations print no text
 

@@ -95,7 +95,7 @@ pub(crate) fn one(
     let after = ending.after;
     match operation {
         Operation::PrintAddress => {
-            print_address(store, text, start, characters, here, after, u32::from(x))
+            print_address(store, text, start, characters, here, after, x as u32)
         }
         Operation::PrintPacked => {
             print_packed(header, store, text, start, characters, here, after, x)
