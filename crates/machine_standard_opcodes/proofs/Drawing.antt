@@ -24,7 +24,7 @@ use Rattle.machine_frames.specs.declared.end.End.TheVariants as ends
 use Rattle.machine_frames.proofs.Steps.{goes_on_still, told_halt}
 use Rattle.machine_opcodes.specs.Printed.{HasBegun}
 use Rattle.machine_standard_opcodes.specs.Around.{place, Keeps}
-use Rattle.machine_standard_opcodes.specs.Drawn.{Redraws, place_at}
+use Rattle.machine_standard_opcodes.specs.Drawn.{Redraws, Bounds, Way, Apart, place_at}
 use Rattle.machine_standard_opcodes.specs.declared.around.Around.{Around}
 use Rattle.machine_standard_opcodes.proofs.Cuts.{text_cut, text_behind, keeps_cut}
 use Rattle.machine_standard_opcodes.proofs.TextLines.{lines_apart}
@@ -141,47 +141,54 @@ drawn_as start begin n lines spaces row column upper b x y begun is bare is_in_r
     (sym way ∙ ap (λ l. with_cursor b column l) (bare ∙ ap without_spaces behind)
     ∙ ap (λ v. with_cursor v column (without_spaces (drop upper.from (drop start x)))) is_in_row)
 
--- the way of the cursor in a text: from a place on, up to the end of what stays, and what is added
-pub record Way (start begin end lines spaces row column : ℕ) (upper : Upper) (x : List ℕ) : Type 0 where
-  pub begun : start ≤ length x
-  pub begin : begin ≡ place_at start upper.from x
-  pub behind : begin ≤ end
-  pub within : end ≤ length x
-  pub bare : take (end - begin) (drop begin x) ≡ without_spaces (drop begin x)
-  pub way : with_cursor (row_of upper (drop start x) == row) column (take (end - begin) (drop begin x))
-      ≡ take (end - begin) (drop begin x) ++ (replicate lines 10 ++ replicate spaces 32)
-
-pub way_of : (start begin end n lines spaces row column now : ℕ) (upper : Upper) (b : Bool) (z x : List ℕ) → z ≡ x
-    → start ≤ length x → begin ≡ place_at start upper.from z → end ≡ begin + n
-    → take n (take (length z - begin) (drop begin z)) ≡ without_spaces (take (length z - begin) (drop begin z))
-    → n ≤ length (take (length z - begin) (drop begin z)) → b ≡ (now == row)
-    → now ≡ row_of upper (drop start z)
-    → with_cursor b column (take (end - begin) (drop begin z))
-    ≡ take (end - begin) (drop begin z) ++ (replicate lines 10 ++ replicate spaces 32)
-    → Way start begin end lines spaces row column upper x
-way_of start begin end n lines spaces row column now upper b z x e begun at long bare le is counts way =
+pub bounds_are : (start begin end from n : ℕ) (x : List ℕ) → start ≤ length x → begin ≡ place_at start from x
+    → end ≡ begin + n
+    → take n (take (length x - begin) (drop begin x)) ≡ without_spaces (take (length x - begin) (drop begin x))
+    → n ≤ length (take (length x - begin) (drop begin x)) → Bounds start begin end from x
+bounds_are start begin end from n x begun at long bare le =
     let size : end - begin ≡ n = omega (arith, long) in
-    let rest = rest_is z z begin refl in
-    let inside : n ≤ length z - begin = omega (arith, le, ap length rest, length-drop begin z) in
-    let first : begin ≤ length z = omega (arith, at, begun, ap length e) in
-    subst (λ l. Way start begin end lines spaces row column upper l) e (record {
-      begun = omega (arith, begun, ap length e);
-      begin = at;
+    let inside : n ≤ length x - begin = omega (arith, le, ap length (rest_is x x begin refl), length-drop begin x) in
+    record {
+      at = at;
       behind = omega (arith, long);
-      within = omega (arith, long, inside, first);
-      bare = ap (λ k. take k (drop begin z)) size ∙ bare_in z z begin n refl bare;
-      way = ap (λ c. with_cursor (c == row) column (take (end - begin) (drop begin z))) (sym counts)
-          ∙ ap (λ c. with_cursor c column (take (end - begin) (drop begin z))) (sym is) ∙ way;
+      within = omega (arith, long, inside, at, begun);
+      bare = ap (λ k. take k (drop begin x)) size ∙ bare_in x x begin n refl bare;
+    }
+
+pub way_of : {start begin end : ℕ} (lines spaces row column now : ℕ) (upper : Upper) (b : Bool) (x : List ℕ)
+    → Bounds start begin end upper.from x → b ≡ (now == row) → now ≡ row_of upper (drop start x)
+    → with_cursor b column (take (end - begin) (drop begin x))
+    ≡ take (end - begin) (drop begin x) ++ (replicate lines 10 ++ replicate spaces 32)
+    → Way start (place_at start upper.from x) end lines spaces row column upper x
+way_of {start} {begin} {end} lines spaces row column now upper b x bounds is counts way =
+    subst (λ k. Way start k end lines spaces row column upper x) bounds.at (record {
+      bounds = bounds;
+      way = ap (λ c. with_cursor (c == row) column (take (end - begin) (drop begin x))) (sym counts)
+          ∙ ap (λ c. with_cursor c column (take (end - begin) (drop begin x))) (sym is) ∙ way;
     })
 
+pub way_in : {start end lines spaces row column : ℕ} {upper : Upper} {z x : List ℕ} → z ≡ x
+    → Way start (place_at start upper.from z) end lines spaces row column upper z
+    → Way start (place_at start upper.from x) end lines spaces row column upper x
+way_in {start} {end} {lines} {spaces} {row} {column} {upper} e w =
+    subst (λ l. Way start (place_at start upper.from l) end lines spaces row column upper l) e w
+
+pub bounds_in : {start begin end from : ℕ} {z x : List ℕ} → z ≡ x → Bounds start begin end from z
+    → Bounds start begin end from x
+bounds_in {start} {begin} {end} {from} e w = subst (λ l. Bounds start begin end from l) e w
+
+pub apart_in : {start begin end before after : ℕ} {z x : List ℕ} → z ≡ x → Apart start begin end before after z
+    → Apart start begin end before after x
+apart_in {start} {begin} {end} {before} {after} e w = subst (λ l. Apart start begin end before after l) e w
+
 pub way_drawn : {start begin end lines spaces row column : ℕ} {upper : Upper} {x : List ℕ} (y : List ℕ)
-    → Way start begin end lines spaces row column upper x
+    → start ≤ length x → Way start begin end lines spaces row column upper x
     → y ≡ take end x ++ (replicate lines 10 ++ replicate spaces 32)
     → drop start y ≡ drawn upper row column (drop start x)
-way_drawn {start} {begin} {end} {lines} {spaces} {row} {column} {upper} {x} y w e =
-    let size : begin + (end - begin) ≡ end = omega (arith, w.behind) in
-    drawn_as start begin (end - begin) lines spaces row column upper (row_of upper (drop start x) == row) x y w.begun
-    w.begin w.bare refl w.way
+way_drawn {start} {begin} {end} {lines} {spaces} {row} {column} {upper} {x} y begun w e =
+    let size : begin + (end - begin) ≡ end = omega (arith, w.bounds.behind) in
+    drawn_as start begin (end - begin) lines spaces row column upper (row_of upper (drop start x) == row) x y begun
+    w.bounds.at w.bounds.bare refl w.way
     (e ∙ ap (λ k. take k x ++ (replicate lines 10 ++ replicate spaces 32)) (sym size))
 
 length-way : (end lines spaces : ℕ) (x : List ℕ) → end ≤ length x
@@ -189,69 +196,73 @@ length-way : (end lines spaces : ℕ) (x : List ℕ) → end ≤ length x
 length-way end lines spaces x le =
     omega (
       arith,
-      length-append (take end x) (replicate lines 10 ++ replicate spaces 32),
-      length-append (replicate lines 10) (replicate spaces 32),
-      length-take-le end x le,
-      length-replicate lines 10,
-      length-replicate spaces 32,
+      length-append {A = ℕ} (take end x) (replicate lines 10 ++ replicate spaces 32),
+      length-append {A = ℕ} (replicate lines 10) (replicate spaces 32),
+      length-take-le {A = ℕ} end x le,
+      length-replicate {A = ℕ} lines 10,
+      length-replicate {A = ℕ} spaces 32,
     )
 
 -- how long the turn's text is then
 pub way_long : {start begin end lines spaces row column : ℕ} {upper : Upper} {x : List ℕ}
-    → Way start begin end lines spaces row column upper x
+    → start ≤ length x → Way start begin end lines spaces row column upper x
     → length (drawn upper row column (drop start x)) ≡ end + lines + spaces - start
-way_long {start} {begin} {end} {lines} {spaces} {row} {column} {upper} {x} w =
+way_long {start} {begin} {end} {lines} {spaces} {row} {column} {upper} {x} begun w =
     let y = take end x ++ (replicate lines 10 ++ replicate spaces 32) in
     omega (
       arith,
-      ap length (way_drawn y w refl),
+      ap length (way_drawn y begun w refl),
       length-drop start y,
-      length-way end lines spaces x w.within,
+      length-way end lines spaces x w.bounds.within,
     )
 
 pub cursor_put : (s : Recording Contents) (start begin end lines spaces row column long : ℕ) (upper : Upper)
-    (x y : List ℕ) → IsSound s.store → Way start begin end lines spaces row column upper x
+    (x y : List ℕ) → IsSound s.store → start ≤ length x → Way start begin end lines spaces row column upper x
     → y ≡ take end x ++ (replicate lines 10 ++ replicate spaces 32) → long ≡ end + lines + spaces - start
     → long ≤ text_limit
     → Told (Ok (record { from = upper.from; mark = long; row = row })) s (drop start x) s (drop start y)
     (put_cursor upper row column)
 unfolding put_cursor redraw
-cursor_put s start begin end lines spaces row column long upper x y sound w e is few =
-    let text = way_drawn y w e in
-    let size : length (drawn upper row column (drop start x)) ≡ long = way_long w ∙ sym is in
+cursor_put s start begin end lines spaces row column long upper x y sound begun w e is few =
+    let text = way_drawn y begun w e in
+    let size : length (drawn upper row column (drop start x)) ≡ long = way_long begun w ∙ sym is in
+    let room = le-leb (length (drawn upper row column (drop start x))) text_limit (omega (arith, size, few)) in
+    let put : put_cursor upper row column (state_of s.store (drop start x))
+    ≡ done (record { from = upper.from; mark = length (drawn upper row column (drop start x)); row = row })
+    (state_of s.store (drawn upper row column (drop start x))) = rw room refl in
     record {
       told = (
         goes_on_still s sound,
-        rw (text, size, le-leb long text_limit few) refl,
+        put ∙ ap (λ m. done (record { from = upper.from; mark = m; row = row })
+        (state_of s.store (drawn upper row column (drop start x)))) size
+            ∙ ap (λ l. done (record { from = upper.from; mark = long; row = row }) (state_of s.store l)) (sym text),
       );
     }
 
 pub cursor_limited : (s : Recording Contents) (start begin end lines spaces row column : ℕ) (upper : Upper)
-    (x : List ℕ) → IsSound s.store → Way start begin end lines spaces row column upper x
+    (x : List ℕ) → IsSound s.store → start ≤ length x → Way start begin end lines spaces row column upper x
     → text_limit < end + lines + spaces - start
     → Told {A = Upper} (Err (ends.Stop (places.Limit limits.Text))) s (drop start x) s (drop start x)
     (put_cursor upper row column)
 unfolding put_cursor redraw
-cursor_limited s start begin end lines spaces row column upper x sound w lt =
-    let size = way_long w in
+cursor_limited s start begin end lines spaces row column upper x sound begun w lt =
+    let size = way_long begun w in
     told_halt s (put_cursor upper row column) (drop start x) sound
     (rw (lt-leb (length (drawn upper row column (drop start x))) text_limit (omega (arith, size, lt))) refl)
 
 -- The text that is shown
 
 -- where it is empty
-pub shown_none : (start begin n : ℕ) (upper : Upper) (z x y : List ℕ) → z ≡ x → start ≤ length x
-    → begin ≡ place_at start upper.from z
-    → take n (take (length z - begin) (drop begin z)) ≡ without_spaces (take (length z - begin) (drop begin z))
-    → n ≡ 0 → y ≡ take begin x → drop start y ≡ with_upper upper (drop start x)
+pub shown_none : {start begin end : ℕ} (upper : Upper) (x y : List ℕ) → start ≤ length x
+    → Bounds start begin end upper.from x → end ≡ begin → y ≡ take begin x
+    → drop start y ≡ with_upper upper (drop start x)
 unfolding with_upper
-shown_none start begin n upper z x y same begun at bare none e =
-    let is : begin ≡ place_at start upper.from x = at ∙ ap (place_at start upper.from) same in
-    let behind = behind_is start upper.from begin x begun is in
+shown_none {start} {begin} {end} upper x y begun w none e =
+    let behind = behind_is start upper.from begin x begun w.at in
+    let zero : end - begin ≡ 0 = omega (arith, none) in
     let empty : length (without_spaces (drop upper.from (drop start x))) ≡ 0 =
-    ap length (sym (ap without_spaces behind) ∙ sym (bare_in z x begin n same bare)
-    ∙ ap (λ k. take k (drop begin x)) none) in
-    rw (eq-eqb _ 0 empty) (ap (drop start) e ∙ front_is start upper.from begin x begun is)
+    ap length (sym (ap without_spaces behind) ∙ sym w.bare ∙ ap (λ k. take k (drop begin x)) zero) in
+    rw (eq-eqb _ 0 empty) (ap (drop start) e ∙ front_is start upper.from begin x begun w.at)
 
 -- what is shown, by the text before it and its own
 shown_is : (upper : Upper) (x front bare : List ℕ) → front ≡ take upper.from x
@@ -265,58 +276,35 @@ shown_is upper x front bare a b some =
     ∙ ap (λ l. with_new_line l ++ with_new_line (without_spaces (drop upper.from x))) (sym a)
     ∙ ap (λ l. with_new_line front ++ with_new_line l) (sym b))
 
--- the parts of the text that is shown, and the newlines that they lack
-pub record Lines (start begin end before after : ℕ) (upper : Upper) (x : List ℕ) : Type 0 where
-  pub begun : start ≤ length x
-  pub begin : begin ≡ place_at start upper.from x
-  pub behind : begin < end
-  pub within : end ≤ length x
-  pub bare : take (end - begin) (drop begin x) ≡ without_spaces (drop begin x)
-  pub first : with_new_line (drop start (take begin x)) ≡ drop start (take begin x) ++ replicate before 10
-  pub second : with_new_line (take (end - begin) (drop begin x))
-      ≡ take (end - begin) (drop begin x) ++ replicate after 10
+pub apart_are : (start begin end before after : ℕ) (x : List ℕ) → start ≤ begin
+    → with_new_line (take (begin - start) (drop start x)) ≡ take (begin - start) (drop start x) ++ replicate before 10
+    → with_new_line (take (end - begin) (drop begin x)) ≡ take (end - begin) (drop begin x) ++ replicate after 10
+    → Apart start begin end before after x
+apart_are start begin end before after x le first second =
+    let part = front_part x x start begin refl le in
+    record {
+      first = ap with_new_line (sym part) ∙ first ∙ ap (λ l. l ++ replicate before 10) part;
+      second = second;
+    }
 
-pub lines_of : (start begin end n before after : ℕ) (upper : Upper) (z x : List ℕ) → z ≡ x → start ≤ length x
-    → begin ≡ place_at start upper.from z → end ≡ begin + n
-    → take n (take (length z - begin) (drop begin z)) ≡ without_spaces (take (length z - begin) (drop begin z))
-    → n ≤ length (take (length z - begin) (drop begin z)) → end ≢ begin
-    → with_new_line (take (begin - start) (drop start z)) ≡ take (begin - start) (drop start z) ++ replicate before 10
-    → with_new_line (take (end - begin) (drop begin z)) ≡ take (end - begin) (drop begin z) ++ replicate after 10
-    → Lines start begin end before after upper x
-lines_of start begin end n before after upper z x e begun at long bare le some front back =
-    let size : end - begin ≡ n = omega (arith, long) in
-    let rest = rest_is z z begin refl in
-    let inside : n ≤ length z - begin = omega (arith, le, ap length rest, length-drop begin z) in
-    let first : begin ≤ length z = omega (arith, at, begun, ap length e) in
-    let part = front_part z z start begin refl (omega (arith, at)) in
-    subst (λ l. Lines start begin end before after upper l) e (record {
-      begun = omega (arith, begun, ap length e);
-      begin = at;
-      behind = omega (arith, long, some);
-      within = omega (arith, long, inside, first);
-      bare = ap (λ k. take k (drop begin z)) size ∙ bare_in z z begin n refl bare;
-      first = ap with_new_line (sym part) ∙ front ∙ ap (λ l. l ++ replicate before 10) part;
-      second = back;
-    })
-
-pub lines_shown : {start begin end before after : ℕ} {upper : Upper} {x : List ℕ} (y : List ℕ)
-    → Lines start begin end before after upper x
+pub lines_shown : {start begin end before after : ℕ} (upper : Upper) {x : List ℕ} (y : List ℕ) → start ≤ length x
+    → begin < end → Bounds start begin end upper.from x → Apart start begin end before after x
     → y ≡ take begin x ++ (replicate before 10 ++ (take (end - begin) (drop begin x) ++ replicate after 10))
     → drop start y ≡ with_upper upper (drop start x)
-lines_shown {start} {begin} {end} {before} {after} {upper} {x} y w e =
-    let ahead = front_is start upper.from begin x w.begun w.begin in
-    let behind = behind_is start upper.from begin x w.begun w.begin in
-    let long = length-take-le begin x (omega (arith, w.behind, w.within)) in
-    let size = length-take-le (end - begin) (drop begin x) (omega (arith, w.within, length-drop begin x)) in
+lines_shown {start} {begin} {end} {before} {after} upper {x} y begun some b w e =
+    let ahead = front_is start upper.from begin x begun b.at in
+    let behind = behind_is start upper.from begin x begun b.at in
+    let long = length-take-le begin x (omega (arith, some, b.within)) in
+    let size = length-take-le (end - begin) (drop begin x) (omega (arith, b.within, length-drop begin x)) in
     let bare = take (end - begin) (drop begin x) in
     ap (drop start) e
     ∙ drop-append-le start (take begin x) (replicate before 10 ++ (bare ++ replicate after 10))
-    (omega (arith, long, w.begin))
+    (omega (arith, long, b.at))
     ∙ sym (append_assoc (drop start (take begin x)) (replicate before 10) (bare ++ replicate after 10))
     ∙ ap (λ l. l ++ (bare ++ replicate after 10)) (sym w.first)
     ∙ ap (λ l. with_new_line (drop start (take begin x)) ++ l) (sym w.second)
-    ∙ sym (shown_is upper (drop start x) (drop start (take begin x)) bare ahead (w.bare ∙ ap without_spaces behind)
-    (λ none. absurd (omega (arith, size, none, w.behind))))
+    ∙ sym (shown_is upper (drop start x) (drop start (take begin x)) bare ahead (b.bare ∙ ap without_spaces behind)
+    (λ none. absurd (omega (arith, size, none, some))))
 
 length-lines : (begin end before after : ℕ) (x : List ℕ) → begin < end → end ≤ length x
     → length (take begin x ++ (replicate before 10 ++ (take (end - begin) (drop begin x) ++ replicate after 10)))
@@ -324,26 +312,26 @@ length-lines : (begin end before after : ℕ) (x : List ℕ) → begin < end →
 length-lines begin end before after x lt le =
     omega (
       arith,
-      length-append (take begin x) (replicate before 10 ++ (take (end - begin) (drop begin x) ++ replicate after 10)),
-      length-append (replicate before 10) (take (end - begin) (drop begin x) ++ replicate after 10),
-      length-append (take (end - begin) (drop begin x)) (replicate after 10),
+      length-append {A = ℕ} (take begin x) (replicate before 10 ++ (take (end - begin) (drop begin x) ++ replicate after 10)),
+      length-append {A = ℕ} (replicate before 10) (take (end - begin) (drop begin x) ++ replicate after 10),
+      length-append {A = ℕ} (take (end - begin) (drop begin x)) (replicate after 10),
       length-take-le begin x (omega (arith, lt, le)),
       length-take-le (end - begin) (drop begin x) (omega (arith, le, length-drop begin x)),
-      length-replicate before 10,
-      length-replicate after 10,
+      length-replicate {A = ℕ} before 10,
+      length-replicate {A = ℕ} after 10,
       lt,
     )
 
-pub lines_long : {start begin end before after : ℕ} {upper : Upper} {x : List ℕ}
-    → Lines start begin end before after upper x
+pub lines_long : {start begin end before after : ℕ} (upper : Upper) {x : List ℕ} → start ≤ length x
+    → begin < end → Bounds start begin end upper.from x → Apart start begin end before after x
     → length (with_upper upper (drop start x)) ≡ end + before + after - start
-lines_long {start} {begin} {end} {before} {after} {upper} {x} w =
+lines_long {start} {begin} {end} {before} {after} upper {x} begun some b w =
     let y = take begin x ++ (replicate before 10 ++ (take (end - begin) (drop begin x) ++ replicate after 10)) in
     omega (
       arith,
-      ap length (lines_shown y w refl),
+      ap length (lines_shown upper y begun some b w refl),
       length-drop start y,
-      length-lines begin end before after x w.behind w.within,
+      length-lines begin end before after x some b.within,
     )
 
 pub text_shown : (s : Recording Contents) (x y : List ℕ) (upper : Upper) → IsSound s.store → y ≡ with_upper upper x
@@ -372,18 +360,18 @@ apart_is begin end before after x t y le cut e =
     e ∙ ap (λ l. l ++ (replicate before 10 ++ (drop begin t ++ replicate after 10))) front
     ∙ ap (λ l. take begin x ++ (replicate before 10 ++ (l ++ replicate after 10))) back
 
-pub set_apart_is : {E : Type 0} (r : Result (Unit {0}) E) (at n before after : ℕ) (x t y : List ℕ)
-    → t ≡ take at x ++ (replicate before 10 ++ drop at x) → n ≡ length t + after
-    → y ≡ (if is_ok r then take n t ++ replicate (n - length t) 10 else t)
+pub set_apart_is : {E : Type 0} (r : Result (Unit {0}) E) (at n m before after : ℕ) (x t y : List ℕ)
+    → t ≡ take at x ++ (replicate before 10 ++ drop at x) → m ≡ length t → n ≡ m + after
+    → y ≡ (if is_ok r then take n t ++ replicate (n - m) 10 else t)
     → OnOk r (y ≡ take at x ++ (replicate before 10 ++ (drop at x ++ replicate after 10)))
-set_apart_is (Ok u) at n before after x t y e long items =
-    let all : take n t ≡ t = take_all n t (omega (arith, long)) in
-    let more : n - length t ≡ after = omega (arith, long) in
-    items ∙ ap (λ l. l ++ replicate (n - length t) 10) (all ∙ e)
+set_apart_is (Ok u) at n m before after x t y e size long items =
+    let all : take n t ≡ t = take_all n t (omega (arith, long, size)) in
+    let more : n - m ≡ after = omega (arith, long) in
+    items ∙ ap (λ l. l ++ replicate (n - m) 10) (all ∙ e)
     ∙ ap (λ k. take at x ++ (replicate before 10 ++ drop at x) ++ replicate k 10) more
     ∙ append_assoc (take at x) (replicate before 10 ++ drop at x) (replicate after 10)
     ∙ ap (λ l. take at x ++ l) (append_assoc (replicate before 10) (drop at x) (replicate after 10))
-set_apart_is (Err f) at n before after x t y e long items = tt
+set_apart_is (Err f) at n m before after x t y e size long items = tt
 
 -- A part that changes the text and the place alone
 

@@ -95,10 +95,11 @@ no_width : (xs : List ℕ) → width (with_new_line xs) ≡ 0
 unfolding width
 no_width xs = ap (count_by begins_character) (nil_from_length (last_line (with_new_line xs)) (ended xs))
 
-pub way_stays : (column n : ℕ) (bare : List ℕ) → width bare < column → n ≡ column - 1 - width bare
-    → with_cursor true column bare ≡ bare ++ (replicate 0 10 ++ replicate n 32)
+pub way_stays : (is_in_row : Bool) (column n : ℕ) (bare : List ℕ) → is_in_row ≡ true → width bare < column
+    → n ≡ column - 1 - width bare
+    → with_cursor is_in_row column bare ≡ bare ++ (replicate 0 10 ++ replicate n 32)
 unfolding with_cursor
-way_stays column n bare lt e = rw (lt-ltb (width bare) column lt, e) refl
+way_stays is_in_row column n bare here lt e = rw (here, lt-ltb (width bare) column lt, e) refl
 
 pub way_new : (is_in_row : Bool) (column lines n : ℕ) (bare : List ℕ)
     → (is_in_row && nat_lt (width bare) column) ≡ false → with_new_line bare ≡ bare ++ replicate lines 10
@@ -107,3 +108,19 @@ unfolding with_cursor
 way_new is_in_row column lines n bare not new e =
     let count : column - 1 - width (with_new_line bare) ≡ n = omega (arith, no_width bare, e) in
     rw (not, count, new) (append_assoc bare (replicate lines 10) (replicate n 32))
+
+either_false : (a b : Bool) → b ≡ false → (a && b) ≡ false
+either_false true b e = e
+either_false false b e = refl
+
+pub way_full : (is_in_row : Bool) (column lines : ℕ) (bare : List ℕ) → column ≤ width bare
+    → with_new_line bare ≡ bare ++ replicate lines 10
+    → with_cursor is_in_row column bare ≡ bare ++ (replicate lines 10 ++ replicate (column - 1) 32)
+way_full is_in_row column lines bare le new =
+    way_new is_in_row column lines (column - 1) bare (either_false is_in_row _ (le-ltb (width bare) column le)) new refl
+
+pub way_other : (is_in_row : Bool) (column lines : ℕ) (bare : List ℕ) → is_in_row ≡ false
+    → with_new_line bare ≡ bare ++ replicate lines 10
+    → with_cursor is_in_row column bare ≡ bare ++ (replicate lines 10 ++ replicate (column - 1) 32)
+way_other is_in_row column lines bare out new =
+    way_new is_in_row column lines (column - 1) bare (ap (λ b. b && nat_lt (width bare) column) out) new refl

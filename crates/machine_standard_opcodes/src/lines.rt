@@ -52,8 +52,14 @@ pub(crate) fn missing_lines(text: &[u8]) -> usize
 pub(crate) fn width(text: &[u8]) -> usize
     ensures { result ≡ definitions.width text.now }
 {
-    last_line(text)
-        .iter()
+    count_characters(last_line(text))
+}
+
+/// How many characters a text has.
+fn count_characters(text: &[u8]) -> usize
+    ensures { result ≡ count_by definitions.begins_character text.now }
+{
+    text.iter()
         .filter(|byte| begins_character(**byte))
         .count()
 }

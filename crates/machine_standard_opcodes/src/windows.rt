@@ -8,7 +8,7 @@ ghost use Rattle.machine_opcodes.specs.Printed.{HasBegun, ToldFrom};
 ghost use Rattle.machine_opcodes.specs.Seen.{seen};
 ghost use Rattle.machine_standard_opcodes.specs.Around.{place, Keeps};
 ghost use Rattle.machine_standard_opcodes.specs.Drawn as drawings;
-ghost use Rattle.machine_standard_opcodes.specs.Drawn.{Redraws};
+ghost use Rattle.machine_standard_opcodes.specs.Drawn.{Redraws, Bounds, Way, Apart};
 
 use crate::around::{Around, LOWER, UPPER};
 use crate::lines::{bare_length, count_new_lines, missing_lines, width};
@@ -212,11 +212,7 @@ fn put_cursor(
         (definitions.put_cursor upper row column) }
     ensures text { Keeps start text.old.items text.new.items }
 {
-    let printed = text.as_slice();
-    let begin = place_at(start, upper.from, printed);
-    let end = begin + bare_length(&printed[begin..]);
-    let is_in_row = row_of(upper, printed, start) == row as usize;
-    let (lines, spaces) = way_to(is_in_row, column as usize, &printed[begin..end]);
+    let (end, lines, spaces) = find_way(text.as_slice(), start, upper, row, column);
     let long = end + lines + spaces;
     if TEXT_LIMIT < long - start {
         return Err(End::Stop(Place::Limit(Limit::Text)));
@@ -233,6 +229,42 @@ fn put_cursor(
             Err(End::Memory)
         }
     }
+}
+
+/// The way of the cursor: where the text ends that stays, and the newlines and the spaces that are
+/// added to it.
+fn find_way(
+    text: &[u8],
+    start: usize,
+    upper: Upper,
+    row: u16,
+    column: u16,
+) -> (usize, usize, usize)
+    requires text { HasBegun start text.now }
+    requires column { 1 ≤ column }
+    ensures way { Way start (drawings.place_at start upper.from text.now) result.0 result.1 result.2
+        row column upper text.now }
+    ensures after { start ≤ result.0 }
+    ensures within { result.0 ≤ length text.now }
+    ensures lines { result.1 ≤ 1 }
+    ensures spaces { result.2 < column }
+{
+    let (begin, end) = bounds_of(text, start, upper.from);
+    let is_in_row = row_of(upper, text, start) == row as usize;
+    let (lines, spaces) = way_to(is_in_row, column as usize, &text[begin..end]);
+    (end, lines, spaces)
+}
+
+/// Where the text of the upper window begins, and where it ends without the spaces at its end.
+fn bounds_of(text: &[u8], start: usize, from: u32) -> (usize, usize)
+    requires { HasBegun start text.now }
+    ensures bounds { Bounds start result.0 result.1 from text.now }
+    ensures after { start ≤ result.0 }
+    ensures behind { result.0 ≤ result.1 }
+    ensures within { result.1 ≤ length text.now }
+{
+    let begin = place_at(start, from, text);
+    (begin, begin + bare_length(&text[begin..]))
 }
 
 /// The place in a text where so many bytes of the turn end, whose text begins at a place of it.
@@ -292,7 +324,8 @@ pub fn erase_window(text: &mut Vec<u8>, start: usize, around: &mut Around, windo
     ensures text { Keeps start text.old.items text.new.items }
 {
     match window {
-        UPPER | BOTH => erase_upper(text, start, around),
+        UPPER => erase_upper(text, start, around),
+        BOTH => erase_upper(text, start, around),
         UNSPLIT => select_lower(text, start, around),
         _ => {}
     }
@@ -382,16 +415,36 @@ fn show_text(
         (definitions.show_text upper) }
     ensures text { Keeps start text.old.items text.new.items }
 {
-    let printed = text.as_slice();
-    let begin = place_at(start, upper.from, printed);
-    let end = begin + bare_length(&printed[begin..]);
+    let (begin, end) = bounds_of(text.as_slice(), start, upper.from);
     if end == begin {
         text.truncate(begin);
         return Ok(());
     }
-    let before = missing_lines(&printed[start..begin]);
-    let after = missing_lines(&printed[begin..end]);
-    if TEXT_LIMIT < end + before + after - start {
+    show_part(store, text, start, upper, begin, end)
+}
+
+/// The same, where a part of the text is shown: from a place up to another.
+fn show_part(
+    store: &mut Recorded<Store>,
+    text: &mut Vec<u8>,
+    start: usize,
+    upper: Upper,
+    begin: usize,
+    end: usize,
+) -> Result<(), End>
+    requires sound { IsSound store.old.store }
+    requires text { HasBegun start text.old.items }
+    requires bounds { Bounds start begin end upper.from text.old.items }
+    requires after { start ≤ begin }
+    requires some { begin < end }
+    requires within { end ≤ length text.old.items }
+    ensures told { ToldFrom start result store.old text.old.items store.new text.new.items
+        (definitions.show_text upper) }
+    ensures text { Keeps start text.old.items text.new.items }
+{
+    let (before, after) = lines_around(text.as_slice(), start, begin, end);
+    let long = end + before + after;
+    if TEXT_LIMIT < long - start {
         return Err(End::Stop(Place::Limit(Limit::Text)));
     }
     text.truncate(end);
@@ -402,6 +455,19 @@ fn show_text(
             Err(End::Memory)
         }
     }
+}
+
+/// The newlines that a part of a text lacks before it, in a turn whose text begins at a place of it,
+/// and after it.
+fn lines_around(text: &[u8], start: usize, begin: usize, end: usize) -> (usize, usize)
+    requires after { start ≤ begin }
+    requires behind { begin ≤ end }
+    requires within { end ≤ length text.now }
+    ensures apart { Apart start begin end result.0 result.1 text.now }
+    ensures before { result.0 ≤ 1 }
+    ensures after { result.1 ≤ 1 }
+{
+    (missing_lines(&text[start..begin]), missing_lines(&text[begin..end]))
 }
 
 /// Puts newlines before and after the end of a text, which begins at a place of it: none or one.

@@ -97,14 +97,6 @@ keeping_is loaded operations.EraseWindow here after result branch values s m n k
 keeping_is loaded operations.SplitWindow here after result branch values s m n k j l e = absurd (cc)
 keeping_is loaded _ here after result branch values s m n k j l e = refl
 
-pub not_on_windows : (operation : Further) → operation ≢ operations.SetWindow → operation ≢ operations.SetCursor
-    → operation ≢ operations.EraseWindow → operation ≢ operations.SplitWindow → is_on_windows operation ≡ false
-not_on_windows operations.SetWindow a b c d = absurd (a refl)
-not_on_windows operations.SetCursor a b c d = absurd (b refl)
-not_on_windows operations.EraseWindow a b c d = absurd (c refl)
-not_on_windows operations.SplitWindow a b c d = absurd (d refl)
-not_on_windows _ a b c d = refl
-
 pub keeping_told : {s t : Recording Contents} {x y : List ℕ} (r : Result Next End) (loaded : Loaded)
     (operation : Further) (here : Here) (after : ℕ) (result : Option ℕ) (branch : Option Branch)
     (values : List ℕ) → operation ≢ operations.Restart → operation ≢ operations.Random → operation ≢ operations.Read

@@ -16,7 +16,7 @@ ghost use Rattle.machine_standard_opcodes.specs.Around.{place, Keeps};
 ghost use Rattle.machine_standard_steps.specs.Kinds.{is_on_windows};
 
 use crate::effects::{perform_quietly, value_or};
-use crate::kinds::{condition_of, does_nothing, word_of};
+use crate::kinds::{condition_of, does_nothing, is_on_windows, word_of};
 use crate::reading::{read_key, read_line};
 use journal::Recorded;
 use machine_frames::{End, Store};
@@ -56,6 +56,9 @@ pub(crate) fn perform_further(
     ensures text { Keeps start text.old.items text.new.items }
     ensures around { OnErr result (around.new ≡ around.old) }
 {
+    if is_on_windows(operation) {
+        return perform_on_windows(store, text, start, around, here, operation, values, ending);
+    }
     match operation {
         Further::Restart => restart(store, text, start, loaded, around, here),
         Further::Random => {
@@ -69,9 +72,7 @@ pub(crate) fn perform_further(
                 values[0],
             )
         }
-        Further::Read => read_line(
-            header, store, text, start, loaded, around, values, ending,
-        ),
+        Further::Read => read_line(header, store, text, start, loaded, around, values, ending),
         Further::ReadChar => read_key(header, store, text, start, loaded, around, ending),
         Further::OutputStream => output_stream(
             header,
@@ -84,9 +85,6 @@ pub(crate) fn perform_further(
             ending.after,
             values,
         ),
-        Further::SetWindow | Further::SetCursor | Further::EraseWindow | Further::SplitWindow => {
-            perform_on_windows(store, text, start, around, here, operation, values, ending)
-        }
         _ => perform_keeping(
             header, store, text, start, loaded, here, operation, values, ending,
         ),

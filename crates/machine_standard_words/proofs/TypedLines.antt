@@ -1,26 +1,18 @@
 -- The letters and words of a line that is typed.
-use Rattle.std.proofs.Common.{◌≡◌, ◌≢◌, ℕ, suc, ◌+◌, ◌-◌, ◌*◌, ◌<◌, ◌≤◌, List, [], ◌∷◌, ◌++◌, length, map, set, take, drop, ap}
-use Rattle.std.proofs.Common.{sym, ◌∙◌, subst, arith, refl, true, false, Bool, None, Ok, Err, Result, slice_index, append_assoc}
+use Rattle.std.proofs.Common.{◌≡◌, ◌≢◌, ℕ, ◌+◌, ◌-◌, ◌*◌, ◌≤◌, List, ◌∷◌, ◌++◌, length, map, take, drop, ap}
+use Rattle.std.proofs.Common.{sym, ◌∙◌, subst, arith, true, false, Bool, Ok, Err, Result, slice_index}
 use Rattle.std.specs.Prelude.{◌==◌, ◌||◌, OnOk, slice_range}
-use Rattle.std.proofs.lemmas.Bool.{and_parts, leb-true, ne_eqb, eq-eqb}
+use Rattle.std.proofs.lemmas.Bool.{and_parts, leb-true, ne_eqb}
 use Rattle.std.proofs.lemmas.List.{length-take-le, length-drop}
 use Rattle.journal.specs.Recording.{Recording}
 use Rattle.ztext.specs.Text.{lower_case}
-use Rattle.zcore.specs.declared.next.Next.{Next}
 use Rattle.zcore.specs.Header.{static_base_of, dictionary_of}
 use Rattle.zcore.specs.Parsing.{first_words}
-use Rattle.zcore.specs.Parts.{store_result, goes_on}
-use Rattle.zcore.specs.State.{Pending, State, Out, done, ◌>>=◌}
 use Rattle.zcore.specs.Turn.{with_bytes, with_letters}
-use Rattle.zcore_standard.specs.Reading.{has_room, has_slots_or_none, letters_with, with_line, can_take, memory_given}
-use Rattle.zcore_standard.specs.Reading.{result_given, standard_given}
+use Rattle.zcore_standard.specs.Reading.{has_room, has_slots_or_none, letters_with, with_line}
 use Rattle.zcore_standard.specs.Words.{letters_in, slots_bytes}
 use Rattle.machine_frames.specs.Contents.{Contents, memory_of}
-use Rattle.machine_frames.specs.States.{state_of}
-use Rattle.machine_frames.specs.Went.{Went, Told}
-use Rattle.machine_frames.specs.declared.end.End.{End}
-use Rattle.machine_frames.proofs.Steps.{goes_on_after, went_then, went_no_further, went_still, went_sound}
-use Rattle.machine_lines.specs.Lines.{Filled, WaitsNoMore}
+use Rattle.machine_lines.specs.Lines.{Filled}
 use Rattle.machine_lines.proofs.Filling.{filled_then}
 use Rattle.machine_standard_words.proofs.Tokens.{slots_numbers}
 

@@ -7,10 +7,15 @@ use zcore::layout::NEW_LINE;
 
 // The ZSCII codes of keys that no line has a character for.
 const DELETE: u16 = 8;
+
 const ESCAPE: u16 = 27;
+
 const UP: u16 = 129;
+
 const DOWN: u16 = 130;
+
 const LEFT: u16 = 131;
+
 const RIGHT: u16 = 132;
 
 /// The key that a line is where a key is waited for: one of six that are named, or the first

@@ -44,7 +44,13 @@ pub(crate) fn fill_line(
 {
     let mut letters = [0; MOST_LETTERS];
     let count = put_letters(store.store().memory(), text as usize, line, &mut letters);
-    fill_letters(header, store, text as usize, parse as usize, &letters[..count])
+    fill_letters(
+        header,
+        store,
+        text as usize,
+        parse as usize,
+        &letters[..count],
+    )
 }
 
 /// Writes the letters that a text buffer has after a line to the front of a row, and answers how many
@@ -145,7 +151,14 @@ fn fill_words(
         flag: 0,
     };
     let mut bytes = [0; SLOTS_LENGTH];
-    let words = slots(memory, search, letters, memory[parse], parse + 2, &mut bytes);
+    let words = slots(
+        memory,
+        search,
+        letters,
+        memory[parse],
+        parse + 2,
+        &mut bytes,
+    );
     fill_counted(store, text + 1, letters.len() as u8, letters)?;
     fill_counted(store, parse + 1, words, &bytes[..4 * words as usize])
 }

@@ -1,6 +1,6 @@
 -- What a turn makes of the fields of a session.
 use Rattle.std.proofs.Common.{◌≡◌, ℕ, ◌+◌, ◌≤◌, List, [], ◌∷◌, ◌++◌, length, get_or, take, drop, map, refl, ap}
-use Rattle.std.proofs.Common.{sym, ◌∙◌, subst, arith, Option, Some, Result, Ok, Err, add-one, inl, inr}
+use Rattle.std.proofs.Common.{sym, ◌∙◌, subst, arith, Option, Result, Ok, Err, add-one, inl, inr}
 use Rattle.std.specs.Result.{OnErr}
 use Rattle.std.specs.List.{All}
 use Rattle.std.proofs.lemmas.List.{take-map, map_push, length-map, length-take-le, length_push, get_or-take}

@@ -70,7 +70,7 @@ pub enum Further {
     /// `sound_effect`, which does nothing.
     SoundEffect,
 
-    /// `read_char`, which is not played yet.
+    /// `read_char` with up to three operands: waits for a key.
     ReadChar,
 
     /// `scan_table`: searches a table for a word or a byte.

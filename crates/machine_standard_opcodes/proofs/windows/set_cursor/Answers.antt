@@ -28,19 +28,19 @@ returns-in-None-clause-told c =
 pub returns-in-None-clause-text : goal.returns-in-None-clause-text
 returns-in-None-clause-text c = keeps_still _ _ c.requires.text
 
-pub returns-in_err-put_cursor-clause-told : goal.returns-in_err-put_cursor-clause-told
-returns-in_err-put_cursor-clause-told c =
+pub returns-in_err-moved-in-Some-clause-told : goal.returns-in_err-moved-in-Some-clause-told
+returns-in_err-moved-in-Some-clause-told c =
     let here = place c.args.around.now c.args.next in
     told_by _ (cursor_to here _ c.args.row c.args.column) (set_cursor here c.args.row c.args.column)
     (cursor_seen here c.args.row c.args.column _ (sym c.are_places.ensures ∙ c.if-not-are_places.false)
     (sym c.in-Some.is ∙ c.open_upper.ensures c.args.next))
     (cursor_stopped (place c.args.around.now) _ here _ c.args.row c.args.column c.from_residual.ensures.1
-    c.in_err-put_cursor.ensures.told)
+    c.in_err-moved-in-Some.ensures.told)
 
-pub returns-in-Some-clause-told : goal.returns-in-Some-clause-told
-returns-in-Some-clause-told c =
+pub returns-in_ok-moved-in-Some-clause-told : goal.returns-in_ok-moved-in-Some-clause-told
+returns-in_ok-moved-in-Some-clause-told c =
     let here = place c.args.around.now c.args.next in
     told_by _ (cursor_to here _ c.args.row c.args.column) (set_cursor here c.args.row c.args.column)
     (cursor_seen here c.args.row c.args.column _ (sym c.are_places.ensures ∙ c.if-not-are_places.false)
     (sym c.in-Some.is ∙ c.open_upper.ensures c.args.next))
-    (cursor_moved here _ _ c.args.row c.args.column c.in_ok-put_cursor.ensures.told)
+    (cursor_moved here _ _ c.args.row c.args.column c.in_ok-moved-in-Some.ensures.told)

@@ -22,17 +22,17 @@ returns-in-None-clause-told c =
     (redraws_told _ c.args.start c.args.around.now c.begin_upper.new.around _ _ (λ h. settled (with_window h 1))
     c.args.next c.requires.sound c.begin_upper.ensures.redraws)
 
-pub returns-in_err-put_cursor-clause-told : goal.returns-in_err-put_cursor-clause-told
-returns-in_err-put_cursor-clause-told c =
+pub returns-in_err-moved-in-Some-clause-told : goal.returns-in_err-moved-in-Some-clause-told
+returns-in_err-moved-in-Some-clause-told c =
     let here = place c.args.around.now c.args.next in
     told_by _ (cursor_to (with_window here 1) _ 1 1) (set_window here c.args.window)
     (upper_again here c.args.window _ c.if-window-eq-LOWER.false (sym c.in-Some.is ∙ c.open_upper.ensures c.args.next))
     (cursor_stopped (place c.args.around.now) _ (with_window here 1) _ 1 1 c.from_residual.ensures.1
-    c.in_err-put_cursor.ensures.told)
+    c.in_err-moved-in-Some.ensures.told)
 
-pub returns-in-Some-clause-told : goal.returns-in-Some-clause-told
-returns-in-Some-clause-told c =
+pub returns-in_ok-moved-in-Some-clause-told : goal.returns-in_ok-moved-in-Some-clause-told
+returns-in_ok-moved-in-Some-clause-told c =
     let here = place c.args.around.now c.args.next in
     told_by _ (cursor_to (with_window here 1) _ 1 1) (set_window here c.args.window)
     (upper_again here c.args.window _ c.if-window-eq-LOWER.false (sym c.in-Some.is ∙ c.open_upper.ensures c.args.next))
-    (cursor_moved (with_window here 1) _ _ 1 1 c.in_ok-put_cursor.ensures.told)
+    (cursor_moved (with_window here 1) _ _ 1 1 c.in_ok-moved-in-Some.ensures.told)

@@ -1,9 +1,16 @@
+use Rattle.std.proofs.Common.{sym, ◌∙◌}
 use Rattle.zcore_standard.specs.Further.{perform_further}
 use Rattle.machine_frames.proofs.Steps.{told_went}
 use Rattle.machine_standard_opcodes.specs.Around.{place}
 use Rattle.machine_standard_opcodes.proofs.Cuts.{keeps_still, keeps_grew}
-use Rattle.machine_standard_steps.proofs.Doing.{keeping_told, not_on_windows}
+use Rattle.machine_standard_steps.proofs.Doing.{keeping_told}
 use Rattle.machine_standard_steps.proofs.perform.perform_further.Goals as goal
+
+pub perform_on_windows-requires-clause-windows : goal.perform_on_windows-requires-clause-windows
+perform_on_windows-requires-clause-windows c = sym c.is_on_windows.ensures ∙ c.if-is_on_windows.true
+
+pub returns-then-is_on_windows-clause-told : goal.returns-then-is_on_windows-clause-told
+returns-then-is_on_windows-clause-told c = c.perform_on_windows.ensures.told c.args.loaded.now
 
 pub returns-in-Restart-clause-told : goal.returns-in-Restart-clause-told
 unfolding perform_further
@@ -32,8 +39,7 @@ pub returns-in_default-clause-told : goal.returns-in_default-clause-told
 returns-in_default-clause-told c = keeping_told _ c.args.loaded.now c.args.operation (place c.args.around.now c.args.here)
     c.args.ending.after c.args.ending.result c.args.ending.branch c.args.values.now c.in_default.not-Restart
     c.in_default.not-Random c.in_default.not-Read c.in_default.not-ReadChar c.in_default.not-OutputStream
-    (not_on_windows c.args.operation c.in_default.not-SetWindow c.in_default.not-SetCursor c.in_default.not-EraseWindow
-    c.in_default.not-SplitWindow) c.perform_keeping.ensures.told
+    (sym c.is_on_windows.ensures ∙ c.if-is_on_windows.false) c.perform_keeping.ensures.told
 
 pub returns-in_default-clause-text : goal.returns-in_default-clause-text
 returns-in_default-clause-text c = keeps_grew c.requires.text c.perform_keeping.ensures.text

@@ -6,7 +6,6 @@ use Rattle.machine_frames.specs.Contents.{memory_of}
 use Rattle.machine_frames.proofs.Steps.{went_store}
 use Rattle.machine_lines.proofs.Lines.{base_kept}
 use Rattle.machine_standard_opcodes.specs.Around.{place}
-use Rattle.machine_standard_opcodes.proofs.Cuts.{keeps_still}
 use Rattle.machine_standard_steps.proofs.Stepping.{decodes_no_further, executes_further, reads_no_further}
 use Rattle.machine_standard_steps.proofs.Stepping.{told_err_seen}
 use Rattle.machine_standard_steps.proofs.step.step_further.Goals as goal

@@ -1,5 +1,3 @@
-use Rattle.std.proofs.Common.{ap, ◌∙◌}
-use Rattle.machine_frames.specs.Contents.{memory_of}
 use Rattle.machine_standard_words.proofs.Giving.{takes_letters, key_filled, key_result, line_result, line_taken}
 use Rattle.machine_standard_words.proofs.given.take_typed.Goals as goal
 

@@ -1,4 +1,4 @@
-use Rattle.std.proofs.Common.{◌≡◌, ◌+◌, ap, ◌∙◌, arith, length, take, slice_index}
+use Rattle.std.proofs.Common.{◌≡◌, ◌+◌, ap, ◌∙◌, arith, length, slice_index}
 use Rattle.std.proofs.lemmas.List.{length-take-le}
 use Rattle.zcore_standard.specs.Reading.{letters_with}
 use Rattle.machine_frames.specs.Contents.{memory_of}

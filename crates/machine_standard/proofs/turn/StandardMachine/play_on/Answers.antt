@@ -1,5 +1,5 @@
-use Rattle.std.proofs.Common.{[], ap, ◌∙◌, length, take, subst, arith, drop}
-use Rattle.zcore_standard.specs.Machine.{begins, standard_step}
+use Rattle.std.proofs.Common.{◌≡◌, [], ap, ◌∙◌, length, take, subst, arith, drop}
+use Rattle.zcore_standard.specs.Machine.{standard_step}
 use Rattle.machine_frames.proofs.Steps.{goes_on_after, given_up_after}
 use Rattle.machine_frames.specs.Playing.{StopsBy}
 use Rattle.machine_frames.specs.States.{state_of}
