@@ -35,8 +35,8 @@ pub(crate) fn two(
     requires store { IsStoreOf header.now store.old.store }
     requires count { count_of operation ≡ counts.Two }
     requires after { ending.after ≤ longest_story }
-    ensures { (characters : List ℕ) → Went result store.old store.new (definitions.perform_known characters operation here
-        ending.after ending.result ending.branch (x ∷ y ∷ [])) }
+    ensures { (characters : List ℕ) → Went result store.old store.new
+        (definitions.perform_known characters operation here ending.after ending.result ending.branch (x ∷ y ∷ [])) }
 {
     if concerns_nothing(operation, &[x, y]) {
         return perform_on_nothing(header, store, here, operation, &[x, y], ending);
@@ -59,8 +59,8 @@ pub(crate) fn many(
     requires enough { 2 ≤ length values.now }
     requires few { length values.now ≤ most_operands operation }
     requires after { ending.after ≤ longest_story }
-    ensures { (characters : List ℕ) → Went result store.old store.new (definitions.perform_known characters operation here
-        ending.after ending.result ending.branch values.now) }
+    ensures { (characters : List ℕ) → Went result store.old store.new
+        (definitions.perform_known characters operation here ending.after ending.result ending.branch values.now) }
 {
     if concerns_nothing(operation, values) {
         return perform_on_nothing(header, store, here, operation, values, ending);

@@ -82,21 +82,26 @@ rows_cut : {e : End} {r s : Recording Contents} {x y : List ℕ} (characters m :
     → Told (Err e) r x s y (print_codes characters (rows m text width skip height))
 rows_cut {e} {r} {s} {x} {y} characters m text width skip n height lt h =
     let p = rows_split m text width skip (n + 1) height (omega arith) in
-    subst (λ k. Told (Err e) r x s y (print_codes characters k)) (sym p.1) (codes_first characters _ p.0 h)
+    subst (λ k. Told (Err e) r x s y (print_codes characters k)) (sym p.1)
+    (codes_first characters (rows m text width skip (n + 1)) p.0 h)
 
 -- one more row
 pub rows_more : {o : Result (Unit {0}) End} {r s t u : Recording Contents} {x y z w : List ℕ} (characters m : List ℕ)
     (text width skip n : ℕ)
-    → Told (Ok tt) r x s y (print_codes characters (rows m text width skip n)) → Told (Ok tt) s y t z (print_codes characters (row_division n))
-    → Told o t z u w (print_codes characters (row_of m text width skip n)) → Told o r x u w (print_codes characters (rows m text width skip (n + 1)))
+    → Told (Ok tt) r x s y (print_codes characters (rows m text width skip n))
+    → Told (Ok tt) s y t z (print_codes characters (row_division n))
+    → Told o t z u w (print_codes characters (row_of m text width skip n))
+    → Told o r x u w (print_codes characters (rows m text width skip (n + 1)))
 rows_more {o} {r} {s} {t} {u} {x} {y} {z} {w} characters m text width skip n before division row =
     subst (λ k. Told o r x u w (print_codes characters k)) (sym (rows_next m text width skip n))
-    (codes_two characters _ _ before (codes_two characters _ _ division row))
+    (codes_two characters (rows m text width skip n) (row_division n ++ row_of m text width skip n) before
+    (codes_two characters (row_division n) (row_of m text width skip n) division row))
 
 -- so where a row is not printed to its end
 pub row_cut : {e : End} {r s t u : Recording Contents} {x y z w : List ℕ} (characters m : List ℕ)
     (text width skip n height : ℕ) → n < height
-    → Told (Ok tt) r x s y (print_codes characters (rows m text width skip n)) → Told (Ok tt) s y t z (print_codes characters (row_division n))
+    → Told (Ok tt) r x s y (print_codes characters (rows m text width skip n))
+    → Told (Ok tt) s y t z (print_codes characters (row_division n))
     → Told (Err e) t z u w (print_codes characters (row_of m text width skip n))
     → Told (Err e) r x u w (print_codes characters (rows m text width skip height))
 row_cut characters m text width skip n height lt before division row =
@@ -105,12 +110,14 @@ row_cut characters m text width skip n height lt before division row =
 -- or the new line before it
 pub division_cut : {e : End} {r s t : Recording Contents} {x y z : List ℕ} (characters m : List ℕ)
     (text width skip n height : ℕ) → n < height
-    → Told (Ok tt) r x s y (print_codes characters (rows m text width skip n)) → Told (Err e) s y t z (print_codes characters (row_division n))
+    → Told (Ok tt) r x s y (print_codes characters (rows m text width skip n))
+    → Told (Err e) s y t z (print_codes characters (row_division n))
     → Told (Err e) r x t z (print_codes characters (rows m text width skip height))
 division_cut {e} {r} {s} {t} {x} {y} {z} characters m text width skip n height lt before division =
     rows_cut characters m text width skip n height lt
     (subst (λ k. Told (Err e) r x t z (print_codes characters k)) (sym (rows_next m text width skip n))
-    (codes_two characters _ _ before (codes_first characters _ (row_of m text width skip n) division)))
+    (codes_two characters (rows m text width skip n) (row_division n ++ row_of m text width skip n) before
+    (codes_first characters (row_division n) (row_of m text width skip n) division)))
 
 -- Each character of a row is in readable memory
 

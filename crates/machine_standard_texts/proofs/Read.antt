@@ -132,9 +132,12 @@ pub named_next : (alphabets : List ℕ) (state : ReadingState) (z : ℕ)
 named_next alphabets EscapeHigh z e = absurd cc
 named_next alphabets (EscapeLow high) z e = refl
 named_next alphabets (Abbreviated row) z e = refl
-named_next alphabets Lower z e = absurd (is_ok (z == 0) (nat_lt z 6) (32 ∷ []) [] (letter_codes alphabets Lower z) Abbreviation e)
-named_next alphabets Upper z e = absurd (is_ok (z == 0) (nat_lt z 6) (32 ∷ []) [] (letter_codes alphabets Upper z) Abbreviation e)
-named_next alphabets Punctuation z e = absurd (is_ok (z == 0) (nat_lt z 6) (32 ∷ []) [] (letter_codes alphabets Punctuation z) Abbreviation e)
+named_next alphabets Lower z e =
+    absurd (is_ok (z == 0) (nat_lt z 6) (32 ∷ []) [] (letter_codes alphabets Lower z) Abbreviation e)
+named_next alphabets Upper z e =
+    absurd (is_ok (z == 0) (nat_lt z 6) (32 ∷ []) [] (letter_codes alphabets Upper z) Abbreviation e)
+named_next alphabets Punctuation z e =
+    absurd (is_ok (z == 0) (nat_lt z 6) (32 ∷ []) [] (letter_codes alphabets Punctuation z) Abbreviation e)
 
 -- a piece, in a state that is known
 

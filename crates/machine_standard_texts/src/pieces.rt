@@ -62,7 +62,8 @@ fn letter(alphabets: &[u8], state: State, z: u8) -> Piece
     requires alphabets { length alphabets.now ≡ alphabets_length }
     requires from { 6 ≤ z }
     requires below { z < 32 }
-    ensures { (expand : _) → Comes expand (Ok (definitions.letter_codes alphabets.now (state_of state) z)) result }
+    ensures { (expand : _)
+        → Comes expand (Ok (definitions.letter_codes alphabets.now (state_of state) z)) result }
 {
     let place = z as usize - 6;
     match state {
@@ -81,7 +82,8 @@ pub(crate) fn piece_of(alphabets: &[u8], state: State, z: u8) -> Piece
     requires alphabets { length alphabets.now ≡ alphabets_length }
     requires small { IsSmall state }
     requires below { z < 32 }
-    ensures { (expand : _) → Comes expand (definitions.codes_of alphabets.now expand (state_of state) z) result }
+    ensures { (expand : _)
+        → Comes expand (definitions.codes_of alphabets.now expand (state_of state) z) result }
 {
     match state {
         State::EscapeHigh => Piece::Nothing,

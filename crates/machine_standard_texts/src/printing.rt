@@ -47,7 +47,8 @@ fn is_refused(end: &Result<Next, End>) -> bool
 /// How a turn ends where a text cannot be read: where memory was refused, it is given up.
 fn unread(store: &mut Recorded<Store>, fault: TextFault) -> End
     requires { IsSound store.old.store }
-    ensures { (address : _) → FailsText fault (codes_at default_alphabets (memory_of store.old.store) address)
+    ensures { (address : _)
+        → FailsText fault (codes_at default_alphabets (memory_of store.old.store) address)
         → Went (Err result) store.old store.new (definitions.any_text_at address) }
 {
     match fault {
@@ -61,8 +62,8 @@ fn unread(store: &mut Recorded<Store>, fault: TextFault) -> End
     }
 }
 
-/// Adds what the text at an address prints. Answers the address after it, and where printing halted.
-/// M3 and M10; nothing is added then.
+/// Adds what the text at an address prints. Answers the address after it, and where printing
+/// halted. M3 and M10; nothing is added then.
 fn add_text(
     store: &mut Recorded<Store>,
     text: &mut Vec<u8>,
@@ -117,8 +118,8 @@ fn finish(store: &mut Recorded<Store>, halted: Option<Halt>) -> Result<(), End>
     }
 }
 
-/// Prints a ZSCII code: 0 prints nothing, 9 a space, 11 two, 13 a new line, 32 to 126 ASCII, and from
-/// 155 on a code prints its character of these. Any other prints a question mark.
+/// Prints a ZSCII code: 0 prints nothing, 9 a space, 11 two, 13 a new line, 32 to 126 ASCII, and
+/// from 155 on a code prints its character of these. Any other prints a question mark.
 ///
 /// # Errors
 ///
@@ -388,7 +389,8 @@ pub fn print_inline(
 /// # Errors
 ///
 /// M3 where the text runs past the end, M10 where it has an abbreviation within another, then the
-/// faults of a return, the limit of text. `End::Memory` where memory was refused: the turn is given up.
+/// faults of a return, the limit of text. `End::Memory` where memory was refused: the turn is given
+/// up.
 pub fn print_return(
     header: &Header,
     store: &mut Recorded<Store>,
@@ -417,7 +419,8 @@ pub fn print_return(
 /// # Errors
 ///
 /// M8 where it is no object, M3 where its property table cannot be read or the text runs past the
-/// end, M10 where it has an abbreviation within another, the limit of text. `End::Memory` where memory was refused: the turn is given up.
+/// end, M10 where it has an abbreviation within another, the limit of text. `End::Memory` where
+/// memory was refused: the turn is given up.
 pub fn print_object(
     header: &Header,
     store: &mut Recorded<Store>,

@@ -33,6 +33,7 @@ returns-in_err-y c = λ characters.
     (went_no_further _ (second_stops _ _ c.in_ok-x.ensures c.in_err-y.ensures)))
 
 pub returns : goal.returns
-returns c = λ characters. executes characters _ c.args.here _ (λ l. completed l (long_form c.args.first (c.args.here.program_counter + 1))) _
+returns c = λ characters. executes characters _ c.args.here _
+    (λ l. completed l (long_form c.args.first (c.args.here.program_counter + 1))) _
     _ (c.memory.ensures ∙ ap memory_of c.store.ensures) c.in-Ok.ensures.instruction
     (went_then _ (two_values _ _ c.in_ok-x.ensures c.in_ok-y.ensures) (c.two.ensures characters))

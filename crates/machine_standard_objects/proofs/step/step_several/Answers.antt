@@ -24,6 +24,7 @@ returns-in_err-operand_values-clause-told c =
 
 pub returns-clause-told : goal.returns-clause-told
 returns-clause-told c =
-    told_executes c.args.characters.now _ c.args.here _ (λ l. completed l (variable_form l c.args.first (c.args.here.program_counter + 1)))
+    told_executes c.args.characters.now _ c.args.here _
+    (λ l. completed l (variable_form l c.args.first (c.args.here.program_counter + 1)))
     _ _ (c.memory-memory.ensures ∙ ap memory_of c.store.ensures) c.in-Ok.ensures.instruction
     (told_then _ (told_went _ _ c.in_ok-operand_values.ensures.went) c.several.ensures.told)

@@ -18,7 +18,8 @@ returns-in-Err-clause-told c = told_halts c.args.characters.now _ _ c.args.here 
 pub returns-in_err-x-clause-told : goal.returns-in_err-x-clause-told
 returns-in_err-x-clause-told c =
     told_err _ c.from_residual.ensures.1
-    (told_executes c.args.characters.now _ c.args.here _ (λ l. completed l (short_form c.args.first (c.args.here.program_counter + 1)))
+    (told_executes c.args.characters.now _ c.args.here _
+    (λ l. completed l (short_form c.args.first (c.args.here.program_counter + 1)))
     _ _ (c.memory.ensures ∙ ap memory_of c.store.ensures) c.in-Ok.ensures.instruction
     (told_went _ _ (went_no_further _ (first_stops _ _ c.in_err-x.ensures))))
 

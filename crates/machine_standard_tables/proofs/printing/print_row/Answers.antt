@@ -20,7 +20,8 @@ overflow_add-at c = omega (arith, c.requires.row c.loop-i.i c.loop-i-test.true, 
 
 pub byte-code-requires : goal.byte-code-requires
 byte-code-requires c =
-    let same = told_memory _ _ _ _ _ _ c.loop-i.invariant.told in
+    let m = memory_of c.args.store.now.store in
+    let same = told_memory _ _ _ _ c.args.characters.now (take c.loop-i.i (drop c.args.at m)) c.loop-i.invariant.told in
     let at = c.args.at + c.loop-i.i in
     subst (λ (l : List ℕ). at < length l) (sym (ap memory_of c.store.ensures ∙ same))
     (c.requires.row c.loop-i.i c.loop-i-test.true)
@@ -29,7 +30,7 @@ pub returns-in_err-print_code-clause-told : goal.returns-in_err-print_code-claus
 returns-in_err-print_code-clause-told c =
     let m = memory_of c.args.store.now.store in
     let i = c.loop-i.i in
-    let same = told_memory _ _ _ _ _ _ c.loop-i.invariant.told in
+    let same = told_memory _ _ _ _ c.args.characters.now (take i (drop c.args.at m)) c.loop-i.invariant.told in
     let byte : c.byte-code.result ≡ slice_index (drop c.args.at m) i = c.byte-code.ensures
     ∙ ap (λ l. slice_index l (c.args.at + i)) (ap memory_of c.store.ensures ∙ same) ∙ sym (get_or-drop c.args.at m i 0) in
     told_err _ c.from_residual.ensures.1
@@ -41,7 +42,7 @@ pub loop-i-preserved : goal.loop-i-preserved
 loop-i-preserved c =
     let m = memory_of c.args.store.now.store in
     let i = c.loop-i.i in
-    let same = told_memory _ _ _ _ _ _ c.loop-i.invariant.told in
+    let same = told_memory _ _ _ _ c.args.characters.now (take i (drop c.args.at m)) c.loop-i.invariant.told in
     let byte : c.byte-code.result ≡ slice_index (drop c.args.at m) i = c.byte-code.ensures
     ∙ ap (λ l. slice_index l (c.args.at + i)) (ap memory_of c.store.ensures ∙ same) ∙ sym (get_or-drop c.args.at m i 0) in
     record {

@@ -1,6 +1,6 @@
 use Rattle.std.proofs.Common.{ℕ, List, ◌≡◌, ◌+◌, ◌*◌, ◌<◌, ◌∙◌, arith, drop, length, subst, sym, Ok, Err}
 use Rattle.zcore_standard.specs.Characters.{print_codes}
-use Rattle.zcore_standard.specs.Tables.{rows}
+use Rattle.zcore_standard.specs.Tables.{row_division, rows}
 use Rattle.machine_frames.specs.Contents.{memory_of}
 use Rattle.machine_frames.specs.Went.{Told}
 use Rattle.machine_frames.proofs.Steps.{told_err}
@@ -20,15 +20,16 @@ pub returns-in_err-print_row_division-clause-told : goal.returns-in_err-print_ro
 returns-in_err-print_row_division-clause-told c =
     let m = memory_of c.args.store.now.store in
     told_err _ c.from_residual.ensures.1
-    (division_cut c.args.characters.now m c.args.table c.args.width c.args.skip c.loop-row.row c.args.height c.loop-row-test.true
-    c.loop-row.invariant.told c.in_err-print_row_division.ensures.told)
+    (division_cut c.args.characters.now m c.args.table c.args.width c.args.skip c.loop-row.row c.args.height
+    c.loop-row-test.true c.loop-row.invariant.told c.in_err-print_row_division.ensures.told)
 
 pub print_row-requires-clause-row : goal.print_row-requires-clause-row
 print_row-requires-clause-row c =
     let m = memory_of c.args.store.now.store in
     let same : memory_of c.print_row_division.new.store.store ≡ m =
-    told_memory _ _ _ _ _ _ c.in_ok-print_row_division.ensures.told
-    ∙ told_memory _ _ _ _ _ _ c.loop-row.invariant.told in
+    told_memory _ _ _ _ c.args.characters.now (row_division c.loop-row.row) c.in_ok-print_row_division.ensures.told
+    ∙ told_memory _ _ _ _ c.args.characters.now (rows m c.args.table c.args.width c.args.skip c.loop-row.row)
+    c.loop-row.invariant.told in
     λ i lt. subst (λ (l : List ℕ). c.args.table + c.loop-row.row * (c.args.width + c.args.skip) + i < length l)
     (sym same)
     (row_inside m c.args.table c.args.width c.args.height c.args.skip c.loop-row.row i c.requires.readable
@@ -39,15 +40,17 @@ returns-in_err-print_row-clause-told c =
     let m = memory_of c.args.store.now.store in
     let a = c.args in
     let same : memory_of c.print_row_division.new.store.store ≡ m =
-    told_memory _ _ _ _ _ _ c.in_ok-print_row_division.ensures.told
-    ∙ told_memory _ _ _ _ _ _ c.loop-row.invariant.told in
+    told_memory _ _ _ _ c.args.characters.now (row_division c.loop-row.row) c.in_ok-print_row_division.ensures.told
+    ∙ told_memory _ _ _ _ c.args.characters.now (rows m c.args.table c.args.width c.args.skip c.loop-row.row)
+    c.loop-row.invariant.told in
     told_err _ c.from_residual-in_err-print_row.ensures.1
-    (row_cut c.args.characters.now m a.table a.width a.skip c.loop-row.row a.height c.loop-row-test.true c.loop-row.invariant.told
-    c.in_ok-print_row_division.ensures.told
+    (row_cut c.args.characters.now m a.table a.width a.skip c.loop-row.row a.height c.loop-row-test.true
+    c.loop-row.invariant.told c.in_ok-print_row_division.ensures.told
     (subst
     (λ (l : List ℕ). Told (Err c.in_err-print_row.field-0.0) c.print_row_division.new.store
     (drop a.start c.print_row_division.new.text.items) c.print_row.new.store
-    (drop a.start c.print_row.new.text.items) (print_codes c.args.characters.now (row_of l a.table a.width a.skip c.loop-row.row)))
+    (drop a.start c.print_row.new.text.items)
+    (print_codes c.args.characters.now (row_of l a.table a.width a.skip c.loop-row.row)))
     same c.in_err-print_row.ensures.told))
 
 pub loop-row-preserved : goal.loop-row-preserved
@@ -55,15 +58,17 @@ loop-row-preserved c =
     let m = memory_of c.args.store.now.store in
     let a = c.args in
     let same : memory_of c.print_row_division.new.store.store ≡ m =
-    told_memory _ _ _ _ _ _ c.in_ok-print_row_division.ensures.told
-    ∙ told_memory _ _ _ _ _ _ c.loop-row.invariant.told in
+    told_memory _ _ _ _ c.args.characters.now (row_division c.loop-row.row) c.in_ok-print_row_division.ensures.told
+    ∙ told_memory _ _ _ _ c.args.characters.now (rows m c.args.table c.args.width c.args.skip c.loop-row.row)
+    c.loop-row.invariant.told in
     record {
       told = rows_more c.args.characters.now m a.table a.width a.skip c.loop-row.row c.loop-row.invariant.told
           c.in_ok-print_row_division.ensures.told
           (subst
           (λ (l : List ℕ). Told (Ok tt) c.print_row_division.new.store
           (drop a.start c.print_row_division.new.text.items) c.print_row.new.store
-          (drop a.start c.print_row.new.text.items) (print_codes c.args.characters.now (row_of l a.table a.width a.skip c.loop-row.row)))
+          (drop a.start c.print_row.new.text.items)
+    (print_codes c.args.characters.now (row_of l a.table a.width a.skip c.loop-row.row)))
           same c.in_ok-print_row.ensures.told);
       grew = grew_after (grew_after c.loop-row.invariant.grew c.print_row_division.ensures.text)
           c.print_row.ensures.text;
@@ -75,5 +80,6 @@ returns-clause-told c =
     let all : c.loop-row.row ≡ c.args.height = omega arith in
     subst
     (λ n. Told (Ok tt) c.args.store.now (drop c.args.start c.args.text.now.items) c.loop-row.store
-    (drop c.args.start c.loop-row.text.items) (print_codes c.args.characters.now (rows m c.args.table c.args.width c.args.skip n)))
+    (drop c.args.start c.loop-row.text.items)
+    (print_codes c.args.characters.now (rows m c.args.table c.args.width c.args.skip n)))
     all c.loop-row.invariant.told

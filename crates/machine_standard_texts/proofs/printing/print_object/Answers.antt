@@ -10,7 +10,8 @@ returns-then-not-is_refused-clause-told c = kept c.print_object-done.result _ _
 
 pub print_any_object-requires-clause-store : goal.print_any_object-requires-clause-store
 print_any_object-requires-clause-store c = store_after c.requires.store
-    (refused_on c.print_object-done.result (sym c.is_refused.ensures ∙ c.if-not-is_refused.false) c.print_object-done.ensures.told)
+    (refused_on c.print_object-done.result (sym c.is_refused.ensures ∙ c.if-not-is_refused.false)
+    c.print_object-done.ensures.told)
 
 pub print_any_object-requires-clause-text : goal.print_any_object-requires-clause-text
 print_any_object-requires-clause-text c = begun_after c.requires.text c.print_object-done.ensures.text

@@ -10,7 +10,8 @@ returns-then-not-is_refused-clause-told c = kept c.print_return-done.result _ _
 
 pub print_any_return-requires-clause-store : goal.print_any_return-requires-clause-store
 print_any_return-requires-clause-store c = store_after c.requires.store
-    (refused_on c.print_return-done.result (sym c.is_refused.ensures ∙ c.if-not-is_refused.false) c.print_return-done.ensures.told)
+    (refused_on c.print_return-done.result (sym c.is_refused.ensures ∙ c.if-not-is_refused.false)
+    c.print_return-done.ensures.told)
 
 pub print_any_return-requires-clause-text : goal.print_any_return-requires-clause-text
 print_any_return-requires-clause-text c = begun_after c.requires.text c.print_return-done.ensures.text

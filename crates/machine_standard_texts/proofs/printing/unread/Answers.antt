@@ -17,6 +17,6 @@ returns-in-Character c = λ address h. text_unread c.args.store.now (memory_of c
     (subst (λ f. FailsText f (codes_at default_alphabets (memory_of c.args.store.now.store) address)) c.in-Character.is h)
 
 pub returns-in-Abbreviation : goal.returns-in-Abbreviation
-returns-in-Abbreviation c = λ address h. text_unread c.args.store.now (memory_of c.args.store.now.store) address Abbreviation
-    c.requires refl
+returns-in-Abbreviation c = λ address h. text_unread c.args.store.now (memory_of c.args.store.now.store) address
+    Abbreviation c.requires refl
     (subst (λ f. FailsText f (codes_at default_alphabets (memory_of c.args.store.now.store) address)) c.in-Abbreviation.is h)
