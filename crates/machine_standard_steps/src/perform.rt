@@ -167,7 +167,7 @@ fn perform_keeping(
     }
     match operation {
         Further::PrintUnicode => print_unicode(store, text, start, here, after, values[0]),
-        Further::PrintTable => print_rows(store, text, start, here, after, values),
+        Further::PrintTable => print_rows(store, text, start, loaded, here, after, values),
         _ => perform_quietly(header, store, here, operation, values, ending),
     }
 }
@@ -178,6 +178,7 @@ fn print_rows(
     store: &mut Recorded<Store>,
     text: &mut Vec<u8>,
     start: usize,
+    loaded: &Loaded,
     here: Next,
     after: u32,
     values: &[u16],
@@ -186,13 +187,22 @@ fn print_rows(
     requires text { HasBegun start text.old.items }
     requires enough { 2 ≤ length values.now }
     ensures told { ToldFrom start result store.old text.old.items store.new text.new.items
-        (tables.print_table here after (first values.now) (second values.now)
+        (tables.print_table loaded.now.characters here after (first values.now) (second values.now)
         (slice_index_or values.now 2 definitions.one_row) (definitions.fourth values.now)) }
     ensures text { Grew start text.old.items text.new.items }
 {
     let height = value_or(values, 2, ONE_ROW);
     let skip = value_or(values, 3, 0);
     print_table(
-        store, text, start, here, after, values[0], values[1], height, skip,
+        store,
+        text,
+        start,
+        loaded.characters(),
+        here,
+        after,
+        values[0],
+        values[1],
+        height,
+        skip,
     )
 }

@@ -195,8 +195,8 @@ perform_keeping_falls loaded operations.EncodeText here after result branch valu
     after (slice_index values 0) (slice_index values 1) (slice_index values 2) (slice_index_or values 3 0) ahead
 perform_keeping_falls loaded operations.CopyTable here after result branch values ahead = copy_table_falls here after
     (slice_index values 0) (slice_index values 1) (slice_index values 2) ahead
-perform_keeping_falls loaded operations.PrintTable here after result branch values ahead = print_table_falls here
-    after (slice_index values 0) (slice_index values 1) (slice_index_or values 2 one_row) (slice_index_or values 3 0)
+perform_keeping_falls loaded operations.PrintTable here after result branch values ahead = print_table_falls
+    loaded.characters here after (slice_index values 0) (slice_index values 1) (slice_index_or values 2 one_row) (slice_index_or values 3 0)
     ahead
 perform_keeping_falls loaded operations.Save here after result branch values ahead = give_result_falls here after
     result _ ahead

@@ -88,7 +88,7 @@ further_keeps loaded here s operation a plays quiet (inr r) =
 chosen_keeps : (loaded : Loaded) (here : Here) (s : State) (o : Option Further)
     → further_at s.memory here.next.program_counter ≡ o → ends_in_fault (step here.next s) ≡ false
     → closes_none here (step here.next s) ≡ true → chosen loaded o here s ≡ within here (step here.next s)
-chosen_keeps loaded here s None e plays quiet = ap (within here) (known_keeps here.next s plays)
+chosen_keeps loaded here s None e plays quiet = ap (within here) (known_keeps loaded.characters here.next s plays)
 chosen_keeps loaded here s (Some operation) e plays quiet =
     further_keeps loaded here s operation (stands s.memory here.next.program_counter operation e) plays quiet
     (step_refused here.next s operation e)

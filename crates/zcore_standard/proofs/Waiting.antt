@@ -132,7 +132,8 @@ waits_perform_keeping loaded operations.EncodeText here after result branch valu
     (slice_index values 0) (slice_index values 1) (slice_index values 2) (slice_index_or values 3 0)
 waits_perform_keeping loaded operations.CopyTable here after result branch values = waits_copy_table here after
     (slice_index values 0) (slice_index values 1) (slice_index values 2)
-waits_perform_keeping loaded operations.PrintTable here after result branch values = waits_print_table here after
+waits_perform_keeping loaded operations.PrintTable here after result branch values = waits_print_table
+    loaded.characters here after
     (slice_index values 0) (slice_index values 1) (slice_index_or values 2 one_row) (slice_index_or values 3 0)
 waits_perform_keeping loaded operations.Save here after result branch values = waits_give_result here after result _
 waits_perform_keeping loaded operations.Restore here after result branch values = waits_give_result here after result _
@@ -217,8 +218,8 @@ waits_execute_further loaded operation here (Ok x) = for_then _ _ (waits_operand
 
 waits_chosen_step : (loaded : Loaded) (here : Here) (s t : State) (o : Option Further)
     → chosen loaded o here s ≡ halt places.Waiting t → WaitsRight t
-waits_chosen_step loaded here s t None h = waits_right t (waits_step_known here.next s t
-    (halt_within here (step_known here.next s) t h))
+waits_chosen_step loaded here s t None h = waits_right t (waits_step_known loaded.characters here.next s t
+    (halt_within here (step_known loaded.characters here.next s) t h))
 waits_chosen_step loaded here s t (Some operation) h =
     waits_execute_further loaded operation here (decode_further s.memory here.next.program_counter operation) s t h
 

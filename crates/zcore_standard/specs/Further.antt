@@ -73,7 +73,7 @@ perform_keeping loaded EncodeText here after result branch values = encode_text 
     (first values) (second values) (third values) (fourth values)
 perform_keeping loaded CopyTable here after result branch values = copy_table here after
     (first values) (second values) (third values)
-perform_keeping loaded PrintTable here after result branch values = print_table here after
+perform_keeping loaded PrintTable here after result branch values = print_table loaded.characters here after
     (first values) (second values) (slice_index_or values 2 one_row) (fourth values)
 perform_keeping loaded Save here after result branch values = give_result here after result failed
 perform_keeping loaded Restore here after result branch values = give_result here after result failed

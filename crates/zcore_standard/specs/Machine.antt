@@ -18,7 +18,7 @@ use Rattle.zcore_standard.specs.Reading.{standard_given}
 use Rattle.zcore_standard.specs.Nothing.{step_known}
 
 abbrev pub chosen : Loaded → Option Further → Here → State → Out Here
-chosen loaded None here s = within here (step_known here.next s)
+chosen loaded None here s = within here (step_known loaded.characters here.next s)
 chosen loaded (Some operation) here s =
     execute_further loaded operation here (decode_further s.memory here.next.program_counter operation) s
 
