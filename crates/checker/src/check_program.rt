@@ -17,7 +17,7 @@ use crate::abbreviation_rules::{abbreviation_rules, all_abbreviations};
 use crate::directive_rules::all_directives;
 use crate::main_rules::main_number;
 use checker_arrays::bytes_of_arrays;
-use checker_names::{File, Least, Numbers, gather, tabulate};
+use checker_names::{Breach, File, Least, Numbers, gather, tabulate};
 use checker_objects::{all_defaults, listed_objects_size, parents, place};
 use meaning::{Checked, dictionary_behind};
 use std::alloc::{AllocError, Global};
