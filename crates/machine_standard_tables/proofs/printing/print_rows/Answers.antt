@@ -68,7 +68,7 @@ loop-row-preserved c =
           (λ (l : List ℕ). Told (Ok tt) c.print_row_division.new.store
           (drop a.start c.print_row_division.new.text.items) c.print_row.new.store
           (drop a.start c.print_row.new.text.items)
-    (print_codes c.args.characters.now (row_of l a.table a.width a.skip c.loop-row.row)))
+          (print_codes c.args.characters.now (row_of l a.table a.width a.skip c.loop-row.row)))
           same c.in_ok-print_row.ensures.told);
       grew = grew_after (grew_after c.loop-row.invariant.grew c.print_row_division.ensures.text)
           c.print_row.ensures.text;
