@@ -3,7 +3,7 @@
 use messages_explanations::Program;
 use session::{Mode, Place, Session};
 use std::fmt;
-use survey_opcodes::{Numbering, Opcode};
+use survey_opcodes::Opcode;
 use zcore::Fault;
 
 /// Where a story stands. `Display` writes it in words, a fault as `M7: division by zero at 0F31`.
@@ -111,8 +111,8 @@ fn wrong_in_profile(opcode: Opcode) -> &'static str {
     }
 }
 
-/// What is wrong with an opcode with `--standard`: it is not played yet, it is none that the
-/// Standard names, or it has operands that it does not take.
+/// What is wrong with an opcode with `--standard`: the Standard does not name it, or it has operands
+/// that it does not take.
 fn wrong_in_standard(opcode: Opcode) -> &'static str {
     match opcode.name() {
         Some(_) => "has operands that it does not take",

@@ -16,6 +16,9 @@ returns-in-Some c =
     let rules = program_breaches (program_tree c.args.program.now) in
     let first = later_law rules c.new-least.result c.args.known (Some c.in-Some.breach)
     c.new-least.ensures.after c.new-least.ensures.found
-    (ap (λ (l : Least). l.found) (sym c.in_ok-resolve.ensures.breaches) ∙ c.in-Some.is) in
-    (first.0, first.1, ap (λ (l : Least). l.count) c.in_ok-resolve.ensures.breaches
-    ∙ later_count rules c.new-least.result c.args.known c.new-least.ensures.after c.new-least.ensures.count)
+    (ap (λ (l : Least). l.found) (sym c.in_ok-resolve.ensures.breaches) ∙ c.in-Some.is) in (
+      first.0,
+      first.1,
+      ap (λ (l : Least). l.count) c.in_ok-resolve.ensures.breaches
+          ∙ later_count rules c.new-least.result c.args.known c.new-least.ensures.after c.new-least.ensures.count,
+    )
