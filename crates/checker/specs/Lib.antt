@@ -3,3 +3,4 @@ pub mod Checked
 pub mod Resolving
 pub mod Laws
 pub mod Places
+pub mod Next

@@ -7,7 +7,7 @@ ghost use Rattle.checker_names.specs.Noted.{noted};
 ghost use Rattle.meaning.specs.Places as places;
 ghost use Rattle.checker.specs.Programs as spec;
 
-use checker_names::{Breach, note};
+use checker_names::{Least, note};
 use meaning::machine_character;
 use std::alloc::{AllocError, Global};
 use syntax::Text;
@@ -27,7 +27,7 @@ fn has_text(texts: &[Text<'_>], bytes: &[u8]) -> bool
 
 // An abbreviation that follows these.
 #[tactic(auto, using(checker_names::proofs::Noted::noted_none))]
-fn text_rule(before: &[Text<'_>], text: Text<'_>, least: &mut Option<Breach>)
+fn text_rule(before: &[Text<'_>], text: Text<'_>, least: &mut Least)
     ensures { least.new ≡ noted least.old
         (spec.abbreviation_breaches (map text_tree before.now) (text_tree text.entry)) }
 {
@@ -40,7 +40,7 @@ fn text_rule(before: &[Text<'_>], text: Text<'_>, least: &mut Option<Breach>)
 
 /// Notes the rules that abbreviations break. Each is compared with no more than the first 96
 /// ([`MOST_ABBREVIATIONS`]).
-pub fn abbreviation_rules(texts: &[Text<'_>], least: &mut Option<Breach>)
+pub fn abbreviation_rules(texts: &[Text<'_>], least: &mut Least)
     ensures { least.new ≡ noted least.old
         (spec.abbreviations_breaches [] (map text_tree texts.now)) }
 {

@@ -11,12 +11,13 @@ ghost use Rattle.checker_names.specs.Keys.{keys_of};
 ghost use Rattle.checker.specs.Places.{StandsAtFirst};
 ghost use Rattle.checker.specs.Programs.{program_breaches, no_numbers, file_of};
 ghost use Rattle.checker.specs.Checked.{IsCheckedOf};
+ghost use Rattle.checker.specs.Next.{AnswersNext};
 
 use crate::abbreviation_rules::{abbreviation_rules, all_abbreviations};
 use crate::directive_rules::all_directives;
 use crate::main_rules::main_number;
 use checker_arrays::bytes_of_arrays;
-use checker_names::{Breach, File, Numbers, gather, tabulate};
+use checker_names::{Breach, File, Least, Numbers, gather, tabulate};
 use checker_objects::{all_defaults, listed_objects_size, parents, place};
 use meaning::{Checked, dictionary_behind};
 use std::alloc::{AllocError, Global};
@@ -30,7 +31,7 @@ fn resolve_with<'a>(
     program: &Program<'a>,
     alloc: Global,
     file: File,
-    least: &mut Option<Breach>,
+    least: &mut Least,
 ) -> Result<Checked<'a>, AllocError>
     requires file { file_in file ≡ file_of (program_tree program.now) }
     requires keys { file.numbers.keys.items ≡ keys_of (program_tree program.now).words }
@@ -98,7 +99,7 @@ fn numbered(program: &Program<'_>, alloc: Global) -> Result<File, AllocError>
 fn resolve<'a>(
     program: &Program<'a>,
     alloc: Global,
-    least: &mut Option<Breach>,
+    least: &mut Least,
 ) -> Result<Checked<'a>, AllocError>
     ensures value { IfOk result (λ c. program_breaches (program_tree program.now) ≡ []
         → IsCheckedOf (program_tree program.now) c) }
@@ -142,9 +143,9 @@ pub fn check_placed<'a>(alloc: Global, program: &Program<'a>) -> Result<Checked<
     ensures stands { IfErr result (λ e. (e ≡ nowhere no_memory)
         ⊎ StandsAtFirst e (program_breaches (program_tree program.now))) }
 {
-    let mut least = None;
+    let mut least = Least::new(None);
     match resolve(program, alloc, &mut least) {
-        Ok(checked) => match least {
+        Ok(checked) => match least.found {
             None => Ok(checked),
             Some(breach) => Err(PlacedFault {
                 fault: breach.fault(),
@@ -152,5 +153,39 @@ pub fn check_placed<'a>(alloc: Global, program: &Program<'a>) -> Result<Checked<
             }),
         },
         Err(refused) => Err(PlacedFault::from(refused)),
+    }
+}
+
+/// A broken rule after one that is known.
+#[derive(Clone, Copy)]
+pub struct NextBreach {
+    /// The first one after it.
+    pub breach: Breach,
+
+    /// How many there are after it, at most [`checker_names::MOST_COUNTED`].
+    pub count: u32,
+}
+
+/// The first broken rule of a program after one that is known. `None` if there is none after it.
+///
+/// # Errors
+///
+/// `AllocError` where memory is refused.
+pub fn next_breach(
+    alloc: Global,
+    program: &Program<'_>,
+    known: Breach,
+) -> Result<Option<NextBreach>, AllocError>
+    ensures { IfOk result (λ next. AnswersNext known next
+        (program_breaches (program_tree program.now))) }
+{
+    let mut least = Least::new(Some(known));
+    drop(resolve(program, alloc, &mut least)?);
+    match least.found {
+        None => Ok(None),
+        Some(breach) => Ok(Some(NextBreach {
+            breach,
+            count: least.count,
+        })),
     }
 }

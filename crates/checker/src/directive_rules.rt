@@ -18,7 +18,7 @@ ghost use Rattle.zcore.specs.Layout.{most_locals};
 ghost use Rattle.syntax_lexer.specs.FaultNumbers.{too_many};
 
 use checker_arrays::array;
-use checker_names::{Binding, Breach, File, Names, Scope, Table, define, note};
+use checker_names::{Binding, File, Least, Names, Scope, Table, define, note};
 use checker_objects::{object, twice};
 use checker_statements::all_statements;
 use checker_values::{constant_value, initial};
@@ -32,7 +32,7 @@ use syntax_trees::Name;
 use zcore::layout::{ATTRIBUTE_COUNT, MOST_LOCALS};
 
 #[tactic(auto, using(checker_names::proofs::Noted::noted_none))]
-fn count_locals(number: usize, position: Position, least: &mut Option<Breach>)
+fn count_locals(number: usize, position: Position, least: &mut Least)
     ensures { least.new ≡ noted least.old
         (if nat_le most_locals number then at position too_many else []) }
 {
@@ -42,11 +42,7 @@ fn count_locals(number: usize, position: Position, least: &mut Option<Breach>)
 }
 
 // The locals of a routine, by their keys.
-fn locals(
-    names: &[Name<'_>],
-    alloc: Global,
-    least: &mut Option<Breach>,
-) -> Result<Table, AllocError>
+fn locals(names: &[Name<'_>], alloc: Global, least: &mut Least) -> Result<Table, AllocError>
     ensures table { IfOk result (λ t. (key : List ℕ)
         → in_table t.entries key ≡ local_binding (local_from 0 (map name_tree names.now) key)) }
     ensures breaches { OnOk result (least.new ≡ noted least.old
@@ -73,7 +69,7 @@ fn routine_in<'a>(
     routine: &Routine<'a>,
     alloc: Global,
     scope: &Scope<'_>,
-    least: &mut Option<Breach>,
+    least: &mut Least,
 ) -> Result<CheckedRoutine<'a>, AllocError>
     ensures { IfOk result (λ r. IsRoutineIn (seen_in scope.now) (routine_tree routine.now)
         least.old least.new r) }
@@ -94,7 +90,7 @@ fn routine<'a>(
     routine: &Routine<'a>,
     alloc: Global,
     file: &File,
-    least: &mut Option<Breach>,
+    least: &mut Least,
 ) -> Result<CheckedRoutine<'a>, AllocError>
     ensures { IfOk result (λ r. IsRoutineOf (file_in file.now) (routine_tree routine.now)
         least.old least.new r) }
@@ -128,7 +124,7 @@ pub struct ResolvedFile<'a> {
 
 // A name of a kind of which there may be so many.
 #[tactic(auto, using(checker_names::proofs::Noted::noted_none))]
-fn limit(name: Name<'_>, most: usize, before: usize, least: &mut Option<Breach>)
+fn limit(name: Name<'_>, most: usize, before: usize, least: &mut Least)
     ensures { least.new ≡ noted least.old (spec.limit_breaches most before (name_tree name.entry)) }
 {
     if before >= most {
@@ -141,7 +137,7 @@ fn global(
     value: &Option<Literal<'_>>,
     file: &File,
     names: &Names,
-    least: &mut Option<Breach>,
+    least: &mut Least,
 ) -> u16
     ensures value { result ≡ initial_value (file_in file.now) (optional_tree value.now) }
     ensures breaches { least.new ≡ noted least.old
@@ -153,7 +149,7 @@ fn global(
     initial(value, file, least)
 }
 
-fn attribute(name: Name<'_>, names: &Names, least: &mut Option<Breach>)
+fn attribute(name: Name<'_>, names: &Names, least: &mut Least)
     ensures { least.new ≡ noted least.old
         (spec.attribute_directive_breaches names.now.table.entries names.now.counts
         (name_tree name.entry)) }
@@ -173,7 +169,7 @@ fn property(
     value: &Option<Literal<'_>>,
     file: &File,
     names: &Names,
-    least: &mut Option<Breach>,
+    least: &mut Least,
 ) -> u16
     ensures value { result ≡ initial_value (file_in file.now) (optional_tree value.now) % 65536 }
     ensures breaches { least.new ≡ noted least.old
@@ -190,7 +186,7 @@ fn defined_object<'a>(
     alloc: Global,
     file: &File,
     names: &Names,
-    least: &mut Option<Breach>,
+    least: &mut Least,
 ) -> Result<CheckedObject<'a>, AllocError>
     ensures value { IfOk result (λ o. object_of o
         ≡ object_in (file_in file.now) (first_listed (object_tree written.now))) }
@@ -211,7 +207,7 @@ fn directive<'a>(
     file: &File,
     names: &Names,
     found: &mut ResolvedFile<'a>,
-    least: &mut Option<Breach>,
+    least: &mut Least,
 ) -> Result<(), AllocError>
     ensures added { OnOk result
         (IsAdded (file_in file.now) (directive_tree directive.now ∷ []) found.old found.new) }
@@ -267,7 +263,7 @@ fn add_all<'a>(
     file: &File,
     names: &mut Names,
     found: &mut ResolvedFile<'a>,
-    least: &mut Option<Breach>,
+    least: &mut Least,
 ) -> Result<(), AllocError>
     requires first { names.old.counts ≡ no_counts }
     ensures added { OnOk result
@@ -293,7 +289,7 @@ pub fn all_directives<'a>(
     directives: &[Directive<'a>],
     alloc: Global,
     file: &File,
-    least: &mut Option<Breach>,
+    least: &mut Least,
 ) -> Result<ResolvedFile<'a>, AllocError>
     ensures found { IfOk result
         (λ f. IsFound (file_in file.now) (map directive_tree directives.now) f) }

@@ -9,7 +9,7 @@ ghost use Rattle.checker_names.specs.Noted.{noted};
 ghost use Rattle.checker.specs.Programs.{main_key, position_or, main_breaches, routine_number};
 ghost use Rattle.checker.specs.Programs as spec;
 
-use checker_names::{Binding, Breach, Key, Table, find, key_of, note};
+use checker_names::{Binding, Key, Least, Table, find, key_of, note};
 use syntax::Directive;
 use syntax_lexer::{NO_PROPER_MAIN, Position};
 use syntax_trees::Name;
@@ -45,7 +45,7 @@ pub fn main_number(
     directives: &[Directive<'_>],
     end: Position,
     whole: &Table,
-    least: &mut Option<Breach>,
+    least: &mut Least,
 ) -> usize
     ensures value { result ≡ routine_number (in_table whole.now.entries main_key) }
     ensures breaches { least.new ≡ noted least.old

@@ -10,7 +10,7 @@ ghost use Rattle.checker_arrays.specs.Arrays as spec;
 ghost use Rattle.checker_arrays.specs.Entries.{most, number_bytes, own_entry_bytes};
 ghost use Rattle.checker_arrays.specs.Entries.{own_entry_breaches, IsArrayAdded};
 
-use checker_names::{Breach, File, Known, note, or_zero};
+use checker_names::{File, Known, Least, note, or_zero};
 use checker_values::literal;
 use meaning::Arrays;
 use meaning::limits::MOST_ARRAY_BYTES;
@@ -51,7 +51,7 @@ fn is_size(kind: ArrayKind, count: usize) -> bool
 
 // A number of entries, of the array whose name stands there.
 #[tactic(auto, using(checker_names::proofs::Noted::noted_none))]
-fn count_rule(position: Position, kind: ArrayKind, count: usize, least: &mut Option<Breach>)
+fn count_rule(position: Position, kind: ArrayKind, count: usize, least: &mut Least)
     ensures { least.new ≡ noted least.old (spec.count_breaches position kind count) }
 {
     if !is_size(kind, count) {
@@ -61,12 +61,7 @@ fn count_rule(position: Position, kind: ArrayKind, count: usize, least: &mut Opt
 
 // A size, and how many zeros it makes.
 #[tactic(auto, using(checker_names::proofs::Noted::noted_none))]
-fn zeros_of(
-    position: Position,
-    kind: ArrayKind,
-    size: Option<Known>,
-    least: &mut Option<Breach>,
-) -> usize
+fn zeros_of(position: Position, kind: ArrayKind, size: Option<Known>, least: &mut Least) -> usize
     ensures value { result ≡ spec.zeros kind size }
     ensures breaches { least.new ≡ noted least.old (spec.size_breaches position kind size) }
 {
@@ -117,7 +112,7 @@ fn add_zeros(bytes: &mut Vec<u8>, width: Width, count: usize) -> Result<(), Allo
 }
 
 #[tactic(auto, using(checker_names::proofs::Noted::noted_none))]
-fn byte_rule(position: Position, value: Known, least: &mut Option<Breach>)
+fn byte_rule(position: Position, value: Known, least: &mut Least)
     ensures { least.new ≡ noted least.old (spec.wide_breaches position widths.Byte value) }
 {
     match value {
@@ -131,7 +126,7 @@ fn byte_rule(position: Position, value: Known, least: &mut Option<Breach>)
 }
 
 #[tactic(auto, using(checker_names::proofs::Noted::noted_none))]
-fn wide_rule(position: Position, width: Width, value: Known, least: &mut Option<Breach>)
+fn wide_rule(position: Position, width: Width, value: Known, least: &mut Least)
     ensures { least.new ≡ noted least.old (spec.wide_breaches position width value) }
 {
     if let Width::Byte = width {
@@ -140,7 +135,7 @@ fn wide_rule(position: Position, width: Width, value: Known, least: &mut Option<
 }
 
 // An entry of an array.
-fn entry(value: &ArrayValue<'_>, width: Width, file: &File, least: &mut Option<Breach>) -> usize
+fn entry(value: &ArrayValue<'_>, width: Width, file: &File, least: &mut Least) -> usize
     ensures value { result ≡ spec.entry_value (file_in file.now) (value_tree value.now) }
     ensures breaches { least.new ≡ noted least.old
         (spec.entry_breaches file.now.table.entries width (value_tree value.now)) }
@@ -155,7 +150,7 @@ fn add_entries(
     width: Width,
     file: &File,
     bytes: &mut Vec<u8>,
-    least: &mut Option<Breach>,
+    least: &mut Least,
 ) -> Result<(), AllocError>
     ensures bytes { OnOk result (bytes.new.items ≡ bytes.old.items
         ++ flat_map (own_entry_bytes (file_in file.now) width) values.now) }
@@ -176,7 +171,7 @@ fn add_sized(
     kind: ArrayKind,
     file: &File,
     bytes: &mut Vec<u8>,
-    least: &mut Option<Breach>,
+    least: &mut Least,
 ) -> Result<(), AllocError>
     requires one { length values.now ≡ 1 }
     ensures bytes { OnOk result (bytes.new.items ≡ bytes.old.items ++ spec.bytes_of kind
@@ -198,7 +193,7 @@ fn add_listed(
     kind: ArrayKind,
     file: &File,
     bytes: &mut Vec<u8>,
-    least: &mut Option<Breach>,
+    least: &mut Least,
 ) -> Result<(), AllocError>
     requires several { length values.now ≢ 1 }
     ensures bytes { OnOk result (bytes.new.items ≡ bytes.old.items ++ spec.bytes_of kind
@@ -218,7 +213,7 @@ fn add_values(
     kind: ArrayKind,
     file: &File,
     bytes: &mut Vec<u8>,
-    least: &mut Option<Breach>,
+    least: &mut Least,
 ) -> Result<(), AllocError>
     ensures bytes { OnOk result (bytes.new.items ≡ bytes.old.items ++ spec.bytes_of kind
         (spec.entries_of (file_in file.now) kind (map value_tree values.now))) }
@@ -241,7 +236,7 @@ pub fn array(
     written: &Array<'_>,
     file: &File,
     found: &mut Arrays,
-    least: &mut Option<Breach>,
+    least: &mut Least,
 ) -> Result<(), AllocError>
     ensures added { OnOk result (IsArrayAdded
         (spec.array_bytes (file_in file.now) (array_tree written.now)) found.old found.new) }

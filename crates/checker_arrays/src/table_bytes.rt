@@ -7,7 +7,7 @@ ghost use Rattle.checker_names.specs.Scope.{file_in};
 ghost use Rattle.checker_arrays.specs.Arrays as spec;
 
 use crate::array_rules::array;
-use checker_names::File;
+use checker_names::{File, Least};
 use meaning::Arrays;
 use std::alloc::{AllocError, Global};
 use syntax::Directive;
@@ -19,7 +19,7 @@ fn add_array(directive: &Directive<'_>, file: &File, arrays: &mut Arrays) -> Res
 {
     match directive {
         Directive::Array(written) => {
-            let mut least = None;
+            let mut least = Least::new(None);
             array(written, file, arrays, &mut least)
         }
         Directive::Global(_, _) => Ok(()),

@@ -13,7 +13,7 @@ ghost use Rattle.checker_objects.specs.FirstListed.{first_listed, most_provided}
 ghost use Rattle.checker_objects.specs.Objects as spec;
 
 use crate::defined_twice::twice;
-use checker_names::{Binding, Breach, File, Table, define, find, key_of, note, or_zero};
+use checker_names::{Binding, File, Least, Table, define, find, key_of, note, or_zero};
 use checker_values::{attribute, literal, property};
 use indexmap::IndexMap;
 use meaning::limits::MOST_PROPERTY_WORDS;
@@ -28,7 +28,7 @@ use zcore::layout::{DEFAULT_COUNT, LONGEST_SHORT_NAME};
 const FEW_NAMES: usize = 8;
 
 #[tactic(auto, using(checker_names::proofs::Noted::noted_none))]
-fn short_rule(short: &Option<Text<'_>>, least: &mut Option<Breach>)
+fn short_rule(short: &Option<Text<'_>>, least: &mut Least)
     ensures { least.new ≡ noted least.old (spec.short_breaches (option_map text_tree short.now)) }
 {
     if let Some(text) = short {
@@ -40,7 +40,7 @@ fn short_rule(short: &Option<Text<'_>>, least: &mut Option<Breach>)
 
 // The number of a property's words. The grammar gives it one at least.
 #[tactic(auto, using(checker_names::proofs::Noted::noted_none))]
-fn count_rule(name: Name<'_>, values: &[ArrayValue<'_>], least: &mut Option<Breach>)
+fn count_rule(name: Name<'_>, values: &[ArrayValue<'_>], least: &mut Least)
     ensures { least.new ≡ noted least.old
         (spec.count_breaches name.entry.position (map value_tree values.now)) }
 {
@@ -51,7 +51,7 @@ fn count_rule(name: Name<'_>, values: &[ArrayValue<'_>], least: &mut Option<Brea
     }
 }
 
-fn word(value: &ArrayValue<'_>, file: &File, least: &mut Option<Breach>) -> u16
+fn word(value: &ArrayValue<'_>, file: &File, least: &mut Least) -> u16
     ensures value { result ≡ spec.word_of (file_in file.now) (value_tree value.now) }
     ensures breaches { least.new ≡ noted least.old
         (spec.value_breaches file.now.table.entries (value_tree value.now)) }
@@ -64,7 +64,7 @@ fn words(
     values: &[ArrayValue<'_>],
     alloc: Global,
     file: &File,
-    least: &mut Option<Breach>,
+    least: &mut Least,
 ) -> Result<Vec<u16>, AllocError>
     ensures words { IfOk result (λ v. v.items
         ≡ map (spec.word_of (file_in file.now)) (map value_tree values.now)) }
@@ -83,7 +83,7 @@ fn provided(
     written: &Property<'_>,
     alloc: Global,
     file: &File,
-    least: &mut Option<Breach>,
+    least: &mut Least,
 ) -> Result<(u8, Vec<u16>), AllocError>
     ensures value { IfOk result (λ x. property_of x
         ≡ spec.provided_of (file_in file.now) (property_tree written.now)) }
@@ -125,7 +125,7 @@ fn properties(
     written: &[Property<'_>],
     alloc: Global,
     file: &File,
-    least: &mut Option<Breach>,
+    least: &mut Least,
 ) -> Result<Vec<(u8, Vec<u16>)>, AllocError>
     ensures value { IfOk result (λ v. map property_of v.items
         ≡ spec.with_properties (file_in file.now) [] (map property_tree written.now)) }
@@ -146,7 +146,7 @@ fn note_provided(
     written: &[Property<'_>],
     alloc: Global,
     file: &File,
-    least: &mut Option<Breach>,
+    least: &mut Least,
 ) -> Result<(), AllocError>
     ensures { OnOk result (least.new ≡ noted least.old
         (flat_map (spec.provided_breaches file.now.table.entries)
@@ -166,7 +166,7 @@ fn provided_of_listed(
     written: &[Property<'_>],
     alloc: Global,
     file: &File,
-    least: &mut Option<Breach>,
+    least: &mut Least,
 ) -> Result<Vec<(u8, Vec<u16>)>, AllocError>
     ensures value { IfOk result (λ v. map property_of v.items
         ≡ spec.with_properties (file_in file.now) []
@@ -181,7 +181,7 @@ fn provided_of_listed(
     Ok(found)
 }
 
-fn given(name: Name<'_>, file: &File, least: &mut Option<Breach>) -> u8
+fn given(name: Name<'_>, file: &File, least: &mut Least) -> u8
     ensures value { result ≡ spec.given_of (file_in file.now) (name_tree name.entry) }
     ensures breaches { least.new ≡ noted least.old
         (spec.given_breaches file.now.table.entries (name_tree name.entry)) }
@@ -193,7 +193,7 @@ fn attributes(
     names: &[Name<'_>],
     alloc: Global,
     file: &File,
-    least: &mut Option<Breach>,
+    least: &mut Least,
 ) -> Result<Vec<u8>, AllocError>
     ensures value { IfOk result (λ v. v.items
         ≡ map (spec.given_of (file_in file.now)) (map name_tree names.now)) }
@@ -233,7 +233,7 @@ fn stands_among(name: Name<'_>, others: &[Name<'_>]) -> bool
 
 // A name that stands among those before it.
 #[tactic(auto, using(checker_names::proofs::Noted::noted_none))]
-fn again(name: Name<'_>, before: &[Name<'_>], least: &mut Option<Breach>)
+fn again(name: Name<'_>, before: &[Name<'_>], least: &mut Least)
     ensures { least.new ≡ noted least.old
         (spec.again (map name_tree before.now) (name_tree name.entry)) }
 {
@@ -243,7 +243,7 @@ fn again(name: Name<'_>, before: &[Name<'_>], least: &mut Option<Breach>)
 }
 
 // Two of one name, where each is compared with all before it: quick for few names.
-fn repeated_few(names: &[Name<'_>], least: &mut Option<Breach>)
+fn repeated_few(names: &[Name<'_>], least: &mut Least)
     ensures { least.new ≡ noted least.old (repeated_breaches [] (map name_tree names.now)) }
 {
     for number in 0..names.len() {
@@ -252,11 +252,7 @@ fn repeated_few(names: &[Name<'_>], least: &mut Option<Breach>)
 }
 
 // Two of one name, where each is looked up in a table of those before it: quick for many names.
-fn repeated_many(
-    names: &[Name<'_>],
-    alloc: Global,
-    least: &mut Option<Breach>,
-) -> Result<(), AllocError>
+fn repeated_many(names: &[Name<'_>], alloc: Global, least: &mut Least) -> Result<(), AllocError>
     ensures { OnOk result (least.new ≡ noted least.old
         (repeated_breaches [] (map name_tree names.now))) }
 {
@@ -270,7 +266,7 @@ fn repeated_many(
 }
 
 // Two of one name.
-fn repeated(names: &[Name<'_>], alloc: Global, least: &mut Option<Breach>) -> Result<(), AllocError>
+fn repeated(names: &[Name<'_>], alloc: Global, least: &mut Least) -> Result<(), AllocError>
     ensures { OnOk result (least.new ≡ noted least.old
         (repeated_breaches [] (map name_tree names.now))) }
 {
@@ -301,7 +297,7 @@ pub fn object<'a>(
     written: &Object<'a>,
     alloc: Global,
     file: &File,
-    least: &mut Option<Breach>,
+    least: &mut Least,
 ) -> Result<CheckedObject<'a>, AllocError>
     ensures value { IfOk result (λ o. object_of o
         ≡ spec.object_in (file_in file.now) (first_listed (object_tree written.now))) }

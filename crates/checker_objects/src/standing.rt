@@ -9,7 +9,7 @@ ghost use Rattle.checker_names.specs.Noted.{noted};
 ghost use Rattle.checker_objects.specs.Objects.{object_trees};
 ghost use Rattle.checker_objects.specs.Objects as spec;
 
-use checker_names::{Binding, Breach, Table, find, note};
+use checker_names::{Binding, Least, Table, find, note};
 use meaning::CheckedObject;
 use std::alloc::{AllocError, Global};
 use syntax::{Directive, Object};
@@ -51,7 +51,7 @@ fn is_next(above: Option<(usize, usize)>, arrows: usize) -> bool
 
 // The arrows of an object, where `above` is the latest before it that has fewer.
 #[tactic(auto, using(checker_names::proofs::Noted::noted_none))]
-fn arrow_rule(above: Option<(usize, usize)>, arrows: &[Position], least: &mut Option<Breach>)
+fn arrow_rule(above: Option<(usize, usize)>, arrows: &[Position], least: &mut Least)
     ensures { least.new ≡ noted least.old (spec.arrow_breaches above arrows.now) }
 {
     if !arrows.is_empty() && !is_next(above, arrows.len()) {
@@ -61,12 +61,7 @@ fn arrow_rule(above: Option<(usize, usize)>, arrows: &[Position], least: &mut Op
 
 // The name of a parent, by what it stands for: one of the objects before.
 #[tactic(auto, using(checker_names::proofs::Noted::noted_none))]
-fn parent_kind(
-    position: Position,
-    before: usize,
-    found: Option<Binding>,
-    least: &mut Option<Breach>,
-)
+fn parent_kind(position: Position, before: usize, found: Option<Binding>, least: &mut Least)
     ensures { least.new ≡ noted least.old (spec.parent_breaches position before found) }
 {
     match found {
@@ -87,7 +82,7 @@ fn parent_kind(
 }
 
 #[tactic(auto, using(checker_names::proofs::Noted::noted_none))]
-fn parent_rule(parent: &Option<Name<'_>>, whole: &Table, before: usize, least: &mut Option<Breach>)
+fn parent_rule(parent: &Option<Name<'_>>, whole: &Table, before: usize, least: &mut Least)
     ensures { least.new ≡ noted least.old
         (spec.named_parent_breaches whole.now.entries before (option_map name_tree parent.now)) }
 {
@@ -124,7 +119,7 @@ fn stand(
     whole: &Table,
     before: usize,
     chain: &mut Vec<(usize, usize)>,
-    least: &mut Option<Breach>,
+    least: &mut Least,
 ) -> Result<u16, AllocError>
     requires few { before < 2 ^ 63 }
     ensures value { IfOk result (λ p. p
@@ -155,7 +150,7 @@ pub fn parents(
     directives: &[Directive<'_>],
     alloc: Global,
     whole: &Table,
-    least: &mut Option<Breach>,
+    least: &mut Least,
 ) -> Result<Vec<u16>, AllocError>
     ensures value { IfOk result (λ v. v.items
         ≡ spec.parents_of whole.now.entries (object_trees (map directive_tree directives.now))) }

@@ -20,7 +20,7 @@ use Rattle.meaning.specs.Resolved.{Value, RangeOf, Action, Actions}
 use Rattle.meaning.specs.Views.{range_of, actions_of, action_of, case_of}
 use Rattle.meaning.specs.Views as views
 use Rattle.meaning.specs.Around.{in_switch}
-use Rattle.checker_names.specs.declared.breach.Breach.{Breach}
+use Rattle.checker_names.specs.declared.noting.Least.{Least}
 use Rattle.checker_names.specs.Noted.{noted}
 use Rattle.checker_names.specs.Names.{Seen}
 use Rattle.checker_values.specs.Walk.{IsWalked}
@@ -45,7 +45,7 @@ module _ (seen : Seen) where
   statements_resolve [] = refl
   statements_resolve (s ∷ ss) = ap (λ r. values.next (resolved_statement seen s) r) (statements_resolve ss)
 
-  pub statements_walked : (around : Around) (ss : List Statement) (found : List Action) {m n : Option Breach}
+  pub statements_walked : (around : Around) (ss : List Statement) (found : List Action) {m n : Least}
       → AreActions seen around ss m n found
       → IsWalked (statements_breaches seen.look around (trees_of (map statement_tree ss))) m n
       (actions_of found)
@@ -62,7 +62,7 @@ module _ (seen : Seen) where
   ranges_break [] = refl
   ranges_break (g ∷ gs) = ap (λ b. own_range_breaches seen g ++ b) (ranges_break gs)
 
-  ranges_walked : (gs : List Range) (found : List RangeOf) {m n : Option Breach} → AreRanges seen gs m n found
+  ranges_walked : (gs : List Range) (found : List RangeOf) {m n : Least} → AreRanges seen gs m n found
       → IsWalked (flat_map (range_breaches seen.look) (map range_tree gs)) m n found
       (map (resolve_range seen) (map range_tree gs))
   ranges_walked gs found {m = m} w = record {
@@ -71,7 +71,7 @@ module _ (seen : Seen) where
   }
 
   pub case_walked : (around : Around) (given : Vec Range × Vec Statement) (spans : Vec Span)
-      (body : Vec code_action.Action) (gs : List Range) (ss : List Statement) {m n o : Option Breach}
+      (body : Vec code_action.Action) (gs : List Range) (ss : List Statement) {m n o : Least}
       → gs ≡ given.0.items → ss ≡ given.1.items → AreRanges seen gs m n (map range_of spans.items)
       → AreActions seen around ss n o (map action_of body.items)
       → IsCase seen around given m o (case_of (spans, body))
@@ -83,7 +83,7 @@ module _ (seen : Seen) where
       (ranges_walked given.0.items (map range_of spans.items) ranges)
       (statements_walked around given.1.items (map action_of body.items) actions)
 
-  pub other_walked : (around : Around) (ss all : List Statement) (found : List Action) {m n : Option Breach}
+  pub other_walked : (around : Around) (ss all : List Statement) (found : List Action) {m n : Least}
       → ss ≡ all → AreActions seen around ss m n found
       → IsOther seen around (Some (map statement_tree all)) m n (Some found)
   other_walked around ss all found {m = m} same w = rw (sym same) (record {
@@ -120,7 +120,7 @@ module _ (seen : Seen) where
       (cases_resolve cs other)
 
   cases_walked : (around : Around) (cs : List (Vec Range × Vec Statement)) (other : Option (List StatementTree))
-      (found : List (List RangeOf × Actions)) (last : Option (List Action)) {m n o : Option Breach}
+      (found : List (List RangeOf × Actions)) (last : Option (List Action)) {m n o : Least}
       → AreCases seen around cs m n found → IsOther seen around other n o last
       → IsWalked (cases_breaches seen.look around (cases_of (map case_tree cs) other)) m o
       (views.cases_of found last) (resolve_cases seen (cases_of (map case_tree cs) other))
@@ -133,7 +133,7 @@ module _ (seen : Seen) where
 
   pub switch_walked : (around inside : Around) (p : Position) (e : ExpressionTree) (v : Value)
       (cs : List (Vec Range × Vec Statement)) (other : Option (List StatementTree))
-      (found : List (List RangeOf × Actions)) (last : Option (List Action)) {m n o q : Option Breach}
+      (found : List (List RangeOf × Actions)) (last : Option (List Action)) {m n o q : Least}
       → inside ≡ in_switch around → IsWhole seen p e m n v → AreCases seen inside cs n o found
       → IsOther seen inside other o q last
       → IsAction seen around (written.switch_on p e (cases_of (map case_tree cs) other)) m q

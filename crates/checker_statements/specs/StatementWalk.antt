@@ -10,6 +10,7 @@ use Rattle.syntax_statements.specs.Views.{CaseTree, trees_of, statement_tree, ca
 use Rattle.meaning.specs.declared.around.Around.{Around}
 use Rattle.meaning.specs.Resolved.{RangeOf, Action, Actions}
 use Rattle.checker_names.specs.declared.breach.Breach.{Breach}
+use Rattle.checker_names.specs.declared.noting.Least.{Least}
 use Rattle.checker_names.specs.Names.{Seen}
 use Rattle.checker_values.specs.Walk.{IsWalked}
 use Rattle.checker_statements.specs.Statements.{range_breaches, resolve_range, statement_breaches, statements_breaches}
@@ -48,20 +49,20 @@ module _ (seen : Seen) where
 
   -- Walks, from what was noted before to what is noted after
 
-  abbrev pub AreActions : Around → List Statement → Option Breach → Option Breach → List Action → Type 0
+  abbrev pub AreActions : Around → List Statement → Least → Least → List Action → Type 0
   AreActions around ss before after found = IsWalked (flat_map (own_statement_breaches around) ss) before after found
       (map resolved_statement ss)
 
-  abbrev pub IsCase : Around → Vec Range × Vec Statement → Option Breach → Option Breach → List RangeOf × Actions
+  abbrev pub IsCase : Around → Vec Range × Vec Statement → Least → Least → List RangeOf × Actions
       → Type 0
   IsCase around c before after found = IsWalked (own_case_breaches around c) before after found (resolved_case c)
 
-  abbrev pub AreCases : Around → List (Vec Range × Vec Statement) → Option Breach → Option Breach
+  abbrev pub AreCases : Around → List (Vec Range × Vec Statement) → Least → Least
       → List (List RangeOf × Actions) → Type 0
   AreCases around cs before after found =
       IsWalked (flat_map (own_case_breaches around) cs) before after found (map resolved_case cs)
 
-  abbrev pub IsOther : Around → Option (List StatementTree) → Option Breach → Option Breach → Option (List Action)
+  abbrev pub IsOther : Around → Option (List StatementTree) → Least → Least → Option (List Action)
       → Type 0
   IsOther around other before after found =
       IsWalked (other_breaches around other) before after found (resolved_other other)

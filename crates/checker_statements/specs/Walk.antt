@@ -17,6 +17,7 @@ use Rattle.meaning.specs.declared.resolved.Action as code_action
 use Rattle.meaning.specs.Resolved.{Value, RangeOf, Printed, Action}
 use Rattle.meaning.specs.Views.{boxed_value, action_of}
 use Rattle.checker_names.specs.declared.breach.Breach.{Breach}
+use Rattle.checker_names.specs.declared.noting.Least.{Least}
 use Rattle.checker_names.specs.Names.{Seen}
 use Rattle.checker_values.specs.Expressions.{resolve}
 use Rattle.checker_values.specs.Temporaries.{need}
@@ -66,12 +67,12 @@ module _ (seen : Seen) where
   -- Walks, from what was noted before to what is noted after
 
   -- a whole expression of what begins there
-  abbrev pub IsWhole : Position → ExpressionTree → Option Breach → Option Breach → Value → Type 0
+  abbrev pub IsWhole : Position → ExpressionTree → Least → Least → Value → Type 0
   IsWhole position e before after v = IsWalked (whole_breaches seen.look position e) before after v (resolve seen e)
 
   -- the parts of a `for`
 
-  abbrev pub IsPart : Option ExpressionTree → Option Breach → Option Breach → Option Value → Type 0
+  abbrev pub IsPart : Option ExpressionTree → Least → Least → Option Value → Type 0
   IsPart e before after v = IsWalked (part_breaches seen.look e) before after v (option_map (resolve seen) e)
 
   abbrev pub resolve_heading : HeadingTree → Option Value × Option Value × Option Value
@@ -81,47 +82,47 @@ module _ (seen : Seen) where
     option_map (resolve seen) h.behind,
   )
 
-  abbrev pub AreParts : HeadingTree → Option Breach → Option Breach
+  abbrev pub AreParts : HeadingTree → Least → Least
       → Option Value × Option Value × Option Value → Type 0
   AreParts h before after x =
       IsWalked (part_breaches seen.look h.before
       ++ (part_breaches seen.look h.test ++ part_breaches seen.look h.behind)) before after
       x (resolve_heading h)
 
-  abbrev pub IsHeading : Position → HeadingTree → Option Breach → Option Breach
+  abbrev pub IsHeading : Position → HeadingTree → Least → Least
       → Option Value × Option Value × Option Value → Type 0
   IsHeading position h before after x =
       IsWalked (heading_breaches seen.look position h.before h.test h.behind) before after x (resolve_heading h)
 
   -- what begins a case
 
-  abbrev pub IsRange : RangeTree → Option Breach → Option Breach → RangeOf → Type 0
+  abbrev pub IsRange : RangeTree → Least → Least → RangeOf → Type 0
   IsRange g before after r = IsWalked (range_breaches seen.look g) before after r (resolve_range seen g)
 
-  abbrev pub AreRanges : List Range → Option Breach → Option Breach → List RangeOf → Type 0
+  abbrev pub AreRanges : List Range → Least → Least → List RangeOf → Type 0
   AreRanges gs before after rs = IsWalked (flat_map own_range_breaches gs) before after rs (map resolved_range gs)
 
   -- the attributes of a `give`
 
-  abbrev pub IsFlag : Bool × Name → Option Breach → Option Breach → Bool × ℕ → Type 0
+  abbrev pub IsFlag : Bool × Name → Least → Least → Bool × ℕ → Type 0
   IsFlag x before after found = IsWalked (own_flag_breaches x) before after found (resolved_flag x)
 
-  abbrev pub AreFlags : List (Bool × Name) → Option Breach → Option Breach → List (Bool × ℕ) → Type 0
+  abbrev pub AreFlags : List (Bool × Name) → Least → Least → List (Bool × ℕ) → Type 0
   AreFlags xs before after found = IsWalked (flat_map own_flag_breaches xs) before after found (map resolved_flag xs)
 
-  abbrev pub IsItem : PrintItemTree → Option Breach → Option Breach → Printed → Type 0
+  abbrev pub IsItem : PrintItemTree → Least → Least → Printed → Type 0
   IsItem x before after i = IsWalked (item_breaches seen.look x) before after i (resolve_item seen x)
 
-  abbrev pub AreItems : List PrintItem → Option Breach → Option Breach → List Printed → Type 0
+  abbrev pub AreItems : List PrintItem → Least → Least → List Printed → Type 0
   AreItems xs before after is = IsWalked (flat_map own_item_breaches xs) before after is (map resolved_item xs)
 
   -- statements that stand in what is around them
 
-  abbrev pub IsAction : Around → StatementTree → Option Breach → Option Breach → Action → Type 0
+  abbrev pub IsAction : Around → StatementTree → Least → Least → Action → Type 0
   IsAction around s before after a = IsWalked (statement_breaches seen.look around s) before after a
       (resolve_statement seen s)
 
   -- what is answered, unless memory was refused: what the statement resolves to
-  abbrev pub GivesAction : {E : Type 0} → Around → Result code_action.Action E → Option Breach → Option Breach
+  abbrev pub GivesAction : {E : Type 0} → Around → Result code_action.Action E → Least → Least
       → StatementTree → Type 0
   GivesAction around result before after s = IfOk result (λ a. IsAction around s before after (action_of a))

@@ -11,7 +11,7 @@ ghost use Rattle.checker_values.specs.Expressions.{array_of_binding};
 ghost use Rattle.checker_statements.specs.Buffers as spec;
 ghost use Rattle.checker_statements.specs.Walk.{IsAction};
 
-use checker_names::{Binding, Breach, Scope, note};
+use checker_names::{Binding, Least, Scope, note};
 use meaning::Action;
 use syntax::ArrayKind;
 use syntax_lexer::{Position, UNKNOWN_NAME, WRONG_KIND};
@@ -29,7 +29,7 @@ fn is_of_bytes(kind: ArrayKind) -> bool
 }
 
 #[tactic(auto, using(checker_names::proofs::Noted::noted_none))]
-fn buffer_rules(position: Position, found: Option<Binding>, least: &mut Option<Breach>)
+fn buffer_rules(position: Position, found: Option<Binding>, least: &mut Least)
     ensures { least.new ≡ noted least.old (spec.buffer_breaches position found) }
 {
     match found {
@@ -71,7 +71,7 @@ fn same_array(
     position: Position,
     first: Option<Binding>,
     second: Option<Binding>,
-    least: &mut Option<Breach>,
+    least: &mut Least,
 )
     ensures { least.new ≡ noted least.old (spec.same_breaches position first second) }
 {
@@ -110,12 +110,7 @@ fn array_number(found: Option<Binding>) -> usize
 }
 
 /// Resolves the names of a `read`, and notes the rules that they break.
-pub fn read<'a>(
-    text: Name<'_>,
-    words: Name<'_>,
-    scope: &Scope<'_>,
-    least: &mut Option<Breach>,
-) -> Action<'a>
+pub fn read<'a>(text: Name<'_>, words: Name<'_>, scope: &Scope<'_>, least: &mut Least) -> Action<'a>
     ensures { (around : _) → IsAction (seen_in scope.now) around
         (trees.read_line (name_tree text.entry) (name_tree words.entry))
         least.old least.new (action_of result) }

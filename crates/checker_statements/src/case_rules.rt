@@ -9,7 +9,7 @@ ghost use Rattle.checker_names.specs.Scope.{look_in, seen_in};
 ghost use Rattle.checker_statements.specs.Statements as spec;
 ghost use Rattle.checker_statements.specs.Walk.{IsRange, AreRanges};
 
-use checker_names::{Breach, Scope, constant_known, key_of_word, or_zero};
+use checker_names::{Least, Scope, constant_known, key_of_word, or_zero};
 use checker_values::constant_name;
 use meaning::Span;
 use std::alloc::{AllocError, Global};
@@ -17,7 +17,7 @@ use syntax_statement_parts::{Literal, Range};
 
 // A value, which is known before a story runs. A local hides a constant.
 #[tactic(auto, using(checker_names::proofs::Noted::noted_none))]
-fn case_value(value: &Literal<'_>, scope: &Scope<'_>, least: &mut Option<Breach>) -> u16
+fn case_value(value: &Literal<'_>, scope: &Scope<'_>, least: &mut Least) -> u16
     ensures value { result ≡ spec.known_number (seen_in scope.now) (literal_tree value.now) }
     ensures breaches { least.new ≡ noted least.old
         (spec.known_breaches (look_in scope.now) (literal_tree value.now)) }
@@ -35,7 +35,7 @@ fn case_value(value: &Literal<'_>, scope: &Scope<'_>, least: &mut Option<Breach>
 
 // What a range holds for, whose first value is known.
 #[tactic(auto, using(checker_names::proofs::Noted::noted_none))]
-fn span(high: &Option<Literal<'_>>, scope: &Scope<'_>, low: u16, least: &mut Option<Breach>) -> Span
+fn span(high: &Option<Literal<'_>>, scope: &Scope<'_>, low: u16, least: &mut Least) -> Span
     ensures value { range_of result ≡ spec.range_to (seen_in scope.now) low
         (option_map literal_tree high.now) }
     ensures breaches { least.new ≡ noted least.old
@@ -47,7 +47,7 @@ fn span(high: &Option<Literal<'_>>, scope: &Scope<'_>, low: u16, least: &mut Opt
     }
 }
 
-fn range(range: &Range<'_>, scope: &Scope<'_>, least: &mut Option<Breach>) -> Span
+fn range(range: &Range<'_>, scope: &Scope<'_>, least: &mut Least) -> Span
     ensures { IsRange (seen_in scope.now) (range_tree range.now)
         least.old least.new (range_of result) }
 {
@@ -64,7 +64,7 @@ pub fn ranges(
     given: &[Range<'_>],
     alloc: Global,
     scope: &Scope<'_>,
-    least: &mut Option<Breach>,
+    least: &mut Least,
 ) -> Result<Vec<Span>, AllocError>
     ensures { IfOk result (λ v. AreRanges (seen_in scope.now) given.now
         least.old least.new (map range_of v.items)) }

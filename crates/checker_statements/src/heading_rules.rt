@@ -12,7 +12,7 @@ ghost use Rattle.checker_statements.specs.Walk.{need_of_heading};
 ghost use Rattle.checker_statements.specs.Walk.{part_fits, room_behind, IsPart, AreParts, IsHeading};
 ghost use Rattle.checker_statements.specs.Walk.{parts_of};
 
-use checker_names::{Breach, Scope, note};
+use checker_names::{Least, Scope, note};
 use checker_values::{boxed, fits};
 use meaning::Value;
 use meaning::limits::MOST_TEMPORARIES;
@@ -61,7 +61,7 @@ fn all_fit(heading: &Heading<'_>) -> bool
 }
 
 #[tactic(auto, using(checker_names::proofs::Noted::noted_none, checker_values::proofs::Needs::fits_not))]
-fn temporaries(heading: &Heading<'_>, position: Position, least: &mut Option<Breach>)
+fn temporaries(heading: &Heading<'_>, position: Position, least: &mut Least)
     ensures { least.new ≡ noted least.old
         (spec.room_breaches position (need_of_heading (heading_tree heading.now))) }
 {
@@ -75,7 +75,7 @@ fn part(
     given: &Option<Box<Expression<'_>>>,
     alloc: Global,
     scope: &Scope<'_>,
-    least: &mut Option<Breach>,
+    least: &mut Least,
 ) -> Result<Option<Box<Value>>, AllocError>
     ensures { IfOk result (λ v. IsPart (seen_in scope.now) (part_tree given.now)
         least.old least.new (option_map boxed_value v)) }
@@ -95,7 +95,7 @@ fn parts(
     given: &Heading<'_>,
     alloc: Global,
     scope: &Scope<'_>,
-    least: &mut Option<Breach>,
+    least: &mut Least,
 ) -> Result<(Option<Box<Value>>, Option<Box<Value>>, Option<Box<Value>>), AllocError>
     ensures { IfOk result (λ x. AreParts (seen_in scope.now) (heading_tree given.now)
         least.old least.new (parts_of x)) }
@@ -125,7 +125,7 @@ pub fn resolved_heading(
     alloc: Global,
     scope: &Scope<'_>,
     position: Position,
-    least: &mut Option<Breach>,
+    least: &mut Least,
 ) -> Result<(Option<Box<Value>>, Option<Box<Value>>, Option<Box<Value>>), AllocError>
     ensures { IfOk result (λ x. IsHeading (seen_in scope.now) position (heading_tree given.now)
         least.old least.new (parts_of x)) }

@@ -7,14 +7,14 @@ ghost use Rattle.checker_values.specs.Expressions.{variable_of_binding};
 ghost use Rattle.checker_statements.specs.Statements.{loop_breaches};
 ghost use Rattle.syntax_lexer.specs.FaultNumbers.{wrong_kind};
 
-use checker_names::{Binding, Breach, note};
+use checker_names::{Binding, Least, note};
 use meaning::Variable;
 use syntax_lexer::{Position, UNKNOWN_NAME, WRONG_KIND};
 use syntax_trees::Name;
 
 // A name of another kind than a variable; any will do for it.
 #[tactic(auto, using(checker_names::proofs::Noted::noted_none))]
-fn no_variable(position: Position, least: &mut Option<Breach>) -> Variable
+fn no_variable(position: Position, least: &mut Least) -> Variable
     ensures value { result ≡ Variable.Local 0 }
     ensures breaches { least.new ≡ noted least.old (at position wrong_kind) }
 {
@@ -24,7 +24,7 @@ fn no_variable(position: Position, least: &mut Option<Breach>) -> Variable
 
 /// The variable of an `objectloop`.
 #[tactic(auto, using(checker_names::proofs::Noted::noted_none))]
-pub fn loop_variable(name: Name<'_>, found: Option<Binding>, least: &mut Option<Breach>) -> Variable
+pub fn loop_variable(name: Name<'_>, found: Option<Binding>, least: &mut Least) -> Variable
     ensures value { result ≡ variable_of_binding found }
     ensures breaches { least.new ≡ noted least.old (loop_breaches name.entry.position found) }
 {

@@ -13,7 +13,7 @@ ghost use Rattle.checker_statements.specs.Statements.{outside_breaches, room_bre
 ghost use Rattle.checker_statements.specs.Walk.{IsWhole, IsFlag, AreFlags, IsItem, AreItems, GivesAction};
 
 use crate::buffer_rules::read;
-use checker_names::{Breach, Scope, note};
+use checker_names::{Least, Scope, note};
 use checker_values::{attribute, both_fit, boxed, expression, fits};
 use meaning::limits::MOST_TEMPORARIES;
 use meaning::{Action, Around, Printed, Value};
@@ -24,7 +24,7 @@ use syntax_statements::SimpleStatement;
 use syntax_trees::{Expression, Name};
 
 #[tactic(auto, using(checker_names::proofs::Noted::noted_none, checker_values::proofs::Needs::fits_not))]
-fn temporaries(e: &Expression<'_>, position: Position, least: &mut Option<Breach>)
+fn temporaries(e: &Expression<'_>, position: Position, least: &mut Least)
     ensures { least.new ≡ noted least.old (room_breaches position (need (expression_tree e.now))) }
 {
     if !fits(e, MOST_TEMPORARIES) {
@@ -43,7 +43,7 @@ pub fn whole(
     alloc: Global,
     scope: &Scope<'_>,
     position: Position,
-    least: &mut Option<Breach>,
+    least: &mut Least,
 ) -> Result<Value, AllocError>
     ensures { IfOk result (λ v. IsWhole (seen_in scope.now) position (expression_tree e.now)
         least.old least.new (value_of v)) }
@@ -62,7 +62,7 @@ pub fn boxed_whole(
     alloc: Global,
     scope: &Scope<'_>,
     position: Position,
-    least: &mut Option<Breach>,
+    least: &mut Least,
 ) -> Result<Box<Value>, AllocError>
     ensures { IfOk result (λ v. IsWhole (seen_in scope.now) position (expression_tree e.now)
         least.old least.new (boxed_value v)) }
@@ -76,7 +76,7 @@ fn item<'a>(
     printed: &PrintItem<'a>,
     alloc: Global,
     scope: &Scope<'_>,
-    least: &mut Option<Breach>,
+    least: &mut Least,
 ) -> Result<Printed<'a>, AllocError>
     ensures { IfOk result (λ x. IsItem (seen_in scope.now) (item_tree printed.now)
         least.old least.new (printed_of x)) }
@@ -108,7 +108,7 @@ fn items<'a>(
     printed: &[PrintItem<'a>],
     alloc: Global,
     scope: &Scope<'_>,
-    least: &mut Option<Breach>,
+    least: &mut Least,
 ) -> Result<Vec<Printed<'a>>, AllocError>
     ensures { IfOk result (λ v. AreItems (seen_in scope.now) printed.now
         least.old least.new (map printed_of v.items)) }
@@ -127,7 +127,7 @@ fn print<'a>(
     printed: &[PrintItem<'a>],
     alloc: Global,
     scope: &Scope<'_>,
-    least: &mut Option<Breach>,
+    least: &mut Least,
 ) -> Result<Action<'a>, AllocError>
     ensures { (around : _) → GivesAction (seen_in scope.now) around result least.old least.new
         (trees.print (map item_tree printed.now)) }
@@ -142,7 +142,7 @@ fn print_return<'a>(
     printed: &[PrintItem<'a>],
     alloc: Global,
     scope: &Scope<'_>,
-    least: &mut Option<Breach>,
+    least: &mut Least,
 ) -> Result<Action<'a>, AllocError>
     ensures { (around : _) → GivesAction (seen_in scope.now) around result least.old least.new
         (trees.print_return (map item_tree printed.now)) }
@@ -158,7 +158,7 @@ fn return_value<'a>(
     alloc: Global,
     scope: &Scope<'_>,
     position: Position,
-    least: &mut Option<Breach>,
+    least: &mut Least,
 ) -> Result<Action<'a>, AllocError>
     ensures { (around : _) → GivesAction (seen_in scope.now) around result least.old least.new
         (trees.return_value position (expression_tree e.now)) }
@@ -174,7 +174,7 @@ fn effect<'a>(
     alloc: Global,
     scope: &Scope<'_>,
     position: Position,
-    least: &mut Option<Breach>,
+    least: &mut Least,
 ) -> Result<Action<'a>, AllocError>
     ensures { (around : _) → GivesAction (seen_in scope.now) around result least.old least.new
         (trees.effect position (expression_tree e.now)) }
@@ -186,7 +186,7 @@ fn effect<'a>(
 }
 
 // An attribute of a `give`, and whether it is set.
-fn flag(given: &(bool, Name<'_>), scope: &Scope<'_>, least: &mut Option<Breach>) -> (bool, usize)
+fn flag(given: &(bool, Name<'_>), scope: &Scope<'_>, least: &mut Least) -> (bool, usize)
     ensures { IsFlag (seen_in scope.now) given.now least.old least.new result }
 {
     let (sets, name) = *given;
@@ -199,7 +199,7 @@ fn flags(
     given: &[(bool, Name<'_>)],
     alloc: Global,
     scope: &Scope<'_>,
-    least: &mut Option<Breach>,
+    least: &mut Least,
 ) -> Result<Vec<(bool, usize)>, AllocError>
     ensures { IfOk result (λ v. AreFlags (seen_in scope.now) given.now
         least.old least.new v.items) }
@@ -218,7 +218,7 @@ fn give<'a>(
     alloc: Global,
     scope: &Scope<'_>,
     position: Position,
-    least: &mut Option<Breach>,
+    least: &mut Least,
 ) -> Result<Action<'a>, AllocError>
     ensures { (around : _) → GivesAction (seen_in scope.now) around result least.old least.new
         (trees.give position (expression_tree e.now) (map flag_tree given.now)) }
@@ -238,7 +238,7 @@ fn move_temporaries(
     object: &Expression<'_>,
     parent: &Expression<'_>,
     position: Position,
-    least: &mut Option<Breach>,
+    least: &mut Least,
 )
     ensures { least.new ≡ noted least.old (room_breaches position
         (move_need (expression_tree object.now) (expression_tree parent.now))) }
@@ -254,7 +254,7 @@ fn move_to<'a>(
     alloc: Global,
     scope: &Scope<'_>,
     position: Position,
-    least: &mut Option<Breach>,
+    least: &mut Least,
 ) -> Result<Action<'a>, AllocError>
     ensures { (around : _) → GivesAction (seen_in scope.now) around result least.old least.new
         (trees.move position (expression_tree object.now) (expression_tree parent.now)) }
@@ -274,7 +274,7 @@ fn remove<'a>(
     alloc: Global,
     scope: &Scope<'_>,
     position: Position,
-    least: &mut Option<Breach>,
+    least: &mut Least,
 ) -> Result<Action<'a>, AllocError>
     ensures { (around : _) → GivesAction (seen_in scope.now) around result least.old least.new
         (trees.remove position (expression_tree e.now)) }
@@ -287,7 +287,7 @@ fn remove<'a>(
 
 // `break` or `continue`, which may stand there or not.
 #[tactic(auto, using(checker_names::proofs::Noted::noted_none))]
-fn outside(stands: bool, position: Position, least: &mut Option<Breach>)
+fn outside(stands: bool, position: Position, least: &mut Least)
     ensures { least.new ≡ noted least.old (outside_breaches stands position) }
 {
     if !stands {
@@ -305,7 +305,7 @@ pub fn simple<'a>(
     alloc: Global,
     scope: &Scope<'_>,
     around: Around,
-    least: &mut Option<Breach>,
+    least: &mut Least,
 ) -> Result<Action<'a>, AllocError>
     ensures { GivesAction (seen_in scope.now) around result least.old least.new
         (simple_tree s.now) }

@@ -15,7 +15,7 @@ use crate::case_rules::ranges;
 use crate::heading_rules::resolved_heading;
 use crate::loop_rules::loop_variable;
 use crate::simple_rules::{boxed_whole, simple, whole};
-use checker_names::{Breach, Scope};
+use checker_names::{Least, Scope};
 use meaning::{Action, Around, IN_LOOP, Span, in_switch};
 use std::alloc::{AllocError, Global};
 use syntax_lexer::Position;
@@ -32,7 +32,7 @@ fn statement<'a>(
     alloc: Global,
     scope: &Scope<'_>,
     around: Around,
-    least: &mut Option<Breach>,
+    least: &mut Least,
 ) -> Result<Action<'a>, AllocError>
     ensures { GivesAction (seen_in scope.now) around result least.old least.new
         (statement_tree s.now) }
@@ -81,7 +81,7 @@ fn boxed<'a>(
     alloc: Global,
     scope: &Scope<'_>,
     around: Around,
-    least: &mut Option<Breach>,
+    least: &mut Least,
 ) -> Result<Box<Action<'a>>, AllocError>
     ensures { IfOk result (λ x. IsAction (seen_in scope.now) around (statement_tree s.now.value)
         least.old least.new (action_of x.value)) }
@@ -99,7 +99,7 @@ fn sequence<'a>(
     alloc: Global,
     scope: &Scope<'_>,
     around: Around,
-    least: &mut Option<Breach>,
+    least: &mut Least,
 ) -> Result<Vec<Action<'a>>, AllocError>
     ensures { IfOk result (λ v. AreActions (seen_in scope.now) around all.now
         least.old least.new (map action_of v.items)) }
@@ -120,7 +120,7 @@ fn block<'a>(
     alloc: Global,
     scope: &Scope<'_>,
     around: Around,
-    least: &mut Option<Breach>,
+    least: &mut Least,
 ) -> Result<Action<'a>, AllocError>
     ensures { GivesAction (seen_in scope.now) around result least.old least.new
         (trees.block (trees_of (map statement_tree all.now))) }
@@ -139,7 +139,7 @@ fn if_then<'a>(
     scope: &Scope<'_>,
     around: Around,
     position: Position,
-    least: &mut Option<Breach>,
+    least: &mut Least,
 ) -> Result<Action<'a>, AllocError>
     ensures { GivesAction (seen_in scope.now) around result least.old least.new
         (trees.if_then position (expression_tree condition.now) (statement_tree body.now.value)) }
@@ -163,7 +163,7 @@ fn if_else<'a>(
     scope: &Scope<'_>,
     around: Around,
     position: Position,
-    least: &mut Option<Breach>,
+    least: &mut Least,
 ) -> Result<Action<'a>, AllocError>
     ensures { GivesAction (seen_in scope.now) around result least.old least.new
         (trees.if_else position (expression_tree condition.now) (statement_tree first.now.value)
@@ -190,7 +190,7 @@ fn while_do<'a>(
     alloc: Global,
     scope: &Scope<'_>,
     position: Position,
-    least: &mut Option<Breach>,
+    least: &mut Least,
 ) -> Result<Action<'a>, AllocError>
     ensures { (around : _) → GivesAction (seen_in scope.now) around result least.old least.new
         (trees.while_do position (expression_tree condition.now) (statement_tree body.now.value)) }
@@ -212,7 +212,7 @@ fn do_until<'a>(
     alloc: Global,
     scope: &Scope<'_>,
     position: Position,
-    least: &mut Option<Breach>,
+    least: &mut Least,
 ) -> Result<Action<'a>, AllocError>
     ensures { (around : _) → GivesAction (seen_in scope.now) around result least.old least.new
         (trees.do_until position (statement_tree body.now.value) (expression_tree condition.now)) }
@@ -234,7 +234,7 @@ fn for_loop<'a>(
     alloc: Global,
     scope: &Scope<'_>,
     position: Position,
-    least: &mut Option<Breach>,
+    least: &mut Least,
 ) -> Result<Action<'a>, AllocError>
     ensures { (around : _) → GivesAction (seen_in scope.now) around result least.old least.new
         (trees.for_loop position (heading_tree given.now).before (heading_tree given.now).test
@@ -258,7 +258,7 @@ fn each<'a>(
     name: Name<'_>,
     alloc: Global,
     scope: &Scope<'_>,
-    least: &mut Option<Breach>,
+    least: &mut Least,
 ) -> Result<Action<'a>, AllocError>
     ensures { (around : _) → GivesAction (seen_in scope.now) around result least.old least.new
         (trees.each (name_tree name.entry) (statement_tree body.now.value)) }
@@ -278,7 +278,7 @@ fn each_in<'a>(
     alloc: Global,
     scope: &Scope<'_>,
     position: Position,
-    least: &mut Option<Breach>,
+    least: &mut Least,
 ) -> Result<Action<'a>, AllocError>
     ensures { (around : _) → GivesAction (seen_in scope.now) around result least.old least.new
         (trees.each_in position (name_tree name.entry) (expression_tree parent.now)
@@ -303,7 +303,7 @@ fn each_where<'a>(
     alloc: Global,
     scope: &Scope<'_>,
     position: Position,
-    least: &mut Option<Breach>,
+    least: &mut Least,
 ) -> Result<Action<'a>, AllocError>
     ensures { (around : _) → GivesAction (seen_in scope.now) around result least.old least.new
         (trees.each_where position (name_tree name.entry) (expression_tree condition.now)
@@ -328,7 +328,7 @@ fn traversal<'a>(
     alloc: Global,
     scope: &Scope<'_>,
     position: Position,
-    least: &mut Option<Breach>,
+    least: &mut Least,
 ) -> Result<Action<'a>, AllocError>
     ensures { (around : _) → GivesAction (seen_in scope.now) around result least.old least.new
         (trees.loop_over position (loop_tree over.now) (statement_tree body.now.value)) }
@@ -349,7 +349,7 @@ fn one_case<'a>(
     alloc: Global,
     scope: &Scope<'_>,
     around: Around,
-    least: &mut Option<Breach>,
+    least: &mut Least,
 ) -> Result<(Vec<Span>, Vec<Action<'a>>), AllocError>
     ensures { IfOk result (λ x. IsCase (seen_in scope.now) around given.now
         least.old least.new (case_of x)) }
@@ -369,7 +369,7 @@ fn all_cases<'a>(
     alloc: Global,
     scope: &Scope<'_>,
     around: Around,
-    least: &mut Option<Breach>,
+    least: &mut Least,
 ) -> Result<Vec<(Vec<Span>, Vec<Action<'a>>)>, AllocError>
     ensures { IfOk result (λ v. AreCases (seen_in scope.now) around given.now
         least.old least.new (map case_of v.items)) }
@@ -391,7 +391,7 @@ fn otherwise<'a>(
     alloc: Global,
     scope: &Scope<'_>,
     around: Around,
-    least: &mut Option<Breach>,
+    least: &mut Least,
 ) -> Result<Option<Vec<Action<'a>>>, AllocError>
     ensures { IfOk result (λ x. IsOther (seen_in scope.now) around (other_tree other.now)
         least.old least.new (other_of x)) }
@@ -416,7 +416,7 @@ fn switch_on<'a>(
     scope: &Scope<'_>,
     inside: Around,
     position: Position,
-    least: &mut Option<Breach>,
+    least: &mut Least,
 ) -> Result<Action<'a>, AllocError>
     ensures { (around : _) → inside ≡ in_switch around
         → GivesAction (seen_in scope.now) around result least.old least.new
@@ -448,7 +448,7 @@ pub fn all_statements<'a>(
     alloc: Global,
     scope: &Scope<'_>,
     around: Around,
-    least: &mut Option<Breach>,
+    least: &mut Least,
 ) -> Result<Vec<Action<'a>>, AllocError>
     ensures { IfOk result (λ v. AreActions (seen_in scope.now) around all.now
         least.old least.new (map action_of v.items)) }

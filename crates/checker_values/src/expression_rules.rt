@@ -23,7 +23,7 @@ ghost use Rattle.checker_values.specs.Walk.{IsRoutine, IsArray, IsProperty, AreP
 ghost use Rattle.checker_values.specs.Walk.{IsTarget, IsAssigned, IsWalked, value_link};
 
 use crate::name_rules::{array, attribute, named, property, routine, target_of, value};
-use checker_names::{Binding, Breach, Scope, key_of_word, note};
+use checker_names::{Binding, Least, Scope, key_of_word, note};
 use meaning::{Value, Variable};
 use std::alloc::{AllocError, Global};
 use syntax_lexer::{NOT_ASSIGNABLE, Position};
@@ -89,7 +89,7 @@ fn is_place(e: &Expression<'_>) -> bool
 
 // What is assigned to and is no name, by whether it may be assigned to.
 #[tactic(auto, using(checker_names::proofs::Noted::noted_none))]
-fn not_place(place: bool, operator: Position, least: &mut Option<Breach>)
+fn not_place(place: bool, operator: Position, least: &mut Least)
     ensures { least.new ≡ noted least.old (if place then [] else at operator 26) }
 {
     if !place {
@@ -190,7 +190,7 @@ fn tested_value(
     object: Box<Value>,
     test: ObjectTest,
     found: Option<Binding>,
-    least: &mut Option<Breach>,
+    least: &mut Least,
 ) -> Value
     ensures value { value_of result ≡ tested_for test (value_of object.value) found }
     ensures breaches { least.new ≡ noted least.old
@@ -225,7 +225,7 @@ fn word(text: &[u8], alloc: Global, scope: &Scope<'_>) -> Result<Box<Value>, All
 
 // A name as an expression.
 #[inline(never)]
-fn named_value(name: &Name<'_>, scope: &Scope<'_>, least: &mut Option<Breach>) -> Value
+fn named_value(name: &Name<'_>, scope: &Scope<'_>, least: &mut Least) -> Value
     ensures { IsResolved (seen_in scope.now) (trees.named (name_tree name.now))
         least.old least.new (value_of result) }
 {
@@ -239,7 +239,7 @@ fn boxed_name(
     name: &Name<'_>,
     alloc: Global,
     scope: &Scope<'_>,
-    least: &mut Option<Breach>,
+    least: &mut Least,
 ) -> Result<Box<Value>, AllocError>
     ensures { GivesBoxed (seen_in scope.now) result least.old least.new
         (trees.named (name_tree name.now)) }
@@ -249,7 +249,7 @@ fn boxed_name(
 
 // The number of the routine that a name stands for, which is called with so many arguments.
 #[inline(never)]
-fn routine_of(name: &Name<'_>, given: usize, scope: &Scope<'_>, least: &mut Option<Breach>) -> usize
+fn routine_of(name: &Name<'_>, given: usize, scope: &Scope<'_>, least: &mut Least) -> usize
     ensures { IsRoutine (seen_in scope.now) (name_tree name.now) given
         least.old least.new result }
 {
@@ -258,7 +258,7 @@ fn routine_of(name: &Name<'_>, given: usize, scope: &Scope<'_>, least: &mut Opti
 
 // The number of the array that a name stands for.
 #[inline(never)]
-fn array_of(name: &Name<'_>, scope: &Scope<'_>, least: &mut Option<Breach>) -> usize
+fn array_of(name: &Name<'_>, scope: &Scope<'_>, least: &mut Least) -> usize
     ensures { IsArray (seen_in scope.now) (name_tree name.now) least.old least.new result }
 {
     array(*name, scope.look(name.text), least)
@@ -266,7 +266,7 @@ fn array_of(name: &Name<'_>, scope: &Scope<'_>, least: &mut Option<Breach>) -> u
 
 // The number of the property that a name stands for.
 #[inline(never)]
-fn property_of(name: &Name<'_>, scope: &Scope<'_>, least: &mut Option<Breach>) -> usize
+fn property_of(name: &Name<'_>, scope: &Scope<'_>, least: &mut Least) -> usize
     ensures { IsProperty (seen_in scope.now) name.now least.old least.new result }
 {
     property(*name, scope.look(name.text), least)
@@ -278,7 +278,7 @@ fn property_numbers(
     others: &[Name<'_>],
     alloc: Global,
     scope: &Scope<'_>,
-    least: &mut Option<Breach>,
+    least: &mut Least,
 ) -> Result<Vec<usize>, AllocError>
     ensures { IfOk result (λ numbers. AreProperties (seen_in scope.now) others.now
         least.old least.new numbers.items) }
@@ -302,7 +302,7 @@ pub fn expression(
     e: &Expression<'_>,
     alloc: Global,
     scope: &Scope<'_>,
-    least: &mut Option<Breach>,
+    least: &mut Least,
 ) -> Result<Value, AllocError>
     ensures { GivesValue (seen_in scope.now) result least.old least.new (expression_tree e.now) }
 {
@@ -330,7 +330,7 @@ pub fn boxed(
     e: &Expression<'_>,
     alloc: Global,
     scope: &Scope<'_>,
-    least: &mut Option<Breach>,
+    least: &mut Least,
 ) -> Result<Box<Value>, AllocError>
     ensures { GivesBoxed (seen_in scope.now) result least.old least.new (expression_tree e.now) }
 {
@@ -381,7 +381,7 @@ fn all_expressions(
     given: &[Expression<'_>],
     alloc: Global,
     scope: &Scope<'_>,
-    least: &mut Option<Breach>,
+    least: &mut Least,
 ) -> Result<Vec<Value>, AllocError>
     ensures { IfOk result (λ v. AreResolved (seen_in scope.now) given.now
         least.old least.new (map value_of v.items)) }
@@ -403,7 +403,7 @@ fn chain_links(
     links: &[(Binary, Expression<'_>)],
     alloc: Global,
     scope: &Scope<'_>,
-    least: &mut Option<Breach>,
+    least: &mut Least,
 ) -> Result<Vec<(Binary, Value)>, AllocError>
     ensures { IfOk result (λ v. AreLinks (seen_in scope.now) links.now
         least.old least.new (map value_link v.items)) }
@@ -426,7 +426,7 @@ fn variable(
     alloc: Global,
     scope: &Scope<'_>,
     operator: Position,
-    least: &mut Option<Breach>,
+    least: &mut Least,
 ) -> Result<Variable, AllocError>
     ensures { IfOk result (λ x. IsTarget (seen_in scope.now) operator (expression_tree e.now)
         least.old least.new x) }
@@ -448,7 +448,7 @@ fn call(
     name: &Name<'_>,
     alloc: Global,
     scope: &Scope<'_>,
-    least: &mut Option<Breach>,
+    least: &mut Least,
 ) -> Result<Box<Value>, AllocError>
     ensures { GivesBoxed (seen_in scope.now) result least.old least.new
         (trees.call (name_tree name.now) (trees_of (map expression_tree given.now))) }
@@ -468,7 +468,7 @@ fn index(
     alloc: Global,
     scope: &Scope<'_>,
     width: Width,
-    least: &mut Option<Breach>,
+    least: &mut Least,
 ) -> Result<Box<Value>, AllocError>
     ensures { GivesBoxed (seen_in scope.now) result least.old least.new
         (trees.index (name_tree name.now) width (expression_tree operand.now)) }
@@ -487,7 +487,7 @@ fn relative_of(
     alloc: Global,
     scope: &Scope<'_>,
     relative: Relative,
-    least: &mut Option<Breach>,
+    least: &mut Least,
 ) -> Result<Box<Value>, AllocError>
     ensures { GivesBoxed (seen_in scope.now) result least.old least.new
         (trees.relative_of relative (expression_tree object.now)) }
@@ -506,7 +506,7 @@ fn properties(
     others: &[Name<'_>],
     alloc: Global,
     scope: &Scope<'_>,
-    least: &mut Option<Breach>,
+    least: &mut Least,
 ) -> Result<Box<Value>, AllocError>
     ensures { GivesBoxed (seen_in scope.now) result least.old least.new
         (propertied (trees.property (expression_tree object.now) (name_tree name.now))
@@ -529,7 +529,7 @@ fn length_of(
     name: &Name<'_>,
     alloc: Global,
     scope: &Scope<'_>,
-    least: &mut Option<Breach>,
+    least: &mut Least,
 ) -> Result<Box<Value>, AllocError>
     ensures { GivesBoxed (seen_in scope.now) result least.old least.new
         (trees.property_length (expression_tree object.now) (name_tree name.now)) }
@@ -549,7 +549,7 @@ fn property_entry(
     index: &Expression<'_>,
     alloc: Global,
     scope: &Scope<'_>,
-    least: &mut Option<Breach>,
+    least: &mut Least,
 ) -> Result<Box<Value>, AllocError>
     ensures { GivesBoxed (seen_in scope.now) result least.old least.new
         (trees.property_entry (expression_tree object.now) (name_tree name.now)
@@ -572,7 +572,7 @@ fn prefixed(
     alloc: Global,
     scope: &Scope<'_>,
     prefix: Prefix,
-    least: &mut Option<Breach>,
+    least: &mut Least,
 ) -> Result<Box<Value>, AllocError>
     ensures { GivesBoxed (seen_in scope.now) result least.old least.new
         (trees.prefixed prefix (expression_tree operand.now)) }
@@ -591,7 +591,7 @@ fn step_before(
     scope: &Scope<'_>,
     step: Step,
     position: Position,
-    least: &mut Option<Breach>,
+    least: &mut Least,
 ) -> Result<Box<Value>, AllocError>
     ensures { GivesBoxed (seen_in scope.now) result least.old least.new
         (trees.step_before step position (expression_tree operand.now)) }
@@ -610,7 +610,7 @@ fn step_after(
     scope: &Scope<'_>,
     step: Step,
     position: Position,
-    least: &mut Option<Breach>,
+    least: &mut Least,
 ) -> Result<Box<Value>, AllocError>
     ensures { GivesBoxed (seen_in scope.now) result least.old least.new
         (trees.step_after (expression_tree operand.now) step position) }
@@ -630,7 +630,7 @@ fn chain(
     alloc: Global,
     scope: &Scope<'_>,
     operator: Binary,
-    least: &mut Option<Breach>,
+    least: &mut Least,
 ) -> Result<Box<Value>, AllocError>
     ensures { GivesBoxed (seen_in scope.now) result least.old least.new
         (chained
@@ -657,7 +657,7 @@ fn compare(
     alloc: Global,
     scope: &Scope<'_>,
     comparison: Comparison,
-    least: &mut Option<Breach>,
+    least: &mut Least,
 ) -> Result<Box<Value>, AllocError>
     ensures { GivesBoxed (seen_in scope.now) result least.old least.new
         (trees.compare comparison (expression_tree left.now) (expression_tree right.now)) }
@@ -680,7 +680,7 @@ fn equal(
     alloc: Global,
     scope: &Scope<'_>,
     equality: Equality,
-    least: &mut Option<Breach>,
+    least: &mut Least,
 ) -> Result<Box<Value>, AllocError>
     ensures { GivesBoxed (seen_in scope.now) result least.old least.new
         (trees.equal equality (expression_tree left.now)
@@ -706,7 +706,7 @@ fn contained(
     alloc: Global,
     scope: &Scope<'_>,
     containment: Containment,
-    least: &mut Option<Breach>,
+    least: &mut Least,
 ) -> Result<Box<Value>, AllocError>
     ensures { GivesBoxed (seen_in scope.now) result least.old least.new
         (trees.contained containment (expression_tree left.now) (expression_tree right.now)) }
@@ -728,7 +728,7 @@ fn tested(
     alloc: Global,
     scope: &Scope<'_>,
     test: ObjectTest,
-    least: &mut Option<Breach>,
+    least: &mut Least,
 ) -> Result<Box<Value>, AllocError>
     ensures { GivesBoxed (seen_in scope.now) result least.old least.new
         (trees.tested test (expression_tree object.now) (name_tree name.now)) }
@@ -741,12 +741,7 @@ fn tested(
 }
 
 // A name as the left side of an assignment, whose operator stands at this position.
-fn left_name(
-    name: Name<'_>,
-    scope: &Scope<'_>,
-    operator: Position,
-    least: &mut Option<Breach>,
-) -> Value
+fn left_name(name: Name<'_>, scope: &Scope<'_>, operator: Position, least: &mut Least) -> Value
     ensures { IsWalked
         (target_breaches name.entry.position operator (look_in scope.now name.entry.text.now))
         least.old least.new (value_of result)
@@ -765,7 +760,7 @@ fn left_side(
     alloc: Global,
     scope: &Scope<'_>,
     operator: Position,
-    least: &mut Option<Breach>,
+    least: &mut Least,
 ) -> Result<Value, AllocError>
     ensures { IfOk result (λ v. IsAssigned (seen_in scope.now) operator (expression_tree e.now)
         least.old least.new (value_of v)) }
@@ -788,7 +783,7 @@ fn assign(
     alloc: Global,
     scope: &Scope<'_>,
     position: Position,
-    least: &mut Option<Breach>,
+    least: &mut Least,
 ) -> Result<Value, AllocError>
     ensures { GivesValue (seen_in scope.now) result least.old least.new
         (trees.assign (expression_tree left.now) position (expression_tree right.now)) }
@@ -812,7 +807,7 @@ fn boxed_assignment(
     alloc: Global,
     scope: &Scope<'_>,
     position: Position,
-    least: &mut Option<Breach>,
+    least: &mut Least,
 ) -> Result<Box<Value>, AllocError>
     ensures { GivesBoxed (seen_in scope.now) result least.old least.new
         (trees.assign (expression_tree left.now) position (expression_tree right.now)) }

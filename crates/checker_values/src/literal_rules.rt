@@ -8,14 +8,14 @@ ghost use Rattle.checker_names.specs.Noted.{noted};
 ghost use Rattle.checker_names.specs.Scope.{file_in};
 ghost use Rattle.checker_values.specs.Literals as spec;
 
-use checker_names::{Binding, Breach, File, Known, Table, find, literal_known, note, or_zero};
+use checker_names::{Binding, File, Known, Least, Table, find, literal_known, note, or_zero};
 use syntax::Literal;
 use syntax_lexer::{Position, UNKNOWN_NAME, WRONG_KIND};
 
 /// A name in what a global or an entry of an array begins with, or in what begins a case, and what
 /// it stands for there: it is a constant or an object.
 #[tactic(auto, using(checker_names::proofs::Noted::noted_none))]
-pub fn constant_name(position: Position, found: Option<Binding>, least: &mut Option<Breach>)
+pub fn constant_name(position: Position, found: Option<Binding>, least: &mut Least)
     ensures { least.new ≡ noted least.old (spec.constant_breaches position found) }
 {
     match found {
@@ -32,7 +32,7 @@ pub fn constant_name(position: Position, found: Option<Binding>, least: &mut Opt
 }
 
 #[tactic(auto, using(checker_names::proofs::Noted::noted_none))]
-fn literal_rules(value: &Literal<'_>, whole: &Table, least: &mut Option<Breach>)
+fn literal_rules(value: &Literal<'_>, whole: &Table, least: &mut Least)
     ensures { least.new ≡ noted least.old
         (spec.literal_breaches whole.now.entries (literal_tree value.now)) }
 {
@@ -42,7 +42,7 @@ fn literal_rules(value: &Literal<'_>, whole: &Table, least: &mut Option<Breach>)
 }
 
 /// What a literal is, among the names of the file; `None` where it breaks a rule.
-pub fn literal(value: &Literal<'_>, whole: &Table, least: &mut Option<Breach>) -> Option<Known>
+pub fn literal(value: &Literal<'_>, whole: &Table, least: &mut Least) -> Option<Known>
     ensures value { result ≡ names.literal_known whole.now.entries (literal_tree value.now) }
     ensures breaches { least.new ≡ noted least.old
         (spec.literal_breaches whole.now.entries (literal_tree value.now)) }
@@ -53,7 +53,7 @@ pub fn literal(value: &Literal<'_>, whole: &Table, least: &mut Option<Breach>) -
 
 /// What a global begins with.
 #[tactic(auto, using(checker_names::proofs::Noted::noted_none))]
-pub fn initial(value: &Option<Literal<'_>>, file: &File, least: &mut Option<Breach>) -> u16
+pub fn initial(value: &Option<Literal<'_>>, file: &File, least: &mut Least) -> u16
     ensures value { result ≡ spec.initial_value (file_in file.now) (optional_tree value.now) }
     ensures breaches { least.new ≡ noted least.old
         (spec.initial_breaches file.now.table.entries (optional_tree value.now)) }
@@ -68,7 +68,7 @@ pub fn initial(value: &Option<Literal<'_>>, file: &File, least: &mut Option<Brea
 
 // A name in a constant's value that is no constant there: what it stands for in the file.
 #[tactic(auto, using(checker_names::proofs::Noted::noted_none))]
-fn later_name(position: Position, anywhere: Option<Binding>, least: &mut Option<Breach>)
+fn later_name(position: Position, anywhere: Option<Binding>, least: &mut Least)
     ensures { least.new ≡ noted least.old (spec.later_breaches position anywhere) }
 {
     match anywhere {
@@ -90,7 +90,7 @@ fn earlier_name(
     position: Position,
     before: Option<Binding>,
     anywhere: Option<Binding>,
-    least: &mut Option<Breach>,
+    least: &mut Least,
 )
     ensures { least.new ≡ noted least.old (spec.earlier_breaches position before anywhere) }
 {
@@ -109,7 +109,7 @@ fn earlier_name(
 
 /// The value of a constant, where `table` has the names before it.
 #[tactic(auto, using(checker_names::proofs::Noted::noted_none))]
-pub fn constant_value(value: &Literal<'_>, whole: &Table, table: &Table, least: &mut Option<Breach>)
+pub fn constant_value(value: &Literal<'_>, whole: &Table, table: &Table, least: &mut Least)
     ensures { least.new ≡ noted least.old
         (spec.named_breaches whole.now.entries table.now.entries (literal_tree value.now)) }
 {

@@ -13,7 +13,7 @@ ghost use Rattle.checker_values.specs.Expressions.{routine_of_binding, array_of_
 ghost use Rattle.checker_values.specs.Expressions.{attribute_of_binding, property_of_binding};
 ghost use Rattle.syntax_lexer.specs.FaultNumbers.{not_assignable, wrong_kind};
 
-use checker_names::{Binding, Breach, Numbers, note, or_zero};
+use checker_names::{Binding, Least, Numbers, note, or_zero};
 use meaning::limits::MOST_ARGUMENTS;
 use meaning::{Value, Variable};
 use syntax_lexer::{
@@ -39,7 +39,7 @@ pub fn named(numbers: &Numbers, found: Option<Binding>) -> Value
 }
 
 #[tactic(auto, using(checker_names::proofs::Noted::noted_none))]
-fn value_rules(position: Position, found: Option<Binding>, least: &mut Option<Breach>)
+fn value_rules(position: Position, found: Option<Binding>, least: &mut Least)
     ensures { least.new ≡ noted least.old (value_breaches position found) }
 {
     match found {
@@ -56,12 +56,7 @@ fn value_rules(position: Position, found: Option<Binding>, least: &mut Option<Br
 }
 
 /// A name as a value.
-pub fn value(
-    name: Name<'_>,
-    numbers: &Numbers,
-    found: Option<Binding>,
-    least: &mut Option<Breach>,
-) -> Value
+pub fn value(name: Name<'_>, numbers: &Numbers, found: Option<Binding>, least: &mut Least) -> Value
     ensures value { value_of result ≡ value_of_binding (number_at numbers.now) found }
     ensures breaches { least.new ≡ noted least.old (value_breaches name.entry.position found) }
 {
@@ -70,7 +65,7 @@ pub fn value(
 }
 
 #[tactic(auto, using(checker_names::proofs::Noted::noted_none, checker_names::proofs::Noted::noted_append))]
-fn arguments(position: Position, given: usize, locals: usize, least: &mut Option<Breach>)
+fn arguments(position: Position, given: usize, locals: usize, least: &mut Least)
     ensures { least.new ≡ noted least.old (argument_breaches position given locals) }
 {
     if given > MOST_ARGUMENTS {
@@ -83,7 +78,7 @@ fn arguments(position: Position, given: usize, locals: usize, least: &mut Option
 
 // A name of another kind than is asked for; any number will do for it.
 #[tactic(auto, using(checker_names::proofs::Noted::noted_none))]
-fn wrong_kind(position: Position, least: &mut Option<Breach>) -> usize
+fn wrong_kind(position: Position, least: &mut Least) -> usize
     ensures value { result ≡ 0 }
     ensures breaches { least.new ≡ noted least.old (at position wrong_kind) }
 {
@@ -93,12 +88,7 @@ fn wrong_kind(position: Position, least: &mut Option<Breach>) -> usize
 
 /// A name that is called with so many arguments.
 #[tactic(auto, using(checker_names::proofs::Noted::noted_none))]
-pub fn routine(
-    name: Name<'_>,
-    given: usize,
-    found: Option<Binding>,
-    least: &mut Option<Breach>,
-) -> usize
+pub fn routine(name: Name<'_>, given: usize, found: Option<Binding>, least: &mut Least) -> usize
     ensures value { result ≡ routine_of_binding found }
     ensures breaches { least.new ≡ noted least.old (call_breaches name.entry.position given found) }
 {
@@ -123,7 +113,7 @@ pub fn routine(
 
 /// A name before `->` or `-->`.
 #[tactic(auto, using(checker_names::proofs::Noted::noted_none))]
-pub fn array(name: Name<'_>, found: Option<Binding>, least: &mut Option<Breach>) -> usize
+pub fn array(name: Name<'_>, found: Option<Binding>, least: &mut Least) -> usize
     ensures value { result ≡ array_of_binding found }
     ensures breaches { least.new ≡ noted least.old (array_name_breaches name.entry.position found) }
 {
@@ -144,7 +134,7 @@ pub fn array(name: Name<'_>, found: Option<Binding>, least: &mut Option<Breach>)
 }
 
 #[tactic(auto, using(checker_names::proofs::Noted::noted_append))]
-fn no_target(position: Position, operator: Position, least: &mut Option<Breach>)
+fn no_target(position: Position, operator: Position, least: &mut Least)
     ensures { least.new ≡ noted least.old (at position wrong_kind ++ at operator not_assignable) }
 {
     note(least, WRONG_KIND, position);
@@ -157,7 +147,7 @@ pub fn target_of(
     name: Name<'_>,
     operator: Position,
     found: Option<Binding>,
-    least: &mut Option<Breach>,
+    least: &mut Least,
 ) -> Variable
     ensures value { result ≡ variable_of_binding found }
     ensures breaches { least.new ≡ noted least.old
@@ -179,7 +169,7 @@ pub fn target_of(
 
 /// A name after `has` or `hasnt`, or in a `give`.
 #[tactic(auto, using(checker_names::proofs::Noted::noted_none))]
-pub fn attribute(name: Name<'_>, found: Option<Binding>, least: &mut Option<Breach>) -> usize
+pub fn attribute(name: Name<'_>, found: Option<Binding>, least: &mut Least) -> usize
     ensures value { result ≡ attribute_of_binding found }
     ensures breaches { least.new ≡ noted least.old (attribute_breaches name.entry.position found) }
 {
@@ -201,7 +191,7 @@ pub fn attribute(name: Name<'_>, found: Option<Binding>, least: &mut Option<Brea
 
 /// A name after `.`, `.#`, `.&` or `provides`.
 #[tactic(auto, using(checker_names::proofs::Noted::noted_none))]
-pub fn property(name: Name<'_>, found: Option<Binding>, least: &mut Option<Breach>) -> usize
+pub fn property(name: Name<'_>, found: Option<Binding>, least: &mut Least) -> usize
     ensures value { result ≡ property_of_binding found }
     ensures breaches { least.new ≡ noted least.old (property_breaches name.entry.position found) }
 {

@@ -5,14 +5,15 @@ mod output;
 mod part;
 mod refusals;
 mod source;
-mod words;
+mod warnings;
 
 use crate::output::{is_one_file, write_whole};
-use crate::refusals::{refused, show};
+use crate::refusals::{limit_of, refused, show};
 use crate::source::read_source;
-use crate::words::{Asked, Words, command, words_of};
+use crate::warnings::warn;
 use clap::{ArgMatches, Error};
-use messages_diagnosis::diagnose;
+use inform_arguments::{Asked, Words, command, words_of};
+use messages_diagnosis::{Limit, diagnose};
 use messages_explanations::Program;
 use messages_figures::{Figures, measure};
 use one_line::OneLine;
@@ -20,6 +21,7 @@ use std::fmt::Display;
 use std::fs::File;
 use std::process::ExitCode;
 use std::{env, io};
+use syntax_lexer::SourceFault;
 use zcore::Version;
 
 /// The exit status where the words of the command line or the files cannot be used.
@@ -48,7 +50,12 @@ fn answer(rt: &HostRuntime, matches: &ArgMatches<'_>) -> ExitCode {
     match words_of(matches) {
         Some(Asked::Compile(words)) => build(rt, words),
         Some(Asked::Explain(name)) => explain(rt, name),
-        Some(Asked::Sizes(source, version)) => show_sizes(rt, source, version),
+        Some(Asked::Sizes(source, version, large)) => show_sizes(
+            rt,
+            source,
+            version,
+            limit_of(large),
+        ),
         None => misused(rt, "the version after -v is 5 or 8"),
     }
 }
@@ -109,12 +116,12 @@ fn source_of(rt: &HostRuntime, source: &str) -> Result<Vec<u8>, ExitCode> {
 }
 
 /// Prints what the source takes, also where it is refused as too large.
-fn show_sizes(rt: &HostRuntime, source: &str, version: Version) -> ExitCode {
+fn show_sizes(rt: &HostRuntime, source: &str, version: Version, limit: Limit) -> ExitCode {
     let source = match source_of(rt, source) {
         Ok(source) => source,
         Err(status) => return status,
     };
-    match measure(rt.alloc(), &source, version) {
+    match measure(rt.alloc(), &source, version, limit) {
         Ok(figures) => print_figures(rt, &figures),
         Err(fault) => refused(rt, fault),
     }
@@ -137,13 +144,24 @@ fn build(rt: &HostRuntime, words: Words<'_>) -> ExitCode {
         Ok(source) => source,
         Err(status) => return status,
     };
-    match diagnose(rt.alloc(), &source, words.version) {
-        Ok(story) => match words.story {
-            Some(name) => put(rt, words.source, name, story.bytes()),
-            None => ExitCode::SUCCESS,
-        },
-        Err(diagnosis) if words.show => show(rt, words.source, &source, words.version, diagnosis),
+    match diagnose(rt.alloc(), &source, words.version, limit_of(words.large)) {
+        Ok(story) => finish(rt, words, &source, story.bytes()),
+        Err(diagnosis) if words.show => show(rt, words, &source, diagnosis),
         Err(diagnosis) => refused(rt, diagnosis.fault),
+    }
+}
+
+/// Warns of likely mistakes in an accepted source, if that is asked for, and writes the bytes of its
+/// story, if a file for it is named.
+fn finish(rt: &HostRuntime, words: Words<'_>, source: &[u8], story: &[u8]) -> ExitCode {
+    if words.warn {
+        if let Err(refusal) = warn(rt, words.source, source) {
+            return refused(rt, SourceFault::from(refusal));
+        }
+    }
+    match words.story {
+        Some(name) => put(rt, words.source, name, story),
+        None => ExitCode::SUCCESS,
     }
 }
 

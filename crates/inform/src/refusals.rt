@@ -1,11 +1,13 @@
 //! Why and where a source is refused, on standard error.
 
-use messages_diagnosis::{Diagnosis, Shown};
+use inform_arguments::Words;
+use messages_diagnosis::{Diagnosis, Limit, Shown};
+use messages_further::further_rules;
 use messages_sentences::message_of;
 use one_line::OneLine;
+use std::alloc::AllocError;
 use std::process::ExitCode;
 use syntax_lexer::SourceFault;
-use zcore::Version;
 
 /// The exit status where the source is refused.
 const REFUSED: u8 = 1;
@@ -16,25 +18,54 @@ pub fn refused(rt: &HostRuntime, fault: SourceFault) -> ExitCode {
     ExitCode::from(REFUSED)
 }
 
-/// Says on standard error why the source of a name is refused for a version, and shows where.
-pub fn show(
+/// The limit of the size of a story: with `--large` that of its own length.
+pub fn limit_of(large: bool) -> Limit {
+    if large { Limit::Length } else { Limit::Weight }
+}
+
+/// Says on standard error why the source that words name is refused, and shows where. The rules of
+/// programs that it breaks after the first one follow, and the number of those that are not shown.
+pub fn show(rt: &HostRuntime, words: Words<'_>, source: &[u8], diagnosis: Diagnosis) -> ExitCode {
+    match show_all(rt, words, source, diagnosis) {
+        Ok(()) => ExitCode::from(REFUSED),
+        Err(refusal) => refused(rt, SourceFault::from(refusal)),
+    }
+}
+
+/// Shows the first broken rule, and those after it.
+fn show_all(
     rt: &HostRuntime,
-    name: &str,
+    words: Words<'_>,
     source: &[u8],
-    version: Version,
+    first: Diagnosis,
+) -> Result<(), AllocError> {
+    show_one(rt, words, source, first)?;
+    let further = further_rules(rt.alloc(), source, first)?;
+    for diagnosis in further.shown.iter() {
+        show_one(rt, words, source, *diagnosis)?;
+    }
+    if further.more > 0 {
+        let _ = eprintln!(rt; "and {} more", further.more);
+    }
+    Ok(())
+}
+
+/// Shows a broken rule.
+fn show_one(
+    rt: &HostRuntime,
+    words: Words<'_>,
+    source: &[u8],
     diagnosis: Diagnosis,
-) -> ExitCode {
-    let message = match message_of(rt.alloc(), source, version, diagnosis) {
-        Ok(message) => message,
-        Err(refusal) => return refused(rt, SourceFault::from(refusal)),
-    };
-    let status = refused(rt, diagnosis.fault);
+) -> Result<(), AllocError> {
+    let limit = limit_of(words.large);
+    let message = message_of(rt.alloc(), source, words.version, limit, diagnosis)?;
+    refused(rt, diagnosis.fault);
     let shown = Shown {
         source,
-        name: OneLine(name),
+        name: OneLine(words.source),
         sentence: message.sentence.as_str(),
         diagnosis: message.diagnosis,
     };
     let _ = eprint!(rt; "{shown}");
-    status
+    Ok(())
 }

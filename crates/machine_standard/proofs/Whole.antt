@@ -1,31 +1,36 @@
 -- A whole turn of the Standard's machine.
-use Rattle.std.proofs.Common.{◌≡◌, ℕ, zero, suc, ◌≤◌, List, [], ◌++◌, length, drop, refl, ap, sym, ◌∙◌}
-use Rattle.std.proofs.Common.{subst, arith, slice_index, Result, Ok, Err}
-use Rattle.std.specs.Prelude.{IfOk, OnOk}
-use Rattle.std.proofs.lemmas.List.{drop-append-le, drop_all}
+use Rattle.std.proofs.Common.{◌≡◌, ◌≢◌, ℕ, zero, suc, ◌≤◌, List, [], ◌++◌, length, take, drop, refl, ap, sym, ◌∙◌}
+use Rattle.std.proofs.Common.{subst, arith, slice_index, Result, Ok, Err, Bool, true, false, cond, None, Some}
+use Rattle.std.specs.Prelude.{◌==◌, ◌||◌, if◌then◌else◌, IfOk, OnOk}
+use Rattle.std.proofs.lemmas.List.{drop-append-le, drop_all, take_all}
 use Rattle.journal.specs.Recording.{Recording}
 use Rattle.zcore.specs.declared.beside.Beside.{Beside}
 use Rattle.zcore.specs.declared.next.Next.{Next}
 use Rattle.zcore.specs.declared.place.Place.{Place}
 use Rattle.zcore.specs.declared.place.Place.TheVariants as places
 use Rattle.zcore.specs.State.{State, Out, done, halt}
-use Rattle.zcore.specs.Parts.{is_text_buffer, is_parse_buffer}
 use Rattle.zcore.specs.Execution.{step}
-use Rattle.zcore.specs.Turn.{Reaches, ReachesBy, TurnsBy, Whole, first_next, first_state, notice}
-use Rattle.zcore_standard.specs.Laws.{ends_in_fault}
-use Rattle.zcore_standard.specs.Place.{Here, within}
+use Rattle.zcore.specs.Turn.{Reaches, ReachesBy, TurnsBy, Whole, ended, first_next, first_state, notice}
+use Rattle.zcore_standard.specs.Laws.{ends_in_fault, is_plain, closes_none}
+use Rattle.zcore_standard.specs.Place.{Here, plain, within}
 use Rattle.zcore_standard.specs.Loaded.{Loaded}
-use Rattle.zcore_standard.specs.Machine.{standard, standard_step, standard_ended, begins}
+use Rattle.zcore_standard.specs.Machine.{standard, standard_step, standard_ended, shown, with_beside, begins}
+use Rattle.zcore_standard.specs.Reading.{can_take}
+use Rattle.zcore_standard.specs.Windows.{begun_at, lower}
+use Rattle.zcore_standard.specs.Streams.{heard_of}
 use Rattle.zcore_standard.proofs.Turning.{standard_steps}
+use Rattle.zcore_standard.proofs.Awaiting.{WaitsRight}
 use Rattle.zcore_standard.proofs.Waiting.{standard_step_waits}
 use Rattle.machine_frames.specs.Contents.{Contents, memory_of}
-use Rattle.machine_frames.specs.Playing.{StopsBy, IsOpening, IsWaiting, whole_of}
+use Rattle.machine_frames.specs.Playing.{StopsBy, IsOpening, whole_of}
 use Rattle.machine_frames.specs.States.{state_of, program_counter_of, beside_of}
 use Rattle.machine_frames.specs.Went.{GoesOn}
 use Rattle.machine_frames.proofs.Steps.{store_after}
 use Rattle.machine_lines.proofs.Lines.{base_kept}
 use Rattle.machine.proofs.Turning.{stops_whole}
-use Rattle.machine.proofs.Waiting.{waiting}
+use Rattle.machine_standard_opcodes.specs.Around.{place, Keeps}
+use Rattle.machine_standard_opcodes.specs.declared.around.Around.{Around}
+use Rattle.machine_standard_words.specs.Taking.{CanBeGiven}
 use Rattle.machine_standard.specs.Loads.{IsStoreFor}
 use Rattle.machine_standard.specs.Playing.{OpensStandard}
 use Rattle.machine_standard.specs.declared.turn.StandardMachine.{StandardMachine}
@@ -46,21 +51,27 @@ store_remains (Err e) machine old new o g = tt
 
 -- Steps
 
--- a step of the profile that goes on is a step of this machine
-standard_goes_on : (loaded : Loaded) (beside : Beside) (here next : Next) (s t : State) → step here s ≡ done next t
-    → standard_step loaded (begins beside here) s ≡ done (begins beside next) t
-standard_goes_on loaded beside here next s t e =
-    standard_steps loaded (begins beside here) s (ap ends_in_fault e) ∙ ap (within (begins beside here)) e
+or_true : (b : Bool) → (b || true) ≡ true
+or_true true = refl
+or_true false = refl
 
-pub reaches_standard : (loaded : Loaded) (beside : Beside) (count : ℕ) (first here : Next) (s t : State)
+-- a step of the profile that goes on is a step of this machine
+standard_goes_on : (loaded : Loaded) (around : Around) (here next : Next) (s t : State) → step here s ≡ done next t
+    → standard_step loaded (place around here) s ≡ done (place around next) t
+standard_goes_on loaded around here next s t e =
+    standard_steps loaded (place around here) s (ap ends_in_fault e)
+    (ap (closes_none (place around here)) e ∙ or_true (is_plain (place around here)))
+    ∙ ap (within (place around here)) e
+
+pub reaches_standard : (loaded : Loaded) (around : Around) (count : ℕ) (first here : Next) (s t : State)
     → Reaches count first s here t
-    → ReachesBy (standard_step loaded) count (begins beside first) s (begins beside here) t
-reaches_standard loaded beside zero first here s t h = (ap (begins beside) h.0, h.1)
-reaches_standard loaded beside (suc count) first here s t h = (
-  begins beside h.0,
+    → ReachesBy (standard_step loaded) count (place around first) s (place around here) t
+reaches_standard loaded around zero first here s t h = (ap (place around) h.0, h.1)
+reaches_standard loaded around (suc count) first here s t h = (
+  place around h.0,
   h.1,
-  reaches_standard loaded beside count first h.0 s h.1 h.2,
-  standard_goes_on loaded beside h.0 here h.1 t h.3,
+  reaches_standard loaded around count first h.0 s h.1 h.2,
+  standard_goes_on loaded around h.0 here h.1 t h.3,
 )
 
 -- some steps, and some more
@@ -80,43 +91,92 @@ pub none_yet_by : {H : Type 0} (step : H → State → Out H) (first : H) (s : C
     → (n : ℕ) × ReachesBy step n first (state_of s []) first (state_of s (drop (length text) text))
 none_yet_by step first s text = (0, (refl, ap (state_of s) (drop_all (length text) text (omega arith))))
 
--- an instruction that ends the turn leaves window and dice as they are
-pub stops_beside : (loaded : Loaded) {first : Here} {s t : State} {here : Next} {p : Place} (a b : Beside) → b ≡ a
-    → StopsBy (standard_step loaded) first s (begins a here) p t
-    → StopsBy (standard_step loaded) first s (begins b here) p t
-stops_beside loaded {first} {s} {t} {here} {p} a b e h =
-    subst (λ x. StopsBy (standard_step loaded) first s (begins x here) p t) (sym e) h
+-- an instruction that ends the turn leaves window, dice and streams as they are
+pub stops_around : (loaded : Loaded) {first : Here} {s t : State} {here : Next} {p : Place} (a b : Around) → b ≡ a
+    → StopsBy (standard_step loaded) first s (place a here) p t
+    → StopsBy (standard_step loaded) first s (place b here) p t
+stops_around loaded {first} {s} {t} {here} {p} a b e h =
+    subst (λ x. StopsBy (standard_step loaded) first s (place x here) p t) (sym e) h
+
+-- where a turn begins
+pub begun_place : (around : Around) (beside : Beside) (next : Next) → around.beside ≡ beside
+    → around.streams.items ≡ [] → around.upper ≡ (if beside.window == 0 then None else Some (begun_at 0))
+    → place around next ≡ begins beside next
+begun_place around beside next e f g =
+    ap (λ b. let h : Here = record (place around next) { beside = b } in h) e
+    ∙ ap (λ l. let h : Here = record (place around next) { beside = beside; streams = l } in h) f
+    ∙ ap (λ u. let h : Here = record (plain beside next) { upper = u } in h) g
+
+-- The text of a turn
+
+pub keeps_at : (start long : ℕ) (was now : List ℕ) → start ≡ long → Keeps start was now → Keeps long was now
+keeps_at start long was now e k = subst (λ n. Keeps n was now) e k
+
+pub front_kept : (was now : List ℕ) → Keeps (length was) was now → take (length was) now ≡ was
+front_kept was now k = k.front ∙ take_all (length was) was (omega arith)
+
+-- a turn that does not wait shows what is heard
+pub shown_heard : (here : Here) (end : Place) (text : List ℕ) → end ≢ places.Waiting
+    → shown here end text ≡ heard_of here text
+shown_heard here places.Waiting text not = absurd (not refl)
+shown_heard here places.Quit text not = refl
+shown_heard here (places.Limit limit) text not = refl
+shown_heard here (places.Fault cause) text not = refl
+
+-- one that printed nothing shows nothing
+lower_nothing : (b : Bool) → lower (cond b None (Some (begun_at 0))) [] ≡ []
+lower_nothing true = refl
+lower_nothing false = refl
+
+shown_nothing : (beside : Beside) (next : Next) (end : Place) → shown (begins beside next) end [] ≡ []
+shown_nothing beside next places.Waiting = refl
+shown_nothing beside next places.Quit = lower_nothing (beside.window == 0)
+shown_nothing beside next (places.Limit limit) = lower_nothing (beside.window == 0)
+shown_nothing beside next (places.Fault cause) = lower_nothing (beside.window == 0)
+
+ended_nothing : (beside : Beside) (next : Next) (end : Place) (m : Contents)
+    → standard_ended (begins beside next) end (state_of m []) ≡ with_beside beside (ended next end (state_of m []))
+ended_nothing beside next end m =
+    ap (λ l. with_beside beside (ended next end (state_of m l))) (shown_nothing beside next end)
 
 -- The end of a turn
 
--- the whole state that is left
-pub standard_whole : (loaded : Loaded) (first : Here) (beside : Beside) (here : Next) (end : Place) (s : State)
-    (m n : Contents) (x y : List ℕ) (long : ℕ)
-    → StopsBy (standard_step loaded) first s (begins beside here) end (state_of m (drop long x))
+-- the whole state that is left, where the text was cut
+pub standard_whole : (loaded : Loaded) (first : Here) (around : Around) (here : Next) (end : Place) (s : State)
+    (m n : Contents) (x z y : List ℕ) (long : ℕ)
+    → StopsBy (standard_step loaded) first s (place around here) end (state_of m (drop long x))
     → ((l : List ℕ) → state_of n l ≡ state_of m l) → program_counter_of (slice_index n.cells) ≡ here.program_counter
-    → beside_of (slice_index n.cells) ≡ beside → y ≡ x ++ notice end → long ≤ length x
+    → beside_of (slice_index n.cells) ≡ around.beside → drop long z ≡ shown (place around here) end (drop long x)
+    → y ≡ z ++ notice end → long ≤ length z
     → TurnsBy (standard loaded) first s (whole_of n end (drop long y))
-standard_whole loaded first beside here end s m n x y long h same counter kept text le =
-    let turn = stops_whole (standard loaded) first (begins beside here) end s (state_of m (drop long x)) h in
-    let words : drop long y ≡ drop long x ++ notice end = ap (drop long) text
-    ∙ drop-append-le long x (notice end) le in
-    let e : standard_ended (begins beside here) end (state_of m (drop long x))
-    ≡ standard_ended (begins beside here) end (state_of n (drop long x)) =
-    ap (standard_ended (begins beside here) end) (sym (same (drop long x))) in
-    let f : standard_ended (begins beside here) end (state_of n (drop long x)) ≡ whole_of n end (drop long y) =
+standard_whole loaded first around here end s m n x z y long h same counter kept cut text le =
+    let turn = stops_whole (standard loaded) first (place around here) end s (state_of m (drop long x)) h in
+    let words : drop long y ≡ shown (place around here) end (drop long x) ++ notice end = ap (drop long) text
+    ∙ drop-append-le long z (notice end) le ∙ ap (λ l. l ++ notice end) cut in
+    let e : standard_ended (place around here) end (state_of m (drop long x))
+    ≡ standard_ended (place around here) end (state_of n (drop long x)) =
+    ap (standard_ended (place around here) end) (sym (same (drop long x))) in
+    let f : standard_ended (place around here) end (state_of n (drop long x)) ≡ whole_of n end (drop long y) =
     rw (words, counter, kept) refl in
     subst (λ w. TurnsBy (standard loaded) first s w) (e ∙ f) turn
+
+-- what the machine waits for can be given to a store of the same state
+pub right_after : (m n : Contents) (text : List ℕ) → WaitsRight (state_of m text)
+    → ((l : List ℕ) → state_of n l ≡ state_of m l) → CanBeGiven n
+right_after m n text w same = record {
+  pending = w.pending;
+  waits = ap (λ (t : State). t.pending) (same text) ∙ w.waits;
+  right = ap (λ (t : State). can_take t.memory w.pending.text_buffer w.pending.parse_buffer) (same text) ∙ w.right;
+}
 
 -- a turn that stopped to wait
 pub standard_waits : (loaded : Loaded) (first here : Here) (end : Place) (s : State) (m n : Contents) (text : List ℕ)
     → StopsBy (standard_step loaded) first s here end (state_of m text)
-    → ((l : List ℕ) → state_of n l ≡ state_of m l) → end ≡ places.Waiting → IsWaiting n
+    → ((l : List ℕ) → state_of n l ≡ state_of m l) → end ≡ places.Waiting → CanBeGiven n
 standard_waits loaded first here end s m n text stops same e =
-    let w = standard_step_waits loaded here stops.before (state_of m text)
-    (stops.stops ∙ ap (λ p. halt p (state_of m text)) e) in
-    waiting n text w.pending (ap (λ (t : State). t.pending) (same text) ∙ w.waits)
-    (ap (λ (t : State). is_text_buffer t.memory w.pending.text_buffer) (same text) ∙ w.text_buffer)
-    (ap (λ (t : State). is_parse_buffer t.memory w.pending.parse_buffer) (same text) ∙ w.parse_buffer)
+    right_after m n text
+    (standard_step_waits loaded here stops.before (state_of m text)
+    (stops.stops ∙ ap (λ p. halt p (state_of m text)) e)) same
 
 -- a line that ends the turn at once
 pub stopped_standard : (m n : Contents) (beside : Beside) (fuel counter : ℕ) (end : Place) (x y : List ℕ)
@@ -129,9 +189,9 @@ stopped_standard m n beside fuel counter end x y same kept rest text =
     let d : drop (length x) y ≡ notice end = ap (drop (length x)) text
     ∙ drop-append-le (length x) x (notice end) (omega arith)
     ∙ ap (λ l. l ++ notice end) (drop_all (length x) x (omega arith)) in
-    let f : whole_of n end (drop (length x) y) ≡ standard_ended here end (state_of n []) =
+    let f : whole_of n end (drop (length x) y) ≡ with_beside beside (ended here.next end (state_of n [])) =
     rw (d, kept, rest) refl in
-    f ∙ ap (standard_ended here end) (same [])
+    f ∙ sym (ended_nothing beside here.next end n) ∙ ap (standard_ended here end) (same [])
 
 -- the opening
 opens : (loaded : Loaded) (s : Contents) (fuel : ℕ) (first : Next) (memory : List ℕ) (whole : Whole) → IsOpening s

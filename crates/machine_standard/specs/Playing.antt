@@ -1,25 +1,39 @@
 -- Turns of the Standard's machine on a store.
-use Rattle.std.specs.Prelude.{ℕ, List, slice_index, Option, Some, None}
+use Rattle.std.specs.Prelude.{◌≡◌, ℕ, List, [], slice_index, Option, Some, None}
 use Rattle.std.specs.Borrow.{Bor}
+use Rattle.zcore.specs.declared.next.Next.{Next}
+use Rattle.zcore.specs.State.{Pending}
 use Rattle.zcore.specs.Turn.{Whole, TurnsBy, first_next, first_state}
 use Rattle.zcore_standard.specs.Loaded.{Loaded}
 use Rattle.zcore_standard.specs.Machine.{standard, standard_ended, begins}
 use Rattle.machine_frames.specs.Contents.{Contents, memory_of}
-use Rattle.machine_frames.specs.Playing.{AnswersBy}
-use Rattle.machine_frames.specs.States.{beside_of}
+use Rattle.zcore_standard.specs.Reading.{standard_given}
+use Rattle.machine_frames.specs.Playing.{FollowsBy, IsOpening}
+use Rattle.machine_frames.specs.States.{state_of, pending_of, program_counter_of, beside_of}
+use Rattle.machine_standard_words.specs.Taking.{CanBeGiven}
 
 -- the turn of a store of a story that begins
 abbrev pub OpensStandard : Loaded → Contents → ℕ → Whole → Type 0
 OpensStandard loaded s fuel whole =
     TurnsBy (standard loaded) (begins loaded.dice (first_next (memory_of s) fuel)) (first_state (memory_of s)) whole
 
--- the turn of a line that is given to a store which waits for one, with the window and the dice that the store keeps
+-- The turn of a line that is given to a store which waits for a line or a key, with the window and the dice that the
+-- store keeps.
 abbrev pub AnswersStandard : Loaded → List ℕ → Contents → ℕ → Whole → Type 0
-AnswersStandard loaded line s fuel = AnswersBy
-    (λ next t whole. TurnsBy (standard loaded) (begins (beside_of (slice_index s.cells)) next) t whole)
-    (λ next. standard_ended (begins (beside_of (slice_index s.cells)) next)) line s fuel
+AnswersStandard loaded line s fuel whole =
+    let kept = beside_of (slice_index s.cells) in
+    let waited : Next = record { program_counter = program_counter_of (slice_index s.cells); fuel = fuel } in
+    (pending : Pending)
+    × (pending_of (slice_index s.cells) ≡ Some pending)
+    × FollowsBy (λ next t w. TurnsBy (standard loaded) (begins kept next) t w)
+    (standard_given pending line fuel (state_of s [])) (standard_ended (begins kept waited)) whole
 
 -- which turn is played: without a line the opening, else that of the line
 abbrev pub OpensOrAnswersStandard : Loaded → Option (Bor (List ℕ)) → Contents → ℕ → Whole → Type 0
 OpensOrAnswersStandard loaded None = OpensStandard loaded
 OpensOrAnswersStandard loaded (Some line) = AnswersStandard loaded line.now
+
+-- a store on which it can be played
+abbrev pub IsReadyForStandard : Option (Bor (List ℕ)) → Contents → Type 0
+IsReadyForStandard None = IsOpening
+IsReadyForStandard (Some line) = CanBeGiven

@@ -1,5 +1,5 @@
 -- Operations that the profile knows, on the values of their operands.
-use Rattle.std.proofs.Common.{◌≡◌, ◌≢◌, ℕ, Bool, true, false, cond, List, Option, refl, ap, Result, Ok}
+use Rattle.std.proofs.Common.{◌≡◌, ◌≢◌, ◌∙◌, ℕ, Bool, true, false, cond, List, Option, refl, ap, Result, Ok}
 use Rattle.std.proofs.lemmas.Bool.{eq-eqb, ne_eqb}
 use Rattle.journal.specs.Recording.{Recording}
 use Rattle.zcore.specs.declared.instruction.Branch.{Branch}
@@ -10,49 +10,102 @@ use Rattle.zcore.specs.declared.operations.OperandCount.TheVariants as counts
 use Rattle.zcore.specs.Execution.{perform}
 use Rattle.zcore.specs.Operations.{count_of}
 use Rattle.zcore.specs.Objects.{remove_object}
-use Rattle.zcore.specs.State.{State, done}
+use Rattle.zcore.specs.State.{State, Out, done}
 use Rattle.zcore_standard.specs.Nothing.{concerns_nothing, insert_nothing, perform_on_nothing, perform_known}
+use Rattle.zcore_standard.specs.Printing.{is_text, or_else, perform_text, perform_printing}
 use Rattle.machine_frames.specs.Contents.{Contents}
 use Rattle.machine_frames.specs.States.{state_of, IsSound}
 use Rattle.machine_frames.specs.Went.{Went, Told}
 use Rattle.machine_frames.specs.declared.end.End.{End}
 use Rattle.machine_frames.proofs.Steps.{went_as, went_still, told_as}
 
--- on object 0, and on what is an object or no number of one
+-- on object 0, as it prints, and in the profile
 
-known_is : (operation : Operation) (here : Next) (after : ℕ) (result : Option ℕ) (branch : Option Branch)
-    (values : List ℕ) (s : State) (b : Bool) → concerns_nothing operation values ≡ b
-    → perform_known operation here after result branch values s
-    ≡ cond b (perform_on_nothing operation here after result branch values)
-    (perform operation here after result branch values) s
-known_is operation here after result branch values s b e =
-    ap (λ (x : Bool). cond x (perform_on_nothing operation here after result branch values)
-    (perform operation here after result branch values) s) e
+module _ (characters : List ℕ) (operation : Operation) (here : Next) (after : ℕ) (result : Option ℕ)
+    (branch : Option Branch) (values : List ℕ) where
+  -- in the profile, or else as it prints
+  abbrev pub prints : State → Out Next
+  prints = or_else (perform operation here after result branch values)
+      (perform_text characters operation here after values)
 
-pub nothing_went : {s t : Recording Contents} (r : Result Next End) (operation : Operation) (here : Next) (after : ℕ)
-    (result : Option ℕ) (branch : Option Branch) (values : List ℕ) → concerns_nothing operation values ≡ true
-    → Went r s t (perform_on_nothing operation here after result branch values)
-    → Went r s t (perform_known operation here after result branch values)
-nothing_went {s} r operation here after result branch values e w =
-    went_as r (perform_known operation here after result branch values)
-    (λ x. known_is operation here after result branch values (state_of s.store x) true e) w
+  known_is : (s : State) (b : Bool) → concerns_nothing operation values ≡ b
+      → perform_known characters operation here after result branch values s
+      ≡ cond b (perform_on_nothing operation here after result branch values)
+      (perform_printing characters operation here after result branch values) s
+  known_is s b e = ap (λ (x : Bool). cond x (perform_on_nothing operation here after result branch values)
+      (perform_printing characters operation here after result branch values) s) e
 
-pub known_went : {s t : Recording Contents} (r : Result Next End) (operation : Operation) (here : Next) (after : ℕ)
-    (result : Option ℕ) (branch : Option Branch) (values : List ℕ) → concerns_nothing operation values ≡ false
-    → Went r s t (perform operation here after result branch values)
-    → Went r s t (perform_known operation here after result branch values)
-known_went {s} r operation here after result branch values e w =
-    went_as r (perform_known operation here after result branch values)
-    (λ x. known_is operation here after result branch values (state_of s.store x) false e) w
+  printing_is : (s : State) (c : Bool) → concerns_nothing operation values ≡ false → is_text operation ≡ c
+      → perform_known characters operation here after result branch values s
+      ≡ cond c prints (perform operation here after result branch values) s
+  printing_is s c e f = known_is s false e
+      ∙ ap (λ (x : Bool). cond x prints (perform operation here after result branch values) s) f
 
-pub known_told : {s t : Recording Contents} {x y : List ℕ} (r : Result Next End) (operation : Operation) (here : Next)
-    (after : ℕ) (result : Option ℕ) (branch : Option Branch) (values : List ℕ)
-    → concerns_nothing operation values ≡ false
-    → Told r s x t y (perform operation here after result branch values)
-    → Told r s x t y (perform_known operation here after result branch values)
-known_told {s} {x = x} r operation here after result branch values e w =
-    told_as r (perform_known operation here after result branch values)
-    (known_is operation here after result branch values (state_of s.store x) false e) w
+  pub nothing_went : {s t : Recording Contents} (r : Result Next End) → concerns_nothing operation values ≡ true
+      → Went r s t (perform_on_nothing operation here after result branch values)
+      → Went r s t (perform_known characters operation here after result branch values)
+  nothing_went {s} r e w = went_as r (perform_known characters operation here after result branch values)
+      (λ x. known_is (state_of s.store x) true e) w
+
+  pub known_went : {s t : Recording Contents} (r : Result Next End) → concerns_nothing operation values ≡ false
+      → is_text operation ≡ false → Went r s t (perform operation here after result branch values)
+      → Went r s t (perform_known characters operation here after result branch values)
+  known_went {s} r e f w = went_as r (perform_known characters operation here after result branch values)
+      (λ x. printing_is (state_of s.store x) false e f) w
+
+  pub known_told : {s t : Recording Contents} {x y : List ℕ} (r : Result Next End)
+      → concerns_nothing operation values ≡ false → is_text operation ≡ false
+      → Told r s x t y (perform operation here after result branch values)
+      → Told r s x t y (perform_known characters operation here after result branch values)
+  known_told {s} {x = x} r e f w = told_as r (perform_known characters operation here after result branch values)
+      (printing_is (state_of s.store x) false e f) w
+
+  pub text_told : {s t : Recording Contents} {x y : List ℕ} (r : Result Next End)
+      → concerns_nothing operation values ≡ false → is_text operation ≡ true → Told r s x t y prints
+      → Told r s x t y (perform_known characters operation here after result branch values)
+  text_told {s} {x = x} r e f w = told_as r (perform_known characters operation here after result branch values)
+      (printing_is (state_of s.store x) true e f) w
+
+-- which operations print no text
+
+pub two_plain : (operation : Operation) → count_of operation ≡ counts.Two → is_text operation ≡ false
+two_plain operations.Print e = absurd (cc)
+two_plain operations.PrintReturn e = absurd (cc)
+two_plain operations.PrintAddress e = absurd (cc)
+two_plain operations.PrintPacked e = absurd (cc)
+two_plain operations.PrintObject e = absurd (cc)
+two_plain operations.PrintCharacter e = absurd (cc)
+two_plain _ e = refl
+
+pub one_plain : (operation : Operation) → count_of operation ≡ counts.One → operation ≢ operations.PrintAddress
+    → operation ≢ operations.PrintPacked → operation ≢ operations.PrintObject → is_text operation ≡ false
+one_plain operations.Print e a b c = absurd (cc)
+one_plain operations.PrintReturn e a b c = absurd (cc)
+one_plain operations.PrintAddress e a b c = absurd (a refl)
+one_plain operations.PrintPacked e a b c = absurd (b refl)
+one_plain operations.PrintObject e a b c = absurd (c refl)
+one_plain operations.PrintCharacter e a b c = absurd (cc)
+one_plain _ e a b c = refl
+
+pub several_plain : (operation : Operation) → count_of operation ≡ counts.Several
+    → operation ≢ operations.PrintCharacter → is_text operation ≡ false
+several_plain operations.Print e a = absurd (cc)
+several_plain operations.PrintReturn e a = absurd (cc)
+several_plain operations.PrintAddress e a = absurd (cc)
+several_plain operations.PrintPacked e a = absurd (cc)
+several_plain operations.PrintObject e a = absurd (cc)
+several_plain operations.PrintCharacter e a = absurd (a refl)
+several_plain _ e a = refl
+
+pub none_plain : (operation : Operation) → count_of operation ≡ counts.Zero → operation ≢ operations.Print
+    → operation ≢ operations.PrintReturn → is_text operation ≡ false
+none_plain operations.Print e a b = absurd (a refl)
+none_plain operations.PrintReturn e a b = absurd (b refl)
+none_plain operations.PrintAddress e a b = absurd (cc)
+none_plain operations.PrintPacked e a b = absurd (cc)
+none_plain operations.PrintObject e a b = absurd (cc)
+none_plain operations.PrintCharacter e a b = absurd (cc)
+none_plain _ e a b = refl
 
 -- an operation without operands is on no object
 pub without_none : (operation : Operation) (values : List ℕ) → count_of operation ≡ counts.Zero

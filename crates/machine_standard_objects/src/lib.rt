@@ -1,5 +1,5 @@
 //! A step of an instruction that the profile knows, as the Standard's machine does it: the profile's
-//! step, but operations on objects take object 0.
+//! step, but operations on objects take object 0, and any ZSCII code is printed.
 #![tactic(auto)]
 
 mod nothing;

@@ -1,7 +1,7 @@
-//! What a known instruction does with the values of its operands: what it does in the profile, or on
-//! object 0.
+//! What a known instruction does with the values of its operands: what it does in the profile, on
+//! object 0, or where it prints what the profile does not.
 
-ghost use Rattle.std.specs.Prelude.{◌≡◌, ◌≤◌, [], ◌∷◌, length};
+ghost use Rattle.std.specs.Prelude.{◌≡◌, ◌≤◌, [], ◌∷◌, ℕ, List, None, length};
 ghost use Rattle.zcore.specs.Layout.{longest_story};
 ghost use Rattle.zcore.specs.Operations.{count_of, least_operands, most_operands};
 ghost use Rattle.zcore.specs.declared.operations.OperandCount.TheVariants as counts;
@@ -14,7 +14,12 @@ use crate::nothing::{concerns_nothing, perform_on_nothing};
 use journal::Recorded;
 use machine_frames::{End, Store};
 use machine_opcodes::Ending;
-use machine_steps::{OPERANDS, perform_many, perform_one, perform_several, perform_two};
+use machine_standard_texts::{
+    print_address, print_character, print_inline, print_object, print_packed, print_return,
+};
+use machine_steps::{
+    OPERANDS, perform_many, perform_none, perform_one, perform_several, perform_two,
+};
 use zcore::{Header, Next, Operation};
 
 /// Does an operation on two values.
@@ -30,8 +35,8 @@ pub(crate) fn two(
     requires store { IsStoreOf header.now store.old.store }
     requires count { count_of operation ≡ counts.Two }
     requires after { ending.after ≤ longest_story }
-    ensures { Went result store.old store.new (definitions.perform_known operation here
-        ending.after ending.result ending.branch (x ∷ y ∷ [])) }
+    ensures { (characters : List ℕ) → Went result store.old store.new
+        (definitions.perform_known characters operation here ending.after ending.result ending.branch (x ∷ y ∷ [])) }
 {
     if concerns_nothing(operation, &[x, y]) {
         return perform_on_nothing(header, store, here, operation, &[x, y], ending);
@@ -54,8 +59,8 @@ pub(crate) fn many(
     requires enough { 2 ≤ length values.now }
     requires few { length values.now ≤ most_operands operation }
     requires after { ending.after ≤ longest_story }
-    ensures { Went result store.old store.new (definitions.perform_known operation here
-        ending.after ending.result ending.branch values.now) }
+    ensures { (characters : List ℕ) → Went result store.old store.new
+        (definitions.perform_known characters operation here ending.after ending.result ending.branch values.now) }
 {
     if concerns_nothing(operation, values) {
         return perform_on_nothing(header, store, here, operation, values, ending);
@@ -69,6 +74,7 @@ pub(crate) fn one(
     store: &mut Recorded<Store>,
     text: &mut Vec<u8>,
     start: usize,
+    characters: &[u16],
     here: Next,
     operation: Operation,
     x: u16,
@@ -79,14 +85,26 @@ pub(crate) fn one(
     requires count { count_of operation ≡ counts.One }
     requires after { ending.after ≤ longest_story }
     ensures told { ToldFrom start result store.old text.old.items store.new text.new.items
-        (definitions.perform_known operation here ending.after ending.result ending.branch
+        (definitions.perform_known characters.now operation here ending.after ending.result ending.branch
         (x ∷ [])) }
     ensures text { Grew start text.old.items text.new.items }
 {
     if concerns_nothing(operation, &[x]) {
         return perform_on_nothing(header, store, here, operation, &[x], ending);
     }
-    perform_one(header, store, text, start, here, operation, x, ending)
+    let after = ending.after;
+    match operation {
+        Operation::PrintAddress => {
+            print_address(store, text, start, characters, here, after, x as u32)
+        }
+        Operation::PrintPacked => {
+            print_packed(header, store, text, start, characters, here, after, x)
+        }
+        Operation::PrintObject => {
+            print_object(header, store, text, start, characters, here, after, x)
+        }
+        _ => perform_one(header, store, text, start, here, operation, x, ending),
+    }
 }
 
 /// Does an operation with an opcode of any number of operands.
@@ -95,6 +113,7 @@ pub(crate) fn several(
     store: &mut Recorded<Store>,
     text: &mut Vec<u8>,
     start: usize,
+    characters: &[u16],
     here: Next,
     operation: Operation,
     values: &[u16],
@@ -108,12 +127,52 @@ pub(crate) fn several(
     requires few { length values.now ≤ OPERANDS }
     requires after { ending.after ≤ longest_story }
     ensures told { ToldFrom start result store.old text.old.items store.new text.new.items
-        (definitions.perform_known operation here ending.after ending.result ending.branch
+        (definitions.perform_known characters.now operation here ending.after ending.result ending.branch
         values.now) }
     ensures text { Grew start text.old.items text.new.items }
 {
     if concerns_nothing(operation, values) {
         return perform_on_nothing(header, store, here, operation, values, ending);
     }
-    perform_several(header, store, text, start, here, operation, values, ending)
+    match operation {
+        Operation::PrintCharacter => {
+            print_character(
+                store,
+                text,
+                start,
+                characters,
+                here,
+                ending.after,
+                values[0],
+            )
+        }
+        _ => perform_several(header, store, text, start, here, operation, values, ending),
+    }
+}
+
+/// Does an operation without operands.
+pub(crate) fn none(
+    header: &Header,
+    store: &mut Recorded<Store>,
+    text: &mut Vec<u8>,
+    start: usize,
+    characters: &[u16],
+    here: Next,
+    operation: Operation,
+    after: u32,
+) -> Result<Next, End>
+    requires store { IsStoreOf header.now store.old.store }
+    requires text { HasBegun start text.old.items }
+    requires count { count_of operation ≡ counts.Zero }
+    ensures told { ToldFrom start result store.old text.old.items store.new text.new.items
+        (definitions.perform_known characters.now operation here after None None []) }
+    ensures text { Grew start text.old.items text.new.items }
+{
+    match operation {
+        Operation::Print => print_inline(store, text, start, characters, here, after),
+        Operation::PrintReturn => {
+            print_return(header, store, text, start, characters, here, after)
+        }
+        _ => perform_none(header, store, text, start, here, operation, after),
+    }
 }

@@ -3,7 +3,6 @@ use Rattle.std.proofs.Common.{◌≡◌, ◌≢◌, ℕ, ◌-◌, List, [], ◌�
 use Rattle.std.proofs.Common.{ap, ◌∙◌, arith, slice_index}
 use Rattle.std.proofs.lemmas.Bool.{ne_eqb, eq-eqb}
 use Rattle.journal.specs.Recording.{Recording}
-use Rattle.zcore.specs.declared.next.Next.{Next}
 use Rattle.zcore.specs.declared.place.Limit.TheVariants as limits
 use Rattle.zcore.specs.declared.place.Place.TheVariants as places
 use Rattle.zcore.specs.State.{Frame, State}
@@ -12,17 +11,18 @@ use Rattle.zcore.specs.Turn.{first_environment}
 use Rattle.ztext.specs.Bytes.{word_at}
 use Rattle.zcore_standard.specs.Flow.{restarted, restart}
 use Rattle.zcore.specs.declared.beside.Beside.{Beside}
+use Rattle.zcore_standard.specs.declared.streams.Stream.{Stream}
 use Rattle.zcore_standard.specs.Place.{Here}
 use Rattle.zcore_standard.specs.Loaded.{Loaded}
-use Rattle.zcore_standard.specs.Machine.{begins}
+use Rattle.zcore_standard.specs.Streams.{heard_of}
 use Rattle.machine_frames.specs.Contents.{Contents, Wrote, memory_of}
 use Rattle.machine_frames.specs.States.{base_of, frames_of, state_of, IsSound}
-use Rattle.machine_frames.specs.Went.{GoesOn, Went}
+use Rattle.machine_frames.specs.Went.{GoesOn, Told}
 use Rattle.machine_frames.specs.declared.end.End.TheVariants as ends
 use Rattle.machine_frames.proofs.Frames.{pending_same}
 use Rattle.machine_frames.proofs.Kept.{HasFrames, Keeps, keeps_goes_on, keeps_state, memory_kept}
 use Rattle.machine_frames.proofs.Lists.{wrote_memory}
-use Rattle.machine_frames.proofs.Steps.{goes_on_after, went_halt}
+use Rattle.machine_frames.proofs.Steps.{goes_on_after, told_halt}
 use Rattle.machine_lines.specs.Lines.{Fills, WaitsNoMore}
 use Rattle.machine_standard_opcodes.specs.Left.{Empties}
 
@@ -92,24 +92,28 @@ emptied s m t first waits =
       state = λ text. waits.state text ∙ ap (λ (x : State). record x { pending = None }) (first.1 text);
     }
 
-pub begun_anew : (s m t : Recording Contents) (loaded : Loaded) (kept : Beside) (here : Next) (address : ℕ)
-    → here.fuel ≢ 0 → address ≡ word_at (memory_of s.store) 6 → Fills s m 64 (drop 64 loaded.dynamic) → Empties m t
-    → Went (Ok (begins loaded.dice (record { program_counter = address; fuel = here.fuel - 1 }))) s t
-    (restart loaded (begins kept here))
+pub begun_anew : (s m t : Recording Contents) (x y : List ℕ) (loaded : Loaded) (here : Here) (address : ℕ)
+    (beside : Beside) (streams : List Stream) → beside ≡ loaded.dice → streams ≡ [] → here.next.fuel ≢ 0 → address ≡ word_at (memory_of s.store) 6 → Fills s m 64 (drop 64 loaded.dynamic)
+    → Empties m t → y ≡ heard_of here x
+    → Told (Ok (record {
+      next = record { program_counter = address; fuel = here.next.fuel - 1 };
+      beside = beside;
+      streams = streams;
+      upper = None;
+    })) s x t y (restart loaded here)
 unfolding restart spend
-begun_anew s m t loaded kept here address some e f n = record {
-  did = (
+begun_anew s m t x y loaded here address beside streams first none some e f n cut = record {
+  told = (
     goes_on_after f.goes_on n.goes_on,
-    λ text.
-        let state : state_of t.store text ≡ restarted loaded (state_of s.store text) = n.state text
-        ∙ ap (λ (x : State). record x { frames = first_environment ∷ []; pending = None }) (f.state text) in
-        rw (ne_eqb here.fuel 0 some, e, state) refl,
+    let state : state_of t.store y ≡ restarted loaded here (state_of s.store x) = n.state y
+        ∙ ap (λ (z : State). record z { frames = first_environment ∷ []; pending = None }) (f.state y)
+        ∙ ap (λ l. record (restarted loaded here (state_of s.store x)) { text = l }) cut in
+        rw (ne_eqb here.next.fuel 0 some, e, state, first, none) refl,
   );
 }
 
-pub no_fuel : (s : Recording Contents) (loaded : Loaded) (kept : Beside) (here : Next) → IsSound s.store
-    → here.fuel ≡ 0
-    → Went {A = Here} (Err (ends.Stop (places.Limit limits.Fuel))) s s (restart loaded (begins kept here))
+pub no_fuel : (s : Recording Contents) (x : List ℕ) (loaded : Loaded) (here : Here) → IsSound s.store
+    → here.next.fuel ≡ 0
+    → Told {A = Here} (Err (ends.Stop (places.Limit limits.Fuel))) s x s x (restart loaded here)
 unfolding restart spend
-no_fuel s loaded kept here sound e = went_halt s (restart loaded (begins kept here)) sound
-    (λ text. rw (eq-eqb here.fuel 0 e) refl)
+no_fuel s x loaded here sound e = told_halt s (restart loaded here) x sound (rw (eq-eqb here.next.fuel 0 e) refl)

@@ -1,15 +1,13 @@
--- The cursor and streams.
+-- The cursor.
 use Rattle.std.proofs.Common.{◌≡◌, ℕ, ◌+◌, ◌&&◌, true, false}
-use Rattle.std.proofs.Common.{Ok, Err, refl, ap, sym, ◌∙◌}
+use Rattle.std.proofs.Common.{Ok, Err, ap, sym, ◌∙◌}
 use Rattle.journal.specs.Recording.{Recording}
 use Rattle.zcore.specs.declared.header.Header.{Header}
-use Rattle.zcore.specs.declared.next.Next.{Next}
 use Rattle.zcore.specs.declared.place.Fault.TheVariants as faults
 use Rattle.zcore.specs.declared.place.Place.TheVariants as places
 use Rattle.zcore.specs.Parts.{test, is_writable}
-use Rattle.zcore_standard.specs.Screen.{is_memory_stream, output_stream}
 use Rattle.machine_frames.specs.Contents.{Contents, memory_of}
-use Rattle.machine_frames.specs.States.{state_of, IsSound, IsStoreOf}
+use Rattle.machine_frames.specs.States.{state_of, IsStoreOf}
 use Rattle.machine_frames.specs.Went.{Went}
 use Rattle.machine_frames.specs.declared.end.End.TheVariants as ends
 use Rattle.machine_frames.proofs.Steps.{went_halt, went_still}
@@ -29,17 +27,3 @@ pub words_refused : (h : Header) (s : Recording Contents) (at : ℕ) → IsStore
     → Went {A = Unit {0}} (Err (ends.Stop (places.Fault faults.Write))) s s (are_writable at)
 words_refused h s at o e = went_halt s (are_writable at) o.sound
     (λ t. ap (λ b. test b faults.Write (state_of s.store t)) (both_writable h s.store at o ∙ e))
-
--- output_stream
-
-pub stream_refused : (s : Recording Contents) (here : Next) (after number : ℕ) → IsSound s.store
-    → is_memory_stream number ≡ true
-    → Went {A = Next} (Err (ends.Stop (places.Fault faults.Opcode))) s s (output_stream here after number)
-unfolding output_stream
-stream_refused s here after number sound e = went_halt s (output_stream here after number) sound (λ t. rw e refl)
-
-pub stream_passed : (s : Recording Contents) (here : Next) (after number : ℕ) → IsSound s.store
-    → is_memory_stream number ≡ false
-    → Went (Ok (record { program_counter = after; fuel = here.fuel })) s s (output_stream here after number)
-unfolding output_stream
-stream_passed s here after number sound e = went_still s (output_stream here after number) sound (λ t. rw e refl)

@@ -7,7 +7,6 @@ use Rattle.zcore.specs.Effects.{give_result}
 use Rattle.zcore.specs.State.{State, Out}
 use Rattle.zcore_standard.specs.Place.{Here, on, within}
 use Rattle.zcore_standard.specs.Dice.{rolled, random}
-use Rattle.zcore_standard.specs.Machine.{begins}
 use Rattle.machine_frames.specs.Contents.{Contents}
 use Rattle.machine_frames.specs.Went.{Went, Told}
 use Rattle.machine_frames.specs.declared.end.End.{End}
@@ -28,12 +27,11 @@ told_within (Err ends.Memory) there f w = record { told = w.told }
 told_within (Err (ends.Stop p)) there f w = record { told = (w.told.0, ap (within there) w.told.1) }
 
 -- random, with the number and the dice that were rolled
-pub random_went : {s t : Recording Contents} (r : Result Next End) (beside : Beside) (here : Next) (after : ℕ)
-    (result : Option ℕ) (range : ℕ) (x : ℕ × Beside) → x ≡ rolled range beside
-    → Went r s t (give_result here after result x.0)
-    → Went (seen (begins x.1) r) s t (random (begins beside here) after result range)
+pub random_went : {s t : Recording Contents} (r : Result Next End) (here : Here) (after : ℕ) (result : Option ℕ)
+    (range : ℕ) (x : ℕ × Beside) → x ≡ rolled range here.beside → Went r s t (give_result here.next after result x.0)
+    → Went (seen (on (record here { beside = x.1 })) r) s t (random here after result range)
 unfolding random
-random_went {s} {t} r beside here after result range x e w =
-    subst (λ (y : ℕ × Beside). Went (seen (begins x.1) r) s t
-    (λ z. within (begins y.1 here) (give_result here after result y.0 z))) e
-    (went_within r (begins x.1 here) (give_result here after result x.0) w)
+random_went {s} {t} r here after result range x e w =
+    subst (λ (y : ℕ × Beside). Went (seen (on (record here { beside = x.1 })) r) s t
+    (λ z. within (record here { beside = y.1 }) (give_result here.next after result y.0 z))) e
+    (went_within r (record here { beside = x.1 }) (give_result here.next after result x.0) w)

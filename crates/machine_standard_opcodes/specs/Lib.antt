@@ -1,1 +1,4 @@
 pub mod Left
+pub mod Begun
+pub mod Around
+pub mod Drawn

@@ -3,17 +3,19 @@
 ghost use Rattle.std.specs.Prelude.{◌≡◌, ◌≤◌, ◌+◌, length, drop, OnOk, OnErr};
 ghost use Rattle.zcore.specs.Header.{static_base_of};
 ghost use Rattle.zcore.specs.Layout.{header_size};
-ghost use Rattle.zcore.specs.declared.beside.Beside.{Beside};
 ghost use Rattle.zcore_standard.specs.Flow as definitions;
-ghost use Rattle.zcore_standard.specs.Machine.{begins};
 ghost use Rattle.machine_frames.specs.Contents.{memory_of};
 ghost use Rattle.machine_frames.specs.States.{IsSound, IsStoreOf};
-ghost use Rattle.machine_frames.specs.Went.{GivenUp, Went};
+ghost use Rattle.machine_frames.specs.Went.{GivenUp};
 ghost use Rattle.machine_lines.specs.Lines.{Fills};
+ghost use Rattle.machine_opcodes.specs.Printed.{HasBegun, ToldFrom};
 ghost use Rattle.machine_opcodes.specs.Seen.{seen};
+ghost use Rattle.machine_standard_opcodes.specs.Around.{place, Keeps};
 ghost use Rattle.machine_standard_opcodes.specs.Left.{Empties};
 
+use crate::around::Around;
 use crate::loaded::Loaded;
+use crate::streams::cut_to_heard;
 use journal::{NoMemory, Recorded};
 use machine_frames::layout::{FRAME_COUNT, HEIGHT, MEMORY, NO_VARIABLE, RECORD, RECORDS, WAITING};
 use machine_frames::{End, Store, put_all};
@@ -21,17 +23,27 @@ use zcore::layout::HEADER_LENGTH;
 use zcore::{Limit, Next, Place};
 
 /// Begins the story anew: `restart`. Dynamic memory after the header is as it was loaded, the first
-/// environment runs, and no line is waited for. It takes a unit of fuel. Window and dice are then as
-/// at loading, which the caller sees to.
+/// environment runs, no line is waited for, window and dice are as at loading, and no stream is
+/// open; what was printed to one or to the upper window is dropped. It takes a unit of fuel.
 ///
 /// # Errors
 ///
 /// The limit of fuel. `End::Memory` where memory was refused: the turn is given up.
-pub fn restart(store: &mut Recorded<Store>, loaded: &Loaded, here: Next) -> Result<Next, End>
+pub fn restart(
+    store: &mut Recorded<Store>,
+    text: &mut Vec<u8>,
+    start: usize,
+    loaded: &Loaded,
+    around: &mut Around,
+    here: Next,
+) -> Result<Next, End>
     requires sound { IsSound store.old.store }
     requires dynamic { length loaded.now.dynamic ≡ static_base_of (memory_of store.old.store) }
-    ensures { (kept : Beside) → Went (seen (begins loaded.now.dice) result) store.old store.new
-        (definitions.restart loaded.now (begins kept here)) }
+    requires text { HasBegun start text.old.items }
+    ensures told { ToldFrom start (seen (place around.new) result) store.old text.old.items
+        store.new text.new.items (definitions.restart loaded.now (place around.old here)) }
+    ensures text { Keeps start text.old.items text.new.items }
+    ensures around { OnErr result (around.new ≡ around.old) }
 {
     if here.fuel == 0 {
         return Err(End::Stop(Place::Limit(Limit::Fuel)));
@@ -40,6 +52,10 @@ pub fn restart(store: &mut Recorded<Store>, loaded: &Loaded, here: Next) -> Resu
     let program_counter = memory[6] as u32 * 256 + memory[7] as u32;
     fill(store, HEADER_LENGTH, after_header(loaded.dynamic()))?;
     empty(store)?;
+    cut_to_heard(text, start, around);
+    around.beside = loaded.dice();
+    around.streams.clear();
+    around.upper = None;
     Ok(Next {
         program_counter,
         fuel: here.fuel - 1,
@@ -67,7 +83,7 @@ fn empty(store: &mut Recorded<Store>) -> Result<(), NoMemory>
 }
 
 /// Writes bytes one after another to dynamic memory after the header.
-fn fill(store: &mut Recorded<Store>, at: usize, bytes: &[u8]) -> Result<(), NoMemory>
+pub(crate) fn fill(store: &mut Recorded<Store>, at: usize, bytes: &[u8]) -> Result<(), NoMemory>
     requires sound { IsSound store.old.store }
     requires after_header { header_size ≤ at }
     requires room { at + length bytes.now ≤ static_base_of (memory_of store.old.store) }

@@ -2,11 +2,12 @@
 
 ghost use Rattle.std.specs.Prelude.{◌≡◌, ◌≤◌, ◌<◌, OnErr};
 ghost use Rattle.zcore_standard.specs.Dice as definitions;
-ghost use Rattle.zcore_standard.specs.Machine.{begins};
 ghost use Rattle.machine_frames.specs.States.{IsStoreOf};
 ghost use Rattle.machine_frames.specs.Went.{Went};
 ghost use Rattle.machine_opcodes.specs.Seen.{seen};
+ghost use Rattle.machine_standard_opcodes.specs.Around.{place};
 
+use crate::around::Around;
 use journal::Recorded;
 use machine_frames::{End, Store};
 use machine_opcodes::{NEGATIVE, give_result};
@@ -92,21 +93,21 @@ fn rolled(range: u16, dice: Beside) -> (u16, Beside)
 pub fn random(
     header: &Header,
     store: &mut Recorded<Store>,
-    beside: &mut Beside,
+    around: &mut Around,
     here: Next,
     after: u32,
     result_variable: Option<u8>,
     range: u16,
 ) -> Result<Next, End>
     requires { IsStoreOf header.now store.old.store }
-    ensures went { Went (seen (begins beside.new) result) store.old store.new
-        (definitions.random (begins beside.old here) after result_variable range) }
-    ensures beside { OnErr result (beside.new ≡ beside.old) }
+    ensures went { Went (seen (place around.new) result) store.old store.new
+        (definitions.random (place around.old here) after result_variable range) }
+    ensures around { OnErr result (around.new ≡ around.old) }
 {
-    let (number, dice) = rolled(range, *beside);
+    let (number, dice) = rolled(range, around.beside);
     match give_result(header, store, here, after, result_variable, number) {
         Ok(next) => {
-            *beside = dice;
+            around.beside = dice;
             Ok(next)
         }
         Err(end) => Err(end),

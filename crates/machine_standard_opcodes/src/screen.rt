@@ -4,7 +4,7 @@
 ghost use Rattle.std.specs.Prelude.{◌≡◌, ◌<◌, ◌≤◌, ◌+◌, ◌&&◌, nat_le, nat_lt, true, if◌then◌else◌, OnOk};
 ghost use Rattle.zcore.specs.Layout.{header_size};
 ghost use Rattle.zcore_standard.specs.Screen as definitions;
-ghost use Rattle.machine_frames.specs.States.{IsSound, IsStoreOf};
+ghost use Rattle.machine_frames.specs.States.{IsStoreOf};
 ghost use Rattle.machine_frames.specs.Went.{Went};
 ghost use Rattle.machine_standard_opcodes.specs.Left.{are_writable, words_before};
 
@@ -15,12 +15,6 @@ use zcore::{Fault, Header, Next, Place};
 
 /// The row and the column of the cursor.
 const FIRST: u16 = 1;
-
-/// The stream that goes to a table in memory (section 7.1.2).
-const MEMORY_STREAM: u16 = 3;
-
-/// This closes it: -3.
-const NO_MEMORY_STREAM: u16 = 0xFFFD;
 
 /// Writes where the cursor is, two words: `get_cursor`. It is always in the first row and column.
 ///
@@ -84,34 +78,4 @@ pub fn font_of(font: u16) -> u16
     ensures { result ≡ (if nat_le font 1 then 1 else 0) }
 {
     if font <= 1 { 1 } else { 0 }
-}
-
-/// Selects an output stream: `output_stream`. The transcript is always written.
-///
-/// # Errors
-///
-/// M1 for the memory stream.
-pub fn output_stream(
-    store: &Recorded<Store>,
-    here: Next,
-    after: u32,
-    number: u16,
-) -> Result<Next, End>
-    requires { IsSound store.now.store }
-    ensures { Went result store.now store.now (definitions.output_stream here after number) }
-{
-    if is_memory_stream(number) {
-        return Err(End::Stop(Place::Fault(Fault::Opcode)));
-    }
-    Ok(Next {
-        program_counter: after,
-        fuel: here.fuel,
-    })
-}
-
-/// Whether a number selects or closes the stream that goes to memory.
-fn is_memory_stream(number: u16) -> bool
-    ensures { result ≡ definitions.is_memory_stream number }
-{
-    number == MEMORY_STREAM || number == NO_MEMORY_STREAM
 }

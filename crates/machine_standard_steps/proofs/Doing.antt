@@ -1,7 +1,6 @@
 -- Further operations on the values of their operands.
 use Rattle.std.proofs.Common.{◌≡◌, ◌≢◌, ℕ, Bool, true, false, List, Option, Result, Ok, refl, ap}
 use Rattle.journal.specs.Recording.{Recording}
-use Rattle.zcore.specs.declared.beside.Beside.{Beside}
 use Rattle.zcore.specs.declared.instruction.Branch.{Branch}
 use Rattle.zcore.specs.declared.next.Next.{Next}
 use Rattle.zcore.specs.Effects.{give_result}
@@ -9,10 +8,9 @@ use Rattle.zcore.specs.Parts.{branch_on}
 use Rattle.zcore.specs.State.{State, Out, done}
 use Rattle.zcore_standard.specs.declared.operations.Further.{Further}
 use Rattle.zcore_standard.specs.declared.operations.Further.TheVariants as operations
-use Rattle.zcore_standard.specs.Place.{Here, within}
+use Rattle.zcore_standard.specs.Place.{Here, on, within}
 use Rattle.zcore_standard.specs.Loaded.{Loaded}
 use Rattle.zcore_standard.specs.Further.{perform_keeping, perform_further}
-use Rattle.zcore_standard.specs.Machine.{begins}
 use Rattle.machine_frames.specs.Contents.{Contents}
 use Rattle.machine_frames.specs.States.{state_of, IsSound}
 use Rattle.machine_frames.specs.Went.{Went, Told}
@@ -20,7 +18,8 @@ use Rattle.machine_frames.specs.declared.end.End.{End}
 use Rattle.machine_frames.proofs.Steps.{told_as, told_went, told_still}
 use Rattle.machine_opcodes.specs.Seen.{seen}
 use Rattle.machine_standard_opcodes.proofs.Keeping.{told_within}
-use Rattle.machine_standard_steps.specs.Kinds.{does_nothing, gives_word, branches, prints, is_quiet, GivesWord}
+use Rattle.machine_standard_steps.specs.Kinds.{does_nothing, is_on_windows, gives_word, branches, prints, is_quiet}
+use Rattle.machine_standard_steps.specs.Kinds.{GivesWord}
 use Rattle.machine_standard_steps.specs.Kinds.{BranchesBy}
 
 -- the operations that do nothing
@@ -32,10 +31,7 @@ nothing_done : (loaded : Loaded) (operation : Further) (here : Next) (after : �
 unfolding perform_keeping
 nothing_done loaded operations.ShowStatus here after result branch values s e = refl
 nothing_done loaded operations.SetColour here after result branch values s e = refl
-nothing_done loaded operations.SplitWindow here after result branch values s e = refl
-nothing_done loaded operations.EraseWindow here after result branch values s e = refl
 nothing_done loaded operations.EraseLine here after result branch values s e = refl
-nothing_done loaded operations.SetCursor here after result branch values s e = refl
 nothing_done loaded operations.SetTextStyle here after result branch values s e = refl
 nothing_done loaded operations.BufferMode here after result branch values s e = refl
 nothing_done loaded operations.InputStream here after result branch values s e = refl
@@ -81,25 +77,33 @@ pub quiet : (operation : Further) → does_nothing operation ≡ false → gives
     → is_quiet operation ≡ true
 quiet operation a b c m n = rw (a, b, c, prints_not operation m n) refl
 
--- window and dice stay
+-- windows, dice and streams stay
 
-pub keeping_is : (loaded : Loaded) (operation : Further) (here : Here) (after : ℕ) (result : Option ℕ)
+keeping_is : (loaded : Loaded) (operation : Further) (here : Here) (after : ℕ) (result : Option ℕ)
     (branch : Option Branch) (values : List ℕ) (s : State) → operation ≢ operations.Restart
-    → operation ≢ operations.Random
+    → operation ≢ operations.Random → operation ≢ operations.Read → operation ≢ operations.ReadChar
+    → operation ≢ operations.OutputStream → is_on_windows operation ≡ false
     → perform_further loaded operation here after result branch values s
     ≡ within here (perform_keeping loaded operation here.next after result branch values s)
 unfolding perform_further
-keeping_is loaded operations.Restart here after result branch values s m n = absurd (m refl)
-keeping_is loaded operations.Random here after result branch values s m n = absurd (n refl)
-keeping_is loaded _ here after result branch values s m n = refl
+keeping_is loaded operations.Restart here after result branch values s m n k j l e = absurd (m refl)
+keeping_is loaded operations.Random here after result branch values s m n k j l e = absurd (n refl)
+keeping_is loaded operations.Read here after result branch values s m n k j l e = absurd (k refl)
+keeping_is loaded operations.ReadChar here after result branch values s m n k j l e = absurd (j refl)
+keeping_is loaded operations.OutputStream here after result branch values s m n k j l e = absurd (l refl)
+keeping_is loaded operations.SetWindow here after result branch values s m n k j l e = absurd (cc)
+keeping_is loaded operations.SetCursor here after result branch values s m n k j l e = absurd (cc)
+keeping_is loaded operations.EraseWindow here after result branch values s m n k j l e = absurd (cc)
+keeping_is loaded operations.SplitWindow here after result branch values s m n k j l e = absurd (cc)
+keeping_is loaded _ here after result branch values s m n k j l e = refl
 
 pub keeping_told : {s t : Recording Contents} {x y : List ℕ} (r : Result Next End) (loaded : Loaded)
-    (operation : Further) (beside : Beside) (here : Next) (after : ℕ) (result : Option ℕ) (branch : Option Branch)
-    (values : List ℕ) → operation ≢ operations.Restart → operation ≢ operations.Random
-    → Told r s x t y (perform_keeping loaded operation here after result branch values)
-    → Told (seen (begins beside) r) s x t y
-    (perform_further loaded operation (begins beside here) after result branch values)
-keeping_told {s} {x = x} r loaded operation beside here after result branch values m n w =
-    told_as (seen (begins beside) r) (perform_further loaded operation (begins beside here) after result branch values)
-    (keeping_is loaded operation (begins beside here) after result branch values (state_of s.store x) m n)
-    (told_within r (begins beside here) (perform_keeping loaded operation here after result branch values) w)
+    (operation : Further) (here : Here) (after : ℕ) (result : Option ℕ) (branch : Option Branch)
+    (values : List ℕ) → operation ≢ operations.Restart → operation ≢ operations.Random → operation ≢ operations.Read
+    → operation ≢ operations.ReadChar → operation ≢ operations.OutputStream → is_on_windows operation ≡ false
+    → Told r s x t y (perform_keeping loaded operation here.next after result branch values)
+    → Told (seen (on here) r) s x t y (perform_further loaded operation here after result branch values)
+keeping_told {s} {x = x} r loaded operation here after result branch values m n k j l e w =
+    told_as (seen (on here) r) (perform_further loaded operation here after result branch values)
+    (keeping_is loaded operation here after result branch values (state_of s.store x) m n k j l e)
+    (told_within r here (perform_keeping loaded operation here.next after result branch values) w)

@@ -4,19 +4,18 @@ use Rattle.std.specs.Prelude.{IfOk}
 use Rattle.std.specs.Result.{IsErrAnd}
 use Rattle.std.proofs.lemmas.Result.{err_from_is_err_and}
 use Rattle.journal.specs.Recording.{Recording}
-use Rattle.zcore.specs.declared.beside.Beside.{Beside}
 use Rattle.zcore.specs.declared.next.Next.{Next}
 use Rattle.zcore.specs.declared.place.Fault.{Fault}
 use Rattle.zcore.specs.declared.place.Place.TheVariants as places
 use Rattle.zcore.specs.Parts.{fault, operand_values}
-use Rattle.zcore.specs.State.{State, Out}
+use Rattle.zcore.specs.State.{State, Out, ◌>>=◌}
 use Rattle.zcore.specs.Turn.{weight}
 use Rattle.zcore_standard.specs.declared.operations.Further.{Further}
-use Rattle.zcore_standard.specs.Place.{Here, within}
+use Rattle.zcore_standard.specs.Place.{Here, on, within}
 use Rattle.zcore_standard.specs.Loaded.{Loaded}
 use Rattle.zcore_standard.specs.Instruction.{Instruction, decode_further}
 use Rattle.zcore_standard.specs.Further.{perform_further, execute_further}
-use Rattle.zcore_standard.specs.Machine.{begins, chosen, standard_step}
+use Rattle.zcore_standard.specs.Machine.{chosen, standard_step}
 use Rattle.zcore_standard.specs.Nothing.{step_known}
 use Rattle.zcore_standard.specs.Operations.{further_at}
 use Rattle.zcore_standard.proofs.Stepping.{standard_step_falls}
@@ -27,11 +26,13 @@ use Rattle.machine_frames.specs.declared.end.End.{End}
 use Rattle.machine_frames.specs.declared.end.End.TheVariants as ends
 use Rattle.machine_frames.proofs.Steps.{went_no_further, told_as, told_went, told_then, told_halt}
 use Rattle.machine_opcodes.specs.Seen.{seen}
+use Rattle.machine_standard_opcodes.specs.Around.{place}
+use Rattle.machine_standard_opcodes.specs.declared.around.Around.{Around}
 use Rattle.machine_standard_opcodes.proofs.Keeping.{told_within}
 
 -- a step where no further operation is found
 none_step : (loaded : Loaded) (here : Here) (s : State) → further_at s.memory here.next.program_counter ≡ None
-    → standard_step loaded here s ≡ within here (step_known here.next s)
+    → standard_step loaded here s ≡ within here (step_known loaded.characters here.next s)
 unfolding standard_step
 none_step loaded here s e = ap (λ o. chosen loaded o here s) e
 
@@ -43,13 +44,14 @@ some_step : (loaded : Loaded) (here : Here) (s : State) (x : Further)
 unfolding standard_step
 some_step loaded here s x e = ap (λ o. chosen loaded o here s) e
 
-pub stepped_none : {s t : Recording Contents} {x y : List ℕ} (r : Result Next End) (loaded : Loaded) (beside : Beside)
-    (here : Next) → further_at (memory_of s.store) here.program_counter ≡ None → Told r s x t y (step_known here)
-    → Told (seen (begins beside) r) s x t y (standard_step loaded (begins beside here))
-stepped_none {s} {t} {x} {y} r loaded beside here e w =
-    told_as (seen (begins beside) r) (standard_step loaded (begins beside here))
-    (none_step loaded (begins beside here) (state_of s.store x) e)
-    (told_within r (begins beside here) (step_known here) w)
+pub stepped_none : {s t : Recording Contents} {x y : List ℕ} (r : Result Next End) (loaded : Loaded) (here : Here)
+    (characters : List ℕ) → further_at (memory_of s.store) here.next.program_counter ≡ None
+    → characters ≡ loaded.characters → Told r s x t y (step_known characters here.next)
+    → Told (seen (on here) r) s x t y (standard_step loaded here)
+stepped_none {s} {t} {x} {y} r loaded here characters e is w =
+    told_as (seen (on here) r) (standard_step loaded here) (none_step loaded here (state_of s.store x) e)
+    (told_within r here (step_known loaded.characters here.next)
+    (subst (λ l. Told r s x t y (step_known l here.next)) is w))
 
 pub stepped_some : {s t : Recording Contents} {x y : List ℕ} (r : Result Here End) (loaded : Loaded) (here : Here)
     (operation : Further) → further_at (memory_of s.store) here.next.program_counter ≡ Some operation
@@ -61,13 +63,12 @@ stepped_some {s} {t} {x} {y} r loaded here operation e w =
 
 -- each step makes the weight fall
 pub standard_lighter : {s t : Recording Contents} {x y : List ℕ} (r : Result Next End) (loaded : Loaded)
-    (old new : Beside) (here : Next)
-    → Told (seen (begins new) r) s x t y (standard_step loaded (begins old here))
-    → IfOk r (λ next. weight next (state_of t.store y) < weight here (state_of s.store x))
-standard_lighter {s} {t} {x} {y} (Ok next) loaded old new here w =
-    (standard_step_falls loaded (begins old here) (begins new next) (state_of s.store x) (state_of t.store y)
-    w.told.1).falls
-standard_lighter (Err e) loaded old new here w = tt
+    (here : Here) (new : Around)
+    → Told (seen (place new) r) s x t y (standard_step loaded here)
+    → IfOk r (λ next. weight next (state_of t.store y) < weight here.next (state_of s.store x))
+standard_lighter {s} {t} {x} {y} (Ok next) loaded here new w =
+    (standard_step_falls loaded here (place new next) (state_of s.store x) (state_of t.store y) w.told.1).falls
+standard_lighter (Err e) loaded here new w = tt
 
 pub executes_further : {s t u : Recording Contents} {x y : List ℕ} (r : Result Here End) (loaded : Loaded)
     (operation : Further) (here : Here) (i : Instruction) (after : ℕ) (d : Result (Instruction × ℕ) Fault)
@@ -100,3 +101,7 @@ pub told_err_seen : {s t : Recording Contents} {x y : List ℕ} {e : End} {f : S
 told_err_seen view r h w =
     let p = err_from_is_err_and r h in
     rw (p.1, p.2) w
+
+-- a place where no turn goes on, for what holds of every place
+pub nowhere : Next
+nowhere = record { program_counter = 0; fuel = 0 }

@@ -6,8 +6,9 @@ use Rattle.zcore.specs.Effects.{give_result}
 use Rattle.zcore.specs.Parts.{branch_on}
 use Rattle.zcore_standard.specs.declared.operations.Further.{Further}
 use Rattle.zcore_standard.specs.declared.operations.Further.TheVariants.{ShowStatus, Verify, Piracy, SetColour}
-use Rattle.zcore_standard.specs.declared.operations.Further.TheVariants.{SplitWindow, EraseWindow, EraseLine, SetCursor}
-use Rattle.zcore_standard.specs.declared.operations.Further.TheVariants.{SetTextStyle, BufferMode, InputStream}
+use Rattle.zcore_standard.specs.declared.operations.Further.TheVariants.{SplitWindow, SetWindow, EraseWindow, EraseLine}
+use Rattle.zcore_standard.specs.declared.operations.Further.TheVariants.{SetCursor, SetTextStyle, BufferMode}
+use Rattle.zcore_standard.specs.declared.operations.Further.TheVariants.{InputStream}
 use Rattle.zcore_standard.specs.declared.operations.Further.TheVariants.{SoundEffect, Save, Restore, LogShift}
 use Rattle.zcore_standard.specs.declared.operations.Further.TheVariants.{ArtShift, SetFont, SaveUndo, RestoreUndo}
 use Rattle.zcore_standard.specs.declared.operations.Further.TheVariants.{PrintTable, PrintUnicode, CheckUnicode}
@@ -19,16 +20,21 @@ use Rattle.zcore_standard.specs.Further.{perform_keeping}
 abbrev pub does_nothing : Further → Bool
 does_nothing ShowStatus = true
 does_nothing SetColour = true
-does_nothing SplitWindow = true
-does_nothing EraseWindow = true
 does_nothing EraseLine = true
-does_nothing SetCursor = true
 does_nothing SetTextStyle = true
 does_nothing BufferMode = true
 does_nothing InputStream = true
 does_nothing SoundEffect = true
 does_nothing SetTrueColour = true
 does_nothing _ = false
+
+-- whether an operation is on windows
+abbrev pub is_on_windows : Further → Bool
+is_on_windows SetWindow = true
+is_on_windows SetCursor = true
+is_on_windows EraseWindow = true
+is_on_windows SplitWindow = true
+is_on_windows _ = false
 
 -- whether an operation gives a word, and does nothing else
 abbrev pub gives_word : Further → Bool

@@ -1,8 +1,6 @@
-//! Further operations that change memory, frames or the text, or that wait (Z-Machine Standards
-//! Document 1.1, section 15).
+//! Further operations that change memory or frames (Z-Machine Standards Document 1.1, section 15).
 
 ghost use Rattle.std.specs.Prelude.{◌≡◌, ◌≤◌, true, slice_index_or, length};
-ghost use Rattle.zcore.specs.Execution as steps;
 ghost use Rattle.zcore.specs.Execution.{first, second, third};
 ghost use Rattle.zcore.specs.Layout.{longest_story};
 ghost use Rattle.zcore_standard.specs.Further.{fourth, perform_keeping, words_of_table};
@@ -16,8 +14,8 @@ ghost use Rattle.machine_standard_steps.specs.Kinds.{is_quiet};
 
 use journal::Recorded;
 use machine_frames::{End, Store};
-use machine_opcodes::{Ending, read};
-use machine_standard_opcodes::{catch, get_cursor, output_stream, throw};
+use machine_opcodes::Ending;
+use machine_standard_opcodes::{catch, get_cursor, throw};
 use machine_standard_tables::{copy_table, scan_table};
 use machine_standard_words::{encode_text, tokenise};
 use zcore::{Fault, Header, Next, Place};
@@ -35,32 +33,6 @@ pub(crate) fn value_or(values: &[u16], place: usize, other: u16) -> u16
     } else {
         other
     }
-}
-
-/// Waits for a line: `aread`, of which the parse buffer may be left out; time and routine are not
-/// used.
-fn wait(
-    header: &Header,
-    store: &mut Recorded<Store>,
-    here: Next,
-    values: &[u16],
-    ending: Ending,
-) -> Result<Next, End>
-    requires store { IsStoreOf header.now store.old.store }
-    requires enough { 1 ≤ length values.now }
-    ensures { Went result store.old store.new (steps.read here ending.after ending.result
-        (first values.now) (slice_index_or values.now 1 0)) }
-{
-    let parse_buffer = value_or(values, 1, 0);
-    read(
-        header,
-        store,
-        here,
-        ending.after,
-        ending.result,
-        values[0],
-        parse_buffer,
-    )
 }
 
 /// Looks for a word in a table: `scan_table`, of which the form may be left out.
@@ -134,9 +106,7 @@ pub(crate) fn perform_quietly(
     match operation {
         Further::Catch => catch(header, store, here, after, ending.result),
         Further::Throw => throw(header, store, here, values[0], values[1]),
-        Further::Read => wait(header, store, here, values, ending),
         Further::GetCursor => get_cursor(header, store, here, after, values[0]),
-        Further::OutputStream => output_stream(store, here, after, values[0]),
         Further::ScanTable => scan(header, store, here, values, ending),
         Further::Tokenise => cut_words(header, store, here, after, values),
         Further::EncodeText => {
@@ -147,9 +117,15 @@ pub(crate) fn perform_quietly(
         Further::CopyTable => {
             copy_table(header, store, here, after, values[0], values[1], values[2])
         }
-        Further::SetWindow | Further::ReadChar | Further::Restart | Further::Random => {
-            Err(End::Stop(Place::Fault(Fault::Opcode)))
-        }
+        Further::SetWindow
+        | Further::SetCursor
+        | Further::EraseWindow
+        | Further::SplitWindow
+        | Further::ReadChar
+        | Further::Restart
+        | Further::Random
+        | Further::Read
+        | Further::OutputStream => Err(End::Stop(Place::Fault(Fault::Opcode))),
         _ => unreachable!(),
     }
 }

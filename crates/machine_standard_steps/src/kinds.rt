@@ -3,7 +3,7 @@
 
 ghost use Rattle.std.specs.Prelude.{◌≡◌, ◌≤◌, ℕ, false, List, length, IfSome, IfNone};
 ghost use Rattle.zcore_standard.specs.Operations.{row_of};
-ghost use Rattle.machine_standard_steps.specs.Kinds.{does_nothing, gives_word, branches, GivesWord, BranchesBy};
+ghost use Rattle.machine_standard_steps.specs.Kinds.{does_nothing, is_on_windows, gives_word, branches, GivesWord, BranchesBy};
 
 use machine_standard_opcodes::{Loaded, abilities, font_of, shifted, shifted_with_sign};
 use zcore_standard::Further;
@@ -21,10 +21,7 @@ pub(crate) fn does_nothing(operation: Further) -> bool
     match operation {
         Further::ShowStatus
         | Further::SetColour
-        | Further::SplitWindow
-        | Further::EraseWindow
         | Further::EraseLine
-        | Further::SetCursor
         | Further::SetTextStyle
         | Further::BufferMode
         | Further::InputStream
@@ -32,6 +29,16 @@ pub(crate) fn does_nothing(operation: Further) -> bool
         | Further::SetTrueColour => true,
         _ => false,
     }
+}
+
+/// Whether an operation is on windows.
+pub(crate) fn is_on_windows(operation: Further) -> bool
+    ensures { result ≡ is_on_windows operation }
+{
+    matches!(
+        operation,
+        Further::SetWindow | Further::SetCursor | Further::EraseWindow | Further::SplitWindow
+    )
 }
 
 /// The word that an operation gives, where it does nothing else.

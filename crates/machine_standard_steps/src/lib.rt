@@ -7,6 +7,7 @@ mod effects;
 mod kinds;
 mod opcodes;
 mod perform;
+mod reading;
 mod step;
 
 pub use step::step_standard;

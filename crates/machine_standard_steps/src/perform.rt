@@ -1,26 +1,32 @@
 //! What a further instruction does with the values of its operands.
 
-ghost use Rattle.std.specs.Prelude.{◌≡◌, ◌≤◌, slice_index_or, length, OnErr};
+ghost use Rattle.std.specs.Prelude.{◌≡◌, ◌≤◌, true, slice_index_or, length, OnErr};
 ghost use Rattle.zcore.specs.Execution.{first, second};
 ghost use Rattle.zcore.specs.Header.{static_base_of};
 ghost use Rattle.zcore.specs.Layout.{longest_story};
 ghost use Rattle.zcore_standard.specs.Further as definitions;
-ghost use Rattle.zcore_standard.specs.Machine.{begins};
+ghost use Rattle.zcore_standard.specs.Loaded as loading;
 ghost use Rattle.zcore_standard.specs.Operations.{row_of};
 ghost use Rattle.zcore_standard.specs.Tables as tables;
 ghost use Rattle.machine_frames.specs.Contents.{memory_of};
 ghost use Rattle.machine_frames.specs.States.{IsSound, IsStoreOf};
 ghost use Rattle.machine_opcodes.specs.Printed.{HasBegun, Grew, ToldFrom};
 ghost use Rattle.machine_opcodes.specs.Seen.{seen};
+ghost use Rattle.machine_standard_opcodes.specs.Around.{place, Keeps};
+ghost use Rattle.machine_standard_steps.specs.Kinds.{is_on_windows};
 
 use crate::effects::{perform_quietly, value_or};
-use crate::kinds::{condition_of, does_nothing, word_of};
+use crate::kinds::{condition_of, does_nothing, is_on_windows, word_of};
+use crate::reading::{read_key, read_line};
 use journal::Recorded;
 use machine_frames::{End, Store};
 use machine_opcodes::{Ending, branch_on, give_result};
-use machine_standard_opcodes::{Loaded, print_unicode, random, restart};
+use machine_standard_opcodes::{
+    Around, Loaded, erase_window, output_stream, print_unicode, random, restart, set_cursor,
+    set_window, split_window,
+};
 use machine_standard_tables::print_table;
-use zcore::{Beside, Header, Next};
+use zcore::{Header, Next};
 use zcore_standard::Further;
 
 /// The rows of a table that is printed, where their number is left out.
@@ -33,7 +39,7 @@ pub(crate) fn perform_further(
     text: &mut Vec<u8>,
     start: usize,
     loaded: &Loaded,
-    beside: &mut Beside,
+    around: &mut Around,
     here: Next,
     operation: Further,
     values: &[u16],
@@ -44,38 +50,88 @@ pub(crate) fn perform_further(
     requires text { HasBegun start text.old.items }
     requires enough { (row_of operation).least_operands ≤ length values.now }
     requires after { ending.after ≤ longest_story }
-    ensures told { ToldFrom start (seen (begins beside.new) result) store.old text.old.items
+    ensures told { ToldFrom start (seen (place around.new) result) store.old text.old.items
         store.new text.new.items (definitions.perform_further loaded.now operation
-        (begins beside.old here) ending.after ending.result ending.branch values.now) }
-    ensures text { Grew start text.old.items text.new.items }
-    ensures beside { OnErr result (beside.new ≡ beside.old) }
+        (place around.old here) ending.after ending.result ending.branch values.now) }
+    ensures text { Keeps start text.old.items text.new.items }
+    ensures around { OnErr result (around.new ≡ around.old) }
 {
+    if is_on_windows(operation) {
+        return perform_on_windows(store, text, start, around, here, operation, values, ending);
+    }
     match operation {
-        Further::Restart => match restart(store, loaded, here) {
-            Ok(next) => {
-                *beside = loaded.dice();
-                Ok(next)
-            }
-            Err(end) => Err(end),
-        },
+        Further::Restart => restart(store, text, start, loaded, around, here),
         Further::Random => {
             random(
                 header,
                 store,
-                beside,
+                around,
                 here,
                 ending.after,
                 ending.result,
                 values[0],
             )
         }
+        Further::Read => read_line(header, store, text, start, loaded, around, values, ending),
+        Further::ReadChar => read_key(header, store, text, start, loaded, around, ending),
+        Further::OutputStream => output_stream(
+            header,
+            store,
+            text,
+            start,
+            loaded,
+            around,
+            here,
+            ending.after,
+            values,
+        ),
         _ => perform_keeping(
             header, store, text, start, loaded, here, operation, values, ending,
         ),
     }
 }
 
-/// Does a further operation that leaves window and dice as they are.
+/// Does an operation on windows.
+fn perform_on_windows(
+    store: &mut Recorded<Store>,
+    text: &mut Vec<u8>,
+    start: usize,
+    around: &mut Around,
+    here: Next,
+    operation: Further,
+    values: &[u16],
+    ending: Ending,
+) -> Result<Next, End>
+    requires sound { IsSound store.old.store }
+    requires text { HasBegun start text.old.items }
+    requires windows { is_on_windows operation ≡ true }
+    requires enough { (row_of operation).least_operands ≤ length values.now }
+    ensures told { (loaded : loading.Loaded) → ToldFrom start (seen (place around.new) result)
+        store.old text.old.items store.new text.new.items (definitions.perform_further loaded
+        operation (place around.old here) ending.after ending.result ending.branch values.now) }
+    ensures text { Keeps start text.old.items text.new.items }
+    ensures around { OnErr result (around.new ≡ around.old) }
+{
+    let next = Next {
+        program_counter: ending.after,
+        fuel: here.fuel,
+    };
+    match operation {
+        Further::SetWindow => set_window(store, text, start, around, next, values[0]),
+        Further::SetCursor => { set_cursor(store, text, start, around, next, values[0], values[1]) }
+        Further::EraseWindow => {
+            erase_window(text, start, around, values[0]);
+            Ok(next)
+        }
+        Further::SplitWindow => {
+            split_window(text, start, around, values[0]);
+            Ok(next)
+        }
+        _ => unreachable!(),
+    }
+}
+
+/// Does a further operation that leaves windows, dice and streams as they are.
 fn perform_keeping(
     header: &Header,
     store: &mut Recorded<Store>,
@@ -111,7 +167,7 @@ fn perform_keeping(
     }
     match operation {
         Further::PrintUnicode => print_unicode(store, text, start, here, after, values[0]),
-        Further::PrintTable => print_rows(store, text, start, here, after, values),
+        Further::PrintTable => print_rows(store, text, start, loaded, here, after, values),
         _ => perform_quietly(header, store, here, operation, values, ending),
     }
 }
@@ -122,6 +178,7 @@ fn print_rows(
     store: &mut Recorded<Store>,
     text: &mut Vec<u8>,
     start: usize,
+    loaded: &Loaded,
     here: Next,
     after: u32,
     values: &[u16],
@@ -130,13 +187,22 @@ fn print_rows(
     requires text { HasBegun start text.old.items }
     requires enough { 2 ≤ length values.now }
     ensures told { ToldFrom start result store.old text.old.items store.new text.new.items
-        (tables.print_table here after (first values.now) (second values.now)
+        (tables.print_table loaded.now.characters here after (first values.now) (second values.now)
         (slice_index_or values.now 2 definitions.one_row) (definitions.fourth values.now)) }
     ensures text { Grew start text.old.items text.new.items }
 {
     let height = value_or(values, 2, ONE_ROW);
     let skip = value_or(values, 3, 0);
     print_table(
-        store, text, start, here, after, values[0], values[1], height, skip,
+        store,
+        text,
+        start,
+        loaded.characters(),
+        here,
+        after,
+        values[0],
+        values[1],
+        height,
+        skip,
     )
 }

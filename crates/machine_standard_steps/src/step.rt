@@ -5,12 +5,13 @@ ghost use Rattle.zcore.specs.Header.{static_base_of};
 ghost use Rattle.zcore.specs.Turn.{weight};
 ghost use Rattle.zcore_standard.specs.Further as definitions;
 ghost use Rattle.zcore_standard.specs.Instruction.{decode_further};
-ghost use Rattle.zcore_standard.specs.Machine.{begins, standard_step};
+ghost use Rattle.zcore_standard.specs.Machine.{standard_step};
 ghost use Rattle.zcore_standard.specs.Operations.{further_at};
 ghost use Rattle.machine_frames.specs.Contents.{memory_of};
 ghost use Rattle.machine_frames.specs.States.{state_of, IsStoreOf};
-ghost use Rattle.machine_opcodes.specs.Printed.{HasBegun, Grew, ToldFrom};
+ghost use Rattle.machine_opcodes.specs.Printed.{HasBegun, ToldFrom};
 ghost use Rattle.machine_opcodes.specs.Seen.{seen};
+ghost use Rattle.machine_standard_opcodes.specs.Around.{place, Keeps};
 
 use crate::decode::decode_further;
 use crate::opcodes::further_at;
@@ -18,9 +19,9 @@ use crate::perform::perform_further;
 use journal::Recorded;
 use machine_frames::{End, Store};
 use machine_standard_objects::step_known;
-use machine_standard_opcodes::Loaded;
+use machine_standard_opcodes::{Around, Loaded};
 use machine_steps::{OPERANDS, operand_values};
-use zcore::{Beside, Header, Next, Operand, Place};
+use zcore::{Header, Next, Operand, Place};
 use zcore_standard::Further;
 
 /// Does the instruction at the program counter, and answers where the turn goes on.
@@ -30,24 +31,24 @@ pub fn step_standard(
     text: &mut Vec<u8>,
     start: usize,
     loaded: &Loaded,
-    beside: &mut Beside,
+    around: &mut Around,
     here: Next,
 ) -> Result<Next, End>
     requires store { IsStoreOf header.now store.old.store }
     requires dynamic { length loaded.now.dynamic ≡ static_base_of (memory_of store.old.store) }
     requires text { HasBegun start text.old.items }
-    ensures told { ToldFrom start (seen (begins beside.new) result) store.old text.old.items
-        store.new text.new.items (standard_step loaded.now (begins beside.old here)) }
+    ensures told { ToldFrom start (seen (place around.new) result) store.old text.old.items
+        store.new text.new.items (standard_step loaded.now (place around.old here)) }
     ensures falls { IfOk result (λ next.
         weight next (state_of store.new.store (drop start text.new.items))
         < weight here (state_of store.old.store (drop start text.old.items))) }
-    ensures text { Grew start text.old.items text.new.items }
-    ensures beside { OnErr result (beside.new ≡ beside.old) }
+    ensures text { Keeps start text.old.items text.new.items }
+    ensures around { OnErr result (around.new ≡ around.old) }
 {
     match further_at(store.store().memory(), here.program_counter as usize) {
-        None => step_known(header, store, text, start, here),
+        None => step_known(header, store, text, start, loaded.characters(), here),
         Some(operation) => {
-            step_further(header, store, text, start, loaded, beside, here, operation)
+            step_further(header, store, text, start, loaded, around, here, operation)
         }
     }
 }
@@ -59,7 +60,7 @@ fn step_further(
     text: &mut Vec<u8>,
     start: usize,
     loaded: &Loaded,
-    beside: &mut Beside,
+    around: &mut Around,
     here: Next,
     operation: Further,
 ) -> Result<Next, End>
@@ -67,12 +68,12 @@ fn step_further(
     requires dynamic { length loaded.now.dynamic ≡ static_base_of (memory_of store.old.store) }
     requires text { HasBegun start text.old.items }
     requires found { further_at (memory_of store.old.store) here.program_counter ≡ Some operation }
-    ensures told { ToldFrom start (seen (begins beside.new) result) store.old text.old.items
+    ensures told { ToldFrom start (seen (place around.new) result) store.old text.old.items
         store.new text.new.items (definitions.execute_further loaded.now operation
-        (begins beside.old here) (decode_further (memory_of store.old.store) here.program_counter
+        (place around.old here) (decode_further (memory_of store.old.store) here.program_counter
         operation)) }
-    ensures text { Grew start text.old.items text.new.items }
-    ensures beside { OnErr result (beside.new ≡ beside.old) }
+    ensures text { Keeps start text.old.items text.new.items }
+    ensures around { OnErr result (around.new ≡ around.old) }
 {
     let mut operands = [Operand::Small(0); OPERANDS];
     let mut values = [0; OPERANDS];
@@ -89,7 +90,7 @@ fn step_further(
         text,
         start,
         loaded,
-        beside,
+        around,
         here,
         operation,
         &values[..count],

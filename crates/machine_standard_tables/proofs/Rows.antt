@@ -1,72 +1,48 @@
--- Rows that are printed, and their characters.
+-- Rows that are printed, and their codes.
 use Rattle.std.proofs.Common.{◌≡◌, ℕ, zero, suc, ◌+◌, ◌-◌, ◌*◌, ◌<◌, ◌≤◌, inl, inr, List, [], ◌∷◌, ◌++◌, length, take, drop}
 use Rattle.std.proofs.Common.{slice_index, refl, ap, sym, ◌∙◌, subst, arith, append-nil, append_assoc, add-one, true, false}
 use Rattle.std.proofs.Common.{Result, Ok, Err}
 use Rattle.std.specs.Prelude.{◌==◌, nat_le}
-use Rattle.std.specs.List.{flat_map}
 use Rattle.std.proofs.lemmas.Bool.{ne_eqb, cases_lt}
-use Rattle.std.proofs.lemmas.Grind.{flat_map-append}
 use Rattle.std.proofs.lemmas.List.{take_more, take-append-drop, take-take}
 use Rattle.std.proofs.Math.Nat.{mul-le-mul_right}
 use Rattle.journal.specs.Recording.{Recording}
 use Rattle.zcore.specs.declared.next.Next.{Next}
-use Rattle.zcore.specs.Effects.{print_characters}
-use Rattle.zcore.specs.Layout.{text_limit}
-use Rattle.zcore.specs.Parts.{goes_on, transcribed, print}
-use Rattle.zcore.specs.State.{State, done}
-use Rattle.zcore.proofs.KeepingReads.{chosen, done_state, never}
-use Rattle.zcore_standard.specs.Tables.{are_readable, print_table, row_division, rows, rows_size, shown}
+use Rattle.zcore.specs.Parts.{goes_on}
+use Rattle.zcore_standard.specs.Characters.{print_codes}
+use Rattle.zcore_standard.specs.Tables.{are_readable, print_table, row_division, rows, rows_size}
 use Rattle.zcore_standard.specs.Tables.{test_readable}
 use Rattle.machine_frames.specs.Contents.{Contents, memory_of}
 use Rattle.machine_frames.specs.States.{state_of}
 use Rattle.machine_frames.specs.Went.{Told, Went}
 use Rattle.machine_frames.specs.declared.end.End.{End}
 use Rattle.machine_frames.proofs.Steps.{told_as, told_no_further, told_sound, told_still, told_then, told_went, went_no_further}
-use Rattle.machine_opcodes.proofs.Transcripts.{print_two, print_first}
+use Rattle.machine_standard_texts.proofs.Adding.{codes_two, codes_first}
 use Rattle.machine_standard_tables.proofs.Tests.{readable_each}
 
--- Printing does not change memory
+-- The codes of a row
 
-print_memory : (cs : List ℕ) (s t : State) → print cs s ≡ done tt t → t.memory ≡ s.memory
-unfolding print
-print_memory cs s t h =
-    chosen (t.memory ≡ s.memory) (nat_le (length s.text + length (flat_map transcribed cs)) text_limit) _ _ tt t
-    (λ _ e. ap (λ (x : State). x.memory) (done_state tt tt _ t e))
-    (λ _ e. absurd (never _ tt _ t e)) h
+pub row_more : {r s t : Recording Contents} {x y z : List ℕ} (characters l : List ℕ) (i c : ℕ) → i < length l
+    → c ≡ slice_index l i → Told (Ok tt) r x s y (print_codes characters (take i l))
+    → Told (Ok tt) s y t z (print_codes characters (c ∷ []))
+    → Told (Ok tt) r x t z (print_codes characters (take (i + 1) l))
+row_more {r} {s} {t} {x} {y} {z} characters l i c lt e v w =
+    subst (λ k. Told (Ok tt) r x t z (print_codes characters k))
+    (sym (take_more l i 0 lt ∙ ap (λ b. take i l ++ b ∷ []) (sym e))) (codes_two characters (take i l) (c ∷ []) v w)
 
-pub told_memory : (r s : Recording Contents) (x y cs : List ℕ) → Told (Ok tt) r x s y (print cs)
-    → memory_of s.store ≡ memory_of r.store
-told_memory r s x y cs w = print_memory cs (state_of r.store x) (state_of s.store y) w.told.1
-
--- The characters of a row
-
--- one more character
-shown_more : (l : List ℕ) (i c : ℕ) → i < length l → c ≡ slice_index l i
-    → flat_map shown (take (i + 1) l) ≡ flat_map shown (take i l) ++ shown c
-shown_more l i c lt e =
-    ap (flat_map shown) (take_more l i 0 lt) ∙ flat_map-append shown (take i l) (slice_index l i ∷ [])
-    ∙ ap (λ k. flat_map shown (take i l) ++ k) (append-nil (shown (slice_index l i)))
-    ∙ ap (λ k. flat_map shown (take i l) ++ shown k) (sym e)
-
-pub row_more : {r s t : Recording Contents} {x y z : List ℕ} (l : List ℕ) (i c : ℕ) → i < length l
-    → c ≡ slice_index l i → Told (Ok tt) r x s y (print (flat_map shown (take i l)))
-    → Told (Ok tt) s y t z (print (shown c)) → Told (Ok tt) r x t z (print (flat_map shown (take (i + 1) l)))
-row_more {r} {s} {t} {x} {y} {z} l i c lt e v w =
-    subst (λ k. Told (Ok tt) r x t z (print k)) (sym (shown_more l i c lt e)) (print_two _ (shown c) v w)
-
-pub row_stop : {e : End} {r s t : Recording Contents} {x y z : List ℕ} (l : List ℕ) (width i c : ℕ) → i < width
-    → i < length l → c ≡ slice_index l i → Told (Ok tt) r x s y (print (flat_map shown (take i l)))
-    → Told (Err e) s y t z (print (shown c)) → Told (Err e) r x t z (print (flat_map shown (take width l)))
-row_stop {e} {r} {s} {t} {x} {y} {z} l width i c within lt q v w =
+pub row_stop : {e : End} {r s t : Recording Contents} {x y z : List ℕ} (characters l : List ℕ) (width i c : ℕ)
+    → i < width → i < length l → c ≡ slice_index l i → Told (Ok tt) r x s y (print_codes characters (take i l))
+    → Told {A = Unit {0}} (Err e) s y t z (print_codes characters (c ∷ []))
+    → Told {A = Unit {0}} (Err e) r x t z (print_codes characters (take width l))
+row_stop {e} {r} {s} {t} {x} {y} {z} characters l width i c within lt q v w =
     let row = take width l in
-    let front : take (i + 1) row ≡ take (i + 1) l = take-take (i + 1) width l (omega arith) in
-    let all : flat_map shown row ≡ flat_map shown (take (i + 1) l) ++ flat_map shown (drop (i + 1) row) =
-    ap (flat_map shown) (sym (take-append-drop (i + 1) row))
-    ∙ flat_map-append shown (take (i + 1) row) (drop (i + 1) row)
-    ∙ ap (λ k. flat_map shown k ++ flat_map shown (drop (i + 1) row)) front in
-    subst (λ k. Told (Err e) r x t z (print k)) (sym all)
-    (print_first _ (flat_map shown (drop (i + 1) row))
-    (subst (λ k. Told (Err e) r x t z (print k)) (sym (shown_more l i c lt q)) (print_two _ (shown c) v w)))
+    let front : take (i + 1) row ≡ take i l ++ c ∷ [] = take-take (i + 1) width l (omega arith)
+    ∙ take_more l i 0 lt ∙ ap (λ b. take i l ++ b ∷ []) (sym q) in
+    let all : row ≡ (take i l ++ c ∷ []) ++ drop (i + 1) row = sym (take-append-drop (i + 1) row)
+    ∙ ap (λ k. k ++ drop (i + 1) row) front in
+    subst (λ k. Told {A = Unit {0}} (Err e) r x t z (print_codes characters k)) (sym all)
+    (codes_first characters (take i l ++ c ∷ []) (drop (i + 1) row)
+    (codes_two characters (take i l) (c ∷ []) v w))
 
 -- Rows
 
@@ -74,9 +50,9 @@ pub division_is : (row : ℕ) → (row ≡ 0 → ⊥) → row_division row ≡ 1
 division_is zero p = absurd (p refl)
 division_is (suc others) p = refl
 
--- the characters of a row
+-- the codes of a row
 abbrev pub row_of : List ℕ → ℕ → ℕ → ℕ → ℕ → List ℕ
-row_of m text width skip n = flat_map shown (take width (drop (text + n * (width + skip)) m))
+row_of m text width skip n = take width (drop (text + n * (width + skip)) m)
 
 rows_next : (m : List ℕ) (text width skip n : ℕ)
     → rows m text width skip (n + 1) ≡ rows m text width skip n ++ (row_division n ++ row_of m text width skip n)
@@ -101,40 +77,47 @@ rows_split m text width skip k (suc h) le = elim (cases_lt k (suc h)) [
 ]
 
 -- where the first rows are not printed to their end, neither is the table
-rows_cut : {e : End} {r s : Recording Contents} {x y : List ℕ} (m : List ℕ) (text width skip n height : ℕ)
-    → n < height → Told (Err e) r x s y (print (rows m text width skip (n + 1)))
-    → Told (Err e) r x s y (print (rows m text width skip height))
-rows_cut {e} {r} {s} {x} {y} m text width skip n height lt h =
+rows_cut : {e : End} {r s : Recording Contents} {x y : List ℕ} (characters m : List ℕ) (text width skip n height : ℕ)
+    → n < height → Told (Err e) r x s y (print_codes characters (rows m text width skip (n + 1)))
+    → Told (Err e) r x s y (print_codes characters (rows m text width skip height))
+rows_cut {e} {r} {s} {x} {y} characters m text width skip n height lt h =
     let p = rows_split m text width skip (n + 1) height (omega arith) in
-    subst (λ k. Told (Err e) r x s y (print k)) (sym p.1) (print_first _ p.0 h)
+    subst (λ k. Told (Err e) r x s y (print_codes characters k)) (sym p.1)
+    (codes_first characters (rows m text width skip (n + 1)) p.0 h)
 
 -- one more row
-pub rows_more : {o : Result (Unit {0}) End} {r s t u : Recording Contents} {x y z w : List ℕ} (m : List ℕ)
+pub rows_more : {o : Result (Unit {0}) End} {r s t u : Recording Contents} {x y z w : List ℕ} (characters m : List ℕ)
     (text width skip n : ℕ)
-    → Told (Ok tt) r x s y (print (rows m text width skip n)) → Told (Ok tt) s y t z (print (row_division n))
-    → Told o t z u w (print (row_of m text width skip n)) → Told o r x u w (print (rows m text width skip (n + 1)))
-rows_more {o} {r} {s} {t} {u} {x} {y} {z} {w} m text width skip n before division row =
-    subst (λ k. Told o r x u w (print k)) (sym (rows_next m text width skip n))
-    (print_two _ _ before (print_two _ _ division row))
+    → Told (Ok tt) r x s y (print_codes characters (rows m text width skip n))
+    → Told (Ok tt) s y t z (print_codes characters (row_division n))
+    → Told o t z u w (print_codes characters (row_of m text width skip n))
+    → Told o r x u w (print_codes characters (rows m text width skip (n + 1)))
+rows_more {o} {r} {s} {t} {u} {x} {y} {z} {w} characters m text width skip n before division row =
+    subst (λ k. Told o r x u w (print_codes characters k)) (sym (rows_next m text width skip n))
+    (codes_two characters (rows m text width skip n) (row_division n ++ row_of m text width skip n) before
+    (codes_two characters (row_division n) (row_of m text width skip n) division row))
 
 -- so where a row is not printed to its end
-pub row_cut : {e : End} {r s t u : Recording Contents} {x y z w : List ℕ} (m : List ℕ)
+pub row_cut : {e : End} {r s t u : Recording Contents} {x y z w : List ℕ} (characters m : List ℕ)
     (text width skip n height : ℕ) → n < height
-    → Told (Ok tt) r x s y (print (rows m text width skip n)) → Told (Ok tt) s y t z (print (row_division n))
-    → Told (Err e) t z u w (print (row_of m text width skip n))
-    → Told (Err e) r x u w (print (rows m text width skip height))
-row_cut m text width skip n height lt before division row =
-    rows_cut m text width skip n height lt (rows_more m text width skip n before division row)
+    → Told (Ok tt) r x s y (print_codes characters (rows m text width skip n))
+    → Told (Ok tt) s y t z (print_codes characters (row_division n))
+    → Told (Err e) t z u w (print_codes characters (row_of m text width skip n))
+    → Told (Err e) r x u w (print_codes characters (rows m text width skip height))
+row_cut characters m text width skip n height lt before division row =
+    rows_cut characters m text width skip n height lt (rows_more characters m text width skip n before division row)
 
 -- or the new line before it
-pub division_cut : {e : End} {r s t : Recording Contents} {x y z : List ℕ} (m : List ℕ)
+pub division_cut : {e : End} {r s t : Recording Contents} {x y z : List ℕ} (characters m : List ℕ)
     (text width skip n height : ℕ) → n < height
-    → Told (Ok tt) r x s y (print (rows m text width skip n)) → Told (Err e) s y t z (print (row_division n))
-    → Told (Err e) r x t z (print (rows m text width skip height))
-division_cut {e} {r} {s} {t} {x} {y} {z} m text width skip n height lt before division =
-    rows_cut m text width skip n height lt
-    (subst (λ k. Told (Err e) r x t z (print k)) (sym (rows_next m text width skip n))
-    (print_two _ _ before (print_first _ (row_of m text width skip n) division)))
+    → Told (Ok tt) r x s y (print_codes characters (rows m text width skip n))
+    → Told (Err e) s y t z (print_codes characters (row_division n))
+    → Told (Err e) r x t z (print_codes characters (rows m text width skip height))
+division_cut {e} {r} {s} {t} {x} {y} {z} characters m text width skip n height lt before division =
+    rows_cut characters m text width skip n height lt
+    (subst (λ k. Told (Err e) r x t z (print_codes characters k)) (sym (rows_next m text width skip n))
+    (codes_two characters (rows m text width skip n) (row_division n ++ row_of m text width skip n) before
+    (codes_first characters (row_division n) (row_of m text width skip n) division)))
 
 -- Each character of a row is in readable memory
 
@@ -159,26 +142,27 @@ row_inside m text width height skip row i readable r lt =
 -- The operation, from its parts
 
 module _ {e : End} (s : Recording Contents) where
-  pub table_unread : (x : List ℕ) (here : Next) (after text width height skip size : ℕ)
+  pub table_unread : (characters x : List ℕ) (here : Next) (after text width height skip size : ℕ)
       → size ≡ rows_size width height skip → Went {A = Unit {0}} (Err e) s s (test_readable text size)
-      → Told {A = Next} (Err e) s x s x (print_table here after text width height skip)
+      → Told {A = Next} (Err e) s x s x (print_table characters here after text width height skip)
   unfolding print_table
-  table_unread x here after text width height skip size is w = told_went _ x
+  table_unread characters x here after text width height skip size is w = told_went _ x
       (went_no_further _ (subst (λ n. Went {A = Unit {0}} (Err e) s s (test_readable text n)) is w))
 
-module _ {t : Recording Contents} {x y : List ℕ} (s : Recording Contents) (here : Next)
+module _ {t : Recording Contents} {x y : List ℕ} (s : Recording Contents) (characters : List ℕ) (here : Next)
     (after text width height skip size : ℕ) (is : size ≡ rows_size width height skip)
     (w : Went (Ok tt) s s (test_readable text size)) where
-  pub table_stops : {e : End} → Told {A = Unit {0}} (Err e) s x t y (print (rows (memory_of s.store) text width skip height))
-      → Told {A = Next} (Err e) s x t y (print_table here after text width height skip)
-  unfolding print_table print_characters
+  pub table_stops : {e : End}
+      → Told {A = Unit {0}} (Err e) s x t y (print_codes characters (rows (memory_of s.store) text width skip height))
+      → Told {A = Next} (Err e) s x t y (print_table characters here after text width height skip)
+  unfolding print_table
   table_stops h = told_then _ (told_went _ x (subst (λ n. Went (Ok tt) s s (test_readable text n)) is w))
-      (told_as _ _ refl (told_no_further (λ _. goes_on after here.fuel) h))
+      (told_no_further (λ _. goes_on after here.fuel) (told_as _ _ refl h))
 
-  pub table_told : Told (Ok tt) s x t y (print (rows (memory_of s.store) text width skip height))
-      → Told (Ok (record here { program_counter = after })) s x t y (print_table here after text width height skip)
-  unfolding print_table print_characters
+  pub table_told : Told (Ok tt) s x t y (print_codes characters (rows (memory_of s.store) text width skip height))
+      → Told (Ok (record here { program_counter = after })) s x t y
+      (print_table characters here after text width height skip)
+  unfolding print_table
   table_told h = told_then _ (told_went _ x (subst (λ n. Went (Ok tt) s s (test_readable text n)) is w))
-      (told_as _ _ refl
-      (told_then (λ _. goes_on after here.fuel) h
-      (told_still t (goes_on after here.fuel) y (told_sound h) refl)))
+      (told_then (λ _. goes_on after here.fuel) (told_as _ _ refl h)
+      (told_still t (goes_on after here.fuel) y (told_sound h) refl))

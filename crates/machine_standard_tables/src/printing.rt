@@ -1,9 +1,8 @@
 //! Tables that are printed (Z-Machine Standards Document 1.1, section 15).
 
 ghost use Rattle.std.specs.Prelude.{◌≡◌, ◌+◌, ◌<◌, ℕ, drop, length, take, true};
-ghost use Rattle.std.specs.List.{flat_map};
-ghost use Rattle.zcore.specs.Parts as parts;
-ghost use Rattle.zcore_standard.specs.Tables.{are_readable, print_table, row_division, rows, rows_size, shown};
+ghost use Rattle.zcore_standard.specs.Characters.{print_codes};
+ghost use Rattle.zcore_standard.specs.Tables.{are_readable, print_table, row_division, rows, rows_size};
 ghost use Rattle.machine_opcodes.specs.Printed.{HasBegun, Grew, ToldFrom};
 ghost use Rattle.machine_frames.specs.Contents.{memory_of};
 ghost use Rattle.machine_frames.specs.States.{IsSound};
@@ -11,12 +10,12 @@ ghost use Rattle.machine_frames.specs.States.{IsSound};
 use crate::testing::test_readable;
 use journal::Recorded;
 use machine_frames::{End, Store};
-use machine_opcodes::print;
+use machine_standard_texts::print_code;
 use zcore::Next;
 use zcore::layout::NEW_LINE;
 
-/// Prints a table of ZSCII characters, with a new line between a row and the next: `print_table`.
-/// Between rows, `skip` bytes are not printed.
+/// Prints a table of ZSCII codes, with a new line between a row and the next: `print_table`. These are
+/// the characters of the codes from 155 on. Between rows, `skip` bytes are not printed.
 ///
 /// # Errors
 ///
@@ -26,6 +25,7 @@ pub fn print_table(
     store: &mut Recorded<Store>,
     text: &mut Vec<u8>,
     start: usize,
+    characters: &[u16],
     here: Next,
     after: u32,
     table: u16,
@@ -36,11 +36,11 @@ pub fn print_table(
     requires sound { IsSound store.old.store }
     requires text { HasBegun start text.old.items }
     ensures told { ToldFrom start result store.old text.old.items store.new text.new.items
-        (print_table here after table width height skip) }
+        (print_table characters.now here after table width height skip) }
     ensures text { Grew start text.old.items text.new.items }
 {
     test_readable(store, table as usize, rows_size(width, height, skip))?;
-    print_rows(store, text, start, table, width, height, skip)?;
+    print_rows(store, text, start, characters, table, width, height, skip)?;
     Ok(Next {
         program_counter: after,
         fuel: here.fuel,
@@ -64,6 +64,7 @@ fn print_rows(
     store: &mut Recorded<Store>,
     text: &mut Vec<u8>,
     start: usize,
+    characters: &[u16],
     table: u16,
     width: u16,
     height: u16,
@@ -74,16 +75,17 @@ fn print_rows(
     requires readable { are_readable (memory_of store.old.store) table
         (rows_size width height skip) ≡ true }
     ensures told { ToldFrom start result store.old text.old.items store.new text.new.items
-        (parts.print (rows (memory_of store.old.store) table width skip height)) }
+        (print_codes characters.now (rows (memory_of store.old.store) table width skip height)) }
     ensures text { Grew start text.old.items text.new.items }
 {
     let step = width as usize + skip as usize;
     for row in 0..height {
-        print_row_division(store, text, start, row)?;
+        print_row_division(store, text, start, characters, row)?;
         print_row(
             store,
             text,
             start,
+            characters,
             table as usize + row as usize * step,
             width,
         )?;
@@ -96,26 +98,27 @@ fn print_row_division(
     store: &mut Recorded<Store>,
     text: &mut Vec<u8>,
     start: usize,
+    characters: &[u16],
     row: u16,
 ) -> Result<(), End>
     requires sound { IsSound store.old.store }
     requires text { HasBegun start text.old.items }
     ensures told { ToldFrom start result store.old text.old.items store.new text.new.items
-        (parts.print (row_division row)) }
+        (print_codes characters.now (row_division row)) }
     ensures text { Grew start text.old.items text.new.items }
 {
     if row == 0 {
-        print(store, text, start, &[])
-    } else {
-        print(store, text, start, &[NEW_LINE])
+        return Ok(());
     }
+    print_code(store, text, start, characters, NEW_LINE as u16)
 }
 
-/// Prints the characters of a row. The limit of text.
+/// Prints the codes of a row. The limit of text.
 fn print_row(
     store: &mut Recorded<Store>,
     text: &mut Vec<u8>,
     start: usize,
+    characters: &[u16],
     at: usize,
     width: u16,
 ) -> Result<(), End>
@@ -123,37 +126,12 @@ fn print_row(
     requires text { HasBegun start text.old.items }
     requires row { (i : ℕ) → i < width → at + i < length (memory_of store.old.store) }
     ensures told { ToldFrom start result store.old text.old.items store.new text.new.items
-        (parts.print (flat_map shown (take width (drop at (memory_of store.old.store))))) }
+        (print_codes characters.now (take width (drop at (memory_of store.old.store)))) }
     ensures text { Grew start text.old.items text.new.items }
 {
     for i in 0..width {
-        let character = store.store().byte(at + i as usize);
-        print_shown(store, text, start, character)?;
+        let code = store.store().byte(at + i as usize);
+        print_code(store, text, start, characters, code as u16)?;
     }
     Ok(())
-}
-
-/// Prints what a ZSCII character prints: 9 is one space, 11 two, and a character that is not defined
-/// for output a question mark. The limit of text.
-fn print_shown(
-    store: &mut Recorded<Store>,
-    text: &mut Vec<u8>,
-    start: usize,
-    character: u8,
-) -> Result<(), End>
-    requires sound { IsSound store.old.store }
-    requires text { HasBegun start text.old.items }
-    ensures told { ToldFrom start result store.old text.old.items store.new text.new.items
-        (parts.print (shown character)) }
-    ensures text { Grew start text.old.items text.new.items }
-{
-    if character == 0 || character == 13 || (32 <= character && character <= 126) {
-        print(store, text, start, &[character])
-    } else if character == 9 {
-        print(store, text, start, &[b' '])
-    } else if character == 11 {
-        print(store, text, start, &[b' ', b' '])
-    } else {
-        print(store, text, start, &[b'?'])
-    }
 }

@@ -2,9 +2,8 @@
 //! 13.6 and 15, `tokenise`).
 
 ghost use Rattle.std.specs.Prelude.{◌≡◌, ◌≤◌, ◌+◌, ◌*◌, ◌++◌, ◌∷◌, [], true, length, take};
-ghost use Rattle.zcore.specs.Header.{IsDictionary, static_end};
+ghost use Rattle.zcore.specs.Header.{HasDictionaryHead, IsDictionary, static_end};
 ghost use Rattle.zcore.specs.Parsing.{separators_of, first_words};
-ghost use Rattle.zcore.specs.Dictionary.{is_dictionary};
 ghost use Rattle.zcore_standard.specs.Words.{slot_bytes, slots_bytes};
 ghost use Rattle.tables.specs.Placed.{word_of};
 
@@ -17,7 +16,7 @@ pub(crate) const SLOTS_LENGTH: usize = 4 * 255;
 /// How words are looked up.
 #[derive(Clone, Copy)]
 pub(crate) struct Search {
-    /// The address of a dictionary that can be read.
+    /// The address of a dictionary, whose head can be read.
     pub(crate) dictionary: u16,
     /// Whether it is known to be in order, and can be searched by halving.
     pub(crate) is_ordered: bool,
@@ -36,7 +35,7 @@ pub(crate) fn slots(
     at: usize,
     bytes: &mut [u8; 1020],
 ) -> u8
-    requires readable { is_dictionary memory.now search.dictionary ≡ true }
+    requires head { HasDictionaryHead memory.now search.dictionary }
     requires ordered { search.is_ordered ≡ true → IsDictionary memory.now search.dictionary }
     requires few { length letters.now ≤ 255 }
     requires room { at + 4 * most ≤ static_end memory.now }
@@ -62,7 +61,7 @@ pub(crate) fn slots(
 
 /// The bytes that a dictionary names as separators.
 fn separators(memory: &[u8], dictionary: u16) -> &[u8]
-    requires { is_dictionary memory.now dictionary ≡ true }
+    requires { HasDictionaryHead memory.now dictionary }
     ensures { result.now ≡ separators_of memory.now dictionary }
 {
     let start = dictionary as usize + 1;

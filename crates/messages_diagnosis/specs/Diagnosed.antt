@@ -3,8 +3,9 @@ use Rattle.std.specs.Prelude.{◌≡◌, ◌↔◌, ℕ, List, None, Result, Ok,
 use Rattle.std.specs.Option.{option_map}
 use Rattle.zcore.specs.declared.header.Version.{Version}
 use Rattle.syntax_lexer.specs.declared.fault.PlacedFault.{PlacedFault}
-use Rattle.story.specs.Compiled.{Compiles}
+use Rattle.story.specs.Compiled.{CompilesBy}
 use Rattle.story.specs.FaultPlaces.{IsUnplaced, Stands}
+use Rattle.story.specs.Refused.{Limits}
 use Rattle.messages_places.specs.declared.diagnosis.Diagnosis.{Diagnosis}
 use Rattle.messages_places.specs.Lines.{IsLocatedIn}
 
@@ -16,8 +17,9 @@ placed_of d = record { fault = d.fault; offset = option_map (λ place. place.off
 abbrev pub IsToldExactly : Diagnosis → Type 0
 IsToldExactly d = (d.place ≡ None) ↔ IsUnplaced d.fault.number
 
--- what the compiler answers, and a place in the line that the fault names, at which the fault stands
-abbrev pub Diagnoses : Version → List ℕ → Result (List ℕ) Diagnosis → Type 0
-Diagnoses version source (Ok bytes) = Compiles version source (Ok bytes)
-Diagnoses version source (Err d) =
-    Compiles version source (Err d.fault) × IsLocatedIn source d × Stands source (placed_of d) × IsToldExactly d
+-- what the compiler answers by some limits, and a place in the line that the fault names, at which the fault stands
+abbrev pub Diagnoses : Limits → Version → List ℕ → Result (List ℕ) Diagnosis → Type 0
+Diagnoses limits version source (Ok bytes) = CompilesBy limits version source (Ok bytes)
+Diagnoses limits version source (Err d) =
+    CompilesBy limits version source (Err d.fault) × IsLocatedIn source d × Stands source (placed_of d)
+    × IsToldExactly d

@@ -5,3 +5,4 @@ mod diagnosis;
 
 pub use diagnosis::diagnose;
 pub use messages_places::{Diagnosis, Place, Shown};
+pub use story::Limit;

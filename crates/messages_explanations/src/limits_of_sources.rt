@@ -113,8 +113,9 @@ Array colours -> 12000;
         rule: "The source file weighs more than 190,000, or more than 450,000 for version 8: 32
 for each token, and 3 for each byte between the quotes of a text. Up to this
 weight its code always fits into a story file of the version. Compile it with
--v 8, move what you print in several places into one routine, or shorten texts.
-No small source file shows this: one for version 5 has about 5,900 tokens.",
+--large, which asks only whether the story file is longer than 262,140 bytes,
+or 524,280 for version 8; with -v 8; or move what you print in several places
+into one routine. One for version 5 has about 5,900 tokens.",
         example: None,
     },
     Explanation {

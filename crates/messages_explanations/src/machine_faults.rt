@@ -9,9 +9,8 @@ pub(crate) static MACHINE_FAULTS: [Explanation; 12] = [
         title: "opcode that is not known",
         rule: "The story reached an instruction that the player does not have, or one with too
 few or too many operands. Games built on a library use more instructions than
-stories made by inform: play --standard has them all but set_window, read_char
-and output_stream 3. docs/MACHINE.md lists those that play has without it. /undo
-takes the line back.",
+stories made by inform: play --standard has them all. docs/MACHINE.md lists
+those that play has without it. /undo takes the line back.",
         example: None,
     },
     Explanation {

@@ -16,11 +16,13 @@ use Rattle.checker.specs.Programs.{program_breaches}
 use Rattle.checker.specs.Checked.{IsCheckedOf}
 use Rattle.checker.specs.Laws.{AcceptedPrograms}
 use Rattle.story_file.specs.Layout.{story_of}
-use Rattle.story.specs.Refused.{Refuses}
-use Rattle.story.proofs.Faults.{size_faults}
+use Rattle.story.specs.declared.sized.Limit.{Limit}
+use Rattle.story.specs.Large.{limits_by}
+use Rattle.story.proofs.Faults.{faults_by}
 use Rattle.messages_figures.specs.declared.measuring.Figures.{Figures}
 use Rattle.messages_figures.specs.Figures.{ObjectHasFewWords, IsStoryOfChecked}
-use Rattle.messages_figures.specs.Measured.{IsStoryOfTree, IsNotBySize, Measures}
+use Rattle.messages_figures.specs.Measured.{IsStoryOfTree, Measures}
+use Rattle.messages_figures.proofs.Refusals.{IsRefused}
 
 module _ (c : CheckedProgram) (accepted : IsAccepted (program_of c)) where
   is_object : (k : ℕ) (d : CheckedObject) → k < length c.objects
@@ -53,16 +55,16 @@ pub accepted_program : AcceptedPrograms → (p : ProgramTree) (c : CheckedProgra
 accepted_program accepted p c lawful is = subst IsAccepted (sym is.program) (accepted p lawful)
 
 -- the bytes of the story are those of the tree's
-pub story_of_tree : (version : Version) (p : ProgramTree) (c : CheckedProgram) → IsCheckedOf p c
-    → (s : Result ℕ SourceFault) → IsStoryOfChecked version c s → IsStoryOfTree version p s
-story_of_tree version p c is (Ok n) h =
-    (sym (size_faults version p c is) ∙ h.0, h.1 ∙ ap (λ q. length (story_of version q)) is.program)
-story_of_tree version p c is (Err f) h = sym (size_faults version p c is) ∙ h
+pub story_of_tree : (limit : Limit) (version : Version) (p : ProgramTree) (c : CheckedProgram) → IsCheckedOf p c
+    → (s : Result ℕ SourceFault) → IsStoryOfChecked limit version c s → IsStoryOfTree (limits_by limit) version p s
+story_of_tree limit version p c is (Ok n) h =
+    (sym (faults_by limit version p c is) ∙ h.0, h.1 ∙ ap (λ q. length (story_of version q)) is.program)
+story_of_tree limit version p c is (Err f) h = sym (faults_by limit version p c is) ∙ h
 
 -- a fault that is handed on
-pub refused : (version : Version) (source : List ℕ) (r : Result Figures SourceFault) (f : SourceFault)
-    → IsErr r × IsErrAnd r (λ e. e ≡ f) → ((because : Refuses version source f) × IsNotBySize version source f because)
-    → Measures version source r
-refused version source (Ok figures) f h because = absurd h.1
-refused version source (Err e) f h because =
-    subst (λ (g : SourceFault). (b : Refuses version source g) × IsNotBySize version source g b) (sym h.1) because
+pub refused : (limit : Limit) (version : Version) (source : List ℕ) (r : Result Figures SourceFault) (f : SourceFault)
+    → IsErr r × IsErrAnd r (λ e. e ≡ f) → IsRefused (limits_by limit) version source f
+    → Measures limit version source r
+refused limit version source (Ok figures) f h because = absurd h.1
+refused limit version source (Err e) f h because =
+    subst (λ (g : SourceFault). IsRefused (limits_by limit) version source g) (sym h.1) because

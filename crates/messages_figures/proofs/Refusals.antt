@@ -14,21 +14,22 @@ use Rattle.syntax.specs.Places.{IsFirstUnfit, IsFirstDeep}
 use Rattle.checker_names.specs.declared.breach.Breach.{Breach}
 use Rattle.checker_names.specs.Breaches.{IsAmong, IsFirst}
 use Rattle.checker.specs.Programs.{program_breaches}
-use Rattle.story.specs.Refused.{IsTreeOf, Refuses, lexemes_of}
+use Rattle.story.specs.Refused.{IsTreeOf, Limits, RefusesBy, lexemes_of}
 use Rattle.story.specs.Refused as spec
 use Rattle.messages_figures.specs.Measured.{IsNotBySize}
 
-abbrev pub IsRefused : Version → List ℕ → SourceFault → Type 0
-IsRefused version source f = (because : Refuses version source f) × IsNotBySize version source f because
+abbrev pub IsRefused : Limits → Version → List ℕ → SourceFault → Type 0
+IsRefused limits version source f =
+    (because : RefusesBy limits version source f) × IsNotBySize limits version source f because
 
-pub without_memory : (version : Version) (source : List ℕ) (f : SourceFault) → f ≡ no_memory
-    → IsRefused version source f
-without_memory version source f is = (spec.no_memory is, tt)
+pub without_memory : (limits : Limits) (version : Version) (source : List ℕ) (f : SourceFault) → f ≡ no_memory
+    → IsRefused limits version source f
+without_memory limits version source f is = (spec.no_memory is, tt)
 
-pub unlexed : (version : Version) (source : List ℕ) (f : SourceFault) → (f ≡ no_memory) ⊎ Lexes 0 1 source (Err f)
-    → IsRefused version source f
-unlexed version source f answer = elim answer [
-  | inl refused ↦ without_memory version source f refused
+pub unlexed : (limits : Limits) (version : Version) (source : List ℕ) (f : SourceFault) → (f ≡ no_memory) ⊎ Lexes 0 1 source (Err f)
+    → IsRefused limits version source f
+unlexed limits version source f answer = elim answer [
+  | inl refused ↦ without_memory limits version source f refused
   | inr lexed ↦ (spec.in_tokens lexed, tt)
 ]
 
@@ -40,14 +41,14 @@ module _ (source : List ℕ) (ts : List Token) (lexed : Lexes 0 1 source (Ok (so
   program_of_tokens : (p : ProgramTree) → IsProgram (lexemes_of (source_tokens ts)) p → IsProgram (lexemes ts) p
   program_of_tokens p parsed = subst (λ ls. IsProgram ls p) (same_lexemes ts) parsed
 
-  pub unparsed : (version : Version) (f : SourceFault)
+  pub unparsed : (limits : Limits) (version : Version) (f : SourceFault)
       → (f.number ≡ 10 → ((p : ProgramTree) → IsProgram (lexemes ts) p → ⊥))
       → (f.number ≡ 10 → IsFirstUnfit 100 (lexemes ts) (λ place. place.line ≡ f.line))
       → (f.number ≡ 5 → ((p : ProgramTree) → IsProgram (lexemes ts) p → 100 < program_nesting p))
       → (f.number ≡ 5 → IsFirstDeep 100 (lexemes ts) (λ place. place.line ≡ f.line))
       → (f.number ≡ 5) ⊎ (f.number ≡ 10) ⊎ (f ≡ no_memory)
-      → IsRefused version source f
-  unparsed version f grammar place deep deep_place number = elim number [
+      → IsRefused limits version source f
+  unparsed limits version f grammar place deep deep_place number = elim number [
     | inl five ↦ (
       spec.too_deep (source_tokens ts) lexed (λ p parsed. deep five p (program_of_tokens p parsed))
           (subst (λ ls. IsFirstDeep 100 ls (λ place. place.line ≡ f.line)) (sym (same_lexemes ts)) (deep_place five))
@@ -61,15 +62,15 @@ module _ (source : List ℕ) (ts : List Token) (lexed : Lexes 0 1 source (Ok (so
             (subst (λ ls. IsFirstUnfit 100 ls (λ place. place.line ≡ f.line)) (sym (same_lexemes ts)) (place ten)) ten,
         tt,
       )
-      | inr refused ↦ without_memory version source f refused
+      | inr refused ↦ without_memory limits version source f refused
     ]
   ]
 
-pub unchecked : (version : Version) (source : List ℕ) (p : ProgramTree) (f : SourceFault) → IsTreeOf source p
+pub unchecked : (limits : Limits) (version : Version) (source : List ℕ) (p : ProgramTree) (f : SourceFault) → IsTreeOf source p
     → (f ≡ no_memory) ⊎ ((b : Breach) × IsAmong b (program_breaches p) × IsFirst b (program_breaches p)
     × (f.number ≡ b.number) × (f.line ≡ b.position.line))
-    → IsRefused version source f
-unchecked version source p f tree answer = elim answer [
-  | inl refused ↦ without_memory version source f refused
+    → IsRefused limits version source f
+unchecked limits version source p f tree answer = elim answer [
+  | inl refused ↦ without_memory limits version source f refused
   | inr broken ↦ (spec.rule_broken p tree broken.0 broken.1 broken.2 broken.3 broken.4, tt)
 ]

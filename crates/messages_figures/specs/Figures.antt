@@ -12,13 +12,14 @@ use Rattle.meaning.specs.declared.checked.CheckedObject.{CheckedObject}
 use Rattle.meaning.specs.declared.checked.CheckedRoutine.{CheckedRoutine}
 use Rattle.meaning.specs.Resolved.{ProgramOf}
 use Rattle.meaning.specs.Views.{CheckedProgram, program_of, routine_of}
-use Rattle.meaning.specs.CheckedSizes.{checked_size_fault}
 use Rattle.meaning.specs.Limits.{most_property_words}
 use Rattle.meaning.specs.Places.{arrays_size, objects_size, key_count, filling_before, dictionary_end, abbreviations_size}
 use Rattle.meaning.specs.Places.{arrays_place, routines_place, start_size, total}
 use Rattle.code.specs.Sizes.{routine_size}
 use Rattle.code.specs.HeldProgram.{sizes_of}
 use Rattle.story_file.specs.Layout.{story_of}
+use Rattle.story.specs.declared.sized.Limit.{Limit}
+use Rattle.story.specs.Large.{checked_fault_by}
 use Rattle.messages_figures.specs.declared.routine_figures.RoutineFigures.{RoutineFigures}
 use Rattle.messages_figures.specs.declared.table_bytes.TableBytes.{TableBytes}
 use Rattle.messages_figures.specs.declared.measuring.Counts.{Counts}
@@ -113,18 +114,20 @@ code_bytes_in c = total (map size_of (map (figures_in c) c.routines))
 -- The story
 
 -- how many bytes it has, or why there is none
-abbrev pub IsStoryOfChecked : Version → CheckedProgram → Result ℕ SourceFault → Type 0
-IsStoryOfChecked version c (Ok n) = (checked_size_fault c version ≡ None) × (n ≡ length (story_of version (program_of c)))
-IsStoryOfChecked version c (Err f) = checked_size_fault c version ≡ Some f
+abbrev pub IsStoryOfChecked : Limit → Version → CheckedProgram → Result ℕ SourceFault → Type 0
+IsStoryOfChecked limit version c (Ok n) =
+    (checked_fault_by limit version c ≡ None) × (n ≡ length (story_of version (program_of c)))
+IsStoryOfChecked limit version c (Err f) = checked_fault_by limit version c ≡ Some f
 
-pub record AreFiguresOfChecked (version : Version) (c : CheckedProgram) (f : Figures) : Type 0 where
+pub record AreFiguresOfChecked (limit : Limit) (version : Version) (c : CheckedProgram) (f : Figures) : Type 0 where
   pub weight : f.weight ≡ c.weight
   pub for_version : f.version ≡ version
+  pub by_limit : f.limit ≡ limit
   pub heaviest : f.heaviest.items ≡ heaviest_in c
   pub code : f.code ≡ code_bytes_in c
   pub tables : AreTables (program_of c) f.tables
   pub table_total : f.table_total ≡ table_total f.tables
-  pub story : IsStoryOfChecked version c f.story
+  pub story : IsStoryOfChecked limit version c f.story
 
 -- Words of proofs
 

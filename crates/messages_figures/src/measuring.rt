@@ -7,7 +7,9 @@ ghost use Rattle.syntax.specs.Views.{program_tree};
 ghost use Rattle.meaning.specs.CheckedSizes.{checked_size_fault};
 ghost use Rattle.meaning.specs.Limits.{most_objects};
 ghost use Rattle.meaning.specs.Views.{program_of};
-ghost use Rattle.story_file.specs.Written.{FitsStory};
+ghost use Rattle.meaning.specs.Accepted.{IsAccepted};
+ghost use Rattle.meaning.specs.Printable.{HasPrintableTexts};
+ghost use Rattle.story_file.specs.Layout.{greatest_length, story_of};
 ghost use Rattle.messages_temporaries.specs.Needs.{HasFew, IsFirstGreatest, program_needs};
 ghost use Rattle.messages_figures.specs.Figures.{AreFiguresOfChecked, IsStoryOfChecked};
 ghost use Rattle.messages_figures.specs.Figures.{ObjectHasFewWords, attributes_in, counts_in, properties_in};
@@ -17,10 +19,10 @@ use crate::definitions::{attributes_in, properties_in};
 use crate::routine_figures::{RoutineFigures, routines_of};
 use crate::table_bytes::TableBytes;
 use checker::{accepted_programs, check, printable_programs};
-use meaning::{Checked, test_sizes};
+use meaning::Checked;
 use messages_temporaries::{Temporaries, greatest_temporaries};
 use std::alloc::{AllocError, Global};
-use story_file::write_story;
+use story::{Limit, story_within};
 use story_sizes::small_sources_have_small_code;
 use syntax::{Program, parse, printable_trees};
 use syntax_lexer::{SourceFault, lex, printable_tokens};
@@ -50,8 +52,11 @@ pub struct Figures<'a> {
     /// 32 for each token, and 3 for each byte between the quotes of a text.
     pub weight: u128,
 
-    /// The version of the story, on which the limit of the weight rests.
+    /// The version of the story, on which the limit rests.
     pub version: Version,
+
+    /// Whether the weight of the source or the length of its story is limited.
+    pub limit: Limit,
 
     /// The heaviest routines, ten at most, in descending order of weight. Of those that weigh as
     /// much, the one that is defined first stands first.
@@ -104,17 +109,17 @@ fn story_bytes(
     alloc: Global,
     checked: &Checked<'_>,
     version: Version,
+    limit: Limit,
 ) -> Result<Result<usize, SourceFault>, AllocError>
-    requires { checked_size_fault checked.now version ≡ None
-        → FitsStory version (program_of checked.now) }
-    ensures { IfOk result (λ s. IsStoryOfChecked version checked.now s) }
+    requires accepted { IsAccepted (program_of checked.now) }
+    requires printable { HasPrintableTexts (program_of checked.now) }
+    requires light { checked_size_fault checked.now version ≡ None
+        → length (story_of version (program_of checked.now)) ≤ greatest_length version }
+    ensures { IfOk result (λ s. IsStoryOfChecked limit version checked.now s) }
 {
-    match test_sizes(checked, version) {
-        Ok(()) => {
-            let story = write_story(alloc, checked, version)?;
-            Ok(Ok(story.len()))
-        }
-        Err(fault) => Ok(Err(fault)),
+    match story_within(alloc, checked, version, limit)? {
+        Ok(story) => Ok(Ok(story.len())),
+        Err(placed) => Ok(Err(placed.fault)),
     }
 }
 
@@ -138,24 +143,28 @@ fn figures_of<'a>(
     alloc: Global,
     checked: &Checked<'a>,
     version: Version,
+    limit: Limit,
     of_tree: TreeFigures,
 ) -> Result<Figures<'a>, AllocError>
     requires words { All ObjectHasFewWords checked.now.objects }
     requires few { length checked.now.objects ≤ most_objects }
     requires short { length checked.now.abbreviations ≤ most_abbreviations }
-    requires fits { checked_size_fault checked.now version ≡ None
-        → FitsStory version (program_of checked.now) }
-    ensures checked { IfOk result (λ f. AreFiguresOfChecked version checked.now f) }
+    requires accepted { IsAccepted (program_of checked.now) }
+    requires printable { HasPrintableTexts (program_of checked.now) }
+    requires light { checked_size_fault checked.now version ≡ None
+        → length (story_of version (program_of checked.now)) ≤ greatest_length version }
+    ensures checked { IfOk result (λ f. AreFiguresOfChecked limit version checked.now f) }
     ensures counts { IfOk result (λ f. f.counts
         ≡ counts_in checked.now of_tree.attributes of_tree.properties) }
     ensures temporaries { IfOk result (λ f. f.temporaries ≡ of_tree.temporaries) }
 {
     let tables = TableBytes::of(checked);
     let routines = routines_of(alloc, checked)?;
-    let story = story_bytes(alloc, checked, version)?;
+    let story = story_bytes(alloc, checked, version, limit)?;
     Ok(Figures {
         weight: checked.source_weight(),
         version,
+        limit,
         heaviest: routines.heaviest,
         code: routines.size,
         tables,
@@ -166,19 +175,20 @@ fn figures_of<'a>(
     })
 }
 
-/// What a source takes, of what there may be, as a story of a version: also one that is refused as
-/// too large, by E30, E31 or E32, which stands in the figures.
+/// What a source takes, of what there may be, as a story of a version by a limit: also one that is
+/// refused as too large, by E30, E31 or E32, which stands in the figures.
 ///
 /// # Errors
 ///
-/// The fault by which any other source is refused, as `compile_for` of `story` answers it; E99, with
-/// line 0, where a growth of memory was refused.
+/// The fault by which any other source is refused, as `compile_placed` of `story` answers it; E99,
+/// with line 0, where a growth of memory was refused.
 pub fn measure<'a>(
     alloc: Global,
     source: &'a [u8],
     version: Version,
+    limit: Limit,
 ) -> Result<Figures<'a>, SourceFault>
-    ensures { Measures version source.now result }
+    ensures { Measures limit version source.now result }
 {
     accepted_programs();
     printable_tokens();
@@ -191,6 +201,6 @@ pub fn measure<'a>(
     drop(tokens);
     let of_tree = tree_figures(&program);
     let checked = check(alloc, program)?;
-    let found = figures_of(alloc, &checked, version, of_tree)?;
+    let found = figures_of(alloc, &checked, version, limit, of_tree)?;
     Ok(found)
 }

@@ -9,6 +9,8 @@ use meaning::limits::{
 };
 use messages_temporaries::Temporaries;
 use std::fmt::{self, Display, Formatter};
+use story::Limit;
+use story_file::greatest_length;
 use zcore::MOST_ABBREVIATIONS;
 use zcore::layout::ATTRIBUTE_COUNT;
 
@@ -117,8 +119,10 @@ impl Figures<'_> {
 impl Display for Figures<'_> {
     fn fmt<W: fmt::Write>(&self, f: &mut Formatter<W>) -> fmt::Result {
         let weight = Line("weight of the source", self.weight);
-        let most = greatest_weight(self.version);
-        writeln!(f, "{weight} of {most}")?;
+        match self.limit {
+            Limit::Weight => writeln!(f, "{weight} of {}", greatest_weight(self.version))?,
+            Limit::Length => writeln!(f, "{weight}")?,
+        }
         for routine in &self.heaviest {
             write!(f, "{routine}")?;
         }
@@ -132,7 +136,11 @@ impl Display for Figures<'_> {
         if let Ok(story) = self.story {
             let rest = Line("bytes of texts of faults, and of filling", self.rest(story));
             let story = Line("bytes of the story file", story as u128);
-            writeln!(f, "{rest}\n{story}")?;
+            write!(f, "{rest}\n{story}")?;
+            match self.limit {
+                Limit::Weight => writeln!(f)?,
+                Limit::Length => writeln!(f, " of {}", greatest_length(self.version))?,
+            }
         }
         Ok(())
     }

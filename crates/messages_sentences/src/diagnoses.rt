@@ -1,7 +1,7 @@
 //! The sentence of a diagnosis.
 
 use meaning::greatest_weight;
-use messages_figures::{MOST_TABLE_BYTES, measure};
+use messages_figures::{Limit, MOST_TABLE_BYTES, greatest_length, measure};
 use messages_places::{Diagnosis, Place};
 use messages_rules::{Told, program_sentence};
 use messages_tokens::{Figure, source_sentence};
@@ -29,9 +29,9 @@ struct Whole {
     is_large_story: bool,
 }
 
-/// The figures of a source. `None` where another rule is broken.
-fn figures_of(alloc: Global, source: &[u8]) -> Result<Option<Whole>, AllocError> {
-    match measure(alloc, source, Version::V8) {
+/// The figures of a source by a limit. `None` where another rule is broken.
+fn figures_of(alloc: Global, source: &[u8], limit: Limit) -> Result<Option<Whole>, AllocError> {
+    match measure(alloc, source, Version::V8, limit) {
         Ok(figures) => Ok(Some(Whole {
             tables: figures.table_total,
             is_large_story: figures.story.is_ok(),
@@ -56,7 +56,12 @@ fn is_large_story(alloc: Global, source: &[u8], weight: u128) -> Result<bool, Al
     if weight > greatest_weight(Version::V8) {
         return Ok(false);
     }
-    match figures_of(alloc, source)? {
+    is_story_by(alloc, source, Limit::Weight)
+}
+
+/// Whether a source is a story of version 8 by a limit.
+fn is_story_by(alloc: Global, source: &[u8], limit: Limit) -> Result<bool, AllocError> {
+    match figures_of(alloc, source, limit)? {
         Some(whole) => Ok(whole.is_large_story),
         None => Ok(false),
     }
@@ -83,9 +88,25 @@ fn heavy(alloc: Global, source: &[u8], version: Version) -> Result<Option<String
     Ok(Some(sentence?))
 }
 
+/// What is wrong with a source whose story is longer than packed addresses of a version reach.
+fn long(alloc: Global, source: &[u8], version: Version) -> Result<String, AllocError> {
+    let most = Figure(greatest_length(version) as u128);
+    match version {
+        Version::V5 if is_story_by(alloc, source, Limit::Length)? => format!(in alloc;
+            "the story has more than {most} bytes, the limit of version 5, but -v 8 has room for it"
+        ),
+        Version::V5 => {
+            format!(in alloc; "the story has more than {most} bytes, the limit of version 5")
+        }
+        Version::V8 => {
+            format!(in alloc; "the story has more than {most} bytes, the limit of version 8")
+        }
+    }
+}
+
 /// What is wrong with a source whose tables are too large.
 fn large_tables(alloc: Global, source: &[u8]) -> Result<Option<String>, AllocError> {
-    let Some(whole) = figures_of(alloc, source)? else {
+    let Some(whole) = figures_of(alloc, source, Limit::Weight)? else {
         return Ok(None);
     };
     let bytes = Figure(whole.tables);
@@ -93,6 +114,19 @@ fn large_tables(alloc: Global, source: &[u8]) -> Result<Option<String>, AllocErr
     Ok(Some(format!(in alloc;
         "arrays, objects, words and abbreviations have {bytes} bytes; the limit is {most}"
     )?))
+}
+
+/// What is wrong with a source whose story is too large by a limit.
+fn too_large(
+    alloc: Global,
+    source: &[u8],
+    version: Version,
+    limit: Limit,
+) -> Result<Option<String>, AllocError> {
+    match limit {
+        Limit::Weight => heavy(alloc, source, version),
+        Limit::Length => Ok(Some(long(alloc, source, version)?)),
+    }
 }
 
 /// A sentence about the place of the fault itself.
@@ -111,12 +145,13 @@ fn found(
     alloc: Global,
     source: &[u8],
     version: Version,
+    limit: Limit,
     diagnosis: &Diagnosis,
 ) -> Result<Option<Told>, AllocError> {
     let rule = diagnosis.fault.number;
     match (rule, diagnosis.place) {
         (TABLES_TOO_LARGE, _) => Ok(at_place(large_tables(alloc, source)?)),
-        (STORY_TOO_LARGE, _) => Ok(at_place(heavy(alloc, source, version)?)),
+        (STORY_TOO_LARGE, _) => Ok(at_place(too_large(alloc, source, version, limit)?)),
         (_, None) => Ok(None),
         (1..=NAME_TOO_LONG, Some(place)) => {
             Ok(at_place(source_sentence(alloc, source, rule, place.offset)?))
@@ -139,7 +174,7 @@ fn shown(source: &[u8], diagnosis: Diagnosis, told: &Told) -> Diagnosis {
     }
 }
 
-/// What is wrong with a source that a version's compiler refuses. If no sentence is found, it is the
+/// What is wrong with a source that a version's compiler refuses by a limit. If no sentence is found, it is the
 /// broken rule in words.
 ///
 /// # Errors
@@ -149,9 +184,10 @@ pub fn message_of(
     alloc: Global,
     source: &[u8],
     version: Version,
+    limit: Limit,
     diagnosis: Diagnosis,
 ) -> Result<Message, AllocError> {
-    match found(alloc, source, version, &diagnosis)? {
+    match found(alloc, source, version, limit, &diagnosis)? {
         Some(told) => {
             let diagnosis = shown(source, diagnosis, &told);
             Ok(Message {

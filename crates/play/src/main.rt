@@ -19,7 +19,7 @@ use play_arguments::{Asked, Words, take_format, words_of};
 use session::{Mode, Place, RunFault, Session, run, status};
 use std::fmt::Display;
 use std::fs::File;
-use std::io::Write;
+use std::io::{IsTerminal, Write};
 use std::process::ExitCode;
 use std::{env, io, mem};
 use wrapping::Wrapped;
@@ -131,12 +131,16 @@ fn play(rt: &HostRuntime, words: Words<'_>) -> ExitCode
     }
 }
 
-/// Plays a session on the lines of standard input. The transcript goes to a writer.
+/// Plays a session on the lines of standard input. The transcript goes to a writer. A user at a
+/// terminal is told more beside it.
 fn run_to<W: Write + Drop>(
     rt: &HostRuntime,
-    writer: W,
+    mut writer: W,
     session: &mut Session,
 ) -> Result<Place, RunFault> {
-    let mut transcript = Transcript::new(rt, writer);
-    run(&mut rt.stdin(), &mut transcript, session)
+    if rt.stdin().is_terminal() {
+        let mut transcript = Transcript::new(rt, writer);
+        return run(&mut rt.stdin(), &mut transcript, session);
+    }
+    run(&mut rt.stdin(), &mut writer, session)
 }

@@ -3,16 +3,8 @@
 use messages_explanations::Program;
 use session::{Mode, Place, Session};
 use std::fmt;
-use survey_opcodes::{Numbering, Opcode};
+use survey_opcodes::Opcode;
 use zcore::Fault;
-
-/// The opcodes among those of any number of operands that `--standard` does not play yet.
-const SET_WINDOW: u8 = 11;
-
-const READ_CHAR: u8 = 22;
-
-/// That of which `--standard` does not play stream 3 yet.
-const OUTPUT_STREAM: u8 = 19;
 
 /// Where a story stands. `Display` writes it in words, a fault as `M7: division by zero at 0F31`.
 #[derive(Clone, Copy)]
@@ -119,13 +111,11 @@ fn wrong_in_profile(opcode: Opcode) -> &'static str {
     }
 }
 
-/// What is wrong with an opcode with `--standard`: it is not played yet, it is none that the
-/// Standard names, or it has operands that it does not take.
+/// What is wrong with an opcode with `--standard`: the Standard does not name it, or it has operands
+/// that it does not take.
 fn wrong_in_standard(opcode: Opcode) -> &'static str {
-    match (opcode.numbering, opcode.number) {
-        (Numbering::Several, SET_WINDOW | READ_CHAR) => "is not played yet",
-        (Numbering::Several, OUTPUT_STREAM) => "has operands that are not played yet",
-        _ if opcode.name().is_some() => "has operands that it does not take",
-        _ => "is not known",
+    match opcode.name() {
+        Some(_) => "has operands that it does not take",
+        None => "is not known",
     }
 }

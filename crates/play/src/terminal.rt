@@ -17,15 +17,15 @@ const NOTICES: [&[u8]; 5] = [
     b"[No memory: line not taken.]\n",
 ];
 
-/// A writer of the transcript. It tells a user at a terminal more, on standard error; the transcript
-/// is the same. After the first answer that the story is over it says how to end the input. After
+/// A writer of the transcript, for a user at a terminal. It tells the user more, on standard error;
+/// the transcript is the same. After the first answer that the story is over it says how to end the input. After
 /// another notice it shows the story's last prompt again, if the transcript is at a terminal too.
 #[derive(Drop)]
 pub struct Transcript<'a, W> {
     writer: W,
     rt: &'a HostRuntime,
 
-    /// Whether the user is at a terminal and has not been told how to end the input yet.
+    /// Whether the user has not been told how to end the input yet.
     is_waiting: bool,
 
     /// Whether the user sees the transcript at a terminal.
@@ -63,22 +63,21 @@ fn latest_of(text: &[u8]) -> Latest {
 }
 
 impl<'a, W: Write> Transcript<'a, W> {
-    /// The transcript that a writer is given. The user is at a terminal if standard input is one.
+    /// The transcript that a writer is given. Standard input is a terminal.
     pub fn new(rt: &'a HostRuntime, writer: W) -> Transcript<'a, W>
         ensures { result.writer ≡ writer }
     {
-        let is_at_terminal = rt.stdin().is_terminal();
         Transcript {
             writer,
             rt,
-            is_waiting: is_at_terminal,
-            is_shown: is_at_terminal && rt.stdout().is_terminal(),
+            is_waiting: true,
+            is_shown: rt.stdout().is_terminal(),
             latest: Latest::Story,
             prompt: Vec::new(rt.alloc()),
         }
     }
 
-    /// Notes what is written, for a user at a terminal: nobody else is told anything.
+    /// Notes what is written.
     fn note(&mut self, text: &[u8])
         ensures { self.new.writer ≡ self.old.writer }
     {

@@ -1,12 +1,12 @@
 -- What undo, redo and a line make of the session of a game.
-use Rattle.std.proofs.Common.{◌≡◌, ℕ, ◌+◌, Bool, true, false, List, [], ◌∷◌, ◌++◌, Option, None, Some, ap, ◌∙◌, sym, refl, get_or}
+use Rattle.std.proofs.Common.{◌≡◌, ℕ, ◌+◌, Bool, true, false, List, [], ◌∷◌, ◌++◌, Option, None, Some, ap, ◌∙◌, refl, get_or}
 use Rattle.std.proofs.Common.{if◌then◌else◌, nat_lt, length}
 use Rattle.zcore.specs.declared.place.Place.TheVariants as places
-use Rattle.zcore.specs.Turn.{StateOfPlay, plays_of, is_waiting, last_text, last_place}
+use Rattle.zcore.specs.Turn.{StateOfPlay, is_waiting}
 use Rattle.session.specs.Modes.{loaded_in, turn_with}
 use Rattle.session.specs.Standing.{Standing, undo_of, redo_of, taken}
 use Rattle.session.specs.Session.{Session}
-use Rattle.session.specs.Stepped.{stepped_back, stepped_forward, without_oldest, with_turn, bounded, bounded_by, latest_text}
+use Rattle.session.specs.Stepped.{stepped_back, stepped_forward, without_oldest, bounded, bounded_by, latest_text}
 use Rattle.session.specs.Game.{Game, bytes_of, play_on, IsSessionOf, text_on, place_on}
 use Rattle.session.specs.Turned.{Turned}
 use Rattle.session.proofs.Sessions.{session_undo, session_redo}

@@ -6,7 +6,6 @@ use Rattle.std.proofs.lemmas.List.{map-set, set-get_or, get_or-map, length-set, 
 use Rattle.std.proofs.lemmas.List.{get_or-drop}
 use Rattle.journal.specs.Recording.{Recording, IsNothingKept}
 use Rattle.journal.specs.Swap.{back, forward, Fits}
-use Rattle.zcore.specs.declared.header.Header.{Header}
 use Rattle.zcore.specs.declared.place.Place.{Place}
 use Rattle.zcore.specs.declared.place.Place.TheVariants as places
 use Rattle.zcore.specs.Turn.{StateOfPlay}
@@ -89,16 +88,16 @@ exchanged_view keep fuel known opening store new first turns t u entries k from 
     (kept_by (λ y. line_of y.written) turns k t u lt is (ap (λ (y : Turn). line_of y.written) x.is))
     (kept_by (λ y. length y.overwritten) turns k t u lt is (ap (λ (y : Turn). length y.overwritten) x.is ∙ x.size))
 
-ready_as : (header : Header) (f g : List ℕ) (cs ds : List (List ℕ)) (ps qs : List Place) (k : ℕ) → g ≡ f → ds ≡ cs
+ready_as : (known : Known) (f g : List ℕ) (cs ds : List (List ℕ)) (ps qs : List Place) (k : ℕ) → g ≡ f → ds ≡ cs
     → qs ≡ ps
-    → IsReady header (record { cells = get_or cs k []; fixed = f }) (get_or ps k places.Quit)
-    → IsReady header (record { cells = get_or ds k []; fixed = g }) (get_or qs k places.Quit)
-ready_as header f g cs ds ps qs k a b c s =
-    let at = subst (λ x. IsReady header (record { cells = get_or cs k []; fixed = x }) (get_or ps k places.Quit))
+    → IsReady known (record { cells = get_or cs k []; fixed = f }) (get_or ps k places.Quit)
+    → IsReady known (record { cells = get_or ds k []; fixed = g }) (get_or qs k places.Quit)
+ready_as known f g cs ds ps qs k a b c s =
+    let at = subst (λ x. IsReady known (record { cells = get_or cs k []; fixed = x }) (get_or ps k places.Quit))
     (sym a) s in
-    let then_at = subst (λ x. IsReady header (record { cells = get_or x k []; fixed = g }) (get_or ps k places.Quit))
+    let then_at = subst (λ x. IsReady known (record { cells = get_or x k []; fixed = g }) (get_or ps k places.Quit))
     (sym b) at in
-    subst (λ x. IsReady header (record { cells = get_or ds k []; fixed = g }) (get_or x k places.Quit)) (sym c)
+    subst (λ x. IsReady known (record { cells = get_or ds k []; fixed = g }) (get_or x k places.Quit)) (sym c)
     then_at
 
 exchanged_between : (known : Known) (store new : Recording Contents) (first : Place) (turns : List Turn)
@@ -128,7 +127,7 @@ exchanged_between known store new first turns t u entries k from to lt is x fixe
       small = subst (λ rs. All (λ r. length r ≤ largest_record known.header.static_base) rs) (sym records)
           (all_set (λ r. length r ≤ largest_record known.header.static_base) (records_of turns) k u.overwritten i.small
           small);
-      ready = λ n le. ready_as known.header store.store.fixed new.store.fixed _ _ (places_of first turns)
+      ready = λ n le. ready_as known store.store.fixed new.store.fixed _ _ (places_of first turns)
           (places_of first (set turns k u)) n fixed cells
           (ap (λ ps. first ∷ ps) (kept_by (λ y. y.place) turns k t u lt is (ap (λ (y : Turn). y.place) x.is)))
           (i.ready n (omega (arith, long)));
@@ -252,7 +251,7 @@ oldest_by known store first rest t done some i =
           ≡ get_or (all_cells store.store.cells (records_of (t ∷ rest)) done) (suc k) [] =
           ap (λ cs. get_or cs k []) cells ∙ get_or-drop 1 (all_cells store.store.cells (records_of (t ∷ rest)) done)
           k [] ∙ ap (λ n. get_or (all_cells store.store.cells (records_of (t ∷ rest)) done) n []) e in
-          subst (λ c. IsReady known.header (with_cells store.store c) (get_or (places_of t.place rest) k places.Quit))
+          subst (λ c. IsReady known (with_cells store.store c) (get_or (places_of t.place rest) k places.Quit))
           (sym at) (i.ready (suc k) (omega arith));
     }
 
@@ -266,8 +265,8 @@ oldest_between known store first turns rest t done is some i = oldest_by known s
 
 pub ready_now : (known : Known) (store : Recording Contents) (first : Place) (turns : List Turn) (done : ℕ)
     → IsBetweenTurns known store first turns done
-    → IsReady known.header store.store (get_or (places_of first turns) done places.Quit)
+    → IsReady known store.store (get_or (places_of first turns) done places.Quit)
 ready_now known store first turns done i =
-    subst (λ c. IsReady known.header (with_cells store.store c) (get_or (places_of first turns) done places.Quit))
+    subst (λ c. IsReady known (with_cells store.store c) (get_or (places_of first turns) done places.Quit))
     (present_cells store.store.cells (records_of turns) done []
     (omega (arith, i.within, length-map turns (λ (x : Turn). x.overwritten)))) (i.ready done i.within)

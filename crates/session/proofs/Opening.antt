@@ -3,32 +3,31 @@ use Rattle.std.proofs.Common.{◌≡◌, ℕ, ◌+◌, ◌≤◌, List, [], ◌�
 use Rattle.std.proofs.Common.{◌∙◌, subst, arith, Option, Some, None}
 use Rattle.std.specs.Prelude.{IfSome}
 use Rattle.journal.specs.Recording.{Recording, IsNothingKept}
-use Rattle.zcore.specs.declared.header.Header.{Header}
 use Rattle.zcore.specs.declared.place.Place.{Place}
 use Rattle.zcore.specs.declared.place.Place.TheVariants as places
 use Rattle.zcore.specs.Header.{static_base_of}
 use Rattle.zcore.specs.State.{State}
 use Rattle.zcore.specs.Turn.{Whole, entries, plays_of, last_text}
 use Rattle.machine_frames.specs.Contents.{Contents, memory_of}
-use Rattle.machine_frames.specs.Playing.{IsWaiting, whole_of}
+use Rattle.machine_frames.specs.Playing.{whole_of}
 use Rattle.machine_frames.specs.States.{IsStoreOf}
 use Rattle.session.specs.declared.turns.Turn.{Turn}
 use Rattle.session.specs.Times.{all_cells}
 use Rattle.session.specs.Inside.{with_cells, places_of, view_of, IsReady, IsBetweenTurns}
 use Rattle.session.specs.Game.{Game, bytes_of, play_on, IsSessionOf}
-use Rattle.session.specs.Modes.{Known, IsSettled, loaded_in, bytes_in, opening_with}
+use Rattle.session.specs.Modes.{Known, IsSettled, CanTake, loaded_in, bytes_in, opening_with}
 use Rattle.session.specs.Players.{IsPlayerOf, PlayerTurn}
 use Rattle.session.specs.Standing.{nothing}
 use Rattle.session.proofs.Moves.{present_cells}
 
 pub opened_between : (known : Known) (new : Recording Contents) (first : Place) (turns : List Turn) → turns ≡ []
-    → IsSettled known → IsStoreOf known.header new.store → (first ≡ places.Waiting → IsWaiting new.store) → IsNothingKept new
+    → IsSettled known → IsStoreOf known.header new.store → (first ≡ places.Waiting → CanTake known.loaded new.store) → IsNothingKept new
     → new.beginning ≡ new.store.cells
     → IsBetweenTurns known new first turns 0
 opened_between known new first turns e settled o waits idle begun =
-    let now : IsReady known.header new.store first = record { store = o; waits = waits } in
-    let start : IsReady known.header (with_cells new.store (get_or (all_cells new.store.cells [] 0) 0 [])) first = subst
-    (λ c. IsReady known.header (with_cells new.store c) first)
+    let now : IsReady known new.store first = record { store = o; waits = waits } in
+    let start : IsReady known (with_cells new.store (get_or (all_cells new.store.cells [] 0) 0 [])) first = subst
+    (λ c. IsReady known (with_cells new.store c) first)
     (sym (present_cells new.store.cells [] 0 [] (omega arith))) now in
     let result : IsBetweenTurns known new first [] 0 = record {
       settled = settled;
@@ -39,7 +38,7 @@ opened_between known new first turns e settled o waits idle begun =
       small = λ k d lt. absurd (omega arith);
       ready = λ k le.
           let z : k ≡ 0 = omega arith in
-          subst (λ n. IsReady known.header (with_cells new.store (get_or (all_cells new.store.cells [] 0) n []))
+          subst (λ n. IsReady known (with_cells new.store (get_or (all_cells new.store.cells [] 0) n []))
           (get_or (places_of first []) n places.Quit)) (sym z) start;
     } in
     subst (λ ts. IsBetweenTurns known new first ts 0) (sym e) result

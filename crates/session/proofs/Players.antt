@@ -12,7 +12,7 @@ use Rattle.zcore.proofs.Turning.{turns_is}
 use Rattle.machine_frames.specs.Contents.{Contents, memory_of}
 use Rattle.machine_frames.specs.Playing.{Follows, FollowsBy, Answers, Opens}
 use Rattle.machine_frames.specs.States.{play_of, IsStoreOf}
-use Rattle.machine.specs.Ended.{TurnEnds, OpensOrAnswers}
+use Rattle.machine.specs.Ended.{TurnEndsBy, IsReadyFor, OpensOrAnswers}
 use Rattle.machine.specs.Loaded.{IsLoaded}
 use Rattle.machine.specs.declared.turn.Machine.{Machine}
 use Rattle.zcore.specs.declared.header.Header.{Header}
@@ -22,26 +22,28 @@ use Rattle.zcore.specs.Turn.{TurnsBy}
 use Rattle.zcore_standard.specs.Loaded.{Loaded}
 use Rattle.zcore_standard.specs.Machine.{standard, standard_turn, standard_pending, standard_opening, standard_turn_on}
 use Rattle.zcore_standard.specs.Machine.{standard_ended, begins}
+use Rattle.zcore_standard.specs.Reading.{standard_given}
 use Rattle.zcore_standard.proofs.Turning.{standard_turn_is}
 use Rattle.machine_standard.specs.Loads.{IsLoaded as IsStandardLoaded, IsStoreFor}
 use Rattle.machine_standard.specs.Playing.{OpensStandard, AnswersStandard, OpensOrAnswersStandard}
+use Rattle.machine_standard.specs.Playing.{IsReadyForStandard}
 use Rattle.machine_standard.specs.declared.turn.StandardMachine.{StandardMachine}
 use Rattle.session.specs.declared.mode.Mode.TheVariants.{Profile, Standard}
 use Rattle.session.specs.Modes.{Known, IsSettled}
-use Rattle.session.specs.Players.{IsPlayerOf, PlayerTurn}
+use Rattle.session.specs.Players.{IsPlayerOf, IsReadyIn, PlayerTurn}
 
 -- a turn that ends by one description ends by another that follows from it
-pub ends_as : (turn other : Whole → Type 0) (old : Recording Contents) (was : List ℕ) (new : Recording Contents)
+pub ends_as : (takes : Contents → Type 0) (turn other : Whole → Type 0) (old : Recording Contents) (was : List ℕ) (new : Recording Contents)
     (now : List ℕ) (result : Result Place NoMemory) → ((whole : Whole) → turn whole → other whole)
-    → TurnEnds turn old was new now result → TurnEnds other old was new now result
-ends_as turn other old was new now (Ok place) so h = record {
+    → TurnEndsBy takes turn old was new now result → TurnEndsBy takes other old was new now result
+ends_as takes turn other old was new now (Ok place) so h = record {
   whole = so _ h.whole;
   waits = h.waits;
   goes_on = h.goes_on;
   given_up = h.given_up;
   front = h.front;
 }
-ends_as turn other old was new now (Err e) so h = record {
+ends_as takes turn other old was new now (Err e) so h = record {
   whole = h.whole;
   waits = h.waits;
   goes_on = h.goes_on;
@@ -86,6 +88,12 @@ pub profile_turn : (header : Header) (line : Option (Bor (List ℕ))) (s : Conte
 profile_turn header None s fuel whole h = opens_turn s fuel whole h
 profile_turn header (Some line) s fuel whole h = answers_turn line.now s fuel whole h
 
+-- a store on which one can be played
+pub profile_ready : (header : Header) (line : Option (Bor (List ℕ))) (s : Contents)
+    → IsReadyIn (record { header = header; loaded = None }) line s → IsReadyFor line s
+profile_ready header None s h = h
+profile_ready header (Some line) s h = h
+
 -- The Standard's machine
 
 opens_standard : (loaded : Loaded) (s : Contents) (fuel : ℕ) (whole : Whole) → OpensStandard loaded s fuel whole
@@ -105,7 +113,7 @@ answers_standard : (loaded : Loaded) (line : List ℕ) (s : Contents) (fuel : �
 unfolding standard_turn_on
 answers_standard loaded line s fuel whole h =
     ap (λ p. standard_pending loaded p line fuel (play_of s)) h.1
-    ∙ follows_standard loaded (play_of s).beside (given h.0 line fuel (resumed (play_of s)))
+    ∙ follows_standard loaded (play_of s).beside (standard_given h.0 line fuel (resumed (play_of s)))
     (standard_ended (begins (play_of s).beside (record { program_counter = (play_of s).program_counter; fuel = fuel })))
     whole h.2
 
@@ -128,6 +136,12 @@ pub standard_machine_turn : (header : Header) (loaded : Loaded) (line : Option (
     → PlayerTurn (record { header = header; loaded = Some loaded }) line s fuel whole
 standard_machine_turn header loaded None s fuel whole h = opens_standard loaded s fuel whole h
 standard_machine_turn header loaded (Some line) s fuel whole h = answers_standard loaded line.now s fuel whole h
+
+-- a store on which one can be played
+pub standard_ready : (header : Header) (loaded : Loaded) (line : Option (Bor (List ℕ))) (s : Contents)
+    → IsReadyIn (record { header = header; loaded = Some loaded }) line s → IsReadyForStandard line s
+standard_ready header loaded None s h = h
+standard_ready header loaded (Some line) s h = h
 
 abbrev pub standard_known : StandardMachine → Known
 standard_known machine = record { header = machine.header; loaded = Some machine.loaded }

@@ -4,7 +4,7 @@ use Rattle.std.proofs.Common.{Result, Ok, Err}
 use Rattle.std.specs.Io.KnownBytes.{Appends}
 use Rattle.zcore.specs.declared.place.Place.{Place}
 use Rattle.session.specs.Input.{lines_of}
-use Rattle.session.specs.Game.{telling_of, Game, place_on, after, transcript}
+use Rattle.session.specs.Game.{telling_of, Game, place_on, transcript}
 use Rattle.session.specs.Telling.{Telling}
 use Rattle.session.specs.Standing.{Standing, nothing}
 use Rattle.session.specs.Transcript.{Typed, lines_typed, Answer, answer_of, replies_of}

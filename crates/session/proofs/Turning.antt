@@ -1,6 +1,6 @@
 -- What a turn makes of the fields of a session.
 use Rattle.std.proofs.Common.{◌≡◌, ℕ, ◌+◌, ◌≤◌, List, [], ◌∷◌, ◌++◌, length, get_or, take, drop, map, refl, ap}
-use Rattle.std.proofs.Common.{sym, ◌∙◌, subst, arith, Option, Some, Result, Ok, Err, add-one, inl, inr}
+use Rattle.std.proofs.Common.{sym, ◌∙◌, subst, arith, Option, Result, Ok, Err, add-one, inl, inr}
 use Rattle.std.specs.Result.{OnErr}
 use Rattle.std.specs.List.{All}
 use Rattle.std.proofs.lemmas.List.{take-map, map_push, length-map, length-take-le, length_push, get_or-take}
@@ -14,18 +14,18 @@ use Rattle.zcore.specs.declared.place.Place.{Place}
 use Rattle.zcore.specs.declared.place.Place.TheVariants as places
 use Rattle.zcore.specs.Turn.{StateOfPlay}
 use Rattle.machine_frames.specs.Contents.{Contents, bound_of}
-use Rattle.machine_frames.specs.Playing.{IsWaiting, whole_of}
+use Rattle.machine_frames.specs.Playing.{whole_of}
 use Rattle.machine_frames.specs.States.{play_of, IsStoreOf}
 use Rattle.machine_frames.specs.Went.{GivenUp, GoesOn}
 use Rattle.machine_frames.proofs.Steps.{given_up_after, store_after}
-use Rattle.machine.specs.Ended.{TurnEnds}
+use Rattle.machine.specs.Ended.{TurnEndsBy}
 use Rattle.session.specs.declared.turns.Turn.{Turn}
 use Rattle.session.specs.Session.{Session, largest_record}
 use Rattle.session.specs.Stepped.{with_turn}
 use Rattle.session.specs.Times.{all_cells}
 use Rattle.session.specs.Inside.{records_of, with_cells, places_of, view_of, IsReady, IsBetweenTurns}
 use Rattle.session.specs.Turned.{Turned}
-use Rattle.session.specs.Modes.{Known, turn_with}
+use Rattle.session.specs.Modes.{Known, CanTake, turn_with}
 use Rattle.session.specs.Players.{LineTurn}
 use Rattle.session.proofs.Views.{view_state, view_fuel, view_loaded, header_base}
 use Rattle.session.specs.Written.{text_of, line_of}
@@ -48,7 +48,7 @@ all_taken P xs k x le all p n d lt =
 pub record IsPlayed (known : Known) (old new : Recording Contents) (line : List ℕ) (fuel : ℕ) (t : Turn) : Type 0
   where
     pub turn : LineTurn known line old.store fuel (whole_of new.store t.place (text_of t.written))
-    pub waits : t.place ≡ places.Waiting → IsWaiting new.store
+    pub waits : t.place ≡ places.Waiting → CanTake known.loaded new.store
     pub line_is : (line_of t.written) ≡ line
     pub store : IsStoreOf known.header new.store
     pub fixed : new.store.fixed ≡ old.store.fixed
@@ -124,7 +124,7 @@ taken_ready : (known : Known) (old new : Recording Contents) (first : Place) (li
     (turns : List Turn) (k : ℕ) (t : Turn) → IsBetweenTurns known old first turns k
     → IsPlayed known old new line units t
     → (n : ℕ) → n ≤ k + 1
-    → IsReady known.header
+    → IsReady known
     (with_cells new.store
     (get_or (take (k + 1) (all_cells old.store.cells (records_of turns) k) ++ new.store.cells ∷ []) n []))
     (get_or (take (k + 1) (places_of first turns) ++ t.place ∷ []) n places.Quit)
@@ -144,10 +144,10 @@ taken_ready known old new first line units turns k t i h n le =
           ≡ new.store.cells = get_or_push (take (k + 1) cells) new.store.cells [] n (omega arith) in
           let p : get_or (take (k + 1) ps ++ t.place ∷ []) n places.Quit
           ≡ t.place = get_or_push (take (k + 1) ps) t.place places.Quit n (omega arith) in
-          let now : IsReady known.header new.store t.place = record { store = h.store; waits = h.waits } in
-          subst (λ x. IsReady known.header (with_cells new.store x)
+          let now : IsReady known new.store t.place = record { store = h.store; waits = h.waits } in
+          subst (λ x. IsReady known (with_cells new.store x)
           (get_or (take (k + 1) ps ++ t.place ∷ []) n places.Quit)) (sym c)
-          (subst (λ x. IsReady known.header new.store x) (sym p) now)
+          (subst (λ x. IsReady known new.store x) (sym p) now)
       | inr less ↦
           let c : get_or (take (k + 1) cells ++ new.store.cells ∷ []) n []
           ≡ get_or cells n [] = get_or_append_left (take (k + 1) cells) (new.store.cells ∷ []) [] n (omega arith)
@@ -155,14 +155,14 @@ taken_ready known old new first line units turns k t i h n le =
           let p : get_or (take (k + 1) ps ++ t.place ∷ []) n places.Quit
           ≡ get_or ps n places.Quit = get_or_append_left (take (k + 1) ps) (t.place ∷ []) places.Quit n
           (omega arith) ∙ get_or-take (k + 1) ps n places.Quit less in
-          let before : IsReady known.header (with_cells old.store (get_or cells n [])) (get_or ps n places.Quit) = i.ready
+          let before : IsReady known (with_cells old.store (get_or cells n [])) (get_or ps n places.Quit) = i.ready
           n (omega arith) in
-          let fixed : IsReady known.header (with_cells new.store (get_or cells n [])) (get_or ps n places.Quit) = subst
-          (λ f. IsReady known.header (record { cells = get_or cells n []; fixed = f }) (get_or ps n places.Quit))
+          let fixed : IsReady known (with_cells new.store (get_or cells n [])) (get_or ps n places.Quit) = subst
+          (λ f. IsReady known (record { cells = get_or cells n []; fixed = f }) (get_or ps n places.Quit))
           (sym h.fixed) before in
-          subst (λ x. IsReady known.header (with_cells new.store x)
+          subst (λ x. IsReady known (with_cells new.store x)
           (get_or (take (k + 1) ps ++ t.place ∷ []) n places.Quit)) (sym c)
-          (subst (λ x. IsReady known.header (with_cells new.store (get_or cells n [])) x) (sym p) fixed)
+          (subst (λ x. IsReady known (with_cells new.store (get_or cells n [])) x) (sym p) fixed)
     ]
 
 pub taken_between : (known : Known) (old new : Recording Contents) (first : Place) (line : List ℕ) (units : ℕ)
@@ -187,10 +187,10 @@ taken_between known old new first line units turns k t i h =
       small = subst (λ xs. All (λ r. length r ≤ largest_record known.header.static_base) xs) (sym records)
           (all_taken (λ r. length r ≤ largest_record known.header.static_base) rs k t.overwritten le i.small h.small);
       ready = λ n small.
-          subst (λ cs. IsReady known.header (with_cells new.store (get_or cs n []))
+          subst (λ cs. IsReady known (with_cells new.store (get_or cs n []))
           (get_or (places_of first (take k turns ++ t ∷ [])) n places.Quit))
           (sym (taken_cells known old new line units turns k t i.within h))
-          (subst (λ ps. IsReady known.header
+          (subst (λ ps. IsReady known
           (with_cells new.store
           (get_or (take (k + 1) (all_cells old.store.cells rs k) ++ new.store.cells ∷ []) n []))
           (get_or ps n places.Quit)) (sym (taken_places first turns k t))
@@ -241,7 +241,7 @@ kept_line before text bytes line n is size all front =
 -- what `turn`, `keep_written` and `close` say, as a turn that was played
 pub played : (known : Known) (old ran mid new : Recording Contents) (line : List ℕ) (units : ℕ) (t : Turn)
     (before text : List ℕ) → IsStoreOf known.header old.store
-    → TurnEnds (LineTurn known line old.store units) old before ran text (Ok t.place) → mid ≡ ran → before ≡ line
+    → TurnEndsBy (CanTake known.loaded) (LineTurn known line old.store units) old before ran text (Ok t.place) → mid ≡ ran → before ≡ line
     → t.written.line ≡ length line → t.written.bytes.items ≡ text → old.beginning ≡ old.store.cells
     → (back mid.store.cells t.overwritten).cells ≡ mid.beginning
     → Fits (length mid.store.cells) bound_of t.overwritten
@@ -249,8 +249,8 @@ pub played : (known : Known) (old ran mid new : Recording Contents) (line : List
     → new ≡ record { store = mid.store; beginning = mid.store.cells; kept = [] }
     → IsPlayed known old new line units t
 played known old ran mid new line units t before text o ended same first long all begun was fits small e =
-    let ends : TurnEnds (LineTurn known line old.store units) old before mid text (Ok t.place) =
-    subst (λ (r : Recording Contents). TurnEnds (LineTurn known line old.store units) old before r text (Ok t.place))
+    let ends : TurnEndsBy (CanTake known.loaded) (LineTurn known line old.store units) old before mid text (Ok t.place) =
+    subst (λ (r : Recording Contents). TurnEndsBy (CanTake known.loaded) (LineTurn known line old.store units) old before r text (Ok t.place))
     (sym same) ended in
     let words : drop (length before) text ≡ text_of t.written =
     kept_text before text t.written.bytes.items line t.written.line first long all in

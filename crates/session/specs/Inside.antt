@@ -3,14 +3,12 @@ use Rattle.std.specs.Prelude.{◌≡◌, ◌≤◌, ℕ, List, [], ◌∷◌, le
 use Rattle.std.specs.List.{All}
 use Rattle.journal.specs.Recording.{Recording, IsNothingKept}
 use Rattle.journal.specs.Swap.{Fits, Swapped}
-use Rattle.zcore.specs.declared.header.Header.{Header}
 use Rattle.zcore.specs.declared.place.Place.{Place}
 use Rattle.zcore.specs.declared.place.Place.TheVariants as places
 use Rattle.machine_frames.specs.Contents.{Contents, bound_of}
-use Rattle.machine_frames.specs.Playing.{IsWaiting}
 use Rattle.machine_frames.specs.States.{play_of, IsStoreOf}
 use Rattle.session.specs.declared.turns.Turn.{Turn}
-use Rattle.session.specs.Modes.{Known, IsSettled}
+use Rattle.session.specs.Modes.{Known, IsSettled, CanTake}
 use Rattle.session.specs.Session.{Session, largest_record}
 use Rattle.session.specs.Written.{text_of, line_of}
 use Rattle.session.specs.Times.{all_cells}
@@ -63,10 +61,10 @@ view_of keep fuel known opening store first turns done given_up = record {
   given_up = given_up;
 }
 
--- a store of this machine, which can take a line where it waits for one
-pub record IsReady (header : Header) (s : Contents) (place : Place) : Type 0 where
-  pub store : IsStoreOf header s
-  pub waits : place ≡ places.Waiting → IsWaiting s
+-- a store of this machine, which can be given what it waits for
+pub record IsReady (known : Known) (s : Contents) (place : Place) : Type 0 where
+  pub store : IsStoreOf known.header s
+  pub waits : place ≡ places.Waiting → CanTake known.loaded s
 
 -- Nothing is recorded between turns, each record fits the store, and at all times that the records reach the store
 -- was one of this machine.
@@ -79,4 +77,4 @@ pub record IsBetweenTurns (known : Known) (store : Recording Contents) (first : 
   pub fits : All (Fits (length store.store.cells) bound_of) (records_of turns)
   pub small : All (λ r. length r ≤ largest_record known.header.static_base) (records_of turns)
   pub ready : (k : ℕ) → k ≤ length turns
-      → IsReady known.header (with_cells store.store (cells_at store.store turns done k)) (place_at first turns k)
+      → IsReady known (with_cells store.store (cells_at store.store turns done k)) (place_at first turns k)

@@ -5,6 +5,9 @@ use Rattle.zcore.specs.Turn.{StateOfPlay, Whole, Play, opening, turn_on}
 use Rattle.zcore_standard.specs.Loaded.{Loaded}
 use Rattle.zcore_standard.specs.Loading.{loaded_of, memory_for}
 use Rattle.zcore_standard.specs.Machine.{standard_opening, standard_turn_on}
+use Rattle.machine_frames.specs.Contents.{Contents}
+use Rattle.machine_frames.specs.Playing.{IsWaiting}
+use Rattle.machine_standard_words.specs.Taking.{CanBeGiven}
 use Rattle.session.specs.declared.mode.Mode.{Mode}
 use Rattle.session.specs.declared.mode.Mode.TheVariants.{Profile, Standard}
 
@@ -34,6 +37,11 @@ play_in mode story fuel = record {
   opening = opening_with (loaded_in mode story) (bytes_in mode story) fuel;
   turn_on = λ line play. turn_with (loaded_in mode story) line fuel play;
 }
+
+-- a store that waits for what its machine can be given: in the profile a line, by the whole Standard a key too
+abbrev pub CanTake : Option Loaded → Contents → Type 0
+CanTake None = IsWaiting
+CanTake (Some loaded) = CanBeGiven
 
 -- What a player knows of its story: the header, and what loading fixed.
 pub record Known : Type 0 where

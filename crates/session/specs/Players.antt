@@ -4,13 +4,14 @@ use Rattle.std.specs.Borrow.{Bor}
 use Rattle.zcore.specs.Header.{static_base_of}
 use Rattle.zcore.specs.Turn.{Whole, first_state}
 use Rattle.machine_frames.specs.Contents.{Contents, memory_of}
+use Rattle.machine_frames.specs.Playing.{IsOpening}
 use Rattle.machine_frames.specs.States.{state_of, play_of, IsStoreOf}
 use Rattle.session.specs.declared.fault.OpenFault.{OpenFault}
 use Rattle.session.specs.declared.mode.Mode.{Mode}
 use Rattle.session.specs.declared.player.Player.{Player}
 use Rattle.session.specs.declared.player.Player.TheVariants as players
 use Rattle.session.specs.Loads.{CanBeLoaded, RefusesToLoad}
-use Rattle.session.specs.Modes.{Known, IsSettled, loaded_in, bytes_in, opening_with, turn_with}
+use Rattle.session.specs.Modes.{Known, IsSettled, CanTake, loaded_in, bytes_in, opening_with, turn_with}
 
 abbrev pub known_of : Player → Known
 known_of (players.Profile machine) = record { header = machine.header; loaded = None }
@@ -37,3 +38,8 @@ LineTurn known line s fuel whole = turn_with known.loaded line fuel (play_of s) 
 abbrev pub PlayerTurn : Known → Option (Bor (List ℕ)) → Contents → ℕ → Whole → Type 0
 PlayerTurn known None s fuel whole = opening_with known.loaded (memory_of s) fuel ≡ Some whole
 PlayerTurn known (Some line) s fuel whole = LineTurn known line.now s fuel whole
+
+-- a store on which it can be played
+abbrev pub IsReadyIn : Known → Option (Bor (List ℕ)) → Contents → Type 0
+IsReadyIn known None = IsOpening
+IsReadyIn known (Some line) = CanTake known.loaded

@@ -1,9 +1,8 @@
 -- What opening a session, and replying to a line, come to.
-use Rattle.std.specs.Prelude.{◌≡◌, ◌++◌, ◌∷◌, [], ℕ, List, true, false, Option, Result, Ok, Err}
+use Rattle.std.specs.Prelude.{◌≡◌, ◌++◌, ◌∷◌, [], ℕ, List, true, false, Result, Ok, Err}
 use Rattle.zcore.specs.Turn.{is_waiting}
 use Rattle.session.specs.declared.fault.OpenFault.{OpenFault}
 use Rattle.session.specs.declared.fault.OpenFault.TheVariants as faults
-use Rattle.session.specs.declared.mode.Mode.{Mode}
 use Rattle.session.specs.declared.reply.Reply.{Reply}
 use Rattle.session.specs.declared.reply.Reply.TheVariants as replies
 use Rattle.session.specs.Standing.{Standing, nothing, is_typable, taken}

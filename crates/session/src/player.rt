@@ -2,10 +2,10 @@
 
 ghost use Rattle.std.specs.Prelude.{OnOk, OnErr};
 ghost use Rattle.std.specs.Prelude.{◌≡◌};
-ghost use Rattle.machine.specs.Ended.{IsReadyFor, TurnEnds};
+ghost use Rattle.machine.specs.Ended.{TurnEndsBy};
 ghost use Rattle.machine_frames.specs.States.{IsStoreOf};
-ghost use Rattle.session.specs.Modes.{IsSettled};
-ghost use Rattle.session.specs.Players.{known_of, LoadsPlayer, PlayerTurn};
+ghost use Rattle.session.specs.Modes.{CanTake, IsSettled};
+ghost use Rattle.session.specs.Players.{known_of, IsReadyIn, LoadsPlayer, PlayerTurn};
 
 use crate::fault::OpenFault;
 use crate::mode::Mode;
@@ -65,8 +65,9 @@ impl Player {
     ) -> Result<Place, NoMemory>
         requires store { IsStoreOf (known_of self.now).header store.old.store }
         requires settled { IsSettled (known_of self.now) }
-        requires ready { IsReadyFor line store.old.store }
-        ensures ends { TurnEnds (PlayerTurn (known_of self.now) line.entry store.old.store fuel)
+        requires ready { IsReadyIn (known_of self.now) line store.old.store }
+        ensures ends { TurnEndsBy (CanTake (known_of self.now).loaded)
+            (PlayerTurn (known_of self.now) line.entry store.old.store fuel)
             store.old text.old.items store.new text.new.items result }
         ensures text { OnErr result (text.new.items ≡ text.old.items) }
     {

@@ -1,6 +1,6 @@
 -- What a source is compiled to, from what each part answers.
-use Rattle.std.proofs.Common.{◌≡◌, ◌⊎◌, inl, inr, ℕ, ◌≤◌, ◌<◌, List, [], ◌∷◌, Some, None, Result, Ok, Err, refl, sym}
-use Rattle.std.proofs.Common.{ap, ◌∙◌, subst}
+use Rattle.std.proofs.Common.{◌≡◌, ◌⊎◌, inl, inr, ℕ, ◌≤◌, ◌<◌, List, [], ◌∷◌, length, Some, None, Result, Ok, Err}
+use Rattle.std.proofs.Common.{ap, ◌∙◌, refl, subst, sym}
 use Rattle.std.specs.Prelude.{◌++◌}
 use Rattle.std.specs.List.{All}
 use Rattle.std.specs.Result.{IsErr, IsErrAnd}
@@ -30,28 +30,33 @@ use Rattle.checker_names.specs.Breaches.{IsAmong, IsFirst}
 use Rattle.checker.specs.Programs.{program_breaches}
 use Rattle.checker.specs.Checked.{IsCheckedOf}
 use Rattle.checker.specs.Laws.{AcceptedPrograms, PrintablePrograms}
+use Rattle.code.specs.HeldProgram.{sizes_of}
 use Rattle.code.specs.Laws.{CodePlays}
 use Rattle.meaning.specs.Plays.{Plays}
-use Rattle.story_sizes.specs.Laws.{IsSmall, SmallSourcesHaveSmallCode}
-use Rattle.story_file.specs.Layout.{addresses_in, story_of}
+use Rattle.story_sizes.specs.Laws.{SmallSourcesHaveSmallCode}
+use Rattle.story_sizes.proofs.SizesOfChecked.{small_routines}
+use Rattle.story_file.specs.Layout.{addresses_in, greatest_length, story_of}
 use Rattle.zcore.specs.Layout.{greatest_word}
-use Rattle.story_file.specs.Written.{FitsStory}
-use Rattle.story.specs.Compiled.{IsStoryOf, Compiles, NumbersKeys}
-use Rattle.story.specs.Refused.{IsTreeOf, Refuses, lexemes_of}
+use Rattle.story.specs.declared.sized.Limit.{Limit}
+use Rattle.story.specs.Compiled.{IsStoryOfBy, CompilesBy, NumbersKeys}
+use Rattle.story.specs.Large.{checked_fault_by, limits_by}
+use Rattle.story.specs.Refused.{IsTreeOf, Limits, RefusesBy, lexemes_of}
 use Rattle.story.specs.Refused as spec
-use Rattle.story.specs.Laws.{StoriesHold}
-use Rattle.story.proofs.Faults.{size_faults, placed_of}
-use Rattle.story.proofs.Sizes.{stories_are_short, is_story}
+use Rattle.story.specs.Laws.{IsStory, StoriesHold}
+use Rattle.story.proofs.Faults.{faults_by, placed_of}
+use Rattle.story.proofs.SizeTests.{parts_fit}
+use Rattle.story.proofs.Sizes.{all_short, stories_are_short}
 use Rattle.story.proofs.Numbered.{keys_numbered}
 use Rattle.story.proofs.Reading.{version_told}
 
 -- Faults
 
-pub answered : (version : Version) (source : List ℕ) (r : Result (List ℕ) PlacedFault) (f : PlacedFault)
-    → IsErr r × IsErrAnd r (λ e. e ≡ f) → Refuses version source f.fault → Compiles version source (unplaced r)
-answered version source (Ok bytes) f h refused = absurd h.1
-answered version source (Err e) f h refused =
-    subst (λ (x : PlacedFault). Refuses version source x.fault) (sym h.1) refused
+pub answered : (limits : Limits) (version : Version) (source : List ℕ) (r : Result (List ℕ) PlacedFault)
+    (f : PlacedFault) → IsErr r × IsErrAnd r (λ e. e ≡ f) → RefusesBy limits version source f.fault
+    → CompilesBy limits version source (unplaced r)
+answered limits version source (Ok bytes) f h refused = absurd h.1
+answered limits version source (Err e) f h refused =
+    subst (λ (x : PlacedFault). RefusesBy limits version source x.fault) (sym h.1) refused
 
 -- Trees
 
@@ -71,14 +76,14 @@ module _ (source : List ℕ) (ts : List Token) (lexed : Lexes 0 1 source (Ok (so
       record { tokens = source_tokens ts; lexed = lexed; parsed = program_of_lexemes p parsed; nested = nested }
 
   -- what is not parsed
-  pub unparsed : (version : Version) (f : SourceFault)
+  pub unparsed : (limits : Limits) (version : Version) (f : SourceFault)
       → (f.number ≡ 10 → ((p : ProgramTree) → IsProgram (lexemes ts) p → ⊥))
       → (f.number ≡ 10 → IsFirstUnfit 100 (lexemes ts) (λ place. place.line ≡ f.line))
       → (f.number ≡ 5 → ((p : ProgramTree) → IsProgram (lexemes ts) p → 100 < program_nesting p))
       → (f.number ≡ 5 → IsFirstDeep 100 (lexemes ts) (λ place. place.line ≡ f.line))
       → (f.number ≡ 5) ⊎ (f.number ≡ 10) ⊎ (f ≡ no_memory)
-      → Refuses version source f
-  unparsed version f grammar place deep deep_place number = elim number [
+      → RefusesBy limits version source f
+  unparsed limits version f grammar place deep deep_place number = elim number [
     | inl five ↦ spec.too_deep (source_tokens ts) lexed (λ p parsed. deep five p (program_of_tokens p parsed))
         (subst (λ ls. IsFirstDeep 100 ls (λ place. place.line ≡ f.line)) (sym (same_lexemes ts)) (deep_place five)) five
     | inr others ↦ elim others [
@@ -91,58 +96,58 @@ module _ (source : List ℕ) (ts : List Token) (lexed : Lexes 0 1 source (Ok (so
 
 -- Rules and sizes
 
-pub unchecked : (version : Version) (source : List ℕ) (p : ProgramTree) (f : SourceFault) → IsTreeOf source p
+pub unchecked : (limits : Limits) (version : Version) (source : List ℕ) (p : ProgramTree) (f : SourceFault) → IsTreeOf source p
     → (f ≡ no_memory) ⊎ ((b : Breach) × IsAmong b (program_breaches p) × IsFirst b (program_breaches p)
     × (f.number ≡ b.number) × (f.line ≡ b.position.line))
-    → Refuses version source f
-unchecked version source p f tree answer = elim answer [
+    → RefusesBy limits version source f
+unchecked limits version source p f tree answer = elim answer [
   | inl refused ↦ spec.no_memory refused
   | inr broken ↦ spec.rule_broken p tree broken.0 broken.1 broken.2 broken.3 broken.4
 ]
 
-pub too_large : (version : Version) (source : List ℕ) (p : ProgramTree) (c : CheckedProgram) (f : SourceFault)
-    → IsTreeOf source p → program_breaches p ≡ [] → IsCheckedOf p c
-    → Some f ≡ checked_size_fault c version → Refuses version source f
-too_large version source p c f tree lawful is e = spec.too_large p tree lawful (sym (e ∙ size_faults version p c is))
+pub too_large : (by : Limit) (version : Version) (source : List ℕ) (p : ProgramTree) (c : CheckedProgram)
+    (f : SourceFault) → IsTreeOf source p → program_breaches p ≡ [] → IsCheckedOf p c
+    → checked_fault_by by version c ≡ Some f → RefusesBy (limits_by by) version source f
+too_large by version source p c f tree lawful is e =
+    spec.too_large p tree lawful (sym (faults_by by version p c is) ∙ e)
 
 -- Stories
 
 module _ (accepted_programs : AcceptedPrograms) (printable_tokens : PrintableTokens)
     (printable_trees : PrintableTrees)
     (printable_programs : PrintablePrograms)
-    (small_sources : SmallSourcesHaveSmallCode)
-    (version : Version) (source : List ℕ) (ts : List Token) (p : ProgramTree) (c : CheckedProgram)
+    (source : List ℕ) (ts : List Token) (p : ProgramTree) (c : CheckedProgram)
     (lexed : Lexes 0 1 source (Ok (source_tokens ts))) (parsed : IsProgram (lexemes ts) p)
     (lawful : program_breaches p
-    ≡ []) (is : IsCheckedOf p c)
-    (sized : checked_size_fault c version ≡ None) where
-  small : IsSmall c version
-  small = small_sources (lexemes ts) p c version parsed is sized
-
-  accepted : IsAccepted (program_of c)
+    ≡ []) (is : IsCheckedOf p c) where
+  pub accepted : IsAccepted (program_of c)
   accepted = subst IsAccepted (sym is.program) (accepted_programs p lawful)
 
-  printable : HasPrintableTexts (program_of c)
+  pub printable : HasPrintableTexts (program_of c)
   printable = subst HasPrintableTexts (sym is.program)
       (printable_programs p (printable_trees (lexemes ts) p parsed (printable_tokens source ts lexed)))
 
-  placed : routines_place (program_of c) ≤ greatest_word
-  placed = placed_of (routines_place (program_of c)) _ _ sized
+  pub light : SmallSourcesHaveSmallCode → (version : Version) → checked_size_fault c version ≡ None
+      → length (story_of version (program_of c)) ≤ greatest_length version
+  light small_sources version sized =
+      stories_are_short version (program_of c) accepted (placed_of (routines_place (program_of c)) _ _ sized)
+      (small_sources (lexemes ts) p c version parsed is sized).all
 
-  pub fits : FitsStory version (program_of c)
-  fits = record {
-    accepted = accepted;
-    printable = printable;
-    placed = placed;
-    within = stories_are_short version (program_of c) accepted placed small.all;
-  }
-
-  pub compiled : StoriesHold → CodePlays → (bytes : List ℕ) → All (λ b. b < 256) bytes
-      → bytes ≡ story_of version (program_of c) → program_nesting p ≤ 100 → IsStoryOf version source bytes
-  compiled stories_hold code_plays bytes are_bytes laid nested =
+  pub compiled : StoriesHold → CodePlays → (by : Limit) (version : Version) → checked_fault_by by version c ≡ None
+      → length (story_of version (program_of c)) ≤ greatest_length version
+      → (bytes : List ℕ) → All (λ b. b < 256) bytes → bytes ≡ story_of version (program_of c)
+      → program_nesting p ≤ 100 → IsStoryOfBy (limits_by by) version source bytes
+  compiled stories_hold code_plays by version sized within bytes are_bytes laid nested =
       let q = program_of c in
-      let all : All (λ b. b < 256) (story_of version q) = subst (All (λ b. b < 256)) laid are_bytes in
-      let held = stories_hold version q (is_story version q accepted placed small.each small.all all) in
+      let parts = parts_fit version c by sized in
+      let story : IsStory version q = record {
+        accepted = accepted;
+        short = all_short (sizes_of q) q.routines (small_routines (lexemes ts) p c parsed is parts.1);
+        placed = parts.0;
+        within = within;
+        bytes = subst (All (λ b. b < 256)) laid are_bytes;
+      } in
+      let held = stories_hold version q story in
       let plays : (full : ℕ) (lines : List (List ℕ)) → Plays (story_of version q) q full lines =
       code_plays (story_of version q) (addresses_in (scale_of version) q) q accepted printable held.1 in
       record {
@@ -150,7 +155,7 @@ module _ (accepted_programs : AcceptedPrograms) (printable_tokens : PrintableTok
           tree = p;
           is_tree = is_tree source ts lexed p parsed nested;
           lawful = lawful;
-          fits = sym (size_faults version p c is) ∙ sized;
+          fits = sym (faults_by by version p c is) ∙ sized;
           of_version = subst (λ b. IsOfVersion b version) (sym laid) (version_told version q);
           reads = subst (λ b. (header : Header) × Reads b (Ok header)) (sym laid) held.0;
           plays = λ full lines. subst (λ r. Plays bytes r full lines) is.program
@@ -159,5 +164,5 @@ module _ (accepted_programs : AcceptedPrograms) (printable_tokens : PrintableTok
         laid_out = laid ∙ ap (story_of version) is.program;
         dictionary = subst (λ r. NumbersKeys bytes r) is.program
             (subst (λ b. NumbersKeys b q) (sym laid)
-            (keys_numbered (story_of version q) q (addresses_in (scale_of version) q) placed held.1));
+            (keys_numbered (story_of version q) q (addresses_in (scale_of version) q) parts.0 held.1));
       }

@@ -17,7 +17,10 @@ use Rattle.checker.specs.Programs.{resolve_program, routine_trees}
 use Rattle.meaning.specs.Sizes.{greatest_routine_weight, first_heavy, size_fault}
 use Rattle.meaning.specs.CheckedSizes.{checked_size_fault}
 use Rattle.meaning.specs.CheckedSizes as checked
+use Rattle.story.specs.declared.sized.Limit.{Limit}
+use Rattle.story.specs.declared.sized.Limit.TheVariants as limit
 use Rattle.story.specs.FaultPlaces.{heavy_place}
+use Rattle.story.specs.Large.{checked_fault_by, length_fault, limits_by}
 use Rattle.story.specs.Refused.{tree_name_place, tree_size_fault, tree_weight}
 
 -- the first heavy routine of a checked program is that of its tree
@@ -50,6 +53,13 @@ size_faults version p c is =
     ∙ ap (λ w. size_fault version (routines_place (resolve_program p)) w (checked_heavy c.routines)) is.weight
     ∙ ap (size_fault version (routines_place (resolve_program p)) p.weight)
     (heavy_same (routine_trees p.directives) c.routines is.titles)
+
+pub faults_by : (by : Limit) (version : Version) (p : ProgramTree) (c : CheckedProgram) → IsCheckedOf p c
+    → checked_fault_by by version c ≡ limits_by by version p
+faults_by limit.Weight version p c is = size_faults version p c is
+faults_by limit.Length version p c is =
+    ap (λ (q : ProgramOf). length_fault version q (checked.heavy_place c)) is.program
+    ∙ ap (length_fault version (resolve_program p)) (heavy_places p c is)
 
 -- a program that has none stands below the routines in addresses that are words
 pub placed_of : (n : ℕ) (f : SourceFault) (rest : Option SourceFault)

@@ -6,6 +6,8 @@ mod PackedParts
 mod Holding
 pub mod Sizes
 pub mod Faults
+pub mod SizeTests
 mod Numbered
 pub mod Compiling
 pub mod Standing
+mod Light

@@ -14,7 +14,7 @@ use Rattle.code.specs.HeldProgram.{sizes_of}
 use Rattle.code.specs.Sizes.{routine_size, routines_size}
 use Rattle.story_file.specs.Layout.{addresses_in, fault_texts, parts_from, story_of}
 use Rattle.zcore.specs.Layout.{greatest_word}
-use Rattle.story.specs.Laws.{IsStory, StoriesAreShort, IsShortRoutine}
+use Rattle.story.specs.Laws.{StoriesAreShort, IsShortRoutine}
 use Rattle.story_file.proofs.Parts.{parts_short, room_for}
 use Rattle.story_file.proofs.Lengths.{sizes_are}
 use Rattle.story.proofs.Reading.{laid_length}
@@ -60,17 +60,3 @@ pub all_short : (sizes : Sizes) (rs : List RoutineOf)
 all_short sizes rs small k d within =
     let h : routine_size sizes (slice_index_or rs k d) + 7 ≤ greatest_routine_weight = small k d within in
     omega (arith, h)
-
--- what the law of stories asks for, from the limits of a source's weight
-pub is_story : (version : Version) (p : ProgramOf) → IsAccepted p → routines_place p ≤ greatest_word
-    → All (λ (r : RoutineOf). routine_size (sizes_of p) r + 7 ≤ greatest_routine_weight) p.routines
-    → routines_size (sizes_of p) p.routines ≤ greatest_weight version → All (λ b. b < 256) (story_of version p)
-    → IsStory version p
-is_story version p accepted placed small light bytes =
-    record {
-      accepted = accepted;
-      short = all_short (sizes_of p) p.routines small;
-      placed = placed;
-      within = stories_are_short version p accepted placed light;
-      bytes = bytes;
-    }

@@ -9,8 +9,8 @@ use Rattle.meaning.specs.Resolved.{ProgramOf}
 use Rattle.checker_names.specs.Keys as keys
 use Rattle.checker.specs.Programs.{resolve_program}
 use Rattle.story_file.specs.Layout.{story_of}
-use Rattle.story.specs.Playable.{IsPlayable}
-use Rattle.story.specs.Refused.{Refuses}
+use Rattle.story.specs.Playable.{IsPlayableBy}
+use Rattle.story.specs.Refused.{Limits, RefusesBy, tree_size_fault}
 
 -- The dictionary of a story gives each key its number in a program, 0 to those that are not a program's. Those that are
 -- have numbers that are not 0, and differ.
@@ -21,12 +21,19 @@ pub record NumbersKeys (story : List ℕ) (p : ProgramOf) : Type 0 where
       → k ≡ l
 
 -- the story of a source: it plays it, and its bytes are those of the layout
-pub record IsStoryOf (version : Version) (source bytes : List ℕ) : Type 0 where
-  pub playable : IsPlayable version source bytes
+pub record IsStoryOfBy (limits : Limits) (version : Version) (source bytes : List ℕ) : Type 0 where
+  pub playable : IsPlayableBy limits version source bytes
   pub laid_out : bytes ≡ story_of version (resolve_program playable.tree)
   pub dictionary : NumbersKeys bytes (resolve_program playable.tree)
 
--- what the compiler answers
+-- what the compiler answers, where some limits say which programs are too large
+abbrev pub CompilesBy : Limits → Version → List ℕ → Result (List ℕ) SourceFault → Type 0
+CompilesBy limits version source (Ok bytes) = IsStoryOfBy limits version source bytes
+CompilesBy limits version source (Err f) = RefusesBy limits version source f
+
+-- by the limits of weight
+abbrev pub IsStoryOf : Version → List ℕ → List ℕ → Type 0
+IsStoryOf version source bytes = IsStoryOfBy tree_size_fault version source bytes
+
 abbrev pub Compiles : Version → List ℕ → Result (List ℕ) SourceFault → Type 0
-Compiles version source (Ok bytes) = IsStoryOf version source bytes
-Compiles version source (Err f) = Refuses version source f
+Compiles version source result = CompilesBy tree_size_fault version source result

@@ -1,5 +1,5 @@
 -- The laws of stories that functions of `laws` carry as their contracts.
-use Rattle.std.specs.Prelude.{◌<◌, ◌≤◌, length, Ok}
+use Rattle.std.specs.Prelude.{◌≡◌, ◌⊎◌, ◌<◌, ◌≤◌, ℕ, List, length, Result, Ok, Err}
 use Rattle.std.specs.List.{All}
 use Rattle.zcore.specs.declared.header.Version.{Version}
 use Rattle.zcore.specs.declared.header.Header.{Header}
@@ -15,6 +15,10 @@ use Rattle.code.specs.Sizes.{routines_size}
 use Rattle.code.specs.HeldProgram.{sizes_of, HoldsProgram}
 use Rattle.story_file.specs.Layout.{addresses_in, greatest_length, story_of}
 use Rattle.zcore.specs.Layout.{greatest_word}
+use Rattle.syntax_lexer.specs.declared.fault.SourceFault.{SourceFault}
+use Rattle.syntax_lexer.specs.FaultNumbers.{no_memory}
+use Rattle.story.specs.Compiled.{CompilesBy, IsStoryOf, IsStoryOfBy}
+use Rattle.story.specs.Large.{tree_length_fault}
 
 -- the code of a routine of a program of these sizes can be reached by jumps
 abbrev pub IsShortRoutine : Sizes → RoutineOf → Type 0
@@ -42,3 +46,11 @@ StoriesAreShort =
     (version : Version) (p : ProgramOf) → IsAccepted p → routines_place p ≤ greatest_word
     → routines_size (sizes_of p) p.routines ≤ greatest_weight version
     → length (story_of version p) ≤ greatest_length version
+
+-- what the limit of weight accepts, that of length accepts with the same bytes, and refuses for want of memory alone
+abbrev pub LightStoriesFit : Type 0
+LightStoriesFit =
+    (version : Version) (source bytes : List ℕ) → IsStoryOf version source bytes
+    → IsStoryOfBy tree_length_fault version source bytes
+    × ((result : Result (List ℕ) SourceFault) → CompilesBy tree_length_fault version source result
+    → (result ≡ Ok bytes) ⊎ (result ≡ Err no_memory))

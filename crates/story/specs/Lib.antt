@@ -2,4 +2,5 @@ pub mod Refused
 pub mod Playable
 pub mod Compiled
 pub mod FaultPlaces
+pub mod Large
 pub mod Laws

@@ -33,31 +33,39 @@ pub record IsTreeOf (source : List ℕ) (p : ProgramTree) : Type 0 where
 
 -- Sizes
 
+-- which programs are too large, and why
+abbrev pub Limits : Type 0
+Limits = Version → ProgramTree → Option SourceFault
+
 abbrev pub tree_weight : RoutineTree → ℕ
 tree_weight r = r.weight
 
 abbrev pub tree_name_place : RoutineTree → Position
 tree_name_place r = r.name.position
 
-abbrev pub tree_size_fault : Version → ProgramTree → Option SourceFault
+abbrev pub tree_size_fault : Limits
 tree_size_fault version p =
     size_fault version (routines_place (resolve_program p)) p.weight
     (first_heavy tree_weight tree_name_place (routine_trees p.directives))
 
 -- why a source is refused: the earliest part that finds a fault answers, or a growth of memory was refused
-pub data Refuses (version : Version) (source : List ℕ) (f : SourceFault) : Type 0 where
-  no_memory : f ≡ fault_numbers.no_memory → Refuses version source f
-  in_tokens : Lexes 0 1 source (Err f) → Refuses version source f
+pub data RefusesBy (limits : Limits) (version : Version) (source : List ℕ) (f : SourceFault) : Type 0 where
+  no_memory : f ≡ fault_numbers.no_memory → RefusesBy limits version source f
+  in_tokens : Lexes 0 1 source (Err f) → RefusesBy limits version source f
   not_in_grammar : (tokens : List SourceToken) → Lexes 0 1 source (Ok tokens)
       → ((p : ProgramTree) → IsProgram (lexemes_of tokens) p → ⊥)
       → IsFirstUnfit greatest_nesting (lexemes_of tokens) (λ place. place.line ≡ f.line)
-      → f.number ≡ fault_numbers.not_in_grammar → Refuses version source f
+      → f.number ≡ fault_numbers.not_in_grammar → RefusesBy limits version source f
   too_deep : (tokens : List SourceToken) → Lexes 0 1 source (Ok tokens)
       → ((p : ProgramTree) → IsProgram (lexemes_of tokens) p → greatest_nesting < program_nesting p)
       → IsFirstDeep greatest_nesting (lexemes_of tokens) (λ place. place.line ≡ f.line)
-      → f.number ≡ fault_numbers.nested_too_deep → Refuses version source f
+      → f.number ≡ fault_numbers.nested_too_deep → RefusesBy limits version source f
   rule_broken : (p : ProgramTree) → IsTreeOf source p → (b : Breach) → IsAmong b (program_breaches p)
       → IsFirst b (program_breaches p)
-      → f.number ≡ b.number → f.line ≡ b.position.line → Refuses version source f
-  too_large : (p : ProgramTree) → IsTreeOf source p → program_breaches p ≡ [] → tree_size_fault version p ≡ Some f
-      → Refuses version source f
+      → f.number ≡ b.number → f.line ≡ b.position.line → RefusesBy limits version source f
+  too_large : (p : ProgramTree) → IsTreeOf source p → program_breaches p ≡ [] → limits version p ≡ Some f
+      → RefusesBy limits version source f
+
+-- the same by the limits of weight
+abbrev pub Refuses : Version → List ℕ → SourceFault → Type 0
+Refuses version source f = RefusesBy tree_size_fault version source f

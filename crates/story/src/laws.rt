@@ -1,6 +1,11 @@
 //! Laws of stories. The functions do nothing: each carries a law as its contract.
 
-ghost use Rattle.story.specs.Laws.{StoriesAreShort, StoriesHold};
+ghost use Rattle.story.specs.Laws.{LightStoriesFit, StoriesAreShort, StoriesHold};
+
+use checker::accepted_programs;
+use story_sizes::code_is_short;
+use syntax::one_tree;
+use syntax_lexer::one_outcome;
 
 /// The story of an accepted program is read, and holds the program at the packed addresses that its
 /// calls name, where its code is short enough for jumps, its packed addresses are words and its
@@ -15,3 +20,14 @@ pub fn stories_hold()
 pub fn stories_are_short()
     ensures { StoriesAreShort }
 {}
+
+/// A source that is accepted where its weight is limited is accepted too where the length of its
+/// story is, and its story has the same bytes; memory may be refused.
+pub fn light_stories_fit()
+    ensures { LightStoriesFit }
+{
+    accepted_programs();
+    code_is_short();
+    one_outcome();
+    one_tree();
+}

@@ -2,7 +2,9 @@
 #![tactic(auto)]
 
 mod laws;
+mod sized;
 mod story;
 
-pub use laws::{stories_are_short, stories_hold};
+pub use laws::{light_stories_fit, stories_are_short, stories_hold};
+pub use sized::{Limit, story_within};
 pub use story::{Story, compile, compile_for, compile_once, compile_placed};

@@ -3,17 +3,18 @@
 ghost use Rattle.std.specs.Prelude.{IfErr};
 ghost use Rattle.zcore.specs.declared.header.Version.TheVariants.{V5};
 ghost use Rattle.syntax_lexer.specs.Placed.{unplaced};
-ghost use Rattle.story.specs.Compiled.{Compiles};
+ghost use Rattle.story.specs.Compiled.{Compiles, CompilesBy};
 ghost use Rattle.story.specs.FaultPlaces.{Stands};
+ghost use Rattle.story.specs.Large.{limits_by};
 
 use crate::laws::{stories_are_short, stories_hold};
+use crate::sized::{Limit, story_within};
 use checker::{accepted_programs, check_placed, printable_programs};
 use code::code_plays;
-use meaning::{Checked, test_sizes_placed};
+use meaning::Checked;
 use std::alloc::Global;
 use std::marker::Model;
 use std::mem::forget;
-use story_file::write_story;
 use story_sizes::small_sources_have_small_code;
 use syntax::{Program, parse_placed, printable_trees};
 use syntax_lexer::{PlacedFault, SourceFault, lex_placed, printable_tokens};
@@ -84,7 +85,7 @@ pub fn compile(alloc: Global, source: &[u8]) -> Result<Story, SourceFault>
 pub fn compile_for(alloc: Global, source: &[u8], version: Version) -> Result<Story, SourceFault>
     ensures { Compiles version source.now result }
 {
-    match compile_placed(alloc, source, version) {
+    match compile_placed(alloc, source, version, Limit::Weight) {
         Ok(story) => Ok(story),
         Err(placed) => Err(placed.fault),
     }
@@ -119,9 +120,10 @@ fn compile_in(
     alloc: Global,
     source: &[u8],
     version: Version,
+    limit: Limit,
     trees: Trees,
 ) -> Result<Story, PlacedFault>
-    ensures compiles { Compiles version source.now (unplaced result) }
+    ensures compiles { CompilesBy (limits_by limit) version source.now (unplaced result) }
     ensures stands { IfErr result (Stands source.now) }
 {
     accepted_programs();
@@ -137,24 +139,35 @@ fn compile_in(
     // The tree names no token, and they may take more memory than it.
     drop(tokens);
     let checked = check_placed(alloc, &program)?;
-    test_sizes_placed(&checked, version)?;
-    let bytes = write_story(alloc, &checked, version)?;
-    leave(checked, program, trees);
-    Ok(Story::of_bytes(bytes))
+    let sized = story_within(alloc, &checked, version, limit)?;
+    match sized {
+        Ok(bytes) => {
+            leave(checked, program, trees);
+            Ok(Story::of_bytes(bytes))
+        }
+        Err(placed) => Err(placed),
+    }
 }
 
-/// The story of a source, as [`compile_for`] makes it, or the fault with its place.
+/// The story of a source, as [`compile_for`] makes it by the limit of weight, or the fault with its
+/// place.
 ///
 /// # Errors
 ///
-/// Those of [`compile_for`]. The offset is that of the byte, the token or the first token of what
-/// is at fault; E30, E31 and E99 have none.
-pub fn compile_placed(alloc: Global, source: &[u8], version: Version) -> Result<Story, PlacedFault>
-    ensures compiles { Compiles version source.now (unplaced result) }
+/// Those of [`compile_for`], but by [`Limit::Length`] E31 only where the story is longer than packed
+/// addresses reach and no routine is too large by itself (E32). The offset is that of the byte, the
+/// token or the first token of what is at fault; E30, E31 and E99 have none.
+pub fn compile_placed(
+    alloc: Global,
+    source: &[u8],
+    version: Version,
+    limit: Limit,
+) -> Result<Story, PlacedFault>
+    ensures compiles { CompilesBy (limits_by limit) version source.now (unplaced result) }
     // The place of a fault is that of the byte, the token or the name at fault.
     ensures stands { IfErr result (Stands source.now) }
 {
-    compile_in(alloc, source, version, Trees::GivenBack)
+    compile_in(alloc, source, version, limit, Trees::GivenBack)
 }
 
 /// As [`compile_placed`], for a program that compiles one source and ends: the memory of the trees
@@ -164,9 +177,14 @@ pub fn compile_placed(alloc: Global, source: &[u8], version: Version) -> Result<
 /// # Errors
 ///
 /// Those of [`compile_placed`].
-pub fn compile_once(alloc: Global, source: &[u8], version: Version) -> Result<Story, PlacedFault>
-    ensures compiles { Compiles version source.now (unplaced result) }
+pub fn compile_once(
+    alloc: Global,
+    source: &[u8],
+    version: Version,
+    limit: Limit,
+) -> Result<Story, PlacedFault>
+    ensures compiles { CompilesBy (limits_by limit) version source.now (unplaced result) }
     ensures stands { IfErr result (Stands source.now) }
 {
-    compile_in(alloc, source, version, Trees::Left)
+    compile_in(alloc, source, version, limit, Trees::Left)
 }

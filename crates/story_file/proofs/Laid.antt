@@ -1,6 +1,7 @@
 -- The code of routines, and where it is laid.
 use Rattle.std.proofs.Common.{◌≡◌, ℕ, zero, suc, ◌+◌, ◌-◌, ◌*◌, ◌<◌, ◌≤◌, List, [], ◌∷◌, ◌++◌, length, take, drop, refl}
-use Rattle.std.proofs.Common.{sym, ap, ◌∙◌, subst, arith, append_assoc, length-append}
+use Rattle.std.proofs.Common.{Bool, true, false, nat_le, sym, ap, ◌∙◌, subst, arith, append_assoc, length-append}
+use Rattle.std.proofs.lemmas.Bool.{leb-false, leb-true}
 use Rattle.std.proofs.lemmas.List.{length-map, length-replicate}
 use Rattle.std.specs.Prelude.{map, replicate, slice_index, slice_index_or, sum}
 use Rattle.std.specs.List.{All, concat}
@@ -9,6 +10,7 @@ use Rattle.std.proofs.lemmas.List.Concat.{concat_is, length-flat_map}
 use Rattle.std.proofs.lemmas.List.Elements.{All-head, All-tail}
 use Rattle.std.proofs.lemmas.List.Sums.{sum-map}
 use Rattle.zcore.specs.declared.header.Version.{Version}
+use Rattle.zcore.specs.declared.header.Version.TheVariants.{V5, V8}
 use Rattle.zcore.specs.Header.{scale_of}
 use Rattle.meaning.specs.Resolved.{RoutineOf, ProgramOf}
 use Rattle.meaning.specs.Meaning.{routine_at}
@@ -21,8 +23,8 @@ use Rattle.code.specs.Written.{CodeOf}
 use Rattle.story_file.specs.Layout.{aligned, parts_from, fault_texts, routine_bytes, packed_addresses}
 use Rattle.zcore.specs.Layout.{greatest_word}
 use Rattle.story_file.specs.Layout.{array_addresses, addresses_in, low_bytes, body_with, body_of, header_of, story_of}
-use Rattle.story_file.specs.Written.{bytes_in, code_of, code_part, part_size, packed_from, IsReadyCode, FitsStory}
-use Rattle.story_file.specs.Written.{encoded_length, end_from}
+use Rattle.story_file.specs.Written.{bytes_in, code_of, code_part, part_size, packed_from, IsReadyCode, FitsStory, FitsTables}
+use Rattle.story_file.specs.Written.{codes_in, encoded_length, end_from, part_sizes, reaches_end}
 use Rattle.story_file.proofs.Parts.{aligned_above}
 use Rattle.story_file.proofs.Low.{low_length}
 use Rattle.story_file.proofs.Lengths.{sizes_are}
@@ -59,10 +61,6 @@ module _ (sizes : Sizes) where
       → map (code_part a) (map (code_of sizes) rs) ++ more ≡ map (routine_bytes sizes a) rs ++ more
   parts_are a [] more = refl
   parts_are a (r ∷ rs) more = ap (λ z. routine_bytes sizes a r ∷ z) (parts_are a rs more)
-
--- the code of each routine of a program
-abbrev pub codes_in : ProgramOf → List CodeOf
-codes_in p = map (code_of (sizes_of p)) p.routines
 
 few_locals : (p : ProgramOf) (rs : List RoutineOf) (k : ℕ) → All (IsRoutine p) rs → k < length rs
     → (routine_at rs k).locals ≤ 15
@@ -297,3 +295,98 @@ unfolding story_of
 story_laid version p body s s1 s2 e e0 e1 e2 =
     e2 ∙ ap (λ z. z ++ body) (e1 ∙ ap (λ z. z ++ header_of version (places_of p) body) e0)
     ∙ ap (λ b. header_of version (places_of p) b ++ b) e
+
+-- Whether packed addresses reach the end of a story
+
+pub story_end : (version : Version) (p : ProgramOf) → length p.defaults ≡ 63
+    → length (story_of version p) ≡ end_from (scale_of version) (routines_place p) (part_sizes p)
+unfolding story_of
+story_end version p words =
+    let end = ap (end_from (scale_of version) (routines_place p)) (all_sizes p (codes_in p) fault_texts refl refl) in
+    let whole = length-append (header_of version (places_of p) (body_of version p)) (body_of version p) in
+    omega (arith, end, whole, body_length version p words)
+
+not_within : (m n : ℕ) → n < m → nat_le m n ≡ false
+not_within m n h = go (nat_le m n) refl
+  where
+    go : (b : Bool) → nat_le m n ≡ b → nat_le m n ≡ false
+    go true e = absurd (omega (arith, h, leb-true m n e))
+    go false e = e
+
+-- a part ends after what packed addresses reach, so the whole does
+pub beyond_end : (version : Version) (at whole : ℕ) (sizes : List ℕ) (i x : ℕ) → i < length sizes
+    → x ≡ slice_index_or sizes i x → end_from (scale_of version) at (drop i sizes) ≡ whole
+    → 65535 * scale_of version < aligned (scale_of version) at + x
+    → nat_le whole (65535 * scale_of version) ≡ false
+beyond_end version at whole sizes i x h is e far =
+    let rest : List ℕ = drop (i + 1) sizes in
+    let this : end_from (scale_of version) at (x ∷ rest) ≡ whole =
+    ap (end_from (scale_of version) at) (sym (from_size sizes i x h is)) ∙ e in
+    not_within whole (65535 * scale_of version)
+    (omega (arith, this, far, part_within version (aligned (scale_of version) at + x) rest))
+
+-- the sizes of routines come first among those of the parts
+module _ (sizes : Sizes) (more : List ℕ) where
+  size_there : (rs : List RoutineOf) (k d : ℕ) → k < length rs
+      → slice_index_or (map part_size (map (code_of sizes) rs) ++ more) k d
+      ≡ part_size (code_of sizes (routine_at rs k))
+  size_there [] k d h = absurd (omega arith)
+  size_there (r ∷ rs) zero d h = refl
+  size_there (r ∷ rs) (suc k) d h = size_there rs k d (omega arith)
+
+  size_counted : (rs : List RoutineOf) (k : ℕ) → k < length rs
+      → k < length (map part_size (map (code_of sizes) rs) ++ more)
+  size_counted [] k h = absurd (omega arith)
+  size_counted (r ∷ rs) zero h = omega arith
+  size_counted (r ∷ rs) (suc k) h = let there = size_counted rs k (omega arith) in omega (arith, there)
+
+module _ (version : Version) (p : ProgramOf) (k at n : ℕ) (h : k < length p.routines)
+    (is : n ≡ part_size (code_of (sizes_of p) (routine_at p.routines k)))
+    (whole : ℕ) (w : end_from (scale_of version) at (drop k (part_sizes p)) ≡ whole) where
+  counted : k < length (part_sizes p)
+  counted = size_counted (sizes_of p) (map length fault_texts) p.routines k h
+
+  found : n ≡ slice_index_or (part_sizes p) k n
+  found = is ∙ sym (size_there (sizes_of p) (map length fault_texts) p.routines k n h)
+
+  pub end_goes_on : (end : ℕ) → end ≡ aligned (scale_of version) at + n
+      → end_from (scale_of version) end (drop (k + 1) (part_sizes p)) ≡ whole
+  end_goes_on end e =
+      ap (λ x. end_from (scale_of version) x (drop (k + 1) (part_sizes p))) e
+      ∙ ap (end_from (scale_of version) at) (sym (from_size (part_sizes p) k n counted found)) ∙ w
+
+  pub routine_beyond : 65535 * scale_of version < aligned (scale_of version) at + n
+      → nat_le whole (65535 * scale_of version) ≡ false
+  routine_beyond far = beyond_end version at whole (part_sizes p) k n counted found w far
+
+pub story_too_long : (version : Version) (p : ProgramOf) → FitsTables p → reaches_end version p ≡ false
+    → 65535 * scale_of version < length (story_of version p)
+story_too_long version p fits beyond =
+    let end = story_end version p fits.accepted.defaults.0 in
+    let far = leb-false (end_from (scale_of version) (routines_place p) (part_sizes p)) (65535 * scale_of version) beyond in
+    omega (arith, end, far)
+
+pub story_reached : (version : Version) (p : ProgramOf) → FitsTables p → reaches_end version p ≡ true
+    → length (story_of version p) ≤ 65535 * scale_of version
+story_reached version p fits reached =
+    let end = story_end version p fits.accepted.defaults.0 in
+    let near = leb-true (end_from (scale_of version) (routines_place p) (part_sizes p)) (65535 * scale_of version) reached in
+    omega (arith, end, near)
+
+-- an address that is a word is one that packed addresses reach
+pub word_reached : (version : Version) (n : ℕ) → n ≤ greatest_word → n ≤ 65535 * scale_of version
+word_reached V5 n h = omega (arith, h)
+word_reached V8 n h = omega (arith, h)
+
+-- the test is on the sizes of codes and of texts, from the first on
+pub reach_as : (version : Version) (p : ProgramOf) (codes : List CodeOf) (place : ℕ) (b : Bool)
+    → place ≡ routines_place p → codes ≡ codes_in p
+    → b ≡ nat_le (end_from (scale_of version) place (map part_size codes ++ map length fault_texts))
+    (65535 * scale_of version)
+    → reaches_end version p ≡ b
+reach_as version p codes place b e t is =
+    sym (is
+    ∙ ap (λ at. nat_le (end_from (scale_of version) at (map part_size codes ++ map length fault_texts))
+    (65535 * scale_of version)) e
+    ∙ ap (λ cs. nat_le (end_from (scale_of version) (routines_place p) (map part_size cs ++ map length fault_texts))
+    (65535 * scale_of version)) t)

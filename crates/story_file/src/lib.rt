@@ -10,4 +10,5 @@ mod packed;
 mod words;
 mod write;
 
-pub use write::write_story;
+pub use packed::greatest_length;
+pub use write::{write_story, write_story_within};

@@ -1,15 +1,18 @@
 //! Where the parts of a story stand to which code refers.
 
-ghost use Rattle.std.specs.Prelude.{◌≡◌, ◌≤◌, ◌<◌, ◌+◌, ◌/◌, ◌^◌, [], ◌∷◌, IfOk, OnOk, map, sum};
+ghost use Rattle.std.specs.Prelude.{◌≡◌, ◌≤◌, ◌<◌, ◌+◌, ◌/◌, ◌^◌, [], ◌∷◌, IfOk, OnOk, map, nat_le, sum};
 ghost use Rattle.zcore.specs.Header.{scale_of};
 ghost use Rattle.zcore.specs.Layout.{greatest_word};
 ghost use Rattle.story_file.specs.Layout as layout;
-ghost use Rattle.story_file.specs.Written.{end_from, packed_from, part_size, encoded_length};
+ghost use Rattle.story_file.specs.Written.{EndsAt, end_from, packed_from, part_size, encoded_length};
 ghost use Rattle.code_encoding.specs.Bytes.{Adds};
 
 use code::Code;
 use std::alloc::{AllocError, Global};
 use zcore::Version;
+
+/// The greatest packed address.
+const MOST_PACKED: usize = 65_535;
 
 /// The first address at or after another to which a packed address leads.
 pub fn aligned(version: Version, at: usize) -> usize
@@ -74,6 +77,43 @@ pub fn packed_addresses(
         at = add_address(&mut addresses, version, at, *size)?;
     }
     Ok(addresses)
+}
+
+/// How many bytes a story of a version has at most, as far as packed addresses reach.
+pub fn greatest_length(version: Version) -> usize
+    ensures { result ≡ layout.greatest_length version }
+{
+    MOST_PACKED * version.scale() as usize
+}
+
+/// Where a part of a size ends that follows an address; `None` where packed addresses do not reach
+/// that end.
+pub fn end_after(version: Version, at: usize, size: usize) -> Option<usize>
+    requires { at ≤ layout.greatest_length version }
+    ensures { EndsAt version at size result }
+{
+    let most = greatest_length(version);
+    let up = aligned(version, at);
+    if up > most || size > most - up {
+        return None;
+    }
+    Some(up + size)
+}
+
+/// Whether packed addresses reach the end of parts of these sizes that stand from an address on.
+pub fn reach_end(version: Version, place: usize, sizes: &[usize]) -> bool
+    requires { place ≤ greatest_word }
+    ensures { result ≡ nat_le (end_from (scale_of version) place sizes.now)
+        (layout.greatest_length version) }
+{
+    let mut at = place;
+    for size in sizes {
+        let Some(end) = end_after(version, at, *size) else {
+            return false;
+        };
+        at = end;
+    }
+    aligned(version, at) <= greatest_length(version)
 }
 
 /// The addresses of arrays of these sizes that stand one behind another from an address on.

@@ -1,19 +1,23 @@
 //! The bytes of a story.
 
-ghost use Rattle.std.specs.Prelude.{◌≡◌, ◌≤◌, ◌<◌, IfOk, drop, length, map};
+ghost use Rattle.std.specs.Prelude.{◌≡◌, ◌≤◌, ◌<◌, ◌++◌, IfOk, drop, length, map, nat_le};
 ghost use Rattle.zcore.specs.Header.{scale_of};
+ghost use Rattle.zcore.specs.Layout.{greatest_word};
 ghost use Rattle.meaning.specs.Meaning.{routine_at};
-ghost use Rattle.meaning.specs.Places.{places_of};
+ghost use Rattle.meaning.specs.Places.{places_of, routines_place};
 ghost use Rattle.meaning.specs.Views.{program_of};
 ghost use Rattle.code_encoding.specs.Written.{addresses_of};
 ghost use Rattle.code.specs.HeldProgram.{sizes_of};
 ghost use Rattle.story_file.specs.Layout as layout;
-ghost use Rattle.story_file.specs.Written.{bytes_in, code_of, FitsStory};
+ghost use Rattle.story_file.specs.Written.{bytes_in, code_of, codes_in, end_from, part_size};
+ghost use Rattle.story_file.specs.Written.{AnswersCodes, AnswersStory, FitsStory, FitsTables};
 
 use crate::below::{arrays_place, put_low};
 use crate::header::put_header;
 use crate::high::{add_text, put_routines, put_texts};
-use crate::packed::{add_text_sizes, array_addresses, code_sizes, packed_addresses};
+use crate::packed::{
+    add_text_sizes, array_addresses, code_sizes, end_after, packed_addresses, reach_end,
+};
 use code::{Addresses, Code, CodeFault, routine_code};
 use meaning::{Checked, Places, part_places};
 use std::alloc::{AllocError, Global};
@@ -73,8 +77,7 @@ fn codes_of<'a, 'b>(
     alloc: Global,
     checked: &'b Checked<'a>,
 ) -> Result<Vec<Code<'a, 'b>>, AllocError>
-    ensures { IfOk result (λ v. v.items
-        ≡ map (code_of (sizes_of (program_of checked.now))) (program_of checked.now).routines) }
+    ensures { IfOk result (λ v. v.items ≡ codes_in (program_of checked.now)) }
 {
     let mut codes = Vec::new(alloc);
     for routine in 0..checked.routines() {
@@ -83,18 +86,63 @@ fn codes_of<'a, 'b>(
     Ok(codes)
 }
 
-/// The bytes behind the header, where these are the places of the parts.
+/// The code of all routines, in order of definition, where they stand from an address on; `None` as
+/// soon as one ends after what packed addresses reach, so that no more code is held than a story has.
+fn codes_within<'a, 'b>(
+    alloc: Global,
+    checked: &'b Checked<'a>,
+    version: Version,
+    place: usize,
+) -> Result<Option<Vec<Code<'a, 'b>>>, AllocError>
+    requires at { place ≡ routines_place (program_of checked.now) }
+    requires placed { place ≤ greatest_word }
+    ensures { IfOk result (AnswersCodes version (program_of checked.now)) }
+{
+    let mut codes = Vec::new(alloc);
+    let mut at = place;
+    for routine in 0..checked.routines() {
+        let code = code_at(alloc, checked, routine)?;
+        let Some(end) = end_after(version, at, code.length()) else {
+            return Ok(None);
+        };
+        at = end;
+        codes.push(code)?;
+    }
+    Ok(Some(codes))
+}
+
+/// Whether packed addresses reach the end of a story whose routines stand from an address on and
+/// have this code.
+fn is_within(
+    alloc: Global,
+    version: Version,
+    place: usize,
+    codes: &[Code<'_, '_>],
+) -> Result<bool, AllocError>
+    requires { place ≤ greatest_word }
+    ensures { IfOk result (λ b. b ≡ nat_le (end_from (scale_of version) place
+        (map part_size codes.now ++ map length layout.fault_texts)) (layout.greatest_length version)) }
+{
+    let texts = fault_texts(alloc)?;
+    let mut sizes = code_sizes(alloc, codes)?;
+    add_text_sizes(&mut sizes, &texts)?;
+    Ok(reach_end(version, place, &sizes))
+}
+
+/// The bytes behind the header, where these are the places of the parts, and the code of all
+/// routines.
 fn body_of(
     alloc: Global,
     version: Version,
     checked: &Checked<'_>,
     at: Places,
+    codes: Vec<Code<'_, '_>>,
 ) -> Result<Vec<u8>, AllocError>
     requires at { at ≡ places_of (program_of checked.now) }
+    requires codes { codes.items ≡ codes_in (program_of checked.now) }
     requires fits { FitsStory version (program_of checked.now) }
     ensures { IfOk result (λ v. v.items ≡ layout.body_of version (program_of checked.now)) }
 {
-    let codes = codes_of(alloc, checked)?;
     let texts = fault_texts(alloc)?;
     let mut sizes = code_sizes(alloc, &codes)?;
     add_text_sizes(&mut sizes, &texts)?;
@@ -106,6 +154,25 @@ fn body_of(
     put_routines(&mut body, version, &codes, &addresses)?;
     put_texts(&mut body, version, &texts)?;
     Ok(body)
+}
+
+/// The story file of a checked program, in a version, whose routines have this code.
+fn story_with(
+    alloc: Global,
+    checked: &Checked<'_>,
+    version: Version,
+    codes: Vec<Code<'_, '_>>,
+) -> Result<Vec<u8>, AllocError>
+    requires codes { codes.items ≡ codes_in (program_of checked.now) }
+    requires fits { FitsStory version (program_of checked.now) }
+    ensures { IfOk result (λ v. v.items ≡ layout.story_of version (program_of checked.now)) }
+{
+    let at = part_places(checked);
+    let body = body_of(alloc, version, checked, at, codes)?;
+    let mut story = Vec::new(alloc);
+    put_header(&mut story, version, at, &body)?;
+    story.extend_from_slice(&body)?;
+    Ok(story)
 }
 
 /// The story file of a checked program, in a version.
@@ -121,10 +188,50 @@ pub fn write_story(
     requires { FitsStory version (program_of checked.now) }
     ensures { IfOk result (λ v. v.items ≡ layout.story_of version (program_of checked.now)) }
 {
+    let codes = codes_of(alloc, checked)?;
+    story_with(alloc, checked, version, codes)
+}
+
+/// The story file of a checked program, in a version, whose routines have this code; `None` where
+/// packed addresses do not reach its end.
+fn story_reached(
+    alloc: Global,
+    checked: &Checked<'_>,
+    version: Version,
+    codes: Vec<Code<'_, '_>>,
+) -> Result<Option<Vec<u8>>, AllocError>
+    requires codes { codes.items ≡ codes_in (program_of checked.now) }
+    requires tables { FitsTables (program_of checked.now) }
+    ensures { IfOk result (AnswersStory version (program_of checked.now)) }
+{
     let at = part_places(checked);
-    let body = body_of(alloc, version, checked, at)?;
-    let mut story = Vec::new(alloc);
-    put_header(&mut story, version, at, &body)?;
-    story.extend_from_slice(&body)?;
-    Ok(story)
+    let fits = is_within(alloc, version, at.routines, &codes)?;
+    if fits {
+        let story = story_with(alloc, checked, version, codes)?;
+        Ok(Some(story))
+    } else {
+        Ok(None)
+    }
+}
+
+/// The story file of a checked program, in a version; `None` where packed addresses do not reach its
+/// end: it has more than 262,140 bytes in version 5 or 524,280 in version 8.
+///
+/// # Errors
+///
+/// [`AllocError`] where a growth of memory was refused.
+pub fn write_story_within(
+    alloc: Global,
+    checked: &Checked<'_>,
+    version: Version,
+) -> Result<Option<Vec<u8>>, AllocError>
+    requires { FitsTables (program_of checked.now) }
+    ensures { IfOk result (AnswersStory version (program_of checked.now)) }
+{
+    let at = part_places(checked);
+    let within = codes_within(alloc, checked, version, at.routines)?;
+    match within {
+        Some(codes) => story_reached(alloc, checked, version, codes),
+        None => Ok(None),
+    }
 }

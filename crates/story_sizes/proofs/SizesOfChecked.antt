@@ -8,9 +8,11 @@ use Rattle.std.proofs.lemmas.Bool.{ltb-false}
 use Rattle.zcore.specs.declared.header.Version.{Version}
 use Rattle.syntax_lexer.specs.declared.token.Position.{Position}
 use Rattle.syntax_lexer.specs.declared.fault.SourceFault.{SourceFault}
+use Rattle.syntax_lexer.specs.Token.{Lexeme}
 use Rattle.syntax_trees.specs.Tree.{NameTree}
 use Rattle.syntax_directives.specs.Tree.{RoutineTree, DirectiveTree}
 use Rattle.syntax_directives.specs.Tree as trees
+use Rattle.syntax.specs.Grammar.{IsProgram}
 use Rattle.syntax.specs.Tree.{ProgramTree}
 use Rattle.meaning.specs.declared.checked.CheckedRoutine.{CheckedRoutine}
 use Rattle.meaning.specs.Places.{routines_place}
@@ -43,7 +45,7 @@ light (c ∷ cs) e =
 
 record Tests (c : CheckedProgram) (version : Version) : Type 0 where
   weight : c.weight ≤ greatest_weight version
-  light : All (λ (r : CheckedRoutine). r.weight ≤ greatest_routine_weight) c.routines
+  light : first_heavy routine_weight name_place_of c.routines ≡ None
 
 small_first : (large : Bool) (f : SourceFault) (rest : Option SourceFault) → (if large then Some f else rest) ≡ None
     → (large ≡ false) × (rest ≡ None)
@@ -63,7 +65,7 @@ tests c version e =
     let whole = small_first large (fault 31 0) heavy parts.1 in
     record {
       weight = ltb-false (greatest_weight version) c.weight whole.0;
-      light = light c.routines (no_heavy (first_heavy routine_weight name_place_of c.routines) whole.1);
+      light = no_heavy (first_heavy routine_weight name_place_of c.routines) whole.1;
     }
 
 -- the routines of a checked program
@@ -108,17 +110,27 @@ routines_are : (p : ProgramTree) (c : CheckedProgram) → IsCheckedOf p c
 unfolding resolve_program resolve_with
 routines_are p c h = ap (λ (x : ProgramOf). x.routines) h.program
 
+-- if no routine is too heavy, the code of each is short, whatever the source weighs
+pub small_routines : (tokens : List Lexeme) (p : ProgramTree) (c : CheckedProgram) → IsProgram tokens p
+    → IsCheckedOf p c → first_heavy routine_weight name_place_of c.routines ≡ None
+    → All (λ (r : RoutineOf). routine_size (sizes_of (program_of c)) r + 7 ≤ greatest_routine_weight)
+    (program_of c).routines
+small_routines tokens p c g h e =
+    let file = file_of p in
+    let sizes = sizes_of (program_of c) in
+    all_small file sizes c.routines (routine_trees p.directives)
+    (routines_are p c h ∙ resolved_trees file sizes p.directives) h.titles
+    (code_is_short tokens p g file sizes).each (light c.routines e)
+
 pub small_sources_have_small_code : SmallSourcesHaveSmallCode
 small_sources_have_small_code tokens p c version g h e =
     let file = file_of p in
     let sizes = sizes_of (program_of c) in
     let short = code_is_short tokens p g file sizes in
     let t = tests c version e in
-    let is = routines_are p c h in
-    let size = ap (routines_size sizes) is in
+    let size = ap (routines_size sizes) (routines_are p c h) in
     let weight = h.weight in
     record {
-      each = all_small file sizes c.routines (routine_trees p.directives) (is
-          ∙ resolved_trees file sizes p.directives) h.titles short.each t.light;
+      each = small_routines tokens p c g h t.light;
       all = omega (arith, short.all, t.weight, size, weight);
     }

@@ -14,27 +14,18 @@ use crate::opcode::Opcode;
 use zcore_standard::Further;
 
 /// What of the instruction at an address `play --standard` answers with M1. What the profile plays
-/// it plays too, and a further operation with as many operands as the Standard lets it have, but
-/// not yet `set_window`, `read_char` and stream 3 of `output_stream`. `None` where it refuses
-/// nothing, and where the story does not have the bytes of the opcode and of the operands' types.
+/// it plays too, and a further operation with as many operands as the Standard lets it have. `None`
+/// where it refuses nothing, and where the story does not have the bytes of the opcode and of the
+/// operands' types.
 pub fn standard_lack_at(story: &[u8], at: usize) -> Option<Lack>
     requires { length story.now ≤ longest_story }
     ensures kept { is_refused (opcode story.now at) ≡ false → result ≡ None }
 {
     let lack = lack_at(story, at)?;
     match further_of(Opcode::read(story, at)?) {
-        Some(operation) if is_played(operation) => further_lack(story, at, operation),
-        _ => Some(lack),
+        Some(operation) => further_lack(story, at, operation),
+        None => Some(lack),
     }
-}
-
-/// Whether a further operation is played, whatever its operands are. Which stream `output_stream`
-/// selects is not known before it is executed.
-fn is_played(operation: Further) -> bool {
-    !matches!(
-        operation,
-        Further::SetWindow | Further::OutputStream | Further::ReadChar
-    )
 }
 
 /// What is refused of the operands of a further operation.

@@ -6,8 +6,8 @@ use Rattle.zcore.specs.declared.place.Place.{Place}
 use Rattle.checker.specs.Programs.{resolve_program}
 use Rattle.meaning.specs.Resolved.{ProgramOf}
 use Rattle.meaning.specs.Meaning.{meaning}
-use Rattle.story.specs.Playable.{IsPlayable}
-use Rattle.story.specs.Refused.{Refuses}
+use Rattle.story.specs.Playable.{IsPlayableBy}
+use Rattle.story.specs.Refused.{Limits, RefusesBy, tree_size_fault}
 use Rattle.machine.specs.declared.load.LoadFault.TheVariants as loads
 use Rattle.zcore.specs.Turn.{by_profile}
 use Rattle.session.specs.declared.fault.OpenFault.{OpenFault}
@@ -31,12 +31,12 @@ abbrev pub meant_by : ProgramOf → ℕ → Telling
 meant_by p fuel =
     record { text = λ lines. last_of (meaning p fuel lines).texts; place = λ lines. (meaning p fuel lines).place }
 
--- The source has a story of the version; what a run of its lines wrote, the opening first, is what the source means on
+-- By some limits, the source has a story of the version; what a run of its lines wrote, the opening first, is what the source means on
 -- the lines that stand; and the session is that of the story on these lines, with the machine's whole states.
-pub record PlaysSource (source : List ℕ) (version : Version) (fuel : ℕ) (keep : Option ℕ) (io : Streams)
-    (session : Session) (result : Result Place RunFault) : Type 0 where
+pub record PlaysSource (limits : Limits) (source : List ℕ) (version : Version) (fuel : ℕ) (keep : Option ℕ)
+    (io : Streams) (session : Session) (result : Result Place RunFault) : Type 0 where
   pub story : List ℕ
-  pub compiled : IsPlayable version source story
+  pub compiled : IsPlayableBy limits version source story
   pub ran : Ran (meant_by (resolve_program compiled.tree) fuel) keep io
       (λ s. IsSession story fuel (by_profile story fuel) keep s session) result
 
@@ -48,12 +48,18 @@ WantsMemory fault = (fault ≡ opens.Load loads.Memory) ⊎ (fault ≡ opens.Mem
 abbrev pub IsUntouched : Streams → Type 0
 IsUntouched io = Keeps io.unread_before io.unread_after × Keeps io.held_before io.held_after
 
--- What compiling and playing come to. Where reading or writing failed, the session goes.
+-- What compiling and playing come to, where some limits say which programs are too large. Where reading or writing
+-- failed, the session goes.
+abbrev pub PairsBy : Limits → List ℕ → Version → ℕ → Option ℕ → Streams → Result Session PairFault → Type 0
+PairsBy limits source version fuel keep io (Ok session) =
+    (place : Place) × PlaysSource limits source version fuel keep io session (Ok place)
+PairsBy limits source version fuel keep io (Err (faults.Source fault)) =
+    RefusesBy limits version source fault × IsUntouched io
+PairsBy limits source version fuel keep io (Err (faults.Open fault)) =
+    ((story : List ℕ) × IsPlayableBy limits version source story) × WantsMemory fault × IsUntouched io
+PairsBy limits source version fuel keep io (Err (faults.Run fault)) =
+    (session : Session) × PlaysSource limits source version fuel keep io session (Err fault)
+
+-- by the limits of weight
 abbrev pub Pairs : List ℕ → Version → ℕ → Option ℕ → Streams → Result Session PairFault → Type 0
-Pairs source version fuel keep io (Ok session) =
-    (place : Place) × PlaysSource source version fuel keep io session (Ok place)
-Pairs source version fuel keep io (Err (faults.Source fault)) = Refuses version source fault × IsUntouched io
-Pairs source version fuel keep io (Err (faults.Open fault)) =
-    ((story : List ℕ) × IsPlayable version source story) × WantsMemory fault × IsUntouched io
-Pairs source version fuel keep io (Err (faults.Run fault)) =
-    (session : Session) × PlaysSource source version fuel keep io session (Err fault)
+Pairs source version fuel keep io result = PairsBy tree_size_fault source version fuel keep io result

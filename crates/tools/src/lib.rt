@@ -4,7 +4,8 @@
 mod pair;
 
 pub use machine::LoadFault;
-pub use pair::{PairFault, compile_and_run};
+pub use pair::{PairFault, compile_and_run, compile_and_run_within};
 pub use session::{OpenFault, Place, RunFault, Session, status};
+pub use story::Limit;
 pub use syntax_lexer::SourceFault;
 pub use zcore::Version;

@@ -1,12 +1,13 @@
 //! Both ends in one call: a source is compiled, and its story is played.
 
 ghost use Rattle.std.specs.Prelude.{◌≡◌};
-ghost use Rattle.tools.specs.Headline.{Pairs};
+ghost use Rattle.story.specs.Large.{limits_by};
+ghost use Rattle.tools.specs.Headline.{Pairs, PairsBy};
 
 use session::{Mode, OpenFault, RunFault, Session, run};
 use std::alloc::Global;
 use std::io::{Read, Write};
-use story::compile_for;
+use story::{Limit, compile_placed};
 use syntax_lexer::SourceFault;
 use thiserror::Error;
 use zcore::Version;
@@ -29,7 +30,7 @@ pub enum PairFault {
 
 /// Compiles a source for a version, opens its story with so many units of fuel for each turn, and
 /// plays the lines of a reader, as `run` does. At most `keep` turns can be taken back, or all where
-/// it is `None`.
+/// it is `None`. The weight of the source is limited.
 ///
 /// What is written is the transcript that the source's meaning gives, run afresh on the lines that
 /// stand at each reply; and the session that is handed out has the whole states of the machine on
@@ -56,17 +57,46 @@ pub fn compile_and_run<R: Read, W: Write>(
       held_after = W.contents writer.new;
     }) result }
 {
-    let story = match compile_for(alloc, source, version) {
-        Ok(story) => story,
-        Err(fault) => return Err(PairFault::Source(fault)),
-    };
-    let mut session = match Session::open_with(
+    compile_and_run_within(
         alloc,
-        story.into_bytes(),
-        Mode::Profile,
+        source,
+        version,
+        Limit::Weight,
         fuel,
         keep,
-    ) {
+        reader,
+        writer,
+    )
+}
+
+/// As [`compile_and_run`], where the weight of the source or the length of its story is limited.
+///
+/// # Errors
+///
+/// Those of [`compile_and_run`].
+pub fn compile_and_run_within<R: Read, W: Write>(
+    alloc: Global,
+    source: &[u8],
+    version: Version,
+    limit: Limit,
+    fuel: u32,
+    keep: Option<u32>,
+    reader: &mut R,
+    writer: &mut W,
+) -> Result<Session, PairFault>
+    ensures { PairsBy (limits_by limit) source.now version fuel keep (record {
+      unread_before = R.remaining reader.old;
+      unread_after = R.remaining reader.new;
+      held_before = W.contents writer.old;
+      held_after = W.contents writer.new;
+    }) result }
+{
+    let story = match compile_placed(alloc, source, version, limit) {
+        Ok(story) => story,
+        Err(placed) => return Err(PairFault::Source(placed.fault)),
+    };
+    let bytes = story.into_bytes();
+    let mut session = match Session::open_with(alloc, bytes, Mode::Profile, fuel, keep) {
         Ok(session) => session,
         Err(fault) => return Err(PairFault::Open(fault)),
     };

@@ -9,7 +9,7 @@ use Rattle.zcore.specs.State.{done, halt}
 use Rattle.zcore.specs.Turn.{first_environment, first_state}
 use Rattle.zcore_standard.specs.Dice.{rolled, random}
 use Rattle.zcore_standard.specs.Loading.{seeded}
-use Rattle.zcore_standard.specs.Place.{Here}
+use Rattle.zcore_standard.specs.Place.{Here, plain}
 
 -- two numbers in a range of 100 from the default seed, and the 32 bits after each (computed in another language)
 first_roll : rolled 100 (seeded 12345) ≡ (2, seeded 1002789326)
@@ -54,10 +54,10 @@ sets_32768 : rolled 0x8000 (counting 2) ≡ (0, seeded 32768)
 sets_32768 = refl
 
 abbrev from : Here
-from = record { next = record { program_counter = 100; fuel = 5 }; beside = seeded 12345 }
+from = plain (seeded 12345) (record { program_counter = 100; fuel = 5 })
 
 stored : random from 103 (Some 0) 100 (first_state [])
-    ≡ done (record { next = record { program_counter = 103; fuel = 5 }; beside = seeded 1002789326 })
+    ≡ done (plain (seeded 1002789326) (record { program_counter = 103; fuel = 5 }))
     (record (first_state []) { frames = record first_environment { stack = 2 ∷ [] } ∷ [] })
 unfolding random give_result test_result store_result write_variable push
 stored = refl

@@ -13,17 +13,16 @@ use Rattle.zcore.specs.Parts.{fault, test, can_store, is_code, is_writable, retu
 use Rattle.zcore.proofs.Keeping.{keeps_store_result, keeps_write_word}
 use Rattle.zcore.proofs.KeepingReads.{Alike, Keeps, alike_same, alike_then, done_state, done_value, never, both}
 use Rattle.zcore.proofs.KeepingReads.{keeps_test, keeps_then, keeps_done, can_store_keeps, tested}
-use Rattle.zcore.proofs.FallsOfParts.{Falls, FallsFrom, returned, falls_alike, falls_then, falls_either, goes_on_falls}
+use Rattle.zcore.proofs.FallsOfParts.{Falls, FallsFrom, returned, falls_alike, falls_then, goes_on_falls}
 use Rattle.zcore.proofs.FallsOfParts.{branch_on_falls}
 use Rattle.zcore.proofs.FallsOfEffects.{give_result_falls}
-use Rattle.zcore.proofs.FallsOfOperations.{read_falls}
 use Rattle.zcore_standard.specs.declared.operations.Further.{Further}
 use Rattle.zcore_standard.specs.declared.operations.Further.TheVariants as operations
 use Rattle.zcore_standard.specs.Loaded.{Loaded}
 use Rattle.zcore_standard.specs.Shifts.{log_shift, art_shift}
 use Rattle.zcore_standard.specs.Unicode.{transcript_of, print_whole, print_unicode, check_unicode}
 use Rattle.zcore_standard.specs.Flow.{catch, frames_at, leave_frame, throw, verify}
-use Rattle.zcore_standard.specs.Screen.{get_cursor, set_font, is_memory_stream, output_stream}
+use Rattle.zcore_standard.specs.Screen.{get_cursor, set_font}
 use Rattle.zcore_standard.specs.Further.{perform_keeping, words_of_table, one_row}
 use Rattle.zcore_standard.proofs.TableFacts.{scan_table_falls, copy_table_falls, print_table_falls}
 use Rattle.zcore_standard.proofs.WordFacts.{tokenise_falls, encode_text_falls}
@@ -74,13 +73,6 @@ set_font_falls : (here : Next) (after : ℕ) (result : Option ℕ) (font : ℕ) 
     → FallsFrom here (set_font here after result font)
 unfolding set_font
 set_font_falls here after result font ahead = give_result_falls here after result _ ahead
-
-output_stream_falls : (here : Next) (after number : ℕ) → here.program_counter < after
-    → FallsFrom here (output_stream here after number)
-unfolding output_stream
-output_stream_falls here after number ahead =
-    falls_either (is_memory_stream number) here _ _ (λ _. fault_falls here faults.Opcode)
-    (goes_on_falls here after ahead)
 
 catch_falls : (here : Next) (after : ℕ) (result : Option ℕ) → here.program_counter < after
     → FallsFrom here (catch here after result)
@@ -182,15 +174,7 @@ perform_keeping_falls loaded operations.SetColour here after result branch value
     ahead
 perform_keeping_falls loaded operations.Throw here after result branch values ahead = throw_falls here
     (slice_index values 0) (slice_index values 1)
-perform_keeping_falls loaded operations.Read here after result branch values ahead = read_falls here after result
-    (slice_index values 0) (slice_index_or values 1 0)
-perform_keeping_falls loaded operations.SplitWindow here after result branch values ahead = goes_on_falls here after
-    ahead
-perform_keeping_falls loaded operations.EraseWindow here after result branch values ahead = goes_on_falls here after
-    ahead
 perform_keeping_falls loaded operations.EraseLine here after result branch values ahead = goes_on_falls here after
-    ahead
-perform_keeping_falls loaded operations.SetCursor here after result branch values ahead = goes_on_falls here after
     ahead
 perform_keeping_falls loaded operations.GetCursor here after result branch values ahead = get_cursor_falls here after
     (slice_index values 0) ahead
@@ -198,8 +182,6 @@ perform_keeping_falls loaded operations.SetTextStyle here after result branch va
     ahead
 perform_keeping_falls loaded operations.BufferMode here after result branch values ahead = goes_on_falls here after
     ahead
-perform_keeping_falls loaded operations.OutputStream here after result branch values ahead = output_stream_falls here
-    after (slice_index values 0) ahead
 perform_keeping_falls loaded operations.InputStream here after result branch values ahead = goes_on_falls here after
     ahead
 perform_keeping_falls loaded operations.SoundEffect here after result branch values ahead = goes_on_falls here after
@@ -213,8 +195,8 @@ perform_keeping_falls loaded operations.EncodeText here after result branch valu
     after (slice_index values 0) (slice_index values 1) (slice_index values 2) (slice_index_or values 3 0) ahead
 perform_keeping_falls loaded operations.CopyTable here after result branch values ahead = copy_table_falls here after
     (slice_index values 0) (slice_index values 1) (slice_index values 2) ahead
-perform_keeping_falls loaded operations.PrintTable here after result branch values ahead = print_table_falls here
-    after (slice_index values 0) (slice_index values 1) (slice_index_or values 2 one_row) (slice_index_or values 3 0)
+perform_keeping_falls loaded operations.PrintTable here after result branch values ahead = print_table_falls
+    loaded.characters here after (slice_index values 0) (slice_index values 1) (slice_index_or values 2 one_row) (slice_index_or values 3 0)
     ahead
 perform_keeping_falls loaded operations.Save here after result branch values ahead = give_result_falls here after
     result _ ahead
@@ -242,3 +224,12 @@ perform_keeping_falls loaded operations.ReadChar here after result branch values
     faults.Opcode
 perform_keeping_falls loaded operations.Restart here after result branch values ahead = fault_falls here faults.Opcode
 perform_keeping_falls loaded operations.Random here after result branch values ahead = fault_falls here faults.Opcode
+perform_keeping_falls loaded operations.Read here after result branch values ahead = fault_falls here faults.Opcode
+perform_keeping_falls loaded operations.OutputStream here after result branch values ahead = fault_falls here
+    faults.Opcode
+perform_keeping_falls loaded operations.SplitWindow here after result branch values ahead = fault_falls here
+    faults.Opcode
+perform_keeping_falls loaded operations.EraseWindow here after result branch values ahead = fault_falls here
+    faults.Opcode
+perform_keeping_falls loaded operations.SetCursor here after result branch values ahead = fault_falls here
+    faults.Opcode

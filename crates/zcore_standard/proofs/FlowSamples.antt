@@ -14,7 +14,7 @@ use Rattle.zcore_standard.specs.declared.operations.Further.TheVariants.{Piracy,
 use Rattle.zcore_standard.specs.Flow.{restart, catch, leave_frame, throw, verify}
 use Rattle.zcore_standard.specs.Further.{perform_keeping}
 use Rattle.zcore_standard.specs.Loading.{seeded}
-use Rattle.zcore_standard.specs.Place.{Here}
+use Rattle.zcore_standard.specs.Place.{Here, plain}
 use Rattle.zcore_standard.specs.Loaded.{Loaded}
 
 abbrev here : Next
@@ -40,12 +40,18 @@ abbrev with_frames : List Frame → State
 with_frames frames = record (first_state (story 1)) { frames = frames }
 
 abbrev playing : Here
-playing = record { next = here; beside = record { window = 0; random = 7; interval = 3; counter = 2 } }
+playing = record {
+  next = here;
+  beside = record { window = 1; random = 7; interval = 3; counter = 2 };
+  streams = record { table = 64; from = 2 } ∷ [];
+  upper = Some (record { from = 1; mark = 1; row = 1 });
+}
 
--- dynamic memory, frames and dice are as at loading, and a unit is spent; the text stays
+-- dynamic memory, frames and dice are as at loading, and a unit is spent; the text stays, without that of the stream and
+-- of the upper window
 restarted : restart loaded playing
-    (record (first_state (story 5)) { frames = called 70 ∷ first_environment ∷ []; text = 65 ∷ [] })
-    ≡ done (record { next = record { program_counter = 66; fuel = 4 }; beside = seeded 12345 })
+    (record (first_state (story 5)) { frames = called 70 ∷ first_environment ∷ []; text = 65 ∷ 66 ∷ 67 ∷ [] })
+    ≡ done (plain (seeded 12345) (record { program_counter = 66; fuel = 4 }))
     (record (first_state (story 1)) { text = 65 ∷ [] })
 unfolding restart spend
 restarted = refl

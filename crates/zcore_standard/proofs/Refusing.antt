@@ -37,7 +37,7 @@ one_way false p q x v w h = w refl h
 none_at : {P : Type 0} (x : Further) → None ≡ Some x → P
 none_at x h = absurd (cc)
 
-is_no_some : {A : Type 0} (o : Option A) → is_none o ≡ true → o ≡ None
+pub is_no_some : {A : Type 0} (o : Option A) → is_none o ≡ true → o ≡ None
 is_no_some None e = refl
 is_no_some (Some a) e = absurd (cc)
 

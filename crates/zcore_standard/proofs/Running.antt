@@ -1,14 +1,23 @@
 -- Runs over lines that the profile plays without a fault.
-use Rattle.std.proofs.Common.{◌≡◌, ℕ, List, [], ◌∷◌, map, refl, ap, ◌∙◌, Bool, true, false, cond, Option, Some, None}
+use Rattle.std.proofs.Common.{◌≡◌, ℕ, zero, suc, List, [], ◌∷◌, map, refl, ap, subst, ◌∙◌, Bool, true, false, cond}
+use Rattle.std.proofs.Common.{Option, Some, None}
 use Rattle.std.specs.Prelude.{not}
 use Rattle.std.proofs.lemmas.Bool.{and_parts}
 use Rattle.zcore.specs.declared.beside.Beside.{Beside}
 use Rattle.zcore.specs.declared.next.Next.{Next}
-use Rattle.zcore.specs.State.{Pending, Out, done, halt}
-use Rattle.zcore.specs.Turn.{StateOfPlay, Whole, after_step, turn_from, turn_pending, turn_on, given, resumed, ended}
+use Rattle.zcore.specs.declared.place.Place.{Place}
+use Rattle.zcore.specs.declared.place.Place.TheVariants as places
+use Rattle.zcore.specs.Execution.{step}
+use Rattle.zcore.specs.Parts.{store_result}
+use Rattle.zcore.specs.State.{Pending, State, Out, done, halt}
+use Rattle.zcore.specs.Turn.{StateOfPlay, Whole, after_step, turn_in, turn_from, weight, turn_pending, turn_on, given}
+use Rattle.zcore.specs.Turn.{resumed, ended}
 use Rattle.zcore.specs.Turn.{entries, follow, is_waiting, opening, plays_from, first_next, first_state, plays, plays_of}
 use Rattle.zcore.proofs.Turning.{turn_ends}
-use Rattle.zcore_standard.specs.Laws.{is_fault, have_no_fault}
+use Rattle.zcore.proofs.Waiting.{step_waits}
+use Rattle.zcore.proofs.WaitingTests.{WaitsWell, Waits, waits_bound}
+use Rattle.zcore.proofs.WaitingParts.{waits_store_result, waits_goes_on}
+use Rattle.zcore_standard.specs.Laws.{WaitsAsTheProfile, is_fault, have_no_fault}
 use Rattle.zcore_standard.specs.Machine.{standard_pending, standard_turn_on, standard_opening, with_beside, by_standard}
 use Rattle.zcore_standard.specs.Loaded.{Loaded}
 use Rattle.zcore_standard.proofs.Turning.{standard_turn_keeps, standard_turn_on_keeps}
@@ -47,6 +56,72 @@ beside_unread : (beside : Beside) (line : List ℕ) (fuel : ℕ) (whole : Whole)
 unfolding turn_on
 beside_unread beside line fuel whole = pending_unread beside line fuel whole whole.state.pending
 
+-- Where the profile waits, its text buffer was tested
+
+some_is : (a b : Whole) → (let o : Option Whole = Some a in o) ≡ Some b → a ≡ b
+some_is a b h = cc
+
+waits_as : (here : Next) (t : State) → WaitsWell t → WaitsAsTheProfile (ended here places.Waiting t).state
+waits_as here t w = rw w.waits w.text_buffer
+
+-- what ended a turn
+ended_waits : (here : Next) (place : Place) (t : State) (whole : Whole) → ended here place t ≡ whole
+    → (place ≡ places.Waiting → WaitsWell t) → is_waiting whole.place ≡ true → WaitsAsTheProfile whole.state
+ended_waits here places.Waiting t whole e waits is =
+    subst (λ w. WaitsAsTheProfile w.state) e (waits_as here t (waits refl))
+ended_waits here places.Quit t whole e waits is = absurd (cc)
+ended_waits here (places.Limit limit) t whole e waits is = absurd (cc)
+ended_waits here (places.Fault cause) t whole e waits is = absurd (cc)
+
+after_waits : (here : Next) (count : ℕ) (s : State) (whole : Whole) (o : Out Next)
+    → ((next : Next) (t : State) → turn_in count next t ≡ Some whole → WaitsAsTheProfile whole.state)
+    → ((t : State) → o ≡ halt places.Waiting t → WaitsWell t) → is_waiting whole.place ≡ true
+    → after_step o (turn_in count) (λ place t. Some (ended here place t)) ≡ Some whole
+    → WaitsAsTheProfile whole.state
+after_waits here count s whole (done next t) rest waits is e = rest next t e
+after_waits here count s whole (halt place t) rest waits is e =
+    ended_waits here place t whole (some_is _ whole e) (λ w. waits t (ap (λ p. halt p t) w)) is
+
+turn_in_waits : (count : ℕ) (here : Next) (s : State) (whole : Whole) → turn_in count here s ≡ Some whole
+    → is_waiting whole.place ≡ true → WaitsAsTheProfile whole.state
+turn_in_waits zero here s whole e is = absurd (cc)
+turn_in_waits (suc count) here s whole e is =
+    after_waits here count s whole (step here s)
+    (λ next t f. turn_in_waits count next t whole f is) (λ t f. step_waits here s t f) is e
+
+turn_waits : (here : Next) (s : State) (whole : Whole) → turn_from here s ≡ Some whole
+    → is_waiting whole.place ≡ true → WaitsAsTheProfile whole.state
+unfolding turn_from
+turn_waits here s whole e is = turn_in_waits (weight here s) here s whole e is
+
+given_waits : (pending : Pending) (line : List ℕ) (fuel : ℕ) → Waits (given pending line fuel)
+unfolding given
+given_waits pending line fuel s t h =
+    waits_bound (store_result pending.result 13 _) _ t (λ u e. waits_store_result pending.result 13 _ u e)
+    (λ _ u _ e. waits_goes_on pending.return_address fuel u t e) h
+
+line_waits : (fuel counter : ℕ) (whole : Whole) (o : Out Next)
+    → ((t : State) → o ≡ halt places.Waiting t → WaitsWell t) → is_waiting whole.place ≡ true
+    → after_step o turn_from
+    (λ place s. Some (ended (record { program_counter = counter; fuel = fuel }) place s)) ≡ Some whole
+    → WaitsAsTheProfile whole.state
+line_waits fuel counter whole (done next t) waits is e = turn_waits next t whole e is
+line_waits fuel counter whole (halt place t) waits is e =
+    ended_waits (record { program_counter = counter; fuel = fuel }) place t whole (some_is _ whole e)
+    (λ w. waits t (ap (λ p. halt p t) w)) is
+
+pending_waits : (line : List ℕ) (fuel : ℕ) (play : StateOfPlay) (p : Option Pending) (whole : Whole)
+    → turn_pending p line fuel play ≡ Some whole → is_waiting whole.place ≡ true → WaitsAsTheProfile whole.state
+pending_waits line fuel play None whole e is = absurd (cc)
+pending_waits line fuel play (Some pending) whole e is =
+    line_waits fuel play.program_counter whole (given pending line fuel (resumed play))
+    (λ t f. given_waits pending line fuel (resumed play) t f) is e
+
+turn_on_waits : (line : List ℕ) (fuel : ℕ) (play : StateOfPlay) (whole : Whole) → turn_on line fuel play ≡ Some whole
+    → is_waiting whole.place ≡ true → WaitsAsTheProfile whole.state
+unfolding turn_on
+turn_on_waits line fuel play whole e is = pending_waits line fuel play play.pending whole e is
+
 -- Runs
 
 no_fault : (b : Bool) → not b ≡ true → b ≡ false
@@ -57,61 +132,68 @@ no_fault false e = refl
 abbrev by_lines : Loaded → ℕ → Whole → List (List ℕ) → List Whole
 by_lines loaded fuel = follow (λ line play. standard_turn_on loaded line fuel play)
 
+-- a whole state that waits, if it does, as the profile's machine waits
+abbrev LeavesWell : Whole → Type 0
+LeavesWell whole = is_waiting whole.place ≡ true → WaitsAsTheProfile whole.state
+
 -- the turn of a line, and those that follow it
 turn_keeps : (loaded : Loaded) (beside : Beside) (fuel : ℕ) (line : List ℕ) (lines : List (List ℕ)) (whole : Whole)
-    (o : Option Whole) → turn_on line fuel whole.state ≡ o
-    → ((next : Whole) → have_no_fault (plays_from fuel next lines) ≡ true
+    (o : Option Whole) → beside.window ≡ 0 → turn_on line fuel whole.state ≡ o → WaitsAsTheProfile whole.state
+    → ((next : Whole) → LeavesWell next → have_no_fault (plays_from fuel next lines) ≡ true
     → by_lines loaded fuel (with_beside beside next) lines ≡ map (with_beside beside) (plays_from fuel next lines))
     → have_no_fault (entries o (λ next. plays_from fuel next lines)) ≡ true
     → entries (standard_turn_on loaded line fuel (with_beside beside whole).state)
     (λ next. by_lines loaded fuel next lines)
     ≡ map (with_beside beside) (entries o (λ next. plays_from fuel next lines))
-turn_keeps loaded beside fuel line lines whole None e rest plays =
+turn_keeps loaded beside fuel line lines whole None lower e waits rest plays =
     ap (λ p. entries p (λ next. by_lines loaded fuel next lines))
     (turn_on_not loaded line fuel (with_beside beside whole).state (beside_unread beside line fuel whole ∙ e))
-turn_keeps loaded beside fuel line lines whole (Some next) e rest plays =
+turn_keeps loaded beside fuel line lines whole (Some next) lower e waits rest plays =
     let parts = and_parts (not (is_fault next.place)) (have_no_fault (plays_from fuel next lines)) plays in
     ap (λ p. entries p (λ other. by_lines loaded fuel other lines))
-    (standard_turn_on_keeps loaded line fuel (with_beside beside whole).state next
+    (standard_turn_on_keeps loaded line fuel (with_beside beside whole).state next lower waits
     (beside_unread beside line fuel whole ∙ e) (no_fault (is_fault next.place) parts.0))
-    ∙ ap (λ ws. with_beside beside next ∷ ws) (rest next parts.1)
+    ∙ ap (λ ws. with_beside beside next ∷ ws)
+    (rest next (turn_on_waits line fuel whole.state next e) parts.1)
 
 waiting_keeps : (waits : Bool) (beside : Beside) (given kept : List Whole)
-    → (have_no_fault kept ≡ true → given ≡ map (with_beside beside) kept)
+    → (waits ≡ true → have_no_fault kept ≡ true → given ≡ map (with_beside beside) kept)
     → have_no_fault (cond waits kept []) ≡ true → cond waits given [] ≡ map (with_beside beside) (cond waits kept [])
-waiting_keeps true beside given kept same plays = same plays
+waiting_keeps true beside given kept same plays = same refl plays
 waiting_keeps false beside given kept same plays = refl
 
 follow_keeps : (loaded : Loaded) (beside : Beside) (fuel : ℕ) (lines : List (List ℕ)) (whole : Whole)
-    → have_no_fault (plays_from fuel whole lines) ≡ true
+    → beside.window ≡ 0 → LeavesWell whole → have_no_fault (plays_from fuel whole lines) ≡ true
     → by_lines loaded fuel (with_beside beside whole) lines ≡ map (with_beside beside) (plays_from fuel whole lines)
-follow_keeps loaded beside fuel [] whole plays = refl
-follow_keeps loaded beside fuel (line ∷ lines) whole plays =
+follow_keeps loaded beside fuel [] whole lower leaves plays = refl
+follow_keeps loaded beside fuel (line ∷ lines) whole lower leaves plays =
     waiting_keeps (is_waiting whole.place) beside
     (entries (standard_turn_on loaded line fuel (with_beside beside whole).state)
     (λ next. by_lines loaded fuel next lines))
     (entries (turn_on line fuel whole.state) (λ next. plays_from fuel next lines))
-    (turn_keeps loaded beside fuel line lines whole (turn_on line fuel whole.state) refl
-    (λ next. follow_keeps loaded beside fuel lines next)) plays
+    (λ waits. turn_keeps loaded beside fuel line lines whole (turn_on line fuel whole.state) lower refl (leaves waits)
+    (λ next. follow_keeps loaded beside fuel lines next lower)) plays
 
 -- the opening, and the turns that follow it
 opening_keeps : (loaded : Loaded) (story : List ℕ) (fuel : ℕ) (lines : List (List ℕ)) (o : Option Whole)
-    → opening story fuel ≡ o
+    → loaded.dice.window ≡ 0 → opening story fuel ≡ o
     → have_no_fault (entries o (λ whole. plays_from fuel whole lines)) ≡ true
     → plays_of (by_standard loaded story fuel) lines
     ≡ map (with_beside loaded.dice) (entries o (λ whole. plays_from fuel whole lines))
 unfolding opening standard_opening
-opening_keeps loaded story fuel lines None e plays =
+opening_keeps loaded story fuel lines None lower e plays =
     let t = turn_ends (first_next story fuel) (first_state story) in
     no_some (turn_from (first_next story fuel) (first_state story)) t.0 t.1 e
-opening_keeps loaded story fuel lines (Some whole) e plays =
+opening_keeps loaded story fuel lines (Some whole) lower e plays =
     let parts = and_parts (not (is_fault whole.place)) (have_no_fault (plays_from fuel whole lines)) plays in
     ap (λ p. entries p (λ other. by_lines loaded fuel other lines))
-    (standard_turn_keeps loaded loaded.dice (first_next story fuel) (first_state story) whole e
+    (standard_turn_keeps loaded loaded.dice (first_next story fuel) (first_state story) whole lower e
     (no_fault (is_fault whole.place) parts.0))
-    ∙ ap (λ ws. with_beside loaded.dice whole ∷ ws) (follow_keeps loaded loaded.dice fuel lines whole parts.1)
+    ∙ ap (λ ws. with_beside loaded.dice whole ∷ ws) (follow_keeps loaded loaded.dice fuel lines whole lower
+    (turn_waits (first_next story fuel) (first_state story) whole e) parts.1)
 
 pub standard_runs_keep : (loaded : Loaded) (story : List ℕ) (fuel : ℕ) (lines : List (List ℕ))
-    → have_no_fault (plays story fuel lines) ≡ true
+    → loaded.dice.window ≡ 0 → have_no_fault (plays story fuel lines) ≡ true
     → plays_of (by_standard loaded story fuel) lines ≡ map (with_beside loaded.dice) (plays story fuel lines)
-standard_runs_keep loaded story fuel lines plays = opening_keeps loaded story fuel lines (opening story fuel) refl plays
+standard_runs_keep loaded story fuel lines lower plays =
+    opening_keeps loaded story fuel lines (opening story fuel) lower refl plays

@@ -1,4 +1,4 @@
--- get_cursor, set_font and output_stream, computed.
+-- get_cursor and set_font, computed.
 use Rattle.std.proofs.Common.{◌≡◌, ℕ, List, [], ◌∷◌, ◌++◌, replicate, Some, None, refl}
 use Rattle.zcore.specs.declared.next.Next.{Next}
 use Rattle.zcore.specs.declared.place.Fault.TheVariants as faults
@@ -7,10 +7,10 @@ use Rattle.zcore.specs.Effects.{give_result}
 use Rattle.zcore.specs.Parts.{test_result, store_result, write_variable, push, write_word}
 use Rattle.zcore.specs.State.{State, done, halt}
 use Rattle.zcore.specs.Turn.{first_environment, first_state}
-use Rattle.zcore_standard.specs.declared.operations.Further.TheVariants.{SetWindow, ReadChar, SplitWindow}
+use Rattle.zcore_standard.specs.declared.operations.Further.TheVariants.{ReadChar, SetTextStyle}
 use Rattle.zcore_standard.specs.Further.{perform_keeping}
 use Rattle.zcore_standard.specs.Loaded.{Loaded}
-use Rattle.zcore_standard.specs.Screen.{get_cursor, set_font, output_stream}
+use Rattle.zcore_standard.specs.Screen.{get_cursor, set_font}
 
 abbrev here : Next
 here = record { program_counter = 100; fuel = 5 }
@@ -49,33 +49,13 @@ font_4 : set_font here 104 (Some 0) 4 (first_state [])
 unfolding set_font give_result test_result store_result write_variable push
 font_4 = refl
 
--- stream -1 is closed, and nothing changes
-screen_off : output_stream here 104 0xFFFF (first_state [])
-    ≡ done (record here { program_counter = 104 }) (first_state [])
-unfolding output_stream
-screen_off = refl
-
--- M1: the memory stream, windows and keys are not played yet
-memory_stream : output_stream here 104 3 (first_state []) ≡ halt (places.Fault faults.Opcode) (first_state [])
-unfolding output_stream
-memory_stream = refl
-
-memory_stream_off : output_stream here 104 0xFFFD (first_state [])
-    ≡ halt (places.Fault faults.Opcode) (first_state [])
-unfolding output_stream
-memory_stream_off = refl
-
-window : (loaded : Loaded) → perform_keeping loaded SetWindow here 104 None None (1 ∷ []) (first_state [])
-    ≡ halt (places.Fault faults.Opcode) (first_state [])
-unfolding perform_keeping
-window loaded = refl
-
+-- M1: keys are not played yet
 key : (loaded : Loaded) → perform_keeping loaded ReadChar here 104 (Some 0) None (1 ∷ []) (first_state [])
     ≡ halt (places.Fault faults.Opcode) (first_state [])
 unfolding perform_keeping
 key loaded = refl
 
-split : (loaded : Loaded) → perform_keeping loaded SplitWindow here 104 None None (3 ∷ []) (first_state [])
+style : (loaded : Loaded) → perform_keeping loaded SetTextStyle here 104 None None (3 ∷ []) (first_state [])
     ≡ done (record here { program_counter = 104 }) (first_state [])
 unfolding perform_keeping
-split loaded = refl
+style loaded = refl

@@ -1,6 +1,6 @@
 -- A step of the Standard's machine makes the profile's weight fall.
 use Rattle.std.proofs.Common.{◌≡◌, ℕ, ◌+◌, ◌<◌, ◌≤◌, ◌/◌, ◌%◌, List, [], ◌∷◌, length, set, drop, refl, ap, sym, ◌∙◌, arith}
-use Rattle.std.proofs.Common.{slice_index, Bool, false, Option, Some, None, Result, Ok, Err}
+use Rattle.std.proofs.Common.{slice_index, slice_index_or, Bool, false, Option, Some, None, Result, Ok, Err}
 use Rattle.std.specs.Prelude.{◌==◌, nat_lt}
 use Rattle.std.proofs.lemmas.List.{length-set}
 use Rattle.zcore.specs.declared.instruction.Branch.{Branch}
@@ -32,12 +32,11 @@ use Rattle.zcore_standard.specs.Nothing.{step_known}
 use Rattle.zcore_standard.specs.Machine.{chosen, standard_step}
 use Rattle.zcore_standard.proofs.Falling.{perform_keeping_falls}
 use Rattle.zcore_standard.proofs.Known.{step_known_falls}
+use Rattle.zcore_standard.proofs.Awaiting.{read_line_falls, read_key_falls}
+use Rattle.zcore_standard.proofs.StreamFacts.{output_stream_falls}
+use Rattle.zcore_standard.proofs.WindowFacts.{FallsFrom, set_window_falls, set_cursor_falls, erase_window_falls}
+use Rattle.zcore_standard.proofs.WindowFacts.{split_window_falls}
 use Rattle.zcore_standard.proofs.Refusing.{stands}
-
--- a part of a step: where it goes on, the weight falls
-abbrev pub FallsFrom : Here → (State → Out Here) → Type 0
-FallsFrom here f = (s t : State) (next : Here) → here.next.program_counter < length s.memory → f s ≡ done next t
-    → Falls here.next s next.next t
 
 -- a part of the profile's machine that went on
 within_done : (here next : Here) (o : Out Next) (t : State) → within here o ≡ done next t → o ≡ done next.next t
@@ -93,6 +92,20 @@ unfolding perform_further
 perform_further_falls loaded operations.Restart here after result branch values past = restart_falls loaded here
 perform_further_falls loaded operations.Random here after result branch values past = random_falls here after result
     (slice_index values 0) past
+perform_further_falls loaded operations.Read here after result branch values past = read_line_falls loaded.characters
+    here after result (slice_index values 0) (slice_index_or values 1 0)
+perform_further_falls loaded operations.ReadChar here after result branch values past = read_key_falls
+    loaded.characters here after result
+perform_further_falls loaded operations.OutputStream here after result branch values past = output_stream_falls
+    loaded.characters here after values past
+perform_further_falls loaded operations.SetWindow here after result branch values past = set_window_falls here after
+    (slice_index values 0) past
+perform_further_falls loaded operations.SetCursor here after result branch values past = set_cursor_falls here after
+    (slice_index values 0) (slice_index values 1) past
+perform_further_falls loaded operations.EraseWindow here after result branch values past = erase_window_falls here
+    after (slice_index values 0) past
+perform_further_falls loaded operations.SplitWindow here after result branch values past = split_window_falls here
+    after (slice_index values 0) past
 perform_further_falls loaded operation here after result branch values past = keeping_falls loaded operation here after
     result branch values past
 
@@ -192,7 +205,7 @@ chosen_falls : (loaded : Loaded) (here : Here) (s t : State) (next : Here) (o : 
     → further_at s.memory here.next.program_counter ≡ o → chosen loaded o here s ≡ done next t
     → Falls here.next s next.next t
 chosen_falls loaded here s t next None e h =
-    step_known_falls here.next next.next s t (within_done here next (step_known here.next s) t h)
+    step_known_falls loaded.characters here.next next.next s t (within_done here next (step_known loaded.characters here.next s) t h)
 chosen_falls loaded here s t next (Some operation) e h =
     let memory = s.memory in
     let at = here.next.program_counter in

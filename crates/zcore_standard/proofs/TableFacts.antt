@@ -14,13 +14,13 @@ use Rattle.zcore.proofs.KeepingReads.{Keeps, keeps_test, keeps_test_result, keep
 use Rattle.zcore.proofs.KeepingReads.{keeps_then, keeps_either, keeps_done}
 use Rattle.zcore.proofs.Keeping.{keeps_store_result, keeps_test_branch}
 use Rattle.zcore.proofs.FallsOfParts.{FallsFrom, falls_alike, falls_then, falls_either, goes_on_falls, branch_on_falls}
-use Rattle.zcore.proofs.FallsOfEffects.{print_characters_falls}
 use Rattle.zcore.proofs.WaitingTests.{Waits, waits_done, waits_then, waits_chosen, waits_test, waits_test_result}
 use Rattle.zcore.proofs.WaitingParts.{waits_read_byte, waits_read_word, waits_store_result, waits_goes_on}
-use Rattle.zcore.proofs.WaitingEffects.{waits_branch_on, waits_test_branch, waits_print_characters}
+use Rattle.zcore.proofs.WaitingEffects.{waits_branch_on, waits_test_branch}
 use Rattle.zcore_standard.specs.Tables.{are_readable, are_writable, test_readable, test_writable, has_words, field_length}
 use Rattle.zcore_standard.specs.Tables.{read_field, find_field, give_found, scan_table, copied_forwards, copied_at_once}
 use Rattle.zcore_standard.specs.Tables.{write_table, copy_table, rows, rows_size, print_table}
+use Rattle.zcore_standard.proofs.PrintedCodes.{keeps_print_codes, waits_print_codes}
 
 -- Tests
 
@@ -159,16 +159,19 @@ waits_copy_table here after first second size =
 
 -- print_table
 
-pub print_table_falls : (here : Next) (after text width height skip : ℕ) → here.program_counter < after
-    → FallsFrom here (print_table here after text width height skip)
+pub print_table_falls : (characters : List ℕ) (here : Next) (after text width height skip : ℕ)
+    → here.program_counter < after → FallsFrom here (print_table characters here after text width height skip)
 unfolding print_table
-print_table_falls here after text width height skip ahead =
-    falls_then here _ _ (keeps_test_readable text (rows_size width height skip)) (λ _ s t next inside h.
-    print_characters_falls here after (rows s.memory text width skip height) ahead s t next inside h)
+print_table_falls characters here after text width height skip ahead =
+    falls_then here _ _ (keeps_test_readable text (rows_size width height skip)) (λ _.
+    falls_then here _ _
+    (λ s t a h. keeps_print_codes characters (rows s.memory text width skip height) s t a h)
+    (λ _. goes_on_falls here after ahead))
 
-pub waits_print_table : (here : Next) (after text width height skip : ℕ)
-    → Waits (print_table here after text width height skip)
+pub waits_print_table : (characters : List ℕ) (here : Next) (after text width height skip : ℕ)
+    → Waits (print_table characters here after text width height skip)
 unfolding print_table
-waits_print_table here after text width height skip =
-    waits_then _ _ (waits_test_readable text (rows_size width height skip)) (λ _ s t h.
-    waits_print_characters here after (rows s.memory text width skip height) s t h)
+waits_print_table characters here after text width height skip =
+    waits_then _ _ (waits_test_readable text (rows_size width height skip)) (λ _.
+    waits_then _ _ (λ s t h. waits_print_codes characters (rows s.memory text width skip height) s t h)
+    (λ _. waits_goes_on after here.fuel))

@@ -5,11 +5,12 @@ use Rattle.zcore.specs.declared.instruction.Branch.{Branch}
 use Rattle.zcore.specs.declared.next.Next.{Next}
 use Rattle.zcore.specs.declared.place.Fault.TheVariants as faults
 use Rattle.zcore.specs.declared.place.Place.TheVariants as places
-use Rattle.zcore.specs.Effects.{print_characters}
-use Rattle.zcore.specs.Parts.{print, read_byte, read_word, test_result, store_result, write_variable, push, branch_on, go}
+use Rattle.zcore.specs.Parts.{read_byte, read_word, test_result, store_result, write_variable, push, branch_on, go}
 use Rattle.zcore.specs.Parts.{take_branch, test_branch, test_taken, test_target}
 use Rattle.zcore.specs.State.{State, done, halt}
 use Rattle.zcore.specs.Turn.{first_environment, first_state}
+use Rattle.zcore_standard.specs.Characters.{print_each}
+use Rattle.zcore_standard.specs.Unicode.{default_characters, print_whole}
 use Rattle.zcore_standard.specs.Tables.{find_field, read_field, give_found, scan_table, test_readable, test_writable, copied_forwards}
 use Rattle.zcore_standard.specs.Tables.{write_table, copy_table, rows, print_table}
 
@@ -131,33 +132,33 @@ writes_the_header = refl
 abbrev printed : List ℕ → List ℕ → State
 printed table text = record (start table) { text = text }
 
-prints_a_rectangle : print_table here 106 68 3 2 2 (start letters)
+prints_a_rectangle : print_table default_characters here 106 68 3 2 2 (start letters)
     ≡ done there (printed letters (codes "abc" ++ 10 ∷ codes "fgh"))
-unfolding print_table test_readable rows print_characters print
+unfolding print_table test_readable rows print_each print_whole
 prints_a_rectangle = refl
 
-prints_one_row : print_table here 106 69 4 1 0 (start letters) ≡ done there (printed letters (codes "bcde"))
-unfolding print_table test_readable rows print_characters print
+prints_one_row : print_table default_characters here 106 69 4 1 0 (start letters) ≡ done there (printed letters (codes "bcde"))
+unfolding print_table test_readable rows print_each print_whole
 prints_one_row = refl
 
-prints_empty_rows : print_table here 106 300 0 3 1 (start letters) ≡ done there (printed letters (10 ∷ 10 ∷ []))
-unfolding print_table test_readable rows print_characters print
+prints_empty_rows : print_table default_characters here 106 300 0 3 1 (start letters) ≡ done there (printed letters (10 ∷ 10 ∷ []))
+unfolding print_table test_readable rows print_each print_whole
 prints_empty_rows = refl
 
-prints_no_row : print_table here 106 300 7 0 1 (start letters) ≡ done there (start letters)
-unfolding print_table test_readable rows print_characters print
+prints_no_row : print_table default_characters here 106 300 7 0 1 (start letters) ≡ done there (start letters)
+unfolding print_table test_readable rows print_each print_whole
 prints_no_row = refl
 
 abbrev odd : List ℕ
-odd = 0 ∷ 9 ∷ 11 ∷ 13 ∷ 31 ∷ 127 ∷ 126 ∷ 200 ∷ 0 ∷ 0 ∷ 0 ∷ 0 ∷ []
+odd = 0 ∷ 9 ∷ 11 ∷ 13 ∷ 31 ∷ 127 ∷ 126 ∷ 155 ∷ 0 ∷ 0 ∷ 0 ∷ 0 ∷ []
 
-prints_other_characters : print_table here 106 68 8 1 0 (start odd)
-    ≡ done there (printed odd (32 ∷ 32 ∷ 32 ∷ 10 ∷ 63 ∷ 63 ∷ 126 ∷ 63 ∷ []))
-unfolding print_table test_readable rows print_characters print
+prints_other_characters : print_table default_characters here 106 68 8 1 0 (start odd)
+    ≡ done there (printed odd (32 ∷ 32 ∷ 32 ∷ 10 ∷ 63 ∷ 63 ∷ 126 ∷ 0xC3 ∷ 0xA4 ∷ []))
+unfolding print_table test_readable rows print_each print_whole
 prints_other_characters = refl
 
 -- the last row ends after the story, and nothing is printed
-prints_past_the_end : print_table here 106 80 2 2 1 (start letters)
+prints_past_the_end : print_table default_characters here 106 80 2 2 1 (start letters)
     ≡ halt (places.Fault faults.Read) (start letters)
 unfolding print_table test_readable
 prints_past_the_end = refl

@@ -1,4 +1,4 @@
--- A step of the Standard's machine that waits for a line leaves buffers that can be filled.
+-- A step of the Standard's machine waits only for what can be given.
 use Rattle.std.proofs.Common.{◌≡◌, ℕ, ◌-◌, List, length, true, Option, Some, None}
 use Rattle.std.proofs.Common.{Result, Ok, Err, slice_index, slice_index_or, [], ◌∷◌, ◌+◌}
 use Rattle.std.specs.Prelude.{◌==◌, ◌&&◌, nat_le, nat_lt}
@@ -8,17 +8,16 @@ use Rattle.zcore.specs.declared.place.Fault.TheVariants as faults
 use Rattle.zcore.specs.declared.place.Limit.TheVariants as limits
 use Rattle.zcore.specs.declared.place.Place.TheVariants as places
 use Rattle.zcore.specs.declared.next.Next.{Next}
-use Rattle.zcore.specs.State.{Frame, State, Out, done, halt}
+use Rattle.zcore.specs.State.{Frame, State, Out, halt}
 use Rattle.zcore.specs.Parts.{test, is_writable, is_code, can_store, returning, spend}
 use Rattle.zcore.specs.Effects.{give_result}
 use Rattle.zcore.proofs.WaitingTests.{WaitsWell, Waits, waits_done, waits_fault, waits_limit, waits_then, waits_either}
-use Rattle.zcore.proofs.WaitingTests.{waits_bound, waits_chosen, waits_test}
+use Rattle.zcore.proofs.WaitingTests.{waits_bound, waits_test}
 use Rattle.zcore.proofs.WaitingParts.{waits_operand_values, waits_store_result, waits_goes_on, waits_write_word}
 use Rattle.zcore.proofs.WaitingEffects.{waits_branch_on, waits_give_result}
-use Rattle.zcore.proofs.WaitingOperations.{waits_read}
 use Rattle.zcore_standard.specs.declared.operations.Further.{Further}
 use Rattle.zcore_standard.specs.declared.operations.Further.TheVariants as operations
-use Rattle.zcore_standard.specs.Place.{Here, within}
+use Rattle.zcore_standard.specs.Place.{Here, past, within}
 use Rattle.zcore_standard.specs.Loaded.{Loaded}
 use Rattle.zcore_standard.specs.Operations.{further_at}
 use Rattle.zcore_standard.specs.Instruction.{Instruction, decode_further}
@@ -26,15 +25,20 @@ use Rattle.zcore_standard.specs.Shifts.{log_shift, art_shift}
 use Rattle.zcore_standard.specs.Dice.{rolled, random}
 use Rattle.zcore_standard.specs.Unicode.{transcript_of, print_whole, print_unicode, check_unicode}
 use Rattle.zcore_standard.specs.Flow.{restart, catch, frames_at, leave_frame, throw, verify}
-use Rattle.zcore_standard.specs.Screen.{get_cursor, set_font, is_memory_stream, output_stream}
+use Rattle.zcore_standard.specs.Screen.{get_cursor, set_font}
 use Rattle.zcore_standard.specs.Further.{perform_keeping, perform_further, execute_further, words_of_table, one_row}
 use Rattle.zcore_standard.specs.Nothing.{step_known}
 use Rattle.zcore_standard.specs.Machine.{chosen, standard_step}
 use Rattle.zcore_standard.proofs.Known.{waits_step_known}
 use Rattle.zcore_standard.proofs.TableFacts.{waits_scan_table, waits_copy_table, waits_print_table}
 use Rattle.zcore_standard.proofs.WordFacts.{waits_tokenise, waits_encode_text}
+use Rattle.zcore_standard.proofs.Awaiting.{WaitsRight, WaitsFor, waits_right, for_then, for_well, for_read_line}
+use Rattle.zcore_standard.proofs.Awaiting.{for_read_key, halt_within}
+use Rattle.zcore_standard.proofs.StreamFacts.{waits_output_stream}
+use Rattle.zcore_standard.proofs.WindowFacts.{waits_set_window, waits_set_cursor, waits_erase_window}
+use Rattle.zcore_standard.proofs.WindowFacts.{waits_split_window}
 
--- The operations that leave window and dice as they are
+-- The operations that leave windows, dice and streams as they are
 
 waits_log_shift : (here : Next) (after : ℕ) (result : Option ℕ) (word places : ℕ)
     → Waits (log_shift here after result word places)
@@ -71,12 +75,6 @@ waits_get_cursor here after table =
 waits_set_font : (here : Next) (after : ℕ) (result : Option ℕ) (font : ℕ) → Waits (set_font here after result font)
 unfolding set_font
 waits_set_font here after result font = waits_give_result here after result _
-
-waits_output_stream : (here : Next) (after number : ℕ) → Waits (output_stream here after number)
-unfolding output_stream
-waits_output_stream here after number =
-    waits_chosen (is_memory_stream number) _ _ (λ s t h. waits_fault faults.Opcode s t h)
-    (waits_goes_on after here.fuel)
 
 waits_catch : (here : Next) (after : ℕ) (result : Option ℕ) → Waits (catch here after result)
 unfolding catch
@@ -123,11 +121,7 @@ waits_perform_keeping loaded operations.Verify here after result branch values =
 waits_perform_keeping loaded operations.Piracy here after result branch values = waits_branch_on here after branch true
 waits_perform_keeping loaded operations.Throw here after result branch values = waits_throw here
     (slice_index values 0) (slice_index values 1)
-waits_perform_keeping loaded operations.Read here after result branch values = waits_read here after result
-    (slice_index values 0) (slice_index_or values 1 0)
 waits_perform_keeping loaded operations.GetCursor here after result branch values = waits_get_cursor here after
-    (slice_index values 0)
-waits_perform_keeping loaded operations.OutputStream here after result branch values = waits_output_stream here after
     (slice_index values 0)
 waits_perform_keeping loaded operations.ScanTable here after result branch values = waits_scan_table here after result
     branch (slice_index values 0) (slice_index values 1) (slice_index values 2)
@@ -138,7 +132,8 @@ waits_perform_keeping loaded operations.EncodeText here after result branch valu
     (slice_index values 0) (slice_index values 1) (slice_index values 2) (slice_index_or values 3 0)
 waits_perform_keeping loaded operations.CopyTable here after result branch values = waits_copy_table here after
     (slice_index values 0) (slice_index values 1) (slice_index values 2)
-waits_perform_keeping loaded operations.PrintTable here after result branch values = waits_print_table here after
+waits_perform_keeping loaded operations.PrintTable here after result branch values = waits_print_table
+    loaded.characters here after
     (slice_index values 0) (slice_index values 1) (slice_index_or values 2 one_row) (slice_index_or values 3 0)
 waits_perform_keeping loaded operations.Save here after result branch values = waits_give_result here after result _
 waits_perform_keeping loaded operations.Restore here after result branch values = waits_give_result here after result _
@@ -157,10 +152,7 @@ waits_perform_keeping loaded operations.CheckUnicode here after result branch va
     loaded.characters here after result (slice_index values 0)
 waits_perform_keeping loaded operations.ShowStatus here after result branch values = waits_goes_on after here.fuel
 waits_perform_keeping loaded operations.SetColour here after result branch values = waits_goes_on after here.fuel
-waits_perform_keeping loaded operations.SplitWindow here after result branch values = waits_goes_on after here.fuel
-waits_perform_keeping loaded operations.EraseWindow here after result branch values = waits_goes_on after here.fuel
 waits_perform_keeping loaded operations.EraseLine here after result branch values = waits_goes_on after here.fuel
-waits_perform_keeping loaded operations.SetCursor here after result branch values = waits_goes_on after here.fuel
 waits_perform_keeping loaded operations.SetTextStyle here after result branch values = waits_goes_on after here.fuel
 waits_perform_keeping loaded operations.BufferMode here after result branch values = waits_goes_on after here.fuel
 waits_perform_keeping loaded operations.InputStream here after result branch values = waits_goes_on after here.fuel
@@ -169,11 +161,6 @@ waits_perform_keeping loaded operations.SetTrueColour here after result branch v
 waits_perform_keeping loaded _ here after result branch values = λ s t h. waits_fault faults.Opcode s t h
 
 -- Steps
-
-halt_within : (here : Here) (o : Out Next) (t : State) → within here o ≡ halt places.Waiting t
-    → o ≡ halt places.Waiting t
-halt_within here (done n u) t h = cc
-halt_within here (halt x u) t h = cc
 
 waits_within : (here : Here) (f : State → Out Next) → Waits f → Waits (λ s. within here (f s))
 waits_within here f w s t h = w s t (halt_within here (f s) t h)
@@ -201,29 +188,43 @@ waits_keeping loaded operation here after result branch values =
 
 waits_perform_further : (loaded : Loaded) (operation : Further) (here : Here) (after : ℕ) (result : Option ℕ)
     (branch : Option Branch) (values : List ℕ)
-    → Waits (perform_further loaded operation here after result branch values)
+    → WaitsFor (perform_further loaded operation here after result branch values)
 unfolding perform_further
-waits_perform_further loaded operations.Restart here after result branch values = waits_restart loaded here
-waits_perform_further loaded operations.Random here after result branch values = waits_random here after result
-    (slice_index values 0)
-waits_perform_further loaded operation here after result branch values = waits_keeping loaded operation here after
-    result branch values
+waits_perform_further loaded operations.Restart here after result branch values = for_well _ (waits_restart loaded here)
+waits_perform_further loaded operations.Random here after result branch values = for_well _ (waits_random here after
+    result (slice_index values 0))
+waits_perform_further loaded operations.Read here after result branch values = for_read_line loaded.characters here
+    after result (slice_index values 0) (slice_index_or values 1 0)
+waits_perform_further loaded operations.ReadChar here after result branch values = for_read_key loaded.characters here
+    after result
+waits_perform_further loaded operations.OutputStream here after result branch values = for_well _ (waits_output_stream
+    loaded.characters here after values)
+waits_perform_further loaded operations.SetWindow here after result branch values = for_well _
+    (waits_set_window (past here after) (slice_index values 0))
+waits_perform_further loaded operations.SetCursor here after result branch values = for_well _
+    (waits_set_cursor (past here after) (slice_index values 0) (slice_index values 1))
+waits_perform_further loaded operations.EraseWindow here after result branch values = for_well _
+    (waits_erase_window (past here after) (slice_index values 0))
+waits_perform_further loaded operations.SplitWindow here after result branch values = for_well _
+    (waits_split_window (past here after) (slice_index values 0))
+waits_perform_further loaded operation here after result branch values = for_well _ (waits_keeping loaded operation here
+    after result branch values)
 
 waits_execute_further : (loaded : Loaded) (operation : Further) (here : Here) (r : Result (Instruction × ℕ) Fault)
-    → Waits (execute_further loaded operation here r)
-waits_execute_further loaded operation here (Err cause) = λ s t h. waits_fault cause s t h
-waits_execute_further loaded operation here (Ok x) = waits_then _ _ (waits_operand_values x.0.operands)
+    → WaitsFor (execute_further loaded operation here r)
+waits_execute_further loaded operation here (Err cause) = for_well _ (λ s t h. waits_fault cause s t h)
+waits_execute_further loaded operation here (Ok x) = for_then _ _ (waits_operand_values x.0.operands)
     (λ values. waits_perform_further loaded operation here x.1 x.0.result x.0.branch values)
 
 waits_chosen_step : (loaded : Loaded) (here : Here) (s t : State) (o : Option Further)
-    → chosen loaded o here s ≡ halt places.Waiting t → WaitsWell t
-waits_chosen_step loaded here s t None h = waits_step_known here.next s t
-    (halt_within here (step_known here.next s) t h)
+    → chosen loaded o here s ≡ halt places.Waiting t → WaitsRight t
+waits_chosen_step loaded here s t None h = waits_right t (waits_step_known loaded.characters here.next s t
+    (halt_within here (step_known loaded.characters here.next s) t h))
 waits_chosen_step loaded here s t (Some operation) h =
     waits_execute_further loaded operation here (decode_further s.memory here.next.program_counter operation) s t h
 
 pub standard_step_waits : (loaded : Loaded) (here : Here) (s t : State)
-    → standard_step loaded here s ≡ halt places.Waiting t → WaitsWell t
+    → standard_step loaded here s ≡ halt places.Waiting t → WaitsRight t
 unfolding standard_step
 standard_step_waits loaded here s t h =
     waits_chosen_step loaded here s t (further_at s.memory here.next.program_counter) h

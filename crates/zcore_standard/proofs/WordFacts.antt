@@ -46,7 +46,7 @@ keeps_form_at : (at count : ℕ) → Keeps (form_at at count)
 unfolding form_at
 keeps_form_at at count s t a h = tested _ _ a s t s s _ (alike_same s s refl) h
 
-keeps_write_bytes : (at : ℕ) (bytes : List ℕ) → Keeps (write_bytes at bytes)
+pub keeps_write_bytes : (at : ℕ) (bytes : List ℕ) → Keeps (write_bytes at bytes)
 unfolding write_bytes
 keeps_write_bytes at bytes s t a h =
     tested _ tt a s t _ s _ (record { memory = length-with_bytes s.memory at bytes; frames = refl }) h
@@ -87,7 +87,7 @@ waits_form_at : (at count : ℕ) → Waits (form_at at count)
 unfolding form_at
 waits_form_at at count s t h = waits_either _ _ _ t (waits_done _ s t) (waits_fault _ s t) h
 
-waits_write_bytes : (at : ℕ) (bytes : List ℕ) → Waits (write_bytes at bytes)
+pub waits_write_bytes : (at : ℕ) (bytes : List ℕ) → Waits (write_bytes at bytes)
 unfolding write_bytes
 waits_write_bytes at bytes s t h = waits_either _ _ _ t (waits_done tt _ t) (waits_fault _ s t) h
 

@@ -7,26 +7,30 @@ use Rattle.zcore.specs.declared.next.Next.{Next}
 use Rattle.zcore.specs.State.{State, Out, ◌>>=◌}
 use Rattle.zcore.specs.Parts.{fault, operand_values, goes_on, branch_on}
 use Rattle.zcore.specs.Effects.{give_result}
-use Rattle.zcore.specs.Execution.{first, second, third, read}
+use Rattle.zcore.specs.Execution.{first, second, third}
 use Rattle.zcore_standard.specs.declared.operations.Further.{Further}
 use Rattle.zcore_standard.specs.declared.operations.Further.TheVariants.{Restart, Catch, ShowStatus, Verify, Piracy}
 use Rattle.zcore_standard.specs.declared.operations.Further.TheVariants.{SetColour, Throw, Read, Random, SplitWindow}
-use Rattle.zcore_standard.specs.declared.operations.Further.TheVariants.{EraseWindow, EraseLine, SetCursor}
+use Rattle.zcore_standard.specs.declared.operations.Further.TheVariants.{SetWindow, EraseWindow, EraseLine, SetCursor}
 use Rattle.zcore_standard.specs.declared.operations.Further.TheVariants.{GetCursor, SetTextStyle, BufferMode}
 use Rattle.zcore_standard.specs.declared.operations.Further.TheVariants.{OutputStream, InputStream, SoundEffect}
+use Rattle.zcore_standard.specs.declared.operations.Further.TheVariants.{ReadChar}
 use Rattle.zcore_standard.specs.declared.operations.Further.TheVariants.{ScanTable, Tokenise, EncodeText}
 use Rattle.zcore_standard.specs.declared.operations.Further.TheVariants.{CopyTable, PrintTable, Save, Restore}
 use Rattle.zcore_standard.specs.declared.operations.Further.TheVariants.{LogShift, ArtShift, SetFont, SaveUndo}
 use Rattle.zcore_standard.specs.declared.operations.Further.TheVariants.{RestoreUndo, PrintUnicode, CheckUnicode}
 use Rattle.zcore_standard.specs.declared.operations.Further.TheVariants.{SetTrueColour}
-use Rattle.zcore_standard.specs.Place.{Here, within}
+use Rattle.zcore_standard.specs.Place.{Here, past, within}
 use Rattle.zcore_standard.specs.Loaded.{Loaded}
 use Rattle.zcore_standard.specs.Instruction.{Instruction}
 use Rattle.zcore_standard.specs.Shifts.{log_shift, art_shift}
 use Rattle.zcore_standard.specs.Dice.{random}
 use Rattle.zcore_standard.specs.Unicode.{print_unicode, check_unicode}
 use Rattle.zcore_standard.specs.Flow.{restart, catch, throw, verify, failed, has_no_undo}
-use Rattle.zcore_standard.specs.Screen.{get_cursor, set_font, output_stream}
+use Rattle.zcore_standard.specs.Screen.{get_cursor, set_font}
+use Rattle.zcore_standard.specs.Windows.{set_window, set_cursor, erase_window, split_window}
+use Rattle.zcore_standard.specs.Streams.{output_stream}
+use Rattle.zcore_standard.specs.Reading.{read_line, read_key}
 use Rattle.zcore_standard.specs.Tables.{scan_table, copy_table, print_table}
 use Rattle.zcore_standard.specs.Words.{tokenise, encode_text}
 
@@ -45,8 +49,8 @@ words_of_table = 0x82
 abbrev pub one_row : ℕ
 one_row = 1
 
--- The operations that leave window and dice as they are, with the address after the instruction, the variable for the
--- result, the branch, and the values of the operands. Windows and keys are not played yet: M1.
+-- The operations that leave windows, dice and streams as they are, with the address after the instruction, the variable
+-- for the result, the branch, and the values of the operands.
 unfoldable pub perform_keeping :
     Loaded → Further → Next → ℕ → Option ℕ → Option Branch → List ℕ → State → Out Next
 perform_keeping loaded Catch here after result branch values = catch here after result
@@ -55,16 +59,10 @@ perform_keeping loaded Verify here after result branch values = verify loaded he
 perform_keeping loaded Piracy here after result branch values = branch_on here after branch true
 perform_keeping loaded SetColour here after result branch values = goes_on after here.fuel
 perform_keeping loaded Throw here after result branch values = throw here (first values) (second values)
-perform_keeping loaded Read here after result branch values = read here after result
-    (first values) (slice_index_or values 1 0)
-perform_keeping loaded SplitWindow here after result branch values = goes_on after here.fuel
-perform_keeping loaded EraseWindow here after result branch values = goes_on after here.fuel
 perform_keeping loaded EraseLine here after result branch values = goes_on after here.fuel
-perform_keeping loaded SetCursor here after result branch values = goes_on after here.fuel
 perform_keeping loaded GetCursor here after result branch values = get_cursor here after (first values)
 perform_keeping loaded SetTextStyle here after result branch values = goes_on after here.fuel
 perform_keeping loaded BufferMode here after result branch values = goes_on after here.fuel
-perform_keeping loaded OutputStream here after result branch values = output_stream here after (first values)
 perform_keeping loaded InputStream here after result branch values = goes_on after here.fuel
 perform_keeping loaded SoundEffect here after result branch values = goes_on after here.fuel
 perform_keeping loaded ScanTable here after result branch values = scan_table here after result branch
@@ -75,7 +73,7 @@ perform_keeping loaded EncodeText here after result branch values = encode_text 
     (first values) (second values) (third values) (fourth values)
 perform_keeping loaded CopyTable here after result branch values = copy_table here after
     (first values) (second values) (third values)
-perform_keeping loaded PrintTable here after result branch values = print_table here after
+perform_keeping loaded PrintTable here after result branch values = print_table loaded.characters here after
     (first values) (second values) (slice_index_or values 2 one_row) (fourth values)
 perform_keeping loaded Save here after result branch values = give_result here after result failed
 perform_keeping loaded Restore here after result branch values = give_result here after result failed
@@ -97,6 +95,15 @@ unfoldable pub perform_further :
     Loaded → Further → Here → ℕ → Option ℕ → Option Branch → List ℕ → State → Out Here
 perform_further loaded Restart here after result branch values = restart loaded here
 perform_further loaded Random here after result branch values = random here after result (first values)
+perform_further loaded Read here after result branch values = read_line loaded.characters here after result
+    (first values) (slice_index_or values 1 0)
+perform_further loaded ReadChar here after result branch values = read_key loaded.characters here after result
+perform_further loaded OutputStream here after result branch values = output_stream loaded.characters here after values
+perform_further loaded SetWindow here after result branch values = set_window (past here after) (first values)
+perform_further loaded SetCursor here after result branch values = set_cursor (past here after) (first values)
+    (second values)
+perform_further loaded EraseWindow here after result branch values = erase_window (past here after) (first values)
+perform_further loaded SplitWindow here after result branch values = split_window (past here after) (first values)
 perform_further loaded operation here after result branch values = λ s.
     within here (perform_keeping loaded operation here.next after result branch values s)
 

@@ -1,14 +1,16 @@
 -- The laws of the Standard's machine that functions of `laws` carry as their contracts.
-use Rattle.std.specs.Prelude.{◌≡◌, ℕ, Bool, true, false, not, List, Some, map}
+use Rattle.std.specs.Prelude.{◌≡◌, ◌&&◌, ◌||◌, ℕ, Bool, true, false, not, List, Some, map, IfSome}
 use Rattle.std.specs.List.{list_all}
+use Rattle.std.specs.Option.{is_none}
 use Rattle.zcore.specs.State.{State, Out, done, halt}
 use Rattle.zcore.specs.declared.beside.Beside.{Beside}
 use Rattle.zcore.specs.declared.next.Next.{Next}
 use Rattle.zcore.specs.declared.place.Place.{Place}
 use Rattle.zcore.specs.declared.place.Place.TheVariants as places
 use Rattle.zcore.specs.Execution.{step}
+use Rattle.zcore.specs.Parts.{is_text_buffer}
 use Rattle.zcore.specs.Turn.{StateOfPlay, Whole, TurnsBy, turn_from, turn_on, plays, plays_of}
-use Rattle.zcore_standard.specs.Place.{Here, within}
+use Rattle.zcore_standard.specs.Place.{Here, within, is_none_open}
 use Rattle.zcore_standard.specs.Loaded.{Loaded}
 use Rattle.zcore_standard.specs.Machine.{standard, standard_step, standard_turn, standard_turn_on, begins, by_standard}
 use Rattle.zcore_standard.specs.Machine.{with_beside}
@@ -31,24 +33,43 @@ abbrev pub ends_in_fault : {H : Type 0} → Out H → Bool
 ends_in_fault (done next s) = false
 ends_in_fault (halt place s) = is_fault place
 
--- a step of the profile that meets no fault is the Standard's step, and leaves window and dice as they are
+abbrev pub is_done : {H : Type 0} → Out H → Bool
+is_done (done next s) = true
+is_done (halt place s) = false
+
+-- no stream is open, and the upper window is not there
+abbrev pub is_plain : Here → Bool
+is_plain here = is_none_open here.streams && is_none here.upper
+
+-- a step that ends the turn closes no stream, and shows or drops no text of the upper window
+abbrev pub closes_none : Here → Out Next → Bool
+closes_none here o = is_plain here || is_done o
+
+-- A step of the profile that meets no fault is the Standard's step, and leaves windows, dice and streams as they are.
+-- It may be no `aread` with a stream open or the upper window there, which the profile does not have.
 abbrev pub KeepsWhatTheProfileSteps : Type 0
 KeepsWhatTheProfileSteps =
     (loaded : Loaded) (here : Here) (s : State) → ends_in_fault (step here.next s) ≡ false
-    → standard_step loaded here s ≡ within here (step here.next s)
+    → closes_none here (step here.next s) ≡ true → standard_step loaded here s ≡ within here (step here.next s)
 
--- A turn of the profile that ends in no fault is the Standard's turn: with the same text, memory, frames, place and
--- program counter, and with the window and the dice that it began with.
+-- A turn of the profile that ends in no fault is the Standard's turn in the lower window: with the same text, memory,
+-- frames, place and program counter, and with the window and the dice that it began with.
 abbrev pub KeepsWhatTheProfilePlays : Type 0
 KeepsWhatTheProfilePlays =
-    (loaded : Loaded) (beside : Beside) (next : Next) (s : State) (whole : Whole) → turn_from next s ≡ Some whole
-    → is_fault whole.place ≡ false → standard_turn loaded (begins beside next) s ≡ Some (with_beside beside whole)
+    (loaded : Loaded) (beside : Beside) (next : Next) (s : State) (whole : Whole) → beside.window ≡ 0
+    → turn_from next s ≡ Some whole → is_fault whole.place ≡ false
+    → standard_turn loaded (begins beside next) s ≡ Some (with_beside beside whole)
 
--- and so is the turn of a line
+-- A line is waited for as the profile does it: no letter is left over in the text buffer, which is after the header.
+abbrev pub WaitsAsTheProfile : StateOfPlay → Type 0
+WaitsAsTheProfile play = IfSome play.pending (λ pending. is_text_buffer play.memory pending.text_buffer ≡ true)
+
+-- And so is the turn of a line. While the profile waits for one, its text buffer is one that its `aread` has tested: it
+-- holds no letters. This machine would keep letters that are left over in it.
 abbrev pub KeepsWhatTheProfileAnswers : Type 0
 KeepsWhatTheProfileAnswers =
-    (loaded : Loaded) (line : List ℕ) (fuel : ℕ) (play : StateOfPlay) (whole : Whole)
-    → turn_on line fuel play ≡ Some whole → is_fault whole.place ≡ false
+    (loaded : Loaded) (line : List ℕ) (fuel : ℕ) (play : StateOfPlay) (whole : Whole) → play.beside.window ≡ 0
+    → WaitsAsTheProfile play → turn_on line fuel play ≡ Some whole → is_fault whole.place ≡ false
     → standard_turn_on loaded line fuel play ≡ Some (with_beside play.beside whole)
 
 -- no turn of these ends in a fault
@@ -58,6 +79,6 @@ have_no_fault wholes = list_all (λ whole. not (is_fault whole.place)) wholes
 -- A run over lines in which the profile meets no fault is the Standard's run of the same memory, turn by turn.
 abbrev pub KeepsWhatTheProfileRuns : Type 0
 KeepsWhatTheProfileRuns =
-    (loaded : Loaded) (story : List ℕ) (fuel : ℕ) (lines : List (List ℕ))
+    (loaded : Loaded) (story : List ℕ) (fuel : ℕ) (lines : List (List ℕ)) → loaded.dice.window ≡ 0
     → have_no_fault (plays story fuel lines) ≡ true
     → plays_of (by_standard loaded story fuel) lines ≡ map (with_beside loaded.dice) (plays story fuel lines)

@@ -1,21 +1,24 @@
 -- The Standard's machine: a further operation where its opcode is found, and else a step of the profile.
-use Rattle.std.specs.Prelude.{ℕ, List, Option, Some, None}
+use Rattle.std.specs.Prelude.{◌==◌, ℕ, if◌then◌else◌, List, Option, Some, None}
 use Rattle.zcore.specs.declared.next.Next.{Next}
 use Rattle.zcore.specs.declared.place.Place.{Place}
 use Rattle.zcore.specs.declared.beside.Beside.{Beside}
 use Rattle.zcore.specs.State.{Pending, State, Out}
-use Rattle.zcore.specs.Turn.{StateOfPlay, Whole, Machine, Play, after_step, turn_by, weight, given, resumed}
-use Rattle.zcore.specs.Turn.{first_next, first_state, ended}
+use Rattle.zcore.specs.Turn.{StateOfPlay, Whole, Machine, Play, after_step, turn_by, weight, resumed}
+use Rattle.zcore.specs.Turn.{first_next, first_state, ended, is_waiting}
 use Rattle.zcore_standard.specs.declared.operations.Further.{Further}
-use Rattle.zcore_standard.specs.Place.{Here, within}
+use Rattle.zcore_standard.specs.Place.{Here, plain, within}
 use Rattle.zcore_standard.specs.Loaded.{Loaded}
 use Rattle.zcore_standard.specs.Operations.{further_at}
 use Rattle.zcore_standard.specs.Instruction.{decode_further}
 use Rattle.zcore_standard.specs.Further.{execute_further}
+use Rattle.zcore_standard.specs.Windows.{begun_at}
+use Rattle.zcore_standard.specs.Streams.{heard_of}
+use Rattle.zcore_standard.specs.Reading.{standard_given}
 use Rattle.zcore_standard.specs.Nothing.{step_known}
 
 abbrev pub chosen : Loaded → Option Further → Here → State → Out Here
-chosen loaded None here s = within here (step_known here.next s)
+chosen loaded None here s = within here (step_known loaded.characters here.next s)
 chosen loaded (Some operation) here s =
     execute_further loaded operation here (decode_further s.memory here.next.program_counter operation) s
 
@@ -26,9 +29,15 @@ standard_step loaded here s = chosen loaded (further_at s.memory here.next.progr
 abbrev pub with_beside : Beside → Whole → Whole
 with_beside beside whole = record whole { state = record whole.state { beside = beside } }
 
+-- The text that a turn shows of what it has printed. A read has closed its streams, and has shown the upper window or
+-- dropped its text; at any other end what went to streams and to that window is dropped.
+abbrev pub shown : Here → Place → List ℕ → List ℕ
+shown here place text = if is_waiting place then text else heard_of here text
+
 -- window and dice last from turn to turn
 abbrev pub standard_ended : Here → Place → State → Whole
-standard_ended here place s = with_beside here.beside (ended here.next place s)
+standard_ended here place s =
+    with_beside here.beside (ended here.next place (record s { text = shown here place s.text }))
 
 -- the machine of a story that was loaded so
 abbrev pub standard : Loaded → Machine Here
@@ -38,9 +47,10 @@ standard loaded = record { step = standard_step loaded; ended = standard_ended }
 unfoldable pub standard_turn : Loaded → Here → State → Option Whole
 standard_turn loaded here s = turn_by (standard loaded) (weight here.next s) here s
 
--- where a turn begins
+-- where a turn begins: no stream is open, and the upper window is there, empty, if it is selected
 abbrev pub begins : Beside → Next → Here
-begins beside next = record { next = next; beside = beside }
+begins beside next =
+    record (plain beside next) { upper = if beside.window == 0 then None else Some (begun_at 0) }
 
 -- The opening of a story, as its memory is after loading.
 unfoldable pub standard_opening : Loaded → List ℕ → ℕ → Option Whole
@@ -50,7 +60,8 @@ standard_opening loaded story fuel =
 abbrev pub standard_pending : Loaded → Option Pending → List ℕ → ℕ → StateOfPlay → Option Whole
 standard_pending loaded None line fuel play = None
 standard_pending loaded (Some pending) line fuel play =
-    after_step (given pending line fuel (resumed play)) (λ next s. standard_turn loaded (begins play.beside next) s)
+    after_step (standard_given pending line fuel (resumed play))
+    (λ next s. standard_turn loaded (begins play.beside next) s)
     (λ place s. Some (standard_ended
     (begins play.beside (record { program_counter = play.program_counter; fuel = fuel })) place s))
 

@@ -2,20 +2,18 @@
 -- Addresses in a table are not reduced modulo 65,536. A table that passes the end of what can be read faults with M3.
 use Rattle.std.specs.Prelude.{◌==◌, ◌&&◌, ◌||◌, ◌+◌, ◌-◌, ◌*◌, ◌/◌, ◌%◌, ℕ, zero, suc, nat_le, Bool, if◌then◌else◌}
 use Rattle.std.specs.Prelude.{List, [], ◌∷◌, ◌++◌, drop, replicate, slice_index, slice_set, take, Option, Some, None}
-use Rattle.std.specs.List.{flat_map}
 use Rattle.std.specs.Option.{is_some, unwrap_or}
 use Rattle.zcore.specs.declared.instruction.Branch.{Branch}
 use Rattle.zcore.specs.declared.next.Next.{Next}
 use Rattle.zcore.specs.declared.place.Fault.TheVariants as faults
 use Rattle.zcore.specs.Arithmetic.{is_negative, magnitude}
-use Rattle.zcore.specs.Effects.{print_characters}
-use Rattle.zcore.specs.Execution.{is_output}
 use Rattle.zcore.specs.Header.{static_base_of}
 use Rattle.zcore.specs.Layout.{header_size}
 use Rattle.zcore.specs.Parts.{test, is_readable, read_byte, read_word, test_result, test_branch, store_result, goes_on}
 use Rattle.zcore.specs.Parts.{branch_on}
 use Rattle.zcore.specs.State.{State, Out, done, ◌>>=◌}
 use Rattle.zcore.specs.Turn.{with_bytes}
+use Rattle.zcore_standard.specs.Characters.{print_codes}
 
 -- Tests of all the bytes of a table
 
@@ -103,32 +101,25 @@ copy_table here after first second size =
 
 -- print_table
 
--- What a ZSCII character prints (3.8): 9 is one space and 11 two. A character that is not defined for output prints a
--- question mark.
-abbrev pub shown : ℕ → List ℕ
-shown character =
-    if is_output character then character ∷ []
-    else (if character == 9 then 32 ∷ []
-    else (if character == 11 then 32 ∷ 32 ∷ []
-    else 63 ∷ []))
-
 -- what divides a row from the rows before it, if there are any
 abbrev pub row_division : ℕ → List ℕ
 row_division zero = []
 row_division (suc others) = 13 ∷ []
 
--- the first rows of a table, divided by new lines; `skip` characters are between a row and the next
+-- the ZSCII codes of the first rows of a table, divided by new lines; `skip` characters are between a row and the next
 unfoldable pub rows : List ℕ → ℕ → ℕ → ℕ → ℕ → List ℕ
 rows memory text width skip zero = []
 rows memory text width skip (suc n) =
     rows memory text width skip n
-    ++ (row_division n ++ flat_map shown (take width (drop (text + n * (width + skip)) memory)))
+    ++ (row_division n ++ take width (drop (text + n * (width + skip)) memory))
 
 -- how many bytes a table has from the first character of its first row to the last character of its last row
 abbrev pub rows_size : ℕ → ℕ → ℕ → ℕ
 rows_size width height skip = if width == 0 || height == 0 then 0 else (height - 1) * (width + skip) + width
 
-unfoldable pub print_table : Next → ℕ → ℕ → ℕ → ℕ → ℕ → State → Out Next
-print_table here after text width height skip = do
+-- with these characters for the codes from 155 on
+unfoldable pub print_table : List ℕ → Next → ℕ → ℕ → ℕ → ℕ → ℕ → State → Out Next
+print_table characters here after text width height skip = do
   _ ← test_readable text (rows_size width height skip)
-  (λ s. print_characters here after (rows s.memory text width skip height) s)
+  _ ← (λ s. print_codes characters (rows s.memory text width skip height) s)
+  goes_on after here.fuel

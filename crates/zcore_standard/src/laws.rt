@@ -8,14 +8,16 @@ pub fn every_standard_turn_ends()
     ensures { EveryStandardTurnEnds }
 {}
 
-/// A step of the profile's machine that meets no fault is the Standard's step, and leaves window and
-/// dice as they are.
+/// A step of the profile's machine that meets no fault is the Standard's step, and leaves windows,
+/// dice and streams as they are. It is no `aread` while a stream is open or the upper window is there,
+/// which the profile does not have.
 pub fn keeps_what_the_profile_steps()
     ensures { KeepsWhatTheProfileSteps }
 {}
 
-/// A turn of the profile's machine that ends in no fault is the Standard's turn: the same text,
-/// memory, frames, place and program counter, with the window and the dice that it began with.
+/// A turn of the profile's machine that ends in no fault is the Standard's turn in the lower window:
+/// the same text, memory, frames, place and program counter, with the window and the dice that it
+/// began with.
 pub fn keeps_what_the_profile_plays()
     ensures { KeepsWhatTheProfilePlays }
 {}

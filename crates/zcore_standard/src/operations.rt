@@ -37,19 +37,19 @@ pub enum Further {
     /// `random`: a number from the dice, or what they go on with.
     Random,
 
-    /// `split_window`, which does nothing.
+    /// `split_window`: erases the upper window where it gets no lines.
     SplitWindow,
 
-    /// `set_window`, which is not played yet.
+    /// `set_window`: selects a window.
     SetWindow,
 
-    /// `erase_window`, which does nothing.
+    /// `erase_window`: erases the upper window.
     EraseWindow,
 
     /// `erase_line`, which does nothing.
     EraseLine,
 
-    /// `set_cursor`, which does nothing.
+    /// `set_cursor`: the place in the upper window where text goes on.
     SetCursor,
 
     /// `get_cursor`: row 1 and column 1.
@@ -61,7 +61,7 @@ pub enum Further {
     /// `buffer_mode`, which does nothing.
     BufferMode,
 
-    /// `output_stream`, of which the memory stream is not played yet.
+    /// `output_stream`: the transcript is always written, stream 3 goes to a table.
     OutputStream,
 
     /// `input_stream`, which does nothing.
@@ -70,7 +70,7 @@ pub enum Further {
     /// `sound_effect`, which does nothing.
     SoundEffect,
 
-    /// `read_char`, which is not played yet.
+    /// `read_char` with up to three operands: waits for a key.
     ReadChar,
 
     /// `scan_table`: searches a table for a word or a byte.

@@ -5,7 +5,7 @@ use Rattle.std.proofs.lemmas.List.{take_rest}
 use Rattle.syntax_directives.specs.declared.tree.Property.{Property}
 use Rattle.syntax_directives.specs.Tree.{PropertyTree}
 use Rattle.syntax_directives.specs.Views.{property_tree}
-use Rattle.checker_names.specs.declared.breach.Breach.{Breach}
+use Rattle.checker_names.specs.declared.noting.Least.{Least}
 use Rattle.checker_names.specs.Noted.{noted}
 use Rattle.checker_names.specs.Scope.{file_in}
 use Rattle.checker_objects.specs.Objects.{with_properties, provided_breaches}
@@ -27,6 +27,6 @@ returns-clause-breaches c =
     let rest = take_rest c.args.written.now count in
     c.in_ok-note_provided.ensures
     ∙ ap (λ (ps : List Property). noted c.properties.new.least (flat_map rules (map property_tree ps))) rest
-    ∙ ap (λ (m : Option Breach). noted m (flat_map rules (map property_tree (drop count c.args.written.now))))
+    ∙ ap (λ (m : Least). noted m (flat_map rules (map property_tree (drop count c.args.written.now))))
     c.in_ok-found.ensures.breaches
     ∙ noted_apart rules c.args.least.now count c.args.written.now

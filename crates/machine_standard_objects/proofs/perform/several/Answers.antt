@@ -1,13 +1,26 @@
-use Rattle.std.proofs.Common.{sym, ◌∙◌}
+use Rattle.std.proofs.Common.{ap, sym, ◌∙◌}
+use Rattle.zcore.specs.Execution.{perform}
+use Rattle.zcore_standard.specs.Printing.{is_text, perform_text}
 use Rattle.machine_frames.proofs.Steps.{told_went}
-use Rattle.machine_standard_objects.proofs.Performing.{nothing_went, known_told}
+use Rattle.machine_standard_objects.proofs.Performing.{nothing_went, known_told, text_told, several_plain}
 use Rattle.machine_standard_objects.proofs.perform.several.Goals as goal
 
 pub returns-then-concerns_nothing-clause-told : goal.returns-then-concerns_nothing-clause-told
 returns-then-concerns_nothing-clause-told c = told_went _ _
-    (nothing_went _ c.args.operation c.args.here c.args.ending.after c.args.ending.result c.args.ending.branch
-    c.args.values.now (sym c.concerns_nothing.ensures ∙ c.if-concerns_nothing.true) c.perform_on_nothing.ensures)
+    (nothing_went c.args.characters.now c.args.operation c.args.here c.args.ending.after c.args.ending.result
+    c.args.ending.branch c.args.values.now _ (sym c.concerns_nothing.ensures ∙ c.if-concerns_nothing.true)
+    c.perform_on_nothing.ensures)
 
-pub returns-clause-told : goal.returns-clause-told
-returns-clause-told c = known_told _ c.args.operation c.args.here c.args.ending.after c.args.ending.result c.args.ending.branch
-    c.args.values.now (sym c.concerns_nothing.ensures ∙ c.if-concerns_nothing.false) c.perform_several.ensures.told
+pub returns-in-PrintCharacter-clause-told : goal.returns-in-PrintCharacter-clause-told
+unfolding perform perform_text
+returns-in-PrintCharacter-clause-told c =
+    let e = c.in-PrintCharacter.is in
+    text_told c.args.characters.now c.args.operation c.args.here c.args.ending.after c.args.ending.result
+    c.args.ending.branch c.args.values.now _ (sym c.concerns_nothing.ensures ∙ c.if-concerns_nothing.false) (ap is_text e)
+    (rw e c.print_character.ensures.told)
+
+pub returns-in_default-clause-told : goal.returns-in_default-clause-told
+returns-in_default-clause-told c = known_told c.args.characters.now c.args.operation c.args.here c.args.ending.after
+    c.args.ending.result c.args.ending.branch c.args.values.now _
+    (sym c.concerns_nothing.ensures ∙ c.if-concerns_nothing.false)
+    (several_plain c.args.operation c.requires.count c.in_default.not-PrintCharacter) c.perform_several.ensures.told

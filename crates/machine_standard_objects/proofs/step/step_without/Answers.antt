@@ -1,27 +1,21 @@
-use Rattle.std.proofs.Common.{◌+◌, ℕ, [], Option, None, refl}
-use Rattle.zcore.specs.declared.instruction.Branch.{Branch}
+use Rattle.std.proofs.Common.{◌+◌, refl}
 use Rattle.zcore.specs.Instruction.{short_form}
 use Rattle.machine_frames.specs.Contents.{memory_of}
 use Rattle.machine_frames.proofs.Steps.{told_went, told_then}
 use Rattle.machine_steps.specs.Decoded.{completed}
 use Rattle.machine_standard_objects.proofs.Stepping.{told_halts, told_executes}
 use Rattle.machine_steps.proofs.Stepping.{no_value}
-use Rattle.machine_standard_objects.proofs.Performing.{without_none, known_told}
 use Rattle.machine_standard_objects.proofs.step.step_without.Goals as goal
 
 pub returns-in-Err-clause-told : goal.returns-in-Err-clause-told
 returns-in-Err-clause-told c =
-    told_halts c.args.store.now _ c.args.here (memory_of c.args.store.now.store)
+    told_halts c.args.characters.now c.args.store.now _ c.args.here (memory_of c.args.store.now.store)
     (λ l. completed l (short_form c.args.first (c.args.here.program_counter + 1))) _ c.requires.store.sound refl
     (c.in-Err.ensures.instruction (memory_of c.args.store.now.store) (c.args.here.program_counter + 1))
 
 pub returns-clause-told : goal.returns-clause-told
 returns-clause-told c =
-    let none : Option ℕ = None in
-    let stays : Option Branch = None in
-    let does = known_told c.perform_none.result c.in-Ok.operation c.args.here (c.args.here.program_counter + 1) none
-    stays [] (without_none c.in-Ok.operation [] c.in-Ok.ensures.count) c.perform_none.ensures.told in
-    told_executes _ c.args.here (memory_of c.args.store.now.store)
+    told_executes c.args.characters.now _ c.args.here (memory_of c.args.store.now.store)
     (λ l. completed l (short_form c.args.first (c.args.here.program_counter + 1))) _ _ refl
     (c.in-Ok.ensures.instruction (memory_of c.args.store.now.store) (c.args.here.program_counter + 1))
-    (told_then _ (told_went _ _ (no_value c.args.store.now c.requires.store.sound)) does)
+    (told_then _ (told_went _ _ (no_value c.args.store.now c.requires.store.sound)) c.none.ensures.told)

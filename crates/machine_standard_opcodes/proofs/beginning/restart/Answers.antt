@@ -4,11 +4,17 @@ use Rattle.ztext.specs.Bytes.{word_at}
 use Rattle.machine_frames.specs.Contents.{memory_of}
 use Rattle.machine_lines.specs.Lines.{Fills}
 use Rattle.machine_frames.proofs.Kept.{length-memory}
+use Rattle.machine_standard_opcodes.specs.Around.{place}
 use Rattle.machine_standard_opcodes.proofs.Anew.{no_fuel, begun_anew}
+use Rattle.machine_standard_opcodes.proofs.Cuts.{keeps_still}
 use Rattle.machine_standard_opcodes.proofs.beginning.restart.Goals as goal
 
-pub returns-then-here-eq0 : goal.returns-then-here-eq0
-returns-then-here-eq0 c = λ kept. no_fuel _ c.args.loaded.now kept c.args.here c.requires.sound c.if-here-eq0.true
+pub returns-then-here-eq0-clause-told : goal.returns-then-here-eq0-clause-told
+returns-then-here-eq0-clause-told c = no_fuel _ _ c.args.loaded.now (place c.args.around.now c.args.here)
+    c.requires.sound c.if-here-eq0.true
+
+pub returns-then-here-eq0-clause-text : goal.returns-then-here-eq0-clause-text
+returns-then-here-eq0-clause-text c = keeps_still _ _ c.requires.text
 
 pub bounds-memory-6 : goal.bounds-memory-6
 bounds-memory-6 c =
@@ -32,9 +38,11 @@ fill-requires-clause-room c =
       c.requires.sound.static_base,
     )
 
-pub returns : goal.returns
-returns c =
+pub returns-clause-told : goal.returns-clause-told
+returns-clause-told c =
     let memory = c.memory-memory.ensures ∙ ap memory_of c.store.ensures in
-    λ kept. begun_anew c.args.store.now c.fill.new.store c.empty.new.store c.args.loaded.now kept c.args.here _
-    c.if-here-eq0.false (ap (λ m. word_at m 6) memory) (subst (λ bytes. Fills c.args.store.now c.fill.new.store 64 bytes)
+    begun_anew c.args.store.now c.fill.new.store c.empty.new.store _ _ c.args.loaded.now
+    (place c.args.around.now c.args.here) _ c.dice-around.result c.clear.new.self.items c.dice-around.ensures
+    c.clear.ensures c.if-here-eq0.false (ap (λ m. word_at m 6) memory) (subst (λ bytes. Fills c.args.store.now c.fill.new.store 64 bytes)
     (c.after_header.ensures ∙ ap (drop 64) c.dynamic.ensures) c.in_ok-fill.ensures.filled) c.in_ok-empty.ensures.emptied
+    (c.cut_to_heard.ensures.heard c.args.here)

@@ -11,17 +11,9 @@ pub returns-in-Throw : goal.returns-in-Throw
 unfolding perform_keeping
 returns-in-Throw c = λ loaded. rw c.in-Throw.is c.throw.ensures
 
-pub returns-in-Read : goal.returns-in-Read
-unfolding perform_keeping
-returns-in-Read c = λ loaded. rw c.in-Read.is c.wait.ensures
-
 pub returns-in-GetCursor : goal.returns-in-GetCursor
 unfolding perform_keeping
 returns-in-GetCursor c = λ loaded. rw c.in-GetCursor.is c.get_cursor.ensures
-
-pub returns-in-OutputStream : goal.returns-in-OutputStream
-unfolding perform_keeping
-returns-in-OutputStream c = λ loaded. rw c.in-OutputStream.is c.output_stream.ensures
 
 pub returns-in-ScanTable : goal.returns-in-ScanTable
 unfolding perform_keeping
@@ -45,5 +37,10 @@ returns-in-SetWindow c = λ loaded. elim c.in-SetWindow.is [
   | inl e ↦ rw e (went_halt _ _ c.requires.store.sound (λ t. refl))
   | inr (inl e) ↦ rw e (went_halt _ _ c.requires.store.sound (λ t. refl))
   | inr (inr (inl e)) ↦ rw e (went_halt _ _ c.requires.store.sound (λ t. refl))
-  | inr (inr (inr e)) ↦ rw e (went_halt _ _ c.requires.store.sound (λ t. refl))
+  | inr (inr (inr (inl e))) ↦ rw e (went_halt _ _ c.requires.store.sound (λ t. refl))
+  | inr (inr (inr (inr (inl e)))) ↦ rw e (went_halt _ _ c.requires.store.sound (λ t. refl))
+  | inr (inr (inr (inr (inr (inl e))))) ↦ rw e (went_halt _ _ c.requires.store.sound (λ t. refl))
+  | inr (inr (inr (inr (inr (inr (inl e)))))) ↦ rw e (went_halt _ _ c.requires.store.sound (λ t. refl))
+  | inr (inr (inr (inr (inr (inr (inr (inl e))))))) ↦ rw e (went_halt _ _ c.requires.store.sound (λ t. refl))
+  | inr (inr (inr (inr (inr (inr (inr (inr e))))))) ↦ rw e (went_halt _ _ c.requires.store.sound (λ t. refl))
 ]

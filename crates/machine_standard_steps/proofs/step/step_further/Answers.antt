@@ -1,11 +1,11 @@
 use Rattle.std.proofs.Common.{◌<◌, ◌∙◌, ap, sym, subst, length, ℕ, List, arith}
 use Rattle.std.proofs.lemmas.List.{length-take-le}
 use Rattle.zcore_standard.specs.Instruction.{decode_further}
-use Rattle.zcore_standard.specs.Machine.{begins}
 use Rattle.zcore_standard.proofs.Refusing.{stands}
 use Rattle.machine_frames.specs.Contents.{memory_of}
 use Rattle.machine_frames.proofs.Steps.{went_store}
 use Rattle.machine_lines.proofs.Lines.{base_kept}
+use Rattle.machine_standard_opcodes.specs.Around.{place}
 use Rattle.machine_standard_steps.proofs.Stepping.{decodes_no_further, executes_further, reads_no_further}
 use Rattle.machine_standard_steps.proofs.Stepping.{told_err_seen}
 use Rattle.machine_standard_steps.proofs.step.step_further.Goals as goal
@@ -17,14 +17,14 @@ decode_further-requires-clause-within c =
     (stands (memory_of c.args.store.now.store) c.args.here.program_counter c.args.operation c.requires.found).within
 
 pub returns-in-Err-clause-told : goal.returns-in-Err-clause-told
-returns-in-Err-clause-told c = decodes_no_further _ c.args.loaded.now _ (begins c.args.beside.now c.args.here) _ _
+returns-in-Err-clause-told c = decodes_no_further _ c.args.loaded.now _ (place c.args.around.now c.args.here) _ _
     c.requires.store.sound
     (c.in-Err.ensures.instruction ∙ ap (λ l. decode_further l c.args.here.program_counter c.args.operation)
     (c.memory-memory.ensures ∙ ap memory_of c.store.ensures))
 
 pub returns-in_err-operand_values-clause-told : goal.returns-in_err-operand_values-clause-told
-returns-in_err-operand_values-clause-told c = told_err_seen (begins c.args.beside.now) _ c.from_residual.ensures.1
-    (reads_no_further c.args.loaded.now _ (begins c.args.beside.now c.args.here) _ _ _ _
+returns-in_err-operand_values-clause-told c = told_err_seen (place c.args.around.now) _ c.from_residual.ensures.1
+    (reads_no_further c.args.loaded.now _ (place c.args.around.now c.args.here) _ _ _ _
     (c.in-Ok.ensures.instruction ∙ ap (λ l. decode_further l c.args.here.program_counter c.args.operation)
     (c.memory-memory.ensures ∙ ap memory_of c.store.ensures)) c.in_err-operand_values.ensures.went)
 
@@ -42,7 +42,7 @@ perform_further-requires-clause-enough c =
     omega (arith, long, c.in-Ok.ensures.enough)
 
 pub returns-clause-told : goal.returns-clause-told
-returns-clause-told c = executes_further _ c.args.loaded.now _ (begins c.args.beside.now c.args.here) _ _ _ _
+returns-clause-told c = executes_further _ c.args.loaded.now _ (place c.args.around.now c.args.here) _ _ _ _
     (c.in-Ok.ensures.instruction ∙ ap (λ l. decode_further l c.args.here.program_counter c.args.operation)
     (c.memory-memory.ensures ∙ ap memory_of c.store.ensures)) c.in_ok-operand_values.ensures.went
     c.perform_further.ensures.told

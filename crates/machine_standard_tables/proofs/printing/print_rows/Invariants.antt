@@ -1,5 +1,5 @@
 use Rattle.std.proofs.Common.{drop, Ok}
-use Rattle.zcore.specs.Parts.{print}
+use Rattle.zcore_standard.specs.Characters.{print_codes}
 use Rattle.zcore_standard.specs.Tables.{rows}
 use Rattle.machine_opcodes.specs.Printed.{Grew}
 use Rattle.machine_frames.specs.Contents.{memory_of}
@@ -9,6 +9,6 @@ use Rattle.machine_standard_tables.proofs.printing.print_rows.Given as goal
 abbrev pub invariant-loop-row : goal.invariant-loop-row
 invariant-loop-row l = record {
   told : Told (Ok tt) l.fn.store (drop l.start l.fn.text.items) l.store (drop l.start l.text.items)
-      (print (rows (memory_of l.fn.store.store) l.table l.width l.skip l.row));
+      (print_codes l.characters (rows (memory_of l.fn.store.store) l.table l.width l.skip l.row));
   grew : Grew l.start l.fn.text.items l.text.items;
 }

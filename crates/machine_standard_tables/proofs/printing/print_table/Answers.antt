@@ -10,7 +10,7 @@ pub returns-in_err-test_readable-clause-told : goal.returns-in_err-test_readable
 returns-in_err-test_readable-clause-told c =
     let a = c.args in
     told_err _ c.from_residual.ensures.1
-    (table_unread a.store.now _ a.here a.after a.table a.width a.height a.skip _ c.rows_size.ensures.same
+    (table_unread a.store.now a.characters.now _ a.here a.after a.table a.width a.height a.skip _ c.rows_size.ensures.same
     c.in_err-test_readable.ensures)
 
 pub print_rows-requires-clause-readable : goal.print_rows-requires-clause-readable
@@ -23,11 +23,11 @@ pub returns-in_err-print_rows-clause-told : goal.returns-in_err-print_rows-claus
 returns-in_err-print_rows-clause-told c =
     let a = c.args in
     told_err _ c.from_residual-in_err-print_rows.ensures.1
-    (table_stops a.store.now a.here a.after a.table a.width a.height a.skip _ c.rows_size.ensures.same
+    (table_stops a.store.now a.characters.now a.here a.after a.table a.width a.height a.skip _ c.rows_size.ensures.same
     c.in_ok-test_readable.ensures c.in_err-print_rows.ensures.told)
 
 pub returns-clause-told : goal.returns-clause-told
 returns-clause-told c =
     let a = c.args in
-    table_told a.store.now a.here a.after a.table a.width a.height a.skip _ c.rows_size.ensures.same
+    table_told a.store.now a.characters.now a.here a.after a.table a.width a.height a.skip _ c.rows_size.ensures.same
     c.in_ok-test_readable.ensures c.in_ok-print_rows.ensures.told

@@ -1,6 +1,7 @@
 use Rattle.std.proofs.Common.{◌≡◌, ◌*◌, ap, sym, subst, ◌∙◌, arith, length, slice_index}
 use Rattle.std.proofs.lemmas.List.{length-take-le}
-use Rattle.zcore.specs.Header.{IsDictionary}
+use Rattle.std.proofs.lemmas.Bool.{and_parts, leb-true}
+use Rattle.zcore.specs.Header.{HasDictionaryHead, IsDictionary, first_entry, static_end}
 use Rattle.machine_frames.specs.Contents.{memory_of}
 use Rattle.machine_frames.proofs.Kept.{length-memory}
 use Rattle.machine_standard_words.proofs.Tokens.{slots_numbers, slots_filled}
@@ -12,6 +13,13 @@ bounds-memory-at c =
     let h = slots_numbers (memory_of s) c.args.parse c.requires.slots in
     let long = ap length (c.memory-memory.ensures ∙ ap memory_of c.store.ensures) in
     omega (arith, h.room, long, length-memory s c.requires.store.sound)
+
+pub slots-words-requires-clause-head : goal.slots-words-requires-clause-head
+slots-words-requires-clause-head c =
+    let m = memory_of c.args.store.now.store in
+    let d = c.args.search.dictionary in
+    let head : HasDictionaryHead m d = leb-true (first_entry m d) (static_end m) (and_parts _ _ c.requires.dictionary).0 in
+    subst (λ k. HasDictionaryHead k d) (sym (c.memory-memory.ensures ∙ ap memory_of c.store.ensures)) head
 
 pub slots-words-requires-clause-room : goal.slots-words-requires-clause-room
 slots-words-requires-clause-room c =

@@ -4,7 +4,8 @@ use Rattle.syntax_lexer.specs.Token.{lexemes}
 use Rattle.syntax_lexer.specs.Tokens.{Lexes, EndsOnce}
 use Rattle.syntax_lexer.specs.Results.{source_tokens}
 use Rattle.syntax.specs.Views.{program_tree}
-use Rattle.story.proofs.Compiling.{is_tree, fits}
+use Rattle.story.specs.Large.{limits_by}
+use Rattle.story.proofs.Compiling.{is_tree, light, printable}
 use Rattle.messages_temporaries.specs.Needs.{IsFirstGreatest, program_needs}
 use Rattle.messages_figures.specs.Figures.{attributes_in, counts_in}
 use Rattle.messages_figures.proofs.Accepting.{few_words, few_objects, accepted_program, story_of_tree, refused}
@@ -14,18 +15,18 @@ use Rattle.messages_figures.proofs.measuring.measure.Goals as goal
 
 pub returns-in_err-tokens : goal.returns-in_err-tokens
 returns-in_err-tokens c =
-    refused c.args.version c.args.source.now c.from_residual.result c.in_err-tokens.field-0.0
+    refused c.args.limit c.args.version c.args.source.now c.from_residual.result c.in_err-tokens.field-0.0
     c.from_residual.ensures
-    (unlexed c.args.version c.args.source.now c.in_err-tokens.field-0.0 c.in_err-tokens.ensures.meets)
+    (unlexed (limits_by c.args.limit) c.args.version c.args.source.now c.in_err-tokens.field-0.0 c.in_err-tokens.ensures.meets)
 
 pub returns-in_err-program : goal.returns-in_err-program
 returns-in_err-program c =
     let lexed : Lexes 0 1 c.args.source.now (Ok (source_tokens c.deref.result.now)) =
     subst (λ ts. Lexes 0 1 c.args.source.now (Ok (source_tokens ts))) (sym c.deref.ensures.value)
     c.in_ok-tokens.ensures.meets in
-    refused c.args.version c.args.source.now c.from_residual-in_err-program.result c.in_err-program.field-0.0
+    refused c.args.limit c.args.version c.args.source.now c.from_residual-in_err-program.result c.in_err-program.field-0.0
     c.from_residual-in_err-program.ensures
-    (unparsed c.args.source.now c.deref.result.now lexed c.args.version c.in_err-program.field-0.0
+    (unparsed c.args.source.now c.deref.result.now lexed (limits_by c.args.limit) c.args.version c.in_err-program.field-0.0
     c.in_err-program.ensures.grammar
     (λ ten. c.in_err-program.ensures.place ten
     (subst (λ ts. EndsOnce (lexemes ts)) (sym c.deref.ensures.value) c.in_ok-tokens.ensures.ends_once))
@@ -39,15 +40,15 @@ returns-in_err-checked c =
     c.in_ok-tokens.ensures.meets in
     let found = c.in_ok-program.ensures.found in
     let p = program_tree c.in_ok-program.program in
-    refused c.args.version c.args.source.now c.from_residual-in_err-checked.result c.in_err-checked.field-0.0
+    refused c.args.limit c.args.version c.args.source.now c.from_residual-in_err-checked.result c.in_err-checked.field-0.0
     c.from_residual-in_err-checked.ensures
-    (unchecked c.args.version c.args.source.now p c.in_err-checked.field-0.0
+    (unchecked (limits_by c.args.limit) c.args.version c.args.source.now p c.in_err-checked.field-0.0
     (is_tree c.args.source.now c.deref.result.now lexed p found.0 found.1) c.in_err-checked.ensures)
 
 pub returns-in_err-found : goal.returns-in_err-found
 returns-in_err-found c =
-    refused c.args.version c.args.source.now c.from_residual-in_err-found.result no_memory
-    c.from_residual-in_err-found.ensures (without_memory c.args.version c.args.source.now no_memory refl)
+    refused c.args.limit c.args.version c.args.source.now c.from_residual-in_err-found.result no_memory
+    c.from_residual-in_err-found.ensures (without_memory (limits_by c.args.limit) c.args.version c.args.source.now no_memory refl)
 
 pub figures_of-requires : goal.figures_of-requires
 figures_of-requires c =
@@ -62,10 +63,14 @@ figures_of-requires c =
       words = few_words c.in_ok-checked.checked accepted;
       few = few_objects c.in_ok-checked.checked accepted;
       short = accepted.few_abbreviations;
-      fits = fits c.accepted_programs.ensures c.printable_tokens.ensures c.printable_trees.ensures
-          c.printable_programs.ensures c.small_sources_have_small_code.ensures c.args.version c.args.source.now
-          c.deref.result.now (program_tree c.in_ok-program.program) c.in_ok-checked.checked lexed found.0 checked.0
-          checked.1;
+      accepted = accepted;
+      printable = printable c.accepted_programs.ensures c.printable_tokens.ensures c.printable_trees.ensures
+          c.printable_programs.ensures c.args.source.now c.deref.result.now (program_tree c.in_ok-program.program)
+          c.in_ok-checked.checked lexed found.0 checked.0 checked.1;
+      light = light c.accepted_programs.ensures c.printable_tokens.ensures c.printable_trees.ensures
+          c.printable_programs.ensures c.args.source.now c.deref.result.now (program_tree c.in_ok-program.program)
+          c.in_ok-checked.checked lexed found.0 checked.0 checked.1 c.small_sources_have_small_code.ensures
+          c.args.version;
     }
 
 pub returns : goal.returns
@@ -90,5 +95,5 @@ returns c =
           ∙ ap (λ n. counts_in q (attributes_in p.directives) n) w.ensures.properties;
       temporaries = subst (IsFirstGreatest (program_needs p)) (sym e.temporaries)
           (w.ensures.temporaries (temporaries_few p checked.0));
-      story = story_of_tree c.args.version p q checked.1 c.in_ok-found.found.story e.checked.story;
+      story = story_of_tree c.args.limit c.args.version p q checked.1 c.in_ok-found.found.story e.checked.story;
     }

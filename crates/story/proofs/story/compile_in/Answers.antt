@@ -7,8 +7,10 @@ use Rattle.syntax_lexer.specs.Results.{source_tokens}
 use Rattle.syntax.specs.Views.{program_tree}
 use Rattle.syntax.proofs.Main.{unplaced_numbers}
 use Rattle.syntax.proofs.Placing.{unfit_as, deep_less}
-use Rattle.story.specs.Refused.{Refuses}
-use Rattle.story.proofs.Compiling.{is_tree, unparsed, unchecked, too_large, answered, fits, compiled}
+use Rattle.story.specs.Large.{limits_by, IsStoryWithin}
+use Rattle.story.specs.Refused.{RefusesBy}
+use Rattle.story.proofs.Compiling.{is_tree, unparsed, unchecked, too_large, answered}
+use Rattle.story.proofs.Compiling.{accepted, compiled, light, printable}
 use Rattle.story.proofs.Standing.{stands_answered, refused_stands, unlexed_stands, unparsed_stands, unchecked_stands}
 use Rattle.story.proofs.Standing.{too_large_stands}
 use Rattle.story.proofs.story.compile_in.Goals as goal
@@ -20,14 +22,14 @@ returns-in_err-program-clause-compiles c =
     c.in_ok-tokens.ensures.meets in
     let once : EndsOnce (lexemes c.deref.result.now) =
     subst (λ ts. EndsOnce (lexemes ts)) (sym c.deref.ensures.value) c.in_ok-tokens.ensures.ends_once in
-    let refused : Refuses c.args.version c.args.source.now c.in_err-program.field-0.0.fault =
-    unparsed c.args.source.now c.deref.result.now lexed c.args.version c.in_err-program.field-0.0.fault
+    let refused : RefusesBy (limits_by c.args.limit) c.args.version c.args.source.now c.in_err-program.field-0.0.fault =
+    unparsed c.args.source.now c.deref.result.now lexed (limits_by c.args.limit) c.args.version c.in_err-program.field-0.0.fault
     c.in_err-program.ensures.grammar
     (λ ten. unfit_as (c.in_err-program.ensures.place ten once) (λ place at. at.0))
     (λ five. (c.in_err-program.ensures.deep five).1)
     (λ five. deep_less (c.in_err-program.ensures.deep_place five) (λ place at. at.0))
     (unplaced_numbers c.in_err-program.field-0.0 c.in_err-program.ensures.numbers) in
-    answered c.args.version c.args.source.now c.from_residual-in_err-program.result c.in_err-program.field-0.0
+    answered (limits_by c.args.limit) c.args.version c.args.source.now c.from_residual-in_err-program.result c.in_err-program.field-0.0
     c.from_residual-in_err-program.ensures refused
 
 pub returns-in_err-checked-clause-compiles : goal.returns-in_err-checked-clause-compiles
@@ -37,53 +39,59 @@ returns-in_err-checked-clause-compiles c =
     c.in_ok-tokens.ensures.meets in
     let found = c.in_ok-program.ensures.found in
     let p = program_tree c.in_ok-program.program in
-    let refused : Refuses c.args.version c.args.source.now c.in_err-checked.field-0.0.fault =
-    unchecked c.args.version c.args.source.now p c.in_err-checked.field-0.0.fault
+    let refused : RefusesBy (limits_by c.args.limit) c.args.version c.args.source.now c.in_err-checked.field-0.0.fault =
+    unchecked (limits_by c.args.limit) c.args.version c.args.source.now p c.in_err-checked.field-0.0.fault
     (is_tree c.args.source.now c.deref.result.now lexed p found.0 found.1) c.in_err-checked.ensures.answers in
-    answered c.args.version c.args.source.now c.from_residual-in_err-checked.result c.in_err-checked.field-0.0
+    answered (limits_by c.args.limit) c.args.version c.args.source.now c.from_residual-in_err-checked.result c.in_err-checked.field-0.0
     c.from_residual-in_err-checked.ensures refused
 
-pub returns-in_err-test_sizes_placed-clause-compiles : goal.returns-in_err-test_sizes_placed-clause-compiles
-returns-in_err-test_sizes_placed-clause-compiles c =
+pub returns-in-Err-clause-compiles : goal.returns-in-Err-clause-compiles
+returns-in-Err-clause-compiles c =
     let lexed : Lexes 0 1 c.args.source.now (Ok (source_tokens c.deref.result.now)) =
     subst (λ ts. Lexes 0 1 c.args.source.now (Ok (source_tokens ts))) (sym c.deref.ensures.value)
     c.in_ok-tokens.ensures.meets in
     let found = c.in_ok-program.ensures.found in
     let p = program_tree c.in_ok-program.program in
     let checked = c.in_ok-checked.ensures.answers in
-    let refused : Refuses c.args.version c.args.source.now c.in_err-test_sizes_placed.field-0.0.fault =
-    too_large c.args.version c.args.source.now p c.in_ok-checked.checked c.in_err-test_sizes_placed.field-0.0.fault
-    (is_tree c.args.source.now c.deref.result.now lexed p found.0 found.1) checked.0 checked.1
-    c.in_err-test_sizes_placed.ensures.fault in
-    answered c.args.version c.args.source.now c.from_residual-in_err-test_sizes_placed.result
-    c.in_err-test_sizes_placed.field-0.0
-    c.from_residual-in_err-test_sizes_placed.ensures refused
+    let large = subst (IsStoryWithin c.args.limit c.args.version c.in_ok-checked.checked) c.in-Err.is
+    c.in_ok-sized.ensures in
+    too_large c.args.limit c.args.version c.args.source.now p c.in_ok-checked.checked c.in-Err.placed.fault
+    (is_tree c.args.source.now c.deref.result.now lexed p found.0 found.1) checked.0 checked.1 large.0
 
-pub write_story-requires : goal.write_story-requires
-write_story-requires c =
+pub story_within-requires : goal.story_within-requires
+story_within-requires c =
+    let lexed : Lexes 0 1 c.args.source.now (Ok (source_tokens c.deref.result.now)) =
+    subst (λ ts. Lexes 0 1 c.args.source.now (Ok (source_tokens ts))) (sym c.deref.ensures.value)
+    c.in_ok-tokens.ensures.meets in
+    let parsed = c.in_ok-program.ensures.found.0 in
+    let checked = c.in_ok-checked.ensures.answers in
+    let tree = program_tree c.in_ok-program.program in
+    record {
+      accepted = accepted c.accepted_programs.ensures c.printable_tokens.ensures c.printable_trees.ensures
+          c.printable_programs.ensures c.args.source.now c.deref.result.now tree c.in_ok-checked.checked lexed parsed
+          checked.0 checked.1;
+      printable = printable c.accepted_programs.ensures c.printable_tokens.ensures c.printable_trees.ensures
+          c.printable_programs.ensures c.args.source.now c.deref.result.now tree c.in_ok-checked.checked lexed parsed
+          checked.0 checked.1;
+      light = light c.accepted_programs.ensures c.printable_tokens.ensures c.printable_trees.ensures
+          c.printable_programs.ensures c.args.source.now c.deref.result.now tree c.in_ok-checked.checked lexed parsed
+          checked.0 checked.1 c.small_sources_have_small_code.ensures c.args.version;
+    }
+
+pub returns-in-Ok-clause-compiles : goal.returns-in-Ok-clause-compiles
+returns-in-Ok-clause-compiles c =
     let lexed : Lexes 0 1 c.args.source.now (Ok (source_tokens c.deref.result.now)) =
     subst (λ ts. Lexes 0 1 c.args.source.now (Ok (source_tokens ts))) (sym c.deref.ensures.value)
     c.in_ok-tokens.ensures.meets in
     let found = c.in_ok-program.ensures.found in
     let checked = c.in_ok-checked.ensures.answers in
-    fits c.accepted_programs.ensures c.printable_tokens.ensures c.printable_trees.ensures c.printable_programs.ensures
-    c.small_sources_have_small_code.ensures
-    c.args.version c.args.source.now c.deref.result.now (program_tree c.in_ok-program.program) c.in_ok-checked.checked
-    lexed found.0 checked.0 checked.1 (sym c.in_ok-test_sizes_placed.ensures.fault)
-
-pub returns-clause-compiles : goal.returns-clause-compiles
-returns-clause-compiles c =
-    let lexed : Lexes 0 1 c.args.source.now (Ok (source_tokens c.deref.result.now)) =
-    subst (λ ts. Lexes 0 1 c.args.source.now (Ok (source_tokens ts))) (sym c.deref.ensures.value)
-    c.in_ok-tokens.ensures.meets in
-    let found = c.in_ok-program.ensures.found in
-    let checked = c.in_ok-checked.ensures.answers in
+    let sized = subst (IsStoryWithin c.args.limit c.args.version c.in_ok-checked.checked) c.in-Ok.is
+    c.in_ok-sized.ensures in
     compiled c.accepted_programs.ensures c.printable_tokens.ensures c.printable_trees.ensures
-    c.printable_programs.ensures c.small_sources_have_small_code.ensures
-    c.args.version c.args.source.now c.deref.result.now (program_tree c.in_ok-program.program) c.in_ok-checked.checked
-    lexed found.0 checked.0 checked.1 (sym c.in_ok-test_sizes_placed.ensures.fault)
-    c.stories_hold.ensures c.code_plays.ensures c.of_bytes.result c.of_bytes.ensures.small (c.of_bytes.ensures.value
-    ∙ c.in_ok-bytes.ensures) found.1
+    c.printable_programs.ensures c.args.source.now c.deref.result.now (program_tree c.in_ok-program.program)
+    c.in_ok-checked.checked lexed found.0 checked.0 checked.1
+    c.stories_hold.ensures c.code_plays.ensures c.args.limit c.args.version sized.0 sized.2
+    c.of_bytes.result c.of_bytes.ensures.small (c.of_bytes.ensures.value ∙ sized.1) found.1
 
 -- ---- the place of a fault
 
@@ -117,20 +125,19 @@ returns-in_err-checked-clause-stands c =
     (unchecked_stands c.args.source.now p c.in_err-checked.field-0.0
     (is_tree c.args.source.now c.deref.result.now lexed p found.0 found.1) c.in_err-checked.ensures.stands)
 
-pub returns-in_err-test_sizes_placed-clause-stands : goal.returns-in_err-test_sizes_placed-clause-stands
-returns-in_err-test_sizes_placed-clause-stands c =
+pub returns-in-Err-clause-stands : goal.returns-in-Err-clause-stands
+returns-in-Err-clause-stands c =
     let lexed : Lexes 0 1 c.args.source.now (Ok (source_tokens c.deref.result.now)) =
     subst (λ ts. Lexes 0 1 c.args.source.now (Ok (source_tokens ts))) (sym c.deref.ensures.value)
     c.in_ok-tokens.ensures.meets in
     let found = c.in_ok-program.ensures.found in
     let p = program_tree c.in_ok-program.program in
-    stands_answered c.args.source.now c.from_residual-in_err-test_sizes_placed.result
-    c.in_err-test_sizes_placed.field-0.0 c.from_residual-in_err-test_sizes_placed.ensures
-    (too_large_stands c.args.source.now p c.in_ok-checked.checked c.in_err-test_sizes_placed.field-0.0
-    (is_tree c.args.source.now c.deref.result.now lexed p found.0 found.1) c.in_ok-checked.ensures.answers.1
-    c.in_err-test_sizes_placed.ensures.stands)
+    let large = subst (IsStoryWithin c.args.limit c.args.version c.in_ok-checked.checked) c.in-Err.is
+    c.in_ok-sized.ensures in
+    too_large_stands c.args.source.now p c.in_ok-checked.checked c.in-Err.placed
+    (is_tree c.args.source.now c.deref.result.now lexed p found.0 found.1) c.in_ok-checked.ensures.answers.1 large.1
 
-pub returns-in_err-bytes-clause-stands : goal.returns-in_err-bytes-clause-stands
-returns-in_err-bytes-clause-stands c =
-    stands_answered c.args.source.now c.from_residual-in_err-bytes.result (nowhere no_memory)
-    c.from_residual-in_err-bytes.ensures (refused_stands c.args.source.now (nowhere no_memory) refl)
+pub returns-in_err-sized-clause-stands : goal.returns-in_err-sized-clause-stands
+returns-in_err-sized-clause-stands c =
+    stands_answered c.args.source.now c.from_residual-in_err-sized.result (nowhere no_memory)
+    c.from_residual-in_err-sized.ensures (refused_stands c.args.source.now (nowhere no_memory) refl)

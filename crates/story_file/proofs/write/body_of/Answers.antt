@@ -7,9 +7,9 @@ use Rattle.meaning.specs.Places.{arrays_place, routines_place}
 use Rattle.meaning.specs.Views.{program_of}
 use Rattle.code_encoding.specs.Written.{addresses_of}
 use Rattle.story_file.specs.Layout.{fault_texts, packed_addresses, addresses_from, array_addresses, addresses_in}
-use Rattle.story_file.specs.Written.{bytes_in, end_from, packed_from}
+use Rattle.story_file.specs.Written.{bytes_in, codes_in, end_from, packed_from}
 use Rattle.story_file.proofs.Laid.{packed_within, packed_counted, packed_are, found_at, codes_counted, codes_ready}
-use Rattle.story_file.proofs.Laid.{addresses_are, arrays_within, body_laid, codes_in, sizes_of_texts}
+use Rattle.story_file.proofs.Laid.{addresses_are, arrays_within, body_laid, sizes_of_texts}
 use Rattle.story_file.proofs.write.body_of.Goals as goal
 
 pub packed_addresses-requires : goal.packed_addresses-requires
@@ -19,7 +19,7 @@ packed_addresses-requires c =
     ≤ 65535 * scale_of c.args.version)
     (sym c.requires.at)
     (packed_within c.args.version (program_of c.args.checked.now) c.deref.result.now texts c.deref-3.result.now
-    c.requires.fits (c.deref.ensures.value ∙ c.in_ok-codes.ensures) c.in_ok-texts.ensures
+    c.requires.fits (c.deref.ensures.value ∙ c.requires.codes) c.in_ok-texts.ensures
     (c.deref-3.ensures.value ∙ sizes_of_texts c.deref.result.now c.in_ok-texts.texts.items c.deref-2.result.now
     c.in_ok-sizes.sizes.items c.add_text_sizes.new.sizes.items c.deref-2.ensures.value c.in_ok-sizes.ensures
     c.in_ok-add_text_sizes.ensures))
@@ -46,7 +46,7 @@ index-requires c =
     c.in_ok-sizes.sizes.items c.add_text_sizes.new.sizes.items c.deref-2.ensures.value c.in_ok-sizes.ensures
     c.in_ok-add_text_sizes.ensures) c.in_ok-packed.ensures in
     let codes = codes_counted (program_of c.args.checked.now) c.deref.result.now (c.deref.ensures.value
-    ∙ c.in_ok-codes.ensures) in
+    ∙ c.requires.codes) in
     omega (arith, count, codes, c.requires.fits.accepted.main, c.main.ensures, c.in_ok-packed.packed.ok.0)
 
 pub put_low-requires-clause-objects : goal.put_low-requires-clause-objects
@@ -69,13 +69,13 @@ put_low-requires-clause-printable c = c.requires.fits.printable.2
 pub put_routines-requires : goal.put_routines-requires
 put_routines-requires c =
     codes_ready c.args.version (program_of c.args.checked.now) c.deref-6.result.now c.requires.fits
-    (c.deref-6.ensures.value ∙ c.in_ok-codes.ensures)
+    (c.deref-6.ensures.value ∙ c.requires.codes)
 
 pub returns : goal.returns
 returns c =
     let p = program_of c.args.checked.now in
     let texts : List (List ℕ) = map bytes_in c.in_ok-texts.texts.items in
-    let codes : c.deref.result.now ≡ codes_in p = c.deref.ensures.value ∙ c.in_ok-codes.ensures in
+    let codes : c.deref.result.now ≡ codes_in p = c.deref.ensures.value ∙ c.requires.codes in
     let from_place : c.in_ok-packed.packed.items
     ≡ packed_from (scale_of c.args.version) (routines_place p) c.deref-3.result.now =
     c.in_ok-packed.ensures
@@ -109,7 +109,7 @@ returns c =
     c.index.ensures ∙ found_at c.in_ok-packed.packed.items c.main.result c.index.result.now there
     ∙ ap (λ n. slice_index c.in_ok-packed.packed.items n) c.main.ensures
     ∙ ap (λ xs. slice_index xs p.main) (sym same) in
-    let again : c.deref-6.result.now ≡ codes_in p = c.deref-6.ensures.value ∙ c.in_ok-codes.ensures in
+    let again : c.deref-6.result.now ≡ codes_in p = c.deref-6.ensures.value ∙ c.requires.codes in
     let printed : map bytes_in c.deref-7.result.now ≡ fault_texts =
     ap (λ (xs : List (Vec ℕ)). map bytes_in xs) c.deref-7.ensures.value ∙ c.in_ok-texts.ensures in
     body_laid c.args.version p c.deref-6.result.now a (map bytes_in c.deref-7.result.now)

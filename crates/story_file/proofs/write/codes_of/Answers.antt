@@ -2,7 +2,8 @@ use Rattle.std.proofs.Common.{◌<◌, ◌++◌, [], ◌∷◌, length, take, ar
 use Rattle.std.proofs.lemmas.List.{length-map}
 use Rattle.meaning.specs.Views.{program_of, routine_of}
 use Rattle.code.specs.HeldProgram.{sizes_of}
-use Rattle.story_file.proofs.Laid.{code_next, codes_in}
+use Rattle.story_file.specs.Written.{codes_in}
+use Rattle.story_file.proofs.Laid.{code_next}
 use Rattle.story_file.proofs.write.codes_of.Goals as goal
 
 pub loop-routine-preserved : goal.loop-routine-preserved

@@ -1,6 +1,6 @@
 use Rattle.std.proofs.Common.{◌≡◌, take}
 use Rattle.meaning.specs.Views.{program_of}
-use Rattle.story_file.proofs.Laid.{codes_in}
+use Rattle.story_file.specs.Written.{codes_in}
 use Rattle.story_file.proofs.write.codes_of.Given as goal
 
 abbrev pub invariant-loop-routine : goal.invariant-loop-routine

@@ -1,11 +1,8 @@
 use Rattle.std.proofs.Common.{refl, arith, ◌∙◌, slice_index}
-use Rattle.zcore.specs.Turn.{TurnsBy}
-use Rattle.zcore_standard.specs.Machine.{standard, standard_ended, begins}
 use Rattle.machine_frames.proofs.Steps.{goes_on_after, given_up_after}
 use Rattle.machine_frames.specs.States.{beside_of}
-use Rattle.machine_lines.proofs.Lines.{answers_on, answers_stop}
 use Rattle.machine.proofs.Turning.{front_still, front_with, ends_after, ends_given_up}
-use Rattle.machine.proofs.Waiting.{given_goes_on}
+use Rattle.machine_standard.proofs.Answering.{answers_on, answers_stop, given_waits}
 use Rattle.machine_standard.proofs.Whole.{store_goes_on, stopped_standard}
 use Rattle.machine_standard.proofs.turn.StandardMachine.answer.Goals as goal
 
@@ -22,11 +19,9 @@ pub returns-in-Ok : goal.returns-in-Ok
 returns-in-Ok c =
     let w = c.requires.waiting in
     let given = c.in-Ok.ensures w.pending w.waits in
-    let b = beside_of (slice_index c.args.store.now.store.cells) in
     let played = rw c.beside-kept.ensures at c.play.ensures in
     ends_after _ given.told.0
-    (answers_on (λ next t whole. TurnsBy (standard c.args.self.now.loaded) (begins b next) t whole)
-    (λ next. standard_ended (begins b next)) _ _ c.args.store.now.store _ w.pending c.in-Ok.first _ _ w.waits
+    (answers_on c.args.self.now.loaded _ _ c.args.store.now.store _ w.pending c.in-Ok.first _ _ w.waits
     given.told.1 played.whole) played
 
 pub returns-in-Err-Memory : goal.returns-in-Err-Memory
@@ -49,12 +44,12 @@ returns-in_ok-end-in-Err-Stop c =
     let e = c.in_ok-end-in-Err-Stop.ensures in
     let b = beside_of (slice_index c.args.store.now.store.cells) in
     record {
-      whole = answers_stop (λ next t whole. TurnsBy (standard c.args.self.now.loaded) (begins b next) t whole)
-          (λ next. standard_ended (begins b next)) _ c.args.store.now.store c.give_line.new.store.store c.args.fuel _
+      whole = answers_stop c.args.self.now.loaded _ c.args.store.now.store c.give_typed.new.store.store c.args.fuel _
           w.pending _ _ w.waits given.told.1 c.program_counter.ensures
-          (stopped_standard c.give_line.new.store.store c.end.new.store.store b c.args.fuel _ _
+          (stopped_standard c.give_typed.new.store.store c.end.new.store.store b c.args.fuel _ _
           c.args.text.now.items c.end.new.text.items e.kept.1 e.kept.2 (e.beside ∙ c.beside-kept.ensures) e.text);
-      waits = λ waits. absurd (given_goes_on w.pending _ _ _ _ _ given.told.1 waits);
+      waits = λ waits. given_waits w.pending _ _ _ c.give_typed.new.store.store c.end.new.store.store _ given.told.1 e.kept.1
+          waits;
       goes_on = goes_on_after given.told.0 e.kept.0;
       given_up = tt;
       front = front_with _ _ _ _ (front_still _ _ refl) (omega arith) e.text;

@@ -1,33 +1,53 @@
-use Rattle.std.proofs.Common.{ap, ◌∙◌, length, take}
-use Rattle.zcore_standard.specs.Machine.{begins}
+use Rattle.std.proofs.Common.{◌≡◌, [], ap, ◌∙◌, length, take, subst, arith, drop}
+use Rattle.zcore_standard.specs.Machine.{standard_step}
 use Rattle.machine_frames.proofs.Steps.{goes_on_after, given_up_after}
+use Rattle.machine_frames.specs.Playing.{StopsBy}
+use Rattle.machine_frames.specs.States.{state_of}
 use Rattle.machine.proofs.Turning.{front_with, ends_given_up}
-use Rattle.machine_standard.proofs.Whole.{standard_whole, standard_waits}
+use Rattle.machine_standard_opcodes.specs.Around.{place}
+use Rattle.machine_standard_opcodes.proofs.Cuts.{keeps_begun, keeps_after}
+use Rattle.machine_standard.proofs.Whole.{standard_whole, standard_waits, begun_place, keeps_at, front_kept}
 use Rattle.machine_standard.proofs.turn.StandardMachine.play_on.Goals as goal
+
+pub cut_to_shown-requires : goal.cut_to_shown-requires
+cut_to_shown-requires c =
+    let e : length c.args.text.now.items ≡ c.len-start.result = omega arith in
+    keeps_begun (keeps_at _ _ _ _ e c.run.ensures.text)
 
 pub end-requires : goal.end-requires
 end-requires c = c.in_ok-here.ensures.goes_on.sound
 
 pub returns-in_err-here : goal.returns-in_err-here
-returns-in_err-here c = ends_given_up _ _ c.from_residual.ensures.1 c.in_err-here.ensures.given_up c.run.ensures.front
+returns-in_err-here c = ends_given_up _ _ c.from_residual.ensures.1 c.in_err-here.ensures.given_up
+    (front_kept _ _ c.run.ensures.text)
 
 pub returns-in_err-end : goal.returns-in_err-end
 returns-in_err-end c =
+    let e : c.len-start.result ≡ length c.args.text.now.items = omega arith in
     ends_given_up _ _ c.from_residual-in_err-end.ensures.1
     (given_up_after c.in_ok-here.ensures.goes_on c.in_err-end.ensures.given_up)
-    (ap (take (length c.args.text.now.items)) c.in_err-end.ensures.same ∙ c.run.ensures.front)
+    (ap (take (length c.args.text.now.items)) c.in_err-end.ensures.same
+    ∙ front_kept _ _ (keeps_after c.run.ensures.text (keeps_at _ _ _ _ e c.cut_to_shown.ensures.text)))
 
 pub returns : goal.returns
 returns c =
     let r = c.in_ok-here.ensures in
     let e = c.in_ok-end.ensures in
+    let long : c.len-start.result ≡ length c.args.text.now.items = omega arith in
+    let all = keeps_after c.run.ensures.text (keeps_at _ _ _ _ long c.cut_to_shown.ensures.text) in
+    let stops = subst (λ first. StopsBy (standard_step c.args.self.now.loaded) first (state_of c.args.store.now.store [])
+    (place c.run.new.around c.in_ok-here.here) c.in_ok-here.place
+    (state_of c.run.new.store.store (drop (length c.args.text.now.items) c.run.new.text.items)))
+    (begun_place _ c.args.kept c.args.first c.new-around.ensures.beside c.new-around.ensures.streams
+    c.new-around.ensures.upper) r.stops in
     record {
-      whole = standard_whole c.args.self.now.loaded _ c.run.new.beside c.in_ok-here.here c.in_ok-here.place _
-          c.run.new.store.store c.end.new.store.store c.run.new.text.items c.end.new.text.items
-          (length c.args.text.now.items) r.stops e.kept.1 e.kept.2 e.beside e.text c.run.ensures.longer;
-      waits = λ waits. standard_waits c.args.self.now.loaded _ (begins c.run.new.beside c.in_ok-here.here)
+      whole = standard_whole c.args.self.now.loaded _ c.run.new.around c.in_ok-here.here c.in_ok-here.place _
+          c.run.new.store.store c.end.new.store.store c.run.new.text.items c.cut_to_shown.new.text.items
+          c.end.new.text.items (length c.args.text.now.items) stops e.kept.1 e.kept.2 e.beside
+          (rw long at c.cut_to_shown.ensures.shown c.in_ok-here.here) e.text all.begun;
+      waits = λ waits. standard_waits c.args.self.now.loaded _ (place c.run.new.around c.in_ok-here.here)
           c.in_ok-here.place _ c.run.new.store.store c.end.new.store.store _ r.stops e.kept.1 waits;
       goes_on = goes_on_after r.goes_on e.kept.0;
       given_up = tt;
-      front = front_with _ _ _ _ c.run.ensures.front c.run.ensures.longer e.text;
+      front = front_with _ _ _ _ (front_kept _ _ all) all.begun e.text;
     }

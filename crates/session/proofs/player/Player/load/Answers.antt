@@ -1,4 +1,4 @@
-use Rattle.std.proofs.Common.{Some, subst, sym}
+use Rattle.std.proofs.Common.{subst, sym}
 use Rattle.session.specs.Players.{IsPlayerOf}
 use Rattle.session.proofs.Players.{standard_known, standard_player}
 use Rattle.session.proofs.player.Player.load.Goals as goal

@@ -1,4 +1,4 @@
-use Rattle.std.proofs.Common.{◌≡◌, ℕ, ◌∙◌, ap, sym, subst, refl, drop, length, List, []}
+use Rattle.std.proofs.Common.{◌≡◌, ℕ, ap, sym, subst, refl, drop, length, List, []}
 use Rattle.journal.specs.Recording.{Recording}
 use Rattle.machine_frames.specs.Contents.{Contents}
 use Rattle.machine_frames.specs.States.{IsStoreOf}

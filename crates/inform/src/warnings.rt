@@ -1,0 +1,16 @@
+//! Likely mistakes in an accepted source, on standard error.
+
+use messages_warnings::warning_lines;
+use one_line::OneLine;
+use std::alloc::AllocError;
+
+/// Says on standard error what is likely a mistake in the source of a name.
+///
+/// # Errors
+///
+/// `AllocError` where memory is refused; then nothing is said.
+pub fn warn(rt: &HostRuntime, name: &str, source: &[u8]) -> Result<(), AllocError> {
+    let lines = warning_lines(rt.alloc(), source, OneLine(name))?;
+    let _ = eprint!(rt; "{lines}");
+    Ok(())
+}

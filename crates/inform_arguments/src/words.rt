@@ -1,0 +1,66 @@
+//! What the words of the command line ask for.
+
+use clap::ArgMatches;
+use zcore::Version;
+
+/// What the command line asks for.
+#[derive(Clone, Copy)]
+pub enum Asked<'a> {
+    /// To explain the fault of this name, or without one to list all faults.
+    Explain(Option<&'a str>),
+
+    /// To compile a source.
+    Compile(Words<'a>),
+
+    /// To print how much the source file of this name takes as a story of a version, and whether the
+    /// story may be large.
+    Sizes(&'a str, Version, bool),
+}
+
+/// What is compiled to what.
+#[derive(Clone, Copy)]
+pub struct Words<'a> {
+    /// The source file's name.
+    pub source: &'a str,
+
+    /// The name of the story file to write; `None` if the source file is only checked.
+    pub story: Option<&'a str>,
+
+    /// The version of the story file.
+    pub version: Version,
+
+    /// Whether the length of the story is limited instead of the weight of the source.
+    pub large: bool,
+
+    /// Whether to show where a fault is.
+    pub show: bool,
+
+    /// Whether to warn of likely mistakes.
+    pub warn: bool,
+}
+
+/// What the words of a command line that passed `command` ask for; `None` if they name a version
+/// other than 5 and 8.
+pub fn words_of<'a>(matches: &ArgMatches<'a>) -> Option<Asked<'a>> {
+    if matches.contains_id("explain") {
+        return Some(Asked::Explain(matches.get_str("explain")));
+    }
+    let version = match matches.get_one::<u32>("version_number") {
+        None | Some(5) => Version::V5,
+        Some(8) => Version::V8,
+        Some(_) => return None,
+    };
+    let source = matches.get_str("source").unwrap_or("");
+    let large = matches.get_flag("large");
+    if matches.get_flag("sizes") {
+        return Some(Asked::Sizes(source, version, large));
+    }
+    Some(Asked::Compile(Words {
+        source,
+        story: matches.get_str("story"),
+        version,
+        large,
+        show: matches.get_flag("show"),
+        warn: matches.get_flag("warn"),
+    }))
+}

@@ -1,0 +1,124 @@
+//! From the text of a turn to ZSCII (Z-Machine Standards Document 1.1, section 3.8).
+
+ghost use Rattle.std.specs.Prelude.{◌≡◌, ◌≤◌, ◌++◌, length, take, drop, IfOk, OnOk, OnErr};
+ghost use Rattle.zcore_standard.specs.Streams as definitions;
+ghost use Rattle.machine_standard_opcodes.specs.Begun.{IsBegun, AddsWhole};
+
+use std::alloc::AllocError;
+use zcore::layout::NEW_LINE;
+use zcore_standard::Begun;
+
+/// The first byte of UTF-8 that begins a character of two bytes or more.
+const TWO_BYTES: u8 = 0x80;
+
+/// The first byte that begins a character of three.
+const THREE_BYTES: u8 = 0xE0;
+
+/// How many values a byte has that goes on with a character.
+const FURTHER: u8 = 0x40;
+
+/// The ZSCII code of the first character of a Unicode table.
+const FIRST_EXTRA: u8 = 155;
+
+/// How many characters of a Unicode table have a code.
+const MOST_EXTRA: usize = 97;
+
+/// No character has begun.
+const BETWEEN: Begun = Begun { bits: 0, more: 0 };
+
+/// Adds to a text the ZSCII codes of its bytes from one on, where these are the characters of the
+/// codes from 155 on. At `Err` memory was refused, and a part of them may stand.
+pub(crate) fn add_zscii(text: &mut Vec<u8>, from: usize, extra: &[u16]) -> Result<(), AllocError>
+    requires { from ≤ length text.old.items }
+    ensures added { OnOk result
+        (text.new.items ≡ text.old.items ++ definitions.zscii_in extra.now (drop from text.old.items)) }
+    ensures front { take (length text.old.items) text.new.items ≡ text.old.items }
+{
+    let end = text.len();
+    let mut begun = BETWEEN;
+    for i in from..end {
+        let next = next_byte(begun, text[i]);
+        begun = add_whole(text, extra, next)?;
+    }
+    Ok(())
+}
+
+/// Adds the code of a character that is whole, and begins another. One that is not whole goes on.
+fn add_whole(text: &mut Vec<u8>, extra: &[u16], begun: Begun) -> Result<Begun, AllocError>
+    ensures added { IfOk result
+        (AddsWhole extra.now begun text.old.items text.new.items) }
+    ensures same { OnErr result (text.new.items ≡ text.old.items) }
+{
+    if begun.more != 0 {
+        return Ok(begun);
+    }
+    text.push(zscii_of(extra, begun.bits))?;
+    Ok(BETWEEN)
+}
+
+/// A character with its first byte.
+fn first_byte(byte: u8) -> Begun
+    ensures same { result ≡ definitions.first_byte byte }
+    ensures begun { IsBegun result }
+{
+    if byte < TWO_BYTES {
+        Begun {
+            bits: byte as u32,
+            more: 0,
+        }
+    } else if byte < THREE_BYTES {
+        Begun {
+            bits: (byte % 32) as u32,
+            more: 1,
+        }
+    } else {
+        Begun {
+            bits: (byte % 16) as u32,
+            more: 2,
+        }
+    }
+}
+
+/// A character with a byte more.
+fn next_byte(begun: Begun, byte: u8) -> Begun
+    requires { IsBegun begun }
+    ensures same { result ≡ definitions.next_byte begun byte }
+    ensures begun { IsBegun result }
+{
+    if begun.more == 0 {
+        return first_byte(byte);
+    }
+    Begun {
+        bits: begun.bits * FURTHER as u32 + (byte % FURTHER) as u32,
+        more: begun.more - 1,
+    }
+}
+
+/// The ZSCII code of a Unicode character, where these are the characters of the codes from 155 on.
+/// One that has none is a question mark.
+fn zscii_of(extra: &[u16], character: u32) -> u8
+    ensures { result ≡ definitions.zscii_of extra.now character }
+{
+    if character == b'\n' as u32 {
+        NEW_LINE
+    } else if character < TWO_BYTES as u32 {
+        character as u8
+    } else {
+        code_among(extra, character)
+    }
+}
+
+/// The code of one of these characters, which have the codes from 155 on, or a question mark.
+fn code_among(extra: &[u16], character: u32) -> u8
+    ensures { result ≡ definitions.code_among (take definitions.most_extra extra.now)
+        definitions.first_extra character }
+{
+    let count = extra.len().min(MOST_EXTRA);
+    for i in 0..count {
+        let candidate = extra[i] as u32;
+        if candidate == character {
+            return FIRST_EXTRA + i as u8;
+        }
+    }
+    b'?'
+}

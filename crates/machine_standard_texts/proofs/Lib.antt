@@ -1,0 +1,4 @@
+pub mod Printed
+pub mod Read
+pub mod Refused
+pub mod Adding

@@ -1,0 +1,3 @@
+pub mod Put
+pub mod Pieces
+pub mod Read

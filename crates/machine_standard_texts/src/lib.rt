@@ -1,0 +1,14 @@
+//! Opcodes that print texts and characters, where any ZSCII code may stand: what the profile prints
+//! is printed by its own functions, and what it refuses by M10 as the Standard says.
+#![tactic(auto)]
+
+mod characters;
+mod pieces;
+mod printing;
+mod reading;
+mod words;
+
+pub use printing::{
+    print_address, print_character, print_code, print_inline, print_object, print_packed,
+    print_return,
+};

@@ -1,0 +1,53 @@
+//! The key that a line is (Z-Machine Standards Document 1.1, sections 3.8 and 15, `read_char`).
+
+ghost use Rattle.std.specs.Prelude.{◌≡◌};
+ghost use Rattle.zcore_standard.specs.Reading as definitions;
+
+use zcore::layout::NEW_LINE;
+
+// The ZSCII codes of keys that no line has a character for.
+const DELETE: u16 = 8;
+
+const ESCAPE: u16 = 27;
+
+const UP: u16 = 129;
+
+const DOWN: u16 = 130;
+
+const LEFT: u16 = 131;
+
+const RIGHT: u16 = 132;
+
+/// The key that a line is where a key is waited for: one of six that are named, or the first
+/// character of the line, or, for an empty line, the key that ends a line.
+#[tactic(auto, unfolding(zcore_standard::specs::Reading::key_of_line))]
+pub(crate) fn key_of_line(line: &[u8]) -> u16
+    ensures { result ≡ definitions.key_of_line line.now }
+{
+    if line == b"/key up".as_slice() {
+        UP
+    } else if line == b"/key down".as_slice() {
+        DOWN
+    } else if line == b"/key left".as_slice() {
+        LEFT
+    } else if line == b"/key right".as_slice() {
+        RIGHT
+    } else if line == b"/key escape".as_slice() {
+        ESCAPE
+    } else if line == b"/key delete".as_slice() {
+        DELETE
+    } else {
+        first_key(line)
+    }
+}
+
+/// The first character of a line, or the key that ends a line.
+fn first_key(line: &[u8]) -> u16
+    ensures { result ≡ definitions.first_key line.now }
+{
+    if line.is_empty() {
+        NEW_LINE as u16
+    } else {
+        line[0] as u16
+    }
+}

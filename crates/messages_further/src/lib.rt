@@ -1,0 +1,6 @@
+//! The broken rules of a source after the first.
+#![tactic(auto)]
+
+mod further;
+
+pub use further::{Further, MOST_SHOWN, further_rules};

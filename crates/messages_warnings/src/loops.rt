@@ -1,0 +1,134 @@
+//! The loops around a place.
+
+use crate::numbers::NONE;
+use messages_contexts::{behind, is_sign, is_word, kind_at};
+use std::alloc::{AllocError, Global};
+use syntax_lexer::{Kind, Sign, Token, Word};
+
+/// A statement that has begun and not ended.
+#[derive(Clone, Copy)]
+enum Unended {
+    /// `{` and what follows
+    Block,
+
+    /// `if`, whose first part is not ended
+    If,
+
+    /// `else`
+    Else,
+
+    /// A loop, whose body ends it; of a `do` what is after its body
+    Loop,
+
+    /// `do`, whose body is not ended
+    Do,
+}
+
+/// The statements around a place, and the loops among them.
+#[derive(Drop)]
+pub struct Around {
+    unended: Vec<Unended>,
+
+    /// How many of them are loops.
+    loops: usize,
+
+    /// The token with which the outermost loop begins; [`NONE`] where there is no loop.
+    pub outermost: usize,
+}
+
+impl Around {
+    /// Outside of all routines.
+    pub fn none(alloc: Global) -> Around {
+        Around {
+            unended: Vec::new(alloc),
+            loops: 0,
+            outermost: NONE,
+        }
+    }
+
+    /// A loop begins with the token of a number.
+    fn enter(&mut self, at: usize, begun: Unended) -> Result<(), AllocError> {
+        self.unended.push(begun)?;
+        if self.loops == 0 {
+            self.outermost = at;
+        }
+        self.loops = self.loops.saturating_add(1);
+        Ok(())
+    }
+
+    /// The last statement ends.
+    fn leave(&mut self) {
+        if let Some(Unended::Loop) = self.unended.pop() {
+            self.loops = self.loops.saturating_sub(1);
+            if self.loops == 0 {
+                self.outermost = NONE;
+            }
+        }
+    }
+
+    /// Whether a statement goes on after one in it that ended, before an `else` or not. One that
+    /// does has its next part before it.
+    fn goes_on(&mut self, has_else: bool) -> bool {
+        match self.unended.last_mut() {
+            None => true,
+            Some(last) => match *last {
+                Unended::Block => true,
+                Unended::If => {
+                    *last = Unended::Else;
+                    has_else
+                }
+                Unended::Do => {
+                    *last = Unended::Loop;
+                    true
+                }
+                Unended::Else => false,
+                Unended::Loop => false,
+            },
+        }
+    }
+
+    /// A statement ends, and with it each that it ends.
+    fn end(&mut self, has_else: bool) {
+        for _ in 0..self.unended.len() {
+            if self.goes_on(has_else) {
+                return;
+            }
+            self.leave();
+        }
+    }
+
+    /// Takes a reserved word, which is the token of a number.
+    fn take_word(&mut self, word: Word, at: usize) -> Result<(), AllocError> {
+        match word {
+            Word::If => {
+                self.unended.push(Unended::If)?;
+                Ok(())
+            }
+            Word::While => self.enter(at, Unended::Loop),
+            Word::For => self.enter(at, Unended::Loop),
+            Word::Objectloop => self.enter(at, Unended::Loop),
+            Word::Do => self.enter(at, Unended::Do),
+            _ => Ok(()),
+        }
+    }
+
+    /// Takes the next token of a routine, which has a number.
+    ///
+    /// # Errors
+    ///
+    /// `AllocError` where memory is refused.
+    pub fn take(&mut self, tokens: &[Token<'_>], at: usize) -> Result<(), AllocError> {
+        if let Kind::Reserved(word) = kind_at(tokens, at) {
+            return self.take_word(word, at);
+        }
+        if is_sign(tokens, at, Sign::OpenBrace) {
+            self.unended.push(Unended::Block)?;
+        } else if is_sign(tokens, at, Sign::CloseBrace) {
+            self.leave();
+            self.end(is_word(tokens, behind(at, 1), Word::Else));
+        } else if is_sign(tokens, at, Sign::Semicolon) {
+            self.end(is_word(tokens, behind(at, 1), Word::Else));
+        }
+        Ok(())
+    }
+}
