@@ -12,7 +12,7 @@ pub const MOST_SHOWN: usize = 20;
 
 /// The most tokens of a source whose further broken rules are looked for: each takes a check of the
 /// whole source.
-pub const MOST_TOKENS: usize = 60_000;
+pub const MOST_TOKENS: usize = 400_000;
 
 /// Broken rules after the first.
 #[derive(Drop)]
