@@ -10,6 +10,10 @@ use syntax_lexer::{NO_MEMORY, PlacedFault, Position, lex};
 /// How many broken rules are shown after the first.
 pub const MOST_SHOWN: usize = 20;
 
+/// The most tokens of a source whose further broken rules are looked for: each takes a check of the
+/// whole source.
+pub const MOST_TOKENS: usize = 400_000;
+
 /// Broken rules after the first.
 #[derive(Drop)]
 pub struct Further {
@@ -21,7 +25,8 @@ pub struct Further {
 }
 
 /// The rules of programs that a source breaks after the first one. There is none if the first fault
-/// is no rule of programs: if the source is no program, or is too large.
+/// is no rule of programs: if the source is no program, or is too large. None is looked for in a
+/// source of more than [`MOST_TOKENS`] tokens.
 ///
 /// # Errors
 ///
@@ -43,6 +48,9 @@ pub fn further_rules(
         Err(fault) if fault.number == NO_MEMORY => return Err(AllocError),
         Err(_) => return Ok(further),
     };
+    if tokens.len() > MOST_TOKENS {
+        return Ok(further);
+    }
     match parse(alloc, &tokens) {
         Ok(program) => collect(alloc, source, &program, known, &mut further)?,
         Err(fault) if fault.number == NO_MEMORY => return Err(AllocError),

@@ -3,4 +3,4 @@
 
 mod further;
 
-pub use further::{Further, MOST_SHOWN, further_rules};
+pub use further::{Further, MOST_SHOWN, MOST_TOKENS, further_rules};
