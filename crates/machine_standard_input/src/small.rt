@@ -1,0 +1,114 @@
+//! Small letters (the Unicode Standard, section 4.2).
+
+ghost use Rattle.std.specs.Prelude.{◌≡◌};
+ghost use Rattle.std.specs.List.{find, list_any};
+ghost use Rattle.ztext.specs.Text as texts;
+ghost use Rattle.zcore_standard.specs.Characters.{extra_character};
+ghost use Rattle.zcore_standard.specs.Input as definitions;
+
+use crate::characters::{FIRST_EXTRA, UNKNOWN, zscii_of};
+
+/// Capitals that follow one another: the first, the last, and the small letter of the first.
+const CAPITALS: [(u16, u16, u16); 18] = [
+    (0xC0, 0xD6, 0xE0),
+    (0xD8, 0xDE, 0xF8),
+    (0x130, 0x130, 0x69),
+    (0x178, 0x178, 0xFF),
+    (0x37F, 0x37F, 0x3F3),
+    (0x386, 0x386, 0x3AC),
+    (0x388, 0x38A, 0x3AD),
+    (0x38C, 0x38C, 0x3CC),
+    (0x38E, 0x38F, 0x3CD),
+    (0x391, 0x3A1, 0x3B1),
+    (0x3A3, 0x3AB, 0x3C3),
+    (0x3CF, 0x3CF, 0x3D7),
+    (0x3F4, 0x3F4, 0x3B8),
+    (0x3F9, 0x3F9, 0x3F2),
+    (0x3FD, 0x3FF, 0x37B),
+    (0x400, 0x40F, 0x450),
+    (0x410, 0x42F, 0x430),
+    (0x4C0, 0x4C0, 0x4CF),
+];
+
+/// The first and the last capital of pairs, of which the next character is the small letter.
+const PAIRS: [(u16, u16); 14] = [
+    (0x100, 0x12E),
+    (0x132, 0x136),
+    (0x139, 0x147),
+    (0x14A, 0x176),
+    (0x179, 0x17D),
+    (0x370, 0x372),
+    (0x376, 0x376),
+    (0x3D8, 0x3EE),
+    (0x3F7, 0x3F7),
+    (0x3FA, 0x3FA),
+    (0x460, 0x480),
+    (0x48A, 0x4BE),
+    (0x4C1, 0x4CD),
+    (0x4D0, 0x4FE),
+];
+
+/// The code of the small letter, where a code is that of a capital, and the small letter has one;
+/// else the code itself. These are the characters of the codes from 155 on.
+#[tactic(auto, unfolding(zcore_standard::specs::Input::small))]
+pub(crate) fn small(extra: &[u16], code: u8) -> u8
+    ensures { result ≡ definitions.small extra.now code }
+{
+    if code < FIRST_EXTRA {
+        return lower_case(code);
+    }
+    let character = extra_character(extra, code);
+    let found = zscii_of(extra, small_character(character));
+    if found == UNKNOWN { code } else { found }
+}
+
+/// A capital of ASCII as a small letter.
+fn lower_case(letter: u8) -> u8
+    ensures { result ≡ texts.lower_case letter }
+{
+    if b'A' <= letter && letter <= b'Z' {
+        letter + 32
+    } else {
+        letter
+    }
+}
+
+/// The character of a code from 155 on, or a question mark.
+fn extra_character(extra: &[u16], code: u8) -> u16
+    requires { definitions.first_extra ≤ code }
+    ensures { result ≡ extra_character extra.now code }
+{
+    let place = (code - FIRST_EXTRA) as usize;
+    if place < extra.len() {
+        extra[place]
+    } else {
+        UNKNOWN as u16
+    }
+}
+
+/// The small letter of a capital; any other character itself.
+fn small_character(character: u16) -> u32
+    ensures { result ≡ definitions.small_character character }
+{
+    if PAIRS.iter().any(|pair| begins_pair(character, pair)) {
+        return character as u32 + 1;
+    }
+    match CAPITALS.iter().find(|row| is_among(character, row)) {
+        Some(row) => row.2 as u32 + (character - row.0) as u32,
+        None => character as u32,
+    }
+}
+
+/// Whether a character is a capital of pairs.
+fn begins_pair(character: u16, pair: &(u16, u16)) -> bool
+    ensures { result ≡ definitions.begins_pair character pair.now }
+{
+    pair.0 <= character && character <= pair.1 && (character - pair.0) % 2 == 0
+}
+
+/// Whether a character is one of some that follow one another.
+fn is_among(character: u16, row: &(u16, u16, u16)) -> bool
+    ensures { result ≡ definitions.is_among character row.now }
+{
+    row.0 <= character && character <= row.1
+}

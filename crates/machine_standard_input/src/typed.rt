@@ -1,0 +1,63 @@
+//! The characters of a line (Z-Machine Standards Document 1.1, sections 10.5 and 15).
+
+ghost use Rattle.std.specs.Prelude.{◌≡◌, ◌≤◌, ◌+◌, ◌++◌, length, map, take};
+ghost use Rattle.std.specs.List.{list_first};
+ghost use Rattle.zcore_standard.specs.Input as definitions;
+
+use crate::characters::{is_typed, zscii_of};
+use crate::small::small;
+
+/// Whether a story can be given a line, where these are the characters of the ZSCII codes from 155
+/// on: the line is UTF-8, and each of its characters is printed and has a code.
+pub fn can_be_typed(extra: &[u16], line: &[u8]) -> bool
+    ensures { result ≡ definitions.can_be_typed extra.now line.now }
+{
+    match str::from_utf8(line) {
+        Ok(text) => text.chars().all(|character| is_typed(extra, character as u32)),
+        Err(_) => false,
+    }
+}
+
+/// The text of a line; a line that is not UTF-8 has none.
+fn text_of(line: &[u8]) -> &str
+    ensures { result.now ≡ definitions.text_typed line.now }
+{
+    match str::from_utf8(line) {
+        Ok(text) => text,
+        Err(_) => "",
+    }
+}
+
+/// The ZSCII code of the first character of a line, if it has one.
+pub fn first_code(extra: &[u16], line: &[u8]) -> Option<u8>
+    ensures { result ≡ list_first (definitions.codes_typed extra.now line.now) }
+{
+    match text_of(line).chars().next() {
+        Some(character) => Some(zscii_of(extra, character as u32)),
+        None => None,
+    }
+}
+
+/// Writes the first characters of a line, at most so many, in small letters and in ZSCII to a row,
+/// after so many letters that it has. Answers how many letters it has then.
+pub fn put_small_letters(
+    extra: &[u16],
+    line: &[u8],
+    letters: &mut [u8; 255],
+    left: usize,
+    most: usize,
+) -> usize
+    requires { left + most ≤ 255 }
+    ensures most { result ≤ left + most }
+    ensures letters { take result letters.new ≡ take left letters.old
+        ++ map (definitions.small extra.now) (take most (definitions.codes_typed extra.now line.now)) }
+{
+    let mut end = left;
+    for character in text_of(line).chars() {
+        if end < left + most {
+            letters[end] = small(extra, zscii_of(extra, character as u32));
+            end += 1;
+        }
+    }
+    end
+}
