@@ -15,7 +15,6 @@ ghost use Rattle.machine_standard_opcodes.specs.Around.{place, Keeps};
 
 use crate::around::Around;
 use crate::beginning::fill;
-use crate::loaded::Loaded;
 use crate::windows::{drop_upper, settle};
 use crate::zscii::add_zscii;
 use journal::{NoMemory, Recorded};
@@ -23,7 +22,7 @@ use machine_frames::layout::MEMORY;
 use machine_frames::{End, Store};
 use zcore::layout::HEADER_LENGTH;
 use zcore::{Fault, Header, Next, Place};
-use zcore_standard::Stream;
+use zcore_standard::{Loaded, Stream};
 
 /// The stream that goes to a table in memory (section 7.1.2).
 const MEMORY_STREAM: u16 = 3;

@@ -168,7 +168,7 @@ fn perform_keeping(
     match operation {
         Further::PrintUnicode => print_unicode(store, text, start, here, after, values[0]),
         Further::PrintTable => print_rows(store, text, start, loaded, here, after, values),
-        _ => perform_quietly(header, store, here, operation, values, ending),
+        _ => perform_quietly(header, store, loaded, here, operation, values, ending),
     }
 }
 

@@ -46,7 +46,7 @@ pub fn step_standard(
     ensures around { OnErr result (around.new ≡ around.old) }
 {
     match further_at(store.store().memory(), here.program_counter as usize) {
-        None => step_known(header, store, text, start, loaded.characters(), here),
+        None => step_known(header, store, text, start, loaded, here),
         Some(operation) => {
             step_further(header, store, text, start, loaded, around, here, operation)
         }

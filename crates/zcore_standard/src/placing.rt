@@ -24,6 +24,12 @@ const ABBREVIATIONS_LENGTH: usize = 2 * MOST_ABBREVIATIONS;
 /// The word of the extension that is the address of the Unicode table (section 11.1.7).
 const UNICODE_TABLE: u16 = 3;
 
+/// The header's word for the address of the story's own alphabets (section 3.5.5).
+const ALPHABETS_WORD: usize = 0x34;
+
+/// The three alphabets have 26 letters each, of a byte.
+pub(crate) const ALPHABETS_LENGTH: usize = 78;
+
 /// The bytes of the longest extension: a word that counts, and the words.
 const LONGEST_EXTENSION: usize = 0x2_0000;
 
@@ -95,6 +101,14 @@ fn has_unicode(story: &[u8]) -> bool
     is_table(story, table, 1 + 2 * count)
 }
 
+/// The address of the story's own alphabets, or 0.
+pub(crate) fn alphabet_table(story: &[u8]) -> u16
+    requires { HasHeader story.now }
+    ensures { result ≡ definitions.alphabet_table_of story.now }
+{
+    read_word(story, ALPHABETS_WORD)
+}
+
 /// Whether each address that the header names lies in the memory that it belongs to.
 pub(crate) fn is_placed(story: &[u8]) -> bool
     requires { HasHeader story.now }
@@ -115,6 +129,7 @@ pub(crate) fn is_placed(story: &[u8]) -> bool
         && static_base <= read_word(story, DICTIONARY_WORD)
         && has_extension(story)
         && has_unicode(story)
+        && is_table(story, alphabet_table(story), ALPHABETS_LENGTH)
 }
 
 /// The dictionary at an address, where what comes before its entries can be read.

@@ -19,10 +19,10 @@ returns-in-65533-clause-told c = selects_closing _ c.args.loaded.now.characters
 pub returns-in_default-clause-told : goal.returns-in_default-clause-told
 returns-in_default-clause-told c = selects_nothing _ _ c.args.loaded.now.characters
     (place c.args.around.now c.args.here) c.args.after c.args.values.now c.requires.store.sound
-    (λ h. absurd (omega (arith, h)))
-    (λ h. absurd (omega (arith, h)))
-    (λ h. absurd (omega (arith, h)))
-    (λ h. absurd (omega (arith, h)))
+    (λ h. absurd (omega (arith, c.in_default.in_default-own, h)))
+    (λ h. absurd (omega (arith, c.in_default.in_default-own, h)))
+    (λ h. absurd (omega (arith, c.in_default.in_default-own, h)))
+    (λ h. absurd (omega (arith, c.in_default.in_default-own, h)))
 
 pub returns-in_ok-set_transcript-in-2-clause-told : goal.returns-in_ok-set_transcript-in-2-clause-told
 returns-in_ok-set_transcript-in-2-clause-told c = selects_transcript _ c.args.loaded.now.characters

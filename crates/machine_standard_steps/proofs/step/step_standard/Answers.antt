@@ -8,9 +8,9 @@ use Rattle.machine_standard_steps.proofs.step.step_standard.Goals as goal
 
 pub returns-in-None-clause-told : goal.returns-in-None-clause-told
 returns-in-None-clause-told c = stepped_none c.step_known.result c.args.loaded.now
-    (place c.args.around.now c.args.here) c.characters.result.now
+    (place c.args.around.now c.args.here)
     (sym (c.in-None.ensures ∙ ap (λ l. further_at l c.args.here.program_counter) (c.memory.ensures
-    ∙ ap memory_of c.store.ensures))) c.characters.ensures c.step_known.ensures.told
+    ∙ ap memory_of c.store.ensures))) c.step_known.ensures.told
 
 pub returns-in-None-clause-falls : goal.returns-in-None-clause-falls
 returns-in-None-clause-falls c = standard_lighter c.step_known.result c.args.loaded.now
