@@ -28,8 +28,8 @@ use Rattle.machine_frames.specs.Went.{GoesOn}
 use Rattle.machine_frames.proofs.Steps.{store_after}
 use Rattle.machine_lines.proofs.Lines.{base_kept}
 use Rattle.machine.proofs.Turning.{stops_whole}
-use Rattle.machine_standard_opcodes.specs.Around.{place, Keeps}
-use Rattle.machine_standard_opcodes.specs.declared.around.Around.{Around}
+use Rattle.machine_standard_windows.specs.Around.{place, Keeps}
+use Rattle.machine_standard_windows.specs.declared.around.Around.{Around}
 use Rattle.machine_standard_words.specs.Taking.{CanBeGiven}
 use Rattle.machine_standard.specs.Loads.{IsStoreFor}
 use Rattle.machine_standard.specs.Playing.{OpensStandard}
