@@ -29,8 +29,8 @@ use Rattle.machine_frames.proofs.Steps.{store_after, goes_on_still}
 use Rattle.machine_lines.proofs.Lines.{base_kept}
 use Rattle.machine_quick_steps.specs.Passed.{Passed}
 use Rattle.machine.proofs.Turning.{stops_whole}
-use Rattle.machine_standard_opcodes.specs.Around.{place, Keeps}
-use Rattle.machine_standard_opcodes.specs.declared.around.Around.{Around}
+use Rattle.machine_standard_windows.specs.Around.{place, Keeps}
+use Rattle.machine_standard_windows.specs.declared.around.Around.{Around}
 use Rattle.machine_standard_words.specs.Taking.{CanBeGiven}
 use Rattle.machine_standard.specs.Loads.{IsStoreFor}
 use Rattle.machine_standard.specs.Playing.{Ahead, OpensStandard}

@@ -7,11 +7,10 @@ ghost use Rattle.machine_standard.specs.Loads.{Begins, Loads};
 
 use crate::turn::StandardMachine;
 use machine_frames::Store;
-use machine_standard_opcodes::Loaded;
 use std::alloc::{AllocError, Global};
 use thiserror::Error;
 use zcore::{Beside, Header, HeaderFault};
-use zcore_standard::{LoadedStory, characters, load, own_alphabets};
+use zcore_standard::{Loaded, LoadedStory, characters, load, own_alphabets};
 
 /// Why a file is not played. `Display` writes the number of the refusal alone.
 #[derive(Clone, Copy, Debug, PartialEq, Eq, Error)]

@@ -1,6 +1,7 @@
 use Rattle.std.proofs.Common.{arith}
-use Rattle.machine_standard_opcodes.specs.Around.{place}
-use Rattle.machine_standard_opcodes.proofs.Cuts.{keeps_still, selects_table, selects_closing, selects_transcript}
+use Rattle.machine_standard_windows.specs.Around.{place}
+use Rattle.machine_standard_windows.proofs.TurnTexts.{keeps_still}
+use Rattle.machine_standard_opcodes.proofs.Cuts.{selects_table, selects_closing, selects_transcript}
 use Rattle.machine_standard_opcodes.proofs.Cuts.{transcript_selected, transcript_left, selects_nothing}
 use Rattle.machine_standard_opcodes.proofs.streams.output_stream.Goals as goal
 

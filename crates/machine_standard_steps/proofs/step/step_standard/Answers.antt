@@ -1,8 +1,8 @@
 use Rattle.std.proofs.Common.{◌∙◌, ap, sym}
 use Rattle.zcore_standard.specs.Operations.{further_at}
 use Rattle.machine_frames.specs.Contents.{memory_of}
-use Rattle.machine_standard_opcodes.specs.Around.{place}
-use Rattle.machine_standard_opcodes.proofs.Cuts.{keeps_grew}
+use Rattle.machine_standard_windows.specs.Around.{place}
+use Rattle.machine_standard_windows.proofs.TurnTexts.{keeps_grew}
 use Rattle.machine_standard_steps.proofs.Stepping.{stepped_none, stepped_some, standard_lighter}
 use Rattle.machine_standard_steps.proofs.step.step_standard.Goals as goal
 
