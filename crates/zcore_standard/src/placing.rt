@@ -109,6 +109,15 @@ pub(crate) fn alphabet_table(story: &[u8]) -> u16
     read_word(story, ALPHABETS_WORD)
 }
 
+/// Whether the story's own alphabets are whole, if it has them.
+fn has_alphabets(story: &[u8]) -> bool
+    requires { HasHeader story.now }
+    ensures { IsTrue result ↔ IsTable story.now (definitions.alphabet_table_of story.now)
+        definitions.alphabet_table_size }
+{
+    is_table(story, alphabet_table(story), ALPHABETS_LENGTH)
+}
+
 /// Whether each address that the header names lies in the memory that it belongs to.
 pub(crate) fn is_placed(story: &[u8]) -> bool
     requires { HasHeader story.now }
@@ -129,7 +138,7 @@ pub(crate) fn is_placed(story: &[u8]) -> bool
         && static_base <= read_word(story, DICTIONARY_WORD)
         && has_extension(story)
         && has_unicode(story)
-        && is_table(story, alphabet_table(story), ALPHABETS_LENGTH)
+        && has_alphabets(story)
 }
 
 /// The dictionary at an address, where what comes before its entries can be read.
