@@ -109,13 +109,14 @@ pub(crate) fn alphabet_table(story: &[u8]) -> u16
     read_word(story, ALPHABETS_WORD)
 }
 
-/// Whether the story's own alphabets are whole, if it has them.
-fn has_alphabets(story: &[u8]) -> bool
-    requires { HasHeader story.now }
-    ensures { IsTrue result ↔ IsTable story.now (definitions.alphabet_table_of story.now)
-        definitions.alphabet_table_size }
+/// Whether the Unicode table is whole, and the table of the story's own alphabets, if it has them.
+fn has_characters(story: &[u8]) -> bool
+    requires header { HasHeader story.now }
+    requires extension { IsExtension story.now }
+    ensures { IsTrue result ↔ (IsUnicode story.now
+        × IsTable story.now (definitions.alphabet_table_of story.now) definitions.alphabet_table_size) }
 {
-    is_table(story, alphabet_table(story), ALPHABETS_LENGTH)
+    has_unicode(story) && is_table(story, alphabet_table(story), ALPHABETS_LENGTH)
 }
 
 /// Whether each address that the header names lies in the memory that it belongs to.
@@ -137,8 +138,7 @@ pub(crate) fn is_placed(story: &[u8]) -> bool
         && is_within(HEADER_LENGTH, length, first_instruction, 1)
         && static_base <= read_word(story, DICTIONARY_WORD)
         && has_extension(story)
-        && has_unicode(story)
-        && has_alphabets(story)
+        && has_characters(story)
 }
 
 /// The dictionary at an address, where what comes before its entries can be read.
