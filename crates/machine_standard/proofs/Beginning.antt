@@ -1,5 +1,5 @@
 -- The machine and the store of a story that was loaded.
-use Rattle.std.proofs.Common.{◌≡◌, ◌≤◌, ℕ, Bool, List, [], length, take, ap, sym, ◌∙◌, subst, arith, Ok}
+use Rattle.std.proofs.Common.{◌≡◌, ◌≤◌, ℕ, Bool, List, [], length, take, ap, sym, ◌∙◌, subst, arith, Ok, Option}
 use Rattle.std.proofs.lemmas.List.{length-take-le}
 use Rattle.zcore.specs.declared.beside.Beside.{Beside}
 use Rattle.zcore.specs.declared.header.Header.{Header}
@@ -8,7 +8,8 @@ use Rattle.zcore.specs.Layout.{longest_story}
 use Rattle.zcore.specs.State.{State}
 use Rattle.zcore.specs.Turn.{first_state}
 use Rattle.zcore_standard.specs.declared.loading.LoadedStory.{LoadedStory}
-use Rattle.zcore_standard.specs.Loading.{IsPlayable, ReadsFile, characters_of, loaded_of, memory_for, seeded}
+use Rattle.zcore_standard.specs.Loading.{IsPlayable, ReadsFile, characters_of, own_alphabets_of, loaded_of}
+use Rattle.zcore_standard.specs.Loading.{memory_for, seeded}
 use Rattle.zcore_standard.specs.Loading.{story_in, story_length}
 use Rattle.zcore_standard.proofs.Headers.{length_stays}
 use Rattle.zcore_standard.specs.Loaded.{Loaded}
@@ -31,33 +32,28 @@ headed_by memory header p = record {
 }
 
 -- what loading fixes, part by part
+abbrev pub made : List ℕ → Beside → Bool → List ℕ → Option (List ℕ) → Loaded
+made dynamic dice right characters own = record {
+  dynamic = dynamic;
+  dice = dice;
+  is_sum_right = right;
+  characters = characters;
+  own_alphabets = own;
+}
+
 pub loaded_as : (x : Loaded) (d dynamic c characters : List ℕ) (b dice : Beside) (right : Bool)
-    → x ≡ record { dynamic = d; dice = b; is_sum_right = right; characters = c } → d ≡ dynamic → b ≡ dice
-    → c ≡ characters
-    → x ≡ record { dynamic = dynamic; dice = dice; is_sum_right = right; characters = characters }
-loaded_as x d dynamic c characters b dice right e f g h = e
-    ∙ ap (λ (y : List ℕ). let z : Loaded = record { dynamic = y; dice = b; is_sum_right = right; characters = c } in z) f
-    ∙ ap (λ (y : Beside). let z : Loaded = record {
-      dynamic = dynamic;
-      dice = y;
-      is_sum_right = right;
-      characters = c;
-    } in z) g
-    ∙ ap (λ (y : List ℕ). let z : Loaded = record {
-      dynamic = dynamic;
-      dice = dice;
-      is_sum_right = right;
-      characters = y;
-    } in z) h
+    (o own : Option (List ℕ)) → x ≡ made d b right c o → d ≡ dynamic → b ≡ dice → c ≡ characters → o ≡ own
+    → x ≡ made dynamic dice right characters own
+loaded_as x d dynamic c characters b dice right o own e f g h i = e
+    ∙ ap (λ y. made y b right c o) f
+    ∙ ap (λ y. made dynamic y right c o) g
+    ∙ ap (λ y. made dynamic dice right y o) h
+    ∙ ap (λ y. made dynamic dice right characters y) i
 
 pub begins_with : (memory : List ℕ) (story : LoadedStory) (seed : ℕ) (machine : StandardMachine) (s : Contents)
     → IsPlayable memory story.header → machine.header ≡ story.header
-    → machine.loaded ≡ record {
-      dynamic = take (static_base_of memory) memory;
-      dice = seeded seed;
-      is_sum_right = story.is_sum_right;
-      characters = characters_of memory;
-    }
+    → machine.loaded ≡ made (take (static_base_of memory) memory) (seeded seed) story.is_sum_right
+    (characters_of memory) (own_alphabets_of memory)
     → IsSound s → state_of s [] ≡ first_state memory → Begins memory story seed machine s
 begins_with memory story seed machine s p h l sound e =
     let same : memory_of s ≡ memory = ap (λ (t : State). t.memory) e in

@@ -22,17 +22,18 @@ use Rattle.zcore_standard.proofs.Turning.{standard_steps}
 use Rattle.zcore_standard.proofs.Awaiting.{WaitsRight}
 use Rattle.zcore_standard.proofs.Waiting.{standard_step_waits}
 use Rattle.machine_frames.specs.Contents.{Contents, memory_of}
-use Rattle.machine_frames.specs.Playing.{StopsBy, IsOpening, whole_of}
-use Rattle.machine_frames.specs.States.{state_of, program_counter_of, beside_of}
+use Rattle.machine_frames.specs.Playing.{StopsBy, IsOpening, IsWaiting, whole_of}
+use Rattle.machine_frames.specs.States.{state_of, IsSound, program_counter_of, beside_of}
 use Rattle.machine_frames.specs.Went.{GoesOn}
-use Rattle.machine_frames.proofs.Steps.{store_after}
+use Rattle.machine_frames.proofs.Steps.{store_after, goes_on_still}
 use Rattle.machine_lines.proofs.Lines.{base_kept}
+use Rattle.machine_quick_steps.specs.Passed.{Passed}
 use Rattle.machine.proofs.Turning.{stops_whole}
-use Rattle.machine_standard_opcodes.specs.Around.{place, Keeps}
-use Rattle.machine_standard_opcodes.specs.declared.around.Around.{Around}
+use Rattle.machine_standard_windows.specs.Around.{place, Keeps}
+use Rattle.machine_standard_windows.specs.declared.around.Around.{Around}
 use Rattle.machine_standard_words.specs.Taking.{CanBeGiven}
 use Rattle.machine_standard.specs.Loads.{IsStoreFor}
-use Rattle.machine_standard.specs.Playing.{OpensStandard}
+use Rattle.machine_standard.specs.Playing.{Ahead, OpensStandard}
 use Rattle.machine_standard.specs.declared.turn.StandardMachine.{StandardMachine}
 
 -- Stores of a story
@@ -56,23 +57,50 @@ or_true true = refl
 or_true false = refl
 
 -- a step of the profile that goes on is a step of this machine
-standard_goes_on : (loaded : Loaded) (around : Around) (here next : Next) (s t : State) → step here s ≡ done next t
+standard_goes_on : (loaded : Loaded) (around : Around) (here next : Next) (s t : State)
+    → loaded.own_alphabets ≡ None → step here s ≡ done next t
     → standard_step loaded (place around here) s ≡ done (place around next) t
-standard_goes_on loaded around here next s t e =
-    standard_steps loaded (place around here) s (ap ends_in_fault e)
+standard_goes_on loaded around here next s t own e =
+    standard_steps loaded (place around here) s own (ap ends_in_fault e)
     (ap (closes_none (place around here)) e ∙ or_true (is_plain (place around here)))
     ∙ ap (within (place around here)) e
 
 pub reaches_standard : (loaded : Loaded) (around : Around) (count : ℕ) (first here : Next) (s t : State)
-    → Reaches count first s here t
+    → loaded.own_alphabets ≡ None → Reaches count first s here t
     → ReachesBy (standard_step loaded) count (place around first) s (place around here) t
-reaches_standard loaded around zero first here s t h = (ap (place around) h.0, h.1)
-reaches_standard loaded around (suc count) first here s t h = (
+reaches_standard loaded around zero first here s t own h = (ap (place around) h.0, h.1)
+reaches_standard loaded around (suc count) first here s t own h = (
   place around h.0,
   h.1,
-  reaches_standard loaded around count first h.0 s h.1 h.2,
-  standard_goes_on loaded around h.0 here h.1 t h.3,
+  reaches_standard loaded around count first h.0 s h.1 own h.2,
+  standard_goes_on loaded around h.0 here h.1 t own h.3,
 )
+
+none_there : {A : Type 0} (o : Option A) → is_some o ≡ false → o ≡ None
+none_there None e = refl
+none_there (Some x) e = absurd (cc)
+
+-- quick steps, where the story has no alphabets of its own
+pub quickly_ahead : {E : Type 0} {s t : Recording Contents} (r : Result Next E) (loaded : Loaded) (first : Next)
+    → is_some loaded.own_alphabets ≡ false → IfOk r (λ here. Passed first s here t)
+    → IfOk r (λ here. Ahead loaded first s here t)
+quickly_ahead (Ok here) loaded first own passed = record {
+  goes_on = passed.goes_on;
+  reached = λ around text.
+      let reached = passed.reached text in
+      (reached.0, reaches_standard loaded around reached.0 first here _ _ (none_there loaded.own_alphabets own) reached.1);
+  lighter = passed.lighter;
+}
+quickly_ahead (Err e) loaded first own passed = tt
+
+-- none
+pub not_ahead : (s : Recording Contents) (loaded : Loaded) (first : Next) → IsSound s.store
+    → Ahead loaded first s first s
+not_ahead s loaded first sound = record {
+  goes_on = goes_on_still s sound;
+  reached = λ around text. (0, (refl, refl));
+  lighter = λ text. omega arith;
+}
 
 -- some steps, and some more
 pub reaches_by_on : {H : Type 0} (step : H → State → Out H) (m n : ℕ) (first here next : H) (s t u : State)

@@ -3,7 +3,7 @@ use Rattle.std.specs.Prelude.{◌≡◌, ℕ, List, [], length, take, Result, Ok
 use Rattle.zcore.specs.Header.{static_base_of}
 use Rattle.zcore.specs.Turn.{first_state}
 use Rattle.zcore_standard.specs.declared.loading.LoadedStory.{LoadedStory}
-use Rattle.zcore_standard.specs.Loading.{ReadsFile, characters_of, loaded_of, memory_for, seeded}
+use Rattle.zcore_standard.specs.Loading.{ReadsFile, characters_of, own_alphabets_of, loaded_of, memory_for, seeded}
 use Rattle.machine_frames.specs.Contents.{Contents, memory_of}
 use Rattle.machine_frames.specs.States.{state_of, IsStoreOf}
 use Rattle.machine_standard.specs.declared.load.StandardFault.{StandardFault}
@@ -24,6 +24,7 @@ pub record Begins (memory : List ℕ) (story : LoadedStory) (seed : ℕ) (machin
     dice = seeded seed;
     is_sum_right = story.is_sum_right;
     characters = characters_of memory;
+    own_alphabets = own_alphabets_of memory;
   }
   pub store : IsStoreFor machine contents
   pub state : state_of contents [] ≡ first_state memory

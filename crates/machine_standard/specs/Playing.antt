@@ -1,15 +1,19 @@
 -- Turns of the Standard's machine on a store.
-use Rattle.std.specs.Prelude.{◌≡◌, ℕ, List, [], slice_index, Option, Some, None}
+use Rattle.std.specs.Prelude.{◌≡◌, ◌≤◌, ℕ, List, [], slice_index, Option, Some, None}
 use Rattle.std.specs.Borrow.{Bor}
+use Rattle.journal.specs.Recording.{Recording}
 use Rattle.zcore.specs.declared.next.Next.{Next}
 use Rattle.zcore.specs.State.{Pending}
-use Rattle.zcore.specs.Turn.{Whole, TurnsBy, first_next, first_state}
-use Rattle.zcore_standard.specs.Loaded.{Loaded}
-use Rattle.zcore_standard.specs.Machine.{standard, standard_ended, begins}
+use Rattle.zcore.specs.Turn.{ReachesBy, Whole, TurnsBy, first_next, first_state, weight}
+use Rattle.zcore_standard.specs.Loaded.{Loaded, alphabets_of}
+use Rattle.zcore_standard.specs.Machine.{standard, standard_step, standard_ended, begins}
 use Rattle.machine_frames.specs.Contents.{Contents, memory_of}
 use Rattle.zcore_standard.specs.Reading.{standard_given}
 use Rattle.machine_frames.specs.Playing.{FollowsBy, IsOpening}
 use Rattle.machine_frames.specs.States.{state_of, pending_of, program_counter_of, beside_of}
+use Rattle.machine_frames.specs.Went.{GoesOn}
+use Rattle.machine_standard_opcodes.specs.Around.{place}
+use Rattle.machine_standard_opcodes.specs.declared.around.Around.{Around}
 use Rattle.machine_standard_words.specs.Taking.{CanBeGiven}
 
 -- the turn of a store of a story that begins
@@ -26,7 +30,7 @@ AnswersStandard loaded line s fuel whole =
     (pending : Pending)
     × (pending_of (slice_index s.cells) ≡ Some pending)
     × FollowsBy (λ next t w. TurnsBy (standard loaded) (begins kept next) t w)
-    (standard_given pending line fuel (state_of s [])) (standard_ended (begins kept waited)) whole
+    (standard_given (alphabets_of loaded) pending line fuel (state_of s [])) (standard_ended (begins kept waited)) whole
 
 -- which turn is played: without a line the opening, else that of the line
 abbrev pub OpensOrAnswersStandard : Loaded → Option (Bor (List ℕ)) → Contents → ℕ → Whole → Type 0
@@ -37,3 +41,11 @@ OpensOrAnswersStandard loaded (Some line) = AnswersStandard loaded line.now
 abbrev pub IsReadyForStandard : Option (Bor (List ℕ)) → Contents → Type 0
 IsReadyForStandard None = IsOpening
 IsReadyForStandard (Some line) = CanBeGiven
+
+-- steps of this machine lead from one place to another, and leave what is around them as it is
+pub record Ahead (loaded : Loaded) (first : Next) (old : Recording Contents) (here : Next)
+    (new : Recording Contents) : Type 0 where
+  pub goes_on : GoesOn old new
+  pub reached : (around : Around) (text : List ℕ) → (n : ℕ) × ReachesBy (standard_step loaded) n (place around first)
+      (state_of old.store text) (place around here) (state_of new.store text)
+  pub lighter : (text : List ℕ) → weight here (state_of new.store text) ≤ weight first (state_of old.store text)

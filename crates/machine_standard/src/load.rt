@@ -7,18 +7,17 @@ ghost use Rattle.machine_standard.specs.Loads.{Begins, Loads};
 
 use crate::turn::StandardMachine;
 use machine_frames::Store;
-use machine_standard_opcodes::Loaded;
 use std::alloc::{AllocError, Global};
 use thiserror::Error;
-use zcore::{Beside, Header};
-use zcore_standard::{LoadedStory, LoadingFault, characters, load};
+use zcore::{Beside, Header, HeaderFault};
+use zcore_standard::{Loaded, LoadedStory, characters, load, own_alphabets};
 
 /// Why a file is not played. `Display` writes the number of the refusal alone.
 #[derive(Clone, Copy, Debug, PartialEq, Eq, Error)]
 pub enum StandardFault {
     /// The file is refused.
     #[error("{0}")]
-    File(LoadingFault),
+    File(HeaderFault),
 
     /// Memory was refused.
     #[error("Z9")]
@@ -64,9 +63,10 @@ fn begin(
 {
     let header = story.header;
     let characters = characters(alloc, &memory)?;
+    let own = own_alphabets(&memory);
     let dynamic = front(alloc, &memory, header.static_base as usize)?;
     let store = Store::new(alloc, memory, header.static_base)?;
-    let loaded = Loaded::new(dynamic, seeded(seed), story.is_sum_right, characters);
+    let loaded = Loaded::new(dynamic, seeded(seed), story.is_sum_right, characters, own);
     Ok((StandardMachine { header, loaded }, store))
 }
 

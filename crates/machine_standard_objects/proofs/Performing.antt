@@ -11,8 +11,9 @@ use Rattle.zcore.specs.Execution.{perform}
 use Rattle.zcore.specs.Operations.{count_of}
 use Rattle.zcore.specs.Objects.{remove_object}
 use Rattle.zcore.specs.State.{State, Out, done}
+use Rattle.zcore_standard.specs.Loaded.{Loaded}
 use Rattle.zcore_standard.specs.Nothing.{concerns_nothing, insert_nothing, perform_on_nothing, perform_known}
-use Rattle.zcore_standard.specs.Printing.{is_text, or_else, perform_text, perform_printing}
+use Rattle.zcore_standard.specs.Printing.{is_text, by_alphabets, perform_text, perform_printing}
 use Rattle.machine_frames.specs.Contents.{Contents}
 use Rattle.machine_frames.specs.States.{state_of, IsSound}
 use Rattle.machine_frames.specs.Went.{Went, Told}
@@ -21,49 +22,49 @@ use Rattle.machine_frames.proofs.Steps.{went_as, went_still, told_as}
 
 -- on object 0, as it prints, and in the profile
 
-module _ (characters : List ℕ) (operation : Operation) (here : Next) (after : ℕ) (result : Option ℕ)
+module _ (loaded : Loaded) (operation : Operation) (here : Next) (after : ℕ) (result : Option ℕ)
     (branch : Option Branch) (values : List ℕ) where
-  -- in the profile, or else as it prints
+  -- as the profile does it, or as it prints
   abbrev pub prints : State → Out Next
-  prints = or_else (perform operation here after result branch values)
-      (perform_text characters operation here after values)
+  prints = by_alphabets loaded.own_alphabets (perform operation here after result branch values)
+      (perform_text loaded operation here after values)
 
   known_is : (s : State) (b : Bool) → concerns_nothing operation values ≡ b
-      → perform_known characters operation here after result branch values s
+      → perform_known loaded operation here after result branch values s
       ≡ cond b (perform_on_nothing operation here after result branch values)
-      (perform_printing characters operation here after result branch values) s
+      (perform_printing loaded operation here after result branch values) s
   known_is s b e = ap (λ (x : Bool). cond x (perform_on_nothing operation here after result branch values)
-      (perform_printing characters operation here after result branch values) s) e
+      (perform_printing loaded operation here after result branch values) s) e
 
   printing_is : (s : State) (c : Bool) → concerns_nothing operation values ≡ false → is_text operation ≡ c
-      → perform_known characters operation here after result branch values s
+      → perform_known loaded operation here after result branch values s
       ≡ cond c prints (perform operation here after result branch values) s
   printing_is s c e f = known_is s false e
       ∙ ap (λ (x : Bool). cond x prints (perform operation here after result branch values) s) f
 
   pub nothing_went : {s t : Recording Contents} (r : Result Next End) → concerns_nothing operation values ≡ true
       → Went r s t (perform_on_nothing operation here after result branch values)
-      → Went r s t (perform_known characters operation here after result branch values)
-  nothing_went {s} r e w = went_as r (perform_known characters operation here after result branch values)
+      → Went r s t (perform_known loaded operation here after result branch values)
+  nothing_went {s} r e w = went_as r (perform_known loaded operation here after result branch values)
       (λ x. known_is (state_of s.store x) true e) w
 
   pub known_went : {s t : Recording Contents} (r : Result Next End) → concerns_nothing operation values ≡ false
       → is_text operation ≡ false → Went r s t (perform operation here after result branch values)
-      → Went r s t (perform_known characters operation here after result branch values)
-  known_went {s} r e f w = went_as r (perform_known characters operation here after result branch values)
+      → Went r s t (perform_known loaded operation here after result branch values)
+  known_went {s} r e f w = went_as r (perform_known loaded operation here after result branch values)
       (λ x. printing_is (state_of s.store x) false e f) w
 
   pub known_told : {s t : Recording Contents} {x y : List ℕ} (r : Result Next End)
       → concerns_nothing operation values ≡ false → is_text operation ≡ false
       → Told r s x t y (perform operation here after result branch values)
-      → Told r s x t y (perform_known characters operation here after result branch values)
-  known_told {s} {x = x} r e f w = told_as r (perform_known characters operation here after result branch values)
+      → Told r s x t y (perform_known loaded operation here after result branch values)
+  known_told {s} {x = x} r e f w = told_as r (perform_known loaded operation here after result branch values)
       (printing_is (state_of s.store x) false e f) w
 
   pub text_told : {s t : Recording Contents} {x y : List ℕ} (r : Result Next End)
       → concerns_nothing operation values ≡ false → is_text operation ≡ true → Told r s x t y prints
-      → Told r s x t y (perform_known characters operation here after result branch values)
-  text_told {s} {x = x} r e f w = told_as r (perform_known characters operation here after result branch values)
+      → Told r s x t y (perform_known loaded operation here after result branch values)
+  text_told {s} {x = x} r e f w = told_as r (perform_known loaded operation here after result branch values)
       (printing_is (state_of s.store x) true e f) w
 
 -- which operations print no text

@@ -1,10 +1,11 @@
 //! What a known instruction does with the values of its operands: what it does in the profile, on
 //! object 0, or where it prints what the profile does not.
 
-ghost use Rattle.std.specs.Prelude.{◌≡◌, ◌≤◌, [], ◌∷◌, ℕ, List, None, length};
+ghost use Rattle.std.specs.Prelude.{◌≡◌, ◌≤◌, [], ◌∷◌, None, length};
 ghost use Rattle.zcore.specs.Layout.{longest_story};
 ghost use Rattle.zcore.specs.Operations.{count_of, least_operands, most_operands};
 ghost use Rattle.zcore.specs.declared.operations.OperandCount.TheVariants as counts;
+ghost use Rattle.zcore_standard.specs.Loaded as loading;
 ghost use Rattle.zcore_standard.specs.Nothing as definitions;
 ghost use Rattle.machine_frames.specs.States.{IsStoreOf};
 ghost use Rattle.machine_frames.specs.Went.{Went};
@@ -21,6 +22,7 @@ use machine_steps::{
     OPERANDS, perform_many, perform_none, perform_one, perform_several, perform_two,
 };
 use zcore::{Header, Next, Operation};
+use zcore_standard::Loaded;
 
 /// Does an operation on two values.
 pub(crate) fn two(
@@ -35,8 +37,8 @@ pub(crate) fn two(
     requires store { IsStoreOf header.now store.old.store }
     requires count { count_of operation ≡ counts.Two }
     requires after { ending.after ≤ longest_story }
-    ensures { (characters : List ℕ) → Went result store.old store.new
-        (definitions.perform_known characters operation here ending.after ending.result ending.branch (x ∷ y ∷ [])) }
+    ensures { (loaded : loading.Loaded) → Went result store.old store.new
+        (definitions.perform_known loaded operation here ending.after ending.result ending.branch (x ∷ y ∷ [])) }
 {
     if concerns_nothing(operation, &[x, y]) {
         return perform_on_nothing(header, store, here, operation, &[x, y], ending);
@@ -59,8 +61,8 @@ pub(crate) fn many(
     requires enough { 2 ≤ length values.now }
     requires few { length values.now ≤ most_operands operation }
     requires after { ending.after ≤ longest_story }
-    ensures { (characters : List ℕ) → Went result store.old store.new
-        (definitions.perform_known characters operation here ending.after ending.result ending.branch values.now) }
+    ensures { (loaded : loading.Loaded) → Went result store.old store.new
+        (definitions.perform_known loaded operation here ending.after ending.result ending.branch values.now) }
 {
     if concerns_nothing(operation, values) {
         return perform_on_nothing(header, store, here, operation, values, ending);
@@ -74,7 +76,7 @@ pub(crate) fn one(
     store: &mut Recorded<Store>,
     text: &mut Vec<u8>,
     start: usize,
-    characters: &[u16],
+    loaded: &Loaded,
     here: Next,
     operation: Operation,
     x: u16,
@@ -85,7 +87,7 @@ pub(crate) fn one(
     requires count { count_of operation ≡ counts.One }
     requires after { ending.after ≤ longest_story }
     ensures told { ToldFrom start result store.old text.old.items store.new text.new.items
-        (definitions.perform_known characters.now operation here ending.after ending.result ending.branch
+        (definitions.perform_known loaded.now operation here ending.after ending.result ending.branch
         (x ∷ [])) }
     ensures text { Grew start text.old.items text.new.items }
 {
@@ -95,13 +97,13 @@ pub(crate) fn one(
     let after = ending.after;
     match operation {
         Operation::PrintAddress => {
-            print_address(store, text, start, characters, here, after, x as u32)
+            print_address(store, text, start, loaded, here, after, x as u32)
         }
         Operation::PrintPacked => {
-            print_packed(header, store, text, start, characters, here, after, x)
+            print_packed(header, store, text, start, loaded, here, after, x)
         }
         Operation::PrintObject => {
-            print_object(header, store, text, start, characters, here, after, x)
+            print_object(header, store, text, start, loaded, here, after, x)
         }
         _ => perform_one(header, store, text, start, here, operation, x, ending),
     }
@@ -113,7 +115,7 @@ pub(crate) fn several(
     store: &mut Recorded<Store>,
     text: &mut Vec<u8>,
     start: usize,
-    characters: &[u16],
+    loaded: &Loaded,
     here: Next,
     operation: Operation,
     values: &[u16],
@@ -127,7 +129,7 @@ pub(crate) fn several(
     requires few { length values.now ≤ OPERANDS }
     requires after { ending.after ≤ longest_story }
     ensures told { ToldFrom start result store.old text.old.items store.new text.new.items
-        (definitions.perform_known characters.now operation here ending.after ending.result ending.branch
+        (definitions.perform_known loaded.now operation here ending.after ending.result ending.branch
         values.now) }
     ensures text { Grew start text.old.items text.new.items }
 {
@@ -140,7 +142,7 @@ pub(crate) fn several(
                 store,
                 text,
                 start,
-                characters,
+                loaded,
                 here,
                 ending.after,
                 values[0],
@@ -156,7 +158,7 @@ pub(crate) fn none(
     store: &mut Recorded<Store>,
     text: &mut Vec<u8>,
     start: usize,
-    characters: &[u16],
+    loaded: &Loaded,
     here: Next,
     operation: Operation,
     after: u32,
@@ -165,13 +167,13 @@ pub(crate) fn none(
     requires text { HasBegun start text.old.items }
     requires count { count_of operation ≡ counts.Zero }
     ensures told { ToldFrom start result store.old text.old.items store.new text.new.items
-        (definitions.perform_known characters.now operation here after None None []) }
+        (definitions.perform_known loaded.now operation here after None None []) }
     ensures text { Grew start text.old.items text.new.items }
 {
     match operation {
-        Operation::Print => print_inline(store, text, start, characters, here, after),
+        Operation::Print => print_inline(store, text, start, loaded, here, after),
         Operation::PrintReturn => {
-            print_return(header, store, text, start, characters, here, after)
+            print_return(header, store, text, start, loaded, here, after)
         }
         _ => perform_none(header, store, text, start, here, operation, after),
     }

@@ -34,56 +34,8 @@ use Rattle.machine_lines.specs.Lines.{Filled, Fills}
 use Rattle.machine_lines.proofs.Filling.{filled_then}
 use Rattle.machine_opcodes.specs.Printed.{HasBegun, Grew}
 use Rattle.machine_opcodes.specs.Seen.{seen}
-use Rattle.machine_standard_opcodes.specs.Around.{Keeps}
-
--- The text of a turn
-
-pub keeps_still : (start : ℕ) (x : List ℕ) → HasBegun start x → Keeps start x x
-keeps_still start x h = record { front = refl; begun = h.begun; within = h.within }
-
-pub keeps_grew : {start : ℕ} {x y : List ℕ} → HasBegun start x → Grew start x y → Keeps start x y
-keeps_grew h g = record { front = g.front; begun = omega (arith, h.begun, g.longer); within = g.within }
-
-pub keeps_after : {start : ℕ} {x y z : List ℕ} → Keeps start x y → Keeps start y z → Keeps start x z
-keeps_after a b = record { front = b.front ∙ a.front; begun = b.begun; within = b.within }
-
-pub keeps_begun : {start : ℕ} {x y : List ℕ} → Keeps start x y → HasBegun start y
-keeps_begun k = record { begun = k.begun; within = k.within }
-
-pub keeps_cut : (start kept : ℕ) (x y : List ℕ) → HasBegun start x → start + kept ≤ length x
-    → y ≡ take (start + kept) x → Keeps start x y
-keeps_cut start kept x y h le is =
-    let long : length y ≡ start + kept = ap length is ∙ length-take-le (start + kept) x le in
-    record {
-      front = ap (take start) is ∙ take-take start (start + kept) x (omega arith);
-      begun = omega (arith, long);
-      within = omega (arith, long, le, h.within);
-    }
-
--- a place of the turn's text, as far as there is text
-pub text_cut : (start from kept : ℕ) (x : List ℕ) → start ≤ length x → kept ≡ min from (length x - start)
-    → drop start (take (start + kept) x) ≡ take from (drop start x)
-text_cut start from kept x begun is = elim (cases_lt from (length x - start)) [
-  | inl lt ↦
-      let e : kept ≡ from = omega (arith, is, lt) in
-      drop-take start kept x ∙ ap (λ n. take n (drop start x)) e
-  | inr ge ↦
-      let e : kept ≡ length x - start = omega (arith, is, ge) in
-      drop-take start kept x ∙ take_all kept (drop start x) (omega (arith, e, length-drop start x))
-      ∙ sym (take_all from (drop start x) (omega (arith, ge, length-drop start x)))
-]
-
-pub text_behind : (start from kept : ℕ) (x : List ℕ) → start ≤ length x → kept ≡ min from (length x - start)
-    → drop from (drop start x) ≡ drop (start + kept) x
-text_behind start from kept x begun is = elim (cases_lt from (length x - start)) [
-  | inl lt ↦
-      let e : from ≡ kept = omega (arith, is, lt) in
-      drop-drop from start x ∙ ap (λ n. drop (start + n) x) e
-  | inr ge ↦
-      let e : kept ≡ length x - start = omega (arith, is, ge) in
-      drop_all from (drop start x) (omega (arith, ge, length-drop start x))
-      ∙ sym (drop_all (start + kept) x (omega (arith, e, begun)))
-]
+use Rattle.machine_standard_windows.specs.Around.{Keeps}
+use Rattle.machine_standard_windows.proofs.TurnTexts.{text_cut, text_behind, keeps_still}
 
 -- a text behind which something was added, and which is then cut
 pub cut_again : (from : ℕ) (x w y : List ℕ) → take (length x) w ≡ x → from ≤ length x → y ≡ take from w
@@ -176,9 +128,6 @@ stays_as {s} {t} start kept cut x w y extra stream e begun is front same all wen
     (stream_stays (drop start x) extra stream
     (subst (λ l. Went {A = Unit {0}} (Err e) s t (write_bytes stream.table (counted (zscii_in extra l)))) behind went))
 
-pub keeps_same : (start : ℕ) (x y : List ℕ) → HasBegun start x → y ≡ x → Keeps start x y
-keeps_same start x y h is = subst (Keeps start x) (sym is) (keeps_still start x h)
-
 -- what was added behind a text
 pub behind_text : (x y more : List ℕ) → y ≡ x ++ more → drop (length x) y ≡ more
 behind_text x y more is = ap (drop (length x)) is ∙ drop-append_seam x more
@@ -188,13 +137,6 @@ pub behind_slice : (x y z more : List ℕ) (n : ℕ) → n ≡ length x → z �
 behind_slice x y z more n all same is =
     take_all (length z - n) (drop n z) (omega (arith, length-drop n z)) ∙ ap (drop n) same
     ∙ ap (λ k. drop k y) all ∙ behind_text x y more is
-
--- at the exit of a `?`
-pub told_seen_err : {s t : Recording Contents} {x y : List ℕ} {e : End} {f : State → Out Here} (view : Next → Here)
-    (r : Result Next End) → IsErrAnd r (λ q. q ≡ e) → Told {A = Here} (Err e) s x t y f → Told (seen view r) s x t y f
-told_seen_err view r h w =
-    let p = err_from_is_err_and r h in
-    rw (p.1, p.2) w
 
 -- the innermost
 

@@ -1,9 +1,6 @@
 pub mod Codes
 pub mod Cuts
 pub mod Keeping
-pub mod TextLines
-pub mod Drawing
-pub mod Selecting
 pub mod Returning
 pub mod Anew
 pub mod Characters

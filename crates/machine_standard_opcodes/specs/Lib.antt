@@ -1,4 +1,2 @@
 pub mod Left
 pub mod Begun
-pub mod Around
-pub mod Drawn

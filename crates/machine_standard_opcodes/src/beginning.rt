@@ -10,17 +10,17 @@ ghost use Rattle.machine_frames.specs.Went.{GivenUp};
 ghost use Rattle.machine_lines.specs.Lines.{Fills};
 ghost use Rattle.machine_opcodes.specs.Printed.{HasBegun, ToldFrom};
 ghost use Rattle.machine_opcodes.specs.Seen.{seen};
-ghost use Rattle.machine_standard_opcodes.specs.Around.{place, Keeps};
+ghost use Rattle.machine_standard_windows.specs.Around.{place, Keeps};
 ghost use Rattle.machine_standard_opcodes.specs.Left.{Empties};
 
-use crate::around::Around;
-use crate::loaded::Loaded;
 use crate::streams::cut_to_heard;
 use journal::{NoMemory, Recorded};
 use machine_frames::layout::{FRAME_COUNT, HEIGHT, MEMORY, NO_VARIABLE, RECORD, RECORDS, WAITING};
 use machine_frames::{End, Store, put_all};
+use machine_standard_windows::Around;
 use zcore::layout::HEADER_LENGTH;
 use zcore::{Limit, Next, Place};
+use zcore_standard::Loaded;
 
 /// Begins the story anew: `restart`. Dynamic memory after the header is as it was loaded, the first
 /// environment runs, no line is waited for, window and dice are as at loading, and no stream is

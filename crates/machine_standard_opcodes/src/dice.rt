@@ -5,12 +5,12 @@ ghost use Rattle.zcore_standard.specs.Dice as definitions;
 ghost use Rattle.machine_frames.specs.States.{IsStoreOf};
 ghost use Rattle.machine_frames.specs.Went.{Went};
 ghost use Rattle.machine_opcodes.specs.Seen.{seen};
-ghost use Rattle.machine_standard_opcodes.specs.Around.{place};
+ghost use Rattle.machine_standard_windows.specs.Around.{place};
 
-use crate::around::Around;
 use journal::Recorded;
 use machine_frames::{End, Store};
 use machine_opcodes::{NEGATIVE, give_result};
+use machine_standard_windows::Around;
 use zcore::{Beside, Header, Next};
 
 /// The generator takes 32 bits to so many times themselves and one more.

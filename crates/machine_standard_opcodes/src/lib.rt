@@ -2,28 +2,21 @@
 //! running story.
 #![tactic(auto)]
 
-mod around;
 mod beginning;
 mod dice;
 mod flow;
-mod lines;
-mod loaded;
 mod reads;
 mod screen;
 mod shifts;
 mod streams;
 mod unicode;
-mod windows;
 mod zscii;
 
-pub use around::{Around, MOST_STREAMS};
 pub use beginning::restart;
 pub use dice::random;
 pub use flow::{catch, throw};
-pub use loaded::Loaded;
 pub use reads::begin_read;
 pub use screen::{font_of, get_cursor};
 pub use shifts::{shifted, shifted_with_sign};
 pub use streams::{cut_to_heard, output_stream};
 pub use unicode::{abilities, print_unicode};
-pub use windows::{erase_window, set_cursor, set_window, split_window};

@@ -3,15 +3,14 @@
 ghost use Rattle.zcore_standard.specs.Streams as definitions;
 ghost use Rattle.machine_frames.specs.States.{IsStoreOf};
 ghost use Rattle.machine_opcodes.specs.Printed.{HasBegun, ToldFrom};
-ghost use Rattle.machine_standard_opcodes.specs.Around.{place, Keeps};
+ghost use Rattle.machine_standard_windows.specs.Around.{place, Keeps};
 
-use crate::around::Around;
-use crate::loaded::Loaded;
 use crate::streams::close_all;
-use crate::windows::show_upper;
 use journal::Recorded;
 use machine_frames::{End, Store};
+use machine_standard_windows::{Around, show_upper};
 use zcore::{Header, Next};
+use zcore_standard::Loaded;
 
 /// Closes each open stream, and shows the text of the upper window if that is selected.
 ///

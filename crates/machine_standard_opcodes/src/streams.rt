@@ -11,19 +11,17 @@ ghost use Rattle.machine_frames.specs.Went.{GivenUp, Went, Told};
 ghost use Rattle.machine_lines.specs.Lines.{Filled};
 ghost use Rattle.machine_opcodes.specs.Printed.{HasBegun, ToldFrom};
 ghost use Rattle.machine_opcodes.specs.Seen.{seen};
-ghost use Rattle.machine_standard_opcodes.specs.Around.{place, Keeps};
+ghost use Rattle.machine_standard_windows.specs.Around.{place, Keeps};
 
-use crate::around::Around;
 use crate::beginning::fill;
-use crate::loaded::Loaded;
-use crate::windows::{drop_upper, settle};
 use crate::zscii::add_zscii;
 use journal::{NoMemory, Recorded};
 use machine_frames::layout::MEMORY;
 use machine_frames::{End, Store};
+use machine_standard_windows::{Around, cut, drop_upper, settle};
 use zcore::layout::HEADER_LENGTH;
 use zcore::{Fault, Header, Next, Place};
-use zcore_standard::Stream;
+use zcore_standard::{Loaded, Stream};
 
 /// The stream that goes to a table in memory (section 7.1.2).
 const MEMORY_STREAM: u16 = 3;
@@ -319,14 +317,4 @@ fn cut_streams(text: &mut Vec<u8>, start: usize, streams: &[Stream])
     for i in 0..streams.len() {
         cut(text, start, streams[i].from);
     }
-}
-
-/// Cuts a text after so many bytes of the turn, if there are more.
-pub(crate) fn cut(text: &mut Vec<u8>, start: usize, from: u32)
-    requires { HasBegun start text.old.items }
-    ensures cut { drop start text.new.items ≡ take from (drop start text.old.items) }
-    ensures text { Keeps start text.old.items text.new.items }
-{
-    let kept = (from as usize).min(text.len() - start);
-    text.truncate(start + kept);
 }

@@ -26,13 +26,13 @@ use Rattle.machine_frames.specs.declared.end.End.{End}
 use Rattle.machine_frames.specs.declared.end.End.TheVariants as ends
 use Rattle.machine_frames.proofs.Steps.{went_no_further, told_as, told_went, told_then, told_halt}
 use Rattle.machine_opcodes.specs.Seen.{seen}
-use Rattle.machine_standard_opcodes.specs.Around.{place}
-use Rattle.machine_standard_opcodes.specs.declared.around.Around.{Around}
+use Rattle.machine_standard_windows.specs.Around.{place}
+use Rattle.machine_standard_windows.specs.declared.around.Around.{Around}
 use Rattle.machine_standard_opcodes.proofs.Keeping.{told_within}
 
 -- a step where no further operation is found
 none_step : (loaded : Loaded) (here : Here) (s : State) → further_at s.memory here.next.program_counter ≡ None
-    → standard_step loaded here s ≡ within here (step_known loaded.characters here.next s)
+    → standard_step loaded here s ≡ within here (step_known loaded here.next s)
 unfolding standard_step
 none_step loaded here s e = ap (λ o. chosen loaded o here s) e
 
@@ -45,13 +45,11 @@ unfolding standard_step
 some_step loaded here s x e = ap (λ o. chosen loaded o here s) e
 
 pub stepped_none : {s t : Recording Contents} {x y : List ℕ} (r : Result Next End) (loaded : Loaded) (here : Here)
-    (characters : List ℕ) → further_at (memory_of s.store) here.next.program_counter ≡ None
-    → characters ≡ loaded.characters → Told r s x t y (step_known characters here.next)
-    → Told (seen (on here) r) s x t y (standard_step loaded here)
-stepped_none {s} {t} {x} {y} r loaded here characters e is w =
+    → further_at (memory_of s.store) here.next.program_counter ≡ None
+    → Told r s x t y (step_known loaded here.next) → Told (seen (on here) r) s x t y (standard_step loaded here)
+stepped_none {s} {t} {x} {y} r loaded here e w =
     told_as (seen (on here) r) (standard_step loaded here) (none_step loaded here (state_of s.store x) e)
-    (told_within r here (step_known loaded.characters here.next)
-    (subst (λ l. Told r s x t y (step_known l here.next)) is w))
+    (told_within r here (step_known loaded here.next) w)
 
 pub stepped_some : {s t : Recording Contents} {x y : List ℕ} (r : Result Here End) (loaded : Loaded) (here : Here)
     (operation : Further) → further_at (memory_of s.store) here.next.program_counter ≡ Some operation

@@ -6,8 +6,8 @@ ghost use Rattle.zcore.specs.Layout.{longest_story};
 ghost use Rattle.zcore_standard.specs.Further.{fourth, perform_keeping, words_of_table};
 ghost use Rattle.zcore_standard.specs.Tables as tables;
 ghost use Rattle.zcore_standard.specs.Words as words;
+ghost use Rattle.zcore_standard.specs.Loaded.{alphabets_of};
 ghost use Rattle.zcore_standard.specs.Operations.{row_of};
-ghost use Rattle.zcore_standard.specs.Loaded as loading;
 ghost use Rattle.machine_frames.specs.States.{IsStoreOf};
 ghost use Rattle.machine_frames.specs.Went.{Went};
 ghost use Rattle.machine_standard_steps.specs.Kinds.{is_quiet};
@@ -19,7 +19,7 @@ use machine_standard_opcodes::{catch, get_cursor, throw};
 use machine_standard_tables::{copy_table, scan_table};
 use machine_standard_words::{encode_text, tokenise};
 use zcore::{Fault, Header, Next, Place};
-use zcore_standard::Further;
+use zcore_standard::{Further, Loaded};
 
 /// What `scan_table` looks for where its form is left out: words in a table of words.
 const WORDS_OF_TABLE: u16 = 0x82;
@@ -69,6 +69,7 @@ fn scan(
 fn cut_words(
     header: &Header,
     store: &mut Recorded<Store>,
+    loaded: &Loaded,
     here: Next,
     after: u32,
     values: &[u16],
@@ -76,13 +77,13 @@ fn cut_words(
     requires store { IsStoreOf header.now store.old.store }
     requires enough { 2 ≤ length values.now }
     ensures { Went result store.old store.new
-        (words.tokenise here after (first values.now) (second values.now)
+        (words.tokenise (alphabets_of loaded.now) here after (first values.now) (second values.now)
         (slice_index_or values.now 2 0) (fourth values.now)) }
 {
     let dictionary = value_or(values, 2, 0);
     let flag = value_or(values, 3, 0);
     tokenise(
-        header, store, here, after, values[0], values[1], dictionary, flag,
+        header, loaded, store, here, after, values[0], values[1], dictionary, flag,
     )
 }
 
@@ -90,6 +91,7 @@ fn cut_words(
 pub(crate) fn perform_quietly(
     header: &Header,
     store: &mut Recorded<Store>,
+    loaded: &Loaded,
     here: Next,
     operation: Further,
     values: &[u16],
@@ -99,8 +101,8 @@ pub(crate) fn perform_quietly(
     requires quiet { is_quiet operation ≡ true }
     requires enough { (row_of operation).least_operands ≤ length values.now }
     requires after { ending.after ≤ longest_story }
-    ensures { (loaded : loading.Loaded) → Went result store.old store.new
-        (perform_keeping loaded operation here ending.after ending.result ending.branch values.now) }
+    ensures { Went result store.old store.new
+        (perform_keeping loaded.now operation here ending.after ending.result ending.branch values.now) }
 {
     let after = ending.after;
     match operation {
@@ -108,10 +110,10 @@ pub(crate) fn perform_quietly(
         Further::Throw => throw(header, store, here, values[0], values[1]),
         Further::GetCursor => get_cursor(header, store, here, after, values[0]),
         Further::ScanTable => scan(header, store, here, values, ending),
-        Further::Tokenise => cut_words(header, store, here, after, values),
+        Further::Tokenise => cut_words(header, store, loaded, here, after, values),
         Further::EncodeText => {
             encode_text(
-                header, store, here, after, values[0], values[1], values[2], values[3],
+                header, loaded, store, here, after, values[0], values[1], values[2], values[3],
             )
         }
         Further::CopyTable => {

@@ -5,8 +5,8 @@ ghost use Rattle.std.specs.Prelude.{◌≡◌, ◌≤◌, ℕ, false, List, leng
 ghost use Rattle.zcore_standard.specs.Operations.{row_of};
 ghost use Rattle.machine_standard_steps.specs.Kinds.{does_nothing, is_on_windows, gives_word, branches, GivesWord, BranchesBy};
 
-use machine_standard_opcodes::{Loaded, abilities, font_of, shifted, shifted_with_sign};
-use zcore_standard::Further;
+use machine_standard_opcodes::{abilities, font_of, shifted, shifted_with_sign};
+use zcore_standard::{Further, Loaded};
 
 /// What `save`, `restore` and `restore_undo` answer, which fail.
 const FAILED: u16 = 0;

@@ -12,7 +12,7 @@ ghost use Rattle.machine_frames.specs.Contents.{memory_of};
 ghost use Rattle.machine_frames.specs.States.{IsSound, IsStoreOf};
 ghost use Rattle.machine_opcodes.specs.Printed.{HasBegun, Grew, ToldFrom};
 ghost use Rattle.machine_opcodes.specs.Seen.{seen};
-ghost use Rattle.machine_standard_opcodes.specs.Around.{place, Keeps};
+ghost use Rattle.machine_standard_windows.specs.Around.{place, Keeps};
 ghost use Rattle.machine_standard_steps.specs.Kinds.{is_on_windows};
 
 use crate::effects::{perform_quietly, value_or};
@@ -21,13 +21,11 @@ use crate::reading::{read_key, read_line};
 use journal::Recorded;
 use machine_frames::{End, Store};
 use machine_opcodes::{Ending, branch_on, give_result};
-use machine_standard_opcodes::{
-    Around, Loaded, erase_window, output_stream, print_unicode, random, restart, set_cursor,
-    set_window, split_window,
-};
+use machine_standard_opcodes::{output_stream, print_unicode, random, restart};
 use machine_standard_tables::print_table;
+use machine_standard_windows::{Around, erase_window, set_cursor, set_window, split_window};
 use zcore::{Header, Next};
-use zcore_standard::Further;
+use zcore_standard::{Further, Loaded};
 
 /// The rows of a table that is printed, where their number is left out.
 const ONE_ROW: u16 = 1;
@@ -168,7 +166,7 @@ fn perform_keeping(
     match operation {
         Further::PrintUnicode => print_unicode(store, text, start, here, after, values[0]),
         Further::PrintTable => print_rows(store, text, start, loaded, here, after, values),
-        _ => perform_quietly(header, store, here, operation, values, ending),
+        _ => perform_quietly(header, store, loaded, here, operation, values, ending),
     }
 }
 

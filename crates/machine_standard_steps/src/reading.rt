@@ -9,15 +9,17 @@ ghost use Rattle.zcore_standard.specs.Reading as definitions;
 ghost use Rattle.machine_frames.specs.States.{IsStoreOf};
 ghost use Rattle.machine_opcodes.specs.Printed.{HasBegun, ToldFrom};
 ghost use Rattle.machine_opcodes.specs.Seen.{seen};
-ghost use Rattle.machine_standard_opcodes.specs.Around.{place, Keeps};
+ghost use Rattle.machine_standard_windows.specs.Around.{place, Keeps};
 
 use crate::effects::value_or;
 use journal::Recorded;
 use machine_frames::{End, Store};
 use machine_opcodes::Ending;
-use machine_standard_opcodes::{Around, Loaded, begin_read};
+use machine_standard_opcodes::begin_read;
+use machine_standard_windows::Around;
 use machine_standard_words::{wait_for_key, wait_for_line};
 use zcore::{Header, Next};
+use zcore_standard::Loaded;
 
 /// Waits for a line: `aread`, of which the parse buffer may be left out; time and routine are not
 /// used.

@@ -11,7 +11,7 @@ ghost use Rattle.machine_frames.specs.Contents.{memory_of};
 ghost use Rattle.machine_frames.specs.States.{state_of, IsStoreOf};
 ghost use Rattle.machine_opcodes.specs.Printed.{HasBegun, ToldFrom};
 ghost use Rattle.machine_opcodes.specs.Seen.{seen};
-ghost use Rattle.machine_standard_opcodes.specs.Around.{place, Keeps};
+ghost use Rattle.machine_standard_windows.specs.Around.{place, Keeps};
 
 use crate::decode::decode_further;
 use crate::opcodes::further_at;
@@ -19,10 +19,10 @@ use crate::perform::perform_further;
 use journal::Recorded;
 use machine_frames::{End, Store};
 use machine_standard_objects::step_known;
-use machine_standard_opcodes::{Around, Loaded};
+use machine_standard_windows::Around;
 use machine_steps::{OPERANDS, operand_values};
 use zcore::{Header, Next, Operand, Place};
-use zcore_standard::Further;
+use zcore_standard::{Further, Loaded};
 
 /// Does the instruction at the program counter, and answers where the turn goes on.
 pub fn step_standard(
@@ -46,7 +46,7 @@ pub fn step_standard(
     ensures around { OnErr result (around.new ≡ around.old) }
 {
     match further_at(store.store().memory(), here.program_counter as usize) {
-        None => step_known(header, store, text, start, loaded.characters(), here),
+        None => step_known(header, store, text, start, loaded, here),
         Some(operation) => {
             step_further(header, store, text, start, loaded, around, here, operation)
         }

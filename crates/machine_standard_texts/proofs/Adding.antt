@@ -16,8 +16,9 @@ use Rattle.zcore.specs.Layout.{text_limit}
 use Rattle.zcore.proofs.KeepingReads.{chosen, done_state, never}
 use Rattle.zcore_standard.specs.Characters.{shown_by, print_each, print_codes}
 use Rattle.zcore_standard.specs.Unicode.{print_whole}
-use Rattle.zcore_standard.specs.Printing.{any_text_at, or_else, print_any_address, print_any_packed}
-use Rattle.zcore_standard.specs.Texts.{default_alphabets, codes_at}
+use Rattle.zcore_standard.specs.Loaded.{Loaded}
+use Rattle.zcore_standard.specs.Printing.{any_text_at, by_alphabets, print_any_address, print_any_packed}
+use Rattle.zcore_standard.specs.Texts.{codes_at}
 use Rattle.machine_frames.specs.Contents.{Contents, memory_of}
 use Rattle.machine_frames.specs.States.{state_of, IsSound}
 use Rattle.machine_frames.specs.Went.{Went, Told}
@@ -30,19 +31,19 @@ use Rattle.machine_standard_texts.specs.declared.characters.Halt.TheVariants as 
 use Rattle.machine_standard_texts.specs.Put.{Prints}
 use Rattle.machine_standard_texts.proofs.Printed.{codes_append}
 
-pub text_read : (s : Recording Contents) (story : List ℕ) (address : ℕ) (x : List ℕ × ℕ) → IsSound s.store
-    → story ≡ memory_of s.store → codes_at default_alphabets story address ≡ Ok x
-    → Went (Ok x) s s (any_text_at address)
+pub text_read : (s : Recording Contents) (alphabets story : List ℕ) (address : ℕ) (x : List ℕ × ℕ) → IsSound s.store
+    → story ≡ memory_of s.store → codes_at alphabets story address ≡ Ok x
+    → Went (Ok x) s s (any_text_at alphabets address)
 unfolding any_text_at
-text_read s story address x sound m e = went_still s (any_text_at address) sound
-    (λ t. ap (λ r. read_text r (state_of s.store t)) (ap (λ l. codes_at default_alphabets l address) (sym m) ∙ e))
+text_read s alphabets story address x sound m e = went_still s (any_text_at alphabets address) sound
+    (λ t. ap (λ r. read_text r (state_of s.store t)) (ap (λ l. codes_at alphabets l address) (sym m) ∙ e))
 
-pub text_unread : (s : Recording Contents) (story : List ℕ) (address : ℕ) (cause : Cause) → IsSound s.store
-    → story ≡ memory_of s.store → codes_at default_alphabets story address ≡ Err cause
-    → Went {A = List ℕ × ℕ} (Err (ends.Stop (places.Fault (text_fault cause)))) s s (any_text_at address)
+pub text_unread : (s : Recording Contents) (alphabets story : List ℕ) (address : ℕ) (cause : Cause) → IsSound s.store
+    → story ≡ memory_of s.store → codes_at alphabets story address ≡ Err cause
+    → Went {A = List ℕ × ℕ} (Err (ends.Stop (places.Fault (text_fault cause)))) s s (any_text_at alphabets address)
 unfolding any_text_at
-text_unread s story address cause sound m e = went_halt s (any_text_at address) sound
-    (λ t. ap (λ r. read_text r (state_of s.store t)) (ap (λ l. codes_at default_alphabets l address) (sym m) ∙ e))
+text_unread s alphabets story address cause sound m e = went_halt s (any_text_at alphabets address) sound
+    (λ t. ap (λ r. read_text r (state_of s.store t)) (ap (λ l. codes_at alphabets l address) (sym m) ∙ e))
 
 -- nothing was added
 pub told_back : {A : Type 0} {r : Result A End} {s t : Recording Contents} {f : State → Out A} (start : ℕ)
@@ -52,15 +53,15 @@ told_back {A} {r} {s} {t} {f} start was now e w =
     subst (λ l. Told r s (drop start was) t (drop start l) f) (sym e) w
 
 -- print_paddr
-pub packed_told : {s t : Recording Contents} {x y : List ℕ} {r : Result Next End} (characters : List ℕ) (here : Next)
+pub packed_told : {s t : Recording Contents} {x y : List ℕ} {r : Result Next End} (loaded : Loaded) (here : Next)
     (after packed address : ℕ) → address ≡ unpacked (memory_of s.store) packed
-    → Told r s x t y (or_else (print_address here after address) (print_any_address characters here after address))
-    → Told r s x t y (or_else (print_packed here after packed) (print_any_packed characters here after packed))
+    → Told r s x t y (by_alphabets loaded.own_alphabets (print_address here after address) (print_any_address loaded here after address))
+    → Told r s x t y (by_alphabets loaded.own_alphabets (print_packed here after packed) (print_any_packed loaded here after packed))
 unfolding print_packed print_address print_any_packed
-packed_told {s} {t} {x} {y} {r} characters here after packed address e w =
-    told_as r (or_else (print_packed here after packed) (print_any_packed characters here after packed)) refl
+packed_told {s} {t} {x} {y} {r} loaded here after packed address e w =
+    told_as r (by_alphabets loaded.own_alphabets (print_packed here after packed) (print_any_packed loaded here after packed)) refl
     (subst (λ (a : ℕ). Told r s x t y
-    (or_else (print_address here after a) (print_any_address characters here after a))) e w)
+    (by_alphabets loaded.own_alphabets (print_address here after a) (print_any_address loaded here after a))) e w)
 
 -- where printing came to its end, and where it halted at the limit
 

@@ -2,6 +2,7 @@
 use Rattle.std.proofs.Common.{◌≡◌, ℕ, ◌+◌, List, [], ◌∷◌, ◌++◌, length, drop, refl, ap, sym, ◌∙◌, Bool, true, false, cond}
 use Rattle.std.proofs.Common.{Option, Some, None, Result, Ok, Err, slice_index}
 use Rattle.std.specs.Prelude.{◌==◌, ◌||◌, ◌&&◌, nat_le, nat_lt}
+use Rattle.std.specs.Option.{is_some}
 use Rattle.ztext.specs.Bytes.{word_at}
 use Rattle.ztext.specs.Reading.{Cause}
 use Rattle.zcore.specs.Entries.{properties_place}
@@ -21,7 +22,7 @@ use Rattle.zcore.specs.Parts.{store_result, write_variable, pushed, push, write_
 use Rattle.zcore.specs.Parts.{read_byte, read_word, is_readable, is_code, unpacked}
 use Rattle.zcore.specs.State.{Frame, State, Out, done, halt, bound, words, ◌>>=◌}
 use Rattle.journal.specs.Recording.{Recording}
-use Rattle.zcore_standard.specs.Printing.{is_refused, or_else}
+use Rattle.zcore_standard.specs.Printing.{is_refused, or_else, by_alphabets}
 use Rattle.machine_frames.specs.Contents.{Contents}
 use Rattle.machine_frames.specs.States.{state_of}
 use Rattle.machine_frames.specs.Went.{GoesOn, Told}
@@ -349,3 +350,16 @@ pub refused_on : {s t : Recording Contents} {x y : List ℕ} {f : State → Out 
 refused_on (Ok next) e w = w.told.0
 refused_on (Err ends.Memory) e w = absurd (cc)
 refused_on (Err (ends.Stop place)) e w = w.told.0
+
+-- by the default alphabets, and by the story's own
+
+pub by_default : {s t : Recording Contents} {x y : List ℕ} (r : Result Next End) (own : Option (List ℕ))
+    (f g : State → Out Next) → is_some own ≡ false → Told r s x t y (or_else f g)
+    → Told r s x t y (by_alphabets own f g)
+by_default r None f g e w = w
+by_default r (Some alphabets) f g e w = absurd (cc)
+
+pub by_own : {s t : Recording Contents} {x y : List ℕ} (r : Result Next End) (own : Option (List ℕ))
+    (f g : State → Out Next) → is_some own ≡ true → Told r s x t y g → Told r s x t y (by_alphabets own f g)
+by_own r None f g e w = absurd (cc)
+by_own r (Some alphabets) f g e w = w

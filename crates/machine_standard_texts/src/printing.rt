@@ -7,9 +7,10 @@ ghost use Rattle.zcore.specs.Objects.{print_object, test_object, property_table}
 ghost use Rattle.zcore.specs.State.{State, Out};
 ghost use Rattle.ztext.specs.Faults.{FailsText};
 ghost use Rattle.zcore_standard.specs.Characters.{print_codes};
-ghost use Rattle.zcore_standard.specs.Texts.{codes_at, default_alphabets};
+ghost use Rattle.zcore_standard.specs.Loaded.{alphabets_of};
+ghost use Rattle.zcore_standard.specs.Texts.{codes_at};
 ghost use Rattle.zcore_standard.specs.Printing as definitions;
-ghost use Rattle.zcore_standard.specs.Printing.{or_else};
+ghost use Rattle.zcore_standard.specs.Printing.{by_alphabets};
 ghost use Rattle.machine_frames.specs.Contents.{memory_of};
 ghost use Rattle.machine_frames.specs.States.{IsSound, IsStoreOf};
 ghost use Rattle.machine_objects.specs.Tested.{IsTested};
@@ -28,11 +29,7 @@ use machine_opcodes::{give_back, unpacked};
 use tables::{has_entry, properties_place};
 use zcore::layout::NEW_LINE;
 use zcore::{Fault, Header, Limit, Next, Place, TextFault};
-
-/// The three alphabets of a story that has none of its own (section 3.5.3). In the third, the first
-/// two places stand for an escape and a new line.
-static DEFAULT_ALPHABETS: [u8; 78] =
-    *b"abcdefghijklmnopqrstuvwxyzABCDEFGHIJKLMNOPQRSTUVWXYZ\0\r0123456789.,!?_#'\"/\\-:()";
+use zcore_standard::Loaded;
 
 /// Whether a turn ends by M10.
 fn is_refused(end: &Result<Next, End>) -> bool
@@ -47,9 +44,9 @@ fn is_refused(end: &Result<Next, End>) -> bool
 /// How a turn ends where a text cannot be read: where memory was refused, it is given up.
 fn unread(store: &mut Recorded<Store>, fault: TextFault) -> End
     requires { IsSound store.old.store }
-    ensures { (address : _)
-        → FailsText fault (codes_at default_alphabets (memory_of store.old.store) address)
-        → Went (Err result) store.old store.new (definitions.any_text_at address) }
+    ensures { (alphabets : List ℕ) (address : ℕ)
+        → FailsText fault (codes_at alphabets (memory_of store.old.store) address)
+        → Went (Err result) store.old store.new (definitions.any_text_at alphabets address) }
 {
     match fault {
         TextFault::End => End::Stop(Place::Fault(Fault::Read)),
@@ -68,21 +65,20 @@ fn add_text(
     store: &mut Recorded<Store>,
     text: &mut Vec<u8>,
     start: usize,
-    characters: &[u16],
+    loaded: &Loaded,
     address: u32,
 ) -> Result<(u32, Option<Halt>), End>
     requires sound { IsSound store.old.store }
     requires text { HasBegun start text.old.items }
-    ensures adds { AddsText characters.now start text.old.items text.new.items result store.old
-        store.new (definitions.any_text_at address) }
+    ensures adds { AddsText loaded.now.characters start text.old.items text.new.items result store.old
+        store.new (definitions.any_text_at (alphabets_of loaded.now) address) }
     ensures text { Extends start text.old.items text.new.items }
 {
-    let alphabets = &DEFAULT_ALPHABETS;
     match put_text(
         text,
         start,
-        characters,
-        alphabets,
+        loaded.characters(),
+        loaded.alphabets(),
         store.store().memory(),
         address,
     ) {
@@ -146,7 +142,7 @@ fn print_any_character(
     store: &mut Recorded<Store>,
     text: &mut Vec<u8>,
     start: usize,
-    characters: &[u16],
+    loaded: &Loaded,
     here: Next,
     after: u32,
     character: u16,
@@ -154,10 +150,10 @@ fn print_any_character(
     requires sound { IsSound store.old.store }
     requires text { HasBegun start text.old.items }
     ensures told { ToldFrom start result store.old text.old.items store.new text.new.items
-        (definitions.print_any_character characters.now here after character) }
+        (definitions.print_any_character loaded.now here after character) }
     ensures text { Grew start text.old.items text.new.items }
 {
-    print_code(store, text, start, characters, character)?;
+    print_code(store, text, start, loaded.characters(), character)?;
     Ok(Next {
         program_counter: after,
         fuel: here.fuel,
@@ -169,7 +165,7 @@ fn print_any_address(
     store: &mut Recorded<Store>,
     text: &mut Vec<u8>,
     start: usize,
-    characters: &[u16],
+    loaded: &Loaded,
     here: Next,
     after: u32,
     address: u32,
@@ -177,10 +173,10 @@ fn print_any_address(
     requires sound { IsSound store.old.store }
     requires text { HasBegun start text.old.items }
     ensures told { ToldFrom start result store.old text.old.items store.new text.new.items
-        (definitions.print_any_address characters.now here after address) }
+        (definitions.print_any_address loaded.now here after address) }
     ensures text { Grew start text.old.items text.new.items }
 {
-    let added = add_text(store, text, start, characters, address)?;
+    let added = add_text(store, text, start, loaded, address)?;
     finish(store, added.1)?;
     Ok(Next {
         program_counter: after,
@@ -193,17 +189,17 @@ fn print_any_inline(
     store: &mut Recorded<Store>,
     text: &mut Vec<u8>,
     start: usize,
-    characters: &[u16],
+    loaded: &Loaded,
     here: Next,
     after: u32,
 ) -> Result<Next, End>
     requires sound { IsSound store.old.store }
     requires text { HasBegun start text.old.items }
     ensures told { ToldFrom start result store.old text.old.items store.new text.new.items
-        (definitions.print_any_inline characters.now here after) }
+        (definitions.print_any_inline loaded.now here after) }
     ensures text { Grew start text.old.items text.new.items }
 {
-    let added = add_text(store, text, start, characters, after)?;
+    let added = add_text(store, text, start, loaded, after)?;
     finish(store, added.1)?;
     Ok(Next {
         program_counter: added.0,
@@ -217,18 +213,18 @@ fn print_any_return(
     store: &mut Recorded<Store>,
     text: &mut Vec<u8>,
     start: usize,
-    characters: &[u16],
+    loaded: &Loaded,
     here: Next,
     after: u32,
 ) -> Result<Next, End>
     requires store { IsStoreOf header.now store.old.store }
     requires text { HasBegun start text.old.items }
     ensures told { ToldFrom start result store.old text.old.items store.new text.new.items
-        (definitions.print_any_return characters.now here after) }
+        (definitions.print_any_return loaded.now here after) }
     ensures text { Grew start text.old.items text.new.items }
 {
     let end = text.len();
-    let added = add_text(store, text, start, characters, after)?;
+    let added = add_text(store, text, start, loaded, after)?;
     match test_return(store) {
         Ok(_) => {}
         Err(e) => {
@@ -236,7 +232,7 @@ fn print_any_return(
             return Err(e);
         }
     }
-    let halted = put_next(text, start, characters, added.1, NEW_LINE as u16);
+    let halted = put_next(text, start, loaded.characters(), added.1, NEW_LINE as u16);
     finish(store, halted)?;
     give_back(header, store, here.fuel, 1)
 }
@@ -268,7 +264,7 @@ fn print_any_object(
     store: &mut Recorded<Store>,
     text: &mut Vec<u8>,
     start: usize,
-    characters: &[u16],
+    loaded: &Loaded,
     here: Next,
     after: u32,
     object: u16,
@@ -276,7 +272,7 @@ fn print_any_object(
     requires store { IsStoreOf header.now store.old.store }
     requires text { HasBegun start text.old.items }
     ensures told { ToldFrom start result store.old text.old.items store.new text.new.items
-        (definitions.print_any_object characters.now here after object) }
+        (definitions.print_any_object loaded.now here after object) }
     ensures text { Grew start text.old.items text.new.items }
 {
     test_object(header, store, object)?;
@@ -292,7 +288,7 @@ fn print_any_object(
         store,
         text,
         start,
-        characters,
+        loaded,
         here,
         after,
         table as u32 + 1,
@@ -308,7 +304,7 @@ pub fn print_character(
     store: &mut Recorded<Store>,
     text: &mut Vec<u8>,
     start: usize,
-    characters: &[u16],
+    loaded: &Loaded,
     here: Next,
     after: u32,
     character: u16,
@@ -316,15 +312,18 @@ pub fn print_character(
     requires sound { IsSound store.old.store }
     requires text { HasBegun start text.old.items }
     ensures told { ToldFrom start result store.old text.old.items store.new text.new.items
-        (or_else (profile.print_character here after character)
-        (definitions.print_any_character characters.now here after character)) }
+        (by_alphabets loaded.now.own_alphabets (profile.print_character here after character)
+        (definitions.print_any_character loaded.now here after character)) }
     ensures text { Grew start text.old.items text.new.items }
 {
+    if loaded.has_own_alphabets() {
+        return print_any_character(store, text, start, loaded, here, after, character);
+    }
     let done = known::print_character(store, text, start, here, after, character);
     if !is_refused(&done) {
         return done;
     }
-    print_any_character(store, text, start, characters, here, after, character)
+    print_any_character(store, text, start, loaded, here, after, character)
 }
 
 /// Prints the text at an address: `print_addr`.
@@ -337,7 +336,7 @@ pub fn print_address(
     store: &mut Recorded<Store>,
     text: &mut Vec<u8>,
     start: usize,
-    characters: &[u16],
+    loaded: &Loaded,
     here: Next,
     after: u32,
     address: u32,
@@ -345,15 +344,18 @@ pub fn print_address(
     requires sound { IsSound store.old.store }
     requires text { HasBegun start text.old.items }
     ensures told { ToldFrom start result store.old text.old.items store.new text.new.items
-        (or_else (profile.print_address here after address)
-        (definitions.print_any_address characters.now here after address)) }
+        (by_alphabets loaded.now.own_alphabets (profile.print_address here after address)
+        (definitions.print_any_address loaded.now here after address)) }
     ensures text { Grew start text.old.items text.new.items }
 {
+    if loaded.has_own_alphabets() {
+        return print_any_address(store, text, start, loaded, here, after, address);
+    }
     let done = known::print_address(store, text, start, here, after, address);
     if !is_refused(&done) {
         return done;
     }
-    print_any_address(store, text, start, characters, here, after, address)
+    print_any_address(store, text, start, loaded, here, after, address)
 }
 
 /// Prints the text that follows the opcode, and goes on after it: `print`.
@@ -366,22 +368,25 @@ pub fn print_inline(
     store: &mut Recorded<Store>,
     text: &mut Vec<u8>,
     start: usize,
-    characters: &[u16],
+    loaded: &Loaded,
     here: Next,
     after: u32,
 ) -> Result<Next, End>
     requires sound { IsSound store.old.store }
     requires text { HasBegun start text.old.items }
     ensures told { ToldFrom start result store.old text.old.items store.new text.new.items
-        (or_else (profile.print_inline here after)
-        (definitions.print_any_inline characters.now here after)) }
+        (by_alphabets loaded.now.own_alphabets (profile.print_inline here after)
+        (definitions.print_any_inline loaded.now here after)) }
     ensures text { Grew start text.old.items text.new.items }
 {
+    if loaded.has_own_alphabets() {
+        return print_any_inline(store, text, start, loaded, here, after);
+    }
     let done = known::print_inline(store, text, start, here, after);
     if !is_refused(&done) {
         return done;
     }
-    print_any_inline(store, text, start, characters, here, after)
+    print_any_inline(store, text, start, loaded, here, after)
 }
 
 /// Prints the text that follows the opcode and a new line, and returns 1: `print_ret`.
@@ -396,22 +401,25 @@ pub fn print_return(
     store: &mut Recorded<Store>,
     text: &mut Vec<u8>,
     start: usize,
-    characters: &[u16],
+    loaded: &Loaded,
     here: Next,
     after: u32,
 ) -> Result<Next, End>
     requires store { IsStoreOf header.now store.old.store }
     requires text { HasBegun start text.old.items }
     ensures told { ToldFrom start result store.old text.old.items store.new text.new.items
-        (or_else (profile.print_return here after)
-        (definitions.print_any_return characters.now here after)) }
+        (by_alphabets loaded.now.own_alphabets (profile.print_return here after)
+        (definitions.print_any_return loaded.now here after)) }
     ensures text { Grew start text.old.items text.new.items }
 {
+    if loaded.has_own_alphabets() {
+        return print_any_return(header, store, text, start, loaded, here, after);
+    }
     let done = known::print_return(header, store, text, start, here, after);
     if !is_refused(&done) {
         return done;
     }
-    print_any_return(header, store, text, start, characters, here, after)
+    print_any_return(header, store, text, start, loaded, here, after)
 }
 
 /// Prints the short name of an object: `print_obj`.
@@ -426,7 +434,7 @@ pub fn print_object(
     store: &mut Recorded<Store>,
     text: &mut Vec<u8>,
     start: usize,
-    characters: &[u16],
+    loaded: &Loaded,
     here: Next,
     after: u32,
     object: u16,
@@ -434,15 +442,18 @@ pub fn print_object(
     requires store { IsStoreOf header.now store.old.store }
     requires text { HasBegun start text.old.items }
     ensures told { ToldFrom start result store.old text.old.items store.new text.new.items
-        (or_else (print_object here after object)
-        (definitions.print_any_object characters.now here after object)) }
+        (by_alphabets loaded.now.own_alphabets (print_object here after object)
+        (definitions.print_any_object loaded.now here after object)) }
     ensures text { Grew start text.old.items text.new.items }
 {
+    if loaded.has_own_alphabets() {
+        return print_any_object(header, store, text, start, loaded, here, after, object);
+    }
     let done = objects::print_object(header, store, text, start, here, after, object);
     if !is_refused(&done) {
         return done;
     }
-    print_any_object(header, store, text, start, characters, here, after, object)
+    print_any_object(header, store, text, start, loaded, here, after, object)
 }
 
 /// Prints the text at a packed address: `print_paddr`.
@@ -456,7 +467,7 @@ pub fn print_packed(
     store: &mut Recorded<Store>,
     text: &mut Vec<u8>,
     start: usize,
-    characters: &[u16],
+    loaded: &Loaded,
     here: Next,
     after: u32,
     packed: u16,
@@ -464,10 +475,10 @@ pub fn print_packed(
     requires store { IsStoreOf header.now store.old.store }
     requires text { HasBegun start text.old.items }
     ensures told { ToldFrom start result store.old text.old.items store.new text.new.items
-        (or_else (profile.print_packed here after packed)
-        (definitions.print_any_packed characters.now here after packed)) }
+        (by_alphabets loaded.now.own_alphabets (profile.print_packed here after packed)
+        (definitions.print_any_packed loaded.now here after packed)) }
     ensures text { Grew start text.old.items text.new.items }
 {
     let address = unpacked(header, packed);
-    print_address(store, text, start, characters, here, after, address)
+    print_address(store, text, start, loaded, here, after, address)
 }

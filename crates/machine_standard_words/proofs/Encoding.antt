@@ -14,23 +14,23 @@ use Rattle.machine_frames.specs.declared.end.End.TheVariants as ends
 use Rattle.machine_frames.proofs.Steps.{went_still, went_halt}
 use Rattle.machine_lines.specs.Lines.{Filled}
 
-pub form_read : (s : Recording Contents) (memory word form : List ℕ) (at count : ℕ) → IsSound s.store
+pub form_read : (s : Recording Contents) (alphabets : List ℕ) (memory word form : List ℕ) (at count : ℕ) → IsSound s.store
     → memory ≡ memory_of s.store → are_readable memory at count ≡ true → word ≡ slice_range memory at (at + count)
-    → form ≡ form_of word → Went (Ok form) s s (form_at at count)
+    → form ≡ form_of alphabets word → Went (Ok form) s s (form_at alphabets at count)
 unfolding form_at
-form_read s memory word form at count sound is readable part e =
+form_read s alphabets memory word form at count sound is readable part e =
     let holds : are_readable (memory_of s.store) at count ≡ true = rw is at readable in
-    let all : form_of (slice_range (memory_of s.store) at (at + count)) ≡ form =
-    sym (e ∙ ap form_of (part ∙ ap (λ m. slice_range m at (at + count)) is)) in
-    went_still s (form_at at count) sound (λ t. rw (holds, all) refl)
+    let all : form_of alphabets (slice_range (memory_of s.store) at (at + count)) ≡ form =
+    sym (e ∙ ap (form_of alphabets) (part ∙ ap (λ m. slice_range m at (at + count)) is)) in
+    went_still s (form_at alphabets at count) sound (λ t. rw (holds, all) refl)
 
-pub form_unread : (s : Recording Contents) (memory : List ℕ) (at count : ℕ) → IsSound s.store
+pub form_unread : (s : Recording Contents) (alphabets : List ℕ) (memory : List ℕ) (at count : ℕ) → IsSound s.store
     → memory ≡ memory_of s.store → are_readable memory at count ≡ false
-    → Went {A = List ℕ} (Err (ends.Stop (places.Fault faults.Read))) s s (form_at at count)
+    → Went {A = List ℕ} (Err (ends.Stop (places.Fault faults.Read))) s s (form_at alphabets at count)
 unfolding form_at
-form_unread s memory at count sound is unreadable =
+form_unread s alphabets memory at count sound is unreadable =
     let fails : are_readable (memory_of s.store) at count ≡ false = rw is at unreadable in
-    went_halt s (form_at at count) sound (λ t. rw fails refl)
+    went_halt s (form_at alphabets at count) sound (λ t. rw fails refl)
 
 pub bytes_written : (s t : Recording Contents) (at : ℕ) (bytes : List ℕ)
     → are_writable (memory_of s.store) at (length bytes) ≡ true → Filled s t (with_bytes (memory_of s.store) at bytes)

@@ -30,9 +30,9 @@ takes_letters memory text parse h some =
     let p = and_parts _ _ (or_false (text == 0) _ (ne_eqb text 0 some) h) in
     record { room = p.0; slots = p.1 }
 
-pub key_filled : (s : Recording Contents) (text parse : ℕ) (line : List ℕ) → IsSound s.store → text ≡ 0
-    → Filled s s (memory_given text parse line (memory_of s.store))
-key_filled s text parse line sound none =
+pub key_filled : (s : Recording Contents) (alphabets : List ℕ) (text parse : ℕ) (line : List ℕ) → IsSound s.store → text ≡ 0
+    → Filled s s (memory_given alphabets text parse line (memory_of s.store))
+key_filled s alphabets text parse line sound none =
     let same : (text == 0) ≡ true = eq-eqb text 0 none in
     record { goes_on = goes_on_still s sound; state = λ x. rw same refl }
 
@@ -46,10 +46,10 @@ line_result text line some =
     let other : (text == 0) ≡ false = ne_eqb text 0 some in
     rw other refl
 
-pub line_taken : (r t : Recording Contents) (text parse : ℕ) (line : List ℕ) → text ≢ 0
-    → Filled r t (with_line (memory_of r.store) text parse (letters_with (memory_of r.store) text line))
-    → Filled r t (memory_given text parse line (memory_of r.store))
-line_taken r t text parse line some filled =
+pub line_taken : (r t : Recording Contents) (alphabets : List ℕ) (text parse : ℕ) (line : List ℕ) → text ≢ 0
+    → Filled r t (with_line alphabets (memory_of r.store) text parse (letters_with (memory_of r.store) text line))
+    → Filled r t (memory_given alphabets text parse line (memory_of r.store))
+line_taken r t alphabets text parse line some filled =
     let other : (text == 0) ≡ false = ne_eqb text 0 some in
     rw other filled
 
@@ -61,25 +61,25 @@ given_as {R = Ok a} f g goes e w = record { told = (goes_on_after goes w.did.0, 
 given_as {R = Err ends.Memory} f g goes e w = record { told = given_up_after goes w.did }
 given_as {R = Err (ends.Stop x)} f g goes e w = record { told = (goes_on_after goes w.did.0, e ∙ w.did.1 []) }
 
-pub given_told : {R : Result Next End} {r m s t : Recording Contents} (p : Pending) (line : List ℕ)
+pub given_told : {R : Result Next End} {r m s t : Recording Contents} (alphabets : List ℕ) (p : Pending) (line : List ℕ)
     (text parse word fuel : ℕ) → text ≡ p.text_buffer → parse ≡ p.parse_buffer → word ≡ result_given text line
-    → Filled r m (memory_given text parse line (memory_of r.store)) → WaitsNoMore m s
+    → Filled r m (memory_given alphabets text parse line (memory_of r.store)) → WaitsNoMore m s
     → Went R s t (store_result p.result word >>= λ _. goes_on p.return_address fuel)
-    → Told R r [] t [] (standard_given p line fuel)
+    → Told R r [] t [] (standard_given alphabets p line fuel)
 unfolding standard_given
-given_told {R} {r} {m} {s} {t} p line text parse word fuel is_text is_parse is_word filled waits w =
+given_told {R} {r} {m} {s} {t} alphabets p line text parse word fuel is_text is_parse is_word filled waits w =
     let k = memory_of r.store in
     let goes : ℕ → State → Out Next = λ n. store_result p.result n >>= λ _. goes_on p.return_address fuel in
     let e : state_of s.store []
-    ≡ record (state_of r.store []) { memory = memory_given text parse line k; pending = None } =
+    ≡ record (state_of r.store []) { memory = memory_given alphabets text parse line k; pending = None } =
     waits.state [] ∙ ap (λ (x : State). record x { pending = None }) (filled.state []) in
-    let memory : memory_given text parse line k ≡ memory_given p.text_buffer p.parse_buffer line k =
-    ap (λ b. memory_given text b line k) is_parse ∙ ap (λ b. memory_given b p.parse_buffer line k) is_text in
+    let memory : memory_given alphabets text parse line k ≡ memory_given alphabets p.text_buffer p.parse_buffer line k =
+    ap (λ b. memory_given alphabets text b line k) is_parse ∙ ap (λ b. memory_given alphabets b p.parse_buffer line k) is_text in
     let result : word ≡ result_given p.text_buffer line = is_word ∙ ap (λ b. result_given b line) is_text in
-    given_as (standard_given p line fuel) (goes word)
+    given_as (standard_given alphabets p line fuel) (goes word)
     (goes_on_after filled.goes_on waits.goes_on)
     (ap (λ n. goes n (record (state_of r.store []) {
-      memory = memory_given p.text_buffer p.parse_buffer line k;
+      memory = memory_given alphabets p.text_buffer p.parse_buffer line k;
       pending = None;
     })) (sym result)
     ∙ ap (goes word)

@@ -31,60 +31,60 @@ slots_numbers memory parse h =
     let p = and_parts _ _ h in
     record { past = leb-true 64 parse p.0; room = omega (arith, leb-true _ (static_base_of memory) p.1) }
 
-pub slots_filled : {E : Type 0} (r t : Recording Contents) (memory letters bytes : List ℕ)
+pub slots_filled : {E : Type 0} (r t : Recording Contents) (alphabets : List ℕ) (memory letters bytes : List ℕ)
     (dictionary flag text parse count : ℕ) (result : Result (Unit {0}) E) → memory ≡ memory_of r.store
     → letters ≡ letters_in memory text
     → count ≡ length (first_words memory dictionary letters (slice_index memory parse))
-    → bytes ≡ slots_bytes memory dictionary flag (parse + 2)
+    → bytes ≡ slots_bytes alphabets memory dictionary flag (parse + 2)
     (first_words memory dictionary letters (slice_index memory parse))
     → OnOk result (Fills r t (parse + 1) (count ∷ bytes))
-    → OnOk result (Filled r t (with_slots (memory_of r.store) text parse dictionary flag))
-slots_filled r t memory letters bytes dictionary flag text parse count (Ok x) is part number each filled =
+    → OnOk result (Filled r t (with_slots alphabets (memory_of r.store) text parse dictionary flag))
+slots_filled r t alphabets memory letters bytes dictionary flag text parse count (Ok x) is part number each filled =
     let words = λ (l : List ℕ). first_words memory dictionary l (slice_index memory parse) in
-    let all : count ∷ bytes ≡ length (words (letters_in memory text)) ∷ slots_bytes memory dictionary flag (parse + 2)
+    let all : count ∷ bytes ≡ length (words (letters_in memory text)) ∷ slots_bytes alphabets memory dictionary flag (parse + 2)
     (words (letters_in memory text)) =
     ap (λ n. n ∷ bytes) number ∙ ap (λ b. length (words letters) ∷ b) each
-    ∙ ap (λ l. length (words l) ∷ slots_bytes memory dictionary flag (parse + 2) (words l)) part in
+    ∙ ap (λ l. length (words l) ∷ slots_bytes alphabets memory dictionary flag (parse + 2) (words l)) part in
     let memories : with_bytes (memory_of r.store) (parse + 1) (count ∷ bytes)
-    ≡ with_slots (memory_of r.store) text parse dictionary flag =
+    ≡ with_slots alphabets (memory_of r.store) text parse dictionary flag =
     ap (with_bytes (memory_of r.store) (parse + 1)) all
     ∙ ap (λ m. with_bytes (memory_of r.store) (parse + 1)
     (length (first_words m dictionary (letters_in m text) (slice_index m parse))
-    ∷ slots_bytes m dictionary flag (parse + 2)
+    ∷ slots_bytes alphabets m dictionary flag (parse + 2)
     (first_words m dictionary (letters_in m text) (slice_index m parse)))) is in
     subst (Filled r t) memories filled
-slots_filled r t memory letters bytes dictionary flag text parse count (Err e) is part number each filled = tt
+slots_filled r t alphabets memory letters bytes dictionary flag text parse count (Err e) is part number each filled = tt
 
-module _ (s : Recording Contents) (here : Next) (after text parse dictionary flag : ℕ) where
+module _ (s : Recording Contents) (alphabets : List ℕ) (here : Next) (after text parse dictionary flag : ℕ) where
   abbrev memory : List ℕ
   memory = memory_of s.store
 
   pub no_letters : IsSound s.store → has_letters memory text ≡ false
       → Went {A = Next} (Err (ends.Stop (places.Fault faults.Read))) s s
-      (tokenise here after text parse dictionary flag)
+      (tokenise alphabets here after text parse dictionary flag)
   unfolding tokenise test_letters
-  no_letters sound letters = went_halt s (tokenise here after text parse dictionary flag) sound (λ t. rw letters refl)
+  no_letters sound letters = went_halt s (tokenise alphabets here after text parse dictionary flag) sound (λ t. rw letters refl)
 
   pub no_slots : IsSound s.store → has_letters memory text ≡ true → has_slots memory parse ≡ false
       → Went {A = Next} (Err (ends.Stop (places.Fault faults.Buffer))) s s
-      (tokenise here after text parse dictionary flag)
+      (tokenise alphabets here after text parse dictionary flag)
   unfolding tokenise test_letters test_slots
-  no_slots sound letters slots = went_halt s (tokenise here after text parse dictionary flag) sound
+  no_slots sound letters slots = went_halt s (tokenise alphabets here after text parse dictionary flag) sound
       (λ t. rw (letters, slots) refl)
 
   pub no_dictionary : IsSound s.store → has_letters memory text ≡ true → has_slots memory parse ≡ true
       → is_dictionary memory (dictionary_for memory dictionary) ≡ false
       → Went {A = Next} (Err (ends.Stop (places.Fault faults.Read))) s s
-      (tokenise here after text parse dictionary flag)
+      (tokenise alphabets here after text parse dictionary flag)
   unfolding tokenise test_letters test_slots test_dictionary
-  no_dictionary sound letters slots none = went_halt s (tokenise here after text parse dictionary flag) sound
+  no_dictionary sound letters slots none = went_halt s (tokenise alphabets here after text parse dictionary flag) sound
       (λ t. rw (letters, slots, none) refl)
 
   pub tokens_filled : (t : Recording Contents) → has_letters memory text ≡ true → has_slots memory parse ≡ true
       → is_dictionary memory (dictionary_for memory dictionary) ≡ true
-      → Filled s t (with_slots memory text parse (dictionary_for memory dictionary) flag)
+      → Filled s t (with_slots alphabets memory text parse (dictionary_for memory dictionary) flag)
       → Went (Ok (record { program_counter = after; fuel = here.fuel })) s t
-      (tokenise here after text parse dictionary flag)
+      (tokenise alphabets here after text parse dictionary flag)
   unfolding tokenise test_letters test_slots test_dictionary fill_slots
   tokens_filled t letters slots some filled = record {
     did = (

@@ -76,20 +76,20 @@ letters_are memory text count left line old new is long cut front e =
 
 -- Both buffers are filled
 
-pub typed_filled : {E : Type 0} (r s t : Recording Contents) (memory : List ℕ) (dictionary text parse count : ℕ)
+pub typed_filled : {E : Type 0} (r s t : Recording Contents) (alphabets : List ℕ) (memory : List ℕ) (dictionary text parse count : ℕ)
     (letters bytes : List ℕ) (result : Result (Unit {0}) E) → parse ≢ 0
     → memory ≡ memory_of r.store → dictionary ≡ dictionary_of (memory_of r.store)
     → count ≡ length (first_words memory dictionary letters (slice_index memory parse))
-    → bytes ≡ slots_bytes memory dictionary 0 (parse + 2)
+    → bytes ≡ slots_bytes alphabets memory dictionary 0 (parse + 2)
     (first_words memory dictionary letters (slice_index memory parse))
     → Filled r s (with_letters (memory_of r.store) text letters)
     → OnOk result (Filled s t (with_bytes (memory_of s.store) (parse + 1) (count ∷ bytes)))
-    → OnOk result (Filled r t (with_line (memory_of r.store) text parse letters))
-typed_filled r s t memory dictionary text parse count letters bytes (Ok x) some is named number each first second =
+    → OnOk result (Filled r t (with_line alphabets (memory_of r.store) text parse letters))
+typed_filled r s t alphabets memory dictionary text parse count letters bytes (Ok x) some is named number each first second =
     let m = memory_of r.store in
     let slots : List ℕ → ℕ → List ℕ = λ k d.
     length (first_words k d letters (slice_index k parse))
-    ∷ slots_bytes k d 0 (parse + 2) (first_words k d letters (slice_index k parse)) in
+    ∷ slots_bytes alphabets k d 0 (parse + 2) (first_words k d letters (slice_index k parse)) in
     let all : count ∷ bytes ≡ slots m (dictionary_of m) =
     ap (λ n. n ∷ bytes) number
     ∙ ap (λ bs. length (first_words memory dictionary letters (slice_index memory parse)) ∷ bs) each
@@ -97,28 +97,15 @@ typed_filled r s t memory dictionary text parse count letters bytes (Ok x) some 
     let both = filled_then r s t (with_letters m text letters) (λ k. with_bytes k (parse + 1) (count ∷ bytes)) first
     second in
     let none : (parse == 0) ≡ false = ne_eqb parse 0 some in
-    let line : with_line m text parse letters ≡ with_bytes (with_letters m text letters) (parse + 1) (count ∷ bytes)
+    let line : with_line alphabets m text parse letters ≡ with_bytes (with_letters m text letters) (parse + 1) (count ∷ bytes)
     = rw none (ap (with_bytes (with_letters m text letters) (parse + 1)) (sym all)) in
     subst (Filled r t) (sym line) both
-typed_filled r s t memory dictionary text parse count letters bytes (Err e) some is named number each first second = tt
+typed_filled r s t alphabets memory dictionary text parse count letters bytes (Err e) some is named number each first second = tt
 
--- the text buffer alone
-pub letters_filled : {E : Type 0} (r t : Recording Contents) (text parse count : ℕ) (letters all : List ℕ)
-    (result : Result (Unit {0}) E) → parse ≡ 0 → count ≡ length letters → letters ≡ all
-    → OnOk result (Filled r t (with_bytes (memory_of r.store) (text + 1) (count ∷ letters)))
-    → OnOk result (Filled r t (with_line (memory_of r.store) text parse all))
-letters_filled r t text parse count letters all (Ok x) none many same filled =
-    let m = memory_of r.store in
-    let line : with_bytes m (text + 1) (count ∷ letters) ≡ with_line m text parse all =
-    ap (λ n. with_bytes m (text + 1) (n ∷ letters)) many ∙ ap (λ l. with_letters m text l) same
-    ∙ ap (λ p. with_line m text p all) (sym none) in
-    subst (Filled r t) line filled
-letters_filled r t text parse count letters all (Err e) none many same filled = tt
-
-pub line_as : {E : Type 0} (r t : Recording Contents) (text parse : ℕ) (letters all : List ℕ)
+pub line_as : {E : Type 0} (r t : Recording Contents) (alphabets : List ℕ) (text parse : ℕ) (letters all : List ℕ)
     (result : Result (Unit {0}) E) → letters ≡ all
-    → OnOk result (Filled r t (with_line (memory_of r.store) text parse letters))
-    → OnOk result (Filled r t (with_line (memory_of r.store) text parse all))
-line_as r t text parse letters all (Ok x) same filled =
-    subst (λ l. Filled r t (with_line (memory_of r.store) text parse l)) same filled
-line_as r t text parse letters all (Err e) same filled = tt
+    → OnOk result (Filled r t (with_line alphabets (memory_of r.store) text parse letters))
+    → OnOk result (Filled r t (with_line alphabets (memory_of r.store) text parse all))
+line_as r t alphabets text parse letters all (Ok x) same filled =
+    subst (λ l. Filled r t (with_line alphabets (memory_of r.store) text parse l)) same filled
+line_as r t alphabets text parse letters all (Err e) same filled = tt

@@ -16,7 +16,7 @@ pub record CanBeGiven (s : Contents) : Type 0 where
   pub right : can_take (memory_of s) pending.text_buffer pending.parse_buffer ≡ true
 
 -- What was answered to a line, and the store that is left, are what the definition makes of the state.
-abbrev pub TakesGiven : Result Next End → Recording Contents → Recording Contents → List ℕ → ℕ → Type 0
-TakesGiven result old new line fuel =
+abbrev pub TakesGiven : List ℕ → Result Next End → Recording Contents → Recording Contents → List ℕ → ℕ → Type 0
+TakesGiven alphabets result old new line fuel =
     (pending : Pending) → pending_of (slice_index old.store.cells) ≡ Some pending
-    → Told result old [] new [] (standard_given pending line fuel)
+    → Told result old [] new [] (standard_given alphabets pending line fuel)

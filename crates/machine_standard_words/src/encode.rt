@@ -3,6 +3,7 @@
 
 ghost use Rattle.std.specs.Prelude.{◌≡◌, ◌+◌, true, slice_range};
 ghost use Rattle.zcore_standard.specs.Words as definitions;
+ghost use Rattle.zcore_standard.specs.Loaded.{alphabets_of};
 ghost use Rattle.machine_frames.specs.States.{IsSound, IsStoreOf};
 ghost use Rattle.machine_frames.specs.Went.{Went};
 
@@ -12,6 +13,7 @@ use journal::Recorded;
 use machine_frames::{End, Store};
 use zcore::layout::{KEY_LENGTH, READABLE};
 use zcore::{Fault, Header, Next, Place};
+use zcore_standard::Loaded;
 
 /// Writes the form that a word has in a dictionary: `encode_text`. The word begins at the sum of
 /// two words modulo 65,536, and has `count` characters; capitals stay capitals.
@@ -23,6 +25,7 @@ use zcore::{Fault, Header, Next, Place};
 /// up.
 pub fn encode_text(
     header: &Header,
+    loaded: &Loaded,
     store: &mut Recorded<Store>,
     here: Next,
     after: u32,
@@ -33,9 +36,9 @@ pub fn encode_text(
 ) -> Result<Next, End>
     requires { IsStoreOf header.now store.old.store }
     ensures { Went result store.old store.new
-        (definitions.encode_text here after text count from coded) }
+        (definitions.encode_text (alphabets_of loaded.now) here after text count from coded) }
 {
-    let form = form_at(store, text.wrapping_add(from), count)?;
+    let form = form_at(loaded, store, text.wrapping_add(from), count)?;
     write_form(header, store, coded, &form)?;
     Ok(Next {
         program_counter: after,
@@ -44,15 +47,16 @@ pub fn encode_text(
 }
 
 /// The form of a word in memory.
-fn form_at(store: &Recorded<Store>, at: u16, count: u16) -> Result<[u8; 6], End>
+fn form_at(loaded: &Loaded, store: &Recorded<Store>, at: u16, count: u16) -> Result<[u8; 6], End>
     requires { IsSound store.now.store }
-    ensures { Went result store.now store.now (definitions.form_at at count) }
+    ensures { Went result store.now store.now
+        (definitions.form_at (alphabets_of loaded.now) at count) }
 {
     let memory = store.store().memory();
     if !are_readable(memory, at, count) {
         return Err(End::Stop(Place::Fault(Fault::Read)));
     }
-    Ok(form_of(bytes_at(memory, at, count)))
+    Ok(form_of(loaded.alphabets(), bytes_at(memory, at, count)))
 }
 
 /// Whether so many bytes from an address on can be read.

@@ -1,13 +1,17 @@
 //! The form of a word in a dictionary (Z-Machine Standards Document 1.1, sections 3.7 and 13.3).
 
-ghost use Rattle.std.specs.Prelude.{◌≡◌, ◌<◌, ◌≤◌, ◌++◌, ℕ, List, length, take, MatchOption, ⊤};
+ghost use Rattle.std.specs.Prelude.{◌≡◌, ◌<◌, ◌≤◌, ◌++◌, ℕ, List, length, take, slice_range, MatchOption, ⊤};
 ghost use Rattle.ztext.specs.Alphabets as spec;
 ghost use Rattle.ztext.specs.TextParts.{AreSmall, IsFilledKey};
 ghost use Rattle.ztext.specs.Words as words;
+ghost use Rattle.zcore_standard.specs.Texts as texts;
 ghost use Rattle.zcore_standard.specs.Words as definitions;
 
-/// Alphabet A2, from Z-character 8 on.
-static PUNCTUATION: [u8; 24] = *b"0123456789.,!?_#'\"/\\-:()";
+/// How many letters each alphabet has.
+const LETTERS: usize = 26;
+
+/// Where the letters of the third alphabet begin, from Z-character 8 on.
+const THIRD: usize = 54;
 
 /// The Z-characters of a character: the first `length` of `characters`.
 #[derive(Clone, Copy)]
@@ -32,12 +36,18 @@ fn place_in(letters: &[u8], c: u8) -> Option<usize>
     letters.iter().position(|letter| *letter == c)
 }
 
-/// How a character is spelled that is no letter, no space and no new line.
-fn sign_spelling(c: u8) -> ZCharacters
-    ensures { take result.length result.characters
-        ≡ spec.spelling_in_punctuation (spec.place_in spec.punctuation c) c }
+/// How a character is spelled that neither of the first two alphabets has: a new line, a letter of
+/// the third, or an escape.
+fn spelling_in_third(alphabets: &[u8; 78], c: u8) -> ZCharacters
+    ensures { take result.length result.characters ≡ texts.spelled_in_third alphabets.now c }
 {
-    match place_in(&PUNCTUATION, c) {
+    if c == b'\r' {
+        return ZCharacters {
+            characters: [5, 7, 5, 5],
+            length: 2,
+        };
+    }
+    match place_in(&alphabets[THIRD..], c) {
         Some(place) => ZCharacters {
             characters: [5, place as u8 + 8, 5, 5],
             length: 2,
@@ -49,47 +59,48 @@ fn sign_spelling(c: u8) -> ZCharacters
     }
 }
 
-/// How a character is spelled: in the first alphabet that has it, or else as an escape.
-#[tactic(auto, using(ztext::proofs::Spelling::space_spelling, ztext::proofs::Spelling::lower_spelling, ztext::proofs::Spelling::upper_spelling, ztext::proofs::Spelling::line_spelling, ztext::proofs::Spelling::sign_spelling))]
-fn spelling(c: u8) -> ZCharacters
-    ensures { take result.length result.characters ≡ spec.spelling_of c }
+/// How a character is spelled that the first alphabet has not.
+fn spelling_in_second(alphabets: &[u8; 78], c: u8) -> ZCharacters
+    ensures { take result.length result.characters
+        ≡ texts.spelled_in_second alphabets.now (spec.place_in (slice_range alphabets.now 26 52) c) c }
 {
-    if c >= b'a' && c <= b'z' {
-        return ZCharacters {
-            characters: [c - b'a' + 6, 5, 5, 5],
-            length: 1,
-        };
+    match place_in(&alphabets[LETTERS..2 * LETTERS], c) {
+        Some(place) => ZCharacters {
+            characters: [4, place as u8 + 6, 5, 5],
+            length: 2,
+        },
+        None => spelling_in_third(alphabets, c),
     }
+}
+
+/// How a character is spelled: in the first alphabet that has it, or else as an escape.
+fn spelling(alphabets: &[u8; 78], c: u8) -> ZCharacters
+    ensures { take result.length result.characters ≡ texts.spelling_by alphabets.now c }
+{
     if c == b' ' {
         return ZCharacters {
             characters: [0, 5, 5, 5],
             length: 1,
         };
     }
-    if c >= b'A' && c <= b'Z' {
-        return ZCharacters {
-            characters: [4, c - b'A' + 6, 5, 5],
-            length: 2,
-        };
+    match place_in(&alphabets[..LETTERS], c) {
+        Some(place) => ZCharacters {
+            characters: [place as u8 + 6, 5, 5, 5],
+            length: 1,
+        },
+        None => spelling_in_second(alphabets, c),
     }
-    if c == b'\r' {
-        return ZCharacters {
-            characters: [5, 7, 5, 5],
-            length: 2,
-        };
-    }
-    sign_spelling(c)
 }
 
 /// Adds the Z-characters of a character to the first `count` of nine, as far as there is room, and
 /// answers how many there are then.
-fn put_spelling(characters: &mut [u8; 9], count: usize, c: u8) -> usize
+fn put_spelling(characters: &mut [u8; 9], alphabets: &[u8; 78], count: usize, c: u8) -> usize
     requires { count ≤ 9 }
     ensures { (zs : List ℕ) → IsFilledKey zs count characters.old
-        → IsFilledKey (zs ++ spec.spelling_of c) result characters.new }
+        → IsFilledKey (zs ++ texts.spelling_by alphabets.now c) result characters.new }
 {
     let mut filled = count;
-    for z in spelling(c).as_slice() {
+    for z in spelling(alphabets, c).as_slice() {
         if filled < 9 {
             characters[filled] = *z;
             filled += 1;
@@ -120,16 +131,16 @@ fn packed(characters: &[u8; 9]) -> [u8; 6]
     [a, b, c, d, e, f]
 }
 
-/// The form of a word in a dictionary: its first nine Z-characters, filled with fives, in three
-/// words. Capitals stay capitals. Every word has a form, whatever its bytes, and none asks for
-/// memory.
-pub(crate) fn form_of(word: &[u8]) -> [u8; 6]
-    ensures { result ≡ definitions.form_of word.now }
+/// The form of a word in a dictionary by these alphabets: its first nine Z-characters, filled with
+/// fives, in three words. Capitals stay capitals. Every word has a form, whatever its bytes, and none
+/// asks for memory.
+pub(crate) fn form_of(alphabets: &[u8; 78], word: &[u8]) -> [u8; 6]
+    ensures { result ≡ definitions.form_of alphabets.now word.now }
 {
     let mut characters = [5; 9];
     let mut count = 0;
     for c in word {
-        count = put_spelling(&mut characters, count, *c);
+        count = put_spelling(&mut characters, alphabets, count, *c);
     }
     packed(&characters)
 }

@@ -3,6 +3,7 @@
 
 ghost use Rattle.std.specs.Prelude.{◌≡◌, true, IfOk, OnOk, OnErr};
 ghost use Rattle.zcore_standard.specs.Reading as definitions;
+ghost use Rattle.zcore_standard.specs.Loaded.{alphabets_of};
 ghost use Rattle.machine_frames.specs.Contents.{memory_of};
 ghost use Rattle.machine_frames.specs.States.{IsSound, IsStoreOf};
 ghost use Rattle.machine_frames.specs.Went.{GivenUp};
@@ -16,6 +17,7 @@ use machine_frames::layout::{PARSE_BUFFER, RESULT_VARIABLE, RETURN_ADDRESS, TEXT
 use machine_frames::{End, Store, cell, long, store_result, variable_in};
 use zcore::layout::NEW_LINE;
 use zcore::{Header, Next};
+use zcore_standard::Loaded;
 
 /// The word of the character that ends a line.
 const TERMINATOR: u16 = NEW_LINE as u16;
@@ -28,19 +30,20 @@ const TERMINATOR: u16 = NEW_LINE as u16;
 /// `End::Memory` where memory was refused: the turn is given up.
 pub fn give_typed(
     header: &Header,
+    loaded: &Loaded,
     store: &mut Recorded<Store>,
     line: &[u8],
     fuel: u32,
 ) -> Result<Next, End>
     requires store { IsStoreOf header.now store.old.store }
     requires waiting { CanBeGiven store.old.store }
-    ensures { TakesGiven result store.old store.new line.now fuel }
+    ensures { TakesGiven (alphabets_of loaded.now) result store.old store.new line.now fuel }
 {
     let text = cell(store, TEXT_BUFFER);
     let parse = cell(store, PARSE_BUFFER);
     let result_variable = variable_in(cell(store, RESULT_VARIABLE));
     let program_counter = long(store, RETURN_ADDRESS);
-    let word = take_typed(header, store, text, parse, line)?;
+    let word = take_typed(header, loaded, store, text, parse, line)?;
     stop_waiting(store)?;
     store_result(header, store, result_variable, word)?;
     Ok(Next {
@@ -53,6 +56,7 @@ pub fn give_typed(
 /// key that ended the line. Text buffer 0 waits for a key: this is given, and nothing is filled.
 fn take_typed(
     header: &Header,
+    loaded: &Loaded,
     store: &mut Recorded<Store>,
     text: u16,
     parse: u16,
@@ -62,13 +66,14 @@ fn take_typed(
     requires given { definitions.can_take (memory_of store.old.store) text parse ≡ true }
     ensures word { IfOk result (λ word. word ≡ definitions.result_given text line.now) }
     ensures filled { OnOk result (Filled store.old store.new
-        (definitions.memory_given text parse line.now (memory_of store.old.store))) }
+        (definitions.memory_given (alphabets_of loaded.now) text parse line.now
+        (memory_of store.old.store))) }
     ensures given_up { OnErr result (GivenUp store.old store.new) }
 {
     if text == 0 {
         return Ok(key_of_line(line));
     }
-    fill_line(header, store, text, parse, line)?;
+    fill_line(header, loaded, store, text, parse, line)?;
     Ok(TERMINATOR)
 }
 

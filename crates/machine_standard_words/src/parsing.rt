@@ -4,6 +4,7 @@ ghost use Rattle.std.specs.Prelude.{◌≡◌, ◌≤◌, true, length, OnOk, On
 ghost use Rattle.zcore.specs.Dictionary as dictionaries;
 ghost use Rattle.zcore.specs.Header.{dictionary_of, static_base_of};
 ghost use Rattle.zcore_standard.specs.Words as definitions;
+ghost use Rattle.zcore_standard.specs.Loaded.{alphabets_of};
 ghost use Rattle.machine_frames.specs.Contents.{memory_of};
 ghost use Rattle.machine_frames.specs.States.{IsStoreOf};
 ghost use Rattle.machine_frames.specs.Went.{GivenUp, Went};
@@ -16,6 +17,7 @@ use machine_frames::{End, Store};
 use tables::is_dictionary;
 use zcore::layout::READABLE;
 use zcore::{Fault, Header, Next, Place};
+use zcore_standard::Loaded;
 
 /// Cuts the letters of a text buffer into words, looks them up, and fills the slots of a parse
 /// buffer: `tokenise`. Dictionary 0 is the story's. With the flag (not 0) a word that is not found
@@ -28,6 +30,7 @@ use zcore::{Fault, Header, Next, Place};
 /// was refused: the turn is given up.
 pub fn tokenise(
     header: &Header,
+    loaded: &Loaded,
     store: &mut Recorded<Store>,
     here: Next,
     after: u32,
@@ -38,7 +41,7 @@ pub fn tokenise(
 ) -> Result<Next, End>
     requires { IsStoreOf header.now store.old.store }
     ensures { Went result store.old store.new
-        (definitions.tokenise here after text parse dictionary flag) }
+        (definitions.tokenise (alphabets_of loaded.now) here after text parse dictionary flag) }
 {
     let memory = store.store().memory();
     let search = search_for(header, dictionary, flag);
@@ -51,7 +54,7 @@ pub fn tokenise(
     if !is_dictionary(memory, search.dictionary) {
         return Err(End::Stop(Place::Fault(Fault::Read)));
     }
-    fill_slots(header, store, search, text, parse)?;
+    fill_slots(header, loaded, store, search, text, parse)?;
     Ok(Next {
         program_counter: after,
         fuel: here.fuel,
@@ -108,6 +111,7 @@ pub(crate) fn has_slots(memory: &[u8], static_base: u16, parse: u16) -> bool
 /// Fills the slots of a parse buffer. The words are found before a byte is written.
 fn fill_slots(
     header: &Header,
+    loaded: &Loaded,
     store: &mut Recorded<Store>,
     search: Search,
     text: u16,
@@ -120,13 +124,15 @@ fn fill_slots(
     requires own { search.is_ordered ≡ true → search.dictionary ≡ header.now.dictionary.address }
     requires ordered { search.is_ordered ≡ true → header.now.dictionary.is_ordered ≡ true }
     ensures filled { OnOk result (Filled store.old store.new
-        (definitions.with_slots (memory_of store.old.store) text parse search.dictionary search.flag)) }
+        (definitions.with_slots (alphabets_of loaded.now) (memory_of store.old.store) text parse
+        search.dictionary search.flag)) }
     ensures given_up { OnErr result (GivenUp store.old store.new) }
 {
     let memory = store.store().memory();
     let at = parse as usize;
     let mut bytes = [0; SLOTS_LENGTH];
     let words = slots(
+        loaded,
         memory,
         search,
         letters_in(memory, text),

@@ -5,10 +5,12 @@ ghost use Rattle.std.specs.Prelude.{◌≡◌, ◌≤◌, ◌+◌, ◌*◌, ◌+
 ghost use Rattle.zcore.specs.Header.{HasDictionaryHead, IsDictionary, static_end};
 ghost use Rattle.zcore.specs.Parsing.{separators_of, first_words};
 ghost use Rattle.zcore_standard.specs.Words.{slot_bytes, slots_bytes};
+ghost use Rattle.zcore_standard.specs.Loaded.{alphabets_of};
 ghost use Rattle.tables.specs.Placed.{word_of};
 
 use crate::search::entry_with_form;
 use tables::{Word, cut_line};
+use zcore_standard::Loaded;
 
 /// The bytes of as many slots as a parse buffer can have.
 pub(crate) const SLOTS_LENGTH: usize = 4 * 255;
@@ -28,6 +30,7 @@ pub(crate) struct Search {
 /// are. `at` is the address of the first slot, whose bytes are read where the flag leaves them. It
 /// takes no memory.
 pub(crate) fn slots(
+    loaded: &Loaded,
     memory: &[u8],
     search: Search,
     letters: &[u8],
@@ -41,7 +44,8 @@ pub(crate) fn slots(
     requires room { at + 4 * most ≤ static_end memory.now }
     ensures count { result ≡ length (first_words memory.now search.dictionary letters.now most) }
     ensures few { result ≤ most }
-    ensures bytes { take (4 * result) bytes.new ≡ slots_bytes memory.now search.dictionary search.flag
+    ensures bytes { take (4 * result) bytes.new
+        ≡ slots_bytes (alphabets_of loaded.now) memory.now search.dictionary search.flag
         at (first_words memory.now search.dictionary letters.now most) }
 {
     let mut words = cut_line(letters, separators(memory, search.dictionary));
@@ -50,7 +54,7 @@ pub(crate) fn slots(
         match words.next() {
             Some(word) => {
                 let offset = 4 * count as usize;
-                put_slot(memory, search, word, at + offset, bytes, offset);
+                put_slot(loaded, memory, search, word, at + offset, bytes, offset);
                 count += 1;
             }
             None => break,
@@ -70,6 +74,7 @@ fn separators(memory: &[u8], dictionary: u16) -> &[u8]
 
 /// Writes the slot of a word, which is at an address, to a place of a row.
 fn put_slot(
+    loaded: &Loaded,
     memory: &[u8],
     search: Search,
     word: Word,
@@ -82,9 +87,16 @@ fn put_slot(
     requires room { place + 4 ≤ 1020 }
     requires within { word.place + length word.bytes.now ≤ 255 }
     ensures { take (place + 4) bytes.new ≡ take place bytes.old
-        ++ slot_bytes memory.now search.dictionary search.flag at (word_of word.entry) }
+        ++ slot_bytes (alphabets_of loaded.now) memory.now search.dictionary search.flag at
+        (word_of word.entry) }
 {
-    let entry = entry_with_form(memory, search.dictionary, search.is_ordered, word.bytes);
+    let entry = entry_with_form(
+        loaded,
+        memory,
+        search.dictionary,
+        search.is_ordered,
+        word.bytes,
+    );
     if entry == 0 && search.flag != 0 {
         put_four(
             bytes,

@@ -6,6 +6,7 @@ ghost use Rattle.zcore.specs.Header.{static_base_of};
 ghost use Rattle.zcore.specs.Layout.{header_size};
 ghost use Rattle.ztext.specs.Text as texts;
 ghost use Rattle.zcore_standard.specs.Reading as definitions;
+ghost use Rattle.zcore_standard.specs.Loaded.{alphabets_of};
 ghost use Rattle.machine_frames.specs.Contents.{memory_of};
 ghost use Rattle.machine_frames.specs.States.{IsStoreOf};
 ghost use Rattle.machine_frames.specs.Went.{GivenUp};
@@ -16,6 +17,7 @@ use crate::slots::{SLOTS_LENGTH, Search, slots};
 use journal::{NoMemory, Recorded};
 use machine_frames::Store;
 use zcore::Header;
+use zcore_standard::Loaded;
 
 /// As many letters as a text buffer can have room for.
 const MOST_LETTERS: usize = 255;
@@ -29,6 +31,7 @@ const MOST_LETTERS: usize = 255;
 /// Memory was refused: the turn is given up.
 pub(crate) fn fill_line(
     header: &Header,
+    loaded: &Loaded,
     store: &mut Recorded<Store>,
     text: u16,
     parse: u16,
@@ -38,7 +41,7 @@ pub(crate) fn fill_line(
     requires room { definitions.has_room (memory_of store.old.store) text ≡ true }
     requires slots { definitions.has_slots_or_none (memory_of store.old.store) parse ≡ true }
     ensures filled { OnOk result (Filled store.old store.new
-        (definitions.with_line (memory_of store.old.store) text parse
+        (definitions.with_line (alphabets_of loaded.now) (memory_of store.old.store) text parse
         (definitions.letters_with (memory_of store.old.store) text line.now))) }
     ensures given_up { OnErr result (GivenUp store.old store.new) }
 {
@@ -46,6 +49,7 @@ pub(crate) fn fill_line(
     let count = put_letters(store.store().memory(), text as usize, line, &mut letters);
     fill_letters(
         header,
+        loaded,
         store,
         text as usize,
         parse as usize,
@@ -104,6 +108,7 @@ fn lower_case(letter: u8) -> u8
 /// Fills the buffers with letters and their words. Parse buffer 0 is none.
 fn fill_letters(
     header: &Header,
+    loaded: &Loaded,
     store: &mut Recorded<Store>,
     text: usize,
     parse: usize,
@@ -116,18 +121,20 @@ fn fill_letters(
     requires words_past_header { parse ≢ 0 → header_size ≤ parse }
     requires words_room { HasRoomForWords store.old.store parse }
     ensures filled { OnOk result (Filled store.old store.new
-        (definitions.with_line (memory_of store.old.store) text parse letters.now)) }
+        (definitions.with_line (alphabets_of loaded.now) (memory_of store.old.store) text parse
+        letters.now)) }
     ensures given_up { OnErr result (GivenUp store.old store.new) }
 {
     if parse == 0 {
         return fill_counted(store, text + 1, letters.len() as u8, letters);
     }
-    fill_words(header, store, text, parse, letters)
+    fill_words(header, loaded, store, text, parse, letters)
 }
 
 /// Fills both buffers with letters and their words. The words are found before a byte is written.
 fn fill_words(
     header: &Header,
+    loaded: &Loaded,
     store: &mut Recorded<Store>,
     text: usize,
     parse: usize,
@@ -141,7 +148,8 @@ fn fill_words(
     requires words_past_header { header_size ≤ parse }
     requires words_room { HasRoomForWords store.old.store parse }
     ensures filled { OnOk result (Filled store.old store.new
-        (definitions.with_line (memory_of store.old.store) text parse letters.now)) }
+        (definitions.with_line (alphabets_of loaded.now) (memory_of store.old.store) text parse
+        letters.now)) }
     ensures given_up { OnErr result (GivenUp store.old store.new) }
 {
     let memory = store.store().memory();
@@ -152,6 +160,7 @@ fn fill_words(
     };
     let mut bytes = [0; SLOTS_LENGTH];
     let words = slots(
+        loaded,
         memory,
         search,
         letters,

@@ -2,8 +2,8 @@
 
 use crate::explanation::Explanation;
 
-/// Z1 to Z10.
-pub(crate) static STORIES: [Explanation; 10] = [
+/// Z1 to Z9.
+pub(crate) static STORIES: [Explanation; 9] = [
     Explanation {
         name: "Z1",
         title: "text with a bad character",
@@ -82,15 +82,6 @@ bytes 28 and 29.",
         rule: "The system refused memory while the story was loaded. This says nothing about
 the story. End other programs or raise the memory limit (ulimit -v), and play it
 again.",
-        example: None,
-    },
-    Explanation {
-        name: "Z10",
-        title: "own alphabets",
-        rule: "Word 52 of the header is not 0: the story brings its own alphabets, by which its
-texts are packed, and play --standard does not have them yet. Without --standard
-play takes no notice of that word, and prints other letters than those meant.
-Use another player for this story.",
         example: None,
     },
 ];

@@ -20,7 +20,7 @@ mod written;
 pub use exit::status;
 pub use fault::{OpenFault, RunFault};
 pub use machine::LoadFault;
-pub use machine_standard::{LoadingFault, StandardFault};
+pub use machine_standard::StandardFault;
 pub use mode::Mode;
 pub use reply::Reply;
 pub use running::run;

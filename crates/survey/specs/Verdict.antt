@@ -1,10 +1,9 @@
 -- Whether a file loads, and why not.
 use Rattle.std.specs.Prelude.{◌≡◌, ℕ, List, Result, Ok, Err}
 use Rattle.zcore.specs.declared.header.Header.{Header}
+use Rattle.zcore.specs.declared.header.HeaderFault.{HeaderFault}
 use Rattle.zcore.specs.Header.{Reads, dictionary_of, entry_count}
 use Rattle.zcore_standard.specs.declared.loading.LoadedStory.{LoadedStory}
-use Rattle.zcore_standard.specs.declared.loading.LoadingFault.{LoadingFault}
-use Rattle.zcore_standard.specs.declared.loading.LoadingFault.TheVariants as faults
 use Rattle.zcore_standard.specs.Loading.{ReadsFile, memory_for}
 use Rattle.survey.specs.declared.contents.Contents.{Contents}
 use Rattle.survey.specs.declared.mode.Mode.{Mode}
@@ -16,10 +15,9 @@ HasWordsOf memory contents = contents.words ≡ entry_count memory (dictionary_o
 
 -- For the profile a story loads where its header is read, and has the words of its dictionary; else the cause is the one
 -- for which it is not read. For the whole Standard a file loads where it is read so.
-abbrev pub IsVerdict : Mode → List ℕ → Result Contents LoadingFault → Type 0
+abbrev pub IsVerdict : Mode → List ℕ → Result Contents HeaderFault → Type 0
 IsVerdict Profile story (Ok contents) = ((header : Header) × Reads story (Ok header)) × HasWordsOf story contents
-IsVerdict Profile story (Err (faults.Header fault)) = Reads story (Err fault)
-IsVerdict Profile story (Err faults.OwnAlphabets) = ⊥
+IsVerdict Profile story (Err fault) = Reads story (Err fault)
 IsVerdict Standard file (Ok contents) =
     ((story : LoadedStory) × ReadsFile file (Ok story)) × HasWordsOf (memory_for file) contents
 IsVerdict Standard file (Err fault) = ReadsFile file (Err fault)

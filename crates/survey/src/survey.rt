@@ -16,7 +16,7 @@ use std::alloc::{AllocError, Global};
 use std::fmt;
 use zcore::layout::{HEADER_LENGTH, LONGEST_STORY};
 use zcore::{Header, HeaderFault};
-use zcore_standard::{LoadingFault, load};
+use zcore_standard::load;
 
 /// So many bytes no story has with the filling behind it.
 const TOO_LONG: usize = LONGEST_STORY + 512;
@@ -41,7 +41,7 @@ pub struct Survey {
     pub misplaced: Option<Misplaced>,
 
     /// What it holds, or why it is not loaded.
-    pub found: Result<Contents, LoadingFault>,
+    pub found: Result<Contents, HeaderFault>,
 }
 
 /// A survey in a few words: `loads`, `Z7`, or `needs random, aread with 4 operands`.
@@ -85,7 +85,7 @@ impl Survey {
 fn read_for_profile(
     alloc: Global,
     story: &[u8],
-) -> Result<Result<Contents, LoadingFault>, AllocError>
+) -> Result<Result<Contents, HeaderFault>, AllocError>
     ensures { IfOk result (IsVerdict Profile story.now) }
 {
     match Header::read(story) {
@@ -93,7 +93,7 @@ fn read_for_profile(
             let contents = Contents::read(alloc, story, &header, Mode::Profile)?;
             Ok(Ok(contents))
         }
-        Err(fault) => Ok(Err(LoadingFault::Header(fault))),
+        Err(fault) => Ok(Err(fault)),
     }
 }
 
@@ -101,7 +101,7 @@ fn read_for_profile(
 fn read_for_standard(
     alloc: Global,
     file: &[u8],
-) -> Result<Result<Contents, LoadingFault>, AllocError>
+) -> Result<Result<Contents, HeaderFault>, AllocError>
     ensures { IfOk result (IsVerdict Standard file.now) }
 {
     let copy = copy_of(alloc, file)?;
@@ -119,7 +119,7 @@ fn copy_of(alloc: Global, file: &[u8]) -> Result<Vec<u8>, AllocError>
 
 /// What the copy of a file holds that the Standard's machine loads, or why it does not.
 #[tactic(auto, using(crate::proofs::Loading::short_memory))]
-fn read_copy(alloc: Global, file: Vec<u8>) -> Result<Result<Contents, LoadingFault>, AllocError>
+fn read_copy(alloc: Global, file: Vec<u8>) -> Result<Result<Contents, HeaderFault>, AllocError>
     ensures { IfOk result (IsVerdict Standard file.items) }
 {
     let mut memory = file;
@@ -169,11 +169,7 @@ impl fmt::Display for Survey {
         }
         match &self.found {
             Ok(contents) => write!(f, "loads\n{contents}"),
-            Err(LoadingFault::Header(fault)) => write_cause(f, self, *fault),
-            Err(LoadingFault::OwnAlphabets) => {
-                let fault = LoadingFault::OwnAlphabets;
-                writeln!(f, "{fault}: the story has its own alphabets")
-            }
+            Err(fault) => write_cause(f, self, *fault),
         }
     }
 }

@@ -18,7 +18,7 @@ use Rattle.zcore.proofs.FallsOfParts.{branch_on_falls}
 use Rattle.zcore.proofs.FallsOfEffects.{give_result_falls}
 use Rattle.zcore_standard.specs.declared.operations.Further.{Further}
 use Rattle.zcore_standard.specs.declared.operations.Further.TheVariants as operations
-use Rattle.zcore_standard.specs.Loaded.{Loaded}
+use Rattle.zcore_standard.specs.Loaded.{Loaded, alphabets_of}
 use Rattle.zcore_standard.specs.Shifts.{log_shift, art_shift}
 use Rattle.zcore_standard.specs.Unicode.{transcript_of, print_whole, print_unicode, check_unicode}
 use Rattle.zcore_standard.specs.Flow.{catch, frames_at, leave_frame, throw, verify}
@@ -189,10 +189,11 @@ perform_keeping_falls loaded operations.SoundEffect here after result branch val
 perform_keeping_falls loaded operations.ScanTable here after result branch values ahead = scan_table_falls here after
     result branch (slice_index values 0) (slice_index values 1) (slice_index values 2)
     (slice_index_or values 3 words_of_table) ahead
-perform_keeping_falls loaded operations.Tokenise here after result branch values ahead = tokenise_falls here after
+perform_keeping_falls loaded operations.Tokenise here after result branch values ahead = tokenise_falls
+    (alphabets_of loaded) here after
     (slice_index values 0) (slice_index values 1) (slice_index_or values 2 0) (slice_index_or values 3 0) ahead
-perform_keeping_falls loaded operations.EncodeText here after result branch values ahead = encode_text_falls here
-    after (slice_index values 0) (slice_index values 1) (slice_index values 2) (slice_index_or values 3 0) ahead
+perform_keeping_falls loaded operations.EncodeText here after result branch values ahead = encode_text_falls
+    (alphabets_of loaded) here after (slice_index values 0) (slice_index values 1) (slice_index values 2) (slice_index_or values 3 0) ahead
 perform_keeping_falls loaded operations.CopyTable here after result branch values ahead = copy_table_falls here after
     (slice_index values 0) (slice_index values 1) (slice_index values 2) ahead
 perform_keeping_falls loaded operations.PrintTable here after result branch values ahead = print_table_falls

@@ -30,6 +30,7 @@ loaded = record {
   dice = seeded 12345;
   is_sum_right = true;
   characters = [];
+  own_alphabets = None;
 }
 
 -- a call that was made at 60, with one local, and its result to the stack

@@ -1,18 +1,23 @@
 -- Where no letters are left over, a line is given as in the profile.
 use Rattle.std.proofs.Common.{◌≡◌, ℕ, ◌+◌, ◌-◌, zero, suc, List, [], ◌∷◌, ◌++◌, length, map, take, refl, ap}
-use Rattle.std.proofs.Common.{◌∙◌, arith, Bool, true, false, cond, slice_index}
-use Rattle.std.specs.Prelude.{◌==◌, ◌&&◌, nat_le}
+use Rattle.std.proofs.Common.{◌∙◌, arith, Bool, true, false, cond, slice_index, Option, Some, None}
+use Rattle.std.specs.Prelude.{◌==◌, ◌&&◌, nat_le, replicate}
 use Rattle.std.specs.List.{AllByRecursion, flat_map}
 use Rattle.std.proofs.lemmas.Bool.{and_parts, leb-true, lt-leb, eqb-true, ne_eqb}
+use Rattle.ztext.specs.Alphabets.{lower_letters, upper_letters, place_in, spelling_in_lower, spelling_in_upper}
+use Rattle.ztext.specs.Alphabets.{spelled, spelling_of}
 use Rattle.ztext.specs.Text.{lower_case, key_of}
+use Rattle.ztext.specs.Words.{packed}
 use Rattle.zcore.specs.Cutting.{Word, is_among, with_run, words_from, words_of}
 use Rattle.zcore.specs.Header.{dictionary_of}
+use Rattle.zcore.specs.Dictionary.{number_of_key, entry_of}
 use Rattle.zcore.specs.Parsing.{separators_of, first_words, entry_for, word_bytes}
 use Rattle.zcore.specs.Parts.{is_text_buffer}
 use Rattle.zcore.specs.State.{Pending, State}
 use Rattle.zcore.specs.Turn as turns
 use Rattle.zcore.specs.Turn.{with_bytes, with_letters, letters_for, given}
 use Rattle.zcore_standard.specs.Reading.{letters_with, with_words, memory_given, result_given, standard_given}
+use Rattle.zcore_standard.specs.Texts.{default_alphabets, spelled_by, spelled_in_first, spelled_in_second, spelling_by}
 use Rattle.zcore_standard.specs.Words.{form_of, entry_with_form, slots_bytes}
 
 -- Letters that are small already
@@ -80,13 +85,35 @@ small_words memory dictionary letters most s =
     small_first most (words_from (separators_of memory dictionary) 0 [] letters)
     (small_from (separators_of memory dictionary) 0 [] letters tt s)
 
+-- The default alphabets
+
+second_by_default : (o : Option ℕ) (code : ℕ) → spelled_in_second default_alphabets o code ≡ spelling_in_upper o code
+second_by_default (Some place) code = refl
+second_by_default None code = refl
+
+first_by_default : (o : Option ℕ) (code : ℕ) → spelled_in_first default_alphabets o code ≡ spelling_in_lower o code
+first_by_default (Some place) code = refl
+first_by_default None code = second_by_default (place_in upper_letters code) code
+
+pub spelling_by_default : (code : ℕ) → spelling_by default_alphabets code ≡ spelling_of code
+unfolding spelling_by spelling_of
+spelling_by_default code =
+    ap (λ zs. cond (code == 32) (0 ∷ []) zs) (first_by_default (place_in lower_letters code) code)
+
+spelled_by_default : (codes : List ℕ) → spelled_by default_alphabets codes ≡ spelled codes
+spelled_by_default [] = refl
+spelled_by_default (code ∷ codes) =
+    ap (λ zs. zs ++ spelled_by default_alphabets codes) (spelling_by_default code)
+    ∙ ap (λ zs. spelling_of code ++ zs) (spelled_by_default codes)
+
 same_entry : (memory : List ℕ) (dictionary : ℕ) (word : List ℕ) → AreSmall word
-    → entry_with_form memory dictionary word ≡ entry_for memory dictionary word
+    → entry_with_form default_alphabets memory dictionary word ≡ entry_for memory dictionary word
 unfolding entry_with_form entry_for form_of key_of
-same_entry memory dictionary word s = rw (small_stay word s) refl
+same_entry memory dictionary word s = rw (small_stay word s)
+    (ap (λ zs. entry_of memory dictionary (number_of_key (packed (take 9 (zs ++ replicate 9 5))))) (spelled_by_default word))
 
 same_slots : (memory : List ℕ) (dictionary at : ℕ) (words : List Word) → AreSmallWords words
-    → slots_bytes memory dictionary 0 at words ≡ flat_map (word_bytes memory dictionary) words
+    → slots_bytes default_alphabets memory dictionary 0 at words ≡ flat_map (word_bytes memory dictionary) words
 same_slots memory dictionary at [] s = refl
 same_slots memory dictionary at (word ∷ words) s =
     rw (same_entry memory dictionary word.bytes s.0, same_slots memory dictionary (at + 4) words s.1)
@@ -96,7 +123,7 @@ same_slots memory dictionary at (word ∷ words) s =
 -- The line
 
 same_words : (memory : List ℕ) (parse : ℕ) (letters written : List ℕ) → AreSmall letters
-    → with_words memory parse letters written ≡ turns.with_words memory parse letters written
+    → with_words default_alphabets memory parse letters written ≡ turns.with_words memory parse letters written
 same_words memory parse letters written s =
     let words = first_words memory (dictionary_of memory) letters (slice_index memory parse) in
     ap (λ l. cond (parse == 0) written (with_bytes written (parse + 1) (length words ∷ l)))
@@ -112,7 +139,7 @@ none_left memory text line e =
 
 pub given_alike : (pending : Pending) (line : List ℕ) (fuel : ℕ) (s : State)
     → is_text_buffer s.memory pending.text_buffer ≡ true
-    → standard_given pending line fuel s ≡ given pending line fuel s
+    → standard_given default_alphabets pending line fuel s ≡ given pending line fuel s
 unfolding standard_given given
 given_alike pending line fuel s e =
     let memory = s.memory in
@@ -121,7 +148,8 @@ given_alike pending line fuel s e =
     let least = leb-true 64 text (and_parts _ _ (and_parts _ _ a.0).0).0 in
     let some : (text == 0) ≡ false = ne_eqb text 0 (λ z. omega (arith, z, least)) in
     let letters = letters_for memory text line in
-    let alike : memory_given text pending.parse_buffer line memory ≡ turns.with_line memory text pending.parse_buffer letters =
+    let alike : memory_given default_alphabets text pending.parse_buffer line memory
+    ≡ turns.with_line memory text pending.parse_buffer letters =
     rw (some, none_left memory text line (eqb-true (slice_index memory (text + 1)) 0 a.1))
     (same_words memory pending.parse_buffer letters (with_letters memory text letters)
     (small_letters (take (slice_index memory text) line))) in

@@ -1,7 +1,9 @@
 -- Loading, computed.
-use Rattle.std.proofs.Common.{◌≡◌, ℕ, List, [], ◌∷◌, ◌++◌, length, replicate, true, false, refl}
+use Rattle.std.proofs.Common.{◌≡◌, ℕ, List, [], ◌∷◌, ◌++◌, length, replicate, true, false, refl, Some, None}
 use Rattle.std.specs.Prelude.{slice_range}
 use Rattle.zcore_standard.specs.Loading.{story_length, story_in, with_header, is_sum_right, characters_of}
+use Rattle.zcore_standard.specs.Loading.{own_alphabets_of}
+use Rattle.zcore_standard.specs.Texts.{default_alphabets}
 use Rattle.zcore_standard.specs.Unicode.{default_characters}
 
 -- a story of version 5: static base 74, stated length 4 * 21 bytes, the sum of 20 bytes of 9, an extension at an address
@@ -69,3 +71,11 @@ no_table = refl
 
 no_extension : characters_of (story 0 bytes) ≡ default_characters
 no_extension = refl
+
+-- the word at $34 is the address of the alphabets
+own_alphabets : own_alphabets_of (replicate 52 0 ++ (0 ∷ 65 ∷ []) ++ replicate 11 0 ++ default_alphabets ++ (9 ∷ []))
+    ≡ Some default_alphabets
+own_alphabets = refl
+
+no_alphabets : own_alphabets_of (replicate 200 0) ≡ None
+no_alphabets = refl

@@ -32,10 +32,11 @@ use Rattle.zcore.proofs.WaitingObjectParts.{waits_test_object, waits_property_ta
 use Rattle.zcore_standard.specs.Characters.{print_codes}
 use Rattle.zcore_standard.proofs.PrintedCodes.{keeps_print_codes, waits_print_codes}
 use Rattle.zcore_standard.specs.Laws.{ends_in_fault}
+use Rattle.zcore_standard.specs.Loaded.{Loaded, alphabets_of}
 use Rattle.zcore_standard.specs.Printing.{any_text_at, print_any_character, print_any_address, print_any_packed}
 use Rattle.zcore_standard.specs.Printing.{print_any_inline, print_any_return, print_any_object, perform_text}
 use Rattle.zcore_standard.specs.Printing.{is_refused}
-use Rattle.zcore_standard.specs.Texts.{default_alphabets, read_codes, codes_with, codes_at, abbreviation_codes}
+use Rattle.zcore_standard.specs.Texts.{read_codes, codes_with, codes_at, abbreviation_codes}
 use Rattle.zcore_standard.specs.Unicode.{print_whole}
 
 -- What is kept
@@ -44,9 +45,9 @@ keeps_read_text : (r : Result (List ℕ × ℕ) Cause) → Keeps (read_text r)
 keeps_read_text (Ok text) = keeps_done text
 keeps_read_text (Err cause) = keeps_halt _
 
-keeps_any_text_at : (address : ℕ) → Keeps (any_text_at address)
+keeps_any_text_at : (alphabets : List ℕ) (address : ℕ) → Keeps (any_text_at alphabets address)
 unfolding any_text_at
-keeps_any_text_at address s t a h = keeps_read_text (codes_at default_alphabets s.memory address) s t a h
+keeps_any_text_at alphabets address s t a h = keeps_read_text (codes_at alphabets s.memory address) s t a h
 
 -- The address after a text
 
@@ -110,75 +111,76 @@ read_ahead at (Ok y) s t x before h =
     rw e f
 read_ahead at (Err cause) s t x before h = absurd (never _ x s t h)
 
-any_text_ahead : (at : ℕ) (s t : State) (x : List ℕ × ℕ) → any_text_at at s ≡ done x t → at < x.1
+any_text_ahead : (alphabets : List ℕ) (at : ℕ) (s t : State) (x : List ℕ × ℕ) → any_text_at alphabets at s ≡ done x t
+    → at < x.1
 unfolding any_text_at
-any_text_ahead at s t x h = read_ahead at (codes_at default_alphabets s.memory at) s t x
-    (λ y e. codes_ahead default_alphabets s.memory at y e) h
+any_text_ahead alphabets at s t x h = read_ahead at (codes_at alphabets s.memory at) s t x
+    (λ y e. codes_ahead alphabets s.memory at y e) h
 
 -- The weight falls
 
-print_any_character_falls : (characters : List ℕ) (here : Next) (after character : ℕ) → here.program_counter < after
-    → FallsFrom here (print_any_character characters here after character)
+print_any_character_falls : (loaded : Loaded) (here : Next) (after character : ℕ) → here.program_counter < after
+    → FallsFrom here (print_any_character loaded here after character)
 unfolding print_any_character
-print_any_character_falls characters here after character past =
-    falls_then here _ _ (keeps_print_codes characters (character ∷ [])) (λ _. goes_on_falls here after past)
+print_any_character_falls loaded here after character past =
+    falls_then here _ _ (keeps_print_codes loaded.characters (character ∷ [])) (λ _. goes_on_falls here after past)
 
-print_any_address_falls : (characters : List ℕ) (here : Next) (after address : ℕ) → here.program_counter < after
-    → FallsFrom here (print_any_address characters here after address)
+print_any_address_falls : (loaded : Loaded) (here : Next) (after address : ℕ) → here.program_counter < after
+    → FallsFrom here (print_any_address loaded here after address)
 unfolding print_any_address
-print_any_address_falls characters here after address past =
-    falls_then here _ _ (keeps_any_text_at address) (λ text.
-    falls_then here _ _ (keeps_print_codes characters text.0) (λ _. goes_on_falls here after past))
+print_any_address_falls loaded here after address past =
+    falls_then here _ _ (keeps_any_text_at (alphabets_of loaded) address) (λ text.
+    falls_then here _ _ (keeps_print_codes loaded.characters text.0) (λ _. goes_on_falls here after past))
 
-print_any_packed_falls : (characters : List ℕ) (here : Next) (after packed : ℕ) → here.program_counter < after
-    → FallsFrom here (print_any_packed characters here after packed)
+print_any_packed_falls : (loaded : Loaded) (here : Next) (after packed : ℕ) → here.program_counter < after
+    → FallsFrom here (print_any_packed loaded here after packed)
 unfolding print_any_packed
-print_any_packed_falls characters here after packed past s t next within h =
-    print_any_address_falls characters here after (unpacked s.memory packed) past s t next within h
+print_any_packed_falls loaded here after packed past s t next within h =
+    print_any_address_falls loaded here after (unpacked s.memory packed) past s t next within h
 
-print_any_inline_falls : (characters : List ℕ) (here : Next) (after : ℕ) → here.program_counter < after
-    → FallsFrom here (print_any_inline characters here after)
+print_any_inline_falls : (loaded : Loaded) (here : Next) (after : ℕ) → here.program_counter < after
+    → FallsFrom here (print_any_inline loaded here after)
 unfolding print_any_inline
-print_any_inline_falls characters here after past =
-    falls_given (λ text. after < text.1) here _ _ (keeps_any_text_at after) (any_text_ahead after) (λ text p.
-    falls_then here _ _ (keeps_print_codes characters text.0)
+print_any_inline_falls loaded here after past =
+    falls_given (λ text. after < text.1) here _ _ (keeps_any_text_at (alphabets_of loaded) after) (any_text_ahead (alphabets_of loaded) after) (λ text p.
+    falls_then here _ _ (keeps_print_codes loaded.characters text.0)
     (λ _. goes_on_falls here text.1 (omega arith)))
 
-print_any_return_falls : (characters : List ℕ) (here : Next) (after : ℕ)
-    → FallsFrom here (print_any_return characters here after)
+print_any_return_falls : (loaded : Loaded) (here : Next) (after : ℕ)
+    → FallsFrom here (print_any_return loaded here after)
 unfolding print_any_return
-print_any_return_falls characters here after =
-    falls_then here _ _ (keeps_any_text_at after) (λ text.
+print_any_return_falls loaded here after =
+    falls_then here _ _ (keeps_any_text_at (alphabets_of loaded) after) (λ text.
     falls_then here _ _ keeps_test_return (λ _.
-    falls_then here _ _ (keeps_print_codes characters (text.0 ++ 13 ∷ [])) (λ _. give_back_falls here 1)))
+    falls_then here _ _ (keeps_print_codes loaded.characters (text.0 ++ 13 ∷ [])) (λ _. give_back_falls here 1)))
 
-print_any_object_falls : (characters : List ℕ) (here : Next) (after object : ℕ) → here.program_counter < after
-    → FallsFrom here (print_any_object characters here after object)
+print_any_object_falls : (loaded : Loaded) (here : Next) (after object : ℕ) → here.program_counter < after
+    → FallsFrom here (print_any_object loaded here after object)
 unfolding print_any_object
-print_any_object_falls characters here after object past =
+print_any_object_falls loaded here after object past =
     falls_then here _ _ (keeps_test_object object) (λ _.
     falls_then here _ _ (keeps_property_table object) (λ table.
     falls_then here _ _ (keeps_read_byte table) (λ words.
     falls_either (words == 0) here _ _ (λ _. goes_on_falls here after past)
-    (print_any_address_falls characters here after (table + 1) past))))
+    (print_any_address_falls loaded here after (table + 1) past))))
 
 fault_falls : (here : Next) (cause : Fault) → FallsFrom here (fault cause)
 fault_falls here cause s t next within h = absurd (never _ next s t h)
 
-pub perform_text_falls : (characters : List ℕ) (operation : Operation) (here : Next) (after : ℕ) (values : List ℕ)
-    → here.program_counter < after → FallsFrom here (perform_text characters operation here after values)
+pub perform_text_falls : (loaded : Loaded) (operation : Operation) (here : Next) (after : ℕ) (values : List ℕ)
+    → here.program_counter < after → FallsFrom here (perform_text loaded operation here after values)
 unfolding perform_text
-perform_text_falls characters operations.Print here after values past = print_any_inline_falls characters here after past
-perform_text_falls characters operations.PrintReturn here after values past = print_any_return_falls characters here after
-perform_text_falls characters operations.PrintAddress here after values past = print_any_address_falls characters here after _
+perform_text_falls loaded operations.Print here after values past = print_any_inline_falls loaded here after past
+perform_text_falls loaded operations.PrintReturn here after values past = print_any_return_falls loaded here after
+perform_text_falls loaded operations.PrintAddress here after values past = print_any_address_falls loaded here after _
     past
-perform_text_falls characters operations.PrintPacked here after values past = print_any_packed_falls characters here after _
+perform_text_falls loaded operations.PrintPacked here after values past = print_any_packed_falls loaded here after _
     past
-perform_text_falls characters operations.PrintObject here after values past = print_any_object_falls characters here after _
+perform_text_falls loaded operations.PrintObject here after values past = print_any_object_falls loaded here after _
     past
-perform_text_falls characters operations.PrintCharacter here after values past = print_any_character_falls characters here
+perform_text_falls loaded operations.PrintCharacter here after values past = print_any_character_falls loaded here
     after _ past
-perform_text_falls characters _ here after values past = fault_falls here faults.Opcode
+perform_text_falls loaded _ here after values past = fault_falls here faults.Opcode
 
 -- None waits
 
@@ -186,66 +188,66 @@ waits_read_text : (r : Result (List ℕ × ℕ) Cause) → Waits (read_text r)
 waits_read_text (Ok text) s t h = waits_done text s t h
 waits_read_text (Err cause) s t h = waits_fault _ s t h
 
-waits_any_text_at : (address : ℕ) → Waits (any_text_at address)
+waits_any_text_at : (alphabets : List ℕ) (address : ℕ) → Waits (any_text_at alphabets address)
 unfolding any_text_at
-waits_any_text_at address s t h = waits_read_text (codes_at default_alphabets s.memory address) s t h
+waits_any_text_at alphabets address s t h = waits_read_text (codes_at alphabets s.memory address) s t h
 
-waits_print_any_address : (characters : List ℕ) (here : Next) (after address : ℕ)
-    → Waits (print_any_address characters here after address)
+waits_print_any_address : (loaded : Loaded) (here : Next) (after address : ℕ)
+    → Waits (print_any_address loaded here after address)
 unfolding print_any_address
-waits_print_any_address characters here after address =
-    waits_then _ _ (waits_any_text_at address) (λ text.
-    waits_then _ _ (waits_print_codes characters text.0)
+waits_print_any_address loaded here after address =
+    waits_then _ _ (waits_any_text_at (alphabets_of loaded) address) (λ text.
+    waits_then _ _ (waits_print_codes loaded.characters text.0)
     (λ _. waits_goes_on after here.fuel))
 
-waits_print_any_packed : (characters : List ℕ) (here : Next) (after packed : ℕ)
-    → Waits (print_any_packed characters here after packed)
+waits_print_any_packed : (loaded : Loaded) (here : Next) (after packed : ℕ)
+    → Waits (print_any_packed loaded here after packed)
 unfolding print_any_packed
-waits_print_any_packed characters here after packed s t h =
-    waits_print_any_address characters here after (unpacked s.memory packed) s t h
+waits_print_any_packed loaded here after packed s t h =
+    waits_print_any_address loaded here after (unpacked s.memory packed) s t h
 
-waits_print_any_character : (characters : List ℕ) (here : Next) (after character : ℕ)
-    → Waits (print_any_character characters here after character)
+waits_print_any_character : (loaded : Loaded) (here : Next) (after character : ℕ)
+    → Waits (print_any_character loaded here after character)
 unfolding print_any_character
-waits_print_any_character characters here after character =
-    waits_then _ _ (waits_print_codes characters (character ∷ []))
+waits_print_any_character loaded here after character =
+    waits_then _ _ (waits_print_codes loaded.characters (character ∷ []))
     (λ _. waits_goes_on after here.fuel)
 
-waits_print_any_inline : (characters : List ℕ) (here : Next) (after : ℕ) → Waits (print_any_inline characters here after)
+waits_print_any_inline : (loaded : Loaded) (here : Next) (after : ℕ) → Waits (print_any_inline loaded here after)
 unfolding print_any_inline
-waits_print_any_inline characters here after =
-    waits_then _ _ (waits_any_text_at after) (λ text.
-    waits_then _ _ (waits_print_codes characters text.0)
+waits_print_any_inline loaded here after =
+    waits_then _ _ (waits_any_text_at (alphabets_of loaded) after) (λ text.
+    waits_then _ _ (waits_print_codes loaded.characters text.0)
     (λ _. waits_goes_on text.1 here.fuel))
 
-waits_print_any_return : (characters : List ℕ) (here : Next) (after : ℕ) → Waits (print_any_return characters here after)
+waits_print_any_return : (loaded : Loaded) (here : Next) (after : ℕ) → Waits (print_any_return loaded here after)
 unfolding print_any_return
-waits_print_any_return characters here after =
-    waits_then _ _ (waits_any_text_at after) (λ text.
+waits_print_any_return loaded here after =
+    waits_then _ _ (waits_any_text_at (alphabets_of loaded) after) (λ text.
     waits_then _ _ waits_test_return (λ _.
-    waits_then _ _ (waits_print_codes characters (text.0 ++ 13 ∷ []))
+    waits_then _ _ (waits_print_codes loaded.characters (text.0 ++ 13 ∷ []))
     (λ _. waits_give_back here.fuel 1)))
 
-waits_print_any_object : (characters : List ℕ) (here : Next) (after object : ℕ)
-    → Waits (print_any_object characters here after object)
+waits_print_any_object : (loaded : Loaded) (here : Next) (after object : ℕ)
+    → Waits (print_any_object loaded here after object)
 unfolding print_any_object
-waits_print_any_object characters here after object =
+waits_print_any_object loaded here after object =
     waits_then _ _ (waits_test_object object) (λ _.
     waits_then _ _ (waits_property_table object) (λ table.
     waits_then _ _ (waits_read_byte table) (λ words.
     waits_chosen (words == 0) _ _ (waits_goes_on after here.fuel)
-    (waits_print_any_address characters here after (table + 1)))))
+    (waits_print_any_address loaded here after (table + 1)))))
 
-pub waits_perform_text : (characters : List ℕ) (operation : Operation) (here : Next) (after : ℕ) (values : List ℕ)
-    → Waits (perform_text characters operation here after values)
+pub waits_perform_text : (loaded : Loaded) (operation : Operation) (here : Next) (after : ℕ) (values : List ℕ)
+    → Waits (perform_text loaded operation here after values)
 unfolding perform_text
-waits_perform_text characters operations.Print here after values = waits_print_any_inline characters here after
-waits_perform_text characters operations.PrintReturn here after values = waits_print_any_return characters here after
-waits_perform_text characters operations.PrintAddress here after values = waits_print_any_address characters here after _
-waits_perform_text characters operations.PrintPacked here after values = waits_print_any_packed characters here after _
-waits_perform_text characters operations.PrintObject here after values = waits_print_any_object characters here after _
-waits_perform_text characters operations.PrintCharacter here after values = waits_print_any_character characters here after _
-waits_perform_text characters _ here after values = λ s t h. waits_fault faults.Opcode s t h
+waits_perform_text loaded operations.Print here after values = waits_print_any_inline loaded here after
+waits_perform_text loaded operations.PrintReturn here after values = waits_print_any_return loaded here after
+waits_perform_text loaded operations.PrintAddress here after values = waits_print_any_address loaded here after _
+waits_perform_text loaded operations.PrintPacked here after values = waits_print_any_packed loaded here after _
+waits_perform_text loaded operations.PrintObject here after values = waits_print_any_object loaded here after _
+waits_perform_text loaded operations.PrintCharacter here after values = waits_print_any_character loaded here after _
+waits_perform_text loaded _ here after values = λ s t h. waits_fault faults.Opcode s t h
 
 -- M10 is a fault
 pub refused_faults : (o : Out Next) → is_refused o ≡ true → ends_in_fault o ≡ true

@@ -8,6 +8,7 @@ use Rattle.zcore.specs.Parts.{store_result, write_variable, push}
 use Rattle.zcore.specs.State.{Pending, State, done}
 use Rattle.zcore.specs.Turn.{first_environment, first_state}
 use Rattle.zcore_standard.specs.Reading.{letters_with, with_line, key_of_line, standard_given}
+use Rattle.zcore_standard.specs.Texts.{default_alphabets}
 use Rattle.zcore_standard.specs.Words.{entry_with_form}
 
 -- Keys
@@ -80,20 +81,20 @@ memory text slots bytes =
     ++ text ++ replicate 9 0 ++ slots ∷ bytes ++ 1 ∷ 46 ∷ 9 ∷ 0 ∷ 0 ∷ []
 
 -- both words are parsed: the one that was left over too
-parses : with_line (memory buffer 2 (replicate 19 7)) 64 80 (codes "Go it")
+parses : with_line default_alphabets (memory buffer 2 (replicate 19 7)) 64 80 (codes "Go it")
     ≡ memory (5 ∷ 5 ∷ codes "Go it") 2
     (2 ∷ 0 ∷ 0 ∷ 2 ∷ 2 ∷ 0 ∷ 0 ∷ 2 ∷ 5 ∷ replicate 10 7)
 unfolding first_words words_of entry_with_form entry_of
 parses = refl
 
 -- a parse buffer with room for no word
-no_word : with_line (memory buffer 0 (replicate 19 7)) 64 80 (codes "Go it")
+no_word : with_line default_alphabets (memory buffer 0 (replicate 19 7)) 64 80 (codes "Go it")
     ≡ memory (5 ∷ 5 ∷ codes "Go it") 0 (0 ∷ replicate 18 7)
 unfolding first_words words_of
 no_word = refl
 
 -- no parse buffer
-unparsed : with_line (memory buffer 2 (replicate 19 7)) 64 0 (codes "Go it")
+unparsed : with_line default_alphabets (memory buffer 2 (replicate 19 7)) 64 0 (codes "Go it")
     ≡ memory (5 ∷ 5 ∷ codes "Go it") 2 (replicate 19 7)
 unparsed = refl
 
@@ -112,12 +113,12 @@ abbrev with_result : List ℕ → ℕ → State
 with_result text word =
     record (first_state (memory text 2 (replicate 19 7))) { frames = record first_environment { stack = word ∷ [] } ∷ [] }
 
-key_given : standard_given (waiting 0 0) (codes "/key up") 5 (state buffer 2)
+key_given : standard_given default_alphabets (waiting 0 0) (codes "/key up") 5 (state buffer 2)
     ≡ done (record { program_counter = 70; fuel = 5 }) (with_result buffer 129)
 unfolding standard_given key_of_line store_result write_variable push
 key_given = refl
 
-line_given : standard_given (waiting 64 0) (codes "/KEY up") 5 (state buffer 2)
+line_given : standard_given default_alphabets (waiting 64 0) (codes "/KEY up") 5 (state buffer 2)
     ≡ done (record { program_counter = 70; fuel = 5 }) (with_result (5 ∷ 5 ∷ codes "Go/ke") 13)
 unfolding standard_given store_result write_variable push
 line_given = refl

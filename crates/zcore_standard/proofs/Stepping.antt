@@ -205,7 +205,7 @@ chosen_falls : (loaded : Loaded) (here : Here) (s t : State) (next : Here) (o : 
     → further_at s.memory here.next.program_counter ≡ o → chosen loaded o here s ≡ done next t
     → Falls here.next s next.next t
 chosen_falls loaded here s t next None e h =
-    step_known_falls loaded.characters here.next next.next s t (within_done here next (step_known loaded.characters here.next s) t h)
+    step_known_falls loaded here.next next.next s t (within_done here next (step_known loaded here.next s) t h)
 chosen_falls loaded here s t next (Some operation) e h =
     let memory = s.memory in
     let at = here.next.program_counter in

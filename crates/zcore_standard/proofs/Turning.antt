@@ -3,6 +3,7 @@
 use Rattle.std.proofs.Common.{◌≡◌, ℕ, zero, suc, ◌⊎◌, inl, inr, List, refl, ap, ◌∙◌, arith}
 use Rattle.std.proofs.Common.{Bool, true, false, cond, Option, Some, None, slice_index}
 use Rattle.std.specs.Prelude.{◌==◌, if◌then◌else◌, IfSome}
+use Rattle.std.specs.Option.{unwrap_or}
 use Rattle.zcore.specs.declared.beside.Beside.{Beside}
 use Rattle.zcore.specs.declared.next.Next.{Next}
 use Rattle.zcore.specs.declared.place.Fault.TheVariants as faults
@@ -19,6 +20,8 @@ use Rattle.zcore_standard.specs.declared.operations.Further.TheVariants.{Read}
 use Rattle.zcore_standard.specs.Place.{Here, plain, within}
 use Rattle.zcore_standard.specs.Loaded.{Loaded}
 use Rattle.zcore_standard.specs.Operations.{further_at}
+use Rattle.zcore_standard.specs.Reading.{standard_given}
+use Rattle.zcore_standard.specs.Texts.{default_alphabets}
 use Rattle.zcore_standard.specs.Windows.{begun_at}
 use Rattle.zcore_standard.specs.Machine.{chosen, standard, standard_step, standard_turn, standard_pending}
 use Rattle.zcore_standard.specs.Machine.{standard_turn_on, standard_ended, with_beside, begins}
@@ -85,19 +88,20 @@ further_keeps loaded here s operation a plays quiet (inl e) = absurd (neither _ 
 further_keeps loaded here s operation a plays quiet (inr r) =
     ap (λ o. chosen loaded (Some o) here s) r.0 ∙ read_keeps loaded here s a.code a.within r.1 plays quiet
 
-chosen_keeps : (loaded : Loaded) (here : Here) (s : State) (o : Option Further)
+chosen_keeps : (loaded : Loaded) (here : Here) (s : State) (o : Option Further) → loaded.own_alphabets ≡ None
     → further_at s.memory here.next.program_counter ≡ o → ends_in_fault (step here.next s) ≡ false
     → closes_none here (step here.next s) ≡ true → chosen loaded o here s ≡ within here (step here.next s)
-chosen_keeps loaded here s None e plays quiet = ap (within here) (known_keeps loaded.characters here.next s plays)
-chosen_keeps loaded here s (Some operation) e plays quiet =
+chosen_keeps loaded here s None own e plays quiet = ap (within here) (known_keeps loaded here.next s own plays)
+chosen_keeps loaded here s (Some operation) own e plays quiet =
     further_keeps loaded here s operation (stands s.memory here.next.program_counter operation e) plays quiet
     (step_refused here.next s operation e)
 
-pub standard_steps : (loaded : Loaded) (here : Here) (s : State) → ends_in_fault (step here.next s) ≡ false
-    → closes_none here (step here.next s) ≡ true → standard_step loaded here s ≡ within here (step here.next s)
+pub standard_steps : (loaded : Loaded) (here : Here) (s : State) → loaded.own_alphabets ≡ None
+    → ends_in_fault (step here.next s) ≡ false → closes_none here (step here.next s) ≡ true
+    → standard_step loaded here s ≡ within here (step here.next s)
 unfolding standard_step
-standard_steps loaded here s plays quiet =
-    chosen_keeps loaded here s (further_at s.memory here.next.program_counter) refl plays quiet
+standard_steps loaded here s own plays quiet =
+    chosen_keeps loaded here s (further_at s.memory here.next.program_counter) own refl plays quiet
 
 -- Turns that the profile plays
 
@@ -141,56 +145,60 @@ after_keeps loaded beside here s count whole (halt place t) rest plays same e =
     ∙ ap (λ x. Some (with_beside beside x)) w
 
 turn_in_keeps : (loaded : Loaded) (beside : Beside) (count : ℕ) (here : Next) (s : State) (whole : Whole)
-    → turn_in count here s ≡ Some whole → is_fault whole.place ≡ false
+    → loaded.own_alphabets ≡ None → turn_in count here s ≡ Some whole → is_fault whole.place ≡ false
     → turn_by (standard loaded) count (plain beside here) s ≡ Some (with_beside beside whole)
-turn_in_keeps loaded beside zero here s whole e plays = absurd (cc)
-turn_in_keeps loaded beside (suc count) here s whole e plays =
+turn_in_keeps loaded beside zero here s whole own e plays = absurd (cc)
+turn_in_keeps loaded beside (suc count) here s whole own e plays =
     after_keeps loaded beside here s count whole (step here s)
-    (λ next t h. turn_in_keeps loaded beside count next t whole h plays) plays
-    (λ h. standard_steps loaded (plain beside here) s h refl) e
+    (λ next t h. turn_in_keeps loaded beside count next t whole own h plays) plays
+    (λ h. standard_steps loaded (plain beside here) s own h refl) e
 
 pub standard_turn_keeps : (loaded : Loaded) (beside : Beside) (here : Next) (s : State) (whole : Whole)
-    → beside.window ≡ 0 → turn_from here s ≡ Some whole → is_fault whole.place ≡ false
+    → loaded.own_alphabets ≡ None → beside.window ≡ 0
+    → turn_from here s ≡ Some whole → is_fault whole.place ≡ false
     → standard_turn loaded (begins beside here) s ≡ Some (with_beside beside whole)
 unfolding turn_from standard_turn
-standard_turn_keeps loaded beside here s whole lower e plays =
+standard_turn_keeps loaded beside here s whole own lower e plays =
     ap (λ first. turn_by (standard loaded) (weight here s) first s) (begins_plain beside here lower)
-    ∙ turn_in_keeps loaded beside (weight here s) here s whole e plays
+    ∙ turn_in_keeps loaded beside (weight here s) here s whole own e plays
 
 -- The turn of a line
 
 line_keeps : (loaded : Loaded) (fuel : ℕ) (play : StateOfPlay) (whole : Whole) (o : Out Next)
-    → play.beside.window ≡ 0 → is_fault whole.place ≡ false
+    → loaded.own_alphabets ≡ None → play.beside.window ≡ 0 → is_fault whole.place ≡ false
     → after_step o turn_from
     (λ place s. Some (ended (record { program_counter = play.program_counter; fuel = fuel }) place s)) ≡ Some whole
     → after_step o (λ next s. standard_turn loaded (begins play.beside next) s)
     (λ place s. Some (standard_ended
     (begins play.beside (record { program_counter = play.program_counter; fuel = fuel })) place s))
     ≡ Some (with_beside play.beside whole)
-line_keeps loaded fuel play whole (done next t) lower plays e =
-    standard_turn_keeps loaded play.beside next t whole lower e plays
-line_keeps loaded fuel play whole (halt place t) lower plays e =
+line_keeps loaded fuel play whole (done next t) own lower plays e =
+    standard_turn_keeps loaded play.beside next t whole own lower e plays
+line_keeps loaded fuel play whole (halt place t) own lower plays e =
     let here : Next = record { program_counter = play.program_counter; fuel = fuel } in
     ap (λ first. Some (standard_ended first place t)) (begins_plain play.beside here lower)
     ∙ ap (λ x. Some x) (ended_plain play.beside here place t)
     ∙ ap (λ x. Some (with_beside play.beside x)) (some_is _ whole e)
 
 pending_keeps : (loaded : Loaded) (line : List ℕ) (fuel : ℕ) (play : StateOfPlay) (whole : Whole) (p : Option Pending)
-    → play.beside.window ≡ 0 → IfSome p (λ pending. is_text_buffer play.memory pending.text_buffer ≡ true)
+    → loaded.own_alphabets ≡ None → play.beside.window ≡ 0
+    → IfSome p (λ pending. is_text_buffer play.memory pending.text_buffer ≡ true)
     → turn_pending p line fuel play ≡ Some whole → is_fault whole.place ≡ false
     → standard_pending loaded p line fuel play ≡ Some (with_beside play.beside whole)
-pending_keeps loaded line fuel play whole None lower waits e plays = absurd (cc)
-pending_keeps loaded line fuel play whole (Some pending) lower waits e plays =
+pending_keeps loaded line fuel play whole None own lower waits e plays = absurd (cc)
+pending_keeps loaded line fuel play whole (Some pending) own lower waits e plays =
     ap (λ o. after_step o (λ next s. standard_turn loaded (begins play.beside next) s)
     (λ place s. Some (standard_ended
     (begins play.beside (record { program_counter = play.program_counter; fuel = fuel })) place s)))
-    (given_alike pending line fuel (resumed play) waits)
-    ∙ line_keeps loaded fuel play whole (given pending line fuel (resumed play)) lower plays e
+    (ap (λ o. standard_given (unwrap_or o default_alphabets) pending line fuel (resumed play)) own
+    ∙ given_alike pending line fuel (resumed play) waits)
+    ∙ line_keeps loaded fuel play whole (given pending line fuel (resumed play)) own lower plays e
 
 pub standard_turn_on_keeps : (loaded : Loaded) (line : List ℕ) (fuel : ℕ) (play : StateOfPlay) (whole : Whole)
-    → play.beside.window ≡ 0 → WaitsAsTheProfile play → turn_on line fuel play ≡ Some whole
+    → loaded.own_alphabets ≡ None → play.beside.window ≡ 0 → WaitsAsTheProfile play
+    → turn_on line fuel play ≡ Some whole
     → is_fault whole.place ≡ false
     → standard_turn_on loaded line fuel play ≡ Some (with_beside play.beside whole)
 unfolding turn_on standard_turn_on
-standard_turn_on_keeps loaded line fuel play whole lower waits e plays =
-    pending_keeps loaded line fuel play whole play.pending lower waits e plays
+standard_turn_on_keeps loaded line fuel play whole own lower waits e plays =
+    pending_keeps loaded line fuel play whole play.pending own lower waits e plays

@@ -18,7 +18,7 @@ use Rattle.zcore.proofs.WaitingEffects.{waits_branch_on, waits_give_result}
 use Rattle.zcore_standard.specs.declared.operations.Further.{Further}
 use Rattle.zcore_standard.specs.declared.operations.Further.TheVariants as operations
 use Rattle.zcore_standard.specs.Place.{Here, past, within}
-use Rattle.zcore_standard.specs.Loaded.{Loaded}
+use Rattle.zcore_standard.specs.Loaded.{Loaded, alphabets_of}
 use Rattle.zcore_standard.specs.Operations.{further_at}
 use Rattle.zcore_standard.specs.Instruction.{Instruction, decode_further}
 use Rattle.zcore_standard.specs.Shifts.{log_shift, art_shift}
@@ -126,9 +126,11 @@ waits_perform_keeping loaded operations.GetCursor here after result branch value
 waits_perform_keeping loaded operations.ScanTable here after result branch values = waits_scan_table here after result
     branch (slice_index values 0) (slice_index values 1) (slice_index values 2)
     (slice_index_or values 3 words_of_table)
-waits_perform_keeping loaded operations.Tokenise here after result branch values = waits_tokenise here after
+waits_perform_keeping loaded operations.Tokenise here after result branch values = waits_tokenise
+    (alphabets_of loaded) here after
     (slice_index values 0) (slice_index values 1) (slice_index_or values 2 0) (slice_index_or values 3 0)
-waits_perform_keeping loaded operations.EncodeText here after result branch values = waits_encode_text here after
+waits_perform_keeping loaded operations.EncodeText here after result branch values = waits_encode_text
+    (alphabets_of loaded) here after
     (slice_index values 0) (slice_index values 1) (slice_index values 2) (slice_index_or values 3 0)
 waits_perform_keeping loaded operations.CopyTable here after result branch values = waits_copy_table here after
     (slice_index values 0) (slice_index values 1) (slice_index values 2)
@@ -218,8 +220,8 @@ waits_execute_further loaded operation here (Ok x) = for_then _ _ (waits_operand
 
 waits_chosen_step : (loaded : Loaded) (here : Here) (s t : State) (o : Option Further)
     → chosen loaded o here s ≡ halt places.Waiting t → WaitsRight t
-waits_chosen_step loaded here s t None h = waits_right t (waits_step_known loaded.characters here.next s t
-    (halt_within here (step_known loaded.characters here.next s) t h))
+waits_chosen_step loaded here s t None h = waits_right t (waits_step_known loaded here.next s t
+    (halt_within here (step_known loaded here.next s) t h))
 waits_chosen_step loaded here s t (Some operation) h =
     waits_execute_further loaded operation here (decode_further s.memory here.next.program_counter operation) s t h
 

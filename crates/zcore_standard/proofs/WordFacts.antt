@@ -31,40 +31,40 @@ keeps_test_dictionary : (dictionary : ℕ) → Keeps (test_dictionary dictionary
 unfolding test_dictionary
 keeps_test_dictionary dictionary s t a h = keeps_test _ faults.Read s t a h
 
-length-with_slots : (memory : List ℕ) (text parse dictionary flag : ℕ)
-    → length (with_slots memory text parse dictionary flag) ≡ length memory
-length-with_slots memory text parse dictionary flag =
+length-with_slots : (alphabets : List ℕ) (memory : List ℕ) (text parse dictionary flag : ℕ)
+    → length (with_slots alphabets memory text parse dictionary flag) ≡ length memory
+length-with_slots alphabets memory text parse dictionary flag =
     let words : List Word = first_words memory dictionary (letters_in memory text) (slice_index memory parse) in
-    length-with_bytes memory (parse + 1) (length words ∷ slots_bytes memory dictionary flag (parse + 2) words)
+    length-with_bytes memory (parse + 1) (length words ∷ slots_bytes alphabets memory dictionary flag (parse + 2) words)
 
-keeps_fill_slots : (text parse dictionary flag : ℕ) → Keeps (fill_slots text parse dictionary flag)
+keeps_fill_slots : (alphabets : List ℕ) (text parse dictionary flag : ℕ) → Keeps (fill_slots alphabets text parse dictionary flag)
 unfolding fill_slots
-keeps_fill_slots text parse dictionary flag s t a h =
-    done_alike tt a s t _ (record { memory = length-with_slots s.memory text parse (dictionary_for s.memory dictionary) flag; frames = refl }) h
+keeps_fill_slots alphabets text parse dictionary flag s t a h =
+    done_alike tt a s t _ (record { memory = length-with_slots alphabets s.memory text parse (dictionary_for s.memory dictionary) flag; frames = refl }) h
 
-keeps_form_at : (at count : ℕ) → Keeps (form_at at count)
+keeps_form_at : (alphabets : List ℕ) (at count : ℕ) → Keeps (form_at alphabets at count)
 unfolding form_at
-keeps_form_at at count s t a h = tested _ _ a s t s s _ (alike_same s s refl) h
+keeps_form_at alphabets at count s t a h = tested _ _ a s t s s _ (alike_same s s refl) h
 
 pub keeps_write_bytes : (at : ℕ) (bytes : List ℕ) → Keeps (write_bytes at bytes)
 unfolding write_bytes
 keeps_write_bytes at bytes s t a h =
     tested _ tt a s t _ s _ (record { memory = length-with_bytes s.memory at bytes; frames = refl }) h
 
-pub tokenise_falls : (here : Next) (after text parse dictionary flag : ℕ) → here.program_counter < after
-    → FallsFrom here (tokenise here after text parse dictionary flag)
+pub tokenise_falls : (alphabets : List ℕ) (here : Next) (after text parse dictionary flag : ℕ) → here.program_counter < after
+    → FallsFrom here (tokenise alphabets here after text parse dictionary flag)
 unfolding tokenise
-tokenise_falls here after text parse dictionary flag past =
+tokenise_falls alphabets here after text parse dictionary flag past =
     falls_then here _ _ (keeps_test_letters text) (λ _.
     falls_then here _ _ (keeps_test_slots parse) (λ _.
     falls_then here _ _ (keeps_test_dictionary dictionary) (λ _.
-    falls_then here _ _ (keeps_fill_slots text parse dictionary flag) (λ _. goes_on_falls here after past))))
+    falls_then here _ _ (keeps_fill_slots alphabets text parse dictionary flag) (λ _. goes_on_falls here after past))))
 
-pub encode_text_falls : (here : Next) (after text count from coded : ℕ) → here.program_counter < after
-    → FallsFrom here (encode_text here after text count from coded)
+pub encode_text_falls : (alphabets : List ℕ) (here : Next) (after text count from coded : ℕ) → here.program_counter < after
+    → FallsFrom here (encode_text alphabets here after text count from coded)
 unfolding encode_text
-encode_text_falls here after text count from coded past =
-    falls_then here _ _ (keeps_form_at _ count) (λ form.
+encode_text_falls alphabets here after text count from coded past =
+    falls_then here _ _ (keeps_form_at alphabets _ count) (λ form.
     falls_then here _ _ (keeps_write_bytes coded form) (λ _. goes_on_falls here after past))
 
 waits_test_letters : (text : ℕ) → Waits (test_letters text)
@@ -79,30 +79,30 @@ waits_test_dictionary : (dictionary : ℕ) → Waits (test_dictionary dictionary
 unfolding test_dictionary
 waits_test_dictionary dictionary s t h = waits_test _ faults.Read s t h
 
-waits_fill_slots : (text parse dictionary flag : ℕ) → Waits (fill_slots text parse dictionary flag)
+waits_fill_slots : (alphabets : List ℕ) (text parse dictionary flag : ℕ) → Waits (fill_slots alphabets text parse dictionary flag)
 unfolding fill_slots
-waits_fill_slots text parse dictionary flag s t h = waits_done tt _ t h
+waits_fill_slots alphabets text parse dictionary flag s t h = waits_done tt _ t h
 
-waits_form_at : (at count : ℕ) → Waits (form_at at count)
+waits_form_at : (alphabets : List ℕ) (at count : ℕ) → Waits (form_at alphabets at count)
 unfolding form_at
-waits_form_at at count s t h = waits_either _ _ _ t (waits_done _ s t) (waits_fault _ s t) h
+waits_form_at alphabets at count s t h = waits_either _ _ _ t (waits_done _ s t) (waits_fault _ s t) h
 
 pub waits_write_bytes : (at : ℕ) (bytes : List ℕ) → Waits (write_bytes at bytes)
 unfolding write_bytes
 waits_write_bytes at bytes s t h = waits_either _ _ _ t (waits_done tt _ t) (waits_fault _ s t) h
 
-pub waits_tokenise : (here : Next) (after text parse dictionary flag : ℕ)
-    → Waits (tokenise here after text parse dictionary flag)
+pub waits_tokenise : (alphabets : List ℕ) (here : Next) (after text parse dictionary flag : ℕ)
+    → Waits (tokenise alphabets here after text parse dictionary flag)
 unfolding tokenise
-waits_tokenise here after text parse dictionary flag =
+waits_tokenise alphabets here after text parse dictionary flag =
     waits_then _ _ (waits_test_letters text) (λ _.
     waits_then _ _ (waits_test_slots parse) (λ _.
     waits_then _ _ (waits_test_dictionary dictionary) (λ _.
-    waits_then _ _ (waits_fill_slots text parse dictionary flag) (λ _. waits_goes_on after here.fuel))))
+    waits_then _ _ (waits_fill_slots alphabets text parse dictionary flag) (λ _. waits_goes_on after here.fuel))))
 
-pub waits_encode_text : (here : Next) (after text count from coded : ℕ)
-    → Waits (encode_text here after text count from coded)
+pub waits_encode_text : (alphabets : List ℕ) (here : Next) (after text count from coded : ℕ)
+    → Waits (encode_text alphabets here after text count from coded)
 unfolding encode_text
-waits_encode_text here after text count from coded =
-    waits_then _ _ (waits_form_at _ count) (λ form.
+waits_encode_text alphabets here after text count from coded =
+    waits_then _ _ (waits_form_at alphabets _ count) (λ form.
     waits_then _ _ (waits_write_bytes coded form) (λ _. waits_goes_on after here.fuel))

@@ -3,7 +3,6 @@ use Rattle.std.proofs.Common.{◌≡◌, List, [], ◌∷◌, ◌++◌, take, dr
 use Rattle.std.specs.Prelude.{ℕ, codes, replicate}
 use Rattle.zcore.specs.declared.place.Fault.TheVariants as faults
 use Rattle.zcore.specs.declared.next.Next.{Next}
-use Rattle.ztext.specs.Alphabets.{spelling_of}
 use Rattle.ztext.specs.Words.{packed}
 use Rattle.zcore.specs.Header.{key_at}
 use Rattle.zcore.specs.Cutting.{words_of}
@@ -12,29 +11,36 @@ use Rattle.zcore.specs.Parsing.{first_words}
 use Rattle.zcore.specs.State.{State, done}
 use Rattle.zcore.specs.Parts.{fault}
 use Rattle.zcore.specs.Turn.{first_state}
+use Rattle.zcore_standard.specs.Texts.{default_alphabets, spelling_by}
 use Rattle.zcore_standard.specs.Words.{form_of, entry_with_form, with_slots, test_letters, test_slots, test_dictionary}
 use Rattle.zcore_standard.specs.Words.{form_at, write_bytes, encode_text}
 
 -- The forms of words (3.7 and 13.3)
 
-hello : form_of (codes "hello") ≡ 0x35 ∷ 0x51 ∷ 0x46 ∷ 0x85 ∷ 0x94 ∷ 0xA5 ∷ []
-unfolding form_of packed spelling_of
+hello : form_of default_alphabets (codes "hello") ≡ 0x35 ∷ 0x51 ∷ 0x46 ∷ 0x85 ∷ 0x94 ∷ 0xA5 ∷ []
+unfolding form_of packed spelling_by
 hello = refl
 
 -- a space is Z-character 0
-with_space : form_of (codes "a b") ≡ 0x18 ∷ 0x07 ∷ 0x14 ∷ 0xA5 ∷ 0x94 ∷ 0xA5 ∷ []
-unfolding form_of packed spelling_of
+with_space : form_of default_alphabets (codes "a b") ≡ 0x18 ∷ 0x07 ∷ 0x14 ∷ 0xA5 ∷ 0x94 ∷ 0xA5 ∷ []
+unfolding form_of packed spelling_by
 with_space = refl
 
 -- a capital keeps its shift
-with_capital : form_of (codes "Ab") ≡ 0x10 ∷ 0xC7 ∷ 0x14 ∷ 0xA5 ∷ 0x94 ∷ 0xA5 ∷ []
-unfolding form_of packed spelling_of
+with_capital : form_of default_alphabets (codes "Ab") ≡ 0x10 ∷ 0xC7 ∷ 0x14 ∷ 0xA5 ∷ 0x94 ∷ 0xA5 ∷ []
+unfolding form_of packed spelling_by
 with_capital = refl
 
 -- an escape that does not end within nine Z-characters is left incomplete
-cut_escape : form_of (codes "aaaaaaa@") ≡ 0x18 ∷ 0xC6 ∷ 0x18 ∷ 0xC6 ∷ 0x98 ∷ 0xA6 ∷ []
-unfolding form_of packed spelling_of
+cut_escape : form_of default_alphabets (codes "aaaaaaa@") ≡ 0x18 ∷ 0xC6 ∷ 0x18 ∷ 0xC6 ∷ 0x98 ∷ 0xA6 ∷ []
+unfolding form_of packed spelling_by
 cut_escape = refl
+
+-- by alphabets of which the first begins with an accent: ZSCII 155 is Z-character 6 there, and `a` is escaped
+by_own_alphabets : form_of (155 ∷ drop 1 default_alphabets) (155 ∷ 97 ∷ 98 ∷ [])
+    ≡ 0x18 ∷ 0xA6 ∷ 0x0C ∷ 0x27 ∷ 0x94 ∷ 0xA5 ∷ []
+unfolding form_of packed spelling_by
+by_own_alphabets = refl
 
 -- Static memory begins at 100, with the story's dictionary: the word `take` at 107. A text buffer is at 64, a parse
 -- buffer of three slots at 76, and a dictionary of two words in no order at 113: `take` at 117, `it` at 123.
@@ -49,21 +55,21 @@ abbrev memory : List ℕ
 memory = memory_of_text (codes "take,it")
 
 -- `take`, the comma and `it` by the story's dictionary
-by_the_story : take 14 (drop 76 (with_slots memory 64 76 100 0))
+by_the_story : take 14 (drop 76 (with_slots default_alphabets memory 64 76 100 0))
     ≡ 3 ∷ 3 ∷ 0 ∷ 107 ∷ 4 ∷ 2 ∷ 0 ∷ 0 ∷ 1 ∷ 6 ∷ 0 ∷ 0 ∷ 2 ∷ 7 ∷ []
-unfolding form_of entry_with_form entry_of first_words words_of number_of_key key_at packed spelling_of
+unfolding form_of entry_with_form entry_of first_words words_of number_of_key key_at packed spelling_by
 by_the_story = refl
 
 -- with the flag, words that are not found leave their slots
-with_flag : take 14 (drop 76 (with_slots memory 64 76 100 1))
+with_flag : take 14 (drop 76 (with_slots default_alphabets memory 64 76 100 1))
     ≡ 3 ∷ 3 ∷ 0 ∷ 107 ∷ 4 ∷ 2 ∷ 9 ∷ 9 ∷ 9 ∷ 9 ∷ 9 ∷ 9 ∷ 9 ∷ 9 ∷ []
-unfolding form_of entry_with_form entry_of first_words words_of number_of_key key_at packed spelling_of
+unfolding form_of entry_with_form entry_of first_words words_of number_of_key key_at packed spelling_by
 with_flag = refl
 
 -- the other dictionary names no separators, and its entries are in no order
-in_no_order : take 10 (drop 76 (with_slots (memory_of_text (codes "it take")) 64 76 113 0))
+in_no_order : take 10 (drop 76 (with_slots default_alphabets (memory_of_text (codes "it take")) 64 76 113 0))
     ≡ 3 ∷ 2 ∷ 0 ∷ 123 ∷ 2 ∷ 2 ∷ 0 ∷ 117 ∷ 4 ∷ 5 ∷ []
-unfolding form_of entry_with_form entry_of first_words words_of number_of_key key_at packed spelling_of
+unfolding form_of entry_with_form entry_of first_words words_of number_of_key key_at packed spelling_by
 in_no_order = refl
 
 -- the memory of the samples, in a state
@@ -92,19 +98,19 @@ too_many_slots = refl
 abbrev at_150 : Next
 at_150 = record { program_counter = 150; fuel = 5 }
 
-encoded_it : encode_text at_150 156 66 2 5 90 state ≡ done (record at_150 { program_counter = 156 })
+encoded_it : encode_text default_alphabets at_150 156 66 2 5 90 state ≡ done (record at_150 { program_counter = 156 })
     (record state { memory = take 90 memory ++ (0x3B ∷ 0x25 ∷ 0x14 ∷ 0xA5 ∷ 0x94 ∷ 0xA5 ∷ []) ++ drop 96 memory })
-unfolding encode_text form_at write_bytes form_of packed spelling_of
+unfolding encode_text form_at write_bytes form_of packed spelling_by
 encoded_it = refl
 
-sum_of_words : encode_text at_150 156 65535 2 72 90 state ≡ encode_text at_150 156 66 2 5 90 state
-unfolding encode_text form_at write_bytes form_of packed spelling_of
+sum_of_words : encode_text default_alphabets at_150 156 65535 2 72 90 state ≡ encode_text default_alphabets at_150 156 66 2 5 90 state
+unfolding encode_text form_at write_bytes form_of packed spelling_by
 sum_of_words = refl
 
-beyond_memory : encode_text at_150 156 128 2 0 90 state ≡ fault faults.Read state
+beyond_memory : encode_text default_alphabets at_150 156 128 2 0 90 state ≡ fault faults.Read state
 unfolding encode_text form_at
 beyond_memory = refl
 
-beyond_dynamic_memory : encode_text at_150 156 66 2 5 95 state ≡ fault faults.Write state
-unfolding encode_text form_at write_bytes form_of packed spelling_of
+beyond_dynamic_memory : encode_text default_alphabets at_150 156 66 2 5 95 state ≡ fault faults.Write state
+unfolding encode_text form_at write_bytes form_of packed spelling_by
 beyond_dynamic_memory = refl

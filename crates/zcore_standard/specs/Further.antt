@@ -21,7 +21,7 @@ use Rattle.zcore_standard.specs.declared.operations.Further.TheVariants.{LogShif
 use Rattle.zcore_standard.specs.declared.operations.Further.TheVariants.{RestoreUndo, PrintUnicode, CheckUnicode}
 use Rattle.zcore_standard.specs.declared.operations.Further.TheVariants.{SetTrueColour}
 use Rattle.zcore_standard.specs.Place.{Here, past, within}
-use Rattle.zcore_standard.specs.Loaded.{Loaded}
+use Rattle.zcore_standard.specs.Loaded.{Loaded, alphabets_of}
 use Rattle.zcore_standard.specs.Instruction.{Instruction}
 use Rattle.zcore_standard.specs.Shifts.{log_shift, art_shift}
 use Rattle.zcore_standard.specs.Dice.{random}
@@ -67,9 +67,9 @@ perform_keeping loaded InputStream here after result branch values = goes_on aft
 perform_keeping loaded SoundEffect here after result branch values = goes_on after here.fuel
 perform_keeping loaded ScanTable here after result branch values = scan_table here after result branch
     (first values) (second values) (third values) (slice_index_or values 3 words_of_table)
-perform_keeping loaded Tokenise here after result branch values = tokenise here after
+perform_keeping loaded Tokenise here after result branch values = tokenise (alphabets_of loaded) here after
     (first values) (second values) (slice_index_or values 2 0) (fourth values)
-perform_keeping loaded EncodeText here after result branch values = encode_text here after
+perform_keeping loaded EncodeText here after result branch values = encode_text (alphabets_of loaded) here after
     (first values) (second values) (third values) (fourth values)
 perform_keeping loaded CopyTable here after result branch values = copy_table here after
     (first values) (second values) (third values)

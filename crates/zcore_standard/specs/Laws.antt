@@ -1,5 +1,7 @@
--- The laws of the Standard's machine that functions of `laws` carry as their contracts.
-use Rattle.std.specs.Prelude.{◌≡◌, ◌&&◌, ◌||◌, ℕ, Bool, true, false, not, List, Some, map, IfSome}
+-- The laws of the Standard's machine that functions of `laws` carry as their contracts. Those that compare it with the
+-- profile's are of stories without alphabets of their own: the profile would read the texts of others by the default
+-- alphabets.
+use Rattle.std.specs.Prelude.{◌≡◌, ◌&&◌, ◌||◌, ℕ, Bool, true, false, not, List, Some, None, map, IfSome}
 use Rattle.std.specs.List.{list_all}
 use Rattle.std.specs.Option.{is_none}
 use Rattle.zcore.specs.State.{State, Out, done, halt}
@@ -49,15 +51,16 @@ closes_none here o = is_plain here || is_done o
 -- It may be no `aread` with a stream open or the upper window there, which the profile does not have.
 abbrev pub KeepsWhatTheProfileSteps : Type 0
 KeepsWhatTheProfileSteps =
-    (loaded : Loaded) (here : Here) (s : State) → ends_in_fault (step here.next s) ≡ false
-    → closes_none here (step here.next s) ≡ true → standard_step loaded here s ≡ within here (step here.next s)
+    (loaded : Loaded) (here : Here) (s : State) → loaded.own_alphabets ≡ None
+    → ends_in_fault (step here.next s) ≡ false → closes_none here (step here.next s) ≡ true
+    → standard_step loaded here s ≡ within here (step here.next s)
 
 -- A turn of the profile that ends in no fault is the Standard's turn in the lower window: with the same text, memory,
 -- frames, place and program counter, and with the window and the dice that it began with.
 abbrev pub KeepsWhatTheProfilePlays : Type 0
 KeepsWhatTheProfilePlays =
-    (loaded : Loaded) (beside : Beside) (next : Next) (s : State) (whole : Whole) → beside.window ≡ 0
-    → turn_from next s ≡ Some whole → is_fault whole.place ≡ false
+    (loaded : Loaded) (beside : Beside) (next : Next) (s : State) (whole : Whole) → loaded.own_alphabets ≡ None
+    → beside.window ≡ 0 → turn_from next s ≡ Some whole → is_fault whole.place ≡ false
     → standard_turn loaded (begins beside next) s ≡ Some (with_beside beside whole)
 
 -- A line is waited for as the profile does it: no letter is left over in the text buffer, which is after the header.
@@ -68,8 +71,9 @@ WaitsAsTheProfile play = IfSome play.pending (λ pending. is_text_buffer play.me
 -- holds no letters. This machine would keep letters that are left over in it.
 abbrev pub KeepsWhatTheProfileAnswers : Type 0
 KeepsWhatTheProfileAnswers =
-    (loaded : Loaded) (line : List ℕ) (fuel : ℕ) (play : StateOfPlay) (whole : Whole) → play.beside.window ≡ 0
-    → WaitsAsTheProfile play → turn_on line fuel play ≡ Some whole → is_fault whole.place ≡ false
+    (loaded : Loaded) (line : List ℕ) (fuel : ℕ) (play : StateOfPlay) (whole : Whole) → loaded.own_alphabets ≡ None
+    → play.beside.window ≡ 0 → WaitsAsTheProfile play
+    → turn_on line fuel play ≡ Some whole → is_fault whole.place ≡ false
     → standard_turn_on loaded line fuel play ≡ Some (with_beside play.beside whole)
 
 -- no turn of these ends in a fault
@@ -79,6 +83,6 @@ have_no_fault wholes = list_all (λ whole. not (is_fault whole.place)) wholes
 -- A run over lines in which the profile meets no fault is the Standard's run of the same memory, turn by turn.
 abbrev pub KeepsWhatTheProfileRuns : Type 0
 KeepsWhatTheProfileRuns =
-    (loaded : Loaded) (story : List ℕ) (fuel : ℕ) (lines : List (List ℕ)) → loaded.dice.window ≡ 0
-    → have_no_fault (plays story fuel lines) ≡ true
+    (loaded : Loaded) (story : List ℕ) (fuel : ℕ) (lines : List (List ℕ)) → loaded.own_alphabets ≡ None
+    → loaded.dice.window ≡ 0 → have_no_fault (plays story fuel lines) ≡ true
     → plays_of (by_standard loaded story fuel) lines ≡ map (with_beside loaded.dice) (plays story fuel lines)

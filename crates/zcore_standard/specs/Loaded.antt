@@ -1,6 +1,8 @@
 -- What loading fixes for all turns of the Standard's machine.
-use Rattle.std.specs.Prelude.{ℕ, Bool, List}
+use Rattle.std.specs.Prelude.{ℕ, Bool, List, Option}
+use Rattle.std.specs.Option.{unwrap_or}
 use Rattle.zcore.specs.declared.beside.Beside.{Beside}
+use Rattle.zcore_standard.specs.Texts.{default_alphabets}
 
 pub record Loaded : Type 0 where
   -- dynamic memory as `restart` restores it
@@ -11,3 +13,9 @@ pub record Loaded : Type 0 where
   pub is_sum_right : Bool
   -- the characters of the ZSCII codes from 155 on, as Unicode (3.8.5)
   pub characters : List ℕ
+  -- the three alphabets of the story's own, of 26 ZSCII codes each, if it has them (3.5.5)
+  pub own_alphabets : Option (List ℕ)
+
+-- the story's own alphabets, or the default ones
+abbrev pub alphabets_of : Loaded → List ℕ
+alphabets_of loaded = unwrap_or loaded.own_alphabets default_alphabets

@@ -1,7 +1,8 @@
 -- How a file is loaded: which files are refused, what memory holds then, and what loading fixes (Z-Machine Standards
 -- Document 1.1, sections 1.1, 3.8.5, 11.1 and 15, `verify`).
-use Rattle.std.specs.Prelude.{◌≡◌, ◌≢◌, ◌==◌, ◌&&◌, ◌+◌, ◌*◌, ◌/◌, ◌%◌, ◌≤◌, ◌⊎◌, ℕ, zero, suc, nat_le, min, sum, Bool}
-use Rattle.std.specs.Prelude.{if◌then◌else◌, List, [], ◌∷◌, length, slice_index, take, drop, Result, Ok, Err}
+use Rattle.std.specs.Prelude.{◌≡◌, ◌==◌, ◌&&◌, ◌+◌, ◌*◌, ◌/◌, ◌%◌, ◌≤◌, ◌⊎◌, ℕ, zero, suc, nat_le, min, sum, Bool}
+use Rattle.std.specs.Prelude.{if◌then◌else◌, List, [], ◌∷◌, length, slice_index, slice_range, take, drop}
+use Rattle.std.specs.Prelude.{Option, Some, None, Result, Ok, Err}
 use Rattle.ztext.specs.Bytes.{word_at, most_abbreviations}
 use Rattle.zcore.specs.declared.beside.Beside.{Beside}
 use Rattle.zcore.specs.declared.header.Header.{Header}
@@ -13,8 +14,6 @@ use Rattle.zcore.specs.Layout.{header_size, globals_size, defaults_size, longest
 use Rattle.zcore.specs.Parts.{scale_in, with_word}
 use Rattle.zcore.specs.Turn.{Play, with_bytes}
 use Rattle.zcore_standard.specs.declared.loading.LoadedStory.{LoadedStory}
-use Rattle.zcore_standard.specs.declared.loading.LoadingFault.{LoadingFault}
-use Rattle.zcore_standard.specs.declared.loading.LoadingFault.TheVariants as faults
 use Rattle.zcore_standard.specs.Loaded.{Loaded}
 use Rattle.zcore_standard.specs.Machine.{by_standard}
 use Rattle.zcore_standard.specs.Unicode.{default_characters}
@@ -57,9 +56,13 @@ extension_place story number = extension_of story + 2 * number
 abbrev pub unicode_table_of : List ℕ → ℕ
 unicode_table_of story = if has_extension_word story 3 then word_at story (extension_place story 3) else 0
 
--- the alphabets of the story (3.5.5), or 0
-abbrev pub alphabets_of : List ℕ → ℕ
-alphabets_of story = word_at story 0x34
+-- the table of the story's own alphabets (3.5.5), or 0
+abbrev pub alphabet_table_of : List ℕ → ℕ
+alphabet_table_of story = word_at story 0x34
+
+-- how many bytes it has
+abbrev pub alphabet_table_size : ℕ
+alphabet_table_size = 78
 
 -- the extension is whole: the word that counts, and the words
 pub record IsExtension (story : List ℕ) : Type 0 where
@@ -81,6 +84,7 @@ pub record IsPlaced (story : List ℕ) : Type 0 where
   pub dictionary : static_base_of story ≤ dictionary_of story
   pub extension : IsExtension story
   pub unicode : IsUnicode story
+  pub alphabets : IsTable story (alphabet_table_of story) alphabet_table_size
 
 -- What the player writes into the header (11.1)
 
@@ -143,7 +147,6 @@ pub record IsPlayable (memory : List ℕ) (header : Header) : Type 0 where
   pub read : IsHeaderOf memory header
   pub placed : IsPlaced memory
   pub dictionary : HasDictionaryHead memory (dictionary_of memory)
-  pub alphabets : alphabets_of memory ≡ 0
 
 -- the story of a file is whole, and of a version that is played
 pub record IsWhole (file : List ℕ) : Type 0 where
@@ -158,23 +161,20 @@ IsNotWhole file causes.UnknownVersion = HasHeader file × ¬ IsKnownVersion file
 IsNotWhole file causes.WrongLength = HasHeader file × IsKnownVersion file × ¬ HasStory file
 IsNotWhole file _ = ⊥
 
--- The header of a memory, or the first fact that does not hold. For now a story with alphabets of its own is refused.
-abbrev pub ReadsMemory : List ℕ → Result Header LoadingFault → Type 0
+-- the header of a memory, or that an address is wrong
+abbrev pub ReadsMemory : List ℕ → Result Header HeaderFault → Type 0
 ReadsMemory memory (Ok header) = IsPlayable memory header
-ReadsMemory memory (Err (faults.Header causes.WrongAddress)) =
+ReadsMemory memory (Err causes.WrongAddress) =
     ¬ (IsPlaced memory × HasDictionaryHead memory (dictionary_of memory))
-ReadsMemory memory (Err faults.OwnAlphabets) = alphabets_of memory ≢ 0
 ReadsMemory memory (Err _) = ⊥
 
 -- what a file is read as
-abbrev pub ReadsFile : List ℕ → Result LoadedStory LoadingFault → Type 0
+abbrev pub ReadsFile : List ℕ → Result LoadedStory HeaderFault → Type 0
 ReadsFile file (Ok story) =
     IsWhole file × ReadsMemory (memory_for file) (Ok story.header)
     × (story.is_sum_right ≡ is_sum_right (story_in file))
-ReadsFile file (Err (faults.Header causes.WrongAddress)) =
-    IsWhole file × ReadsMemory (memory_for file) (Err (faults.Header causes.WrongAddress))
-ReadsFile file (Err (faults.Header cause)) = IsNotWhole file cause
-ReadsFile file (Err faults.OwnAlphabets) = IsWhole file × ReadsMemory (memory_for file) (Err faults.OwnAlphabets)
+ReadsFile file (Err causes.WrongAddress) = IsWhole file × ReadsMemory (memory_for file) (Err causes.WrongAddress)
+ReadsFile file (Err cause) = IsNotWhole file cause
 
 -- What loading fixes
 
@@ -194,6 +194,12 @@ characters_of story =
     else words_from story (unicode_table_of story + 1)
     (min (slice_index story (unicode_table_of story)) most_characters)
 
+-- the three alphabets of the story's own, if it has them (3.5.5)
+abbrev pub own_alphabets_of : List ℕ → Option (List ℕ)
+own_alphabets_of story =
+    if alphabet_table_of story == 0 then None
+    else Some (slice_range story (alphabet_table_of story) (alphabet_table_of story + alphabet_table_size))
+
 -- window 0, and the dice of a seed
 abbrev pub seeded : ℕ → Beside
 seeded seed = record { window = 0; random = seed; interval = 0; counter = 0 }
@@ -204,6 +210,7 @@ loaded_of file seed = record {
   dice = seeded seed;
   is_sum_right = is_sum_right (story_in file);
   characters = characters_of (memory_for file);
+  own_alphabets = own_alphabets_of (memory_for file);
 }
 
 -- a file as it is played with a seed, with so much fuel for each turn

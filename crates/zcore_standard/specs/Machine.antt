@@ -8,7 +8,7 @@ use Rattle.zcore.specs.Turn.{StateOfPlay, Whole, Machine, Play, after_step, turn
 use Rattle.zcore.specs.Turn.{first_next, first_state, ended, is_waiting}
 use Rattle.zcore_standard.specs.declared.operations.Further.{Further}
 use Rattle.zcore_standard.specs.Place.{Here, plain, within}
-use Rattle.zcore_standard.specs.Loaded.{Loaded}
+use Rattle.zcore_standard.specs.Loaded.{Loaded, alphabets_of}
 use Rattle.zcore_standard.specs.Operations.{further_at}
 use Rattle.zcore_standard.specs.Instruction.{decode_further}
 use Rattle.zcore_standard.specs.Further.{execute_further}
@@ -18,7 +18,7 @@ use Rattle.zcore_standard.specs.Reading.{standard_given}
 use Rattle.zcore_standard.specs.Nothing.{step_known}
 
 abbrev pub chosen : Loaded → Option Further → Here → State → Out Here
-chosen loaded None here s = within here (step_known loaded.characters here.next s)
+chosen loaded None here s = within here (step_known loaded here.next s)
 chosen loaded (Some operation) here s =
     execute_further loaded operation here (decode_further s.memory here.next.program_counter operation) s
 
@@ -60,7 +60,7 @@ standard_opening loaded story fuel =
 abbrev pub standard_pending : Loaded → Option Pending → List ℕ → ℕ → StateOfPlay → Option Whole
 standard_pending loaded None line fuel play = None
 standard_pending loaded (Some pending) line fuel play =
-    after_step (standard_given pending line fuel (resumed play))
+    after_step (standard_given (alphabets_of loaded) pending line fuel (resumed play))
     (λ next s. standard_turn loaded (begins play.beside next) s)
     (λ place s. Some (standard_ended
     (begins play.beside (record { program_counter = play.program_counter; fuel = fuel })) place s))

@@ -17,6 +17,7 @@ use Rattle.zcore.specs.Execution.{first, second}
 use Rattle.zcore.specs.Objects.{give_object, remove_object}
 use Rattle.zcore.specs.Parts.{fault, is_code, operand_values, goes_on, branch_on}
 use Rattle.zcore.specs.State.{State, Out, ◌>>=◌}
+use Rattle.zcore_standard.specs.Loaded.{Loaded}
 use Rattle.zcore_standard.specs.Printing.{perform_printing}
 
 -- the first operand is an object
@@ -65,20 +66,20 @@ perform_on_nothing GetParent here after result branch values = give_result here 
 perform_on_nothing operation here after result branch values = goes_on after here.fuel
 
 -- an operation of the profile on the values of its operands
-abbrev pub perform_known : List ℕ → Operation → Next → ℕ → Option ℕ → Option Branch → List ℕ → State → Out Next
-perform_known characters operation here after result branch values =
+abbrev pub perform_known : Loaded → Operation → Next → ℕ → Option ℕ → Option Branch → List ℕ → State → Out Next
+perform_known loaded operation here after result branch values =
     if concerns_nothing operation values then perform_on_nothing operation here after result branch values
-    else perform_printing characters operation here after result branch values
+    else perform_printing loaded operation here after result branch values
 
-abbrev pub execute_known : List ℕ → Next → Result (Instruction × ℕ) Fault → State → Out Next
-execute_known characters here (Err cause) = fault cause
-execute_known characters here (Ok x) = do
+abbrev pub execute_known : Loaded → Next → Result (Instruction × ℕ) Fault → State → Out Next
+execute_known loaded here (Err cause) = fault cause
+execute_known loaded here (Ok x) = do
   values ← operand_values x.0.operands
-  perform_known characters x.0.operation here x.1 x.0.result x.0.branch values
+  perform_known loaded x.0.operation here x.1 x.0.result x.0.branch values
 
 -- a step of the profile, but for object 0 and for what the profile does not print
-unfoldable pub step_known : List ℕ → Next → State → Out Next
-step_known characters here s =
+unfoldable pub step_known : Loaded → Next → State → Out Next
+step_known loaded here s =
     if is_code s.memory here.program_counter
-    then execute_known characters here (decode s.memory here.program_counter) s
+    then execute_known loaded here (decode s.memory here.program_counter) s
     else fault faults.Code s

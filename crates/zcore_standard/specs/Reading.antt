@@ -69,17 +69,20 @@ letters_with memory text line =
     letters_in memory text
     ++ map lower_case (take (slice_index memory text - slice_index memory (text + 1)) line)
 
--- Their words fill the slots of the parse buffer, as by `tokenise`. What is looked up is read in the memory as it was.
-abbrev pub with_words : List ℕ → ℕ → List ℕ → List ℕ → List ℕ
-with_words memory parse letters written =
+-- Their words fill the slots of the parse buffer, as by `tokenise`, by these alphabets. What is looked up is read in the
+-- memory as it was.
+abbrev pub with_words : List ℕ → List ℕ → ℕ → List ℕ → List ℕ → List ℕ
+with_words alphabets memory parse letters written =
     if parse == 0 then written
     else (
     let words = first_words memory (dictionary_of memory) letters (slice_index memory parse) in
-    with_bytes written (parse + 1) (length words ∷ slots_bytes memory (dictionary_of memory) 0 (parse + 2) words))
+    with_bytes written (parse + 1)
+    (length words ∷ slots_bytes alphabets memory (dictionary_of memory) 0 (parse + 2) words))
 
 -- first the text buffer, then the parse buffer: where they overlap, the bytes of the parse buffer stand
-abbrev pub with_line : List ℕ → ℕ → ℕ → List ℕ → List ℕ
-with_line memory text parse letters = with_words memory parse letters (with_letters memory text letters)
+abbrev pub with_line : List ℕ → List ℕ → ℕ → ℕ → List ℕ → List ℕ
+with_line alphabets memory text parse letters =
+    with_words alphabets memory parse letters (with_letters memory text letters)
 
 -- The line that is given to read_char
 
@@ -107,19 +110,19 @@ key_of_line line = key_among key_lines line
 abbrev pub can_take : List ℕ → ℕ → ℕ → Bool
 can_take memory text parse = (text == 0) || (has_room memory text && has_slots_or_none memory parse)
 
-abbrev pub memory_given : ℕ → ℕ → List ℕ → List ℕ → List ℕ
-memory_given text parse line memory =
-    if text == 0 then memory else with_line memory text parse (letters_with memory text line)
+abbrev pub memory_given : List ℕ → ℕ → ℕ → List ℕ → List ℕ → List ℕ
+memory_given alphabets text parse line memory =
+    if text == 0 then memory else with_line alphabets memory text parse (letters_with memory text line)
 
 -- the result: the key, or the one that ended the line
 abbrev pub result_given : ℕ → List ℕ → ℕ
 result_given text line = if text == 0 then key_of_line line else 13
 
-unfoldable pub standard_given : Pending → List ℕ → ℕ → State → Out Next
-standard_given pending line fuel s = (do
+unfoldable pub standard_given : List ℕ → Pending → List ℕ → ℕ → State → Out Next
+standard_given alphabets pending line fuel s = (do
   _ ← store_result pending.result (result_given pending.text_buffer line)
   goes_on pending.return_address fuel) (record s {
-    memory = memory_given pending.text_buffer pending.parse_buffer line s.memory;
+    memory = memory_given alphabets pending.text_buffer pending.parse_buffer line s.memory;
     pending = None;
     text = [];
   })

@@ -1,7 +1,9 @@
 -- Texts in which any ZSCII code may stand (Z-Machine Standards Document 1.1, sections 3.2 to 3.8).
-use Rattle.std.specs.Prelude.{◌==◌, ◌+◌, ◌-◌, ◌*◌, ℕ, nat_lt, Bool, true, false, if◌then◌else◌, List, [], ◌∷◌, ◌++◌}
-use Rattle.std.specs.Prelude.{slice_index, Result, Ok, Err}
-use Rattle.ztext.specs.Alphabets.{lower_letters, upper_letters, punctuation}
+use Rattle.std.specs.Prelude.{◌==◌, ◌+◌, ◌-◌, ◌*◌, ℕ, nat_lt, Bool, true, false, if◌then◌else◌}
+use Rattle.std.specs.Prelude.{List, [], ◌∷◌, ◌++◌, take, drop, slice_index, slice_range, Option, Some, None}
+use Rattle.std.specs.Prelude.{Result, Ok, Err}
+use Rattle.std.specs.List.{flat_map}
+use Rattle.ztext.specs.Alphabets.{lower_letters, upper_letters, punctuation, place_in, spelling_in_punctuation}
 use Rattle.ztext.specs.Results.{◌>>=◌}
 use Rattle.ztext.specs.Reading.{Cause, Abbreviation, ReadingState, Lower, Upper, Punctuation, EscapeHigh, EscapeLow}
 use Rattle.ztext.specs.Reading.{Abbreviated, next}
@@ -55,3 +57,32 @@ abbreviation_codes alphabets story number =
 -- the text at an address, by these alphabets
 unfoldable pub codes_at : List ℕ → List ℕ → ℕ → Result (List ℕ × ℕ) Cause
 codes_at alphabets story at = codes_with alphabets (abbreviation_codes alphabets story) story at
+
+-- Writing
+
+-- the Z-characters of a code that neither of the first two alphabets has: 7 of the third is a new line, and its letters
+-- have the Z-characters from 8 on (3.5.3); a code that none has is escaped (3.4)
+abbrev pub spelled_in_third : List ℕ → ℕ → List ℕ
+spelled_in_third alphabets code =
+    if code == 13 then 5 ∷ 7 ∷ []
+    else spelling_in_punctuation (place_in (drop 54 alphabets) code) code
+
+-- its place in the second alphabet, with a shift before it (3.2.2)
+abbrev pub spelled_in_second : List ℕ → Option ℕ → ℕ → List ℕ
+spelled_in_second alphabets (Some place) code = 4 ∷ (place + 6) ∷ []
+spelled_in_second alphabets None code = spelled_in_third alphabets code
+
+-- its place in the first alphabet
+abbrev pub spelled_in_first : List ℕ → Option ℕ → ℕ → List ℕ
+spelled_in_first alphabets (Some place) code = (place + 6) ∷ []
+spelled_in_first alphabets None code = spelled_in_second alphabets (place_in (slice_range alphabets 26 52) code) code
+
+-- the Z-characters of a ZSCII code, by the first alphabet that has it; a space is 0 (3.5.1)
+unfoldable pub spelling_by : List ℕ → ℕ → List ℕ
+spelling_by alphabets code =
+    if code == 32 then 0 ∷ []
+    else spelled_in_first alphabets (place_in (take 26 alphabets) code) code
+
+-- the Z-characters of ZSCII codes
+abbrev pub spelled_by : List ℕ → List ℕ → List ℕ
+spelled_by alphabets codes = flat_map (spelling_by alphabets) codes

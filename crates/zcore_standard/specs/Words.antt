@@ -4,7 +4,6 @@ use Rattle.std.specs.Prelude.{◌==◌, ◌&&◌, ◌||◌, ◌+◌, ◌*◌, �
 use Rattle.std.specs.Prelude.{List, [], ◌∷◌, ◌++◌, length, take, replicate, slice_index, slice_range}
 use Rattle.zcore.specs.declared.next.Next.{Next}
 use Rattle.zcore.specs.declared.place.Fault.TheVariants as faults
-use Rattle.ztext.specs.Alphabets.{spelled}
 use Rattle.ztext.specs.Words.{packed}
 use Rattle.zcore.specs.Header.{dictionary_of, static_base_of, static_end}
 use Rattle.zcore.specs.Layout.{header_size}
@@ -14,6 +13,7 @@ use Rattle.zcore.specs.Parsing.{first_words}
 use Rattle.zcore.specs.State.{State, Out, done, ◌>>=◌}
 use Rattle.zcore.specs.Parts.{test, fault, goes_on}
 use Rattle.zcore.specs.Turn.{with_bytes}
+use Rattle.zcore_standard.specs.Texts.{spelled_by}
 
 -- whether so many bytes from an address on can be read
 abbrev pub are_readable : List ℕ → ℕ → ℕ → Bool
@@ -23,10 +23,10 @@ are_readable memory at count = (count == 0) || nat_le (at + count) (static_end m
 abbrev pub are_writable : List ℕ → ℕ → ℕ → Bool
 are_writable memory at count = nat_le header_size at && nat_le (at + count) (static_base_of memory)
 
--- The form of a word in a dictionary: its first nine Z-characters, filled with fives (13.3). A capital is not made a
--- small letter here: `aread` does that, where a line is typed.
-unfoldable pub form_of : List ℕ → List ℕ
-form_of word = packed (take 9 (spelled word ++ replicate 9 5))
+-- The form of a word in a dictionary, by these alphabets: its first nine Z-characters, filled with fives (13.3). A capital
+-- is not made a small letter here: `aread` does that, where a line is typed.
+unfoldable pub form_of : List ℕ → List ℕ → List ℕ
+form_of alphabets word = packed (take 9 (spelled_by alphabets word ++ replicate 9 5))
 
 -- tokenise
 
@@ -56,51 +56,51 @@ unfoldable pub test_slots : ℕ → State → Out (Unit {0})
 test_slots parse s = test (has_slots s.memory parse) faults.Buffer s
 
 -- the address of the first entry that has the form of a word, or 0
-unfoldable pub entry_with_form : List ℕ → ℕ → List ℕ → ℕ
-entry_with_form memory dictionary word = entry_of memory dictionary (number_of_key (form_of word))
+unfoldable pub entry_with_form : List ℕ → List ℕ → ℕ → List ℕ → ℕ
+entry_with_form alphabets memory dictionary word = entry_of memory dictionary (number_of_key (form_of alphabets word))
 
 -- the four bytes of a word: the address of its entry, its length, and its place in the text buffer
 abbrev pub four_bytes : ℕ → Word → List ℕ
 four_bytes entry w = (entry / 256) ∷ (entry % 256) ∷ length w.bytes ∷ ((w.place + 2) % 256) ∷ []
 
 -- the slot of a word, at an address: with the flag, a word that is not found leaves the bytes that are there
-abbrev pub slot_bytes : List ℕ → ℕ → ℕ → ℕ → Word → List ℕ
-slot_bytes memory dictionary flag at w =
-    if (entry_with_form memory dictionary w.bytes == 0) && nat_le 1 flag then slice_range memory at (at + 4)
-    else four_bytes (entry_with_form memory dictionary w.bytes) w
+abbrev pub slot_bytes : List ℕ → List ℕ → ℕ → ℕ → ℕ → Word → List ℕ
+slot_bytes alphabets memory dictionary flag at w =
+    if (entry_with_form alphabets memory dictionary w.bytes == 0) && nat_le 1 flag then slice_range memory at (at + 4)
+    else four_bytes (entry_with_form alphabets memory dictionary w.bytes) w
 
 -- the slots of words, from an address on
-abbrev pub slots_bytes : List ℕ → ℕ → ℕ → ℕ → List Word → List ℕ
-slots_bytes memory dictionary flag at [] = []
-slots_bytes memory dictionary flag at (w ∷ ws) =
-    slot_bytes memory dictionary flag at w ++ slots_bytes memory dictionary flag (at + 4) ws
+abbrev pub slots_bytes : List ℕ → List ℕ → ℕ → ℕ → ℕ → List Word → List ℕ
+slots_bytes alphabets memory dictionary flag at [] = []
+slots_bytes alphabets memory dictionary flag at (w ∷ ws) =
+    slot_bytes alphabets memory dictionary flag at w ++ slots_bytes alphabets memory dictionary flag (at + 4) ws
 
 -- The first words of a text, as many as there are slots: their number goes to byte 1 of the parse buffer, and then each
 -- fills its slot. Everything is read in the memory as it was.
-abbrev pub with_slots : List ℕ → ℕ → ℕ → ℕ → ℕ → List ℕ
-with_slots memory text parse dictionary flag =
+abbrev pub with_slots : List ℕ → List ℕ → ℕ → ℕ → ℕ → ℕ → List ℕ
+with_slots alphabets memory text parse dictionary flag =
     let words = first_words memory dictionary (letters_in memory text) (slice_index memory parse) in
-    with_bytes memory (parse + 1) (length words ∷ slots_bytes memory dictionary flag (parse + 2) words)
+    with_bytes memory (parse + 1) (length words ∷ slots_bytes alphabets memory dictionary flag (parse + 2) words)
 
-unfoldable pub fill_slots : ℕ → ℕ → ℕ → ℕ → State → Out (Unit {0})
-fill_slots text parse dictionary flag s = done tt
-    (record s { memory = with_slots s.memory text parse (dictionary_for s.memory dictionary) flag })
+unfoldable pub fill_slots : List ℕ → ℕ → ℕ → ℕ → ℕ → State → Out (Unit {0})
+fill_slots alphabets text parse dictionary flag s = done tt
+    (record s { memory = with_slots alphabets s.memory text parse (dictionary_for s.memory dictionary) flag })
 
 -- all its tests come before a byte is written
-unfoldable pub tokenise : Next → ℕ → ℕ → ℕ → ℕ → ℕ → State → Out Next
-tokenise here after text parse dictionary flag = do
+unfoldable pub tokenise : List ℕ → Next → ℕ → ℕ → ℕ → ℕ → ℕ → State → Out Next
+tokenise alphabets here after text parse dictionary flag = do
   _ ← test_letters text
   _ ← test_slots parse
   _ ← test_dictionary dictionary
-  _ ← fill_slots text parse dictionary flag
+  _ ← fill_slots alphabets text parse dictionary flag
   goes_on after here.fuel
 
 -- encode_text
 
 -- the form of a word that has so many characters from an address on
-unfoldable pub form_at : ℕ → ℕ → State → Out (List ℕ)
-form_at at count s =
-    if are_readable s.memory at count then done (form_of (slice_range s.memory at (at + count))) s
+unfoldable pub form_at : List ℕ → ℕ → ℕ → State → Out (List ℕ)
+form_at alphabets at count s =
+    if are_readable s.memory at count then done (form_of alphabets (slice_range s.memory at (at + count))) s
     else fault faults.Read s
 
 unfoldable pub write_bytes : ℕ → List ℕ → State → Out (Unit {0})
@@ -109,8 +109,8 @@ write_bytes at bytes s =
     else fault faults.Write s
 
 -- the word begins at a place of a text; its form is written to an address
-unfoldable pub encode_text : Next → ℕ → ℕ → ℕ → ℕ → ℕ → State → Out Next
-encode_text here after text count from coded = do
-  form ← form_at ((text + from) % 65536) count
+unfoldable pub encode_text : List ℕ → Next → ℕ → ℕ → ℕ → ℕ → ℕ → State → Out Next
+encode_text alphabets here after text count from coded = do
+  form ← form_at alphabets ((text + from) % 65536) count
   _ ← write_bytes coded form
   goes_on after here.fuel

@@ -8,25 +8,12 @@ ghost use Rattle.zcore_standard.specs.Loading as definitions;
 ghost use Rattle.zcore_standard.specs.Loading.{IsNotWhole, IsWhole, ReadsFile, ReadsMemory};
 
 use crate::placing::{EXTENSION_WORD, is_placed, read_dictionary};
-use thiserror::Error;
 use zcore::layout::{
     ABBREVIATIONS_WORD, DEFAULTS_WORD, DICTIONARY_WORD, FIRST_INSTRUCTION_WORD, GLOBALS_WORD,
     HEADER_LENGTH, HIGH_MEMORY_WORD, LENGTH_WORD, LONGEST_STORY, STATIC_BASE_WORD, SUM_WORD,
 };
 use zcore::{Dictionary, Header, HeaderFault, Version};
 use ztext::read_word;
-
-/// Why a file is not played by the whole Standard. `Display` writes its name alone, Z4 to Z7 or Z10.
-#[derive(Clone, Copy, Debug, PartialEq, Eq, Error)]
-pub enum LoadingFault {
-    /// The header refuses it: its size, its version, its length or an address. The sum never does.
-    #[error("{0}")]
-    Header(HeaderFault),
-
-    /// The story has alphabets of its own (word $34, section 3.5.5), which are not played yet.
-    #[error("Z10")]
-    OwnAlphabets,
-}
 
 /// What loading tells of a file, besides its memory.
 #[derive(Clone, Copy, Debug, PartialEq, Eq)]
@@ -52,9 +39,6 @@ const COLOURS: usize = 0x2C;
 
 /// The revision of the Standard.
 const REVISION: usize = 0x32;
-
-/// The address of the story's own alphabets.
-const ALPHABETS_WORD: usize = 0x34;
 
 /// A fixed-space style is there, and nothing else that Flags 1 tells of.
 const FIXED_SPACE: [u8; 1] = [0x10];
@@ -193,20 +177,17 @@ fn header_of(memory: &[u8], version: Version, dictionary: Dictionary) -> Header
 }
 
 /// The header of a memory that can be played.
-fn read_header(memory: &[u8], version: Version) -> Result<Header, LoadingFault>
+fn read_header(memory: &[u8], version: Version) -> Result<Header, HeaderFault>
     requires header { HasHeader memory.now }
     requires version { IsOfVersion memory.now version }
     ensures { ReadsMemory memory.now result }
 {
     if !is_placed(memory) {
-        return Err(LoadingFault::Header(HeaderFault::WrongAddress));
+        return Err(HeaderFault::WrongAddress);
     }
     let Some(dictionary) = read_dictionary(memory, read_word(memory, DICTIONARY_WORD)) else {
-        return Err(LoadingFault::Header(HeaderFault::WrongAddress));
+        return Err(HeaderFault::WrongAddress);
     };
-    if read_word(memory, ALPHABETS_WORD) != 0 {
-        return Err(LoadingFault::OwnAlphabets);
-    }
     Ok(header_of(memory, version, dictionary))
 }
 
@@ -236,16 +217,13 @@ fn cut(file: &mut Vec<u8>) -> Result<Version, HeaderFault>
 ///
 /// # Errors
 ///
-/// The first of the facts of [`LoadingFault`] that does not hold. A part of the header may be set
-/// then.
-pub fn load(file: &mut Vec<u8>) -> Result<LoadedStory, LoadingFault>
+/// The first fact that does not hold: the size, the version, the length or an address. The sum
+/// refuses none. A part of the header may be set then.
+pub fn load(file: &mut Vec<u8>) -> Result<LoadedStory, HeaderFault>
     ensures read { ReadsFile file.old.items result }
     ensures memory { IfOk result (λ _. file.new.items ≡ definitions.memory_for file.old.items) }
 {
-    let version = match cut(file) {
-        Ok(version) => version,
-        Err(cause) => return Err(LoadingFault::Header(cause)),
-    };
+    let version = cut(file)?;
     let is_sum_right = is_sum_right(file);
     set_header(file);
     let header = read_header(file, version)?;

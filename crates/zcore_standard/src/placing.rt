@@ -24,6 +24,12 @@ const ABBREVIATIONS_LENGTH: usize = 2 * MOST_ABBREVIATIONS;
 /// The word of the extension that is the address of the Unicode table (section 11.1.7).
 const UNICODE_TABLE: u16 = 3;
 
+/// The header's word for the address of the story's own alphabets (section 3.5.5).
+const ALPHABETS_WORD: usize = 0x34;
+
+/// The three alphabets have 26 letters each, of a byte.
+pub(crate) const ALPHABETS_LENGTH: usize = 78;
+
 /// The bytes of the longest extension: a word that counts, and the words.
 const LONGEST_EXTENSION: usize = 0x2_0000;
 
@@ -95,6 +101,24 @@ fn has_unicode(story: &[u8]) -> bool
     is_table(story, table, 1 + 2 * count)
 }
 
+/// The address of the story's own alphabets, or 0.
+pub(crate) fn alphabet_table(story: &[u8]) -> u16
+    requires { HasHeader story.now }
+    ensures { result ≡ definitions.alphabet_table_of story.now }
+{
+    read_word(story, ALPHABETS_WORD)
+}
+
+/// Whether the Unicode table is whole, and the table of the story's own alphabets, if it has them.
+fn has_characters(story: &[u8]) -> bool
+    requires header { HasHeader story.now }
+    requires extension { IsExtension story.now }
+    ensures { IsTrue result ↔ (IsUnicode story.now
+        × IsTable story.now (definitions.alphabet_table_of story.now) definitions.alphabet_table_size) }
+{
+    has_unicode(story) && is_table(story, alphabet_table(story), ALPHABETS_LENGTH)
+}
+
 /// Whether each address that the header names lies in the memory that it belongs to.
 pub(crate) fn is_placed(story: &[u8]) -> bool
     requires { HasHeader story.now }
@@ -114,7 +138,7 @@ pub(crate) fn is_placed(story: &[u8]) -> bool
         && is_within(HEADER_LENGTH, length, first_instruction, 1)
         && static_base <= read_word(story, DICTIONARY_WORD)
         && has_extension(story)
-        && has_unicode(story)
+        && has_characters(story)
 }
 
 /// The dictionary at an address, where what comes before its entries can be read.

@@ -1,12 +1,12 @@
-//! The characters of the ZSCII codes from 155 on.
+//! The characters of the ZSCII codes from 155 on, and the alphabets.
 
-ghost use Rattle.std.specs.Prelude.{◌≡◌, ◌+◌, ◌*◌, ◌≤◌, length, IfOk};
+ghost use Rattle.std.specs.Prelude.{◌≡◌, ◌+◌, ◌*◌, ◌≤◌, length, slice_range, IfOk};
 ghost use Rattle.zcore.specs.Header.{HasHeader};
 ghost use Rattle.zcore_standard.specs.Loading as definitions;
 ghost use Rattle.zcore_standard.specs.Loading.{IsPlaced};
 ghost use Rattle.zcore_standard.specs.Unicode.{default_characters};
 
-use crate::placing::unicode_table;
+use crate::placing::{ALPHABETS_LENGTH, alphabet_table, unicode_table};
 use std::alloc::{AllocError, Global};
 use ztext::read_word;
 
@@ -39,6 +39,29 @@ pub fn characters(alloc: Global, memory: &[u8]) -> Result<Vec<u16>, AllocError>
     }
     let count = memory[table].min(MOST_CHARACTERS);
     words_from(alloc, memory, table + 1, usize::from(count))
+}
+
+/// The three alphabets of the story's own, of 26 ZSCII codes each, if it has them.
+pub fn own_alphabets(memory: &[u8]) -> Option<[u8; 78]>
+    requires header { HasHeader memory.now }
+    requires placed { IsPlaced memory.now }
+    ensures { result ≡ definitions.own_alphabets_of memory.now }
+{
+    let table = alphabet_table(memory) as usize;
+    if table == 0 {
+        return None;
+    }
+    Some(alphabets_at(memory, table))
+}
+
+/// The alphabets of a table.
+fn alphabets_at(memory: &[u8], table: usize) -> [u8; 78]
+    requires { table + ALPHABETS_LENGTH ≤ length memory.now }
+    ensures { result ≡ slice_range memory.now table (table + ALPHABETS_LENGTH) }
+{
+    let mut alphabets = [0; ALPHABETS_LENGTH];
+    alphabets[..].copy_from_slice(&memory[table..table + ALPHABETS_LENGTH]);
+    alphabets
 }
 
 /// The default characters.

@@ -1,6 +1,6 @@
 use Rattle.std.proofs.Common.{refl, sym, ◌∙◌}
-use Rattle.machine_standard_opcodes.proofs.Cuts.{keeps_still}
-use Rattle.machine_standard_opcodes.specs.Around.{place}
+use Rattle.machine_standard_windows.proofs.TurnTexts.{keeps_still}
+use Rattle.machine_standard_windows.specs.Around.{place}
 use Rattle.machine_standard.proofs.Whole.{shown_heard}
 use Rattle.machine_standard.proofs.turn.cut_to_shown.Goals as goal
 

@@ -11,7 +11,7 @@ returns-in-Print-clause-told c =
     let e = c.in-Print.is in
     let none : Option ℕ = None in
     let stays : Option Branch = None in
-    text_told c.args.characters.now c.args.operation c.args.here c.args.after none stays [] _
+    text_told c.args.loaded.now c.args.operation c.args.here c.args.after none stays [] _
     (without_none c.args.operation [] c.requires.count) (ap is_text e) (rw e c.print_inline.ensures.told)
 
 pub returns-in-PrintReturn-clause-told : goal.returns-in-PrintReturn-clause-told
@@ -20,14 +20,14 @@ returns-in-PrintReturn-clause-told c =
     let e = c.in-PrintReturn.is in
     let none : Option ℕ = None in
     let stays : Option Branch = None in
-    text_told c.args.characters.now c.args.operation c.args.here c.args.after none stays [] _
+    text_told c.args.loaded.now c.args.operation c.args.here c.args.after none stays [] _
     (without_none c.args.operation [] c.requires.count) (ap is_text e) (rw e c.print_return.ensures.told)
 
 pub returns-in_default-clause-told : goal.returns-in_default-clause-told
 returns-in_default-clause-told c =
     let none : Option ℕ = None in
     let stays : Option Branch = None in
-    known_told c.args.characters.now c.args.operation c.args.here c.args.after none stays [] _
+    known_told c.args.loaded.now c.args.operation c.args.here c.args.after none stays [] _
     (without_none c.args.operation [] c.requires.count)
     (none_plain c.args.operation c.requires.count c.in_default.not-Print c.in_default.not-PrintReturn)
     c.perform_none.ensures.told

@@ -7,7 +7,7 @@ use Rattle.machine_standard_objects.proofs.perform.one.Goals as goal
 
 pub returns-then-concerns_nothing-clause-told : goal.returns-then-concerns_nothing-clause-told
 returns-then-concerns_nothing-clause-told c = told_went _ _
-    (nothing_went c.args.characters.now c.args.operation c.args.here c.args.ending.after c.args.ending.result
+    (nothing_went c.args.loaded.now c.args.operation c.args.here c.args.ending.after c.args.ending.result
     c.args.ending.branch (c.args.x ∷ []) _ (sym c.concerns_nothing.ensures ∙ c.if-concerns_nothing.true)
     c.perform_on_nothing.ensures)
 
@@ -15,7 +15,7 @@ pub returns-in-PrintAddress-clause-told : goal.returns-in-PrintAddress-clause-to
 unfolding perform perform_text
 returns-in-PrintAddress-clause-told c =
     let e = c.in-PrintAddress.is in
-    text_told c.args.characters.now c.args.operation c.args.here c.args.ending.after c.args.ending.result
+    text_told c.args.loaded.now c.args.operation c.args.here c.args.ending.after c.args.ending.result
     c.args.ending.branch (c.args.x ∷ []) _ (sym c.concerns_nothing.ensures ∙ c.if-concerns_nothing.false) (ap is_text e)
     (rw e c.print_address.ensures.told)
 
@@ -23,7 +23,7 @@ pub returns-in-PrintPacked-clause-told : goal.returns-in-PrintPacked-clause-told
 unfolding perform perform_text
 returns-in-PrintPacked-clause-told c =
     let e = c.in-PrintPacked.is in
-    text_told c.args.characters.now c.args.operation c.args.here c.args.ending.after c.args.ending.result
+    text_told c.args.loaded.now c.args.operation c.args.here c.args.ending.after c.args.ending.result
     c.args.ending.branch (c.args.x ∷ []) _ (sym c.concerns_nothing.ensures ∙ c.if-concerns_nothing.false) (ap is_text e)
     (rw e c.print_packed.ensures.told)
 
@@ -31,12 +31,12 @@ pub returns-in-PrintObject-clause-told : goal.returns-in-PrintObject-clause-told
 unfolding perform perform_text
 returns-in-PrintObject-clause-told c =
     let e = c.in-PrintObject.is in
-    text_told c.args.characters.now c.args.operation c.args.here c.args.ending.after c.args.ending.result
+    text_told c.args.loaded.now c.args.operation c.args.here c.args.ending.after c.args.ending.result
     c.args.ending.branch (c.args.x ∷ []) _ (sym c.concerns_nothing.ensures ∙ c.if-concerns_nothing.false) (ap is_text e)
     (rw e c.print_object.ensures.told)
 
 pub returns-in_default-clause-told : goal.returns-in_default-clause-told
-returns-in_default-clause-told c = known_told c.args.characters.now c.args.operation c.args.here c.args.ending.after
+returns-in_default-clause-told c = known_told c.args.loaded.now c.args.operation c.args.here c.args.ending.after
     c.args.ending.result c.args.ending.branch (c.args.x ∷ []) _
     (sym c.concerns_nothing.ensures ∙ c.if-concerns_nothing.false)
     (one_plain c.args.operation c.requires.count c.in_default.not-PrintAddress c.in_default.not-PrintPacked

@@ -7,7 +7,7 @@ use Rattle.machine_standard_objects.proofs.perform.several.Goals as goal
 
 pub returns-then-concerns_nothing-clause-told : goal.returns-then-concerns_nothing-clause-told
 returns-then-concerns_nothing-clause-told c = told_went _ _
-    (nothing_went c.args.characters.now c.args.operation c.args.here c.args.ending.after c.args.ending.result
+    (nothing_went c.args.loaded.now c.args.operation c.args.here c.args.ending.after c.args.ending.result
     c.args.ending.branch c.args.values.now _ (sym c.concerns_nothing.ensures ∙ c.if-concerns_nothing.true)
     c.perform_on_nothing.ensures)
 
@@ -15,12 +15,12 @@ pub returns-in-PrintCharacter-clause-told : goal.returns-in-PrintCharacter-claus
 unfolding perform perform_text
 returns-in-PrintCharacter-clause-told c =
     let e = c.in-PrintCharacter.is in
-    text_told c.args.characters.now c.args.operation c.args.here c.args.ending.after c.args.ending.result
+    text_told c.args.loaded.now c.args.operation c.args.here c.args.ending.after c.args.ending.result
     c.args.ending.branch c.args.values.now _ (sym c.concerns_nothing.ensures ∙ c.if-concerns_nothing.false) (ap is_text e)
     (rw e c.print_character.ensures.told)
 
 pub returns-in_default-clause-told : goal.returns-in_default-clause-told
-returns-in_default-clause-told c = known_told c.args.characters.now c.args.operation c.args.here c.args.ending.after
+returns-in_default-clause-told c = known_told c.args.loaded.now c.args.operation c.args.here c.args.ending.after
     c.args.ending.result c.args.ending.branch c.args.values.now _
     (sym c.concerns_nothing.ensures ∙ c.if-concerns_nothing.false)
     (several_plain c.args.operation c.requires.count c.in_default.not-PrintCharacter) c.perform_several.ensures.told

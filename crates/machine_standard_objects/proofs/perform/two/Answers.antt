@@ -3,12 +3,12 @@ use Rattle.machine_standard_objects.proofs.Performing.{nothing_went, known_went,
 use Rattle.machine_standard_objects.proofs.perform.two.Goals as goal
 
 pub returns-then-concerns_nothing : goal.returns-then-concerns_nothing
-returns-then-concerns_nothing c = λ characters. nothing_went characters c.args.operation c.args.here
+returns-then-concerns_nothing c = λ loaded. nothing_went loaded c.args.operation c.args.here
     c.args.ending.after c.args.ending.result c.args.ending.branch (c.args.x ∷ c.args.y ∷ []) _
     (sym c.concerns_nothing.ensures ∙ c.if-concerns_nothing.true) c.perform_on_nothing.ensures
 
 pub returns : goal.returns
-returns c = λ characters. known_went characters c.args.operation c.args.here c.args.ending.after
+returns c = λ loaded. known_went loaded c.args.operation c.args.here c.args.ending.after
     c.args.ending.result c.args.ending.branch (c.args.x ∷ c.args.y ∷ []) _
     (sym c.concerns_nothing.ensures ∙ c.if-concerns_nothing.false) (two_plain c.args.operation c.requires.count)
     c.perform_two.ensures

@@ -14,26 +14,26 @@ pub operand_value-requires-2 : goal.operand_value-requires-2
 operand_value-requires-2 c = went_store c.requires c.in_ok-x.ensures
 
 pub returns-in-Err : goal.returns-in-Err
-returns-in-Err c = λ characters. halts characters _ c.args.here _
+returns-in-Err c = λ loaded. halts loaded _ c.args.here _
     (λ l. completed l (long_form c.args.first (c.args.here.program_counter + 1))) _ c.requires.sound
     (c.memory.ensures ∙ ap memory_of c.store.ensures) c.in-Err.ensures.instruction
 
 pub returns-in_err-x : goal.returns-in_err-x
-returns-in_err-x c = λ characters.
+returns-in_err-x c = λ loaded.
     went_err _ c.from_residual.ensures.1
-    (executes characters _ c.args.here _ (λ l. completed l (long_form c.args.first (c.args.here.program_counter + 1))) _ _
+    (executes loaded _ c.args.here _ (λ l. completed l (long_form c.args.first (c.args.here.program_counter + 1))) _ _
     (c.memory.ensures ∙ ap memory_of c.store.ensures) c.in-Ok.ensures.instruction
     (went_no_further _ (first_stops _ _ c.in_err-x.ensures)))
 
 pub returns-in_err-y : goal.returns-in_err-y
-returns-in_err-y c = λ characters.
+returns-in_err-y c = λ loaded.
     went_err _ c.from_residual-in_err-y.ensures.1
-    (executes characters _ c.args.here _ (λ l. completed l (long_form c.args.first (c.args.here.program_counter + 1))) _ _
+    (executes loaded _ c.args.here _ (λ l. completed l (long_form c.args.first (c.args.here.program_counter + 1))) _ _
     (c.memory.ensures ∙ ap memory_of c.store.ensures) c.in-Ok.ensures.instruction
     (went_no_further _ (second_stops _ _ c.in_ok-x.ensures c.in_err-y.ensures)))
 
 pub returns : goal.returns
-returns c = λ characters. executes characters _ c.args.here _
+returns c = λ loaded. executes loaded _ c.args.here _
     (λ l. completed l (long_form c.args.first (c.args.here.program_counter + 1))) _
     _ (c.memory.ensures ∙ ap memory_of c.store.ensures) c.in-Ok.ensures.instruction
-    (went_then _ (two_values _ _ c.in_ok-x.ensures c.in_ok-y.ensures) (c.two.ensures characters))
+    (went_then _ (two_values _ _ c.in_ok-x.ensures c.in_ok-y.ensures) (c.two.ensures loaded))

@@ -10,21 +10,21 @@ pub several-requires-clause-store : goal.several-requires-clause-store
 several-requires-clause-store c = went_store c.requires.store c.in_ok-operand_values.ensures.went
 
 pub returns-in-Err-clause-told : goal.returns-in-Err-clause-told
-returns-in-Err-clause-told c = told_halts c.args.characters.now _ _ c.args.here _
+returns-in-Err-clause-told c = told_halts c.args.loaded.now _ _ c.args.here _
     (λ l. completed l (variable_form l c.args.first (c.args.here.program_counter + 1))) _ c.requires.store.sound
     (c.memory-memory.ensures ∙ ap memory_of c.store.ensures) c.in-Err.ensures.instruction
 
 pub returns-in_err-operand_values-clause-told : goal.returns-in_err-operand_values-clause-told
 returns-in_err-operand_values-clause-told c =
     told_err _ c.from_residual.ensures.1
-    (told_executes c.args.characters.now _ c.args.here _
+    (told_executes c.args.loaded.now _ c.args.here _
     (λ l. completed l (variable_form l c.args.first (c.args.here.program_counter + 1))) _ _
     (c.memory-memory.ensures ∙ ap memory_of c.store.ensures) c.in-Ok.ensures.instruction
     (told_went _ _ (went_no_further _ c.in_err-operand_values.ensures.went)))
 
 pub returns-clause-told : goal.returns-clause-told
 returns-clause-told c =
-    told_executes c.args.characters.now _ c.args.here _
+    told_executes c.args.loaded.now _ c.args.here _
     (λ l. completed l (variable_form l c.args.first (c.args.here.program_counter + 1)))
     _ _ (c.memory-memory.ensures ∙ ap memory_of c.store.ensures) c.in-Ok.ensures.instruction
     (told_then _ (told_went _ _ c.in_ok-operand_values.ensures.went) c.several.ensures.told)

@@ -11,20 +11,20 @@ pub one-requires-clause-store : goal.one-requires-clause-store
 one-requires-clause-store c = went_store c.requires.store c.in_ok-x.ensures
 
 pub returns-in-Err-clause-told : goal.returns-in-Err-clause-told
-returns-in-Err-clause-told c = told_halts c.args.characters.now _ _ c.args.here _
+returns-in-Err-clause-told c = told_halts c.args.loaded.now _ _ c.args.here _
     (λ l. completed l (short_form c.args.first (c.args.here.program_counter + 1))) _ c.requires.store.sound
     (c.memory.ensures ∙ ap memory_of c.store.ensures) c.in-Err.ensures.instruction
 
 pub returns-in_err-x-clause-told : goal.returns-in_err-x-clause-told
 returns-in_err-x-clause-told c =
     told_err _ c.from_residual.ensures.1
-    (told_executes c.args.characters.now _ c.args.here _
+    (told_executes c.args.loaded.now _ c.args.here _
     (λ l. completed l (short_form c.args.first (c.args.here.program_counter + 1)))
     _ _ (c.memory.ensures ∙ ap memory_of c.store.ensures) c.in-Ok.ensures.instruction
     (told_went _ _ (went_no_further _ (first_stops _ _ c.in_err-x.ensures))))
 
 pub returns-clause-told : goal.returns-clause-told
-returns-clause-told c = told_executes c.args.characters.now _ c.args.here _
+returns-clause-told c = told_executes c.args.loaded.now _ c.args.here _
     (λ l. completed l (short_form c.args.first (c.args.here.program_counter + 1))) _ _
     (c.memory.ensures ∙ ap memory_of c.store.ensures) c.in-Ok.ensures.instruction
     (told_then _ (told_went _ _ (one_value _ c.in_ok-x.ensures)) c.one.ensures.told)

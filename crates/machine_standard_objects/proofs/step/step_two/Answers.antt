@@ -10,19 +10,19 @@ pub many-requires-clause-store : goal.many-requires-clause-store
 many-requires-clause-store c = went_store c.requires.store c.in_ok-operand_values.ensures.went
 
 pub returns-in-Err : goal.returns-in-Err
-returns-in-Err c = λ characters. halts characters _ c.args.here _
+returns-in-Err c = λ loaded. halts loaded _ c.args.here _
     (λ l. completed l (variable_form l c.args.first (c.args.here.program_counter + 1))) _ c.requires.store.sound
     (c.memory-memory.ensures ∙ ap memory_of c.store.ensures) c.in-Err.ensures.instruction
 
 pub returns-in_err-operand_values : goal.returns-in_err-operand_values
-returns-in_err-operand_values c = λ characters.
+returns-in_err-operand_values c = λ loaded.
     went_err _ c.from_residual.ensures.1
-    (executes characters _ c.args.here _ (λ l. completed l (variable_form l c.args.first (c.args.here.program_counter + 1)))
+    (executes loaded _ c.args.here _ (λ l. completed l (variable_form l c.args.first (c.args.here.program_counter + 1)))
     _ _ (c.memory-memory.ensures ∙ ap memory_of c.store.ensures) c.in-Ok.ensures.instruction
     (went_no_further _ c.in_err-operand_values.ensures.went))
 
 pub returns : goal.returns
-returns c = λ characters. executes characters _ c.args.here _
+returns c = λ loaded. executes loaded _ c.args.here _
     (λ l. completed l (variable_form l c.args.first (c.args.here.program_counter + 1))) _ _
     (c.memory-memory.ensures ∙ ap memory_of c.store.ensures) c.in-Ok.ensures.instruction
-    (went_then _ c.in_ok-operand_values.ensures.went (c.many.ensures characters))
+    (went_then _ c.in_ok-operand_values.ensures.went (c.many.ensures loaded))

@@ -9,13 +9,13 @@ use Rattle.machine_standard_objects.proofs.step.step_without.Goals as goal
 
 pub returns-in-Err-clause-told : goal.returns-in-Err-clause-told
 returns-in-Err-clause-told c =
-    told_halts c.args.characters.now c.args.store.now _ c.args.here (memory_of c.args.store.now.store)
+    told_halts c.args.loaded.now c.args.store.now _ c.args.here (memory_of c.args.store.now.store)
     (λ l. completed l (short_form c.args.first (c.args.here.program_counter + 1))) _ c.requires.store.sound refl
     (c.in-Err.ensures.instruction (memory_of c.args.store.now.store) (c.args.here.program_counter + 1))
 
 pub returns-clause-told : goal.returns-clause-told
 returns-clause-told c =
-    told_executes c.args.characters.now _ c.args.here (memory_of c.args.store.now.store)
+    told_executes c.args.loaded.now _ c.args.here (memory_of c.args.store.now.store)
     (λ l. completed l (short_form c.args.first (c.args.here.program_counter + 1))) _ _ refl
     (c.in-Ok.ensures.instruction (memory_of c.args.store.now.store) (c.args.here.program_counter + 1))
     (told_then _ (told_went _ _ (no_value c.args.store.now c.requires.store.sound)) c.none.ensures.told)

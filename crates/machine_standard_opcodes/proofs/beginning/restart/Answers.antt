@@ -4,9 +4,9 @@ use Rattle.ztext.specs.Bytes.{word_at}
 use Rattle.machine_frames.specs.Contents.{memory_of}
 use Rattle.machine_lines.specs.Lines.{Fills}
 use Rattle.machine_frames.proofs.Kept.{length-memory}
-use Rattle.machine_standard_opcodes.specs.Around.{place}
+use Rattle.machine_standard_windows.specs.Around.{place}
 use Rattle.machine_standard_opcodes.proofs.Anew.{no_fuel, begun_anew}
-use Rattle.machine_standard_opcodes.proofs.Cuts.{keeps_still}
+use Rattle.machine_standard_windows.proofs.TurnTexts.{keeps_still}
 use Rattle.machine_standard_opcodes.proofs.beginning.restart.Goals as goal
 
 pub returns-then-here-eq0-clause-told : goal.returns-then-here-eq0-clause-told

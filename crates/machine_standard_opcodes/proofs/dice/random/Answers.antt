@@ -1,5 +1,5 @@
 use Rattle.std.proofs.Common.{Ok, Err}
-use Rattle.machine_standard_opcodes.specs.Around.{place}
+use Rattle.machine_standard_windows.specs.Around.{place}
 use Rattle.machine_standard_opcodes.proofs.Keeping.{random_went}
 use Rattle.machine_standard_opcodes.proofs.dice.random.Goals as goal
 

@@ -1,6 +1,6 @@
 use Rattle.zcore_standard.specs.Streams.{begin_read}
 use Rattle.machine_frames.proofs.Steps.{told_err, told_no_further, told_sound, told_then}
-use Rattle.machine_standard_opcodes.proofs.Cuts.{keeps_after, keeps_begun}
+use Rattle.machine_standard_windows.proofs.TurnTexts.{keeps_after, keeps_begun}
 use Rattle.machine_standard_opcodes.proofs.reads.begin_read.Goals as goal
 
 pub returns-in_err-close_all-clause-told : goal.returns-in_err-close_all-clause-told

@@ -1,5 +1,6 @@
 use Rattle.std.proofs.Common.{◌≡◌, ap, ◌∙◌, arith, length, take}
-use Rattle.machine_standard_opcodes.proofs.Cuts.{keeps_cut, keeps_same, cut_again, closed_as, stays_as}
+use Rattle.machine_standard_windows.proofs.TurnTexts.{keeps_cut, keeps_same}
+use Rattle.machine_standard_opcodes.proofs.Cuts.{cut_again, closed_as, stays_as}
 use Rattle.machine_standard_opcodes.proofs.streams.close.Goals as goal
 
 pub returns-in-Ok-clause-told : goal.returns-in-Ok-clause-told

@@ -1,6 +1,7 @@
 use Rattle.std.proofs.Common.{refl, arith}
 use Rattle.machine_frames.proofs.Steps.{told_err, store_after}
-use Rattle.machine_standard_opcodes.proofs.Cuts.{keeps_still, keeps_after, keeps_begun, closing_none, closing_more}
+use Rattle.machine_standard_windows.proofs.TurnTexts.{keeps_still, keeps_after, keeps_begun}
+use Rattle.machine_standard_opcodes.proofs.Cuts.{closing_none, closing_more}
 use Rattle.machine_standard_opcodes.proofs.Cuts.{closing_stops, closing_done}
 use Rattle.machine_standard_opcodes.proofs.streams.close_all.Goals as goal
 

@@ -1,7 +1,9 @@
 use Rattle.std.proofs.Common.{refl, ap, sym, ◌∙◌, length}
-use Rattle.machine_standard_opcodes.specs.Around.{place}
-use Rattle.machine_standard_opcodes.proofs.Cuts.{keeps_still, keeps_after, keeps_begun, none_closed, first_closed}
-use Rattle.machine_standard_opcodes.proofs.Cuts.{first_stays, told_seen_err}
+use Rattle.machine_standard_windows.specs.Around.{place}
+use Rattle.machine_standard_windows.proofs.TurnTexts.{keeps_still, keeps_after, keeps_begun}
+use Rattle.machine_standard_opcodes.proofs.Cuts.{none_closed, first_closed}
+use Rattle.machine_standard_windows.proofs.TurnTexts.{told_seen_err}
+use Rattle.machine_standard_opcodes.proofs.Cuts.{first_stays}
 use Rattle.machine_standard_opcodes.proofs.streams.close_first.Goals as goal
 
 pub returns-then-as_slice-eq0-clause-told : goal.returns-then-as_slice-eq0-clause-told

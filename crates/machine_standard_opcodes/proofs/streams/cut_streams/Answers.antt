@@ -1,5 +1,6 @@
 use Rattle.std.proofs.Common.{refl, arith, drop}
-use Rattle.machine_standard_opcodes.proofs.Cuts.{keeps_still, keeps_after, keeps_begun, heard_more, heard_all}
+use Rattle.machine_standard_windows.proofs.TurnTexts.{keeps_still, keeps_after, keeps_begun}
+use Rattle.machine_standard_opcodes.proofs.Cuts.{heard_more, heard_all}
 use Rattle.machine_standard_opcodes.proofs.streams.cut_streams.Goals as goal
 
 pub loop-i-init : goal.loop-i-init

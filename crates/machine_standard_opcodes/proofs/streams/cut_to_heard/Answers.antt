@@ -1,7 +1,7 @@
 use Rattle.std.proofs.Common.{ap, ◌∙◌, drop}
 use Rattle.zcore_standard.specs.Windows.{lower}
 use Rattle.zcore_standard.specs.Streams.{heard}
-use Rattle.machine_standard_opcodes.proofs.Cuts.{keeps_after, keeps_begun}
+use Rattle.machine_standard_windows.proofs.TurnTexts.{keeps_after, keeps_begun}
 use Rattle.machine_standard_opcodes.proofs.streams.cut_to_heard.Goals as goal
 
 pub drop_upper-requires : goal.drop_upper-requires

@@ -1,6 +1,6 @@
 use Rattle.std.proofs.Common.{arith, refl}
 use Rattle.std.proofs.lemmas.List.{length-drop}
-use Rattle.machine_standard_opcodes.specs.Around.{place}
+use Rattle.machine_standard_windows.specs.Around.{place}
 use Rattle.machine_standard_opcodes.proofs.Cuts.{stream_opened, stream_refused}
 use Rattle.machine_standard_opcodes.proofs.streams.open_stream.Goals as goal
 

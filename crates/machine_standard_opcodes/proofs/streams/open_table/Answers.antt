@@ -1,4 +1,4 @@
-use Rattle.machine_standard_opcodes.specs.Around.{place}
+use Rattle.machine_standard_windows.specs.Around.{place}
 use Rattle.machine_standard_opcodes.proofs.Cuts.{table_missing, table_given}
 use Rattle.machine_standard_opcodes.proofs.streams.open_table.Goals as goal
 

@@ -1,6 +1,7 @@
 use Rattle.std.proofs.Common.{arith}
-use Rattle.machine_standard_opcodes.specs.Around.{place}
-use Rattle.machine_standard_opcodes.proofs.Cuts.{keeps_still, selects_table, selects_closing, selects_transcript}
+use Rattle.machine_standard_windows.specs.Around.{place}
+use Rattle.machine_standard_windows.proofs.TurnTexts.{keeps_still}
+use Rattle.machine_standard_opcodes.proofs.Cuts.{selects_table, selects_closing, selects_transcript}
 use Rattle.machine_standard_opcodes.proofs.Cuts.{transcript_selected, transcript_left, selects_nothing}
 use Rattle.machine_standard_opcodes.proofs.streams.output_stream.Goals as goal
 
@@ -19,10 +20,10 @@ returns-in-65533-clause-told c = selects_closing _ c.args.loaded.now.characters
 pub returns-in_default-clause-told : goal.returns-in_default-clause-told
 returns-in_default-clause-told c = selects_nothing _ _ c.args.loaded.now.characters
     (place c.args.around.now c.args.here) c.args.after c.args.values.now c.requires.store.sound
-    (λ h. absurd (omega (arith, h)))
-    (λ h. absurd (omega (arith, h)))
-    (λ h. absurd (omega (arith, h)))
-    (λ h. absurd (omega (arith, h)))
+    (λ h. absurd (omega (arith, c.in_default.in_default-own, h)))
+    (λ h. absurd (omega (arith, c.in_default.in_default-own, h)))
+    (λ h. absurd (omega (arith, c.in_default.in_default-own, h)))
+    (λ h. absurd (omega (arith, c.in_default.in_default-own, h)))
 
 pub returns-in_ok-set_transcript-in-2-clause-told : goal.returns-in_ok-set_transcript-in-2-clause-told
 returns-in_ok-set_transcript-in-2-clause-told c = selects_transcript _ c.args.loaded.now.characters

@@ -1,8 +1,8 @@
 use Rattle.std.proofs.Common.{sym, ◌∙◌}
 use Rattle.zcore_standard.specs.Further.{perform_further}
 use Rattle.machine_frames.proofs.Steps.{told_went}
-use Rattle.machine_standard_opcodes.specs.Around.{place}
-use Rattle.machine_standard_opcodes.proofs.Cuts.{keeps_still, keeps_grew}
+use Rattle.machine_standard_windows.specs.Around.{place}
+use Rattle.machine_standard_windows.proofs.TurnTexts.{keeps_still, keeps_grew}
 use Rattle.machine_standard_steps.proofs.Doing.{keeping_told}
 use Rattle.machine_standard_steps.proofs.perform.perform_further.Goals as goal
 

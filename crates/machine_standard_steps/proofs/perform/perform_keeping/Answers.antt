@@ -33,4 +33,4 @@ perform_quietly-requires-clause-quiet c = quiet c.args.operation (sym c.does_not
     c.in_default-operation.not-PrintTable
 
 pub returns-in_default-operation-clause-told : goal.returns-in_default-operation-clause-told
-returns-in_default-operation-clause-told c = told_went _ _ (c.perform_quietly.ensures c.args.loaded.now)
+returns-in_default-operation-clause-told c = told_went _ _ c.perform_quietly.ensures

@@ -1,7 +1,7 @@
 use Rattle.std.proofs.Common.{slice_index}
 use Rattle.zcore_standard.specs.Further.{perform_further}
 use Rattle.zcore_standard.specs.Windows.{erase_window, split_window}
-use Rattle.machine_standard_opcodes.proofs.Drawing.{redraws_told}
+use Rattle.machine_standard_windows.proofs.Drawing.{redraws_told}
 use Rattle.machine_standard_steps.proofs.perform.perform_on_windows.Goals as goal
 
 pub returns-in-SetWindow-clause-told : goal.returns-in-SetWindow-clause-told

@@ -1,6 +1,6 @@
 use Rattle.zcore_standard.specs.Reading.{read_line}
 use Rattle.machine_frames.proofs.Steps.{told_then, told_no_further, told_went, told_store}
-use Rattle.machine_standard_opcodes.specs.Around.{place}
+use Rattle.machine_standard_windows.specs.Around.{place}
 use Rattle.machine_standard_opcodes.proofs.Keeping.{told_within}
 use Rattle.machine_standard_steps.proofs.Stepping.{told_err_seen, nowhere}
 use Rattle.machine_standard_steps.proofs.reading.read_line.Goals as goal

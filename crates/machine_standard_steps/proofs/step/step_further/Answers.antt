@@ -5,7 +5,8 @@ use Rattle.zcore_standard.proofs.Refusing.{stands}
 use Rattle.machine_frames.specs.Contents.{memory_of}
 use Rattle.machine_frames.proofs.Steps.{went_store}
 use Rattle.machine_lines.proofs.Lines.{base_kept}
-use Rattle.machine_standard_opcodes.specs.Around.{place}
+use Rattle.machine_standard_windows.specs.Around.{place}
+use Rattle.machine_standard_windows.proofs.TurnTexts.{keeps_still}
 use Rattle.machine_standard_steps.proofs.Stepping.{decodes_no_further, executes_further, reads_no_further}
 use Rattle.machine_standard_steps.proofs.Stepping.{told_err_seen}
 use Rattle.machine_standard_steps.proofs.step.step_further.Goals as goal

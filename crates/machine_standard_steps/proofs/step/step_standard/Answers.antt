@@ -1,16 +1,16 @@
 use Rattle.std.proofs.Common.{◌∙◌, ap, sym}
 use Rattle.zcore_standard.specs.Operations.{further_at}
 use Rattle.machine_frames.specs.Contents.{memory_of}
-use Rattle.machine_standard_opcodes.specs.Around.{place}
-use Rattle.machine_standard_opcodes.proofs.Cuts.{keeps_grew}
+use Rattle.machine_standard_windows.specs.Around.{place}
+use Rattle.machine_standard_windows.proofs.TurnTexts.{keeps_grew}
 use Rattle.machine_standard_steps.proofs.Stepping.{stepped_none, stepped_some, standard_lighter}
 use Rattle.machine_standard_steps.proofs.step.step_standard.Goals as goal
 
 pub returns-in-None-clause-told : goal.returns-in-None-clause-told
 returns-in-None-clause-told c = stepped_none c.step_known.result c.args.loaded.now
-    (place c.args.around.now c.args.here) c.characters.result.now
+    (place c.args.around.now c.args.here)
     (sym (c.in-None.ensures ∙ ap (λ l. further_at l c.args.here.program_counter) (c.memory.ensures
-    ∙ ap memory_of c.store.ensures))) c.characters.ensures c.step_known.ensures.told
+    ∙ ap memory_of c.store.ensures))) c.step_known.ensures.told
 
 pub returns-in-None-clause-falls : goal.returns-in-None-clause-falls
 returns-in-None-clause-falls c = standard_lighter c.step_known.result c.args.loaded.now

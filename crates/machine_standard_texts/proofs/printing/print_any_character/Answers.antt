@@ -6,10 +6,10 @@ use Rattle.machine_standard_texts.proofs.printing.print_any_character.Goals as g
 pub returns-in_err-print_code-clause-told : goal.returns-in_err-print_code-clause-told
 unfolding print_any_character
 returns-in_err-print_code-clause-told c = told_err _ c.from_residual.ensures.1
-    (told_no_further _ c.in_err-print_code.ensures.told)
+    (told_no_further _ (rw c.characters.ensures at c.in_err-print_code.ensures.told))
 
 pub returns-clause-told : goal.returns-clause-told
 unfolding print_any_character
 returns-clause-told c =
-    let told = c.in_ok-print_code.ensures.told in
+    let told = rw c.characters.ensures at c.in_ok-print_code.ensures.told in
     told_then _ told (told_still _ _ _ (told_sound told) refl)

@@ -18,7 +18,7 @@ finish-requires c = went_sound c.in_ok-added.ensures.adds.1
 pub give_back-requires : goal.give_back-requires
 give_back-requires c = told_store (went_store c.requires.store c.in_ok-added.ensures.adds.1)
     (c.in_ok-finish.ensures _ _ _
-    (on_begun _ (on_then _ (13 ∷ []) c.in_ok-added.ensures.adds.2 c.put_next-halted.ensures.prints)))
+    (on_begun _ (on_then _ (13 ∷ []) c.in_ok-added.ensures.adds.2 (rw c.characters.ensures at c.put_next-halted.ensures.prints))))
 
 pub returns-in_err-added-clause-told : goal.returns-in_err-added-clause-told
 unfolding print_any_return
@@ -53,7 +53,7 @@ returns-in_err-finish-clause-told c =
     (told_then _ (told_went _ _ c.in-Ok.ensures.went)
     (told_no_further _
     (c.in_err-finish.ensures _ _ _
-    (on_begun _ (on_then _ (13 ∷ []) c.in_ok-added.ensures.adds.2 c.put_next-halted.ensures.prints))))))
+    (on_begun _ (on_then _ (13 ∷ []) c.in_ok-added.ensures.adds.2 (rw c.characters.ensures at c.put_next-halted.ensures.prints)))))))
 
 pub returns-in_err-finish-clause-text : goal.returns-in_err-finish-clause-text
 returns-in_err-finish-clause-text c = grew_by c.requires.text
@@ -66,7 +66,7 @@ returns-clause-told c =
     (told_then _ (told_went _ _ c.in-Ok.ensures.went)
     (told_then _
     (c.in_ok-finish.ensures _ _ _
-    (on_begun _ (on_then _ (13 ∷ []) c.in_ok-added.ensures.adds.2 c.put_next-halted.ensures.prints)))
+    (on_begun _ (on_then _ (13 ∷ []) c.in_ok-added.ensures.adds.2 (rw c.characters.ensures at c.put_next-halted.ensures.prints))))
     (told_went _ _ c.give_back.ensures)))
 
 pub returns-clause-text : goal.returns-clause-text

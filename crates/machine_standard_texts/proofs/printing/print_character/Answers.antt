@@ -1,24 +1,31 @@
 use Rattle.std.proofs.Common.{sym, ◌∙◌}
 use Rattle.machine_opcodes.proofs.Transcripts.{begun_after, grew_after}
-use Rattle.machine_standard_texts.proofs.Refused.{kept, anew, refused_on, still_character}
+use Rattle.machine_standard_texts.proofs.Refused.{by_own, by_default, kept, anew, refused_on, still_character}
 use Rattle.machine_standard_texts.proofs.printing.print_character.Goals as goal
 
-pub returns-then-not-is_refused-clause-told : goal.returns-then-not-is_refused-clause-told
-returns-then-not-is_refused-clause-told c = kept c.print_character-done.result _ _
-    (sym c.is_refused.ensures ∙ c.if-not-is_refused.true) c.print_character-done.ensures.told
+pub returns-then-has_own_alphabets-clause-told : goal.returns-then-has_own_alphabets-clause-told
+returns-then-has_own_alphabets-clause-told c = by_own _ c.args.loaded.now.own_alphabets _ _
+    (sym c.has_own_alphabets.ensures ∙ c.if-has_own_alphabets.true) c.print_any_character.ensures.told
 
-pub print_any_character-requires-clause-sound : goal.print_any_character-requires-clause-sound
-print_any_character-requires-clause-sound c =
+pub returns-then-not-is_refused-clause-told : goal.returns-then-not-is_refused-clause-told
+returns-then-not-is_refused-clause-told c = by_default _ c.args.loaded.now.own_alphabets _ _
+    (sym c.has_own_alphabets.ensures ∙ c.if-has_own_alphabets.false)
+    (kept c.print_character-done.result _ _ (sym c.is_refused.ensures ∙ c.if-not-is_refused.true) c.print_character-done.ensures.told)
+
+pub print_any_character-2-requires-clause-sound : goal.print_any_character-2-requires-clause-sound
+print_any_character-2-requires-clause-sound c =
     (refused_on c.print_character-done.result (sym c.is_refused.ensures ∙ c.if-not-is_refused.false)
     c.print_character-done.ensures.told).sound
 
-pub print_any_character-requires-clause-text : goal.print_any_character-requires-clause-text
-print_any_character-requires-clause-text c = begun_after c.requires.text c.print_character-done.ensures.text
+pub print_any_character-2-requires-clause-text : goal.print_any_character-2-requires-clause-text
+print_any_character-2-requires-clause-text c = begun_after c.requires.text c.print_character-done.ensures.text
 
 pub returns-clause-told : goal.returns-clause-told
-returns-clause-told c = anew c.print_character-done.result c.print_any_character.result _ _
+returns-clause-told c = by_default _ c.args.loaded.now.own_alphabets _ _
+    (sym c.has_own_alphabets.ensures ∙ c.if-has_own_alphabets.false)
+    (anew c.print_character-done.result c.print_any_character-2.result _ _
     (still_character c.args.here c.args.after c.args.character) (sym c.is_refused.ensures ∙ c.if-not-is_refused.false)
-    c.print_character-done.ensures.told c.print_any_character.ensures.told
+    c.print_character-done.ensures.told c.print_any_character-2.ensures.told)
 
 pub returns-clause-text : goal.returns-clause-text
-returns-clause-text c = grew_after c.print_character-done.ensures.text c.print_any_character.ensures.text
+returns-clause-text c = grew_after c.print_character-done.ensures.text c.print_any_character-2.ensures.text

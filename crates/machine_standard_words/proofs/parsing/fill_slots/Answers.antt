@@ -2,6 +2,7 @@ use Rattle.std.proofs.Common.{◌≡◌, ◌*◌, ap, sym, subst, ◌∙◌, ari
 use Rattle.std.proofs.lemmas.List.{length-take-le}
 use Rattle.std.proofs.lemmas.Bool.{and_parts, leb-true}
 use Rattle.zcore.specs.Header.{HasDictionaryHead, IsDictionary, first_entry, static_end}
+use Rattle.zcore_standard.specs.Loaded.{alphabets_of}
 use Rattle.machine_frames.specs.Contents.{memory_of}
 use Rattle.machine_frames.proofs.Kept.{length-memory}
 use Rattle.machine_standard_words.proofs.Tokens.{slots_numbers, slots_filled}
@@ -66,7 +67,8 @@ fill_counted-requires-clause-room c =
 
 pub returns-clause-filled : goal.returns-clause-filled
 returns-clause-filled c =
-    slots_filled c.args.store.now c.fill_counted.new.store c.memory-memory.result.now c.letters_in.result.now _
+    slots_filled c.args.store.now c.fill_counted.new.store (alphabets_of c.args.loaded.now) c.memory-memory.result.now c.letters_in.result.now
+    _
     c.args.search.dictionary c.args.search.flag c.args.text c.args.parse c.slots-words.result c.fill_counted.result
     (c.memory-memory.ensures ∙ ap memory_of c.store.ensures) c.letters_in.ensures.letters c.slots-words.ensures.count
     c.slots-words.ensures.bytes c.fill_counted.ensures.filled

@@ -1,6 +1,7 @@
 use Rattle.std.proofs.Common.{ap, ◌∙◌, sym, subst}
 use Rattle.zcore.specs.Dictionary.{is_dictionary}
 use Rattle.zcore_standard.specs.Words.{has_letters, has_slots, dictionary_for, with_slots}
+use Rattle.zcore_standard.specs.Loaded.{alphabets_of}
 use Rattle.machine_frames.specs.Contents.{memory_of}
 use Rattle.machine_lines.specs.Lines.{Filled}
 use Rattle.machine_standard_words.proofs.Tokens.{no_letters, no_slots, no_dictionary, tokens_filled}
@@ -9,14 +10,14 @@ use Rattle.machine_standard_words.proofs.parsing.tokenise.Goals as goal
 pub returns-then-not-has_letters : goal.returns-then-not-has_letters
 returns-then-not-has_letters c =
     let is = c.memory-memory.ensures ∙ ap memory_of c.store.ensures in
-    no_letters c.args.store.now c.args.here c.args.after c.args.text c.args.parse c.args.dictionary c.args.flag
+    no_letters c.args.store.now (alphabets_of c.args.loaded.now) c.args.here c.args.after c.args.text c.args.parse c.args.dictionary c.args.flag
     c.requires.sound
     (sym (ap (λ m. has_letters m c.args.text) is) ∙ sym c.has_letters.ensures ∙ c.if-not-has_letters.true)
 
 pub returns-then-not-has_slots : goal.returns-then-not-has_slots
 returns-then-not-has_slots c =
     let is = c.memory-memory.ensures ∙ ap memory_of c.store.ensures in
-    no_slots c.args.store.now c.args.here c.args.after c.args.text c.args.parse c.args.dictionary c.args.flag
+    no_slots c.args.store.now (alphabets_of c.args.loaded.now) c.args.here c.args.after c.args.text c.args.parse c.args.dictionary c.args.flag
     c.requires.sound
     (sym (ap (λ m. has_letters m c.args.text) is) ∙ sym c.has_letters.ensures ∙ c.if-not-has_letters.false)
     (sym (ap (λ m. has_slots m c.args.parse) is) ∙ sym c.has_slots.ensures ∙ c.if-not-has_slots.true)
@@ -26,7 +27,7 @@ returns-then-not-is_dictionary c =
     let m = memory_of c.args.store.now.store in
     let is = c.memory-memory.ensures ∙ ap memory_of c.store.ensures in
     let named = c.search_for-search.ensures.dictionary m c.requires.headed.dictionary in
-    no_dictionary c.args.store.now c.args.here c.args.after c.args.text c.args.parse c.args.dictionary c.args.flag
+    no_dictionary c.args.store.now (alphabets_of c.args.loaded.now) c.args.here c.args.after c.args.text c.args.parse c.args.dictionary c.args.flag
     c.requires.sound
     (sym (ap (λ m. has_letters m c.args.text) is) ∙ sym c.has_letters.ensures ∙ c.if-not-has_letters.false)
     (sym (ap (λ m. has_slots m c.args.parse) is) ∙ sym c.has_slots.ensures ∙ c.if-not-has_slots.false)
@@ -40,12 +41,12 @@ returns c =
     let m = memory_of s.store in
     let is = c.memory-memory.ensures ∙ ap memory_of c.store.ensures in
     let named = c.search_for-search.ensures.dictionary m c.requires.headed.dictionary in
-    tokens_filled s c.args.here c.args.after c.args.text c.args.parse c.args.dictionary c.args.flag t
+    tokens_filled s (alphabets_of c.args.loaded.now) c.args.here c.args.after c.args.text c.args.parse c.args.dictionary c.args.flag t
     (sym (ap (λ m. has_letters m c.args.text) is) ∙ sym c.has_letters.ensures ∙ c.if-not-has_letters.false)
     (sym (ap (λ m. has_slots m c.args.parse) is) ∙ sym c.has_slots.ensures ∙ c.if-not-has_slots.false)
     (sym (ap (is_dictionary m) named) ∙ sym (ap (λ m. is_dictionary m c.search_for-search.result.dictionary) is)
     ∙ sym c.is_dictionary.ensures ∙ c.if-not-is_dictionary.false)
-    (subst (λ f. Filled s t (with_slots m c.args.text c.args.parse (dictionary_for m c.args.dictionary) f))
+    (subst (λ f. Filled s t (with_slots (alphabets_of c.args.loaded.now) m c.args.text c.args.parse (dictionary_for m c.args.dictionary) f))
     c.search_for-search.ensures.flag
-    (subst (λ d. Filled s t (with_slots m c.args.text c.args.parse d c.search_for-search.result.flag)) named
+    (subst (λ d. Filled s t (with_slots (alphabets_of c.args.loaded.now) m c.args.text c.args.parse d c.search_for-search.result.flag)) named
     c.in_ok-fill_slots.ensures.filled))

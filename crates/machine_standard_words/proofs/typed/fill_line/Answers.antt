@@ -1,5 +1,6 @@
 use Rattle.std.proofs.Common.{◌≡◌, ◌+◌, ap, ◌∙◌, arith, length, slice_index}
 use Rattle.std.proofs.lemmas.List.{length-take-le}
+use Rattle.zcore_standard.specs.Loaded.{alphabets_of}
 use Rattle.zcore_standard.specs.Reading.{letters_with}
 use Rattle.machine_frames.specs.Contents.{memory_of}
 use Rattle.machine_frames.proofs.Kept.{length-memory}
@@ -48,7 +49,7 @@ fill_letters-requires-clause-words_room c = λ some.
 
 pub returns-clause-filled : goal.returns-clause-filled
 returns-clause-filled c =
-    line_as c.args.store.now c.fill_letters.new.store c.args.text c.args.parse _ _ c.fill_letters.result
+    line_as c.args.store.now c.fill_letters.new.store (alphabets_of c.args.loaded.now) c.args.text c.args.parse _ _ c.fill_letters.result
     (c.put_letters-count.ensures.letters
     ∙ ap (λ m. letters_with m c.args.text c.args.line.now) (c.memory.ensures ∙ ap memory_of c.store.ensures))
     c.fill_letters.ensures.filled

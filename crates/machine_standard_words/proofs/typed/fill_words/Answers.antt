@@ -1,6 +1,7 @@
 use Rattle.std.proofs.Common.{◌≡◌, ◌*◌, ap, sym, subst, ◌∙◌, arith, length, slice_index}
 use Rattle.std.proofs.lemmas.List.{length-take-le}
 use Rattle.zcore.specs.Header.{HasDictionaryHead, IsDictionary}
+use Rattle.zcore_standard.specs.Loaded.{alphabets_of}
 use Rattle.machine_frames.specs.Contents.{memory_of}
 use Rattle.machine_frames.proofs.Kept.{length-memory}
 use Rattle.machine_lines.proofs.Lines.{base_kept}
@@ -55,7 +56,8 @@ fill_counted-requires-2-clause-room c =
 
 pub returns-clause-filled : goal.returns-clause-filled
 returns-clause-filled c =
-    typed_filled c.args.store.now c.fill_counted.new.store c.fill_counted-2.new.store c.memory-memory.result.now
+    typed_filled c.args.store.now c.fill_counted.new.store c.fill_counted-2.new.store (alphabets_of c.args.loaded.now)
+    c.memory-memory.result.now
     c.args.header.now.dictionary.address c.args.text c.args.parse _ c.args.letters.now _
     c.fill_counted-2.result
     c.requires.given (c.memory-memory.ensures ∙ ap memory_of c.store.ensures)

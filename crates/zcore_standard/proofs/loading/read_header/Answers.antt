@@ -6,5 +6,4 @@ returns c = record {
   read = c.header_of.ensures;
   placed = c.if-not-is_placed.ensures.0 (search rules);
   dictionary = search rules;
-  alphabets = search rules;
 }

@@ -4,8 +4,8 @@ use Rattle.machine_frames.proofs.Steps.{goes_on_after, given_up_after}
 use Rattle.machine_frames.specs.Playing.{StopsBy}
 use Rattle.machine_frames.specs.States.{state_of}
 use Rattle.machine.proofs.Turning.{front_with, ends_given_up}
-use Rattle.machine_standard_opcodes.specs.Around.{place}
-use Rattle.machine_standard_opcodes.proofs.Cuts.{keeps_begun, keeps_after}
+use Rattle.machine_standard_windows.specs.Around.{place}
+use Rattle.machine_standard_windows.proofs.TurnTexts.{keeps_begun, keeps_after}
 use Rattle.machine_standard.proofs.Whole.{standard_whole, standard_waits, begun_place, keeps_at, front_kept}
 use Rattle.machine_standard.proofs.turn.StandardMachine.play_on.Goals as goal
 

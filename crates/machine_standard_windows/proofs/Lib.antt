@@ -1,0 +1,4 @@
+pub mod TurnTexts
+pub mod TextLines
+pub mod Drawing
+pub mod Selecting
