@@ -9,7 +9,7 @@ use Rattle.zcore.specs.Parts.{store_result}
 use Rattle.zcore.specs.Turn.{Whole, TurnsBy}
 use Rattle.zcore.proofs.WaitingTests.{waits_bound}
 use Rattle.zcore.proofs.WaitingParts.{waits_store_result, waits_goes_on}
-use Rattle.zcore_standard.specs.Loaded.{Loaded, alphabets_of}
+use Rattle.zcore_standard.specs.Loaded.{Loaded}
 use Rattle.zcore_standard.specs.Machine.{standard, standard_ended, begins}
 use Rattle.zcore_standard.specs.Reading.{result_given, standard_given}
 use Rattle.zcore_standard.proofs.Awaiting.{waits_right}
@@ -23,7 +23,7 @@ use Rattle.machine_standard.proofs.Whole.{right_after}
 -- a line leads on
 pub answers_on : {E : Type 0} (loaded : Loaded) (result : Result Place E) (line : List ℕ) (s : Contents) (fuel : ℕ)
     (p : Pending) (first : Next) (t : State) (whole : Place → Whole) → pending_of (slice_index s.cells) ≡ Some p
-    → standard_given (alphabets_of loaded) p line fuel (state_of s []) ≡ done first t
+    → standard_given loaded p line fuel (state_of s []) ≡ done first t
     → IfOk result (λ place. TurnsBy (standard loaded) (begins (beside_of (slice_index s.cells)) first) t (whole place))
     → IfOk result (λ place. AnswersStandard loaded line s fuel (whole place))
 answers_on loaded (Ok place) line s fuel p first t whole waits e turn =
@@ -40,7 +40,7 @@ answers_on loaded (Err x) line s fuel p first t whole waits e turn = tt
 -- a line that ends the turn at once
 pub answers_stop : (loaded : Loaded) (line : List ℕ) (s m : Contents) (fuel counter : ℕ) (p : Pending) (place : Place)
     (whole : Whole) → pending_of (slice_index s.cells) ≡ Some p
-    → standard_given (alphabets_of loaded) p line fuel (state_of s []) ≡ halt place (state_of m [])
+    → standard_given loaded p line fuel (state_of s []) ≡ halt place (state_of m [])
     → counter ≡ program_counter_of (slice_index s.cells)
     → whole ≡ standard_ended (begins (beside_of (slice_index s.cells))
     (record { program_counter = counter; fuel = fuel })) place (state_of m [])
@@ -58,12 +58,12 @@ answers_stop loaded line s m fuel counter p place whole waits e is h =
     )
 
 -- it would wait only for what can be given
-pub given_waits : (alphabets : List ℕ) (p : Pending) (line : List ℕ) (fuel : ℕ) (s : State) (m n : Contents) (place : Place)
-    → standard_given alphabets p line fuel s ≡ halt place (state_of m []) → ((l : List ℕ) → state_of n l ≡ state_of m l)
+pub given_waits : (loaded : Loaded) (p : Pending) (line : List ℕ) (fuel : ℕ) (s : State) (m n : Contents) (place : Place)
+    → standard_given loaded p line fuel s ≡ halt place (state_of m []) → ((l : List ℕ) → state_of n l ≡ state_of m l)
     → place ≡ places.Waiting → CanBeGiven n
 unfolding standard_given
-given_waits alphabets p line fuel s m n place e same w =
-    let word = result_given p.text_buffer line in
+given_waits loaded p line fuel s m n place e same w =
+    let word = result_given loaded.characters p.text_buffer line in
     right_after m n [] (waits_right (state_of m [])
     (waits_bound (store_result p.result word _) _ (state_of m []) (λ u f. waits_store_result p.result word _ u f)
     (λ _ u _ f. waits_goes_on p.return_address fuel u (state_of m []) f)

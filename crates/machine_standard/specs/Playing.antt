@@ -5,7 +5,7 @@ use Rattle.journal.specs.Recording.{Recording}
 use Rattle.zcore.specs.declared.next.Next.{Next}
 use Rattle.zcore.specs.State.{Pending}
 use Rattle.zcore.specs.Turn.{ReachesBy, Whole, TurnsBy, first_next, first_state, weight}
-use Rattle.zcore_standard.specs.Loaded.{Loaded, alphabets_of}
+use Rattle.zcore_standard.specs.Loaded.{Loaded}
 use Rattle.zcore_standard.specs.Machine.{standard, standard_step, standard_ended, begins}
 use Rattle.machine_frames.specs.Contents.{Contents, memory_of}
 use Rattle.zcore_standard.specs.Reading.{standard_given}
@@ -30,7 +30,7 @@ AnswersStandard loaded line s fuel whole =
     (pending : Pending)
     × (pending_of (slice_index s.cells) ≡ Some pending)
     × FollowsBy (λ next t w. TurnsBy (standard loaded) (begins kept next) t w)
-    (standard_given (alphabets_of loaded) pending line fuel (state_of s [])) (standard_ended (begins kept waited)) whole
+    (standard_given loaded pending line fuel (state_of s [])) (standard_ended (begins kept waited)) whole
 
 -- which turn is played: without a line the opening, else that of the line
 abbrev pub OpensOrAnswersStandard : Loaded → Option (Bor (List ℕ)) → Contents → ℕ → Whole → Type 0

@@ -1,7 +1,8 @@
 //! The characters of a line (Z-Machine Standards Document 1.1, sections 10.5 and 15).
 
-ghost use Rattle.std.specs.Prelude.{◌≡◌, ◌≤◌, ◌+◌, ◌++◌, length, map, take};
-ghost use Rattle.std.specs.List.{list_first};
+ghost use Rattle.std.specs.Prelude.{◌≡◌, ◌≤◌, ◌+◌, ◌++◌, ◌∷◌, [], drop, map, take, MatchOption};
+ghost use Rattle.std.specs.List.{list_all};
+ghost use Rattle.std.specs.Str.{chars};
 ghost use Rattle.zcore_standard.specs.Input as definitions;
 
 use crate::characters::{is_typed, zscii_of};
@@ -13,9 +14,17 @@ pub fn can_be_typed(extra: &[u16], line: &[u8]) -> bool
     ensures { result ≡ definitions.can_be_typed extra.now line.now }
 {
     match str::from_utf8(line) {
-        Ok(text) => text.chars().all(|character| is_typed(extra, character as u32)),
+        Ok(text) => are_typed(extra, text),
         Err(_) => false,
     }
+}
+
+/// Whether each character of a text can be typed.
+fn are_typed(extra: &[u16], text: &str) -> bool
+    ensures { result ≡ list_all (definitions.is_typed extra.now) (chars text.now) }
+{
+    text.chars()
+        .all(|character| is_typed(extra, character as u32))
 }
 
 /// The text of a line; a line that is not UTF-8 has none.
@@ -30,12 +39,22 @@ fn text_of(line: &[u8]) -> &str
 
 /// The ZSCII code of the first character of a line, if it has one.
 pub fn first_code(extra: &[u16], line: &[u8]) -> Option<u8>
-    ensures { result ≡ list_first (definitions.codes_typed extra.now line.now) }
+    ensures { MatchOption result (definitions.codes_typed extra.now line.now ≡ [])
+        (λ code. definitions.codes_typed extra.now line.now
+        ≡ code ∷ drop 1 (definitions.codes_typed extra.now line.now)) }
 {
-    match text_of(line).chars().next() {
+    match first_of(text_of(line)) {
         Some(character) => Some(zscii_of(extra, character as u32)),
         None => None,
     }
+}
+
+/// The first character of a text, if it has one.
+fn first_of(text: &str) -> Option<char>
+    ensures { MatchOption result (chars text.now ≡ [])
+        (λ character. chars text.now ≡ character ∷ drop 1 (chars text.now)) }
+{
+    text.chars().next()
 }
 
 /// Writes the first characters of a line, at most so many, in small letters and in ZSCII to a row,

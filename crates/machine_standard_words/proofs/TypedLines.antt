@@ -5,10 +5,10 @@ use Rattle.std.specs.Prelude.{◌==◌, ◌||◌, OnOk, slice_range}
 use Rattle.std.proofs.lemmas.Bool.{and_parts, leb-true, ne_eqb}
 use Rattle.std.proofs.lemmas.List.{length-take-le, length-drop}
 use Rattle.journal.specs.Recording.{Recording}
-use Rattle.ztext.specs.Text.{lower_case}
 use Rattle.zcore.specs.Header.{static_base_of, dictionary_of}
 use Rattle.zcore.specs.Parsing.{first_words}
 use Rattle.zcore.specs.Turn.{with_bytes, with_letters}
+use Rattle.zcore_standard.specs.Input.{codes_typed, small}
 use Rattle.zcore_standard.specs.Reading.{has_room, has_slots_or_none, letters_with, with_line}
 use Rattle.zcore_standard.specs.Words.{letters_in, slots_bytes}
 use Rattle.machine_frames.specs.Contents.{Contents, memory_of}
@@ -63,16 +63,17 @@ front_is memory text left new is within e =
     (omega (arith, within, length-drop (text + 2) memory)) ∙ many in
     ap (λ n. take n new) (sym long) ∙ e ∙ ap (λ n. slice_range memory (text + 2) (text + 2 + n)) is
 
-pub letters_are : (memory : List ℕ) (text count left : ℕ) (line old new : List ℕ)
-    → left ≡ slice_index memory (text + 1) → length (take count line) ≡ count
-    → take count line ≡ take (slice_index memory text - left) line → take left old ≡ letters_in memory text
-    → take (left + length (take count line)) new ≡ take left old ++ map lower_case (take count line)
-    → take (left + count) new ≡ letters_with memory text line
-letters_are memory text count left line old new is long cut front e =
-    ap (λ n. take (left + n) new) (sym long) ∙ e
-    ∙ ap (λ l. l ++ map lower_case (take count line)) front
-    ∙ ap (λ l. letters_in memory text ++ map lower_case l) cut
-    ∙ ap (λ n. letters_in memory text ++ map lower_case (take (slice_index memory text - n) line)) is
+-- and behind them those of the line
+pub letters_are : (extra memory : List ℕ) (text end left most : ℕ) (line old new : List ℕ)
+    → left ≡ slice_index memory (text + 1) → most ≡ slice_index memory text - left
+    → take left old ≡ letters_in memory text
+    → take end new ≡ take left old ++ map (small extra) (take most (codes_typed extra line))
+    → take end new ≡ letters_with extra memory text line
+letters_are extra memory text end left most line old new is room front e =
+    let fits : most ≡ slice_index memory text - slice_index memory (text + 1) =
+    room ∙ ap (λ n. slice_index memory text - n) is in
+    e ∙ ap (λ l. l ++ map (small extra) (take most (codes_typed extra line))) front
+    ∙ ap (λ n. letters_in memory text ++ map (small extra) (take n (codes_typed extra line))) fits
 
 -- Both buffers are filled
 

@@ -3,7 +3,6 @@
 
 ghost use Rattle.std.specs.Prelude.{◌≡◌, true, IfOk, OnOk, OnErr};
 ghost use Rattle.zcore_standard.specs.Reading as definitions;
-ghost use Rattle.zcore_standard.specs.Loaded.{alphabets_of};
 ghost use Rattle.machine_frames.specs.Contents.{memory_of};
 ghost use Rattle.machine_frames.specs.States.{IsSound, IsStoreOf};
 ghost use Rattle.machine_frames.specs.Went.{GivenUp};
@@ -37,7 +36,7 @@ pub fn give_typed(
 ) -> Result<Next, End>
     requires store { IsStoreOf header.now store.old.store }
     requires waiting { CanBeGiven store.old.store }
-    ensures { TakesGiven (alphabets_of loaded.now) result store.old store.new line.now fuel }
+    ensures { TakesGiven loaded.now result store.old store.new line.now fuel }
 {
     let text = cell(store, TEXT_BUFFER);
     let parse = cell(store, PARSE_BUFFER);
@@ -64,14 +63,13 @@ fn take_typed(
 ) -> Result<u16, NoMemory>
     requires store { IsStoreOf header.now store.old.store }
     requires given { definitions.can_take (memory_of store.old.store) text parse ≡ true }
-    ensures word { IfOk result (λ word. word ≡ definitions.result_given text line.now) }
+    ensures word { IfOk result (λ word. word ≡ definitions.result_given loaded.now.characters text line.now) }
     ensures filled { OnOk result (Filled store.old store.new
-        (definitions.memory_given (alphabets_of loaded.now) text parse line.now
-        (memory_of store.old.store))) }
+        (definitions.memory_given loaded.now text parse line.now (memory_of store.old.store))) }
     ensures given_up { OnErr result (GivenUp store.old store.new) }
 {
     if text == 0 {
-        return Ok(key_of_line(line));
+        return Ok(key_of_line(loaded.characters(), line));
     }
     fill_line(header, loaded, store, text, parse, line)?;
     Ok(TERMINATOR)

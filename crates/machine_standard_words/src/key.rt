@@ -1,8 +1,10 @@
 //! The key that a line is (Z-Machine Standards Document 1.1, sections 3.8 and 15, `read_char`).
 
 ghost use Rattle.std.specs.Prelude.{◌≡◌};
+ghost use Rattle.zcore_standard.specs.Input.{codes_typed};
 ghost use Rattle.zcore_standard.specs.Reading as definitions;
 
+use machine_standard_input::first_code;
 use zcore::layout::NEW_LINE;
 
 // The ZSCII codes of keys that no line has a character for.
@@ -18,11 +20,11 @@ const LEFT: u16 = 131;
 
 const RIGHT: u16 = 132;
 
-/// The key that a line is where a key is waited for: one of six that are named, or the first
-/// character of the line, or, for an empty line, the key that ends a line.
+/// The key that a line is where a key is waited for: one of six that are named, or the code of
+/// the line's first character, or, for an empty line, the key that ends a line.
 #[tactic(auto, unfolding(zcore_standard::specs::Reading::key_of_line))]
-pub(crate) fn key_of_line(line: &[u8]) -> u16
-    ensures { result ≡ definitions.key_of_line line.now }
+pub(crate) fn key_of_line(extra: &[u16], line: &[u8]) -> u16
+    ensures { result ≡ definitions.key_of_line extra.now line.now }
 {
     if line == b"/key up".as_slice() {
         UP
@@ -37,17 +39,16 @@ pub(crate) fn key_of_line(line: &[u8]) -> u16
     } else if line == b"/key delete".as_slice() {
         DELETE
     } else {
-        first_key(line)
+        first_key(extra, line)
     }
 }
 
-/// The first character of a line, or the key that ends a line.
-fn first_key(line: &[u8]) -> u16
-    ensures { result ≡ definitions.first_key line.now }
+/// The code of the first character of a line, or the key that ends a line.
+fn first_key(extra: &[u16], line: &[u8]) -> u16
+    ensures { result ≡ definitions.first_key (codes_typed extra.now line.now) }
 {
-    if line.is_empty() {
-        NEW_LINE as u16
-    } else {
-        line[0] as u16
+    match first_code(extra, line) {
+        Some(code) => code as u16,
+        None => NEW_LINE as u16,
     }
 }

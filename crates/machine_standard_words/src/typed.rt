@@ -1,10 +1,9 @@
 //! The letters and words of a line that is typed (Z-Machine Standards Document 1.1, section 15,
 //! `aread`).
 
-ghost use Rattle.std.specs.Prelude.{◌≡◌, ◌≢◌, ◌≤◌, ◌+◌, ◌*◌, ◌++◌, true, length, map, take, slice_index, OnOk, OnErr};
+ghost use Rattle.std.specs.Prelude.{◌≡◌, ◌≢◌, ◌≤◌, ◌+◌, ◌*◌, true, length, take, slice_index, OnOk, OnErr};
 ghost use Rattle.zcore.specs.Header.{static_base_of};
 ghost use Rattle.zcore.specs.Layout.{header_size};
-ghost use Rattle.ztext.specs.Text as texts;
 ghost use Rattle.zcore_standard.specs.Reading as definitions;
 ghost use Rattle.zcore_standard.specs.Loaded.{alphabets_of};
 ghost use Rattle.machine_frames.specs.Contents.{memory_of};
@@ -16,6 +15,7 @@ use crate::fill::fill_counted;
 use crate::slots::{SLOTS_LENGTH, Search, slots};
 use journal::{NoMemory, Recorded};
 use machine_frames::Store;
+use machine_standard_input::put_small_letters;
 use zcore::Header;
 use zcore_standard::Loaded;
 
@@ -42,11 +42,14 @@ pub(crate) fn fill_line(
     requires slots { definitions.has_slots_or_none (memory_of store.old.store) parse ≡ true }
     ensures filled { OnOk result (Filled store.old store.new
         (definitions.with_line (alphabets_of loaded.now) (memory_of store.old.store) text parse
-        (definitions.letters_with (memory_of store.old.store) text line.now))) }
+        (definitions.letters_with loaded.now.characters (memory_of store.old.store) text
+        line.now))) }
     ensures given_up { OnErr result (GivenUp store.old store.new) }
 {
     let mut letters = [0; MOST_LETTERS];
-    let count = put_letters(store.store().memory(), text as usize, line, &mut letters);
+    let memory = store.store().memory();
+    let extra = loaded.characters();
+    let count = put_letters(memory, text as usize, extra, line, &mut letters);
     fill_letters(
         header,
         loaded,
@@ -59,18 +62,24 @@ pub(crate) fn fill_line(
 
 /// Writes the letters that a text buffer has after a line to the front of a row, and answers how many
 /// they are.
-fn put_letters(memory: &[u8], text: usize, line: &[u8], letters: &mut [u8; 255]) -> usize
+fn put_letters(
+    memory: &[u8],
+    text: usize,
+    extra: &[u16],
+    line: &[u8],
+    letters: &mut [u8; 255],
+) -> usize
     requires within { text + 2 + slice_index memory.now text ≤ length memory.now }
     requires left { slice_index memory.now (text + 1) ≤ slice_index memory.now text }
     ensures few { result ≤ slice_index memory.now text }
     ensures most { result ≤ 255 }
-    ensures letters { take result letters.new ≡ definitions.letters_with memory.now text line.now }
+    ensures letters { take result letters.new
+        ≡ definitions.letters_with extra.now memory.now text line.now }
 {
     let left = memory[text + 1] as usize;
-    let count = (memory[text] as usize - left).min(line.len());
+    let most = memory[text] as usize - left;
     put(&memory[text + 2..text + 2 + left], letters);
-    put_small(&line[..count], letters, left);
-    left + count
+    put_small_letters(extra, line, letters, left, most)
 }
 
 /// Writes bytes to the front of a row.
@@ -80,28 +89,6 @@ fn put(bytes: &[u8], letters: &mut [u8; 255])
 {
     for (i, byte) in bytes.iter().enumerate() {
         letters[i] = *byte;
-    }
-}
-
-/// Writes letters in lower case to a row, after so many that it has.
-fn put_small(line: &[u8], letters: &mut [u8; 255], at: usize)
-    requires { at + length line.now ≤ 255 }
-    ensures { take (at + length line.now) letters.new
-        ≡ take at letters.old ++ map texts.lower_case line.now }
-{
-    for (i, letter) in line.iter().enumerate() {
-        letters[at + i] = lower_case(*letter);
-    }
-}
-
-/// A capital as a small letter.
-fn lower_case(letter: u8) -> u8
-    ensures { result ≡ texts.lower_case letter }
-{
-    if b'A' <= letter && letter <= b'Z' {
-        letter + 32
-    } else {
-        letter
     }
 }
 

@@ -19,7 +19,7 @@ use Rattle.zcore.specs.declared.header.Header.{Header}
 use Rattle.zcore.specs.Header.{static_base_of}
 use Rattle.zcore.specs.declared.beside.Beside.{Beside}
 use Rattle.zcore.specs.Turn.{TurnsBy}
-use Rattle.zcore_standard.specs.Loaded.{Loaded, alphabets_of}
+use Rattle.zcore_standard.specs.Loaded.{Loaded}
 use Rattle.zcore_standard.specs.Machine.{standard, standard_turn, standard_pending, standard_opening, standard_turn_on}
 use Rattle.zcore_standard.specs.Machine.{standard_ended, begins}
 use Rattle.zcore_standard.specs.Reading.{standard_given}
@@ -113,7 +113,7 @@ answers_standard : (loaded : Loaded) (line : List ℕ) (s : Contents) (fuel : �
 unfolding standard_turn_on
 answers_standard loaded line s fuel whole h =
     ap (λ p. standard_pending loaded p line fuel (play_of s)) h.1
-    ∙ follows_standard loaded (play_of s).beside (standard_given (alphabets_of loaded) h.0 line fuel (resumed (play_of s)))
+    ∙ follows_standard loaded (play_of s).beside (standard_given loaded h.0 line fuel (resumed (play_of s)))
     (standard_ended (begins (play_of s).beside (record { program_counter = (play_of s).program_counter; fuel = fuel })))
     whole h.2
 

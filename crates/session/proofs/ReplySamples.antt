@@ -1,7 +1,10 @@
 -- The lines of an input and the replies to them, computed.
-use Rattle.std.proofs.Common.{◌≡◌, ℕ, true, false, Some, List, [], ◌∷◌, ◌++◌, codes, refl, inl, inr}
+use Rattle.std.proofs.Common.{◌≡◌, ℕ, true, false, None, Some, List, [], ◌∷◌, ◌++◌, codes, refl, inl, inr}
+use Rattle.std.specs.Str.{chars, is_utf8}
 use Rattle.session.specs.Input.{lines_of, whole_lines}
-use Rattle.session.specs.Game.{Game, text_on, answer, transcript}
+use Rattle.session.specs.Game.{Game, text_on, answer, transcript, is_typable_on}
+use Rattle.session.specs.declared.mode.Mode.{Mode}
+use Rattle.session.specs.declared.mode.Mode.TheVariants.{Profile, Standard}
 use Rattle.session.specs.Standing.{Standing}
 use Rattle.session.specs.Ran.{LinesRead}
 use Rattle.session.specs.Transcript.{answer_of, note}
@@ -67,12 +70,28 @@ redone_told : (game : Game) → answer game (record { done = []; undone = a ∷ 
 unfolding answer_of
 redone_told game = refl
 
-line_refused : (game : Game) (s : Standing) → answer game s (record { line = 195 ∷ []; refused = true })
+abbrev in_mode : Mode → Game
+in_mode mode = record { mode = mode; story = []; fuel = 0; keep = None }
+
+abbrev e_acute : List ℕ
+e_acute = 0xC3 ∷ 0xA9 ∷ []
+
+line_refused : (s : Standing) → answer (in_mode Profile) s (record { line = e_acute; refused = true })
     ≡ record { reply = note (codes "[Line refused.]"); standing = s }
 unfolding answer_of
-line_refused game s = refl
+line_refused s = refl
 
-command_with_a_space : (game : Game) (s : Standing)
-    → (answer game s (record { line = codes "/undo\t"; refused = false })).reply ≡ note (codes "[Line refused.]")
+-- by the whole Standard a line is UTF-8
+accent_typed : is_typable_on (in_mode (Standard 0)) e_acute ≡ true
+unfolding is_utf8 chars
+accent_typed = refl
+
+half_refused : (s : Standing) → answer (in_mode (Standard 0)) s (record { line = 0xC3 ∷ []; refused = true })
+    ≡ record { reply = note (codes "[Line refused.]"); standing = s }
+unfolding answer_of is_utf8 chars
+half_refused s = refl
+
+command_with_a_space : (s : Standing)
+    → (answer (in_mode Profile) s (record { line = codes "/undo\t"; refused = false })).reply ≡ note (codes "[Line refused.]")
 unfolding answer_of
-command_with_a_space game s = refl
+command_with_a_space s = refl

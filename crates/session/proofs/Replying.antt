@@ -1,5 +1,5 @@
 -- The reply to one line, case by case.
-use Rattle.std.proofs.Common.{◌≡◌, ℕ, ◌<◌, ◌≤◌, Bool, true, false, IsTrue, zero, suc, Option, List, [], ◌∷◌, ◌++◌}
+use Rattle.std.proofs.Common.{◌≡◌, ℕ, ◌<◌, ◌≤◌, Bool, true, false, IsTrue, zero, suc, None, Some, Option, List, [], ◌∷◌, ◌++◌}
 use Rattle.std.proofs.Common.{length, refl, ap, sym, ◌∙◌, subst, append-nil, arith, Result, Ok, Err, IsErr, bytes_eq}
 use Rattle.std.proofs.Common.{nat_le, ◌&&◌, codes, ◌==◌, if◌then◌else◌}
 use Rattle.std.proofs.lemmas.Slice.Eq.{bytes_eq-Decides}
@@ -7,8 +7,11 @@ use Rattle.std.proofs.lemmas.Bool.Decides.{nat_tests}
 use Rattle.std.specs.List.{list_all}
 use Rattle.std.specs.Io.KnownBytes.{Appends}
 use Rattle.zcore.specs.Turn.{is_waiting}
-use Rattle.session.specs.Game.{Game, telling_of, text_on, place_on, answer}
-use Rattle.session.specs.Standing.{Standing, longest_line, undo_of, redo_of, taken, is_typable, is_typable_byte}
+use Rattle.zcore_standard.specs.Input.{can_be_typed}
+use Rattle.zcore_standard.specs.Loaded.{Loaded}
+use Rattle.session.specs.Modes.{loaded_in, is_typable_with}
+use Rattle.session.specs.Game.{Game, telling_of, text_on, place_on, is_typable_on, answer}
+use Rattle.session.specs.Standing.{Standing, longest_line, undo_of, redo_of, taken, is_typable_byte}
 use Rattle.session.specs.Transcript.{answer_of, Answer, note, answer_undo, answer_redo, answer_line}
 use Rattle.session.specs.Heard.{Heard, Broke, Hears}
 use Rattle.session.specs.Wrote.{WroteText, WroteSome}
@@ -138,25 +141,25 @@ redo_none game s h = ap
     })
     (none_of (length s.undone) h)
 
-pub line_taken : (game : Game) (s : Standing) (line : List ℕ) → is_typable line ≡ true
+pub line_taken : (game : Game) (s : Standing) (line : List ℕ) → is_typable_on game line ≡ true
     → is_waiting (place_on game s.done) ≡ true
     → answer_line (telling_of game) game.keep s (record { line = line; refused = false })
     ≡ record { reply = text_on game (s.done ++ line ∷ []); standing = taken game.keep line s }
 line_taken game s line d e = rw (d, e) refl
 
-pub line_unmet : (game : Game) (s : Standing) (line : List ℕ) → is_typable line ≡ true
+pub line_unmet : (game : Game) (s : Standing) (line : List ℕ) → is_typable_on game line ≡ true
     → is_waiting (place_on game s.done) ≡ true
     → answer_line (telling_of game) game.keep s (record { line = line; refused = true })
     ≡ record { reply = note (codes "[No memory: line not taken.]"); standing = s }
 line_unmet game s line d e = rw (d, e) refl
 
-pub line_over : (game : Game) (s : Standing) (line : List ℕ) (m : Bool) → is_typable line ≡ true
+pub line_over : (game : Game) (s : Standing) (line : List ℕ) (m : Bool) → is_typable_on game line ≡ true
     → is_waiting (place_on game s.done) ≡ false
     → answer_line (telling_of game) game.keep s (record { line = line; refused = m })
     ≡ record { reply = note (codes "[The story is over.]"); standing = s }
 line_over game s line m d e = rw (d, e) refl
 
-pub line_refused : (game : Game) (s : Standing) (line : List ℕ) (m : Bool) → is_typable line ≡ false
+pub line_refused : (game : Game) (s : Standing) (line : List ℕ) (m : Bool) → is_typable_on game line ≡ false
     → answer_line (telling_of game) game.keep s (record { line = line; refused = m })
     ≡ record { reply = note (codes "[Line refused.]"); standing = s }
 line_refused game s line m d = rw d refl
@@ -171,8 +174,13 @@ above n m h = grind (arith, nat_tests)
 pub unequal : (xs ys : List ℕ) → (length xs ≡ length ys → ⊥) → bytes_eq xs ys ≡ false
 unequal xs ys h = unequal_at xs ys h (bytes_eq xs ys) refl
 
-pub long_untypable : (line : List ℕ) → longest_line < length line → is_typable line ≡ false
-long_untypable line h = ap (λ b. b && list_all is_typable_byte line) (above (length line) longest_line h)
+long_with : (loaded : Option Loaded) (line : List ℕ) → longest_line < length line → is_typable_with loaded line ≡ false
+long_with None line h = ap (λ b. b && list_all is_typable_byte line) (above (length line) longest_line h)
+long_with (Some loaded) line h =
+    ap (λ b. b && can_be_typed loaded.characters line) (above (length line) longest_line h)
+
+pub long_untypable : (game : Game) (line : List ℕ) → longest_line < length line → is_typable_on game line ≡ false
+long_untypable game line h = long_with (loaded_in game.mode game.story) line h
 
 -- a line of more than 1,000 bytes is refused
 pub answer_long : (game : Game) (s : Standing) (line : List ℕ) → longest_line < length line
@@ -181,7 +189,7 @@ pub answer_long : (game : Game) (s : Standing) (line : List ℕ) → longest_lin
 answer_long game s line h =
     at_line game s line false (unequal line (codes "/undo") (λ e. omega arith))
     (unequal line (codes "/redo") (λ e. omega arith))
-    ∙ line_refused game s line false (long_untypable line h)
+    ∙ line_refused game s line false (long_untypable game line h)
 
 pub untrue : (n m : ℕ) → (n ≡ m → ⊥) → (n == m) ≡ false
 untrue n m h = grind (arith, nat_tests)

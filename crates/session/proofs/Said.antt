@@ -35,11 +35,12 @@ pub record Begins (game : Game) (r' : Option (List ℕ)) (input written : List �
 pub record Agree (a b : Telling) : Type 0 where
   pub texts : (ls : List (List ℕ)) → a.text ls ≡ b.text ls
   pub places : (ls : List (List ℕ)) → a.place ls ≡ b.place ls
+  pub takes : (l : List ℕ) → a.takes l ≡ b.takes l
 
 pub answer_same : (a b : Telling) (keep : Option ℕ) → Agree a b → (s : Standing) (x : Typed)
     → answer_of a keep s x ≡ answer_of b keep s x
 unfolding answer_of
-answer_same a b keep same s x = simp (same.texts, same.places)
+answer_same a b keep same s x = simp (same.texts, same.places, same.takes)
 
 pub replies_same : (a b : Telling) (keep : Option ℕ) → Agree a b → (s : Standing) (xs : List Typed)
     → replies_of a keep s xs ≡ replies_of b keep s xs

@@ -1,9 +1,9 @@
 -- A game: a story as a session plays it.
-use Rattle.std.specs.Prelude.{◌≡◌, ℕ, Option, List}
+use Rattle.std.specs.Prelude.{◌≡◌, ℕ, Bool, Option, List}
 use Rattle.zcore.specs.declared.place.Place.{Place}
 use Rattle.zcore.specs.Turn.{Play, plays_of, last_text, last_place}
 use Rattle.session.specs.declared.mode.Mode.{Mode}
-use Rattle.session.specs.Modes.{loaded_in, bytes_in, play_in}
+use Rattle.session.specs.Modes.{loaded_in, bytes_in, play_in, is_typable_with}
 use Rattle.session.specs.Standing.{Standing}
 use Rattle.session.specs.Session.{Session}
 use Rattle.session.specs.Sessions.{IsSession}
@@ -39,8 +39,12 @@ text_on game lines = last_text (plays_of (play_on game) lines)
 abbrev pub place_on : Game → List (List ℕ) → Place
 place_on game lines = last_place (plays_of (play_on game) lines)
 
+-- a line that it can be given
+abbrev pub is_typable_on : Game → List ℕ → Bool
+is_typable_on game line = is_typable_with (loaded_in game.mode game.story) line
+
 abbrev pub telling_of : Game → Telling
-telling_of game = record { text = text_on game; place = place_on game }
+telling_of game = record { text = text_on game; place = place_on game; takes = is_typable_on game }
 
 -- The session plays this game by its machine, and these lines stand.
 pub record IsSessionOf (game : Game) (s : Standing) (v : Session) : Type 0 where

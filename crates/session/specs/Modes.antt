@@ -1,13 +1,15 @@
 -- A story as a session plays it, in the profile or by the whole Standard.
-use Rattle.std.specs.Prelude.{◌≡◌, ℕ, List, length, Option, Some, None, IfSome}
+use Rattle.std.specs.Prelude.{◌≡◌, ◌&&◌, ℕ, nat_le, Bool, List, length, Option, Some, None, IfSome}
 use Rattle.zcore.specs.declared.header.Header.{Header}
 use Rattle.zcore.specs.Turn.{StateOfPlay, Whole, Play, opening, turn_on}
+use Rattle.zcore_standard.specs.Input.{can_be_typed}
 use Rattle.zcore_standard.specs.Loaded.{Loaded}
 use Rattle.zcore_standard.specs.Loading.{loaded_of, memory_for}
 use Rattle.zcore_standard.specs.Machine.{standard_opening, standard_turn_on}
 use Rattle.machine_frames.specs.Contents.{Contents}
 use Rattle.machine_frames.specs.Playing.{IsWaiting}
 use Rattle.machine_standard_words.specs.Taking.{CanBeGiven}
+use Rattle.session.specs.Standing.{is_typable, longest_line}
 use Rattle.session.specs.declared.mode.Mode.{Mode}
 use Rattle.session.specs.declared.mode.Mode.TheVariants.{Profile, Standard}
 
@@ -30,6 +32,11 @@ opening_with (Some loaded) bytes fuel = standard_opening loaded bytes fuel
 abbrev pub turn_with : Option Loaded → List ℕ → ℕ → StateOfPlay → Option Whole
 turn_with None line fuel play = turn_on line fuel play
 turn_with (Some loaded) line fuel play = standard_turn_on loaded line fuel play
+
+-- a line that it can be given: in the profile one of ASCII, by the whole Standard one whose characters the story has
+abbrev pub is_typable_with : Option Loaded → List ℕ → Bool
+is_typable_with None line = is_typable line
+is_typable_with (Some loaded) line = nat_le (length line) longest_line && can_be_typed loaded.characters line
 
 -- a story in a mode, with so much fuel for each turn; in the profile this is `by_profile`
 abbrev pub play_in : Mode → List ℕ → ℕ → Play

@@ -5,10 +5,10 @@ use Rattle.session.specs.declared.fault.OpenFault.{OpenFault}
 use Rattle.session.specs.declared.fault.OpenFault.TheVariants as faults
 use Rattle.session.specs.declared.reply.Reply.{Reply}
 use Rattle.session.specs.declared.reply.Reply.TheVariants as replies
-use Rattle.session.specs.Standing.{Standing, nothing, is_typable, taken}
+use Rattle.session.specs.Standing.{Standing, nothing, taken}
 use Rattle.session.specs.Session.{Session}
 use Rattle.session.specs.Loads.{RefusesToLoad, CanBeLoaded}
-use Rattle.session.specs.Game.{Game, IsSessionOf, InEach, text_on, place_on}
+use Rattle.session.specs.Game.{Game, IsSessionOf, InEach, text_on, place_on, is_typable_on}
 
 -- A session of the game at its beginning, or a story that is not loaded, or memory that was refused later.
 abbrev pub OpensSession : Game → Result Session OpenFault → Type 0
@@ -19,11 +19,11 @@ OpensSession game (Err fault) = RefusesToLoad game.mode game.story fault
 -- what a reply says of a line, and the text that it lends
 abbrev pub RepliesWith : Game → Standing → List ℕ → Reply → Type 0
 RepliesWith game s line (replies.Taken text) =
-    (is_typable line ≡ true) × (is_waiting (place_on game s.done) ≡ true)
+    (is_typable_on game line ≡ true) × (is_waiting (place_on game s.done) ≡ true)
     × (text.now ≡ text_on game (s.done ++ line ∷ []))
-RepliesWith game s line replies.Refused = is_typable line ≡ false
-RepliesWith game s line replies.Over = (is_typable line ≡ true) × (is_waiting (place_on game s.done) ≡ false)
-RepliesWith game s line replies.NoMemory = (is_typable line ≡ true) × (is_waiting (place_on game s.done) ≡ true)
+RepliesWith game s line replies.Refused = is_typable_on game line ≡ false
+RepliesWith game s line replies.Over = (is_typable_on game line ≡ true) × (is_waiting (place_on game s.done) ≡ false)
+RepliesWith game s line replies.NoMemory = (is_typable_on game line ≡ true) × (is_waiting (place_on game s.done) ≡ true)
 
 -- what the session is after a reply: as it was, but for a line that was taken
 abbrev pub After : List ℕ → Reply → Session → Session → Type 0

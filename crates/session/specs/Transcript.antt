@@ -2,7 +2,7 @@
 use Rattle.std.specs.Prelude.{ℕ, Bool, Option, ◌==◌, List, [], ◌∷◌, ◌++◌, length, map, bytes_eq, codes, if◌then◌else◌}
 use Rattle.zcore.specs.Turn.{is_waiting}
 use Rattle.session.specs.Telling.{Telling}
-use Rattle.session.specs.Standing.{Standing, nothing, is_typable, taken, undo_of, redo_of}
+use Rattle.session.specs.Standing.{Standing, nothing, taken, undo_of, redo_of}
 
 -- a line of input, and its mark: whether it met refused memory
 pub record Typed : Type 0 where
@@ -39,7 +39,7 @@ answer_redo telling s = record {
 -- a line for the story, of whose turns so many are kept; of two notices that hold the first is given
 abbrev pub answer_line : Telling → Option ℕ → Standing → Typed → Answer
 answer_line telling keep s x =
-    if is_typable x.line then (
+    if telling.takes x.line then (
     if is_waiting (telling.place s.done) then (
     if x.refused
     then (record { reply = note (codes "[No memory: line not taken.]"); standing = s })

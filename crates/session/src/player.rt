@@ -4,11 +4,12 @@ ghost use Rattle.std.specs.Prelude.{OnOk, OnErr};
 ghost use Rattle.std.specs.Prelude.{◌≡◌};
 ghost use Rattle.machine.specs.Ended.{TurnEndsBy};
 ghost use Rattle.machine_frames.specs.States.{IsStoreOf};
-ghost use Rattle.session.specs.Modes.{CanTake, IsSettled};
+ghost use Rattle.session.specs.Modes.{CanTake, IsSettled, is_typable_with};
 ghost use Rattle.session.specs.Players.{known_of, IsReadyIn, LoadsPlayer, PlayerTurn};
 
 use crate::fault::OpenFault;
 use crate::mode::Mode;
+use crate::typable::{is_short, is_typable};
 use journal::{NoMemory, Recorded};
 use machine::{Machine, Store};
 use machine_standard::StandardMachine;
@@ -47,6 +48,18 @@ impl Player {
                 Ok((machine, store)) => Ok((Player::Standard(machine), store)),
                 Err(fault) => Err(OpenFault::Standard(fault)),
             },
+        }
+    }
+
+    /// Whether the story can be given a line: by the profile one of at most 1,000 bytes, each from 32
+    /// to 126, and by the whole Standard one of as many bytes, which are UTF-8, of characters that the
+    /// story has.
+    pub(crate) fn can_take(&self, line: &[u8]) -> bool
+        ensures { result ≡ is_typable_with (known_of self.now).loaded line.now }
+    {
+        match self {
+            Player::Profile(_) => is_typable(line),
+            Player::Standard(machine) => is_short(line) && machine.can_take(line),
         }
     }
 

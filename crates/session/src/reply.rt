@@ -7,7 +7,7 @@ pub enum Reply<'a> {
     Taken(&'a [u8]),
 
     /// The line is no line for the story: it has more than 1,000 bytes, or one that is not from 32
-    /// to 126.
+    /// to 126, or, by the whole Standard, it is not UTF-8 or has a character that the story has not.
     Refused,
 
     /// The story does not wait for a line: it has quit or was stopped.

@@ -22,7 +22,6 @@ use crate::mode::Mode;
 use crate::player::Player;
 use crate::reply::Reply;
 use crate::turns::{Turn, begin_text, do_again, keep_written, put_turn, take_back};
-use crate::typable::is_typable;
 use crate::written::Written;
 use journal::{NoMemory, Recorded};
 use machine::Store;
@@ -237,15 +236,16 @@ impl Session {
     /// that were undone are given up; where more are kept than may be, the oldest one is given up
     /// too.
     ///
-    /// The line is refused where it has more than 1,000 bytes or one that is not from 32 to 126;
-    /// then it is over where the story does not wait for a line. Where memory is refused, the line
+    /// The line is refused where it has more than 1,000 bytes, or one that is not from 32 to 126, or,
+    /// by the whole Standard, where it is not UTF-8 or has a character that the story has not; then it
+    /// is over where the story does not wait for a line. Where memory is refused, the line
     /// is not taken. In these three cases the session is as before. Only a line that the story is
     /// given takes memory.
     pub fn reply(&mut self, line: &[u8]) -> Reply<'_>
         ensures* rests { sem 𝓛 (Rests the_row self.entry (After line.now result self.old)) }
         ensures says { InEach self.old (λ game s. RepliesWith game s line.now result) }
     {
-        if !is_typable(line) {
+        if !self.player.can_take(line) {
             return Reply::Refused;
         }
         if self.place() != Place::Waiting {

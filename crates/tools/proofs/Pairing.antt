@@ -40,6 +40,7 @@ pub agrees : (story : List ℕ) (fuel : ℕ) (keep : Option ℕ) (p : ProgramOf)
 agrees story fuel keep p h = record {
   texts = λ lines. last_said (plays story fuel lines) ∙ ap last_of (h lines).texts;
   places = λ lines. (h lines).place;
+  takes = λ line. refl;
 }
 
 -- a story has one version

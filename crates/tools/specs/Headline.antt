@@ -15,6 +15,7 @@ use Rattle.session.specs.declared.fault.OpenFault.TheVariants as opens
 use Rattle.session.specs.Session.{Session}
 use Rattle.session.specs.Sessions.{IsSession}
 use Rattle.session.specs.declared.fault.RunFault.{RunFault}
+use Rattle.session.specs.Standing.{is_typable}
 use Rattle.session.specs.Telling.{Telling}
 use Rattle.session.specs.Ran.{Streams, Ran}
 use Rattle.tools.specs.declared.pair.PairFault.{PairFault}
@@ -29,7 +30,11 @@ last_of (t ∷ u ∷ ts) = last_of (u ∷ ts)
 -- what a program means, run afresh on lines: the text of its last turn, and where it then stands
 abbrev pub meant_by : ProgramOf → ℕ → Telling
 meant_by p fuel =
-    record { text = λ lines. last_of (meaning p fuel lines).texts; place = λ lines. (meaning p fuel lines).place }
+    record {
+      text = λ lines. last_of (meaning p fuel lines).texts;
+      place = λ lines. (meaning p fuel lines).place;
+      takes = is_typable;
+    }
 
 -- By some limits, the source has a story of the version; what a run of its lines wrote, the opening first, is what the source means on
 -- the lines that stand; and the session is that of the story on these lines, with the machine's whole states.

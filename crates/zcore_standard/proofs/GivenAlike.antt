@@ -2,7 +2,7 @@
 use Rattle.std.proofs.Common.{◌≡◌, ℕ, ◌+◌, ◌-◌, zero, suc, List, [], ◌∷◌, ◌++◌, length, map, take, refl, ap}
 use Rattle.std.proofs.Common.{◌∙◌, arith, Bool, true, false, cond, slice_index, Option, Some, None}
 use Rattle.std.specs.Prelude.{◌==◌, ◌&&◌, nat_le, replicate}
-use Rattle.std.specs.List.{AllByRecursion, flat_map}
+use Rattle.std.specs.List.{AllByRecursion, flat_map, list_all}
 use Rattle.std.proofs.lemmas.Bool.{and_parts, leb-true, lt-leb, eqb-true, ne_eqb}
 use Rattle.ztext.specs.Alphabets.{lower_letters, upper_letters, place_in, spelling_in_lower, spelling_in_upper}
 use Rattle.ztext.specs.Alphabets.{spelled, spelling_of}
@@ -16,9 +16,12 @@ use Rattle.zcore.specs.Parts.{is_text_buffer}
 use Rattle.zcore.specs.State.{Pending, State}
 use Rattle.zcore.specs.Turn as turns
 use Rattle.zcore.specs.Turn.{with_bytes, with_letters, letters_for, given}
+use Rattle.zcore_standard.specs.Loaded.{Loaded}
 use Rattle.zcore_standard.specs.Reading.{letters_with, with_words, memory_given, result_given, standard_given}
 use Rattle.zcore_standard.specs.Texts.{default_alphabets, spelled_by, spelled_in_first, spelled_in_second, spelling_by}
+use Rattle.zcore_standard.specs.Unicode.{is_ascii}
 use Rattle.zcore_standard.specs.Words.{form_of, entry_with_form, slots_bytes}
+use Rattle.zcore_standard.proofs.PlainLines.{plain_codes, plain_front}
 
 -- Letters that are small already
 
@@ -130,28 +133,29 @@ same_words memory parse letters written s =
     (same_slots memory (dictionary_of memory) (parse + 2) words
     (small_words memory (dictionary_of memory) letters (slice_index memory parse) s))
 
-none_left : (memory : List ℕ) (text : ℕ) (line : List ℕ) → slice_index memory (text + 1) ≡ 0
-    → letters_with memory text line ≡ letters_for memory text line
-none_left memory text line e =
+none_left : (extra memory : List ℕ) (text : ℕ) (line : List ℕ) → list_all is_ascii line ≡ true
+    → slice_index memory (text + 1) ≡ 0 → letters_with extra memory text line ≡ letters_for memory text line
+none_left extra memory text line plain e =
     let empty : text + 2 + 0 - (text + 2) ≡ 0 = omega arith in
     let all : slice_index memory text - 0 ≡ slice_index memory text = omega arith in
-    rw (e, empty, all) refl
+    rw (e, empty, all, plain_codes extra line plain) (plain_front extra (slice_index memory text) line plain)
 
-pub given_alike : (pending : Pending) (line : List ℕ) (fuel : ℕ) (s : State)
+pub given_alike : (loaded : Loaded) (pending : Pending) (line : List ℕ) (fuel : ℕ) (s : State)
+    → loaded.own_alphabets ≡ None → list_all is_ascii line ≡ true
     → is_text_buffer s.memory pending.text_buffer ≡ true
-    → standard_given default_alphabets pending line fuel s ≡ given pending line fuel s
+    → standard_given loaded pending line fuel s ≡ given pending line fuel s
 unfolding standard_given given
-given_alike pending line fuel s e =
+given_alike loaded pending line fuel s own plain e =
     let memory = s.memory in
     let text = pending.text_buffer in
     let a = and_parts _ _ e in
     let least = leb-true 64 text (and_parts _ _ (and_parts _ _ a.0).0).0 in
     let some : (text == 0) ≡ false = ne_eqb text 0 (λ z. omega (arith, z, least)) in
     let letters = letters_for memory text line in
-    let alike : memory_given default_alphabets text pending.parse_buffer line memory
+    let alike : memory_given loaded text pending.parse_buffer line memory
     ≡ turns.with_line memory text pending.parse_buffer letters =
-    rw (some, none_left memory text line (eqb-true (slice_index memory (text + 1)) 0 a.1))
+    rw (some, own, none_left loaded.characters memory text line plain (eqb-true (slice_index memory (text + 1)) 0 a.1))
     (same_words memory pending.parse_buffer letters (with_letters memory text letters)
     (small_letters (take (slice_index memory text) line))) in
-    let result : result_given text line ≡ 13 = rw some refl in
+    let result : result_given loaded.characters text line ≡ 13 = rw some refl in
     rw (alike, result) refl

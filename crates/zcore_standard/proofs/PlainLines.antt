@@ -58,9 +58,19 @@ small_below : (extra : List ℕ) (code : ℕ) → code < 155 → small extra cod
 unfolding small
 small_below extra code h = rw (below code 155 h) refl
 
-pub plain_small : (extra line : List ℕ) → list_all is_ascii line ≡ true → map (small extra) line ≡ map lower_case line
+plain_small : (extra line : List ℕ) → list_all is_ascii line ≡ true → map (small extra) line ≡ map lower_case line
 plain_small extra [] h = refl
 plain_small extra (byte ∷ bytes) h =
     let p = plain_byte byte (and_parts _ _ h).0 in
     let same : small extra byte ≡ lower_case byte = small_below extra byte (omega (arith, p.most)) in
     ap (λ c. c ∷ map (small extra) bytes) same ∙ ap (λ l. lower_case byte ∷ l) (plain_small extra bytes (and_parts _ _ h).1)
+
+plain_take : (count : ℕ) (line : List ℕ) → list_all is_ascii line ≡ true → list_all is_ascii (take count line) ≡ true
+plain_take zero line h = refl
+plain_take (suc count) [] h = refl
+plain_take (suc count) (byte ∷ bytes) h = rw (and_parts _ _ h).0 (plain_take count bytes (and_parts _ _ h).1)
+
+-- the same of the first bytes of a line
+pub plain_front : (extra : List ℕ) (count : ℕ) (line : List ℕ) → list_all is_ascii line ≡ true
+    → map (small extra) (take count line) ≡ map lower_case (take count line)
+plain_front extra count line h = plain_small extra (take count line) (plain_take count line h)

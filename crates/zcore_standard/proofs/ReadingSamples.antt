@@ -1,6 +1,7 @@
 -- The line that is given to a waiting machine, computed.
-use Rattle.std.proofs.Common.{◌≡◌, ℕ, List, [], ◌∷◌, ◌++◌, replicate, Some, refl}
+use Rattle.std.proofs.Common.{◌≡◌, ℕ, List, [], ◌∷◌, ◌++◌, replicate, None, Some, refl, true}
 use Rattle.std.specs.Prelude.{codes}
+use Rattle.std.specs.Str.{chars, is_utf8}
 use Rattle.zcore.specs.Cutting.{words_of}
 use Rattle.zcore.specs.Dictionary.{entry_of}
 use Rattle.zcore.specs.Parsing.{first_words}
@@ -8,51 +9,60 @@ use Rattle.zcore.specs.Parts.{store_result, write_variable, push}
 use Rattle.zcore.specs.State.{Pending, State, done}
 use Rattle.zcore.specs.Turn.{first_environment, first_state}
 use Rattle.zcore_standard.specs.Reading.{letters_with, with_line, key_of_line, standard_given}
+use Rattle.zcore_standard.specs.Input.{small, small_character}
+use Rattle.zcore_standard.specs.Loaded.{Loaded}
+use Rattle.zcore_standard.specs.Streams.{code_among}
 use Rattle.zcore_standard.specs.Texts.{default_alphabets}
+use Rattle.zcore_standard.specs.Unicode.{default_characters}
 use Rattle.zcore_standard.specs.Words.{entry_with_form}
 
 -- Keys
 
-up : key_of_line (codes "/key up") ≡ 129
+up : key_of_line default_characters (codes "/key up") ≡ 129
 unfolding key_of_line
 up = refl
 
-down : key_of_line (codes "/key down") ≡ 130
+down : key_of_line default_characters (codes "/key down") ≡ 130
 unfolding key_of_line
 down = refl
 
-left : key_of_line (codes "/key left") ≡ 131
+left : key_of_line default_characters (codes "/key left") ≡ 131
 unfolding key_of_line
 left = refl
 
-right : key_of_line (codes "/key right") ≡ 132
+right : key_of_line default_characters (codes "/key right") ≡ 132
 unfolding key_of_line
 right = refl
 
-escape : key_of_line (codes "/key escape") ≡ 27
+escape : key_of_line default_characters (codes "/key escape") ≡ 27
 unfolding key_of_line
 escape = refl
 
-delete : key_of_line (codes "/key delete") ≡ 8
+delete : key_of_line default_characters (codes "/key delete") ≡ 8
 unfolding key_of_line
 delete = refl
 
-empty : key_of_line [] ≡ 13
-unfolding key_of_line
+empty : key_of_line default_characters [] ≡ 13
+unfolding key_of_line chars is_utf8
 empty = refl
 
-letter : key_of_line (codes "Yes") ≡ 89
-unfolding key_of_line
+letter : key_of_line default_characters (codes "Yes") ≡ 89
+unfolding key_of_line chars is_utf8
 letter = refl
 
 -- not exactly a key
-other : key_of_line (codes "/key UP") ≡ 47
-unfolding key_of_line
+other : key_of_line default_characters (codes "/key UP") ≡ 47
+unfolding key_of_line chars is_utf8
 other = refl
 
-longer : key_of_line (codes "/key up ") ≡ 47
-unfolding key_of_line
+longer : key_of_line default_characters (codes "/key up ") ≡ 47
+unfolding key_of_line chars is_utf8
 longer = refl
+
+-- the ZSCII code of a character
+accent : key_of_line default_characters (0xC3 ∷ 0x89 ∷ codes "t") ≡ 176
+unfolding key_of_line chars is_utf8 code_among
+accent = refl
 
 -- Letters
 
@@ -60,17 +70,25 @@ longer = refl
 abbrev buffer : List ℕ
 buffer = 5 ∷ 2 ∷ codes "Go" ++ replicate 3 9
 
-appended : letters_with buffer 0 (codes " IT") ≡ codes "Go it"
+appended : letters_with default_characters buffer 0 (codes " IT") ≡ codes "Go it"
+unfolding chars is_utf8 small
 appended = refl
 
-cut : letters_with buffer 0 (codes " ITEM") ≡ codes "Go it"
+cut : letters_with default_characters buffer 0 (codes " ITEM") ≡ codes "Go it"
+unfolding chars is_utf8 small
 cut = refl
 
-nothing : letters_with buffer 0 [] ≡ codes "Go"
+nothing : letters_with default_characters buffer 0 [] ≡ codes "Go"
+unfolding chars is_utf8 small
 nothing = refl
 
-full : letters_with (2 ∷ 2 ∷ codes "Go") 0 (codes "it") ≡ codes "Go"
+full : letters_with default_characters (2 ∷ 2 ∷ codes "Go") 0 (codes "it") ≡ codes "Go"
+unfolding chars is_utf8 small
 full = refl
+
+accented : letters_with default_characters buffer 0 (codes " " ++ 0xC3 ∷ 0x89 ∷ codes "T") ≡ codes "Go " ++ 170 ∷ codes "t"
+unfolding chars is_utf8 code_among small small_character
+accented = refl
 
 -- Buffers: a text buffer at 64 as above, a parse buffer at 80, and a dictionary at 100 with the separator `.` and no
 -- entries
@@ -100,6 +118,15 @@ unparsed = refl
 
 -- The turn begins
 
+abbrev loaded : Loaded
+loaded = record {
+  dynamic = [];
+  dice = record { window = 0; random = 0; interval = 0; counter = 0 };
+  is_sum_right = true;
+  characters = default_characters;
+  own_alphabets = None;
+}
+
 abbrev waiting : ℕ → ℕ → Pending
 waiting text parse = record { text_buffer = text; parse_buffer = parse; result = Some 0; return_address = 70 }
 
@@ -113,12 +140,12 @@ abbrev with_result : List ℕ → ℕ → State
 with_result text word =
     record (first_state (memory text 2 (replicate 19 7))) { frames = record first_environment { stack = word ∷ [] } ∷ [] }
 
-key_given : standard_given default_alphabets (waiting 0 0) (codes "/key up") 5 (state buffer 2)
+key_given : standard_given loaded (waiting 0 0) (codes "/key up") 5 (state buffer 2)
     ≡ done (record { program_counter = 70; fuel = 5 }) (with_result buffer 129)
 unfolding standard_given key_of_line store_result write_variable push
 key_given = refl
 
-line_given : standard_given default_alphabets (waiting 64 0) (codes "/KEY up") 5 (state buffer 2)
+line_given : standard_given loaded (waiting 64 0) (codes "/KEY up") 5 (state buffer 2)
     ≡ done (record { program_counter = 70; fuel = 5 }) (with_result (5 ∷ 5 ∷ codes "Go/ke") 13)
-unfolding standard_given store_result write_variable push
+unfolding standard_given store_result write_variable push chars is_utf8 small
 line_given = refl

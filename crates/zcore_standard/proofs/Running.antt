@@ -2,6 +2,7 @@
 use Rattle.std.proofs.Common.{◌≡◌, ℕ, zero, suc, List, [], ◌∷◌, map, refl, ap, subst, ◌∙◌, Bool, true, false, cond}
 use Rattle.std.proofs.Common.{Option, Some, None}
 use Rattle.std.specs.Prelude.{not}
+use Rattle.std.specs.List.{list_all}
 use Rattle.std.proofs.lemmas.Bool.{and_parts}
 use Rattle.zcore.specs.declared.beside.Beside.{Beside}
 use Rattle.zcore.specs.declared.next.Next.{Next}
@@ -20,6 +21,7 @@ use Rattle.zcore.proofs.WaitingParts.{waits_store_result, waits_goes_on}
 use Rattle.zcore_standard.specs.Laws.{WaitsAsTheProfile, is_fault, have_no_fault}
 use Rattle.zcore_standard.specs.Machine.{standard_pending, standard_turn_on, standard_opening, with_beside, by_standard}
 use Rattle.zcore_standard.specs.Loaded.{Loaded}
+use Rattle.zcore_standard.specs.Unicode.{is_ascii}
 use Rattle.zcore_standard.proofs.Turning.{standard_turn_keeps, standard_turn_on_keeps}
 
 -- A line where none is waited for
@@ -138,7 +140,7 @@ LeavesWell whole = is_waiting whole.place ≡ true → WaitsAsTheProfile whole.s
 
 -- the turn of a line, and those that follow it
 turn_keeps : (loaded : Loaded) (beside : Beside) (fuel : ℕ) (line : List ℕ) (lines : List (List ℕ)) (whole : Whole)
-    (o : Option Whole) → loaded.own_alphabets ≡ None → beside.window ≡ 0
+    (o : Option Whole) → loaded.own_alphabets ≡ None → list_all is_ascii line ≡ true → beside.window ≡ 0
     → turn_on line fuel whole.state ≡ o → WaitsAsTheProfile whole.state
     → ((next : Whole) → LeavesWell next → have_no_fault (plays_from fuel next lines) ≡ true
     → by_lines loaded fuel (with_beside beside next) lines ≡ map (with_beside beside) (plays_from fuel next lines))
@@ -146,13 +148,13 @@ turn_keeps : (loaded : Loaded) (beside : Beside) (fuel : ℕ) (line : List ℕ) 
     → entries (standard_turn_on loaded line fuel (with_beside beside whole).state)
     (λ next. by_lines loaded fuel next lines)
     ≡ map (with_beside beside) (entries o (λ next. plays_from fuel next lines))
-turn_keeps loaded beside fuel line lines whole None own lower e waits rest plays =
+turn_keeps loaded beside fuel line lines whole None own plain lower e waits rest plays =
     ap (λ p. entries p (λ next. by_lines loaded fuel next lines))
     (turn_on_not loaded line fuel (with_beside beside whole).state (beside_unread beside line fuel whole ∙ e))
-turn_keeps loaded beside fuel line lines whole (Some next) own lower e waits rest plays =
+turn_keeps loaded beside fuel line lines whole (Some next) own plain lower e waits rest plays =
     let parts = and_parts (not (is_fault next.place)) (have_no_fault (plays_from fuel next lines)) plays in
     ap (λ p. entries p (λ other. by_lines loaded fuel other lines))
-    (standard_turn_on_keeps loaded line fuel (with_beside beside whole).state next own lower waits
+    (standard_turn_on_keeps loaded line fuel (with_beside beside whole).state next own plain lower waits
     (beside_unread beside line fuel whole ∙ e) (no_fault (is_fault next.place) parts.0))
     ∙ ap (λ ws. with_beside beside next ∷ ws)
     (rest next (turn_on_waits line fuel whole.state next e) parts.1)
@@ -164,39 +166,41 @@ waiting_keeps true beside given kept same plays = same refl plays
 waiting_keeps false beside given kept same plays = refl
 
 follow_keeps : (loaded : Loaded) (beside : Beside) (fuel : ℕ) (lines : List (List ℕ)) (whole : Whole)
-    → loaded.own_alphabets ≡ None → beside.window ≡ 0
+    → loaded.own_alphabets ≡ None → beside.window ≡ 0 → list_all (list_all is_ascii) lines ≡ true
     → LeavesWell whole → have_no_fault (plays_from fuel whole lines) ≡ true
     → by_lines loaded fuel (with_beside beside whole) lines ≡ map (with_beside beside) (plays_from fuel whole lines)
-follow_keeps loaded beside fuel [] whole own lower leaves plays = refl
-follow_keeps loaded beside fuel (line ∷ lines) whole own lower leaves plays =
+follow_keeps loaded beside fuel [] whole own lower plain leaves plays = refl
+follow_keeps loaded beside fuel (line ∷ lines) whole own lower plain leaves plays =
+    let each = and_parts _ _ plain in
     waiting_keeps (is_waiting whole.place) beside
     (entries (standard_turn_on loaded line fuel (with_beside beside whole).state)
     (λ next. by_lines loaded fuel next lines))
     (entries (turn_on line fuel whole.state) (λ next. plays_from fuel next lines))
-    (λ waits. turn_keeps loaded beside fuel line lines whole (turn_on line fuel whole.state) own lower refl (leaves waits)
-    (λ next. follow_keeps loaded beside fuel lines next own lower)) plays
+    (λ waits. turn_keeps loaded beside fuel line lines whole (turn_on line fuel whole.state) own each.0 lower refl (leaves waits)
+    (λ next. follow_keeps loaded beside fuel lines next own lower each.1)) plays
 
 -- the opening, and the turns that follow it
 opening_keeps : (loaded : Loaded) (story : List ℕ) (fuel : ℕ) (lines : List (List ℕ)) (o : Option Whole)
-    → loaded.own_alphabets ≡ None → loaded.dice.window ≡ 0 → opening story fuel ≡ o
+    → loaded.own_alphabets ≡ None → loaded.dice.window ≡ 0 → list_all (list_all is_ascii) lines ≡ true
+    → opening story fuel ≡ o
     → have_no_fault (entries o (λ whole. plays_from fuel whole lines)) ≡ true
     → plays_of (by_standard loaded story fuel) lines
     ≡ map (with_beside loaded.dice) (entries o (λ whole. plays_from fuel whole lines))
 unfolding opening standard_opening
-opening_keeps loaded story fuel lines None own lower e plays =
+opening_keeps loaded story fuel lines None own lower plain e plays =
     let t = turn_ends (first_next story fuel) (first_state story) in
     no_some (turn_from (first_next story fuel) (first_state story)) t.0 t.1 e
-opening_keeps loaded story fuel lines (Some whole) own lower e plays =
+opening_keeps loaded story fuel lines (Some whole) own lower plain e plays =
     let parts = and_parts (not (is_fault whole.place)) (have_no_fault (plays_from fuel whole lines)) plays in
     ap (λ p. entries p (λ other. by_lines loaded fuel other lines))
     (standard_turn_keeps loaded loaded.dice (first_next story fuel) (first_state story) whole own lower e
     (no_fault (is_fault whole.place) parts.0))
-    ∙ ap (λ ws. with_beside loaded.dice whole ∷ ws) (follow_keeps loaded loaded.dice fuel lines whole own lower
+    ∙ ap (λ ws. with_beside loaded.dice whole ∷ ws) (follow_keeps loaded loaded.dice fuel lines whole own lower plain
     (turn_waits (first_next story fuel) (first_state story) whole e) parts.1)
 
 pub standard_runs_keep : (loaded : Loaded) (story : List ℕ) (fuel : ℕ) (lines : List (List ℕ))
-    → loaded.own_alphabets ≡ None → loaded.dice.window ≡ 0
+    → loaded.own_alphabets ≡ None → loaded.dice.window ≡ 0 → list_all (list_all is_ascii) lines ≡ true
     → have_no_fault (plays story fuel lines) ≡ true
     → plays_of (by_standard loaded story fuel) lines ≡ map (with_beside loaded.dice) (plays story fuel lines)
-standard_runs_keep loaded story fuel lines own lower plays =
-    opening_keeps loaded story fuel lines (opening story fuel) own lower refl plays
+standard_runs_keep loaded story fuel lines own lower plain plays =
+    opening_keeps loaded story fuel lines (opening story fuel) own lower plain refl plays

@@ -3,7 +3,7 @@
 use Rattle.std.proofs.Common.{◌≡◌, ℕ, zero, suc, ◌⊎◌, inl, inr, List, refl, ap, ◌∙◌, arith}
 use Rattle.std.proofs.Common.{Bool, true, false, cond, Option, Some, None, slice_index}
 use Rattle.std.specs.Prelude.{◌==◌, if◌then◌else◌, IfSome}
-use Rattle.std.specs.Option.{unwrap_or}
+use Rattle.std.specs.List.{list_all}
 use Rattle.zcore.specs.declared.beside.Beside.{Beside}
 use Rattle.zcore.specs.declared.next.Next.{Next}
 use Rattle.zcore.specs.declared.place.Fault.TheVariants as faults
@@ -20,8 +20,7 @@ use Rattle.zcore_standard.specs.declared.operations.Further.TheVariants.{Read}
 use Rattle.zcore_standard.specs.Place.{Here, plain, within}
 use Rattle.zcore_standard.specs.Loaded.{Loaded}
 use Rattle.zcore_standard.specs.Operations.{further_at}
-use Rattle.zcore_standard.specs.Reading.{standard_given}
-use Rattle.zcore_standard.specs.Texts.{default_alphabets}
+use Rattle.zcore_standard.specs.Unicode.{is_ascii}
 use Rattle.zcore_standard.specs.Windows.{begun_at}
 use Rattle.zcore_standard.specs.Machine.{chosen, standard, standard_step, standard_turn, standard_pending}
 use Rattle.zcore_standard.specs.Machine.{standard_turn_on, standard_ended, with_beside, begins}
@@ -181,24 +180,23 @@ line_keeps loaded fuel play whole (halt place t) own lower plays e =
     ∙ ap (λ x. Some (with_beside play.beside x)) (some_is _ whole e)
 
 pending_keeps : (loaded : Loaded) (line : List ℕ) (fuel : ℕ) (play : StateOfPlay) (whole : Whole) (p : Option Pending)
-    → loaded.own_alphabets ≡ None → play.beside.window ≡ 0
+    → loaded.own_alphabets ≡ None → list_all is_ascii line ≡ true → play.beside.window ≡ 0
     → IfSome p (λ pending. is_text_buffer play.memory pending.text_buffer ≡ true)
     → turn_pending p line fuel play ≡ Some whole → is_fault whole.place ≡ false
     → standard_pending loaded p line fuel play ≡ Some (with_beside play.beside whole)
-pending_keeps loaded line fuel play whole None own lower waits e plays = absurd (cc)
-pending_keeps loaded line fuel play whole (Some pending) own lower waits e plays =
+pending_keeps loaded line fuel play whole None own plain lower waits e plays = absurd (cc)
+pending_keeps loaded line fuel play whole (Some pending) own plain lower waits e plays =
     ap (λ o. after_step o (λ next s. standard_turn loaded (begins play.beside next) s)
     (λ place s. Some (standard_ended
     (begins play.beside (record { program_counter = play.program_counter; fuel = fuel })) place s)))
-    (ap (λ o. standard_given (unwrap_or o default_alphabets) pending line fuel (resumed play)) own
-    ∙ given_alike pending line fuel (resumed play) waits)
+    (given_alike loaded pending line fuel (resumed play) own plain waits)
     ∙ line_keeps loaded fuel play whole (given pending line fuel (resumed play)) own lower plays e
 
 pub standard_turn_on_keeps : (loaded : Loaded) (line : List ℕ) (fuel : ℕ) (play : StateOfPlay) (whole : Whole)
-    → loaded.own_alphabets ≡ None → play.beside.window ≡ 0 → WaitsAsTheProfile play
+    → loaded.own_alphabets ≡ None → list_all is_ascii line ≡ true → play.beside.window ≡ 0 → WaitsAsTheProfile play
     → turn_on line fuel play ≡ Some whole
     → is_fault whole.place ≡ false
     → standard_turn_on loaded line fuel play ≡ Some (with_beside play.beside whole)
 unfolding turn_on standard_turn_on
-standard_turn_on_keeps loaded line fuel play whole own lower waits e plays =
-    pending_keeps loaded line fuel play whole play.pending own lower waits e plays
+standard_turn_on_keeps loaded line fuel play whole own plain lower waits e plays =
+    pending_keeps loaded line fuel play whole play.pending own plain lower waits e plays

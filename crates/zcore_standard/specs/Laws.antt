@@ -14,6 +14,7 @@ use Rattle.zcore.specs.Parts.{is_text_buffer}
 use Rattle.zcore.specs.Turn.{StateOfPlay, Whole, TurnsBy, turn_from, turn_on, plays, plays_of}
 use Rattle.zcore_standard.specs.Place.{Here, within, is_none_open}
 use Rattle.zcore_standard.specs.Loaded.{Loaded}
+use Rattle.zcore_standard.specs.Unicode.{is_ascii}
 use Rattle.zcore_standard.specs.Machine.{standard, standard_step, standard_turn, standard_turn_on, begins, by_standard}
 use Rattle.zcore_standard.specs.Machine.{with_beside}
 
@@ -67,12 +68,16 @@ KeepsWhatTheProfilePlays =
 abbrev pub WaitsAsTheProfile : StateOfPlay → Type 0
 WaitsAsTheProfile play = IfSome play.pending (λ pending. is_text_buffer play.memory pending.text_buffer ≡ true)
 
--- And so is the turn of a line. While the profile waits for one, its text buffer is one that its `aread` has tested: it
+-- a line of ASCII, which is given as it is typed
+abbrev pub is_plain_line : List ℕ → Bool
+is_plain_line line = list_all is_ascii line
+
+-- And so is the turn of such a line. While the profile waits for one, its text buffer is one that its `aread` has tested: it
 -- holds no letters. This machine would keep letters that are left over in it.
 abbrev pub KeepsWhatTheProfileAnswers : Type 0
 KeepsWhatTheProfileAnswers =
     (loaded : Loaded) (line : List ℕ) (fuel : ℕ) (play : StateOfPlay) (whole : Whole) → loaded.own_alphabets ≡ None
-    → play.beside.window ≡ 0 → WaitsAsTheProfile play
+    → is_plain_line line ≡ true → play.beside.window ≡ 0 → WaitsAsTheProfile play
     → turn_on line fuel play ≡ Some whole → is_fault whole.place ≡ false
     → standard_turn_on loaded line fuel play ≡ Some (with_beside play.beside whole)
 
@@ -80,9 +85,9 @@ KeepsWhatTheProfileAnswers =
 abbrev pub have_no_fault : List Whole → Bool
 have_no_fault wholes = list_all (λ whole. not (is_fault whole.place)) wholes
 
--- A run over lines in which the profile meets no fault is the Standard's run of the same memory, turn by turn.
+-- A run over such lines in which the profile meets no fault is the Standard's run of the same memory, turn by turn.
 abbrev pub KeepsWhatTheProfileRuns : Type 0
 KeepsWhatTheProfileRuns =
     (loaded : Loaded) (story : List ℕ) (fuel : ℕ) (lines : List (List ℕ)) → loaded.own_alphabets ≡ None
-    → loaded.dice.window ≡ 0 → have_no_fault (plays story fuel lines) ≡ true
+    → loaded.dice.window ≡ 0 → list_all is_plain_line lines ≡ true → have_no_fault (plays story fuel lines) ≡ true
     → plays_of (by_standard loaded story fuel) lines ≡ map (with_beside loaded.dice) (plays story fuel lines)

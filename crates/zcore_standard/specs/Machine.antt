@@ -60,7 +60,7 @@ standard_opening loaded story fuel =
 abbrev pub standard_pending : Loaded → Option Pending → List ℕ → ℕ → StateOfPlay → Option Whole
 standard_pending loaded None line fuel play = None
 standard_pending loaded (Some pending) line fuel play =
-    after_step (standard_given (alphabets_of loaded) pending line fuel (resumed play))
+    after_step (standard_given loaded pending line fuel (resumed play))
     (λ next s. standard_turn loaded (begins play.beside next) s)
     (λ place s. Some (standard_ended
     (begins play.beside (record { program_counter = play.program_counter; fuel = fuel })) place s))

@@ -2,7 +2,6 @@
 -- `read_char`). No time runs out, and a line ends with 13 alone.
 use Rattle.std.specs.Prelude.{◌==◌, ◌&&◌, ◌||◌, ◌++◌, ◌+◌, ◌-◌, ℕ, nat_le, Bool, if◌then◌else◌, List, [], ◌∷◌}
 use Rattle.std.specs.Prelude.{bytes_eq, codes, length, map, slice_index, take, Option, None}
-use Rattle.ztext.specs.Text.{lower_case}
 use Rattle.zcore.specs.declared.place.Fault.TheVariants as faults
 use Rattle.zcore.specs.declared.next.Next.{Next}
 use Rattle.zcore.specs.Header.{dictionary_of}
@@ -10,6 +9,8 @@ use Rattle.zcore.specs.Parsing.{first_words}
 use Rattle.zcore.specs.Parts.{test, test_result, store_result, wait, goes_on}
 use Rattle.zcore.specs.State.{Pending, State, Out, ◌>>=◌}
 use Rattle.zcore.specs.Turn.{with_bytes, with_letters}
+use Rattle.zcore_standard.specs.Input.{codes_typed, small}
+use Rattle.zcore_standard.specs.Loaded.{Loaded, alphabets_of}
 use Rattle.zcore_standard.specs.Place.{Here, within}
 use Rattle.zcore_standard.specs.Streams.{begin_read}
 use Rattle.zcore_standard.specs.Words.{are_writable, has_slots, letters_in, slots_bytes}
@@ -63,11 +64,11 @@ read_key extra here after result = do
 -- The line that is given to aread
 
 -- The letters that a text buffer has then: those that it had, and behind them those of the line for which it has room,
--- in small letters.
-abbrev pub letters_with : List ℕ → ℕ → List ℕ → List ℕ
-letters_with memory text line =
+-- in ZSCII and in small letters.
+abbrev pub letters_with : List ℕ → List ℕ → ℕ → List ℕ → List ℕ
+letters_with extra memory text line =
     letters_in memory text
-    ++ map lower_case (take (slice_index memory text - slice_index memory (text + 1)) line)
+    ++ map (small extra) (take (slice_index memory text - slice_index memory (text + 1)) (codes_typed extra line))
 
 -- Their words fill the slots of the parse buffer, as by `tokenise`, by these alphabets. What is looked up is read in the
 -- memory as it was.
@@ -92,17 +93,17 @@ key_lines =
     (codes "/key up", 129) ∷ (codes "/key down", 130) ∷ (codes "/key left", 131) ∷ (codes "/key right", 132) ∷
     (codes "/key escape", 27) ∷ (codes "/key delete", 8) ∷ []
 
--- Another line is the key of its first character; an empty one is the key that ends a line.
+-- Another line is the key of its first code; an empty one is the key that ends a line.
 abbrev pub first_key : List ℕ → ℕ
 first_key [] = 13
-first_key (character ∷ characters) = character
+first_key (code ∷ codes) = code
 
-abbrev pub key_among : List (List ℕ × ℕ) → List ℕ → ℕ
-key_among [] line = first_key line
-key_among (key ∷ keys) line = if bytes_eq line key.0 then key.1 else key_among keys line
+abbrev pub key_among : List (List ℕ × ℕ) → List ℕ → ℕ → ℕ
+key_among [] line other = other
+key_among (key ∷ keys) line other = if bytes_eq line key.0 then key.1 else key_among keys line other
 
-unfoldable pub key_of_line : List ℕ → ℕ
-key_of_line line = key_among key_lines line
+unfoldable pub key_of_line : List ℕ → List ℕ → ℕ
+key_of_line extra line = key_among key_lines line (first_key (codes_typed extra line))
 
 -- The turn of a line begins
 
@@ -110,19 +111,20 @@ key_of_line line = key_among key_lines line
 abbrev pub can_take : List ℕ → ℕ → ℕ → Bool
 can_take memory text parse = (text == 0) || (has_room memory text && has_slots_or_none memory parse)
 
-abbrev pub memory_given : List ℕ → ℕ → ℕ → List ℕ → List ℕ → List ℕ
-memory_given alphabets text parse line memory =
-    if text == 0 then memory else with_line alphabets memory text parse (letters_with memory text line)
+abbrev pub memory_given : Loaded → ℕ → ℕ → List ℕ → List ℕ → List ℕ
+memory_given loaded text parse line memory =
+    if text == 0 then memory
+    else with_line (alphabets_of loaded) memory text parse (letters_with loaded.characters memory text line)
 
 -- the result: the key, or the one that ended the line
-abbrev pub result_given : ℕ → List ℕ → ℕ
-result_given text line = if text == 0 then key_of_line line else 13
+abbrev pub result_given : List ℕ → ℕ → List ℕ → ℕ
+result_given extra text line = if text == 0 then key_of_line extra line else 13
 
-unfoldable pub standard_given : List ℕ → Pending → List ℕ → ℕ → State → Out Next
-standard_given alphabets pending line fuel s = (do
-  _ ← store_result pending.result (result_given pending.text_buffer line)
+unfoldable pub standard_given : Loaded → Pending → List ℕ → ℕ → State → Out Next
+standard_given loaded pending line fuel s = (do
+  _ ← store_result pending.result (result_given loaded.characters pending.text_buffer line)
   goes_on pending.return_address fuel) (record s {
-    memory = memory_given alphabets pending.text_buffer pending.parse_buffer line s.memory;
+    memory = memory_given loaded pending.text_buffer pending.parse_buffer line s.memory;
     pending = None;
     text = [];
   })

@@ -1,7 +1,6 @@
 use Rattle.std.proofs.Common.{◌≡◌, ap, ◌∙◌, sym, subst, true, slice_index}
 use Rattle.zcore.specs.State.{Pending}
 use Rattle.zcore_standard.specs.Reading.{can_take}
-use Rattle.zcore_standard.specs.Loaded.{alphabets_of}
 use Rattle.machine_frames.specs.Contents.{memory_of}
 use Rattle.machine_frames.specs.States.{variable_of}
 use Rattle.machine_frames.proofs.Steps.{store_after, told_err}
@@ -27,7 +26,7 @@ pub returns-in_err-store_result : goal.returns-in_err-store_result
 returns-in_err-store_result c = λ p h.
     let parts = pending_parts (slice_index c.args.store.now.store.cells) p h in
     told_err _ c.from_residual-in_err-store_result.ensures.1
-    (given_told (alphabets_of c.args.loaded.now) p c.args.line.now c.cell-text.result c.cell-parse.result _ c.args.fuel
+    (given_told c.args.loaded.now p c.args.line.now c.cell-text.result c.cell-parse.result _ c.args.fuel
     (c.cell-text.ensures ∙ ap (λ (q : Pending). q.text_buffer) parts)
     (c.cell-parse.ensures ∙ ap (λ (q : Pending). q.parse_buffer) parts) c.in_ok-word.ensures.word
     c.in_ok-word.ensures.filled c.in_ok-stop_waiting.ensures.waits
@@ -37,7 +36,7 @@ returns-in_err-store_result c = λ p h.
 pub returns : goal.returns
 returns c = λ p h.
     let parts = pending_parts (slice_index c.args.store.now.store.cells) p h in
-    given_told (alphabets_of c.args.loaded.now) p c.args.line.now c.cell-text.result c.cell-parse.result _ c.args.fuel
+    given_told c.args.loaded.now p c.args.line.now c.cell-text.result c.cell-parse.result _ c.args.fuel
     (c.cell-text.ensures ∙ ap (λ (q : Pending). q.text_buffer) parts)
     (c.cell-parse.ensures ∙ ap (λ (q : Pending). q.parse_buffer) parts) c.in_ok-word.ensures.word
     c.in_ok-word.ensures.filled c.in_ok-stop_waiting.ensures.waits

@@ -51,5 +51,7 @@ pub returns-clause-filled : goal.returns-clause-filled
 returns-clause-filled c =
     line_as c.args.store.now c.fill_letters.new.store (alphabets_of c.args.loaded.now) c.args.text c.args.parse _ _ c.fill_letters.result
     (c.put_letters-count.ensures.letters
-    ∙ ap (λ m. letters_with m c.args.text c.args.line.now) (c.memory.ensures ∙ ap memory_of c.store.ensures))
+    ∙ ap (λ x. letters_with x c.memory.result.now c.args.text c.args.line.now) c.characters-extra.ensures
+    ∙ ap (λ m. letters_with c.args.loaded.now.characters m c.args.text c.args.line.now)
+    (c.memory.ensures ∙ ap memory_of c.store.ensures))
     c.fill_letters.ensures.filled

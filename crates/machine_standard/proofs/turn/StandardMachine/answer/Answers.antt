@@ -49,7 +49,7 @@ returns-in_ok-end-in-Err-Stop c =
           w.pending _ _ w.waits given.told.1 c.program_counter.ensures
           (stopped_standard c.give_typed.new.store.store c.end.new.store.store b c.args.fuel _ _
           c.args.text.now.items c.end.new.text.items e.kept.1 e.kept.2 (e.beside ∙ c.beside-kept.ensures) e.text);
-      waits = λ waits. given_waits (alphabets_of c.args.self.now.loaded) w.pending _ _ _ c.give_typed.new.store.store c.end.new.store.store _ given.told.1 e.kept.1
+      waits = λ waits. given_waits c.args.self.now.loaded w.pending _ _ _ c.give_typed.new.store.store c.end.new.store.store _ given.told.1 e.kept.1
           waits;
       goes_on = goes_on_after given.told.0 e.kept.0;
       given_up = tt;

@@ -1,12 +1,11 @@
 use Rattle.std.proofs.Common.{◌≡◌, ◌∙◌, sym, refl, rules, get_or}
 use Rattle.zcore.specs.declared.place.Place.TheVariants as places
-use Rattle.session.proofs.Games.{game_taken}
+use Rattle.session.proofs.Games.{game_taken, typable_on}
 use Rattle.session.proofs.session.Session.reply.Goals as goal
 
 pub returns-in-Ok : goal.returns-in-Ok
 returns-in-Ok c =
     let now = c.args.self.now in
-    let typable = sym c.is_typable.ensures ∙ c.if-not-is_typable.false in
     let waits : get_or now.places now.present places.Quit ≡ places.Waiting = search rules in (
       (
         refl,
@@ -20,6 +19,7 @@ returns-in-Ok c =
         says = λ game s h.
             let t = game_taken game c.args.line.now s now c.play.new.self c.give_up.new.self h waits
             c.in-Ok.ensures.turned c.give_up.ensures in
-            (search rules, t.waited, c.latest_text.ensures ∙ t.lent);
+            (typable_on game s now c.args.line.now h
+            (sym c.can_take.ensures ∙ c.if-not-can_take.false), t.waited, c.latest_text.ensures ∙ t.lent);
       },
     )
