@@ -5,7 +5,6 @@ use Rattle.std.proofs.lemmas.Bool.{ne_eqb, eq-eqb}
 use Rattle.std.proofs.lemmas.List.{drop_all, drop_more, get_or-take}
 use Rattle.zcore_standard.specs.Streams.{code_among}
 
-
 pub among_next : (cs : List ℕ) (i most base character : ℕ) → i < most → i < length (take most cs)
     → slice_index cs i ≢ character
     → code_among (drop i (take most cs)) (base + i) character
@@ -27,4 +26,3 @@ among_found cs i most code character few lt same =
 pub among_none : (cs : List ℕ) (code character : ℕ) → code_among (drop (length cs) cs) code character ≡ 63
 unfolding code_among
 among_none cs code character = rw (drop_all (length cs) cs (omega arith)) refl
-

@@ -62,7 +62,9 @@ fn with_codes(extra: &[u16]) -> &[u16]
 fn is_among(characters: &[u16], character: u32) -> bool
     ensures { result ≡ list_any (λ candidate. candidate == character) characters.now }
 {
-    characters.iter().any(|candidate| *candidate as u32 == character)
+    characters
+        .iter()
+        .any(|candidate| *candidate as u32 == character)
 }
 
 /// The ZSCII code of a Unicode character, where these are the characters of the codes from 155 on.

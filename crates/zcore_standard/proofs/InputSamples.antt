@@ -1,5 +1,6 @@
 -- Lines that are typed, computed.
 use Rattle.std.proofs.Common.{◌≡◌, [], ◌∷◌, refl, true, false}
+use lib.Utf8.{encode}
 use Rattle.std.specs.Str.{chars, is_utf8}
 use Rattle.zcore_standard.specs.Input.{can_be_typed, codes_typed, small, small_character}
 use Rattle.zcore_standard.specs.Streams.{code_among}
@@ -8,74 +9,74 @@ use Rattle.zcore_standard.specs.Unicode.{default_characters}
 -- Lines
 
 e_acute : can_be_typed default_characters (0xC3 ∷ 0xA9 ∷ []) ≡ true
-unfolding is_utf8 chars
+unfolding is_utf8 chars encode
 e_acute = refl
 
 codes : codes_typed default_characters (116 ∷ 104 ∷ 0xC3 ∷ 0xA9 ∷ 33 ∷ []) ≡ 116 ∷ 104 ∷ 170 ∷ 33 ∷ []
-unfolding is_utf8 chars code_among
+unfolding is_utf8 chars code_among encode
 codes = refl
 
 empty : can_be_typed default_characters [] ≡ true
-unfolding is_utf8 chars
+unfolding is_utf8 chars encode
 empty = refl
 
 -- of two codes of a character the first is typed
 first_of_two : codes_typed (0x142 ∷ 0x142 ∷ []) (0xC5 ∷ 0x82 ∷ []) ≡ 155 ∷ []
-unfolding is_utf8 chars code_among
+unfolding is_utf8 chars code_among encode
 first_of_two = refl
 
 -- a character that ZSCII does not have
 no_code : can_be_typed default_characters (0xC5 ∷ 0x82 ∷ []) ≡ false
-unfolding is_utf8 chars
+unfolding is_utf8 chars encode
 no_code = refl
 
 -- and one above $FFFF
 no_word : can_be_typed default_characters (0xF0 ∷ 0x9F ∷ 0x98 ∷ 0x80 ∷ []) ≡ false
-unfolding is_utf8 chars
+unfolding is_utf8 chars encode
 no_word = refl
 
 tab : can_be_typed default_characters (9 ∷ []) ≡ false
-unfolding is_utf8 chars
+unfolding is_utf8 chars encode
 tab = refl
 
 delete : can_be_typed default_characters (127 ∷ []) ≡ false
-unfolding is_utf8 chars
+unfolding is_utf8 chars encode
 delete = refl
 
 -- a control code that a Unicode table names
 control : can_be_typed (0x85 ∷ []) (0xC2 ∷ 0x85 ∷ []) ≡ false
-unfolding is_utf8 chars
+unfolding is_utf8 chars encode
 control = refl
 
 -- bytes that are not UTF-8: one that only goes on; a character that is cut off; two bytes for one; a surrogate; a number
 -- above $10FFFF
 
 goes_on_only : can_be_typed default_characters (0xA9 ∷ []) ≡ false
-unfolding is_utf8 chars
+unfolding is_utf8 chars encode
 goes_on_only = refl
 
 cut_off : can_be_typed default_characters (0xC3 ∷ []) ≡ false
-unfolding is_utf8 chars
+unfolding is_utf8 chars encode
 cut_off = refl
 
 cut_short : can_be_typed default_characters (0xC3 ∷ 97 ∷ []) ≡ false
-unfolding is_utf8 chars
+unfolding is_utf8 chars encode
 cut_short = refl
 
 too_long : can_be_typed default_characters (0xC1 ∷ 0xA1 ∷ []) ≡ false
-unfolding is_utf8 chars
+unfolding is_utf8 chars encode
 too_long = refl
 
 surrogate : can_be_typed (0xD800 ∷ []) (0xED ∷ 0xA0 ∷ 0x80 ∷ []) ≡ false
-unfolding is_utf8 chars
+unfolding is_utf8 chars encode
 surrogate = refl
 
 too_great : can_be_typed default_characters (0xF4 ∷ 0x90 ∷ 0x80 ∷ 0x80 ∷ []) ≡ false
-unfolding is_utf8 chars
+unfolding is_utf8 chars encode
 too_great = refl
 
 no_codes : codes_typed default_characters (97 ∷ 0xC3 ∷ []) ≡ []
-unfolding is_utf8 chars
+unfolding is_utf8 chars encode
 no_codes = refl
 
 -- Small letters

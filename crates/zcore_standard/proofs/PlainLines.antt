@@ -28,7 +28,9 @@ plain_utf8 line h = is_utf8-from_IsUtf8 line (IsUtf8-from_ascii line (plain_is_a
 
 each_typed : (extra line : List ℕ) → list_all is_ascii line ≡ true → list_all (is_typed extra) line ≡ true
 each_typed extra [] h = refl
-each_typed extra (byte ∷ bytes) h = rw (and_parts _ _ h).0 (each_typed extra bytes (and_parts _ _ h).1)
+each_typed extra (byte ∷ bytes) h =
+    let one : is_ascii byte ≡ true = (and_parts _ _ h).0 in
+    rw one (each_typed extra bytes (and_parts _ _ h).1)
 
 pub plain_typed : (extra line : List ℕ) → list_all is_ascii line ≡ true → can_be_typed extra line ≡ true
 plain_typed extra line h = rw (plain_utf8 line h, chars-IsAscii line (plain_is_ascii line h)) (each_typed extra line h)
@@ -68,7 +70,9 @@ plain_small extra (byte ∷ bytes) h =
 plain_take : (count : ℕ) (line : List ℕ) → list_all is_ascii line ≡ true → list_all is_ascii (take count line) ≡ true
 plain_take zero line h = refl
 plain_take (suc count) [] h = refl
-plain_take (suc count) (byte ∷ bytes) h = rw (and_parts _ _ h).0 (plain_take count bytes (and_parts _ _ h).1)
+plain_take (suc count) (byte ∷ bytes) h =
+    let one : is_ascii byte ≡ true = (and_parts _ _ h).0 in
+    rw one (plain_take count bytes (and_parts _ _ h).1)
 
 -- the same of the first bytes of a line
 pub plain_front : (extra : List ℕ) (count : ℕ) (line : List ℕ) → list_all is_ascii line ≡ true

@@ -1,6 +1,7 @@
 -- The line that is given to a waiting machine, computed.
 use Rattle.std.proofs.Common.{◌≡◌, ℕ, List, [], ◌∷◌, ◌++◌, replicate, None, Some, refl, true}
 use Rattle.std.specs.Prelude.{codes}
+use lib.Utf8.{encode}
 use Rattle.std.specs.Str.{chars, is_utf8}
 use Rattle.zcore.specs.Cutting.{words_of}
 use Rattle.zcore.specs.Dictionary.{entry_of}
@@ -43,25 +44,25 @@ unfolding key_of_line
 delete = refl
 
 empty : key_of_line default_characters [] ≡ 13
-unfolding key_of_line chars is_utf8
+unfolding key_of_line chars is_utf8 encode
 empty = refl
 
 letter : key_of_line default_characters (codes "Yes") ≡ 89
-unfolding key_of_line chars is_utf8
+unfolding key_of_line chars is_utf8 encode
 letter = refl
 
 -- not exactly a key
 other : key_of_line default_characters (codes "/key UP") ≡ 47
-unfolding key_of_line chars is_utf8
+unfolding key_of_line chars is_utf8 encode
 other = refl
 
 longer : key_of_line default_characters (codes "/key up ") ≡ 47
-unfolding key_of_line chars is_utf8
+unfolding key_of_line chars is_utf8 encode
 longer = refl
 
 -- the ZSCII code of a character
 accent : key_of_line default_characters (0xC3 ∷ 0x89 ∷ codes "t") ≡ 176
-unfolding key_of_line chars is_utf8 code_among
+unfolding key_of_line chars is_utf8 code_among encode
 accent = refl
 
 -- Letters
@@ -71,23 +72,23 @@ abbrev buffer : List ℕ
 buffer = 5 ∷ 2 ∷ codes "Go" ++ replicate 3 9
 
 appended : letters_with default_characters buffer 0 (codes " IT") ≡ codes "Go it"
-unfolding chars is_utf8 small
+unfolding chars is_utf8 small encode
 appended = refl
 
 cut : letters_with default_characters buffer 0 (codes " ITEM") ≡ codes "Go it"
-unfolding chars is_utf8 small
+unfolding chars is_utf8 small encode
 cut = refl
 
 nothing : letters_with default_characters buffer 0 [] ≡ codes "Go"
-unfolding chars is_utf8 small
+unfolding chars is_utf8 small encode
 nothing = refl
 
 full : letters_with default_characters (2 ∷ 2 ∷ codes "Go") 0 (codes "it") ≡ codes "Go"
-unfolding chars is_utf8 small
+unfolding chars is_utf8 small encode
 full = refl
 
 accented : letters_with default_characters buffer 0 (codes " " ++ 0xC3 ∷ 0x89 ∷ codes "T") ≡ codes "Go " ++ 170 ∷ codes "t"
-unfolding chars is_utf8 code_among small small_character
+unfolding chars is_utf8 code_among small small_character encode
 accented = refl
 
 -- Buffers: a text buffer at 64 as above, a parse buffer at 80, and a dictionary at 100 with the separator `.` and no
@@ -147,5 +148,5 @@ key_given = refl
 
 line_given : standard_given loaded (waiting 64 0) (codes "/KEY up") 5 (state buffer 2)
     ≡ done (record { program_counter = 70; fuel = 5 }) (with_result (5 ∷ 5 ∷ codes "Go/ke") 13)
-unfolding standard_given store_result write_variable push chars is_utf8 small
+unfolding standard_given store_result write_variable push chars is_utf8 small encode
 line_given = refl

@@ -18,8 +18,11 @@ returns-in-Ok c =
         rests = tt;
         says = λ game s h.
             let t = game_taken game c.args.line.now s now c.play.new.self c.give_up.new.self h waits
-            c.in-Ok.ensures.turned c.give_up.ensures in
-            (typable_on game s now c.args.line.now h
-            (sym c.can_take.ensures ∙ c.if-not-can_take.false), t.waited, c.latest_text.ensures ∙ t.lent);
+            c.in-Ok.ensures.turned c.give_up.ensures in (
+              typable_on game s now c.args.line.now h
+                  (sym c.can_take.ensures ∙ c.if-not-can_take.false),
+              t.waited,
+              c.latest_text.ensures ∙ t.lent,
+            );
       },
     )
