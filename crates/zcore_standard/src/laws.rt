@@ -1,4 +1,5 @@
-//! Laws of the machine. The functions do nothing: each carries a law as its contract.
+//! Laws of the machine. The functions do nothing: each carries a law as its contract. Those that compare
+//! it with the profile's machine are of stories without alphabets of their own.
 
 ghost use Rattle.zcore_standard.specs.Laws.{EveryStandardTurnEnds, KeepsWhatTheProfileSteps};
 ghost use Rattle.zcore_standard.specs.Laws.{KeepsWhatTheProfilePlays, KeepsWhatTheProfileAnswers, KeepsWhatTheProfileRuns};
