@@ -10,7 +10,7 @@ use machine_frames::Store;
 use std::alloc::{AllocError, Global};
 use thiserror::Error;
 use zcore::{Beside, Header, HeaderFault};
-use zcore_standard::{Loaded, LoadedStory, characters, load, own_alphabets};
+use zcore_standard::{Loaded, LoadedStory, characters_of, load, own_alphabets_of};
 
 /// Why a file is not played. `Display` writes the number of the refusal alone.
 #[derive(Clone, Copy, Debug, PartialEq, Eq, Error)]
@@ -62,8 +62,8 @@ fn begin(
     ensures { IfOk result (λ begun. Begins memory.items story seed begun.0 begun.1) }
 {
     let header = story.header;
-    let characters = characters(alloc, &memory)?;
-    let own = own_alphabets(&memory);
+    let characters = characters_of(alloc, &memory)?;
+    let own = own_alphabets_of(&memory);
     let dynamic = front(alloc, &memory, header.static_base as usize)?;
     let store = Store::new(alloc, memory, header.static_base)?;
     let loaded = Loaded::new(dynamic, seeded(seed), story.is_sum_right, characters, own);

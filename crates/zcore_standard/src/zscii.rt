@@ -28,7 +28,7 @@ const MOST_CHARACTERS: u8 = 97;
 /// # Errors
 ///
 /// `AllocError` if memory is refused.
-pub fn characters(alloc: Global, memory: &[u8]) -> Result<Vec<u16>, AllocError>
+pub fn characters_of(alloc: Global, memory: &[u8]) -> Result<Vec<u16>, AllocError>
     requires header { HasHeader memory.now }
     requires placed { IsPlaced memory.now }
     ensures { IfOk result (λ found. found.items ≡ definitions.characters_of memory.now) }
@@ -42,7 +42,7 @@ pub fn characters(alloc: Global, memory: &[u8]) -> Result<Vec<u16>, AllocError>
 }
 
 /// The three alphabets of the story's own, of 26 ZSCII codes each, if it has them.
-pub fn own_alphabets(memory: &[u8]) -> Option<[u8; 78]>
+pub fn own_alphabets_of(memory: &[u8]) -> Option<[u8; 78]>
     requires header { HasHeader memory.now }
     requires placed { IsPlaced memory.now }
     ensures { result ≡ definitions.own_alphabets_of memory.now }

@@ -4,11 +4,11 @@ use Rattle.zcore_standard.specs.Loading.{IsPlaced, characters_of, own_alphabets_
 use Rattle.machine_standard.proofs.Beginning.{begins_with, loaded_as}
 use Rattle.machine_standard.proofs.load.begin.Goals as goal
 
-pub characters-requires-clause-placed : goal.characters-requires-clause-placed
-characters-requires-clause-placed c = subst IsPlaced (sym c.deref.ensures.value) c.requires.playable.placed
+pub characters_of-characters-requires-clause-placed : goal.characters_of-characters-requires-clause-placed
+characters_of-characters-requires-clause-placed c = subst IsPlaced (sym c.deref.ensures.value) c.requires.playable.placed
 
-pub own_alphabets-own-requires-clause-placed : goal.own_alphabets-own-requires-clause-placed
-own_alphabets-own-requires-clause-placed c = subst IsPlaced (sym c.deref-2.ensures.value) c.requires.playable.placed
+pub own_alphabets_of-own-requires-clause-placed : goal.own_alphabets_of-own-requires-clause-placed
+own_alphabets_of-own-requires-clause-placed c = subst IsPlaced (sym c.deref-2.ensures.value) c.requires.playable.placed
 
 pub returns : goal.returns
 returns c =
@@ -18,7 +18,7 @@ returns c =
     ∙ ap (λ n. take n memory) c.requires.playable.read.static_base in
     let characters : c.in_ok-characters.characters.items ≡ characters_of memory = c.in_ok-characters.ensures
     ∙ ap characters_of c.deref.ensures.value in
-    let own = c.own_alphabets-own.ensures ∙ ap own_alphabets_of c.deref-2.ensures.value in
+    let own = c.own_alphabets_of-own.ensures ∙ ap own_alphabets_of c.deref-2.ensures.value in
     begins_with memory c.args.story c.args.seed _ c.in_ok-store.store c.requires.playable refl
     (loaded_as c.new-loaded.result _ _ _ _ _ _ _ _ _ c.new-loaded.ensures dynamic c.seeded.ensures characters own)
     c.in_ok-store.ensures.sound c.in_ok-store.ensures.state
