@@ -74,6 +74,11 @@ pub record IsUnicode (story : List ℕ) : Type 0 where
   pub count : IsTable story (unicode_table_of story) 1
   pub words : IsTable story (unicode_table_of story) (1 + 2 * slice_index story (unicode_table_of story))
 
+-- the tables of characters: the Unicode table, and the story's own alphabets
+pub record HasCharacters (story : List ℕ) : Type 0 where
+  pub unicode : IsUnicode story
+  pub alphabets : IsTable story (alphabet_table_of story) alphabet_table_size
+
 -- Each address lies where it has to (1.1). High memory may begin anywhere.
 pub record IsPlaced (story : List ℕ) : Type 0 where
   pub static_base : IsWithin header_size (length story) (static_base_of story) 0
@@ -83,8 +88,7 @@ pub record IsPlaced (story : List ℕ) : Type 0 where
   pub first_instruction : IsWithin header_size (length story) (first_instruction_of story) 1
   pub dictionary : static_base_of story ≤ dictionary_of story
   pub extension : IsExtension story
-  pub unicode : IsUnicode story
-  pub alphabets : IsTable story (alphabet_table_of story) alphabet_table_size
+  pub characters : HasCharacters story
 
 -- What the player writes into the header (11.1)
 

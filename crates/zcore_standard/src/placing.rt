@@ -3,7 +3,7 @@
 ghost use Rattle.std.specs.Prelude.{◌≡◌, ◌+◌, ◌*◌, ◌≤◌, ◌↔◌, IsTrue, MatchOption};
 ghost use Rattle.zcore.specs.Header.{HasDictionaryHead, HasHeader, IsDictionary, IsDictionaryOf, IsWithin, static_end};
 ghost use Rattle.zcore_standard.specs.Loading as definitions;
-ghost use Rattle.zcore_standard.specs.Loading.{IsPlaced, IsTable, IsExtension, IsUnicode};
+ghost use Rattle.zcore_standard.specs.Loading.{HasCharacters, IsPlaced, IsTable, IsExtension, IsUnicode};
 
 use zcore::Dictionary;
 use zcore::layout::{
@@ -113,8 +113,7 @@ pub(crate) fn alphabet_table(story: &[u8]) -> u16
 fn has_characters(story: &[u8]) -> bool
     requires header { HasHeader story.now }
     requires extension { IsExtension story.now }
-    ensures { IsTrue result ↔ (IsUnicode story.now
-        × IsTable story.now (definitions.alphabet_table_of story.now) definitions.alphabet_table_size) }
+    ensures { IsTrue result ↔ HasCharacters story.now }
 {
     has_unicode(story) && is_table(story, alphabet_table(story), ALPHABETS_LENGTH)
 }
