@@ -307,15 +307,7 @@ fn print_any_object(
             fuel: here.fuel,
         });
     }
-    print_any_address(
-        store,
-        text,
-        start,
-        loaded,
-        here,
-        after,
-        table as u32 + 1,
-    )
+    print_any_address(store, text, start, loaded, here, after, table as u32 + 1)
 }
 
 /// Prints a character: `print_char`. Any ZSCII code is printed.
