@@ -164,7 +164,7 @@ pub(crate) fn none(
 {
     match operation {
         Operation::Print => print_inline(store, text, start, loaded, here, after),
-        Operation::PrintReturn => { print_return(header, store, text, start, loaded, here, after) }
+        Operation::PrintReturn => print_return(header, store, text, start, loaded, here, after),
         _ => perform_none(header, store, text, start, here, operation, after),
     }
 }

@@ -8,7 +8,7 @@ use Rattle.std.proofs.lemmas.List.{drop_all}
 use Rattle.ztext.specs.declared.fault.TextFault.{TextFault}
 use Rattle.ztext.specs.declared.fault.TextFault.TheVariants as faults
 use Rattle.ztext.specs.Results.{◌>>=◌}
-use Rattle.ztext.specs.Reading.{Cause, Character, End, Abbreviation, ReadingState, Lower, Upper, Punctuation, EscapeHigh}
+use Rattle.ztext.specs.Reading.{Cause, Abbreviation, ReadingState, Lower, Upper, Punctuation, EscapeHigh}
 use Rattle.ztext.specs.Reading.{EscapeLow, Abbreviated, next}
 use Rattle.ztext.specs.Text.{refused, has_abbreviations, abbreviation_address}
 use Rattle.ztext.specs.Words.{unpacked_text}

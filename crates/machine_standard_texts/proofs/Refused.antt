@@ -20,7 +20,7 @@ use Rattle.zcore.specs.Objects.{is_object, test_object, property_table, print_ob
 use Rattle.zcore.specs.Parts.{fault, test, goes_on, print, returning, test_return, can_store, can_store_in, leave}
 use Rattle.zcore.specs.Parts.{store_result, write_variable, pushed, push, write_local, with_local, write_global, give_back}
 use Rattle.zcore.specs.Parts.{read_byte, read_word, is_readable, is_code}
-use Rattle.zcore.specs.State.{Frame, State, Out, done, halt, bound, words, ◌>>=◌}
+use Rattle.zcore.specs.State.{Frame, State, Out, done, halt, bound, ◌>>=◌}
 use Rattle.journal.specs.Recording.{Recording}
 use Rattle.zcore_standard.specs.Printing.{is_refused, or_else, by_alphabets}
 use Rattle.machine_frames.specs.Contents.{Contents}
