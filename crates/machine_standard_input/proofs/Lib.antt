@@ -1,3 +1,3 @@
 pub mod Among
 pub mod Putting
-pub mod Typed
+pub mod Texts

@@ -55,7 +55,7 @@ fn has_zscii(extra: &[u16], character: u32) -> bool
 fn with_codes(extra: &[u16]) -> &[u16]
     ensures { result.now ≡ take most_extra extra.now }
 {
-    &extra[..extra.len().min(MOST_EXTRA)]
+    &extra[..MOST_EXTRA.min(extra.len())]
 }
 
 /// Whether a character is one of these.

@@ -1,10 +1,11 @@
 //! Small letters (the Unicode Standard, section 4.2).
 
-ghost use Rattle.std.specs.Prelude.{◌≡◌};
+ghost use Rattle.std.specs.Prelude.{◌≡◌, ◌≤◌, IfSome};
 ghost use Rattle.std.specs.List.{find, list_any};
 ghost use Rattle.ztext.specs.Text as texts;
 ghost use Rattle.zcore_standard.specs.Characters.{extra_character};
 ghost use Rattle.zcore_standard.specs.Input as definitions;
+ghost use Rattle.zcore_standard.specs.Streams.{first_extra};
 
 use crate::characters::{FIRST_EXTRA, UNKNOWN, zscii_of};
 
@@ -75,7 +76,7 @@ fn lower_case(letter: u8) -> u8
 
 /// The character of a code from 155 on, or a question mark.
 fn extra_character(extra: &[u16], code: u8) -> u16
-    requires { definitions.first_extra ≤ code }
+    requires { first_extra ≤ code }
     ensures { result ≡ extra_character extra.now code }
 {
     let place = (code - FIRST_EXTRA) as usize;
@@ -87,16 +88,35 @@ fn extra_character(extra: &[u16], code: u8) -> u16
 }
 
 /// The small letter of a capital; any other character itself.
+#[tactic(auto, unfolding(zcore_standard::specs::Input::small_character))]
 fn small_character(character: u16) -> u32
     ensures { result ≡ definitions.small_character character }
 {
-    if PAIRS.iter().any(|pair| begins_pair(character, pair)) {
+    if begins_any_pair(character) {
         return character as u32 + 1;
     }
-    match CAPITALS.iter().find(|row| is_among(character, row)) {
-        Some(row) => row.2 as u32 + (character - row.0) as u32,
+    match row_of(character) {
+        Some((first, _, small)) => small as u32 + (character - first) as u32,
         None => character as u32,
     }
+}
+
+/// Whether a character is a capital of one of the pairs.
+fn begins_any_pair(character: u16) -> bool
+    ensures { result ≡ list_any (definitions.begins_pair character) definitions.pairs }
+{
+    PAIRS.iter().any(|pair| begins_pair(character, pair))
+}
+
+/// The row of capitals in which a character is.
+fn row_of(character: u16) -> Option<(u16, u16, u16)>
+    ensures found { result ≡ find (definitions.is_among character) definitions.capitals }
+    ensures among { IfSome result (λ row. row.0 ≤ character) }
+{
+    CAPITALS
+        .iter()
+        .copied()
+        .find(|row| is_among(character, row))
 }
 
 /// Whether a character is a capital of pairs.

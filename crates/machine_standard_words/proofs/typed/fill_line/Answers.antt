@@ -10,7 +10,7 @@ use Rattle.machine_standard_words.proofs.typed.fill_line.Goals as goal
 pub put_letters-count-requires-clause-within : goal.put_letters-count-requires-clause-within
 put_letters-count-requires-clause-within c =
     let s = c.args.store.now.store in
-    let is = c.memory.ensures ∙ ap memory_of c.store.ensures in
+    let is = c.memory-memory.ensures ∙ ap memory_of c.store.ensures in
     let r = room_numbers (memory_of s) c.args.text c.requires.room in
     omega (
       arith,
@@ -22,7 +22,7 @@ put_letters-count-requires-clause-within c =
 
 pub put_letters-count-requires-clause-left : goal.put_letters-count-requires-clause-left
 put_letters-count-requires-clause-left c =
-    let is = c.memory.ensures ∙ ap memory_of c.store.ensures in
+    let is = c.memory-memory.ensures ∙ ap memory_of c.store.ensures in
     let r = room_numbers (memory_of c.args.store.now.store) c.args.text c.requires.room in
     omega (arith, r.left, ap (λ m. slice_index m (c.args.text + 1)) is, ap (λ m. slice_index m c.args.text) is)
 
@@ -32,7 +32,7 @@ fill_letters-requires-clause-past_header c =
 
 pub fill_letters-requires-clause-room : goal.fill_letters-requires-clause-room
 fill_letters-requires-clause-room c =
-    let is = c.memory.ensures ∙ ap memory_of c.store.ensures in
+    let is = c.memory-memory.ensures ∙ ap memory_of c.store.ensures in
     let r = room_numbers (memory_of c.args.store.now.store) c.args.text c.requires.room in
     let size : length c.put_letters-count.new.letters ≡ 255 = c.put_letters-count.array_long in
     let long = length-take-le c.put_letters-count.result c.put_letters-count.new.letters
@@ -51,7 +51,7 @@ pub returns-clause-filled : goal.returns-clause-filled
 returns-clause-filled c =
     line_as c.args.store.now c.fill_letters.new.store (alphabets_of c.args.loaded.now) c.args.text c.args.parse _ _ c.fill_letters.result
     (c.put_letters-count.ensures.letters
-    ∙ ap (λ x. letters_with x c.memory.result.now c.args.text c.args.line.now) c.characters-extra.ensures
+    ∙ ap (λ x. letters_with x c.memory-memory.result.now c.args.text c.args.line.now) c.characters-extra.ensures
     ∙ ap (λ m. letters_with c.args.loaded.now.characters m c.args.text c.args.line.now)
-    (c.memory.ensures ∙ ap memory_of c.store.ensures))
+    (c.memory-memory.ensures ∙ ap memory_of c.store.ensures))
     c.fill_letters.ensures.filled
