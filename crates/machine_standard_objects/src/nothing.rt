@@ -1,7 +1,7 @@
 //! Operations on object 0, which is no object: what they answer is 0 or false, and nothing changes
 //! (Z-Machine Standards Document 1.1, section 12.3).
 
-ghost use Rattle.std.specs.Prelude.{◌≡◌, ◌≤◌, true, slice_index, length};
+ghost use Rattle.std.specs.Prelude.{◌≡◌, ◌≤◌, true, slice_index};
 ghost use Rattle.zcore.specs.Layout.{longest_story};
 ghost use Rattle.zcore.specs.Objects.{give_object};
 ghost use Rattle.zcore_standard.specs.Nothing as definitions;

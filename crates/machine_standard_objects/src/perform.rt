@@ -138,15 +138,7 @@ pub(crate) fn several(
     }
     match operation {
         Operation::PrintCharacter => {
-            print_character(
-                store,
-                text,
-                start,
-                loaded,
-                here,
-                ending.after,
-                values[0],
-            )
+            print_character(store, text, start, loaded, here, ending.after, values[0])
         }
         _ => perform_several(header, store, text, start, here, operation, values, ending),
     }
@@ -172,9 +164,7 @@ pub(crate) fn none(
 {
     match operation {
         Operation::Print => print_inline(store, text, start, loaded, here, after),
-        Operation::PrintReturn => {
-            print_return(header, store, text, start, loaded, here, after)
-        }
+        Operation::PrintReturn => print_return(header, store, text, start, loaded, here, after),
         _ => perform_none(header, store, text, start, here, operation, after),
     }
 }

@@ -1,18 +1,15 @@
 -- Streams that are opened and closed.
 use Rattle.std.proofs.Common.{◌≡◌, ◌≢◌, ℕ, ◌+◌, ◌-◌, ◌*◌, ◌/◌, ◌%◌, ◌<◌, ◌≤◌, List, [], ◌∷◌, ◌++◌, length}
 use Rattle.std.proofs.Common.{take, drop}
-use Rattle.std.proofs.Common.{get_or, set, min, refl, ap, sym, ◌∙◌, subst, arith, true, false, inl, inr, slice_index}
+use Rattle.std.proofs.Common.{get_or, set, min, refl, ap, sym, ◌∙◌, subst, arith, true, false, slice_index}
 use Rattle.std.proofs.Common.{Result, Ok, Err}
 use Rattle.std.specs.List.{insert, remove}
-use Rattle.std.proofs.lemmas.Bool.{lt-ltb, ne_eqb, cases_lt}
-use Rattle.std.proofs.lemmas.List.{drop-drop, drop-take, drop_all, drop_more, take_all, take-take, length-drop, length-take-le}
+use Rattle.std.proofs.lemmas.Bool.{lt-ltb, ne_eqb}
+use Rattle.std.proofs.lemmas.List.{drop_all, drop_more, take_all, take-take, length-drop}
 use Rattle.std.proofs.lemmas.List.{get_or-set_other, length-set, drop-set-add, set-append_left}
 use Rattle.std.proofs.Math.Seq.{drop-append_seam}
 use Rattle.std.specs.Prelude.{OnOk}
-use Rattle.std.specs.Result.{IsErrAnd}
-use Rattle.std.proofs.lemmas.Result.{err_from_is_err_and}
 use Rattle.journal.specs.Recording.{Recording}
-use Rattle.zcore.specs.declared.next.Next.{Next}
 use Rattle.zcore.specs.declared.place.Fault.TheVariants as faults
 use Rattle.zcore.specs.declared.place.Place.TheVariants as places
 use Rattle.zcore.specs.State.{State, Out, done, bound}
@@ -32,10 +29,8 @@ use Rattle.machine_frames.proofs.Kept.{Writes, length-memory, writes_goes_on, wr
 use Rattle.machine_frames.proofs.Steps.{goes_on_after, given_up_after, goes_on_still, went_halt, told_halt}
 use Rattle.machine_lines.specs.Lines.{Filled, Fills}
 use Rattle.machine_lines.proofs.Filling.{filled_then}
-use Rattle.machine_opcodes.specs.Printed.{HasBegun, Grew}
 use Rattle.machine_opcodes.specs.Seen.{seen}
-use Rattle.machine_standard_windows.specs.Around.{Keeps}
-use Rattle.machine_standard_windows.proofs.TurnTexts.{text_cut, text_behind, keeps_still}
+use Rattle.machine_standard_windows.proofs.TurnTexts.{text_cut, text_behind}
 
 -- a text behind which something was added, and which is then cut
 pub cut_again : (from : ℕ) (x w y : List ℕ) → take (length x) w ≡ x → from ≤ length x → y ≡ take from w

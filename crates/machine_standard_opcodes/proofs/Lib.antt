@@ -3,5 +3,4 @@ pub mod Cuts
 pub mod Keeping
 pub mod Returning
 pub mod Anew
-pub mod Characters
 pub mod Cursor

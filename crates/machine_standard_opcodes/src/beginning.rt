@@ -5,7 +5,7 @@ ghost use Rattle.zcore.specs.Header.{static_base_of};
 ghost use Rattle.zcore.specs.Layout.{header_size};
 ghost use Rattle.zcore_standard.specs.Flow as definitions;
 ghost use Rattle.machine_frames.specs.Contents.{memory_of};
-ghost use Rattle.machine_frames.specs.States.{IsSound, IsStoreOf};
+ghost use Rattle.machine_frames.specs.States.{IsSound};
 ghost use Rattle.machine_frames.specs.Went.{GivenUp};
 ghost use Rattle.machine_lines.specs.Lines.{Fills};
 ghost use Rattle.machine_opcodes.specs.Printed.{HasBegun, ToldFrom};

@@ -1,7 +1,7 @@
 //! Returns from routines further out (Z-Machine Standards Document 1.1, sections 6.4 and 15,
 //! `catch` and `throw`).
 
-ghost use Rattle.std.specs.Prelude.{◌≡◌, ◌≤◌, ◌<◌, slice_index, OnOk};
+ghost use Rattle.std.specs.Prelude.{◌≤◌, ◌<◌, slice_index, OnOk};
 ghost use Rattle.zcore_standard.specs.Flow as definitions;
 ghost use Rattle.machine_frames.specs.States.{frame_count, IsSound, IsStoreOf};
 ghost use Rattle.machine_frames.specs.Went.{Went};

@@ -2,7 +2,7 @@
 use Rattle.std.proofs.Common.{◌≡◌, ℕ, zero, suc, ◌+◌, ◌-◌, ◌*◌, ◌<◌, ◌≤◌, inl, inr, List, [], ◌∷◌, ◌++◌, length, take, drop}
 use Rattle.std.proofs.Common.{slice_index, refl, ap, sym, ◌∙◌, subst, arith, append-nil, append_assoc, add-one, true, false}
 use Rattle.std.proofs.Common.{Result, Ok, Err}
-use Rattle.std.specs.Prelude.{◌==◌, nat_le}
+use Rattle.std.specs.Prelude.{◌==◌}
 use Rattle.std.proofs.lemmas.Bool.{ne_eqb, cases_lt}
 use Rattle.std.proofs.lemmas.List.{take_more, take-append-drop, take-take}
 use Rattle.std.proofs.Math.Nat.{mul-le-mul_right}
@@ -13,7 +13,6 @@ use Rattle.zcore_standard.specs.Characters.{print_codes}
 use Rattle.zcore_standard.specs.Tables.{are_readable, print_table, row_division, rows, rows_size}
 use Rattle.zcore_standard.specs.Tables.{test_readable}
 use Rattle.machine_frames.specs.Contents.{Contents, memory_of}
-use Rattle.machine_frames.specs.States.{state_of}
 use Rattle.machine_frames.specs.Went.{Told, Went}
 use Rattle.machine_frames.specs.declared.end.End.{End}
 use Rattle.machine_frames.proofs.Steps.{told_as, told_no_further, told_sound, told_still, told_then, told_went, went_no_further}

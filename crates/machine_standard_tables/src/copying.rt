@@ -1,6 +1,6 @@
 //! Copies of tables (Z-Machine Standards Document 1.1, section 15).
 
-ghost use Rattle.std.specs.Prelude.{◌≡◌, ◌<◌, ◌≤◌, slice_set, true, OnOk, OnErr};
+ghost use Rattle.std.specs.Prelude.{◌≡◌, ◌<◌, slice_set, true, OnOk, OnErr};
 ghost use Rattle.zcore.specs.Arithmetic.{magnitude};
 ghost use Rattle.zcore.specs.Parts.{is_writable};
 ghost use Rattle.zcore_standard.specs.Tables.{are_readable, are_writable, cleared, copied_at_once, copied_forwards, copy_table};

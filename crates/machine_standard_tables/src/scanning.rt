@@ -1,6 +1,6 @@
 //! The search of a table (Z-Machine Standards Document 1.1, section 15).
 
-ghost use Rattle.std.specs.Prelude.{◌≡◌, ◌<◌, ◌≤◌, IfOk, OnOk};
+ghost use Rattle.std.specs.Prelude.{◌≡◌, ◌<◌, ◌≤◌, OnOk};
 ghost use Rattle.zcore.specs.Layout.{longest_story};
 ghost use Rattle.zcore_standard.specs.Tables.{has_words, read_field, find_field, give_found, scan_table};
 ghost use Rattle.machine_frames.specs.States.{IsSound, IsStoreOf};

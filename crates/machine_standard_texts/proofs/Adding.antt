@@ -53,15 +53,26 @@ told_back {A} {r} {s} {t} {f} start was now e w =
     subst (λ l. Told r s (drop start was) t (drop start l) f) (sym e) w
 
 -- print_paddr
+packed_is : (loaded : Loaded) (own : Option (List ℕ)) (here : Next) (after packed : ℕ) (s : State)
+    → by_alphabets own (print_packed here after packed) (print_any_packed loaded here after packed) s
+    ≡ by_alphabets own (print_address here after (unpacked s.memory packed))
+    (print_any_address loaded here after (unpacked s.memory packed)) s
+unfolding print_packed print_any_packed print_address
+packed_is loaded None here after packed s = refl
+packed_is loaded (Some alphabets) here after packed s = refl
+
 pub packed_told : {s t : Recording Contents} {x y : List ℕ} {r : Result Next End} (loaded : Loaded) (here : Next)
     (after packed address : ℕ) → address ≡ unpacked (memory_of s.store) packed
-    → Told r s x t y (by_alphabets loaded.own_alphabets (print_address here after address) (print_any_address loaded here after address))
-    → Told r s x t y (by_alphabets loaded.own_alphabets (print_packed here after packed) (print_any_packed loaded here after packed))
-unfolding print_packed print_address print_any_packed
+    → Told r s x t y
+    (by_alphabets loaded.own_alphabets (print_address here after address) (print_any_address loaded here after address))
+    → Told r s x t y
+    (by_alphabets loaded.own_alphabets (print_packed here after packed) (print_any_packed loaded here after packed))
 packed_told {s} {t} {x} {y} {r} loaded here after packed address e w =
-    told_as r (by_alphabets loaded.own_alphabets (print_packed here after packed) (print_any_packed loaded here after packed)) refl
+    let own = loaded.own_alphabets in
+    told_as r (by_alphabets own (print_packed here after packed) (print_any_packed loaded here after packed))
+    (packed_is loaded own here after packed (state_of s.store x))
     (subst (λ (a : ℕ). Told r s x t y
-    (by_alphabets loaded.own_alphabets (print_address here after a) (print_any_address loaded here after a))) e w)
+    (by_alphabets own (print_address here after a) (print_any_address loaded here after a))) e w)
 
 -- where printing came to its end, and where it halted at the limit
 

@@ -1,15 +1,13 @@
 -- Characters that are added to the text of a turn.
 use Rattle.std.proofs.Common.{◌≡◌, ℕ, ◌+◌, ◌-◌, ◌/◌, ◌%◌, ◌<◌, ◌≤◌, true, false, List, [], ◌∷◌, ◌++◌, length, take, drop}
-use Rattle.std.proofs.Common.{Option, Some, None, refl, ap, sym, ◌∙◌, subst, arith, append-nil, append_assoc, Bool}
-use Rattle.std.specs.Prelude.{nat_le, ◌==◌}
+use Rattle.std.proofs.Common.{Option, Some, None, refl, ap, sym, ◌∙◌, subst, arith, append-nil, append_assoc}
+use Rattle.std.specs.Prelude.{nat_le}
 use Rattle.std.specs.List.{flat_map}
-use Rattle.std.proofs.lemmas.Bool.{le-leb, lt-leb, lt-ltb, le-ltb, eq-eqb, ne_eqb}
+use Rattle.std.proofs.lemmas.Bool.{le-leb, lt-leb, lt-ltb, le-ltb, ne_eqb}
 use Rattle.std.proofs.lemmas.Grind.{flat_map-append}
-use Rattle.std.proofs.lemmas.List.{drop-append-le, length-append, length-drop, take_all, take-append-le, take-take}
+use Rattle.std.proofs.lemmas.List.{drop-append-le, length-append, length-drop, take_all, take-take}
 use Rattle.std.proofs.Math.Seq.{take-append_seam}
 use Rattle.zcore.specs.Layout.{text_limit}
-use Rattle.zcore.specs.declared.place.Limit.TheVariants as limits
-use Rattle.zcore.specs.declared.place.Place.TheVariants as places
 use Rattle.zcore.specs.State.{State, Out, done, halt, bound, ◌>>=◌}
 use Rattle.zcore_standard.specs.Characters.{extra_character, shown_by, print_each, print_codes}
 use Rattle.zcore_standard.specs.Unicode.{is_ascii, is_printed, transcript_of, print_whole}

@@ -1,31 +1,28 @@
 -- Texts that are read, a Z-character at a time.
-use Rattle.std.proofs.Common.{◌≡◌, ℕ, suc, ◌+◌, ◌-◌, ◌*◌, ◌/◌, ◌%◌, ◌<◌, ◌≤◌, List, [], ◌∷◌, ◌++◌, length, drop, get_or}
+use Rattle.std.proofs.Common.{◌≡◌, ℕ, suc, ◌+◌, ◌-◌, ◌*◌, ◌<◌, ◌≤◌, List, [], ◌∷◌, ◌++◌, length, drop, get_or}
 use Rattle.std.proofs.Common.{Option, Some, None, Result, Ok, Err, refl, ap, sym, ◌∙◌, subst, arith, append_assoc, append-nil}
-use Rattle.std.proofs.Common.{add-one, drop-cons, slice_index, ◌⊎◌, inl, inr}
+use Rattle.std.proofs.Common.{add-one, drop-cons, ◌⊎◌, inl, inr}
 use Rattle.std.specs.Prelude.{◌==◌, nat_lt, if◌then◌else◌, Bool, true, false}
 use Rattle.std.proofs.lemmas.Bool.{ne_eqb, le-ltb}
 use Rattle.std.proofs.lemmas.List.{drop_all}
 use Rattle.ztext.specs.declared.fault.TextFault.{TextFault}
 use Rattle.ztext.specs.declared.fault.TextFault.TheVariants as faults
 use Rattle.ztext.specs.Results.{◌>>=◌}
-use Rattle.ztext.specs.Reading.{Cause, Character, End, Abbreviation, ReadingState, Lower, Upper, Punctuation, EscapeHigh}
+use Rattle.ztext.specs.Reading.{Cause, Abbreviation, ReadingState, Lower, Upper, Punctuation, EscapeHigh}
 use Rattle.ztext.specs.Reading.{EscapeLow, Abbreviated, next}
 use Rattle.ztext.specs.Text.{refused, has_abbreviations, abbreviation_address}
 use Rattle.ztext.specs.Words.{unpacked_text}
 use Rattle.ztext.specs.Faults.{FailsText}
 use Rattle.ztext.specs.TextParts.{words_of, z_character_at}
 use Rattle.ztext.proofs.Packing.{z_character-is, length-words_of}
-use Rattle.zcore_standard.specs.Texts.{letter_codes, codes_of, read_codes, codes_with, abbreviation_codes, codes_at}
-use Rattle.machine_standard_texts.specs.declared.characters.Halt.{Halt}
+use Rattle.zcore_standard.specs.Texts.{letter_codes, codes_of, read_codes, abbreviation_codes, codes_at}
 use Rattle.machine_standard_texts.specs.declared.pieces.Piece.{Piece}
 use Rattle.machine_standard_texts.specs.declared.pieces.Piece.TheVariants as pieces
 use Rattle.machine_standard_texts.specs.declared.pieces.State as declared
 use Rattle.machine_standard_texts.specs.declared.pieces.State.TheVariants as code
 use Rattle.machine_standard_texts.specs.declared.reading.Named.{Named}
 use Rattle.machine_standard_texts.specs.Pieces.{state_of, Comes, behind, ReadsPlain, IsNamedWithin}
-use Rattle.machine_standard_texts.specs.Put.{PrintsOn}
-use Rattle.machine_standard_texts.specs.Read.{GivesCodes, GivesText, rest_of}
-use Rattle.machine_standard_texts.proofs.Printed.{on_none, on_then}
+use Rattle.machine_standard_texts.specs.Read.{rest_of}
 
 -- codes, and then more codes
 pub behind_more : (codes more : List ℕ) (r : Result (List ℕ) Cause)

@@ -1,7 +1,7 @@
 -- Where an operation that prints answers M10 in the profile, it has changed nothing.
-use Rattle.std.proofs.Common.{◌≡◌, ℕ, ◌+◌, List, [], ◌∷◌, ◌++◌, length, drop, refl, ap, sym, ◌∙◌, Bool, true, false, cond}
+use Rattle.std.proofs.Common.{◌≡◌, ℕ, ◌+◌, List, [], ◌∷◌, ◌++◌, refl, ap, sym, ◌∙◌, Bool, true, false, cond}
 use Rattle.std.proofs.Common.{Option, Some, None, Result, Ok, Err, slice_index}
-use Rattle.std.specs.Prelude.{◌==◌, ◌||◌, ◌&&◌, nat_le, nat_lt}
+use Rattle.std.specs.Prelude.{◌==◌, ◌&&◌, nat_lt}
 use Rattle.std.specs.Option.{is_some}
 use Rattle.ztext.specs.Bytes.{word_at}
 use Rattle.ztext.specs.Reading.{Cause}
@@ -15,12 +15,12 @@ use Rattle.zcore.specs.declared.place.Limit.{Limit}
 use Rattle.zcore.specs.declared.place.Place.{Place}
 use Rattle.zcore.specs.declared.place.Place.TheVariants as places
 use Rattle.zcore.specs.Effects.{read_text, text_at, print_characters, print_address}
-use Rattle.zcore.specs.Execution.{print_inline, print_return, print_packed, print_character, is_output}
-use Rattle.zcore.specs.Objects.{is_object, test_object, property_table, print_name, print_object}
+use Rattle.zcore.specs.Execution.{print_inline, print_return, print_character, is_output}
+use Rattle.zcore.specs.Objects.{is_object, test_object, property_table, print_object}
 use Rattle.zcore.specs.Parts.{fault, test, goes_on, print, returning, test_return, can_store, can_store_in, leave}
 use Rattle.zcore.specs.Parts.{store_result, write_variable, pushed, push, write_local, with_local, write_global, give_back}
-use Rattle.zcore.specs.Parts.{read_byte, read_word, is_readable, is_code, unpacked}
-use Rattle.zcore.specs.State.{Frame, State, Out, done, halt, bound, words, ◌>>=◌}
+use Rattle.zcore.specs.Parts.{read_byte, read_word, is_readable, is_code}
+use Rattle.zcore.specs.State.{Frame, State, Out, done, halt, bound, ◌>>=◌}
 use Rattle.journal.specs.Recording.{Recording}
 use Rattle.zcore_standard.specs.Printing.{is_refused, or_else, by_alphabets}
 use Rattle.machine_frames.specs.Contents.{Contents}

@@ -1,5 +1,5 @@
 -- What Z-characters of a text come to, one after another.
-use Rattle.std.specs.Prelude.{◌≡◌, ◌+◌, ◌*◌, ◌<◌, ◌≤◌, ℕ, List, [], ◌∷◌, ◌++◌, drop, Option, Some, None, Result, Ok, Err}
+use Rattle.std.specs.Prelude.{◌≡◌, ◌<◌, ◌≤◌, ℕ, List, [], ◌∷◌, ◌++◌, drop, Option, Some, None, Result, Ok}
 use Rattle.ztext.specs.Bytes.{most_abbreviations}
 use Rattle.ztext.specs.Reading.{Cause, ReadingState, Lower, Upper, Punctuation, EscapeHigh, EscapeLow, Abbreviated}
 use Rattle.ztext.specs.Results.{◌>>=◌}

@@ -1,7 +1,7 @@
 //! Characters that are added to the text of a turn, each whole (Z-Machine Standards Document 1.1,
 //! section 3.8).
 
-ghost use Rattle.std.specs.Prelude.{◌≡◌, ◌≤◌, ◌∷◌, ◌++◌, [], length, drop, slice_index_or, OnOk, OnErr, Option, Some, None, List, ℕ};
+ghost use Rattle.std.specs.Prelude.{◌≡◌, ◌∷◌, ◌++◌, [], drop, OnOk, OnErr, Some, None};
 ghost use Rattle.zcore_standard.specs.Characters as definitions;
 ghost use Rattle.zcore_standard.specs.Unicode as unicode;
 ghost use Rattle.machine_opcodes.specs.Printed.{HasBegun};
@@ -29,7 +29,7 @@ pub(crate) enum Halt {
 }
 
 /// Whether a code is that of a character of ASCII which prints.
-fn is_ascii(code: u16) -> bool
+pub fn is_ascii(code: u16) -> bool
     ensures { result ≡ unicode.is_ascii code }
 {
     32 <= code && code <= 126
@@ -42,8 +42,9 @@ fn is_surrogate(code: u16) -> bool
     0xD800 <= code && code < 0xE000
 }
 
-/// Whether a Unicode character is printed.
-fn is_printed(code: u16) -> bool
+/// Whether a Unicode character is printed: it is no control code, no surrogate, and neither $FFFE nor
+/// $FFFF.
+pub fn is_printed(code: u16) -> bool
     ensures { result ≡ unicode.is_printed code }
 {
     is_ascii(code) || (160 <= code && !is_surrogate(code) && code < 0xFFFE)
@@ -90,7 +91,7 @@ fn put_whole(text: &mut Vec<u8>, start: usize, bytes: &[u8]) -> Option<Halt>
 }
 
 /// Adds a Unicode character, or a question mark for one that is not printed.
-fn put_unicode(text: &mut Vec<u8>, start: usize, code: u16) -> Option<Halt>
+pub(crate) fn put_unicode(text: &mut Vec<u8>, start: usize, code: u16) -> Option<Halt>
     requires text { HasBegun start text.old.items }
     ensures prints { Prints result (drop start text.old.items) (drop start text.new.items)
         (unicode.print_whole (unicode.transcript_of code)) }

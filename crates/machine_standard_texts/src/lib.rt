@@ -8,7 +8,8 @@ mod printing;
 mod reading;
 mod words;
 
+pub use characters::{is_ascii, is_printed};
 pub use printing::{
     print_address, print_character, print_code, print_inline, print_object, print_packed,
-    print_return,
+    print_return, print_transcript,
 };

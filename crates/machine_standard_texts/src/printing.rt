@@ -11,6 +11,7 @@ ghost use Rattle.zcore_standard.specs.Loaded.{alphabets_of};
 ghost use Rattle.zcore_standard.specs.Texts.{codes_at};
 ghost use Rattle.zcore_standard.specs.Printing as definitions;
 ghost use Rattle.zcore_standard.specs.Printing.{by_alphabets};
+ghost use Rattle.zcore_standard.specs.Unicode as unicode;
 ghost use Rattle.machine_frames.specs.Contents.{memory_of};
 ghost use Rattle.machine_frames.specs.States.{IsSound, IsStoreOf};
 ghost use Rattle.machine_objects.specs.Tested.{IsTested};
@@ -19,7 +20,7 @@ ghost use Rattle.machine_frames.specs.Went.{Told, Went};
 ghost use Rattle.machine_standard_texts.specs.Put.{Extends, Prints};
 ghost use Rattle.machine_standard_texts.specs.Read.{AddsText, ends_refused};
 
-use crate::characters::{Halt, put_next};
+use crate::characters::{Halt, put_next, put_unicode};
 use crate::reading::put_text;
 use journal::Recorded;
 use machine_frames::{End, Store, read_byte, read_word, test_return};
@@ -134,6 +135,28 @@ pub fn print_code(
     ensures text { Grew start text.old.items text.new.items }
 {
     let halted = put_next(text, start, characters, None, code);
+    finish(store, halted)
+}
+
+/// Prints a Unicode character, by its bytes in UTF-8. One that is not printed is a question mark.
+///
+/// # Errors
+///
+/// The limit of text, before a byte is printed. `End::Memory` where memory was refused: the turn is
+/// given up.
+pub fn print_transcript(
+    store: &mut Recorded<Store>,
+    text: &mut Vec<u8>,
+    start: usize,
+    code: u16,
+) -> Result<(), End>
+    requires sound { IsSound store.old.store }
+    requires text { HasBegun start text.old.items }
+    ensures told { ToldFrom start result store.old text.old.items store.new text.new.items
+        (unicode.print_whole (unicode.transcript_of code)) }
+    ensures text { Grew start text.old.items text.new.items }
+{
+    let halted = put_unicode(text, start, code);
     finish(store, halted)
 }
 
@@ -284,15 +307,7 @@ fn print_any_object(
             fuel: here.fuel,
         });
     }
-    print_any_address(
-        store,
-        text,
-        start,
-        loaded,
-        here,
-        after,
-        table as u32 + 1,
-    )
+    print_any_address(store, text, start, loaded, here, after, table as u32 + 1)
 }
 
 /// Prints a character: `print_char`. Any ZSCII code is printed.

@@ -1,7 +1,8 @@
 -- The forms of words.
-use Rattle.std.proofs.Common.{◌≡◌, ℕ, zero, suc, ◌<◌, ◌≤◌, List, [], ◌∷◌, length, take, drop, sym, ap, subst, ◌∙◌, refl, arith}
+use Rattle.std.proofs.Common.{◌≡◌, ◌≢◌, ℕ, zero, suc, ◌<◌, ◌≤◌, List, [], ◌∷◌, length, take, drop, sym, ap, subst, ◌∙◌, refl, arith}
 use Rattle.std.proofs.Common.{Bool, true, false, cond, Option, Some, None}
 use Rattle.std.specs.Prelude.{◌==◌, slice_range}
+use Rattle.std.proofs.lemmas.Bool.{eq-eqb, ne_eqb}
 use Rattle.std.proofs.lemmas.List.{take_all, length-drop, length-take-le}
 use Rattle.std.proofs.lemmas.List.Quantifiers.{position-Some}
 use Rattle.ztext.specs.Alphabets.{place_in, spelling_in_punctuation}
@@ -12,6 +13,26 @@ use Rattle.ztext.proofs.Spelling.{AreBytes}
 use Rattle.ztext.proofs.Keys.{filled_small}
 use Rattle.zcore_standard.specs.Texts.{spelled_in_first, spelled_in_second, spelled_in_third, spelling_by, spelled_by}
 use Rattle.zcore_standard.specs.Words.{form_of}
+
+-- How a code is spelled that is a space or another
+
+pub of_space : (alphabets : List ℕ) (code : ℕ) → code ≡ 32 → 0 ∷ [] ≡ spelling_by alphabets code
+unfolding spelling_by
+of_space alphabets code e = rw (eq-eqb code 32 e) refl
+
+pub of_no_space : (alphabets : List ℕ) (code : ℕ) (zs : List ℕ) → code ≢ 32
+    → zs ≡ spelled_in_first alphabets (place_in (take 26 alphabets) code) code → zs ≡ spelling_by alphabets code
+unfolding spelling_by
+of_no_space alphabets code zs other e = e ∙ rw (ne_eqb code 32 other) refl
+
+pub of_no_line : (alphabets : List ℕ) (code : ℕ) (zs : List ℕ) → code ≢ 13
+    → zs ≡ spelling_in_punctuation (place_in (drop 54 alphabets) code) code → zs ≡ spelled_in_third alphabets code
+of_no_line alphabets code zs other e = e ∙ rw (ne_eqb code 13 other) refl
+
+-- the letters of the third alphabet end with it
+pub third_letters : (alphabets : List ℕ) → length alphabets ≡ 78 → take 24 (drop 54 alphabets) ≡ drop 54 alphabets
+third_letters alphabets long =
+    take_all 24 (drop 54 alphabets) (omega (arith, length-drop 54 alphabets, long))
 
 -- Z-characters are below 32
 
@@ -27,12 +48,13 @@ place_within letters code place n e long =
 small_sign : (letters : List ℕ) (code : ℕ) (o : Option ℕ) → place_in letters code ≡ o → length letters ≡ 24
     → code < 256 → AreSmall (spelling_in_punctuation o code)
 small_sign letters code (Some place) e long byte =
-    let within = place_within letters code place 24 e long in (omega arith, omega arith, tt)
-small_sign letters code None e long byte = (omega arith, omega arith, omega arith, omega arith, tt)
+    let within = place_within letters code place 24 e long in (omega arith, (omega arith, tt))
+small_sign letters code None e long byte =
+    (omega arith, (omega arith, (omega arith, (omega arith, tt))))
 
 small_in_third : (alphabets : List ℕ) (code : ℕ) → length alphabets ≡ 78 → code < 256
     → AreSmall (spelled_in_third alphabets code)
-small_in_third alphabets code long byte = small_if (code == 13) _ _ (omega arith, omega arith, tt)
+small_in_third alphabets code long byte = small_if (code == 13) _ _ (omega arith, (omega arith, tt))
     (small_sign (drop 54 alphabets) code (place_in (drop 54 alphabets) code) refl
     (omega (arith, length-drop 54 alphabets, long)) byte)
 
@@ -41,7 +63,7 @@ small_in_second : (alphabets : List ℕ) (code : ℕ) (o : Option ℕ) → place
 small_in_second alphabets code (Some place) e long byte =
     let within = place_within (slice_range alphabets 26 52) code place 26 e
     (length-take-le 26 (drop 26 alphabets) (omega (arith, length-drop 26 alphabets, long))) in
-    (omega arith, omega arith, tt)
+    (omega arith, (omega arith, tt))
 small_in_second alphabets code None e long byte = small_in_third alphabets code long byte
 
 small_in_first : (alphabets : List ℕ) (code : ℕ) (o : Option ℕ) → place_in (take 26 alphabets) code ≡ o

@@ -1,6 +1,6 @@
 //! The form of a word in a dictionary (Z-Machine Standards Document 1.1, sections 3.7 and 13.3).
 
-ghost use Rattle.std.specs.Prelude.{◌≡◌, ◌<◌, ◌≤◌, ◌++◌, ℕ, List, length, take, slice_range, MatchOption, ⊤};
+ghost use Rattle.std.specs.Prelude.{◌≡◌, ◌<◌, ◌≤◌, ◌++◌, ℕ, List, length, take, drop, slice_range, MatchOption, ⊤};
 ghost use Rattle.ztext.specs.Alphabets as spec;
 ghost use Rattle.ztext.specs.TextParts.{AreSmall, IsFilledKey};
 ghost use Rattle.ztext.specs.Words as words;
@@ -36,26 +36,30 @@ fn place_in(letters: &[u8], c: u8) -> Option<usize>
     letters.iter().position(|letter| *letter == c)
 }
 
-/// How a character is spelled that neither of the first two alphabets has: a new line, a letter of
-/// the third, or an escape.
-fn spelling_in_third(alphabets: &[u8; 78], c: u8) -> ZCharacters
-    ensures { take result.length result.characters ≡ texts.spelled_in_third alphabets.now c }
+/// How a character is spelled: in the first alphabet that has it, or else as an escape.
+fn spelling(alphabets: &[u8; 78], c: u8) -> ZCharacters
+    ensures { take result.length result.characters ≡ texts.spelling_by alphabets.now c }
 {
-    if c == b'\r' {
+    if c == b' ' {
         return ZCharacters {
-            characters: [5, 7, 5, 5],
-            length: 2,
+            characters: [0, 5, 5, 5],
+            length: 1,
         };
     }
-    match place_in(&alphabets[THIRD..], c) {
+    spelling_in_first(alphabets, c)
+}
+
+/// How a character is spelled that is no space.
+fn spelling_in_first(alphabets: &[u8; 78], c: u8) -> ZCharacters
+    ensures { take result.length result.characters
+        ≡ texts.spelled_in_first alphabets.now (spec.place_in (take 26 alphabets.now) c) c }
+{
+    match place_in(&alphabets[..LETTERS], c) {
         Some(place) => ZCharacters {
-            characters: [5, place as u8 + 8, 5, 5],
-            length: 2,
+            characters: [place as u8 + 6, 5, 5, 5],
+            length: 1,
         },
-        None => ZCharacters {
-            characters: [5, 6, c / 32, c % 32],
-            length: 4,
-        },
+        None => spelling_in_second(alphabets, c),
     }
 }
 
@@ -73,22 +77,35 @@ fn spelling_in_second(alphabets: &[u8; 78], c: u8) -> ZCharacters
     }
 }
 
-/// How a character is spelled: in the first alphabet that has it, or else as an escape.
-fn spelling(alphabets: &[u8; 78], c: u8) -> ZCharacters
-    ensures { take result.length result.characters ≡ texts.spelling_by alphabets.now c }
+/// How a character is spelled that neither of the first two alphabets has: a new line, a letter of
+/// the third, or an escape.
+fn spelling_in_third(alphabets: &[u8; 78], c: u8) -> ZCharacters
+    ensures { take result.length result.characters ≡ texts.spelled_in_third alphabets.now c }
 {
-    if c == b' ' {
+    if c == b'\r' {
         return ZCharacters {
-            characters: [0, 5, 5, 5],
-            length: 1,
+            characters: [5, 7, 5, 5],
+            length: 2,
         };
     }
-    match place_in(&alphabets[..LETTERS], c) {
+    sign_spelling(alphabets, c)
+}
+
+/// How a character is spelled that is no space and no new line, and in neither of the first two
+/// alphabets.
+fn sign_spelling(alphabets: &[u8; 78], c: u8) -> ZCharacters
+    ensures { take result.length result.characters
+        ≡ spec.spelling_in_punctuation (spec.place_in (drop 54 alphabets.now) c) c }
+{
+    match place_in(&alphabets[THIRD..], c) {
         Some(place) => ZCharacters {
-            characters: [place as u8 + 6, 5, 5, 5],
-            length: 1,
+            characters: [5, place as u8 + 8, 5, 5],
+            length: 2,
         },
-        None => spelling_in_second(alphabets, c),
+        None => ZCharacters {
+            characters: [5, 6, c / 32, c % 32],
+            length: 4,
+        },
     }
 }
 

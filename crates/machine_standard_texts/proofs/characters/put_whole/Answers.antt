@@ -1,5 +1,5 @@
-use Rattle.std.proofs.Common.{[], arith, ap, drop, sym, subst}
-use Rattle.machine_standard_texts.proofs.Printed.{whole_put, whole_full, no_memory, extends_by, extends_still}
+use Rattle.std.proofs.Common.{arith}
+use Rattle.machine_standard_texts.proofs.Printed.{whole_put, whole_full, extends_by}
 use Rattle.machine_standard_texts.proofs.characters.put_whole.Goals as goal
 
 pub returns-then-room-bytes-clause-prints : goal.returns-then-room-bytes-clause-prints

@@ -12,13 +12,13 @@ returns-then-not-is_refused-clause-told c = by_default _ c.args.loaded.now.own_a
     (sym c.has_own_alphabets.ensures ∙ c.if-has_own_alphabets.false)
     (kept c.print_character-done.result _ _ (sym c.is_refused.ensures ∙ c.if-not-is_refused.true) c.print_character-done.ensures.told)
 
-pub print_any_character-2-requires-clause-sound : goal.print_any_character-2-requires-clause-sound
-print_any_character-2-requires-clause-sound c =
+pub print_any_character-requires-2-clause-sound : goal.print_any_character-requires-2-clause-sound
+print_any_character-requires-2-clause-sound c =
     (refused_on c.print_character-done.result (sym c.is_refused.ensures ∙ c.if-not-is_refused.false)
     c.print_character-done.ensures.told).sound
 
-pub print_any_character-2-requires-clause-text : goal.print_any_character-2-requires-clause-text
-print_any_character-2-requires-clause-text c = begun_after c.requires.text c.print_character-done.ensures.text
+pub print_any_character-requires-2-clause-text : goal.print_any_character-requires-2-clause-text
+print_any_character-requires-2-clause-text c = begun_after c.requires.text c.print_character-done.ensures.text
 
 pub returns-clause-told : goal.returns-clause-told
 returns-clause-told c = by_default _ c.args.loaded.now.own_alphabets _ _

@@ -13,12 +13,12 @@ returns-then-not-is_refused-clause-told c = by_default _ c.args.loaded.now.own_a
     (sym c.has_own_alphabets.ensures ∙ c.if-has_own_alphabets.false)
     (kept c.print_object-done.result _ _ (sym c.is_refused.ensures ∙ c.if-not-is_refused.true) c.print_object-done.ensures.told)
 
-pub print_any_object-2-requires-clause-store : goal.print_any_object-2-requires-clause-store
-print_any_object-2-requires-clause-store c = store_after c.requires.store
+pub print_any_object-requires-2-clause-store : goal.print_any_object-requires-2-clause-store
+print_any_object-requires-2-clause-store c = store_after c.requires.store
     (refused_on c.print_object-done.result (sym c.is_refused.ensures ∙ c.if-not-is_refused.false) c.print_object-done.ensures.told)
 
-pub print_any_object-2-requires-clause-text : goal.print_any_object-2-requires-clause-text
-print_any_object-2-requires-clause-text c = begun_after c.requires.text c.print_object-done.ensures.text
+pub print_any_object-requires-2-clause-text : goal.print_any_object-requires-2-clause-text
+print_any_object-requires-2-clause-text c = begun_after c.requires.text c.print_object-done.ensures.text
 
 pub returns-clause-told : goal.returns-clause-told
 returns-clause-told c = by_default _ c.args.loaded.now.own_alphabets _ _

@@ -1,4 +1,4 @@
-use Rattle.std.proofs.Common.{◌++◌, List, ℕ, Option, None, drop, subst}
+use Rattle.std.proofs.Common.{◌++◌, Option, drop, subst}
 use Rattle.std.proofs.lemmas.Result.{err_from_is_err_and}
 use Rattle.ztext.specs.TextParts.{words_of}
 use Rattle.machine_standard_texts.specs.declared.characters.Halt.{Halt}

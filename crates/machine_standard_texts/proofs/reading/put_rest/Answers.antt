@@ -1,10 +1,10 @@
-use Rattle.std.proofs.Common.{◌∙◌, ◌++◌, ◌*◌, [], List, ℕ, Some, ap, sym, arith}
+use Rattle.std.proofs.Common.{◌∙◌, ◌++◌, ◌*◌, [], ap, sym}
 use Rattle.std.proofs.lemmas.Result.{err_from_is_err_and}
 use Rattle.ztext.specs.TextParts.{words_of}
 use Rattle.zcore_standard.specs.Texts.{abbreviation_codes}
 use Rattle.machine_standard_texts.specs.Pieces.{behind}
 use Rattle.machine_standard_texts.specs.Read.{rest_of}
-use Rattle.machine_standard_texts.proofs.Read.{behind_nothing, rest_on, rest_fails, rest_done, numbered, left_places, left_less}
+use Rattle.machine_standard_texts.proofs.Read.{behind_nothing, rest_on, rest_fails, numbered, left_places, left_less}
 use Rattle.machine_standard_texts.proofs.Printed.{begun_by, extends_after, extends_still, on_none, on_then}
 use Rattle.machine_standard_texts.proofs.reading.put_rest.Goals as goal
 
