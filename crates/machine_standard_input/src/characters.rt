@@ -69,7 +69,7 @@ fn is_among(characters: &[u16], character: u32) -> bool
 
 /// The ZSCII code of a Unicode character, where these are the characters of the codes from 155 on.
 /// One that has none is a question mark.
-pub fn zscii_of(extra: &[u16], character: u32) -> u8
+pub(crate) fn zscii_of(extra: &[u16], character: u32) -> u8
     ensures { result ≡ zscii_of extra.now character }
 {
     if character == b'\n' as u32 {

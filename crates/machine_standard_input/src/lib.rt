@@ -6,5 +6,4 @@ mod characters;
 mod small;
 mod typed;
 
-pub use characters::zscii_of;
 pub use typed::{can_be_typed, first_code, put_small_letters};
