@@ -3,6 +3,16 @@ use Rattle.zcore.specs.declared.place.Place.TheVariants as places
 use Rattle.session.proofs.Games.{game_taken, typable_on}
 use Rattle.session.proofs.session.Session.reply.Goals as goal
 
+pub returns-then-not-can_take : goal.returns-then-not-can_take
+returns-then-not-can_take c = (
+  (refl, tt),
+  record {
+    rests = tt;
+    says = λ game s h. typable_on game s c.args.self.now c.args.line.now h
+        (sym c.can_take.ensures ∙ c.if-not-can_take.true);
+  },
+)
+
 pub returns-in-Ok : goal.returns-in-Ok
 returns-in-Ok c =
     let now = c.args.self.now in
