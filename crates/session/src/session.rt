@@ -11,8 +11,7 @@ ghost use Rattle.session.specs.Session.{largest_record};
 ghost use Rattle.session.specs.Stepped.{latest_text, latest_size};
 ghost use Rattle.session.specs.Stepped.{stepped_back, bounded, without_oldest};
 ghost use Rattle.session.specs.Turned.{Turned};
-ghost use Rattle.session.specs.Modes.{is_typable_with};
-ghost use Rattle.session.specs.Game.{InEach, bytes_of, game_of, place_on, text_on};
+ghost use Rattle.session.specs.Game.{InEach, bytes_of, game_of, is_typable_on, place_on, text_on};
 ghost use Rattle.session.specs.declared.mode.Mode.TheVariants.{Profile};
 ghost use Rattle.session.specs.Stepped.{IsSize, Moves, Redone};
 ghost use Rattle.session.specs.Replies.{After, OpensSession, RepliesWith};
@@ -263,7 +262,7 @@ impl Session {
 
     /// Whether the story can be given a line.
     fn can_take(&self, line: &[u8]) -> bool
-        ensures { result ≡ is_typable_with self.now.loaded line.now }
+        ensures { InEach self.now (λ game s. result ≡ is_typable_on game line.now) }
     {
         self.player.can_take(line)
     }
