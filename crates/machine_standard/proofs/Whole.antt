@@ -1,6 +1,6 @@
 -- A whole turn of the Standard's machine.
 use Rattle.std.proofs.Common.{◌≡◌, ◌≢◌, ℕ, zero, suc, ◌≤◌, List, [], ◌++◌, length, take, drop, refl, ap, sym, ◌∙◌}
-use Rattle.std.proofs.Common.{subst, arith, slice_index, Result, Ok, Err, Bool, true, false, cond, None, Some}
+use Rattle.std.proofs.Common.{subst, arith, slice_index, Result, Ok, Err, Bool, true, false, cond, Option, None, Some, is_some}
 use Rattle.std.specs.Prelude.{◌==◌, ◌||◌, if◌then◌else◌, IfOk, OnOk}
 use Rattle.std.proofs.lemmas.List.{drop-append-le, drop_all, take_all}
 use Rattle.journal.specs.Recording.{Recording}

@@ -12,8 +12,8 @@ use Rattle.zcore_standard.specs.Reading.{standard_given}
 use Rattle.machine_frames.specs.Playing.{FollowsBy, IsOpening}
 use Rattle.machine_frames.specs.States.{state_of, pending_of, program_counter_of, beside_of}
 use Rattle.machine_frames.specs.Went.{GoesOn}
-use Rattle.machine_standard_opcodes.specs.Around.{place}
-use Rattle.machine_standard_opcodes.specs.declared.around.Around.{Around}
+use Rattle.machine_standard_windows.specs.Around.{place}
+use Rattle.machine_standard_windows.specs.declared.around.Around.{Around}
 use Rattle.machine_standard_words.specs.Taking.{CanBeGiven}
 
 -- the turn of a store of a story that begins

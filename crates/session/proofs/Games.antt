@@ -3,11 +3,11 @@ use Rattle.std.proofs.Common.{◌≡◌, ℕ, ◌+◌, Bool, true, false, List, 
 use Rattle.std.proofs.Common.{if◌then◌else◌, nat_lt, length}
 use Rattle.zcore.specs.declared.place.Place.TheVariants as places
 use Rattle.zcore.specs.Turn.{StateOfPlay, is_waiting}
-use Rattle.session.specs.Modes.{loaded_in, turn_with, is_typable_with}
+use Rattle.session.specs.Modes.{loaded_in, turn_with}
 use Rattle.session.specs.Standing.{Standing, undo_of, redo_of, taken}
 use Rattle.session.specs.Session.{Session}
 use Rattle.session.specs.Stepped.{stepped_back, stepped_forward, without_oldest, bounded, bounded_by, latest_text}
-use Rattle.session.specs.Game.{Game, bytes_of, play_on, IsSessionOf, text_on, place_on, is_typable_on}
+use Rattle.session.specs.Game.{Game, bytes_of, play_on, IsSessionOf, text_on, place_on}
 use Rattle.session.specs.Turned.{Turned}
 use Rattle.session.proofs.Sessions.{session_undo, session_redo}
 use Rattle.session.proofs.Taking.{session_taken}
@@ -62,8 +62,3 @@ game_taken game line s v mid new h waits t e =
       };
       lent = r.2;
     }
-
--- what its player can be given is what it can be given
-pub typable_on : {b : Bool} (game : Game) (s : Standing) (v : Session) (line : List ℕ) → IsSessionOf game s v
-    → is_typable_with v.loaded line ≡ b → is_typable_on game line ≡ b
-typable_on game s v line h e = ap (λ l. is_typable_with l line) (sym h.loaded) ∙ e

@@ -11,7 +11,7 @@ ghost use Rattle.session.specs.Session.{largest_record};
 ghost use Rattle.session.specs.Stepped.{latest_text, latest_size};
 ghost use Rattle.session.specs.Stepped.{stepped_back, bounded, without_oldest};
 ghost use Rattle.session.specs.Turned.{Turned};
-ghost use Rattle.session.specs.Game.{InEach, bytes_of, game_of, place_on, text_on};
+ghost use Rattle.session.specs.Game.{InEach, bytes_of, game_of, is_typable_on, place_on, text_on};
 ghost use Rattle.session.specs.declared.mode.Mode.TheVariants.{Profile};
 ghost use Rattle.session.specs.Stepped.{IsSize, Moves, Redone};
 ghost use Rattle.session.specs.Replies.{After, OpensSession, RepliesWith};
@@ -245,7 +245,7 @@ impl Session {
         ensures* rests { sem 𝓛 (Rests the_row self.entry (After line.now result self.old)) }
         ensures says { InEach self.old (λ game s. RepliesWith game s line.now result) }
     {
-        if !self.player.can_take(line) {
+        if !self.can_take(line) {
             return Reply::Refused;
         }
         if self.place() != Place::Waiting {
@@ -258,6 +258,13 @@ impl Session {
             }
             Err(NoMemory) => Reply::NoMemory,
         }
+    }
+
+    /// Whether the story can be given a line.
+    fn can_take(&self, line: &[u8]) -> bool
+        ensures { InEach self.now (λ game s. result ≡ is_typable_on game line.now) }
+    {
+        self.player.can_take(line)
     }
 
     /// Plays the turn of a line, which stands behind the present then, even where more turns are

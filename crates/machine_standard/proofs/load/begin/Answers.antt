@@ -4,8 +4,8 @@ use Rattle.zcore_standard.specs.Loading.{IsPlaced, characters_of, own_alphabets_
 use Rattle.machine_standard.proofs.Beginning.{begins_with, loaded_as}
 use Rattle.machine_standard.proofs.load.begin.Goals as goal
 
-pub characters_of-characters-requires-clause-placed : goal.characters_of-characters-requires-clause-placed
-characters_of-characters-requires-clause-placed c = subst IsPlaced (sym c.deref.ensures.value) c.requires.playable.placed
+pub characters_of-requires-clause-placed : goal.characters_of-requires-clause-placed
+characters_of-requires-clause-placed c = subst IsPlaced (sym c.deref.ensures.value) c.requires.playable.placed
 
 pub own_alphabets_of-own-requires-clause-placed : goal.own_alphabets_of-own-requires-clause-placed
 own_alphabets_of-own-requires-clause-placed c = subst IsPlaced (sym c.deref-2.ensures.value) c.requires.playable.placed
