@@ -81,17 +81,22 @@ none_there None e = refl
 none_there (Some x) e = absurd (cc)
 
 -- quick steps, where the story has no alphabets of its own
-pub quickly_ahead : {E : Type 0} {s t : Recording Contents} (r : Result Next E) (loaded : Loaded) (first : Next)
+pub quickly_ahead : {E : Type 0} (s t : Recording Contents) (r : Result Next E) (loaded : Loaded) (first : Next)
     → is_some loaded.own_alphabets ≡ false → IfOk r (λ here. Passed first s here t)
     → IfOk r (λ here. Ahead loaded first s here t)
-quickly_ahead (Ok here) loaded first own passed = record {
-  goes_on = passed.goes_on;
-  reached = λ around text.
-      let reached = passed.reached text in
-      (reached.0, reaches_standard loaded around reached.0 first here _ _ (none_there loaded.own_alphabets own) reached.1);
-  lighter = passed.lighter;
-}
-quickly_ahead (Err e) loaded first own passed = tt
+quickly_ahead s t (Ok here) loaded first own passed =
+    let p : Passed first s here t = passed in
+    record {
+      goes_on = p.goes_on;
+      reached = λ around text.
+          let there = p.reached text in (
+            there.0,
+            reaches_standard loaded around there.0 first here (state_of s.store text) (state_of t.store text)
+                (none_there loaded.own_alphabets own) there.1,
+          );
+      lighter = p.lighter;
+    }
+quickly_ahead s t (Err e) loaded first own passed = tt
 
 -- none
 pub not_ahead : (s : Recording Contents) (loaded : Loaded) (first : Next) → IsSound s.store

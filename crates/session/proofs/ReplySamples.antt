@@ -1,10 +1,15 @@
 -- The lines of an input and the replies to them, computed.
 use Rattle.std.proofs.Common.{◌≡◌, ℕ, true, false, None, Some, List, [], ◌∷◌, ◌++◌, codes, refl, inl, inr}
+use lib.Utf8.{encode}
+use Rattle.std.specs.Prelude.{replicate}
 use Rattle.std.specs.Str.{chars, is_utf8}
+use Rattle.zcore_standard.specs.Loaded.{Loaded}
+use Rattle.zcore_standard.specs.Unicode.{default_characters}
 use Rattle.session.specs.Input.{lines_of, whole_lines}
-use Rattle.session.specs.Game.{Game, text_on, answer, transcript, is_typable_on}
+use Rattle.session.specs.Game.{Game, text_on, answer, transcript}
+use Rattle.session.specs.Modes.{is_typable_with}
 use Rattle.session.specs.declared.mode.Mode.{Mode}
-use Rattle.session.specs.declared.mode.Mode.TheVariants.{Profile, Standard}
+use Rattle.session.specs.declared.mode.Mode.TheVariants.{Profile}
 use Rattle.session.specs.Standing.{Standing}
 use Rattle.session.specs.Ran.{LinesRead}
 use Rattle.session.specs.Transcript.{answer_of, note}
@@ -81,15 +86,27 @@ line_refused : (s : Standing) → answer (in_mode Profile) s (record { line = e_
 unfolding answer_of
 line_refused s = refl
 
--- by the whole Standard a line is UTF-8
-accent_typed : is_typable_on (in_mode (Standard 0)) e_acute ≡ true
-unfolding is_utf8 chars
+-- by the whole Standard a line is UTF-8, of characters that the story has
+
+abbrev loaded : Loaded
+loaded = record {
+  dynamic = [];
+  dice = record { window = 0; random = 0; interval = 0; counter = 0 };
+  is_sum_right = true;
+  characters = default_characters;
+  own_alphabets = None;
+}
+
+accent_typed : is_typable_with (Some loaded) e_acute ≡ true
+unfolding is_utf8 chars encode
 accent_typed = refl
 
-half_refused : (s : Standing) → answer (in_mode (Standard 0)) s (record { line = 0xC3 ∷ []; refused = true })
-    ≡ record { reply = note (codes "[Line refused.]"); standing = s }
-unfolding answer_of is_utf8 chars
-half_refused s = refl
+half_refused : is_typable_with (Some loaded) (0xC3 ∷ []) ≡ false
+unfolding is_utf8 chars
+half_refused = refl
+
+too_long_refused : is_typable_with (Some loaded) (replicate 1001 32) ≡ false
+too_long_refused = refl
 
 command_with_a_space : (s : Standing)
     → (answer (in_mode Profile) s (record { line = codes "/undo\t"; refused = false })).reply ≡ note (codes "[Line refused.]")

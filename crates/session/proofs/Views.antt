@@ -109,10 +109,3 @@ pub view_given_up : (keep : Option ℕ) (fuel : ℕ) (known : Known) (opening : 
     → view_of keep fuel known opening store first turns done given_up ≡ v → given_up ≡ v.given_up
 unfolding view_of
 view_given_up keep fuel known opening store first turns done given_up v is = ap (λ (w : Session). w.given_up) is
-
--- what its machine was loaded with
-pub view_loaded : (keep : Option ℕ) (fuel : ℕ) (known : Known) (opening : List ℕ) (store : Contents) (first : Place)
-    (turns : List Turn) (done : ℕ) (given_up : List ℕ) (v : Session)
-    → view_of keep fuel known opening store first turns done given_up ≡ v → known.loaded ≡ v.loaded
-unfolding view_of
-view_loaded keep fuel known opening store first turns done given_up v is = ap (λ (w : Session). w.loaded) is

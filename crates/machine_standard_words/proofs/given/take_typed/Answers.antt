@@ -4,7 +4,7 @@ use Rattle.machine_standard_words.proofs.Giving.{takes_letters, key_filled, key_
 use Rattle.machine_standard_words.proofs.given.take_typed.Goals as goal
 
 pub returns-then-text-eq0-clause-word : goal.returns-then-text-eq0-clause-word
-returns-then-text-eq0-clause-word c = 
+returns-then-text-eq0-clause-word c =
     key_result c.args.loaded.now.characters c.args.text _ c.args.line.now c.if-text-eq0.true
     (c.key_of_line.ensures ∙ ap (λ x. key_of_line x c.args.line.now) c.characters.ensures)
 

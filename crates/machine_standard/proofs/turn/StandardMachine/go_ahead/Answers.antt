@@ -7,5 +7,5 @@ returns-then-has_own_alphabets-clause-passed c =
     not_ahead c.args.store.now c.args.self.now.loaded c.args.here c.requires.store.sound
 
 pub returns-clause-passed : goal.returns-clause-passed
-returns-clause-passed c = quickly_ahead c.go_quickly.result c.args.self.now.loaded c.args.here
+returns-clause-passed c = quickly_ahead c.args.store.now c.go_quickly.new.store c.go_quickly.result c.args.self.now.loaded c.args.here
     (sym c.has_own_alphabets.ensures ∙ c.if-has_own_alphabets.false) c.go_quickly.ensures.passed

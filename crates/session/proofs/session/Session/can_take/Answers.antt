@@ -1,4 +1,4 @@
-use Rattle.std.proofs.Common.{ap, ◌∙◌}
+use Rattle.std.proofs.Common.{ap, sym, ◌∙◌}
 use Rattle.session.specs.Modes.{is_typable_with}
 use Rattle.session.specs.Players.{known_of}
 use Rattle.session.specs.Written.{text_of}
@@ -10,5 +10,5 @@ returns c = λ game s h.
     let i = c.self.inside in
     c.can_take.ensures
     ∙ ap (λ l. is_typable_with l c.args.line.now)
-    (view_loaded i.keep i.fuel (known_of i.player) i.opening.items i.store.store i.first i.turns.items i.done
-    (text_of i.given_up) c.args.self.now c.self.view_is ∙ h.loaded)
+    (sym (view_loaded i.keep i.fuel (known_of i.player) i.opening.items i.store.store i.first i.turns.items i.done
+    (text_of i.given_up) c.args.self.now c.self.view_is) ∙ h.loaded)
