@@ -5,9 +5,8 @@ use Rattle.std.specs.Io.KnownBytes.{Appends}
 use Rattle.zcore.specs.declared.place.Place.{Place}
 use Rattle.session.specs.Input.{lines_of}
 use Rattle.session.specs.Game.{telling_of, Game, place_on, transcript}
-use Rattle.session.specs.Telling.{Telling}
 use Rattle.session.specs.Standing.{Standing, nothing}
-use Rattle.session.specs.Transcript.{Typed, lines_typed, Answer, answer_of, replies_of}
+use Rattle.session.specs.Transcript.{Telling, Typed, lines_typed, Answer, answer_of, replies_of}
 use Rattle.session.specs.Transcript.{standing_after, transcript_of}
 use Rattle.session.specs.declared.fault.RunFault.{RunFault}
 use Rattle.session.specs.declared.fault.RunFault.TheVariants.{Reading, Writing}

@@ -7,8 +7,7 @@ use Rattle.session.specs.Modes.{loaded_in, bytes_in, play_in, is_typable_with}
 use Rattle.session.specs.Standing.{Standing}
 use Rattle.session.specs.Session.{Session}
 use Rattle.session.specs.Sessions.{IsSession}
-use Rattle.session.specs.Telling.{Telling}
-use Rattle.session.specs.Transcript.{Typed, Answer, answer_of, replies_of, standing_after, transcript_of}
+use Rattle.session.specs.Transcript.{Telling, Typed, Answer, answer_of, replies_of, standing_after, transcript_of}
 
 pub record Game : Type 0 where
   -- which opcodes it may use

@@ -7,7 +7,6 @@ pub mod Modes
 pub mod Loads
 pub mod Players
 pub mod Sessions
-pub mod Telling
 pub mod Transcript
 pub mod Game
 pub mod Stepped

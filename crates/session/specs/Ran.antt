@@ -5,9 +5,8 @@ use Rattle.zcore.specs.declared.place.Place.{Place}
 use Rattle.session.specs.declared.fault.RunFault.{RunFault}
 use Rattle.session.specs.declared.fault.RunFault.TheVariants.{Reading, Writing}
 use Rattle.session.specs.Input.{lines_of, whole_lines}
-use Rattle.session.specs.Telling.{Telling}
 use Rattle.session.specs.Standing.{Standing, nothing}
-use Rattle.session.specs.Transcript.{Typed, lines_typed, Answer, answer_of, standing_after, transcript_of}
+use Rattle.session.specs.Transcript.{Telling, Typed, lines_typed, Answer, answer_of, standing_after, transcript_of}
 use Rattle.session.specs.Wrote.{WroteSome}
 
 -- what a run did to its reader and its writer, where that is known

@@ -1,8 +1,15 @@
 -- The reply to a line, and the transcript of many.
 use Rattle.std.specs.Prelude.{ℕ, Bool, Option, ◌==◌, List, [], ◌∷◌, ◌++◌, length, map, bytes_eq, codes, if◌then◌else◌}
+use Rattle.zcore.specs.declared.place.Place.{Place}
 use Rattle.zcore.specs.Turn.{is_waiting}
-use Rattle.session.specs.Telling.{Telling}
 use Rattle.session.specs.Standing.{Standing, nothing, taken, undo_of, redo_of}
+
+-- What a story does on lines, whatever it is made of: what it prints last, where it is then, and what it can be given.
+pub record Telling : Type 0 where
+  pub text : List (List ℕ) → List ℕ
+  pub place : List (List ℕ) → Place
+  -- which lines it can be given
+  pub takes : List ℕ → Bool
 
 -- a line of input, and its mark: whether it met refused memory
 pub record Typed : Type 0 where
