@@ -3,29 +3,35 @@
 use crate::cursor::Cursor;
 use crate::routine::put_routine;
 use checker::check_placed;
-use map_text::{Row, heading, put_rows};
-use meaning::{Checked, part_places};
+use map_text::{Row, heading, put_rows, word_in};
+use meaning::Checked;
 use std::alloc::{AllocError, Global};
 use syntax::parse_placed;
 use syntax_lexer::{PlacedFault, SourceFault, Token, lex_placed};
 use zcore::Version;
+use zcore::layout::HIGH_MEMORY_WORD;
+
+/// How many bytes the code has that begins a story, with which high memory begins. The routines
+/// follow it.
+const START_LENGTH: usize = 4;
 
 /// The first address at or after another to which a packed address leads.
 fn aligned(version: Version, at: usize) -> usize {
     let scale = version.scale() as usize;
-    (at + scale - 1) / scale * scale
+    at.saturating_add(scale - 1) / scale * scale
 }
 
-/// The rows of all routines of a program, in order of definition.
+/// The rows of all routines of a program, in order of definition, which follow an address.
 fn rows_of<'a>(
     alloc: Global,
     checked: &Checked<'a>,
     tokens: &[Token<'a>],
     version: Version,
+    place: usize,
 ) -> Result<Vec<Row<'a>>, AllocError> {
     let mut rows = Vec::new(alloc);
     let mut cursor = Cursor { tokens, at: 0 };
-    let mut at = part_places(checked).routines;
+    let mut at = place;
     for number in 0..checked.routines() {
         let address = aligned(version, at);
         at = put_routine(alloc, &mut rows, checked, number, address, &mut cursor)?;
@@ -60,7 +66,8 @@ fn text_of(
     let tokens = lex_placed(alloc, source)?;
     let program = parse_placed(alloc, &tokens)?;
     let checked = check_placed(alloc, &program)?;
-    let rows = rows_of(alloc, &checked, &tokens, version)?;
+    let place = word_in(story, HIGH_MEMORY_WORD) as usize + START_LENGTH;
+    let rows = rows_of(alloc, &checked, &tokens, version, place)?;
     let mut text = heading(alloc, story)?;
     put_rows(&mut text, &rows)?;
     Ok(text)

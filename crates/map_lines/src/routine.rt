@@ -14,6 +14,7 @@ use map_text::Row;
 use meaning::{Checked, CheckedRoutine};
 use std::alloc::{AllocError, Global};
 use syntax_lexer::Sign;
+use syntax_trees::Name;
 
 /// The marks of a routine, whose name is the next token: of its statements, and of its end.
 fn marks_of<'a>(
@@ -34,7 +35,28 @@ fn marks_of<'a>(
     Ok(passing.marks)
 }
 
-/// Adds the rows of the routine of a number, which stands at an address, and answers where it ends.
+/// Where the rows of a routine begin: its name, and its first byte.
+#[derive(Clone, Copy)]
+struct Beginning<'a> {
+    name: Name<'a>,
+    address: usize,
+}
+
+/// A row of a routine: so many bytes behind its first one, of a line.
+fn row_of(beginning: Beginning<'_>, behind: usize, line: usize) -> Row<'_> {
+    let address = beginning.address.saturating_add(behind);
+    Row {
+        address: u32::try_from(address).unwrap_or(u32::MAX),
+        routine: beginning.name.text,
+        line,
+    }
+}
+
+/// Adds the rows of the routine of a number, which is at an address, and answers where it ends.
+///
+/// # Errors
+///
+/// `AllocError` where memory is refused.
 pub fn put_routine<'a>(
     alloc: Global,
     rows: &mut Vec<Row<'a>>,
@@ -47,6 +69,7 @@ pub fn put_routine<'a>(
 {
     let routine = checked.routine(number);
     let name = routine.name;
+    let beginning = Beginning { name, address };
     cursor.pass_to(name.position.offset);
     let marks = marks_of(alloc, routine, cursor)?;
     let sizes = Sizes {
@@ -56,18 +79,11 @@ pub fn put_routine<'a>(
     };
     let items = routine_items(alloc, routine)?;
     let left = left_of_items(alloc, &sizes, &items)?;
-    let code = address + 1;
-    rows.push(Row {
-        address: address as u32,
-        routine: name.text,
-        line: name.position.line,
-    })?;
+    rows.push(row_of(beginning, 0, name.position.line))?;
     for mark in &marks {
-        rows.push(Row {
-            address: (code + place(&left, mark.item)) as u32,
-            routine: name.text,
-            line: mark.line,
-        })?;
+        let behind = place(&left, mark.item).saturating_add(1);
+        rows.push(row_of(beginning, behind, mark.line))?;
     }
-    Ok(code + place(&left, items.len()))
+    let length = place(&left, items.len()).saturating_add(1);
+    Ok(address.saturating_add(length))
 }

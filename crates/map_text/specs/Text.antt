@@ -1,7 +1,7 @@
 -- The text of a map: two lines that say of which story it is, and a line for each row.
-use Rattle.std.specs.Prelude.{◌≡◌, ◌+◌, ◌/◌, ◌%◌, ◌^◌, ◌<◌, ◌≤◌, ℕ, nat_lt, if◌then◌else◌, List, [], ◌∷◌, ◌++◌, map, ⊤}
-use Rattle.std.specs.Prelude.{Result, Ok, Err, Option, Some, None, ⊥, Bool, true}
-use Rattle.std.specs.List.{All, flat_map}
+use Rattle.std.specs.Prelude.{◌≡◌, ◌+◌, ◌*◌, ◌/◌, ◌%◌, ◌^◌, ◌<◌, ◌≤◌, ℕ, List, [], ◌∷◌, ◌++◌, map, ⊤}
+use Rattle.std.specs.Prelude.{Result, Ok, Err, Option, Some, None}
+use Rattle.std.specs.List.{All}
 use Rattle.std.specs.Global.{Vec}
 use Rattle.std.specs.Fmt.{decimal}
 use Rattle.map_text.specs.declared.row.Row.{Row}
@@ -23,9 +23,9 @@ space = 32
 abbrev pub line_feed : ℕ
 line_feed = 10
 
--- the byte of a hexadecimal digit, 0 to 9 or A to F
+-- the byte of a hexadecimal digit, 0 to 9 or A to F: seven bytes are between 9 and A
 abbrev pub digit : ℕ → ℕ
-digit n = if nat_lt n 10 then 48 + n else 55 + n
+digit n = 48 + n + 7 * (n / 10)
 
 -- an address has five digits
 abbrev pub address_text : ℕ → List ℕ
@@ -46,6 +46,9 @@ pub record IsRow (r : RowOf) : Type 0 where
   pub named : All (λ b. space < b) r.routine
   pub word : r.line < 2 ^ 64
 
+abbrev pub AreRows : List RowOf → Type 0
+AreRows rs = All IsRow rs
+
 -- the addresses ascend, from one on
 abbrev pub Ascend : ℕ → List RowOf → Type 0
 Ascend least [] = ⊤
@@ -60,15 +63,15 @@ abbrev pub GivesRows : Result (Vec Row) MapFault → List RowOf → Type 0
 GivesRows (Ok found) rs = map row_of found.items ≡ rs
 GivesRows (Err fault) rs = fault ≡ Memory
 
--- what is left of rows to which this row is added, if there was memory
-abbrev pub AddsRow : {E : Type 0} → Result Bool E → List Row → List Row → RowOf → Type 0
-AddsRow (Ok is_row) old new r = (is_row ≡ true) × (map row_of new ≡ map row_of old ++ r ∷ [])
+-- what becomes of rows to which a line adds this row, if there is memory
+abbrev pub AddsRow : {E : Type 0} → Result (Option ℕ) E → List RowOf → List RowOf → RowOf → Type 0
+AddsRow (Ok None) old new r = ⊥
+AddsRow (Ok (Some address)) old new r = (address ≡ r.address) × (new ≡ old ++ r ∷ [])
 AddsRow (Err e) old new r = ⊤
 
--- the address of the last of rows; 0 if there is none
-abbrev pub last_of : List Row → ℕ
-last_of rows = go 0 rows
-  where
-    go : ℕ → List Row → ℕ
-    go least [] = least
-    go least (r ∷ rs) = go r.address rs
+-- and to which it adds any row: the address is not below this
+abbrev pub AddsAbove : {E : Type 0} → ℕ → Result (Option ℕ) E → List Row → List Row → Type 0
+AddsAbove least (Ok None) old new = new ≡ old
+AddsAbove least (Ok (Some address)) old new =
+    (r : Row) × (new ≡ old ++ r ∷ []) × (least ≤ address) × (address ≡ r.address)
+AddsAbove least (Err e) old new = ⊤

@@ -23,12 +23,17 @@ fn hash_of(bytes: &[u8]) -> u64 {
     hash
 }
 
-/// A byte of a story; 0 where it has none.
+/// A byte of a story; 0 if it has none there.
 fn byte_at(story: &[u8], at: usize) -> u8 {
     match story.get(at) {
         Some(byte) => *byte,
         None => 0,
     }
+}
+
+/// A word of a story, its high byte first. Bytes that it has not are 0.
+pub fn word_in(story: &[u8], at: usize) -> u16 {
+    u16::from(byte_at(story, at)) * 256 + u16::from(byte_at(story, at.saturating_add(1)))
 }
 
 /// The two lines with which the map of a story begins: what it is, and of which story, by the sum in
@@ -38,9 +43,8 @@ fn byte_at(story: &[u8], at: usize) -> u8 {
 ///
 /// `AllocError` where memory is refused.
 pub fn heading(alloc: Global, story: &[u8]) -> Result<Vec<u8>, AllocError> {
-    let high = byte_at(story, SUM_PLACE);
-    let low = byte_at(story, SUM_PLACE + 1);
+    let sum = word_in(story, SUM_PLACE);
     let hash = hash_of(story);
-    let lines = format!(in alloc; "{FIRST_LINE}story {high:02X}{low:02X} {hash:016X}\n")?;
+    let lines = format!(in alloc; "{FIRST_LINE}story {sum:04X} {hash:016X}\n")?;
     Ok(lines.into_bytes())
 }

@@ -1,5 +1,8 @@
 //! Why a map is refused.
 
+ghost use Rattle.std.specs.Prelude.{◌≡◌};
+ghost use Rattle.map_text.specs.declared.fault.MapFault.TheVariants.{Memory};
+
 use std::alloc::{AllocError, AllocFailed};
 use thiserror::Error;
 
@@ -24,12 +27,16 @@ pub enum MapFault {
 }
 
 impl From<AllocError> for MapFault {
+    ghost from_gives = { λ _ e. e ≡ Memory };
+
     fn from(_: AllocError) -> MapFault {
         MapFault::Memory
     }
 }
 
 impl<T: Drop> From<AllocFailed<T>> for MapFault {
+    ghost from_gives = { λ _ e. e ≡ Memory };
+
     fn from(_: AllocFailed<T>) -> MapFault {
         MapFault::Memory
     }

@@ -1,10 +1,10 @@
 //! A map that is read.
 
-ghost use Rattle.std.specs.Prelude.{◌≡◌, ◌<◌, ◌∷◌, ◌++◌, ℕ, List, Some, map, IfOk, IfSome, IsSomeAnd};
+ghost use Rattle.std.specs.Prelude.{◌≡◌, ◌<◌, ◌≤◌, ◌^◌, ◌∷◌, ◌++◌, ℕ, List, Some, map, IfOk, IfSome, IsSomeAnd, length};
 ghost use Rattle.std.specs.List.{All};
 ghost use Rattle.std.specs.Fmt.{decimal};
 ghost use Rattle.map_text.specs.Text.{address_text, digit, row_of, row_text, rows_text, space};
-ghost use Rattle.map_text.specs.Text.{Ascend, AddsRow, last_of, GivesRow, GivesRows, IsRow, RowOf};
+ghost use Rattle.map_text.specs.Text.{Ascend, AddsAbove, AddsRow, AreRows, GivesRow, GivesRows, IsRow, RowOf};
 
 use crate::beginning::FIRST_LINE;
 use crate::fault::MapFault;
@@ -14,32 +14,39 @@ use std::alloc::{AllocError, Global};
 /// How many digits an address has.
 const ADDRESS_LENGTH: usize = 5;
 
+/// What a byte counts that is no digit.
+const NO_DIGIT: u32 = 16;
+
 /// How many lines are before the first row.
 const HEADING_LINES: usize = 2;
 
 /// The bytes before the first that is a divider, and those after it; `None` where no byte is one.
 fn cut(bytes: &[u8], divider: u8) -> Option<(&[u8], &[u8])>
-    ensures { (front back : List ℕ) → bytes.now ≡ front ++ divider ∷ back
+    ensures parts { (front back : List ℕ) → bytes.now ≡ front ++ divider ∷ back
         → All (λ b. divider < b) front → IsSomeAnd result
         (λ parts. (parts.0.now ≡ front) × (parts.1.now ≡ back)) }
+    ensures shorter { IfSome result (λ parts. length parts.1.now < length bytes.now) }
 {
     for at in 0..bytes.len() {
-        if bytes[at] == divider {
-            return Some((&bytes[..at], &bytes[at + 1..]));
+        let byte = bytes[at];
+        if byte == divider {
+            let front = &bytes[..at];
+            let back = &bytes[at + 1..];
+            return Some((front, back));
         }
     }
     None
 }
 
-/// What a hexadecimal digit counts.
-fn digit_value(byte: u8) -> Option<u32>
-    ensures value { (n : ℕ) → n < 16 → byte ≡ digit n → result ≡ Some n }
-    ensures small { IfSome result (λ n. n < 16) }
+/// What a hexadecimal digit counts; 16 for a byte that is none.
+fn digit_value(byte: u8) -> u32
+    ensures value { (n : ℕ) → n < 16 → byte ≡ digit n → result ≡ n }
+    ensures small { result ≤ 16 }
 {
     match byte {
-        b'0'..=b'9' => Some((byte - b'0') as u32),
-        b'A'..=b'F' => Some((byte - b'A') as u32 + 10),
-        _ => None,
+        b'0'..=b'9' => (byte - b'0') as u32,
+        b'A'..=b'F' => (byte - b'A') as u32 + 10,
+        _ => NO_DIGIT,
     }
 }
 
@@ -51,11 +58,19 @@ fn address_in(digits: &[u8]) -> Option<u32>
     if digits.len() != ADDRESS_LENGTH {
         return None;
     }
-    let first = digit_value(digits[0])?;
-    let second = digit_value(digits[1])?;
-    let third = digit_value(digits[2])?;
-    let fourth = digit_value(digits[3])?;
-    let fifth = digit_value(digits[4])?;
+    let first = digit_value(digits[0]);
+    let second = digit_value(digits[1]);
+    let third = digit_value(digits[2]);
+    let fourth = digit_value(digits[3]);
+    let fifth = digit_value(digits[4]);
+    if first == NO_DIGIT
+        || second == NO_DIGIT
+        || third == NO_DIGIT
+        || fourth == NO_DIGIT
+        || fifth == NO_DIGIT
+    {
+        return None;
+    }
     Some(first * 65_536 + second * 4_096 + third * 256 + fourth * 16 + fifth)
 }
 
@@ -87,39 +102,41 @@ fn row_in(line: &[u8]) -> Option<Row<'_>>
     })
 }
 
-/// Adds the row that a line is. Whether it is one, and its address is not below this.
-fn add_row<'a>(rows: &mut Vec<Row<'a>>, line: &'a [u8], least: u32) -> Result<bool, AllocError>
-    ensures { (r : RowOf) → IsRow r → line.now ≡ row_text r → least ≤ r.address
-        → AddsRow result rows.old.items rows.new.items r }
+/// Adds the row that a line is, if it is one and its address is not below `least`. That address.
+fn add_row<'a>(
+    rows: &mut Vec<Row<'a>>,
+    line: &'a [u8],
+    least: u32,
+) -> Result<Option<u32>, AllocError>
+    ensures row { (r : RowOf) → IsRow r → line.now ≡ row_text r → least ≤ r.address
+        → AddsRow result (map row_of rows.old.items) (map row_of rows.new.items) r }
+    ensures above { AddsAbove least result rows.old.items rows.new.items }
 {
     match row_in(line) {
         Some(row) if row.address >= least => {
             rows.push(row)?;
-            Ok(true)
+            Ok(Some(row.address))
         }
-        _ => Ok(false),
-    }
-}
-
-/// The address of the last of rows; 0 if there is none.
-fn last_address(rows: &[Row<'_>]) -> u32
-    ensures { result ≡ last_of rows.now }
-{
-    match rows.last() {
-        Some(row) => row.address,
-        None => 0,
+        _ => Ok(None),
     }
 }
 
 /// The rows that lines are, of which the first has this number.
-fn rows_in(alloc: Global, lines: &[u8], first: usize) -> Result<Vec<Row<'_>>, MapFault>
-    ensures rows { (rs : List RowOf) → All IsRow rs → Ascend 0 rs → lines.now ≡ rows_text rs
+///
+/// # Errors
+///
+/// - `Line`: the number of the first line that is no row, or whose address is below that of the row
+///   above it.
+/// - `Memory`: a growth of memory was refused.
+pub fn read_rows(alloc: Global, lines: &[u8], first: usize) -> Result<Vec<Row<'_>>, MapFault>
+    ensures rows { (rs : List RowOf) → AreRows rs → Ascend 0 rs → lines.now ≡ rows_text rs
         → GivesRows result rs }
     ensures ascend { IfOk result (λ v. Ascend 0 (map row_of v.items)) }
 {
     let mut rows: Vec<Row<'_>> = Vec::new(alloc);
     let mut rest = lines;
-    for _ in 0..lines.len() {
+    let mut least = 0;
+    for _done in 0..lines.len() {
         if rest.is_empty() {
             break;
         }
@@ -127,9 +144,9 @@ fn rows_in(alloc: Global, lines: &[u8], first: usize) -> Result<Vec<Row<'_>>, Ma
         let Some((line, after)) = cut(rest, b'\n') else {
             return Err(MapFault::Line(number));
         };
-        let least = last_address(&rows);
-        if !add_row(&mut rows, line, least)? {
-            return Err(MapFault::Line(number));
+        match add_row(&mut rows, line, least)? {
+            Some(address) => least = address,
+            None => return Err(MapFault::Line(number)),
         }
         rest = after;
     }
@@ -146,12 +163,10 @@ fn rows_in(alloc: Global, lines: &[u8], first: usize) -> Result<Vec<Row<'_>>, Ma
 ///   above it.
 /// - `Memory`: a growth of memory was refused.
 pub fn read_map<'a>(alloc: Global, text: &'a [u8], heading: &[u8]) -> Result<Vec<Row<'a>>, MapFault>
-    ensures rows { (rs : List RowOf) → All IsRow rs → Ascend 0 rs
-        → text.now ≡ heading.now ++ rows_text rs → GivesRows result rs }
-    ensures ascend { IfOk result (λ v. Ascend 0 (map row_of v.items)) }
+    ensures { IfOk result (λ v. Ascend 0 (map row_of v.items)) }
 {
     if let Some(lines) = text.strip_prefix(heading) {
-        return rows_in(alloc, lines, HEADING_LINES + 1);
+        return read_rows(alloc, lines, HEADING_LINES + 1);
     }
     if text.starts_with(FIRST_LINE.as_bytes()) {
         Err(MapFault::OtherStory)

@@ -1,10 +1,22 @@
 //! The row of an address.
 
-ghost use Rattle.std.specs.Prelude.{map};
+ghost use Rattle.std.specs.Prelude.{◌≤◌, length, map};
 ghost use Rattle.map_text.specs.Text.{Ascend, row_of};
-ghost use Rattle.map_text.specs.Found.{IsRowAt};
+ghost use Rattle.map_text.specs.Found.{IsLast, IsRowAt};
 
 use crate::row::Row;
+
+/// The last of the first rows, so many of them; `None` of none.
+fn row_before<'a>(rows: &[Row<'a>], count: usize) -> Option<Row<'a>>
+    requires { count ≤ length rows.now }
+    ensures { IsLast rows.now count result }
+{
+    if count == 0 {
+        None
+    } else {
+        Some(rows[count - 1])
+    }
+}
 
 /// The last of rows, whose addresses ascend, at or before an address; `None` where the first row is
 /// after it, or there is none.
@@ -12,12 +24,11 @@ pub fn row_at<'a>(rows: &[Row<'a>], address: u32) -> Option<Row<'a>>
     requires { Ascend 0 (map row_of rows.now) }
     ensures { IsRowAt rows.now address result }
 {
-    let mut found = None;
-    for row in rows {
+    for number in 0..rows.len() {
+        let row = &rows[number];
         if row.address > address {
-            return found;
+            return row_before(rows, number);
         }
-        found = Some(*row);
     }
-    found
+    row_before(rows, rows.len())
 }

@@ -1,24 +1,26 @@
 //! Rows as text.
 
-ghost use Rattle.std.specs.Prelude.{◌≡◌, ◌∷◌, ◌++◌, [], map, OnOk};
+ghost use Rattle.std.specs.Prelude.{◌≡◌, ◌%◌, ◌∷◌, ◌++◌, [], map, OnOk};
 ghost use Rattle.map_text.specs.Text as spec;
 
 use crate::row::Row;
 use std::alloc::AllocError;
 
-/// The digits of hexadecimal numbers.
-const DIGITS: [u8; 16] = *b"0123456789ABCDEF";
-
 /// The last hexadecimal digit of a number.
 fn digit(number: u32) -> u8
     ensures { result ≡ spec.digit (number % 16) }
 {
-    DIGITS[(number % 16) as usize]
+    let value = (number % 16) as u8;
+    if value < 10 {
+        b'0' + value
+    } else {
+        b'A' - 10 + value
+    }
 }
 
 /// The last five hexadecimal digits of an address.
 fn address_digits(address: u32) -> [u8; 5]
-    ensures { result.items ≡ spec.address_text address }
+    ensures { result ≡ spec.address_text address }
 {
     [
         digit(address / 65_536),
