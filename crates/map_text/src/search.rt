@@ -21,8 +21,7 @@ fn row_before<'a>(rows: &[Row<'a>], count: usize) -> Option<Row<'a>>
 /// The last of rows, whose addresses ascend, at or before an address; `None` where the first row is
 /// after it, or there is none.
 pub fn row_at<'a>(rows: &[Row<'a>], address: u32) -> Option<Row<'a>>
-    requires { Ascend 0 (map row_of rows.now) }
-    ensures { IsRowAt rows.now address result }
+    ensures { Ascend 0 (map row_of rows.now) → IsRowAt rows.now address result }
 {
     for number in 0..rows.len() {
         let row = &rows[number];
