@@ -70,12 +70,13 @@ fn large_argument<'a>(alloc: Global) -> Arg<'a> {
 
 /// The name of the map to write. It needs a story file that is written.
 fn map_argument<'a>(alloc: Global) -> Result<Arg<'a>, AllocError> {
-    Arg::new(alloc, "map")
+    let map = Arg::new(alloc, "map")
         .long("map")
         .value_name("FILE")
         .help("Write to FILE which addresses of STORY are of which routine and line")
         .action(ArgAction::Set)
-        .requires_arg("story")
+        .requires_arg("story")?;
+    map.conflicts_with("sizes")
 }
 
 /// The source file's name.

@@ -14,15 +14,14 @@ all_behind (r ∷ rs) least address up lt =
     All-cons (IsBehind address) r rs (omega (arith, up.0, lt))
     (all_behind rs r.address address up.1 (omega (arith, up.0, lt)))
 
-pub rest_behind : (rows : List Row) (least number address : ℕ) (r : Row) → Ascend least (map row_of rows)
-    → number < length rows → r ≡ slice_index_or rows number r → address < r.address
+pub rest_behind : (rows : List Row) (least number address : ℕ) (d : Row) → Ascend least (map row_of rows)
+    → number < length rows → address < (slice_index_or rows number d).address
     → All (IsBehind address) (drop number rows)
-rest_behind [] least number address r up lt is more = absurd (omega (arith, lt))
-rest_behind (x ∷ xs) least zero address r up lt is more =
-    All-cons (IsBehind address) x xs (omega (arith, more, ap (λ (y : Row). y.address) is))
-    (all_behind xs x.address address up.1 (omega (arith, more, ap (λ (y : Row). y.address) is)))
-rest_behind (x ∷ xs) least (suc k) address r up lt is more =
-    rest_behind xs x.address k address r up.1 (omega (arith, lt)) is more
+rest_behind [] least number address d up lt more = absurd (omega (arith, lt))
+rest_behind (x ∷ xs) least zero address d up lt more =
+    All-cons (IsBehind address) x xs more (all_behind xs x.address address up.1 more)
+rest_behind (x ∷ xs) least (suc k) address d up lt more =
+    rest_behind xs x.address k address d up.1 (omega (arith, lt)) more
 
 -- one row more, whose address is not below that of the last
 pub one_more : (least : ℕ) (rs : List RowOf) (r q : RowOf) → Ascend least (rs ++ r ∷ []) → r.address ≤ q.address

@@ -1,6 +1,7 @@
 -- Where bytes are divided.
-use Rattle.std.proofs.Common.{◌≡◌, ◌<◌, ◌+◌, ℕ, zero, suc, List, [], ◌∷◌, ◌++◌, length, take, drop, refl, sym, ap, ◌∙◌, subst, arith}
+use Rattle.std.proofs.Common.{◌≡◌, ◌<◌, ◌+◌, ◌-◌, ℕ, zero, suc, List, [], ◌∷◌, ◌++◌, length, take, drop, refl, sym, ap, ◌∙◌, subst, arith}
 use Rattle.std.specs.List.{All, slice_index_or}
+use Rattle.std.proofs.lemmas.List.{length-drop, take_all}
 use Rattle.std.proofs.lemmas.List.Elements.{All-head, All-tail}
 
 -- the first divider is behind the front, all bytes of which are greater
@@ -49,3 +50,7 @@ pub not_none : (d : ℕ) (bytes front back : List ℕ) → bytes ≡ front ++ d 
 not_none d bytes front back e none =
     let R : List ℕ → Type 0 = λ bs. (k : ℕ) → k < length bs → slice_index_or bs k 0 ≡ d → ⊥ in
     some_at d front back (subst R e none)
+
+-- a slice to the end
+pub to_end : (n : ℕ) (xs : List ℕ) → take (length xs - n) (drop n xs) ≡ drop n xs
+to_end n xs = take_all (length xs - n) (drop n xs) (omega (arith, length-drop n xs))

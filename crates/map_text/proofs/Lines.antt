@@ -13,9 +13,16 @@ digit_above n = omega arith
 pub address_above : (a : ℕ) → All (λ b. space < b) (address_text a)
 address_above a =
     let P : ℕ → Type 0 = λ b. space < b in
-    All-cons P _ _ (digit_above (a / 65536)) (All-cons P _ _ (digit_above (a / 4096))
-    (All-cons P _ _ (digit_above (a / 256)) (All-cons P _ _ (digit_above (a / 16))
-    (All-cons P _ _ (digit_above a) (All-nil P)))))
+    let d1 = digit (a / 65536 % 16) in
+    let d2 = digit (a / 4096 % 16) in
+    let d3 = digit (a / 256 % 16) in
+    let d4 = digit (a / 16 % 16) in
+    let d5 = digit (a % 16) in
+    All-cons P d1 (d2 ∷ d3 ∷ d4 ∷ d5 ∷ []) (digit_above (a / 65536))
+    (All-cons P d2 (d3 ∷ d4 ∷ d5 ∷ []) (digit_above (a / 4096))
+    (All-cons P d3 (d4 ∷ d5 ∷ []) (digit_above (a / 256))
+    (All-cons P d4 (d5 ∷ []) (digit_above (a / 16))
+    (All-cons P d5 [] (digit_above a) (All-nil P)))))
 
 -- the digits of a number
 pub decimal_above : (n : ℕ) → n < 2 ^ 64 → All (λ b. line_feed < b) (decimal n)
@@ -32,12 +39,14 @@ pub row_above : (r : RowOf) → IsRow r → All (λ b. line_feed < b) (row_text 
 row_above r ok =
     let P : ℕ → Type 0 = λ b. line_feed < b in
     let S : ℕ → Type 0 = λ b. space < b in
-    All-append P (address_text r.address) _ (All-weaker S P higher (address_text r.address) (address_above r.address))
-    (All-cons P space _ (omega arith)
-    (All-append P r.routine _ (All-weaker S P higher r.routine ok.named)
-    (All-cons P space _ (omega arith) (decimal_above r.line ok.word))))
+    let name = r.routine ++ space ∷ decimal r.line in
+    All-append P (address_text r.address) (space ∷ name)
+    (All-weaker S P higher (address_text r.address) (address_above r.address))
+    (All-cons P space name (omega arith)
+    (All-append P r.routine (space ∷ decimal r.line) (All-weaker S P higher r.routine ok.named)
+    (All-cons P space (decimal r.line) (omega arith) (decimal_above r.line ok.word))))
 
-made : ℕ → List ℕ → ℕ → RowOf
+abbrev pub made : ℕ → List ℕ → ℕ → RowOf
 made a n l = record { address = a; routine = n; line = l }
 
 pub same_row : (r : RowOf) (a : ℕ) (n : List ℕ) (l : ℕ) → a ≡ r.address → n ≡ r.routine → l ≡ r.line

@@ -11,10 +11,10 @@ returns-in_default c = λ n lt e.
 
 pub returns-in-Ok-parse : goal.returns-in-Ok-parse
 returns-in-Ok-parse c = λ n lt e.
-    let same = parse-decimal 64 n _ c.parse.result lt lt (c.in-Ok.ensures.cases.0 ∙ e) c.parse.ensures.value in
+    let same = parse-decimal 64 n _ c.parse.result lt lt (c.in-Ok.ensures.cases.0 ∙ e) c.parse.ensures.value.0 in
     cc (same, c.in-Ok-parse.is)
 
 pub returns-in-Err : goal.returns-in-Err
 returns-in-Err c = λ n lt e.
-    let same = parse-decimal 64 n _ c.parse.result lt lt (c.in-Ok.ensures.cases.0 ∙ e) c.parse.ensures.value in
+    let same = parse-decimal 64 n _ c.parse.result lt lt (c.in-Ok.ensures.cases.0 ∙ e) c.parse.ensures.value.0 in
     absurd (cc (same, c.in-Err.is))

@@ -1,4 +1,5 @@
-use Rattle.std.proofs.Common.{◌≡◌, ◌<◌, ◌≤◌, ℕ, List, Option, Ok, [], ◌∷◌, length, map, subst, ap, ◌∙◌, arith, common_steps}
+use Rattle.std.proofs.Common.{◌≡◌, ◌<◌, ◌≤◌, ℕ, List, Option, Ok, [], ◌∷◌, length, map, subst, ap, ◌∙◌, arith}
+use Rattle.std.proofs.lemmas.Grind.{common_steps}
 use Rattle.std.proofs.lemmas.List.{map-append}
 use Rattle.map_text.specs.Text.{AddsAbove, AddsRow, RowOf, row_of}
 use Rattle.map_text.proofs.Rounds.{ended, goes_on, has_line, has_row}
@@ -16,7 +17,7 @@ returns-in-None-clause-rows c = λ rs are up e.
     let old = map row_of c.loop-done.rows.items in
     let new = map row_of c.add_row.new.rows.items in
     absurd (has_row _ _ _ _ _ _ rs c.loop-done.invariant.1 some are up e c.in-Some.ensures.parts (λ r ok t le.
-    let P : Option ℕ → Type 0 = λ o. AddsRow {_} (Ok o) old new r in
+    let P : Option ℕ → Type 0 = λ o. AddsRow {E = Unit {0}} (Ok o) old new r in
     subst P c.in-None.is (c.in_ok-address.ensures.row r ok t le)))
 
 pub loop-done-preserved : goal.loop-done-preserved
@@ -24,12 +25,12 @@ loop-done-preserved c =
     let some : 0 < length c.loop-done.rest.now = grind (arith, common_steps) in
     let old = c.loop-done.rows.items in
     let new = c.add_row.new.rows.items in
-    let A : Option ℕ → Type 0 = λ o. AddsAbove {_} c.loop-done.least (Ok o) old new in
+    let A : Option ℕ → Type 0 = λ o. AddsAbove {E = Unit {0}} c.loop-done.least (Ok o) old new in
     let above = subst A c.in-Some-2.is c.in_ok-address.ensures.above in (
       omega (arith, c.loop-done.invariant.0, c.in-Some.ensures.shorter),
       goes_on _ _ _ _ _ _ _ _ (row_of above.0) c.loop-done.invariant.1 some c.in-Some.ensures.parts
           (λ r ok t le.
-          let P : Option ℕ → Type 0 = λ o. AddsRow {_} (Ok o) (map row_of old) (map row_of new) r in
+          let P : Option ℕ → Type 0 = λ o. AddsRow {E = Unit {0}} (Ok o) (map row_of old) (map row_of new) r in
           subst P c.in-Some-2.is (c.in_ok-address.ensures.row r ok t le))
           (ap (map row_of) above.1 ∙ map-append row_of old (above.0 ∷ [])) above.2 above.3,
     )
