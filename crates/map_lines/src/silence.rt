@@ -13,6 +13,16 @@ fn is_value_silent(alloc: Global, value: &Value, wanted: Wanted) -> Result<bool,
     Ok(written(&draft) == 0)
 }
 
+/// Whether the value and the cases of a `switch` have no items.
+fn is_choice_silent(
+    alloc: Global,
+    value: &Value,
+    cases: &[(Vec<Span>, Vec<Action<'_>>)],
+) -> Result<bool, AllocError> {
+    let aside = Wanted::Word(Destination::Aside);
+    Ok(is_value_silent(alloc, value, aside)? && cases.is_empty())
+}
+
 /// Whether statements have no items.
 #[cycle(silence)]
 pub fn are_silent(alloc: Global, statements: &[Action<'_>]) -> Result<bool, AllocError> {
@@ -39,26 +49,19 @@ fn is_silent(alloc: Global, statement: &Action<'_>) -> Result<bool, AllocError> 
                 Ok(false)
             }
         }
-        Action::Switch(value, cases, other) => is_switch_silent(alloc, value, cases, other),
+        Action::Switch(value, cases, other) => {
+            let choice = is_choice_silent(alloc, value, cases)?;
+            if choice {
+                is_other_silent(alloc, other)
+            } else {
+                Ok(false)
+            }
+        }
         Action::Effect(value) => {
             is_value_silent(alloc, value, Wanted::Word(Destination::Nowhere))
         }
         _ => Ok(false),
     }
-}
-
-/// Whether a `switch` has no items.
-#[cycle(silence)]
-fn is_switch_silent(
-    alloc: Global,
-    value: &Value,
-    cases: &[(Vec<Span>, Vec<Action<'_>>)],
-    other: &Option<Vec<Action<'_>>>,
-) -> Result<bool, AllocError> {
-    if !cases.is_empty() || !is_value_silent(alloc, value, Wanted::Word(Destination::Aside))? {
-        return Ok(false);
-    }
-    is_other_silent(alloc, other)
 }
 
 /// Whether the statements of `default` have no items.

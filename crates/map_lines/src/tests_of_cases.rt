@@ -9,14 +9,14 @@ const MOST_AT_ONCE: usize = 3;
 /// follow one another are tested by one item, a range by two; that there are none is one too.
 pub fn test_count(spans: &[Span]) -> usize {
     let mut count: usize = 0;
-    let mut numbers = 0;
+    let mut numbers: usize = 0;
     for done in 0..spans.len() {
         match spans[spans.len() - 1 - done] {
             Span::One(_) => {
                 if numbers == 0 {
                     count = count.saturating_add(1);
                 }
-                numbers = (numbers + 1) % MOST_AT_ONCE;
+                numbers = numbers.saturating_add(1) % MOST_AT_ONCE;
             }
             Span::Between(_, _) => {
                 count = count.saturating_add(2);

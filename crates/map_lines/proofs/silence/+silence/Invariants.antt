@@ -9,6 +9,3 @@ decreases-are_silent l = 4 * goal.size-are_silent l + 1
 
 abbrev pub decreases-is_other_silent : goal.decreases-is_other_silent
 decreases-is_other_silent l = 4 * goal.size-is_other_silent l + 2
-
-abbrev pub decreases-is_switch_silent : goal.decreases-is_switch_silent
-decreases-is_switch_silent l = 4 * goal.size-is_switch_silent l + 3

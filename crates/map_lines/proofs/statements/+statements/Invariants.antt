@@ -1,4 +1,4 @@
-use Rattle.std.proofs.Common.{◌+◌, ◌*◌, max, []}
+use Rattle.std.proofs.Common.{◌+◌, ◌*◌, max, [], true}
 use Rattle.map_lines.proofs.statements.+statements.Given as goal
 
 abbrev pub decreases-pass_statement : goal.decreases-pass_statement
