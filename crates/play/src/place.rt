@@ -114,14 +114,15 @@ fn fault_line(alloc: Global, session: &Session) -> Option<Vec<u8>> {
 
 /// The address of the text that the instruction before an address prints, if it prints one.
 fn text_before(memory: &[u8], at: usize) -> Option<u32> {
+    let version = *memory.get(0)?;
     let printing = at.checked_sub(PRINT_LENGTH)?;
     let first = *memory.get(printing)?;
-    let high = *memory.get(printing + 1)?;
-    let low = *memory.get(printing + 2)?;
+    let high = *memory.get(printing.saturating_add(1))?;
+    let low = *memory.get(printing.saturating_add(2))?;
     if first != PRINT_TEXT {
         return None;
     }
-    let scale = if memory[0] == VERSION_5 { 4 } else { 8 };
+    let scale = if version == VERSION_5 { 4 } else { 8 };
     Some((u32::from(high) * 256 + u32::from(low)) * scale)
 }
 
