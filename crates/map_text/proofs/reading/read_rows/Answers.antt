@@ -1,7 +1,7 @@
-use Rattle.std.proofs.Common.{◌≡◌, ◌<◌, ◌≤◌, ℕ, List, Option, Ok, [], ◌∷◌, length, map, subst, ap, ◌∙◌, arith}
+use Rattle.std.proofs.Common.{◌≡◌, ◌<◌, ℕ, Option, Ok, [], ◌∷◌, length, map, subst, ap, ◌∙◌, arith}
 use Rattle.std.proofs.lemmas.Grind.{common_steps}
 use Rattle.std.proofs.lemmas.List.{map-append}
-use Rattle.map_text.specs.Text.{AddsAbove, AddsRow, RowOf, row_of}
+use Rattle.map_text.specs.Text.{AddsAbove, AddsRow, row_of}
 use Rattle.map_text.proofs.Rounds.{ended, goes_on, has_line, has_row}
 use Rattle.map_text.proofs.reading.read_rows.Goals as goal
 use Rattle.map_text.proofs.reading.read_rows.Goals.{else-loop-done-test, then-loop-done-test+then-is_empty}
