@@ -10,7 +10,6 @@ use std::fmt;
 use std::fs::File;
 use std::io::{self, Read};
 use std::process::ExitCode;
-use zcore::decode_front;
 
 /// The most bytes of a map: 64 MB.
 const MOST_BYTES: usize = 67_108_864;
@@ -22,11 +21,18 @@ const PRINT_TEXT: u8 = 0x8D;
 /// How many bytes that instruction has.
 const PRINT_LENGTH: usize = 3;
 
-/// How a line begins that a fault of the source prints.
-const FAULT: &[u8] = b"[Fault: ";
+/// The Z-characters with which the text of a runtime fault begins: a new line and `[Fault: `. Small
+/// letters and spaces follow, which are its words, then `]` and a new line.
+const FAULT: &[u8] = &[5, 7, 5, 6, 2, 27, 4, 11, 6, 26, 17, 25, 5, 29, 0];
 
-/// The most characters of such a line that are looked at.
-const MOST_SHOWN: usize = 80;
+/// The Z-character that is a space (Z-Machine Standards Document 1.1, section 3.5.1).
+const SPACE: u8 = 0;
+
+/// The first of the Z-characters that are small letters (section 3.5.3).
+const LETTER_A: u8 = 6;
+
+/// The most Z-characters of such a text that are looked at.
+const MOST_LOOKED_AT: usize = 80;
 
 /// Byte $00 of a story of version 5.
 const VERSION_5: u8 = 5;
@@ -37,7 +43,7 @@ const VERSION_5: u8 = 5;
 pub struct Placed<'a> {
     standing: Standing,
 
-    /// The line that a fault of the source printed, if the story was ended by one.
+    /// The words of the runtime fault that ended the story, if one did.
     fault: Option<Vec<u8>>,
 
     /// The row of the map to which the instruction belongs.
@@ -50,7 +56,7 @@ impl<'a> Placed<'a> {
         let at = session.program_counter();
         let row = row_at(rows, at);
         let fault = match row {
-            Some(row) if row.address != at => fault_line(alloc, session),
+            Some(row) if row.address != at => fault_words(alloc, session),
             _ => None,
         };
         Placed {
@@ -64,7 +70,11 @@ impl<'a> Placed<'a> {
 impl fmt::Display for Placed<'_> {
     fn fmt<W: fmt::Write>(&self, f: &mut fmt::Formatter<W>) -> fmt::Result {
         match &self.fault {
-            Some(fault) => write_bytes(f, fault)?,
+            Some(words) => {
+                f.write_str("[Fault: ")?;
+                write_bytes(f, words)?;
+                f.write_str("]")?;
+            }
             None => {
                 let standing = self.standing;
                 write!(f, "{standing}")?;
@@ -88,28 +98,62 @@ fn write_bytes<W: fmt::Write>(f: &mut fmt::Formatter<W>, bytes: &[u8]) -> fmt::R
     Ok(())
 }
 
-/// The line that a fault of the source printed just before the story quit; `None` if it did not quit
-/// by one. A statement `quit` begins a row of the map, so it is not asked about here.
-fn fault_line(alloc: Global, session: &Session) -> Option<Vec<u8>> {
+/// The words of the runtime fault whose text was printed just before the story quit; `None` if it did
+/// not quit by one. A statement `quit` begins a row of the map, so it is not asked about here.
+fn fault_words(alloc: Global, session: &Session) -> Option<Vec<u8>> {
     if session.place() != Place::Quit {
         return None;
     }
     let memory = session.memory();
-    let address = text_before(memory, session.program_counter() as usize)?;
-    let Ok((text, _)) = decode_front(alloc, memory, address, MOST_SHOWN) else {
-        return None;
-    };
-    let mut line = Vec::new(alloc);
-    for byte in &text {
-        if *byte != b'\r' && line.push(*byte).is_err() {
-            return None;
-        }
-    }
-    if line.starts_with(FAULT) {
-        Some(line)
+    let address = text_before(memory, session.program_counter() as usize)? as usize;
+    if begins_with(memory, address, FAULT) {
+        words_after(alloc, memory, address, FAULT.len())
     } else {
         None
     }
+}
+
+/// Whether the text at an address begins with these Z-characters.
+fn begins_with(memory: &[u8], address: usize, wanted: &[u8]) -> bool {
+    for number in 0..wanted.len() {
+        if z_character(memory, address, number) != Some(wanted[number]) {
+            return false;
+        }
+    }
+    true
+}
+
+/// The small letters and spaces of the text at an address from a Z-character on. It is read here, and
+/// not by `ztext`, whose reader is compiled into the printing of texts while that alone calls it.
+fn words_after(alloc: Global, memory: &[u8], address: usize, first: usize) -> Option<Vec<u8>> {
+    let mut words = Vec::new(alloc);
+    for number in first..MOST_LOOKED_AT {
+        let character = z_character(memory, address, number)?;
+        let shown = if character == SPACE {
+            b' '
+        } else if character >= LETTER_A {
+            (character - LETTER_A).saturating_add(b'a')
+        } else {
+            return Some(words);
+        };
+        if words.push(shown).is_err() {
+            return None;
+        }
+    }
+    Some(words)
+}
+
+/// A Z-character of the text at an address, by its number: a word has three, each of five bits
+/// (section 3.2). `None` after the end of memory.
+fn z_character(memory: &[u8], address: usize, number: usize) -> Option<u8> {
+    let word = address.saturating_add((number / 3).saturating_mul(2));
+    let high = *memory.get(word)?;
+    let low = *memory.get(word.saturating_add(1))?;
+    Some(match number % 3 {
+        0 => high / 4 % 32,
+        1 => (high % 4).saturating_mul(8).saturating_add(low / 32),
+        _ => low % 32,
+    })
 }
 
 /// The address of the text that the instruction before an address prints, if it prints one.
