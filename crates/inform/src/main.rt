@@ -1,12 +1,14 @@
 //! Compiles a source file to a story file, and explains faults.
 #![tactic(auto)]
 
+mod map;
 mod output;
 mod part;
 mod refusals;
 mod source;
 mod warnings;
 
+use crate::map::{in_other_use, other_use, put_map};
 use crate::output::{is_one_file, write_whole};
 use crate::refusals::{limit_of, refused, show};
 use crate::source::read_source;
@@ -70,7 +72,7 @@ fn unread(rt: &HostRuntime, error: Error) -> ExitCode {
 }
 
 /// Says on standard error what cannot be used.
-fn misused<W: Display + Drop>(rt: &HostRuntime, what: W) -> ExitCode {
+pub(crate) fn misused<W: Display + Drop>(rt: &HostRuntime, what: W) -> ExitCode {
     let _ = eprintln!(rt; "inform: {what}");
     ExitCode::from(MISUSED)
 }
@@ -160,19 +162,40 @@ fn finish(rt: &HostRuntime, words: Words<'_>, source: &[u8], story: &[u8]) -> Ex
         }
     }
     match words.story {
-        Some(name) => put(rt, words.source, name, story),
+        Some(name) => put_both(rt, words, name, source, story),
         None => ExitCode::SUCCESS,
     }
 }
 
-/// Writes the bytes of a story, unless its file is the source.
-fn put(rt: &HostRuntime, source: &str, file: &str, story: &[u8]) -> ExitCode {
+/// Writes the bytes of a story, and its map, if a file for it is named.
+fn put_both(
+    rt: &HostRuntime,
+    words: Words<'_>,
+    file: &str,
+    source: &[u8],
+    story: &[u8],
+) -> ExitCode {
+    let Some(map) = words.map else {
+        return put_or(rt, words.source, file, story).unwrap_or(ExitCode::SUCCESS);
+    };
+    if let Some(used_as) = other_use(rt, words.source, file, map) {
+        return in_other_use(rt, map, used_as);
+    }
+    match put_or(rt, words.source, file, story) {
+        None => put_map(rt, words, map, source, story),
+        Some(status) => status,
+    }
+}
+
+/// Writes the bytes of a story, unless its file is the source. The status, if it is not written;
+/// then it has said why.
+fn put_or(rt: &HostRuntime, source: &str, file: &str, story: &[u8]) -> Option<ExitCode> {
     let name = OneLine(file);
     if is_one_file(rt, source, file) {
-        return misused(rt, format_args!("cannot write {name}: it is the source"));
+        return Some(misused(rt, format_args!("cannot write {name}: it is the source")));
     }
     match write_whole(rt, file, story) {
-        Ok(()) => ExitCode::SUCCESS,
-        Err(_) => misused(rt, format_args!("cannot write {name}")),
+        Ok(()) => None,
+        Err(_) => Some(misused(rt, format_args!("cannot write {name}"))),
     }
 }

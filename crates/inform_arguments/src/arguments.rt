@@ -68,6 +68,17 @@ fn large_argument<'a>(alloc: Global) -> Arg<'a> {
         .action(ArgAction::SetTrue)
 }
 
+/// The name of the map to write. It needs a story file that is written.
+fn map_argument<'a>(alloc: Global) -> Result<Arg<'a>, AllocError> {
+    let map = Arg::new(alloc, "map")
+        .long("map")
+        .value_name("FILE")
+        .help("Write to FILE which addresses of STORY are of which routine and line")
+        .action(ArgAction::Set)
+        .requires_arg("story")?;
+    map.conflicts_with("sizes")
+}
+
 /// The source file's name.
 fn source_argument<'a>(alloc: Global) -> Arg<'a> {
     Arg::new(alloc, "source")
@@ -95,6 +106,7 @@ fn story_argument<'a>(alloc: Global) -> Result<Arg<'a>, AllocError> {
 /// Memory was refused.
 fn arguments<'a>(alloc: Global) -> Result<Vec<Arg<'a>>, AllocError> {
     let sizes = sizes_argument(alloc)?;
+    let map = map_argument(alloc)?;
     let story = story_argument(alloc)?;
     Ok(vec![in alloc;
         version_argument(alloc),
@@ -103,6 +115,7 @@ fn arguments<'a>(alloc: Global) -> Result<Vec<Arg<'a>>, AllocError> {
         warn_argument(alloc),
         sizes,
         large_argument(alloc),
+        map,
         source_argument(alloc),
         story,
     ]?)

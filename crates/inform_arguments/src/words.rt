@@ -26,6 +26,9 @@ pub struct Words<'a> {
     /// The name of the story file to write; `None` if the source file is only checked.
     pub story: Option<&'a str>,
 
+    /// The name of the map to write, if one is written.
+    pub map: Option<&'a str>,
+
     /// The version of the story file.
     pub version: Version,
 
@@ -58,6 +61,7 @@ pub fn words_of<'a>(matches: &ArgMatches<'a>) -> Option<Asked<'a>> {
     Some(Asked::Compile(Words {
         source,
         story: matches.get_str("story"),
+        map: matches.get_str("map"),
         version,
         large,
         show: matches.get_flag("show"),

@@ -3,6 +3,7 @@
 
 mod checking;
 mod filling;
+mod place;
 mod reading;
 mod standing;
 mod terminal;
@@ -10,9 +11,10 @@ mod terminal;
 ghost use Rattle.play_arguments.specs.Range.{IsInRange};
 
 use crate::checking::{check, take_mode};
+use crate::place::{Placed, map_in, rows_in};
 use crate::reading::read_story;
-use crate::standing::Standing;
 use crate::terminal::Transcript;
+use map_text::Row;
 use messages_explanations::Program;
 use one_line::OneLine;
 use play_arguments::{Asked, Words, take_format, words_of};
@@ -104,6 +106,23 @@ fn play(rt: &HostRuntime, words: Words<'_>) -> ExitCode
     let Ok(story) = story_in(rt, words.story) else {
         return refuse(rt, format_args!("cannot read {}", OneLine(words.story)));
     };
+    let Some(map) = words.map else {
+        return play_story(rt, words, story, &[]);
+    };
+    let text = match map_in(rt, map) {
+        Ok(text) => text,
+        Err(status) => return status,
+    };
+    match rows_in(rt, map, &text, &story) {
+        Ok(rows) => play_story(rt, words, story, &rows),
+        Err(status) => status,
+    }
+}
+
+/// Plays a story, of which these are the rows of its map.
+fn play_story(rt: &HostRuntime, words: Words<'_>, story: Vec<u8>, rows: &[Row<'_>]) -> ExitCode
+    requires { IsInRange words }
+{
     let mode = match words.seed {
         Some(seed) => Mode::Standard(seed),
         None => Mode::Profile,
@@ -120,8 +139,8 @@ fn play(rt: &HostRuntime, words: Words<'_>) -> ExitCode
         }
     };
     if words.why && ran.is_ok() {
-        let standing = Standing::of(&session, mode);
-        let _ = eprintln!(rt; "{standing}");
+        let placed = Placed::of(rt.alloc(), &session, mode, rows);
+        let _ = eprintln!(rt; "{placed}");
     }
     // The process ends here: what each turn kept is not given back piece by piece.
     mem::forget(session);

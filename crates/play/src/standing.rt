@@ -34,10 +34,20 @@ impl Standing {
     }
 }
 
+impl Standing {
+    /// What the story waits for: the instruction is that which reads it.
+    fn awaited(&self) -> &'static str {
+        match self.opcode {
+            Some(opcode) if opcode.name() == Some("read_char") => "waits for a key",
+            _ => "waits for a line",
+        }
+    }
+}
+
 impl fmt::Display for Standing {
     fn fmt<W: fmt::Write>(&self, f: &mut fmt::Formatter<W>) -> fmt::Result {
         match self.place {
-            Place::Waiting => f.write_str("waits for a line"),
+            Place::Waiting => f.write_str(self.awaited()),
             Place::Quit => f.write_str("has quit"),
             Place::Limit(limit) => write!(f, "stopped by a limit: {limit}"),
             Place::Fault(fault) => write_fault(f, fault, self),

@@ -61,6 +61,22 @@ fn why_argument<'a>(alloc: Global) -> Arg<'a>
         .action(ArgAction::SetTrue)
 }
 
+/// The name of the story's map. It needs `--why`.
+///
+/// # Errors
+///
+/// Memory was refused.
+fn map_argument<'a>(alloc: Global) -> Result<Arg<'a>, AllocError>
+    ensures { IfOk result (IsPlainNamed (codes "map")) }
+{
+    Arg::new(alloc, "map")
+        .long("map")
+        .value_name("FILE")
+        .help("With --why, name the routine and the line, by the map that inform wrote to FILE")
+        .action(ArgAction::Set)
+        .requires_arg("why")
+}
+
 /// Whether to play every opcode of the Standard.
 fn standard_argument<'a>(alloc: Global) -> Arg<'a>
     ensures { IsPlainNamed (codes "standard") result }
@@ -161,10 +177,12 @@ fn arguments<'a>(alloc: Global) -> Result<Vec<Arg<'a>>, AllocError>
     ensures { IfOk result (λ arguments. AreArguments arguments.items) }
 {
     let seed = seed_argument(alloc)?;
+    let map = map_argument(alloc)?;
     Ok(vec![in alloc;
         fuel_argument(alloc),
         undo_argument(alloc),
         why_argument(alloc),
+        map,
         standard_argument(alloc),
         seed,
         wrap_argument(alloc),

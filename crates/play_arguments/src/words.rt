@@ -43,6 +43,9 @@ pub struct Words<'a> {
     /// Whether to say at the end where the story is.
     pub why: bool,
 
+    /// The name of the story's map, if it says which routine and line that is.
+    pub map: Option<&'a str>,
+
     /// The seed of the random numbers, if the story may use every opcode of the Standard; `None` if it
     /// may use those of the profile.
     pub seed: Option<u32>,
@@ -100,6 +103,7 @@ fn words_in<'a>(matches: &ArgMatches<'a>) -> Words<'a>
         fuel: fuel.unwrap_or(FUEL),
         keep,
         why: matches.get_flag("why"),
+        map: matches.get_str("map"),
         seed: seed_in(matches),
         wrap: matches.get_one::<u32>("wrap"),
     }

@@ -1,0 +1,13 @@
+//! Which line the code of a story is of: where the code of each statement begins.
+#![tactic(auto)]
+
+mod cursor;
+mod passing;
+mod placing;
+mod program;
+mod routine;
+mod silence;
+mod statements;
+mod tests_of_cases;
+
+pub use program::map_of;

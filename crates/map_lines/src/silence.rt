@@ -1,0 +1,74 @@
+//! Statements that have no items.
+
+use code_drafts::{Destination, Draft, Wanted, written};
+use code_values::put_value;
+use meaning::{Action, Span, Value};
+use std::alloc::{AllocError, Global};
+
+/// Whether an expression of which something is wanted has no items.
+fn is_value_silent(alloc: Global, value: &Value, wanted: Wanted) -> Result<bool, AllocError> {
+    let items = Vec::new(alloc);
+    let mut draft = Draft { alloc, items };
+    put_value(&mut draft, value, wanted)?;
+    Ok(written(&draft) == 0)
+}
+
+/// Whether the value and the cases of a `switch` have no items.
+fn is_choice_silent(
+    alloc: Global,
+    value: &Value,
+    cases: &[(Vec<Span>, Vec<Action<'_>>)],
+) -> Result<bool, AllocError> {
+    let aside = Wanted::Word(Destination::Aside);
+    Ok(is_value_silent(alloc, value, aside)? && cases.is_empty())
+}
+
+/// Whether statements have no items.
+#[cycle(silence)]
+pub fn are_silent(alloc: Global, statements: &[Action<'_>]) -> Result<bool, AllocError> {
+    for statement in statements {
+        if !is_silent(alloc, statement)? {
+            return Ok(false);
+        }
+    }
+    Ok(true)
+}
+
+/// Whether a statement has no items.
+#[cycle(silence)]
+fn is_silent(alloc: Global, statement: &Action<'_>) -> Result<bool, AllocError> {
+    match statement {
+        Action::Empty => Ok(true),
+        Action::Block(statements) => are_silent(alloc, statements),
+        Action::Print(items) => Ok(items.is_empty()),
+        Action::If(test, then) => {
+            let tests = is_value_silent(alloc, test, Wanted::Branch(false, 0))?;
+            if tests {
+                is_silent(alloc, then)
+            } else {
+                Ok(false)
+            }
+        }
+        Action::Switch(value, cases, other) => {
+            let choice = is_choice_silent(alloc, value, cases)?;
+            if choice {
+                is_other_silent(alloc, other)
+            } else {
+                Ok(false)
+            }
+        }
+        Action::Effect(value) => {
+            is_value_silent(alloc, value, Wanted::Word(Destination::Nowhere))
+        }
+        _ => Ok(false),
+    }
+}
+
+/// Whether the statements of `default` have no items.
+#[cycle(silence)]
+pub fn is_other_silent(alloc: Global, other: &Option<Vec<Action<'_>>>) -> Result<bool, AllocError> {
+    match other {
+        None => Ok(true),
+        Some(statements) => are_silent(alloc, statements),
+    }
+}

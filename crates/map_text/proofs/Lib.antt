@@ -1,0 +1,4 @@
+pub mod Cuts
+pub mod Ascending
+pub mod Lines
+pub mod Rounds
