@@ -65,9 +65,9 @@ pub record CallOf (routine : ℕ) (os : List items.Operand) (d : Destination) (v
       → perform (call_operation (length os) d) before after (call_result d) None (routine ∷ vs) s
       ≡ call_packed before after (call_result d) routine vs s
 
--- one of three operations
-abbrev chosen : Bool → Bool → Operation → Operation → Operation → Operation
-chosen none few op op1 op2 = if none then op else (if few then op1 else op2)
+-- one of four operations
+abbrev chosen : Bool → Bool → Bool → Operation → Operation → Operation → Operation → Operation
+chosen none one few op op1 op2 op3 = if none then op else (if one then op1 else (if few then op2 else op3))
 
 none_given : (vs : List ℕ) → length vs ≡ 0 → vs ≡ []
 none_given [] e = refl
@@ -75,18 +75,19 @@ none_given (v ∷ vs) e = absurd (omega (arith, e))
 
 -- a result that is stored
 call_storing : (routine : ℕ) (os : List items.Operand) (vs : List ℕ) (v : ℕ) → v < 256 → length vs ≡ length os
-    → length os ≤ 7 → (none few : Bool) → (length os == 0) ≡ none → nat_le (length os) 3 ≡ few
+    → length os ≤ 7 → (none one few : Bool) → (length os == 0) ≡ none → (length os == 1) ≡ one
+    → nat_le (length os) 3 ≡ few
     → Shaped (record {
-      operation = chosen none few operations.Call1s operations.CallVs operations.CallVs2;
+      operation = chosen none one few operations.Call1s operations.Call2s operations.CallVs operations.CallVs2;
       operands = Large routine ∷ operands os;
       result = Some v;
       branch = None;
     })
     × ((before : Next) (after : ℕ) (s : State)
-    → perform (chosen none few operations.Call1s operations.CallVs operations.CallVs2) before after (Some v) None
-    (routine ∷ vs) s ≡ call_packed before after (Some v) routine vs s)
+    → perform (chosen none one few operations.Call1s operations.Call2s operations.CallVs operations.CallVs2) before
+    after (Some v) None (routine ∷ vs) s ≡ call_packed before after (Some v) routine vs s)
 unfolding perform
-call_storing routine os vs v small same most true few e f =
+call_storing routine os vs v small same most true one few e g f =
     let zero_is = eqb-true (length os) 0 e in
     let nothing = none_given vs (same ∙ zero_is) in (
       record {
@@ -97,7 +98,16 @@ call_storing routine os vs v small same most true few e f =
       },
       λ before after s. ap (λ (xs : List ℕ). call_packed before after (Some v) routine xs s) (sym nothing),
     )
-call_storing routine os vs v small same most false true e f = (
+call_storing routine os vs v small same most false true few e g f = (
+  record {
+    least = omega (arith, eqb-true (length os) 1 g, operands_length os);
+    most = omega (arith, eqb-true (length os) 1 g, operands_length os);
+    result_fits = small;
+    branch_fits = tt;
+  },
+  λ before after s. refl,
+)
+call_storing routine os vs v small same most false false true e g f = (
   record {
     least = omega arith;
     most = omega (arith, leb-true _ _ f, operands_length os);
@@ -106,7 +116,7 @@ call_storing routine os vs v small same most false true e f = (
   },
   λ before after s. refl,
 )
-call_storing routine os vs v small same most false false e f = (
+call_storing routine os vs v small same most false false false e g f = (
   record {
     least = omega arith;
     most = omega (arith, most, operands_length os);
@@ -117,18 +127,18 @@ call_storing routine os vs v small same most false false e f = (
 )
 
 call_dropping : (routine : ℕ) (os : List items.Operand) (vs : List ℕ) → length vs ≡ length os → length os ≤ 7
-    → (none few : Bool) → (length os == 0) ≡ none → nat_le (length os) 3 ≡ few
+    → (none one few : Bool) → (length os == 0) ≡ none → (length os == 1) ≡ one → nat_le (length os) 3 ≡ few
     → Shaped (record {
-      operation = chosen none few operations.Call1n operations.CallVn operations.CallVn2;
+      operation = chosen none one few operations.Call1n operations.Call2n operations.CallVn operations.CallVn2;
       operands = Large routine ∷ operands os;
       result = None;
       branch = None;
     })
     × ((before : Next) (after : ℕ) (s : State)
-    → perform (chosen none few operations.Call1n operations.CallVn operations.CallVn2) before after None None
-    (routine ∷ vs) s ≡ call_packed before after None routine vs s)
+    → perform (chosen none one few operations.Call1n operations.Call2n operations.CallVn operations.CallVn2) before
+    after None None (routine ∷ vs) s ≡ call_packed before after None routine vs s)
 unfolding perform
-call_dropping routine os vs same most true few e f =
+call_dropping routine os vs same most true one few e g f =
     let zero_is = eqb-true (length os) 0 e in
     let nothing = none_given vs (same ∙ zero_is) in (
       record {
@@ -139,7 +149,16 @@ call_dropping routine os vs same most true few e f =
       },
       λ before after s. ap (λ (xs : List ℕ). call_packed before after None routine xs s) (sym nothing),
     )
-call_dropping routine os vs same most false true e f = (
+call_dropping routine os vs same most false true few e g f = (
+  record {
+    least = omega (arith, eqb-true (length os) 1 g, operands_length os);
+    most = omega (arith, eqb-true (length os) 1 g, operands_length os);
+    result_fits = tt;
+    branch_fits = tt;
+  },
+  λ before after s. refl,
+)
+call_dropping routine os vs same most false false true e g f = (
   record {
     least = omega arith;
     most = omega (arith, leb-true _ _ f, operands_length os);
@@ -148,7 +167,7 @@ call_dropping routine os vs same most false true e f = (
   },
   λ before after s. refl,
 )
-call_dropping routine os vs same most false false e f = (
+call_dropping routine os vs same most false false false e g f = (
   record { least = omega arith; most = omega (arith, most, operands_length os); result_fits = tt; branch_fits = tt },
   λ before after s. refl,
 )
@@ -156,16 +175,16 @@ call_dropping routine os vs same most false false e f = (
 call_of : (routine : ℕ) (os : List items.Operand) (d : Destination) (vs : List ℕ) → length vs ≡ length os
     → length os ≤ 7 → CallOf routine os d vs
 call_of routine os items.push vs same most = let f =
-    call_storing routine os vs 0 (omega arith) same most (length os == 0) (nat_le (length os) 3) refl refl in
-    record { shaped = f.0; performs = f.1 }
+    call_storing routine os vs 0 (omega arith) same most (length os == 0) (length os == 1) (nat_le (length os) 3) refl
+    refl refl in record { shaped = f.0; performs = f.1 }
 call_of routine os (items.into x) vs same most = let f =
-    call_storing routine os vs (number_of x) (number_small x) same most (length os == 0) (nat_le (length os) 3) refl
-    refl in record { shaped = f.0; performs = f.1 }
+    call_storing routine os vs (number_of x) (number_small x) same most (length os == 0) (length os == 1)
+    (nat_le (length os) 3) refl refl refl in record { shaped = f.0; performs = f.1 }
 call_of routine os items.aside vs same most = let f =
-    call_storing routine os vs aside_variable (omega arith) same most (length os == 0) (nat_le (length os) 3) refl refl
-    in record { shaped = f.0; performs = f.1 }
+    call_storing routine os vs aside_variable (omega arith) same most (length os == 0) (length os == 1)
+    (nat_le (length os) 3) refl refl refl in record { shaped = f.0; performs = f.1 }
 call_of routine os items.nowhere vs same most = let f =
-    call_dropping routine os vs same most (length os == 0) (nat_le (length os) 3) refl refl in
+    call_dropping routine os vs same most (length os == 0) (length os == 1) (nat_le (length os) 3) refl refl refl in
     record { shaped = f.0; performs = f.1 }
 
 module _ (c : Running) where

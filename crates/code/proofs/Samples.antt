@@ -159,6 +159,12 @@ calls : written (call 0 (variable x ∷ variable g ∷ []) (into x)) ≡ 224 ∷
 unfolding bytes_of
 calls = refl
 
+-- call_2s F x -> x; call_2n F 3
+calls_with_one : written (call 0 (variable x ∷ []) (into x)) ∷ written (call 0 (number 3 ∷ []) nowhere) ∷ []
+    ≡ (217 ∷ 47 ∷ 1 ∷ 44 ∷ 1 ∷ 1 ∷ []) ∷ (218 ∷ 31 ∷ 1 ∷ 44 ∷ 3 ∷ []) ∷ []
+unfolding bytes_of
+calls_with_one = refl
+
 -- call_1n F
 calls_alone : written (call 1 [] nowhere) ≡ 143 ∷ 1 ∷ 144 ∷ []
 unfolding bytes_of

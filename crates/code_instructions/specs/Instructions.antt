@@ -7,9 +7,9 @@ use Rattle.zcore.specs.declared.instruction.Operand.TheVariants.{Large, Small, V
 use Rattle.zcore.specs.declared.instruction.Operation.{Operation}
 use Rattle.zcore.specs.declared.instruction.Operation.TheVariants.{JumpIfEqual, JumpIfLess, JumpIfGreater, Or, And, Add}
 use Rattle.zcore.specs.declared.instruction.Operation.TheVariants.{Sub, Mul, Div, Mod, JumpIfZero, Increment, Decrement}
-use Rattle.zcore.specs.declared.instruction.Operation.TheVariants.{Call1s, Return, Jump, Call1n, ReturnTrue}
-use Rattle.zcore.specs.declared.instruction.Operation.TheVariants.{ReturnFalse, ReturnPopped, CallVs, PrintCharacter}
-use Rattle.zcore.specs.declared.instruction.Operation.TheVariants.{CallVs2, Not, CallVn, CallVn2}
+use Rattle.zcore.specs.declared.instruction.Operation.TheVariants.{Call1s, Call2s, Return, Jump, Call1n, Call2n}
+use Rattle.zcore.specs.declared.instruction.Operation.TheVariants.{ReturnTrue, ReturnFalse, ReturnPopped, CallVs}
+use Rattle.zcore.specs.declared.instruction.Operation.TheVariants.{PrintCharacter, CallVs2, Not, CallVn, CallVn2}
 use Rattle.zcore.specs.Instruction.{Instruction}
 use Rattle.syntax_trees.specs.declared.tree.Binary.{Binary}
 use Rattle.syntax_trees.specs.declared.tree.Binary.TheVariants as binaries
@@ -232,11 +232,14 @@ case_code test ns when offset = labelled (test_operation test) (compared ns) whe
 
 -- Calls and returns
 
--- Up to three arguments have one byte of types, more have two; no argument has none (section 15, `call_1s` and
--- others). Beside a routine, whose address is a large constant, one argument would have a byte of types in each form.
+-- an operation for no argument, one for one, one for up to three, and one for more (section 15, `call_1s` and others)
+abbrev pub by_arguments : ℕ → Operation → Operation → Operation → Operation → Operation
+by_arguments n none one few many =
+    if n == 0 then none else (if n == 1 then one else (if nat_le n 3 then few else many))
+
 abbrev pub call_operation : ℕ → Destination → Operation
-call_operation n items.nowhere = if n == 0 then Call1n else (if nat_le n 3 then CallVn else CallVn2)
-call_operation n d = if n == 0 then Call1s else (if nat_le n 3 then CallVs else CallVs2)
+call_operation n items.nowhere = by_arguments n Call1n Call2n CallVn CallVn2
+call_operation n d = by_arguments n Call1s Call2s CallVs CallVs2
 
 abbrev pub call_result : Destination → Option ℕ
 call_result items.push = Some 0

@@ -20,9 +20,9 @@ use meaning::limits::MOST_ARGUMENTS;
 use std::alloc::{AllocError, Global};
 use zcore::{Operand, Operation};
 
-/// Up to three arguments have one byte of types, more have two; none has no byte (Z-Machine
-/// Standards Document 1.1, section 15, `call_1s` and others). Beside a routine's address, which is
-/// a large constant, one argument would have a byte of types in each form.
+/// The shortest call with so many arguments (Z-Machine Standards Document 1.1, section 15,
+/// `call_1s` and others): without arguments it has no byte of types, with up to three it has one,
+/// with more two.
 fn call_operation(count: usize, destination: Destination) -> Operation
     ensures { result ≡ spec.call_operation count (as_destination destination) }
 {
@@ -30,6 +30,8 @@ fn call_operation(count: usize, destination: Destination) -> Operation
         Destination::Nowhere => {
             if count == 0 {
                 Operation::Call1n
+            } else if count == 1 {
+                Operation::Call2n
             } else if count <= 3 {
                 Operation::CallVn
             } else {
@@ -39,6 +41,8 @@ fn call_operation(count: usize, destination: Destination) -> Operation
         _ => {
             if count == 0 {
                 Operation::Call1s
+            } else if count == 1 {
+                Operation::Call2s
             } else if count <= 3 {
                 Operation::CallVs
             } else {

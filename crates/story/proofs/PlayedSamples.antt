@@ -100,9 +100,9 @@ calling_addresses : packed_addresses 8 calling ≡ 110 ∷ 111 ∷ 113 ∷ 117 �
 unfolding bytes_of encoded packed spelling_of encoded_with
 calling_addresses = refl
 
--- call_vn f 3; rtrue, and then print_num x; print; rtrue
+-- call_2n f 3; rtrue, and then print_num x; print; rtrue
 calling_code : take 18 (drop 880 (story_of V8 calling))
-    ≡ 0 ∷ 249 ∷ 31 ∷ 0 ∷ 111 ∷ 3 ∷ 176 ∷ 0
+    ≡ 0 ∷ 218 ∷ 31 ∷ 0 ∷ 111 ∷ 3 ∷ 176 ∷ 0
     ∷ 1 ∷ 230 ∷ 191 ∷ 1 ∷ 178 ∷ 22 ∷ 133 ∷ 156 ∷ 165 ∷ 176 ∷ []
 unfolding story_of bytes_of encoded packed spelling_of encoded_with
 calling_code = refl
