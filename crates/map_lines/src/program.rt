@@ -1,13 +1,18 @@
 //! The map of a source.
 
+ghost use Rattle.std.specs.Prelude.{◌≤◌, map, IfOk};
+ghost use Rattle.meaning.specs.Views.{title_of};
+ghost use Rattle.map_text.specs.Text.{row_of, Ascend};
+ghost use Rattle.map_lines.specs.Rows.{address_at, AreOf, IsMapOf, IsMapOfSource};
+
 use crate::cursor::Cursor;
 use crate::routine::put_routine;
-use checker::check_placed;
+use checker::check;
 use map_text::{Row, heading, put_rows, word_in};
 use meaning::Checked;
 use std::alloc::{AllocError, Global};
-use syntax::parse_placed;
-use syntax_lexer::{PlacedFault, SourceFault, Token, lex_placed};
+use syntax::parse;
+use syntax_lexer::{SourceFault, Token, lex};
 use zcore::Version;
 use zcore::layout::HIGH_MEMORY_WORD;
 
@@ -16,9 +21,12 @@ use zcore::layout::HIGH_MEMORY_WORD;
 const START_LENGTH: usize = 4;
 
 /// The first address at or after another to which a packed address leads.
-fn aligned(version: Version, at: usize) -> usize {
+fn aligned(version: Version, at: usize) -> usize
+    ensures { address_at at 0 ≤ address_at result 0 }
+{
     let scale = version.scale() as usize;
-    at.saturating_add(scale - 1) / scale * scale
+    let last = at.saturating_add(scale - 1);
+    last - last % scale
 }
 
 /// The rows of all routines of a program, in order of definition, which follow an address.
@@ -28,7 +36,10 @@ fn rows_of<'a>(
     tokens: &[Token<'a>],
     version: Version,
     place: usize,
-) -> Result<Vec<Row<'a>>, AllocError> {
+) -> Result<Vec<Row<'a>>, AllocError>
+    ensures routines { IfOk result (λ v. AreOf (map title_of checked.now.routines) (map row_of v.items)) }
+    ensures ascend { IfOk result (λ v. Ascend 0 (map row_of v.items)) }
+{
     let mut rows = Vec::new(alloc);
     let mut cursor = Cursor { tokens, at: 0 };
     let mut at = place;
@@ -37,6 +48,23 @@ fn rows_of<'a>(
         at = put_routine(alloc, &mut rows, checked, number, address, &mut cursor)?;
     }
     Ok(rows)
+}
+
+/// The text of the map of a story, which is that of a program in a version.
+fn text_of_rows<'a>(
+    alloc: Global,
+    checked: &Checked<'a>,
+    tokens: &[Token<'a>],
+    version: Version,
+    story: &[u8],
+) -> Result<Vec<u8>, AllocError>
+    ensures { IfOk result (λ text. IsMapOf (map title_of checked.now.routines) text.items) }
+{
+    let place = word_in(story, HIGH_MEMORY_WORD) as usize + START_LENGTH;
+    let rows = rows_of(alloc, checked, tokens, version, place)?;
+    let mut text = heading(alloc, story)?;
+    put_rows(&mut text, &rows)?;
+    Ok(text)
 }
 
 /// The text of the map of a story, which is that of a source in a version.
@@ -49,26 +77,12 @@ pub fn map_of(
     source: &[u8],
     version: Version,
     story: &[u8],
-) -> Result<Vec<u8>, SourceFault> {
-    match text_of(alloc, source, version, story) {
-        Ok(text) => Ok(text),
-        Err(placed) => Err(placed.fault),
-    }
-}
-
-/// The text of the map, or the fault with its place.
-fn text_of(
-    alloc: Global,
-    source: &[u8],
-    version: Version,
-    story: &[u8],
-) -> Result<Vec<u8>, PlacedFault> {
-    let tokens = lex_placed(alloc, source)?;
-    let program = parse_placed(alloc, &tokens)?;
-    let checked = check_placed(alloc, &program)?;
-    let place = word_in(story, HIGH_MEMORY_WORD) as usize + START_LENGTH;
-    let rows = rows_of(alloc, &checked, &tokens, version, place)?;
-    let mut text = heading(alloc, story)?;
-    put_rows(&mut text, &rows)?;
+) -> Result<Vec<u8>, SourceFault>
+    ensures { IfOk result (λ text. IsMapOfSource source.now text.items) }
+{
+    let tokens = lex(alloc, source)?;
+    let program = parse(alloc, &tokens)?;
+    let checked = check(alloc, program)?;
+    let text = text_of_rows(alloc, &checked, &tokens, version, story)?;
     Ok(text)
 }

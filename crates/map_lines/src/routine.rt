@@ -1,12 +1,17 @@
 //! The rows of a routine.
 
-ghost use Rattle.std.specs.Prelude.{◌<◌, length};
+ghost use Rattle.std.specs.Prelude.{◌≡◌, ◌<◌, ◌≤◌, ◌+◌, ℕ, Some, length, map, reverse, slice_get, IfOk, OnOk};
+ghost use Rattle.meaning.specs.declared.checked.CheckedRoutine.{CheckedRoutine};
+ghost use Rattle.meaning.specs.Views.{title_of};
+ghost use Rattle.code_instructions.specs.Places.{place_in};
+ghost use Rattle.map_text.specs.Text as text;
+ghost use Rattle.map_lines.specs.Rows.{address_at, AddsMarks, AddsRoutine};
 
 use crate::cursor::Cursor;
-use crate::passing::{Mark, Passing};
+use crate::mark::Mark;
+use crate::passing::Passing;
 use crate::placing::left_of_items;
 use crate::statements::pass_statements;
-use code_drafts::Draft;
 use code_encoding::Sizes;
 use code_instructions::place;
 use code_items::routine_items;
@@ -16,6 +21,9 @@ use std::alloc::{AllocError, Global};
 use syntax_lexer::Sign;
 use syntax_trees::Name;
 
+/// The number of no item, at whose place the code of a routine ends.
+const NO_ITEM: usize = usize::MAX;
+
 /// The marks of a routine, whose name is the next token: of its statements, and of its end.
 fn marks_of<'a>(
     alloc: Global,
@@ -23,16 +31,29 @@ fn marks_of<'a>(
     cursor: &mut Cursor<'_, 'a>,
 ) -> Result<Vec<Mark>, AllocError> {
     cursor.pass_through(Sign::Semicolon);
-    let items = Vec::new(alloc);
-    let mut passing = Passing {
-        cursor: *cursor,
-        draft: Draft { alloc, items },
-        marks: Vec::new(alloc),
-    };
+    let mut passing = Passing::new(alloc, *cursor);
     pass_statements(&mut passing, &routine.body)?;
     passing.mark()?;
-    *cursor = passing.cursor;
-    Ok(passing.marks)
+    *cursor = passing.rest();
+    Ok(passing.into_marks())
+}
+
+/// How many bytes there are from each item of a routine on to the end, the end's first.
+fn left_of_routine(
+    alloc: Global,
+    routine: &CheckedRoutine<'_>,
+    checked: &Checked<'_>,
+) -> Result<Vec<usize>, AllocError>
+    ensures { IfOk result (λ v. (m n : ℕ) → m ≤ n
+        → place_in (reverse v.items) m ≤ place_in (reverse v.items) n) }
+{
+    let sizes = Sizes {
+        arrays: checked.array_sizes(),
+        objects: checked.objects().len(),
+        abbreviations: checked.abbreviations(),
+    };
+    let items = routine_items(alloc, routine)?;
+    left_of_items(alloc, &sizes, &items)
 }
 
 /// Where the rows of a routine begin: its name, and its first byte.
@@ -43,13 +64,38 @@ struct Beginning<'a> {
 }
 
 /// A row of a routine: so many bytes behind its first one, of a line.
-fn row_of(beginning: Beginning<'_>, behind: usize, line: usize) -> Row<'_> {
+fn row_of(beginning: Beginning<'_>, behind: usize, line: usize) -> Row<'_>
+    ensures routine { result.routine.now ≡ beginning.entry.name.text.now }
+    ensures line { result.line ≡ line }
+    ensures address { result.address ≡ address_at beginning.entry.address behind }
+{
     let address = beginning.address.saturating_add(behind);
     Row {
         address: u32::try_from(address).unwrap_or(u32::MAX),
         routine: beginning.name.text,
         line,
     }
+}
+
+/// Adds the rows of marks, by how many bytes there are from each item on.
+fn put_marks<'a>(
+    rows: &mut Vec<Row<'a>>,
+    beginning: Beginning<'a>,
+    left: &[usize],
+    marks: &[Mark],
+) -> Result<(), AllocError>
+    requires { (m n : ℕ) → m ≤ n → place_in (reverse left.now) m ≤ place_in (reverse left.now) n }
+    ensures { OnOk result (AddsMarks beginning.entry.address rows.old.items rows.new.items
+        (length marks.now) (address_at beginning.entry.address
+        (place_in (reverse left.now) NO_ITEM + 1))) }
+{
+    let mut item: usize = 0;
+    for mark in marks {
+        item = item.saturating_add(mark.items);
+        let behind = place(left, item).saturating_add(1);
+        rows.push(row_of(beginning, behind, mark.line))?;
+    }
+    Ok(())
 }
 
 /// Adds the rows of the routine of a number, which is at an address, and answers where it ends.
@@ -66,24 +112,18 @@ pub fn put_routine<'a>(
     cursor: &mut Cursor<'_, 'a>,
 ) -> Result<usize, AllocError>
     requires { number < length checked.now.routines }
+    ensures { IfOk result (λ end. (r : CheckedRoutine) → Some r ≡ slice_get checked.now.routines number
+        → AddsRoutine (title_of r) address (map text.row_of rows.old.items)
+        (map text.row_of rows.new.items) end) }
 {
     let routine = checked.routine(number);
     let name = routine.name;
     let beginning = Beginning { name, address };
     cursor.pass_to(name.position.offset);
     let marks = marks_of(alloc, routine, cursor)?;
-    let sizes = Sizes {
-        arrays: checked.array_sizes(),
-        objects: checked.objects().len(),
-        abbreviations: checked.abbreviations(),
-    };
-    let items = routine_items(alloc, routine)?;
-    let left = left_of_items(alloc, &sizes, &items)?;
+    let left = left_of_routine(alloc, routine, checked)?;
     rows.push(row_of(beginning, 0, name.position.line))?;
-    for mark in &marks {
-        let behind = place(&left, mark.item).saturating_add(1);
-        rows.push(row_of(beginning, behind, mark.line))?;
-    }
-    let length = place(&left, items.len()).saturating_add(1);
+    put_marks(rows, beginning, &left, &marks)?;
+    let length = place(&left, NO_ITEM).saturating_add(1);
     Ok(address.saturating_add(length))
 }

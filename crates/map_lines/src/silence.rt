@@ -1,16 +1,14 @@
 //! Statements that have no items.
 
-use code_drafts::{Destination, Draft, Wanted, written};
-use code_values::put_value;
+use crate::counts::value_count;
+use code_drafts::{Destination, Wanted};
 use meaning::{Action, Span, Value};
 use std::alloc::{AllocError, Global};
 
 /// Whether an expression of which something is wanted has no items.
 fn is_value_silent(alloc: Global, value: &Value, wanted: Wanted) -> Result<bool, AllocError> {
-    let items = Vec::new(alloc);
-    let mut draft = Draft { alloc, items };
-    put_value(&mut draft, value, wanted)?;
-    Ok(written(&draft) == 0)
+    let count = value_count(alloc, value, wanted)?;
+    Ok(count == 0)
 }
 
 /// Whether the value and the cases of a `switch` have no items.

@@ -1,18 +1,12 @@
 //! The marks of statements.
 
+use crate::headings::{NEXT_OBJECT_ITEMS, SIBLING_ITEMS};
 use crate::passing::Passing;
 use crate::silence::is_other_silent;
-use crate::tests_of_cases::test_count;
-use code_drafts::{Destination, Wanted, alone, left_of};
+use crate::simple::pass_simple;
 use meaning::{Action, Span, Value};
 use std::alloc::AllocError;
 use syntax_lexer::Sign;
-
-/// How many items end a round of an `objectloop` over all objects, and go back.
-const NEXT_OBJECT_ITEMS: usize = 2;
-
-/// How many items give the variable of an `objectloop` a relative of an object.
-const RELATIVE_ITEMS: usize = 3;
 
 /// Passes statements, one after another.
 #[cycle(statements)]
@@ -35,7 +29,7 @@ fn pass_statement<'a>(
 ) -> Result<(), AllocError> {
     match statement {
         Action::Empty => {
-            passing.cursor.pass(1);
+            passing.pass_token();
             Ok(())
         }
         Action::Block(statements) => pass_block(passing, statements),
@@ -48,37 +42,7 @@ fn pass_statement<'a>(
         Action::EachObject(_, body) => pass_each(passing, body),
         Action::EachWhere(_, test, body) => pass_each_where(passing, body, test),
         Action::EachIn(_, parent, body) => pass_each_in(passing, body, parent),
-        _ => {
-            passing.mark()?;
-            pass_simple(passing, statement)?;
-            passing.cursor.pass_through(Sign::Semicolon);
-            Ok(())
-        }
-    }
-}
-
-/// Passes the items of a statement in which no other is.
-fn pass_simple<'a>(
-    passing: &mut Passing<'_, 'a>,
-    statement: &Action<'a>,
-) -> Result<(), AllocError> {
-    match statement {
-        Action::Text(_) => passing.pass_items(3),
-        Action::Print(items) => passing.pass_prints(items),
-        Action::PrintReturn(items) => {
-            passing.pass_prints(items)?;
-            passing.pass_items(2)
-        }
-        Action::ReturnValue(value) => passing.pass_alone(value),
-        Action::Give(object, _) => passing.pass_alone(object),
-        Action::Move(object, into) => {
-            passing.pass_operand(object, left_of(object, into))?;
-            passing.pass_operand(into, alone(into))?;
-            passing.pass_items(1)
-        }
-        Action::Remove(object) => passing.pass_alone(object),
-        Action::Effect(value) => passing.pass_value(value, Wanted::Word(Destination::Nowhere)),
-        _ => passing.pass_items(1),
+        _ => pass_simple(passing, statement),
     }
 }
 
@@ -88,9 +52,9 @@ fn pass_block<'a>(
     passing: &mut Passing<'_, 'a>,
     statements: &[Action<'a>],
 ) -> Result<(), AllocError> {
-    passing.cursor.pass(1);
+    passing.pass_token();
     pass_statements(passing, statements)?;
-    passing.cursor.pass(1);
+    passing.pass_token();
     Ok(())
 }
 
@@ -101,12 +65,8 @@ fn pass_if<'a>(
     then: &Action<'a>,
     test: &Value,
 ) -> Result<(), AllocError> {
-    passing.mark()?;
-    passing.pass_test(test, false)?;
-    passing.cursor.pass(1);
-    passing.cursor.pass_parentheses();
-    pass_statement(passing, then)?;
-    Ok(())
+    passing.pass_condition(test)?;
+    pass_statement(passing, then)
 }
 
 /// Passes an `if` with `else`. The jump over the second statement is of the line of the `else`.
@@ -117,16 +77,10 @@ fn pass_if_else<'a>(
     otherwise: &Action<'a>,
     test: &Value,
 ) -> Result<(), AllocError> {
-    passing.mark()?;
-    passing.pass_test(test, false)?;
-    passing.cursor.pass(1);
-    passing.cursor.pass_parentheses();
+    passing.pass_condition(test)?;
     pass_statement(passing, then)?;
-    passing.mark()?;
-    passing.pass_items(1)?;
-    passing.cursor.pass(1);
-    pass_statement(passing, otherwise)?;
-    Ok(())
+    passing.pass_else()?;
+    pass_statement(passing, otherwise)
 }
 
 /// Passes a `while`. The way back is of its line.
@@ -136,15 +90,9 @@ fn pass_while<'a>(
     body: &Action<'a>,
     test: &Value,
 ) -> Result<(), AllocError> {
-    let line = passing.cursor.line();
-    passing.mark_line(line)?;
-    passing.pass_test(test, false)?;
-    passing.cursor.pass(1);
-    passing.cursor.pass_parentheses();
+    let line = passing.pass_condition(test)?;
     pass_statement(passing, body)?;
-    passing.mark_line(line)?;
-    passing.pass_items(1)?;
-    Ok(())
+    passing.pass_back(1, line)
 }
 
 /// Passes a `do`. Its test is of the line of the `until`.
@@ -154,13 +102,9 @@ fn pass_do<'a>(
     body: &Action<'a>,
     test: &Value,
 ) -> Result<(), AllocError> {
-    passing.cursor.pass(1);
+    passing.pass_token();
     pass_statement(passing, body)?;
-    passing.mark()?;
-    passing.pass_test(test, true)?;
-    passing.pass_items(1)?;
-    passing.cursor.pass_through(Sign::Semicolon);
-    Ok(())
+    passing.pass_until(test)
 }
 
 /// Passes a `for`. What is done behind each round is of its line.
@@ -172,31 +116,17 @@ fn pass_for<'a>(
     test: &Option<Box<Value>>,
     behind: &Option<Box<Value>>,
 ) -> Result<(), AllocError> {
-    let line = passing.cursor.line();
-    passing.mark_line(line)?;
-    passing.pass_once(before)?;
-    passing.pass_test_if(test)?;
-    passing.cursor.pass(1);
-    passing.cursor.pass_parentheses();
+    let line = passing.pass_for(before, test)?;
     pass_statement(passing, body)?;
-    passing.mark_line(line)?;
-    passing.pass_once(behind)?;
-    passing.pass_items(1)?;
-    Ok(())
+    passing.pass_next_round(behind, line)
 }
 
 /// Passes an `objectloop` over all objects. The way to the next object is of its line.
 #[cycle(statements)]
 fn pass_each<'a>(passing: &mut Passing<'_, 'a>, body: &Action<'a>) -> Result<(), AllocError> {
-    let line = passing.cursor.line();
-    passing.mark_line(line)?;
-    passing.pass_items(1)?;
-    passing.cursor.pass(1);
-    passing.cursor.pass_parentheses();
+    let line = passing.pass_each()?;
     pass_statement(passing, body)?;
-    passing.mark_line(line)?;
-    passing.pass_items(NEXT_OBJECT_ITEMS)?;
-    Ok(())
+    passing.pass_back(NEXT_OBJECT_ITEMS, line)
 }
 
 /// Passes an `objectloop` over the objects for which a condition holds.
@@ -206,16 +136,9 @@ fn pass_each_where<'a>(
     body: &Action<'a>,
     test: &Value,
 ) -> Result<(), AllocError> {
-    let line = passing.cursor.line();
-    passing.mark_line(line)?;
-    passing.pass_items(1)?;
-    passing.pass_test(test, false)?;
-    passing.cursor.pass(1);
-    passing.cursor.pass_parentheses();
+    let line = passing.pass_each_where(test)?;
     pass_statement(passing, body)?;
-    passing.mark_line(line)?;
-    passing.pass_items(NEXT_OBJECT_ITEMS)?;
-    Ok(())
+    passing.pass_back(NEXT_OBJECT_ITEMS, line)
 }
 
 /// Passes an `objectloop` over the children of an object.
@@ -225,16 +148,9 @@ fn pass_each_in<'a>(
     body: &Action<'a>,
     parent: &Value,
 ) -> Result<(), AllocError> {
-    let line = passing.cursor.line();
-    passing.mark_line(line)?;
-    passing.pass_operand(parent, alone(parent))?;
-    passing.pass_items(RELATIVE_ITEMS)?;
-    passing.cursor.pass(1);
-    passing.cursor.pass_parentheses();
+    let line = passing.pass_each_in(parent)?;
     pass_statement(passing, body)?;
-    passing.mark_line(line)?;
-    passing.pass_items(RELATIVE_ITEMS + 1)?;
-    Ok(())
+    passing.pass_back(SIBLING_ITEMS, line)
 }
 
 /// Passes a `switch`: its word is put aside, and its cases follow.
@@ -245,15 +161,11 @@ fn pass_switch<'a>(
     other: &Option<Vec<Action<'a>>>,
     value: &Value,
 ) -> Result<(), AllocError> {
-    passing.mark()?;
-    passing.pass_value(value, Wanted::Word(Destination::Aside))?;
-    passing.cursor.pass(1);
-    passing.cursor.pass_parentheses();
-    passing.cursor.pass(1);
-    let is_silent = is_other_silent(passing.draft.alloc, other)?;
+    passing.pass_switch(value)?;
+    let is_silent = is_other_silent(passing.alloc(), other)?;
     pass_cases(passing, cases, is_silent)?;
     pass_other(passing, other)?;
-    passing.cursor.pass(1);
+    passing.pass_token();
     Ok(())
 }
 
@@ -268,23 +180,20 @@ fn pass_cases<'a>(
         pass_case(passing, &cases[number])?;
         // The way over what follows in the `switch`.
         if !is_silent || number + 1 < cases.len() {
-            passing.pass_items(1)?;
+            passing.pass_items(1);
         }
     }
     Ok(())
 }
 
-/// Passes a case: its tests, which are of the line where its values begin, and its statements.
+/// Passes a case: its tests, and its statements.
 #[cycle(statements)]
 fn pass_case<'a>(
     passing: &mut Passing<'_, 'a>,
     case: &(Vec<Span>, Vec<Action<'a>>),
 ) -> Result<(), AllocError> {
-    passing.mark()?;
-    passing.pass_items(test_count(&case.0))?;
-    passing.cursor.pass_through(Sign::Colon);
-    pass_statements(passing, &case.1)?;
-    Ok(())
+    passing.pass_values(&case.0)?;
+    pass_statements(passing, &case.1)
 }
 
 /// Passes the statements of `default`.
@@ -296,7 +205,7 @@ fn pass_other<'a>(
     match other {
         None => Ok(()),
         Some(statements) => {
-            passing.cursor.pass_through(Sign::Colon);
+            passing.pass_through(Sign::Colon);
             pass_statements(passing, statements)
         }
     }

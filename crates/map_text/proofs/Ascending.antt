@@ -4,7 +4,7 @@ use Rattle.std.specs.List.{All, slice_index_or}
 use Rattle.std.proofs.lemmas.List.{append_assoc}
 use Rattle.std.proofs.lemmas.List.Elements.{All-nil, All-cons}
 use Rattle.map_text.specs.declared.row.Row.{Row}
-use Rattle.map_text.specs.Text.{Ascend, RowOf, line_feed, row_of, row_text, rows_text}
+use Rattle.map_text.specs.Text.{Ascend, line_feed, row_of, row_text, rows_text}
 use Rattle.map_text.specs.Found.{IsBehind, IsLast, IsRowAt}
 
 pub all_behind : (rows : List Row) (least address : ℕ) → Ascend least (map row_of rows) → address < least
@@ -22,12 +22,6 @@ rest_behind (x ∷ xs) least zero address d up lt more =
     All-cons (IsBehind address) x xs more (all_behind xs x.address address up.1 more)
 rest_behind (x ∷ xs) least (suc k) address d up lt more =
     rest_behind xs x.address k address d up.1 (omega (arith, lt)) more
-
--- one row more, whose address is not below that of the last
-pub one_more : (least : ℕ) (rs : List RowOf) (r q : RowOf) → Ascend least (rs ++ r ∷ []) → r.address ≤ q.address
-    → Ascend least (rs ++ r ∷ q ∷ [])
-one_more least [] r q up le = (up.0, (le, tt))
-one_more least (x ∷ xs) r q up le = (up.0, one_more x.address xs r q up.1 le)
 
 -- the last of the rows at or before an address, of which there are so many, before rows that are all behind it
 pub found : (rows : List Row) (n address : ℕ) (o : Option Row) → n ≤ length rows

@@ -1,6 +1,6 @@
 -- The text of a map: two lines that say of which story it is, and a line for each row.
 use Rattle.std.specs.Prelude.{◌≡◌, ◌+◌, ◌*◌, ◌/◌, ◌%◌, ◌^◌, ◌<◌, ◌≤◌, ℕ, List, [], ◌∷◌, ◌++◌, map, ⊤}
-use Rattle.std.specs.Prelude.{Result, Ok, Err, Option, Some, None}
+use Rattle.std.specs.Prelude.{Result, Ok, Err}
 use Rattle.std.specs.List.{All}
 use Rattle.std.specs.Global.{Vec}
 use Rattle.std.specs.Fmt.{decimal}
@@ -54,24 +54,7 @@ abbrev pub Ascend : ℕ → List RowOf → Type 0
 Ascend least [] = ⊤
 Ascend least (r ∷ rs) = (least ≤ r.address) × Ascend r.address rs
 
--- what is read of a line that is this row, and of lines that are these rows
-abbrev pub GivesRow : Option Row → RowOf → Type 0
-GivesRow None r = ⊥
-GivesRow (Some found) r = row_of found ≡ r
-
+-- what is read of lines that are these rows
 abbrev pub GivesRows : Result (Vec Row) MapFault → List RowOf → Type 0
 GivesRows (Ok found) rs = map row_of found.items ≡ rs
 GivesRows (Err fault) rs = fault ≡ Memory
-
--- what becomes of rows to which a line adds this row, if there is memory
-abbrev pub AddsRow : {E : Type 0} → Result (Option ℕ) E → List RowOf → List RowOf → RowOf → Type 0
-AddsRow (Ok None) old new r = ⊥
-AddsRow (Ok (Some address)) old new r = (address ≡ r.address) × (new ≡ old ++ r ∷ [])
-AddsRow (Err e) old new r = ⊤
-
--- and to which it adds any row: the address is not below this
-abbrev pub AddsAbove : {E : Type 0} → ℕ → Result (Option ℕ) E → List Row → List Row → Type 0
-AddsAbove least (Ok None) old new = new ≡ old
-AddsAbove least (Ok (Some address)) old new =
-    (r : Row) × (new ≡ old ++ r ∷ []) × (least ≤ address) × (address ≡ r.address)
-AddsAbove least (Err e) old new = ⊤

@@ -10,7 +10,7 @@ mod writing;
 
 pub use beginning::{heading, word_in};
 pub use fault::MapFault;
-pub use reading::{read_map, read_rows};
+pub use reading::read_map;
 pub use row::Row;
 pub use search::row_at;
 pub use writing::{put_row, put_rows};

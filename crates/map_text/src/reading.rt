@@ -1,10 +1,9 @@
 //! A map that is read.
 
-ghost use Rattle.std.specs.Prelude.{◌≡◌, ◌<◌, ◌≤◌, ◌^◌, ◌∷◌, ◌++◌, ℕ, List, Some, map, IfOk, IfSome, IsSomeAnd, length};
-ghost use Rattle.std.specs.List.{All};
-ghost use Rattle.std.specs.Fmt.{decimal};
-ghost use Rattle.map_text.specs.Text.{address_text, digit, row_of, row_text, rows_text, space};
-ghost use Rattle.map_text.specs.Text.{Ascend, AddsAbove, AddsRow, AreRows, GivesRow, GivesRows, IsRow, RowOf};
+ghost use Rattle.std.specs.Prelude.{◌≡◌, ◌<◌, ◌≤◌, ◌++◌, List, map, option_map, IfOk, IfSome, IfNone, length};
+ghost use Rattle.map_text.specs.Text.{row_of, rows_text, Ascend, AreRows, GivesRows, RowOf};
+ghost use Rattle.map_text.specs.Reading.{place, before, after, not_below, cut_lines, map_in, AddsRow, Gives};
+ghost use Rattle.map_text.specs.Reading as spec;
 
 use crate::beginning::FIRST_LINE;
 use crate::fault::MapFault;
@@ -17,15 +16,16 @@ const ADDRESS_LENGTH: usize = 5;
 /// What a byte counts that is no digit.
 const NO_DIGIT: u32 = 16;
 
-/// How many lines are before the first row.
-const HEADING_LINES: usize = 2;
+/// The number of the line of the first row, after the two lines of the heading.
+const FIRST_ROW: usize = 3;
 
 /// The bytes before the first that is a divider, and those after it; `None` where no byte is one.
 fn cut(bytes: &[u8], divider: u8) -> Option<(&[u8], &[u8])>
-    ensures parts { (front back : List ℕ) → bytes.now ≡ front ++ divider ∷ back
-        → All (λ b. divider < b) front → IsSomeAnd result
-        (λ parts. (parts.0.now ≡ front) × (parts.1.now ≡ back)) }
+    ensures some { IfSome result (λ _. place divider bytes.now < length bytes.now) }
+    ensures front { IfSome result (λ parts. parts.0.now ≡ before divider bytes.now) }
+    ensures back { IfSome result (λ parts. parts.1.now ≡ after divider bytes.now) }
     ensures shorter { IfSome result (λ parts. length parts.1.now < length bytes.now) }
+    ensures none { IfNone result (place divider bytes.now ≡ length bytes.now) }
 {
     for at in 0..bytes.len() {
         let byte = bytes[at];
@@ -39,8 +39,9 @@ fn cut(bytes: &[u8], divider: u8) -> Option<(&[u8], &[u8])>
 }
 
 /// What a hexadecimal digit counts; 16 for a byte that is none.
+#[tactic(auto, using(std::proofs::lemmas::Bool::Decides::nat_tests))]
 fn digit_value(byte: u8) -> u32
-    ensures value { (n : ℕ) → n < 16 → byte ≡ digit n → result ≡ n }
+    ensures value { result ≡ spec.digit_value byte }
     ensures small { result ≤ 16 }
 {
     match byte {
@@ -52,8 +53,7 @@ fn digit_value(byte: u8) -> u32
 
 /// The address that five digits are.
 fn address_in(digits: &[u8]) -> Option<u32>
-    ensures { (address : ℕ) → address < 2 ^ 20 → digits.now ≡ address_text address
-        → result ≡ Some address }
+    ensures { result ≡ spec.address_in digits.now }
 {
     if digits.len() != ADDRESS_LENGTH {
         return None;
@@ -76,7 +76,7 @@ fn address_in(digits: &[u8]) -> Option<u32>
 
 /// The number that decimal digits are.
 fn number_in(digits: &[u8]) -> Option<usize>
-    ensures { (n : ℕ) → n < 2 ^ 64 → digits.now ≡ decimal n → result ≡ Some n }
+    ensures { result ≡ spec.number_in digits.now }
 {
     let Ok(text) = str::from_utf8(digits) else {
         return None;
@@ -89,7 +89,7 @@ fn number_in(digits: &[u8]) -> Option<usize>
 
 /// The row that a line is.
 fn row_in(line: &[u8]) -> Option<Row<'_>>
-    ensures { (r : RowOf) → IsRow r → line.now ≡ row_text r → GivesRow result r }
+    ensures { option_map row_of result ≡ spec.row_in line.now }
 {
     let (digits, rest) = cut(line, b' ')?;
     let (routine, number) = cut(rest, b' ')?;
@@ -108,30 +108,22 @@ fn add_row<'a>(
     line: &'a [u8],
     least: u32,
 ) -> Result<Option<u32>, AllocError>
-    ensures row { (r : RowOf) → IsRow r → line.now ≡ row_text r → least ≤ r.address
-        → AddsRow result (map row_of rows.old.items) (map row_of rows.new.items) r }
-    ensures above { AddsAbove least result rows.old.items rows.new.items }
+    ensures { AddsRow result (map row_of rows.old.items) (map row_of rows.new.items)
+        (not_below least (spec.row_in line.now)) }
 {
-    match row_in(line) {
-        Some(row) if row.address >= least => {
-            rows.push(row)?;
-            Ok(Some(row.address))
-        }
-        _ => Ok(None),
+    let Some(row) = row_in(line) else {
+        return Ok(None);
+    };
+    if row.address < least {
+        return Ok(None);
     }
+    rows.push(row)?;
+    Ok(Some(row.address))
 }
 
-/// The rows that lines are, of which the first has this number.
-///
-/// # Errors
-///
-/// - `Line`: the number of the first line that is no row, or whose address is below that of the row
-///   above it.
-/// - `Memory`: a growth of memory was refused.
-pub fn read_rows(alloc: Global, lines: &[u8], first: usize) -> Result<Vec<Row<'_>>, MapFault>
-    ensures rows { (rs : List RowOf) → AreRows rs → Ascend 0 rs → lines.now ≡ rows_text rs
-        → GivesRows result rs }
-    ensures ascend { IfOk result (λ v. Ascend 0 (map row_of v.items)) }
+/// The rows of the lines after the heading.
+fn read_rows(alloc: Global, lines: &[u8]) -> Result<Vec<Row<'_>>, MapFault>
+    ensures { Gives result (spec.rows_in lines.now) }
 {
     let mut rows: Vec<Row<'_>> = Vec::new(alloc);
     let mut rest = lines;
@@ -140,7 +132,7 @@ pub fn read_rows(alloc: Global, lines: &[u8], first: usize) -> Result<Vec<Row<'_
         if rest.is_empty() {
             break;
         }
-        let number = rows.len().saturating_add(first);
+        let number = rows.len().saturating_add(FIRST_ROW);
         let Some((line, after)) = cut(rest, b'\n') else {
             return Err(MapFault::Line(number));
         };
@@ -153,7 +145,21 @@ pub fn read_rows(alloc: Global, lines: &[u8], first: usize) -> Result<Vec<Row<'_
     Ok(rows)
 }
 
-/// The rows of a map that begins with these lines.
+/// The rows of a text that begins with a heading, or the fault that it has.
+fn rows_after<'a>(alloc: Global, text: &'a [u8], heading: &[u8]) -> Result<Vec<Row<'a>>, MapFault>
+    ensures { Gives result (map_in heading.now text.now) }
+{
+    if let Some(lines) = text.strip_prefix(heading) {
+        return read_rows(alloc, lines);
+    }
+    if text.starts_with(FIRST_LINE.as_bytes()) {
+        Err(MapFault::OtherStory)
+    } else {
+        Err(MapFault::NoMap)
+    }
+}
+
+/// The rows of a map that begins with these two lines.
 ///
 /// # Errors
 ///
@@ -163,14 +169,10 @@ pub fn read_rows(alloc: Global, lines: &[u8], first: usize) -> Result<Vec<Row<'_
 ///   above it.
 /// - `Memory`: a growth of memory was refused.
 pub fn read_map<'a>(alloc: Global, text: &'a [u8], heading: &[u8]) -> Result<Vec<Row<'a>>, MapFault>
-    ensures { IfOk result (λ v. Ascend 0 (map row_of v.items)) }
+    ensures gives { Gives result (map_in heading.now text.now) }
+    ensures rows { (rs : List RowOf) → AreRows rs → Ascend 0 rs
+        → text.now ≡ heading.now ++ rows_text rs → GivesRows result rs }
+    ensures ascend { IfOk result (λ v. Ascend 0 (map row_of v.items)) }
 {
-    if let Some(lines) = text.strip_prefix(heading) {
-        return read_rows(alloc, lines, HEADING_LINES + 1);
-    }
-    if text.starts_with(FIRST_LINE.as_bytes()) {
-        Err(MapFault::OtherStory)
-    } else {
-        Err(MapFault::NoMap)
-    }
+    rows_after(alloc, text, heading)
 }

@@ -1,37 +1,31 @@
-use Rattle.std.proofs.Common.{◌≡◌, ◌++◌, ◌∷◌}
-use Rattle.std.specs.Fmt.{decimal}
-use Rattle.map_text.specs.Text.{address_text, space}
-use Rattle.map_text.proofs.Lines.{address_above, same_row}
+use Rattle.std.proofs.Common.{◌∙◌, ap, None, option_map, refl}
+use Rattle.map_text.specs.Text.{row_of}
+use Rattle.map_text.specs.Reading.{number_in}
+use Rattle.map_text.proofs.Lines.{no_rest, none_is, row_is}
 use Rattle.map_text.proofs.reading.row_in.Goals as goal
 
 pub returns-in_err-digits : goal.returns-in_err-digits
-returns-in_err-digits c = λ r ok e. absurd (c.in_err-digits.ensures.parts (address_text r.address)
-    (r.routine ++ space ∷ decimal r.line) e (address_above r.address))
+returns-in_err-digits c =
+    ap (option_map row_of) c.from_residual.ensures ∙ no_rest c.args.line.now c.in_err-digits.ensures.none
 
 pub returns-in_err-routine : goal.returns-in_err-routine
-returns-in_err-routine c = λ r ok e.
-    let h = c.in_ok-digits.ensures.parts (address_text r.address) (r.routine ++ space ∷ decimal r.line) e
-    (address_above r.address) in
-    absurd (c.in_err-routine.ensures.parts r.routine (decimal r.line) h.1 ok.named)
+returns-in_err-routine c =
+    ap (option_map row_of) c.from_residual-in_err-routine.ensures
+    ∙ none_is c.args.line.now _ c.in_ok-digits.ensures.back c.in_err-routine.ensures.none
 
 pub returns-in_err-address : goal.returns-in_err-address
-returns-in_err-address c = λ r ok e.
-    let h = c.in_ok-digits.ensures.parts (address_text r.address) (r.routine ++ space ∷ decimal r.line) e
-    (address_above r.address) in
-    absurd (cc (c.in_err-address.ensures r.address ok.low h.0))
+returns-in_err-address c =
+    ap (option_map row_of) c.from_residual-in_err-address.ensures
+    ∙ row_is c.args.line.now _ _ _ _ None (number_in c.in_ok-routine.number.now) c.in_ok-digits.ensures.front
+    c.in_ok-digits.ensures.back c.in_ok-routine.ensures.front c.in_ok-routine.ensures.back c.in_err-address.ensures refl
 
 pub returns-in_err-line : goal.returns-in_err-line
-returns-in_err-line c = λ r ok e.
-    let h = c.in_ok-digits.ensures.parts (address_text r.address) (r.routine ++ space ∷ decimal r.line) e
-    (address_above r.address) in
-    let i = c.in_ok-routine.ensures.parts r.routine (decimal r.line) h.1 ok.named in
-    absurd (cc (c.in_err-line.ensures r.line ok.word i.1))
+returns-in_err-line c =
+    ap (option_map row_of) c.from_residual-in_err-line.ensures
+    ∙ row_is c.args.line.now _ _ _ _ _ None c.in_ok-digits.ensures.front c.in_ok-digits.ensures.back
+    c.in_ok-routine.ensures.front c.in_ok-routine.ensures.back c.in_ok-address.ensures c.in_err-line.ensures
 
 pub returns : goal.returns
-returns c = λ r ok e.
-    let h = c.in_ok-digits.ensures.parts (address_text r.address) (r.routine ++ space ∷ decimal r.line) e
-    (address_above r.address) in
-    let i = c.in_ok-routine.ensures.parts r.routine (decimal r.line) h.1 ok.named in
-    let a : c.in_ok-address.address ≡ r.address = cc (c.in_ok-address.ensures r.address ok.low h.0) in
-    let l : c.in_ok-line.line ≡ r.line = cc (c.in_ok-line.ensures r.line ok.word i.1) in
-    same_row r _ _ _ a i.0 l
+returns c =
+    row_is c.args.line.now _ _ _ _ _ _ c.in_ok-digits.ensures.front c.in_ok-digits.ensures.back
+    c.in_ok-routine.ensures.front c.in_ok-routine.ensures.back c.in_ok-address.ensures c.in_ok-line.ensures

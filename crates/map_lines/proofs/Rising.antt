@@ -1,0 +1,113 @@
+-- Rows whose addresses ascend.
+use Rattle.std.proofs.Common.{◌≡◌, ◌<◌, ◌≤◌, ◌+◌, ◌-◌, ◌%◌, ◌^◌, ℕ, min, List, [], ◌∷◌, ◌++◌, map}
+use Rattle.std.proofs.Common.{reverse, refl, sym, ap, ◌∙◌, subst, arith, append_assoc, append-nil, length-append}
+use Rattle.std.proofs.Common.{mod-lt, inl, inr, Result, Ok, Err, OkIff, IfOk}
+use Rattle.std.specs.Global.{Vec}
+use Rattle.std.specs.Result.{result_unwrap_or}
+use Rattle.std.proofs.lemmas.Bool.{cases_lt}
+use Rattle.std.proofs.lemmas.List.{map-append, reverse-reverse}
+use Rattle.zcore.specs.declared.header.Version.{Version}
+use Rattle.zcore.specs.declared.header.Version.TheVariants.{V5, V8}
+use Rattle.zcore.specs.Header.{scale_of}
+use Rattle.code_instructions.specs.Places.{place_in}
+use Rattle.code_drafts.specs.Items.{Item}
+use Rattle.code_encoding.specs.Addresses.{Sizes}
+use Rattle.code.specs.Bytes.{lefts_of}
+use Rattle.code.proofs.Places.{rises}
+use Rattle.map_text.specs.declared.row.Row.{Row}
+use Rattle.map_text.specs.Text.{Ascend, RowOf, row_of}
+use Rattle.map_lines.specs.Rows.{AddsMarks, address_at, Rise}
+
+pub rise_later : (a : ℕ) (rs : List RowOf) (m n : ℕ) → Rise a rs m → m ≤ n → Rise a rs n
+rise_later a [] m n up le = omega (arith, up, le)
+rise_later a (r ∷ rs) m n up le = (up.0, rise_later r.address rs m n up.1 le)
+
+rise_earlier : (a b : ℕ) (rs : List RowOf) (m : ℕ) → a ≤ b → Rise b rs m → Rise a rs m
+rise_earlier a b [] m le up = omega (arith, up, le)
+rise_earlier a b (r ∷ rs) m le up = (omega (arith, up.0, le), up.1)
+
+pub rise_both : (a b c : ℕ) (xs ys : List RowOf) → Rise a xs b → Rise b ys c → Rise a (xs ++ ys) c
+rise_both a b c [] ys up more = rise_earlier a b ys c up more
+rise_both a b c (x ∷ xs) ys up more = (up.0, rise_both x.address b c xs ys up.1 more)
+
+pub rise_ascend : (a : ℕ) (rs : List RowOf) (m : ℕ) → Rise a rs m → Ascend a rs
+rise_ascend a [] m up = tt
+rise_ascend a (r ∷ rs) m up = (up.0, rise_ascend r.address rs m up.1)
+
+-- places of items rise
+places_rise : (sizes : Sizes) (items : List Item) (left : List ℕ) → left ≡ reverse (lefts_of sizes items)
+    → (m n : ℕ) → m ≤ n → place_in (reverse left) m ≤ place_in (reverse left) n
+places_rise sizes items left is =
+    let same : lefts_of sizes items ≡ reverse left =
+    sym (ap (λ (xs : List ℕ). reverse xs) is ∙ reverse-reverse (lefts_of sizes items)) in
+    subst (λ (lefts : List ℕ). (m n : ℕ) → m ≤ n → place_in lefts m ≤ place_in lefts n) same (rises sizes items)
+
+pub left_rise : {E : Type 0} (sizes : Sizes) (items : List Item) (r : Result (Vec ℕ) E)
+    → IfOk r (λ v. v.items ≡ reverse (lefts_of sizes items))
+    → IfOk r (λ v. (m n : ℕ) → m ≤ n → place_in (reverse v.items) m ≤ place_in (reverse v.items) n)
+left_rise sizes items (Ok v) is = places_rise sizes items v.items is
+left_rise sizes items (Err e) is = tt
+
+pub scale_few : (version : Version) (s : ℕ) → s ≡ scale_of version → (0 < s) × (s ≤ 8)
+scale_few V5 s is = (omega (arith, is), omega (arith, is))
+scale_few V8 s is = (omega (arith, is), omega (arith, is))
+
+-- a place to which a packed address leads
+pub aligned_up : (at s x : ℕ) → 0 < s → s ≤ 8 → x ≡ min (at + (s - 1)) (2 ^ 64 - 1)
+    → address_at at 0 ≤ address_at (x - x % s) 0
+aligned_up at s x some few is =
+    let rest = mod-lt x some in
+    omega (arith, rest, some, few, is)
+
+-- an address that has 32 bits
+pub clamped : {E : Type 0} (place behind x : ℕ) (r : Result ℕ E) → x ≡ min (place + behind) (2 ^ 64 - 1)
+    → OkIff r (x < 2 ^ 32) x → result_unwrap_or r (2 ^ 32 - 1) ≡ address_at place behind
+clamped place behind x (Ok y) is low = omega (arith, is, low.0, low.1)
+clamped place behind x (Err e) is high = elim (cases_lt x (2 ^ 32)) [
+  | inl lt ↦ absurd (high lt)
+  | inr ge ↦ omega (arith, is, ge)
+]
+
+-- no marks yet
+pub no_marks : (place p : ℕ) (rows : List Row) → AddsMarks place rows rows 0 (address_at place (p + 1))
+no_marks place p rows = ([], sym (append-nil rows), refl, omega arith)
+
+-- the row of one mark more
+pub mark_more : (place p q behind count : ℕ) (old one new : List Row) (row : Row)
+    → AddsMarks place old one count (address_at place (p + 1)) → p ≤ q → behind ≡ min (q + 1) (2 ^ 64 - 1)
+    → row.address ≡ address_at place behind → new ≡ one ++ row ∷ []
+    → AddsMarks place old new (count + 1) (address_at place (q + 1))
+mark_more place p q behind count old one new row adds le is address more =
+    let low : address_at place (p + 1) ≤ row.address = omega (arith, le, is, address) in
+    let high : row.address ≤ address_at place (q + 1) = omega (arith, le, is, address) in (
+      adds.0 ++ row ∷ [],
+      more ∙ ap (λ (rows : List Row). rows ++ row ∷ []) adds.1 ∙ append_assoc old adds.0 (row ∷ []),
+      omega (arith, adds.2, length-append adds.0 (row ∷ [])),
+      subst (λ (rows : List RowOf). Rise (address_at place 0) rows (address_at place (q + 1)))
+          (sym (map-append row_of adds.0 (row ∷ [])))
+          (rise_both (address_at place 0) (address_at place (p + 1)) (address_at place (q + 1)) (map row_of adds.0)
+          (row_of row ∷ []) adds.3 (low, high)),
+    )
+
+pub marks_end : (place p q count all : ℕ) (old new : List Row)
+    → AddsMarks place old new count (address_at place (p + 1)) → p ≤ q → count ≡ all
+    → AddsMarks place old new all (address_at place (q + 1))
+marks_end place p q count all old new adds le same = (
+  adds.0,
+  adds.1,
+  adds.2 ∙ same,
+  rise_later (address_at place 0) (map row_of adds.0) (address_at place (p + 1)) (address_at place (q + 1)) adds.3
+      (omega (arith, le)),
+)
+
+-- the first row, and those of the marks
+pub routine_rises : (place p end length_is : ℕ) (row : Row) (others : List RowOf) → row.address ≡ address_at place 0
+    → Rise (address_at place 0) others (address_at place (p + 1)) → length_is ≡ min (p + 1) (2 ^ 64 - 1)
+    → end ≡ min (place + length_is) (2 ^ 64 - 1) → Rise (address_at place 0) (row_of row ∷ others) (address_at end 0)
+routine_rises place p end length_is row others at up long is =
+    let low : address_at place 0 ≤ row.address = omega (arith, at) in
+    let high : address_at place (p + 1) ≤ address_at end 0 = omega (arith, long, is) in (
+      low,
+      rise_earlier row.address (address_at place 0) others (address_at end 0) (omega (arith, at))
+          (rise_later (address_at place 0) others (address_at place (p + 1)) (address_at end 0) up high),
+    )

@@ -1,0 +1,22 @@
+//! How many items expressions have: these are written, as for the story, and counted.
+
+use code_drafts::{Draft, Operand, Wanted, written};
+use code_values::{put_operand, put_value};
+use meaning::Value;
+use std::alloc::{AllocError, Global};
+
+/// How many items an expression has of which something is wanted.
+pub fn value_count(alloc: Global, value: &Value, wanted: Wanted) -> Result<usize, AllocError> {
+    let items = Vec::new(alloc);
+    let mut draft = Draft { alloc, items };
+    put_value(&mut draft, value, wanted)?;
+    Ok(written(&draft))
+}
+
+/// How many items push an operand, if it is pushed.
+pub fn operand_count(alloc: Global, value: &Value, operand: Operand) -> Result<usize, AllocError> {
+    let items = Vec::new(alloc);
+    let mut draft = Draft { alloc, items };
+    put_operand(&mut draft, value, operand)?;
+    Ok(written(&draft))
+}
