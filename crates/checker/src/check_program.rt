@@ -21,6 +21,7 @@ use checker_names::{Breach, File, Least, Numbers, gather, tabulate};
 use checker_objects::{all_defaults, listed_objects_size, parents, place};
 use meaning::{Checked, dictionary_behind};
 use std::alloc::{AllocError, Global};
+use std::mem::forget;
 use syntax::{Directive, Program, Text};
 use syntax_lexer::{PlacedFault, SourceFault};
 
@@ -126,10 +127,23 @@ pub fn check<'a>(alloc: Global, program: Program<'a>) -> Result<Checked<'a>, Sou
     ensures { AnswersBreaches result (program_breaches (program_tree program.entry))
         (λ c. IsCheckedOf (program_tree program.entry) c) }
 {
-    match check_placed(alloc, &program) {
+    let found = check_placed(alloc, &program);
+    syntax::discard(program);
+    match found {
         Ok(checked) => Ok(checked),
         Err(placed) => Err(placed.fault),
     }
+}
+
+/// Gives back the memory of a program that is not needed any more. A crate that drops one in a
+/// function of its own proves anew what becomes of each kind of its parts: hand it over here instead.
+pub fn discard(checked: Checked<'_>) {
+    drop(checked);
+}
+
+/// Leaves the memory of a program to the system, which takes it back when the process ends.
+pub fn leave(checked: Checked<'_>) {
+    forget(checked);
 }
 
 /// As [`check`], with the place of the fault.

@@ -3,11 +3,11 @@
 #![tactic(auto)]
 
 use one_line::OneLine;
+use std::env;
 use std::fmt::Display;
 use std::fs::File;
 use std::io::{self, Read};
 use std::process::ExitCode;
-use std::{env, mem};
 use tools::{PairFault, Version, compile_and_run, status};
 
 /// The most bytes of a source: 64 MB.
@@ -85,8 +85,7 @@ fn demonstrate(rt: &HostRuntime, source: &[u8]) -> ExitCode {
     ) {
         Ok(session) => {
             let ended = status(&session.place());
-            // The process ends here: what each turn kept is not given back piece by piece.
-            mem::forget(session);
+            session.leave();
             ExitCode::from(ended)
         }
         Err(PairFault::Run(fault)) => end(rt, BROKEN, fault),

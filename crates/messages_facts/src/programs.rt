@@ -3,7 +3,7 @@
 use checker_names::{Table, tabulate};
 use messages_temporaries::temporaries_at;
 use std::alloc::{AllocError, Global};
-use syntax::{Token, parse, parse_placed};
+use syntax::{Token, discard, parse, parse_placed};
 use syntax_lexer::NO_MEMORY;
 
 /// The offset of the first token that does not fit; that of no token where all fit.
@@ -14,7 +14,7 @@ use syntax_lexer::NO_MEMORY;
 pub fn reach(alloc: Global, tokens: &[Token<'_>]) -> Result<usize, AllocError> {
     match parse_placed(alloc, tokens) {
         Ok(program) => {
-            drop(program);
+            discard(program);
             Ok(usize::MAX)
         }
         Err(placed) => {
@@ -43,7 +43,7 @@ pub fn table_of(alloc: Global, tokens: &[Token<'_>]) -> Result<Option<Table>, Al
         }
         Ok(program) => {
             let table = tabulate(&program.directives, alloc);
-            drop(program);
+            discard(program);
             match table {
                 Ok(table) => Ok(Some(table)),
                 Err(refused) => Err(refused),
@@ -74,7 +74,7 @@ pub fn temporaries_of(
         }
         Ok(program) => {
             let number = temporaries_at(&program, offset);
-            drop(program);
+            discard(program);
             Ok(number)
         }
     }

@@ -18,7 +18,7 @@ ghost use Rattle.messages_figures.specs.Measured.{Measures};
 use crate::definitions::{attributes_in, properties_in};
 use crate::routine_figures::{RoutineFigures, routines_of};
 use crate::table_bytes::TableBytes;
-use checker::{accepted_programs, check, printable_programs};
+use checker::{accepted_programs, check, discard, printable_programs};
 use meaning::Checked;
 use messages_temporaries::{Temporaries, greatest_temporaries};
 use std::alloc::{AllocError, Global};
@@ -201,6 +201,8 @@ pub fn measure<'a>(
     drop(tokens);
     let of_tree = tree_figures(&program);
     let checked = check(alloc, program)?;
-    let found = figures_of(alloc, &checked, version, limit, of_tree)?;
+    let figures = figures_of(alloc, &checked, version, limit, of_tree);
+    discard(checked);
+    let found = figures?;
     Ok(found)
 }

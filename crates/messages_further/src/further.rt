@@ -4,7 +4,7 @@ use checker::next_breach;
 use checker_names::Breach;
 use messages_places::{Diagnosis, located};
 use std::alloc::{AllocError, Global};
-use syntax::{Program, parse};
+use syntax::{Program, discard, parse};
 use syntax_lexer::{NO_MEMORY, PlacedFault, Position, lex};
 
 /// How many broken rules are shown after the first.
@@ -52,7 +52,11 @@ pub fn further_rules(
         return Ok(further);
     }
     match parse(alloc, &tokens) {
-        Ok(program) => collect(alloc, source, &program, known, &mut further)?,
+        Ok(program) => {
+            let collected = collect(alloc, source, &program, known, &mut further);
+            discard(program);
+            collected?;
+        }
         Err(fault) if fault.number == NO_MEMORY => return Err(AllocError),
         Err(_) => {}
     }

@@ -23,7 +23,7 @@ use std::fmt::Display;
 use std::fs::File;
 use std::io::{IsTerminal, Write};
 use std::process::ExitCode;
-use std::{env, io, mem};
+use std::{env, io};
 use wrapping::Wrapped;
 
 /// The exit status where the story cannot be played.
@@ -142,8 +142,7 @@ fn play_story(rt: &HostRuntime, words: Words<'_>, story: Vec<u8>, rows: &[Row<'_
         let placed = Placed::of(rt.alloc(), &session, mode, rows);
         let _ = eprintln!(rt; "{placed}");
     }
-    // The process ends here: what each turn kept is not given back piece by piece.
-    mem::forget(session);
+    session.leave();
     match ran {
         Ok(place) => ExitCode::from(status(&place)),
         Err(fault) => broken(rt, fault),

@@ -78,6 +78,7 @@ impl Row {
             Ok(session) => {
                 shown.text("status ");
                 shown.display_line(&status(&session.place()));
+                session.close();
             }
             Err(fault) => shown.display_line(&fault),
         }

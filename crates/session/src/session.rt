@@ -29,6 +29,7 @@ use machine_frames::program_counter;
 use std::alloc::Global;
 use std::collections::VecDeque;
 use std::marker::Model;
+use std::mem::forget;
 use zcore::Place;
 
 /// A story that is played line by line. The turns of its lines can be taken back one after another,
@@ -137,6 +138,18 @@ impl Session {
             }
             Err(_) => Err(OpenFault::Memory),
         }
+    }
+
+    /// Ends the session, and gives its memory back. A crate that drops a session in a function of
+    /// its own proves anew what becomes of each of its parts: hand it over here instead.
+    pub fn close(self) {
+        drop(self);
+    }
+
+    /// Ends the session, and leaves its memory to the system: for a program that ends too. What each
+    /// turn kept is not given back piece by piece.
+    pub fn leave(self) {
+        forget(self);
     }
 
     /// What the opening printed.

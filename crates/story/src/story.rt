@@ -14,7 +14,6 @@ use code::code_plays;
 use meaning::Checked;
 use std::alloc::Global;
 use std::marker::Model;
-use std::mem::forget;
 use story_sizes::small_sources_have_small_code;
 use syntax::{Program, parse_placed, printable_trees};
 use syntax_lexer::{PlacedFault, SourceFault, lex_placed, printable_tokens};
@@ -105,12 +104,12 @@ enum Trees {
 fn leave(checked: Checked<'_>, program: Program<'_>, trees: Trees) {
     match trees {
         Trees::GivenBack => {
-            drop(checked);
-            drop(program);
+            checker::discard(checked);
+            syntax::discard(program);
         }
         Trees::Left => {
-            forget(checked);
-            forget(program);
+            checker::leave(checked);
+            syntax::leave(program);
         }
     }
 }
@@ -138,13 +137,18 @@ fn compile_in(
     let program = parse_placed(alloc, &tokens)?;
     // The tree names no token, and they may take more memory than it.
     drop(tokens);
-    let checked = check_placed(alloc, &program)?;
-    let sized = story_within(alloc, &checked, version, limit)?;
-    match sized {
-        Ok(bytes) => {
-            leave(checked, program, trees);
-            Ok(Story::of_bytes(bytes))
+    let checked = match check_placed(alloc, &program) {
+        Ok(checked) => checked,
+        Err(placed) => {
+            syntax::discard(program);
+            return Err(placed);
         }
+    };
+    let found = story_within(alloc, &checked, version, limit);
+    leave(checked, program, trees);
+    let sized = found?;
+    match sized {
+        Ok(bytes) => Ok(Story::of_bytes(bytes)),
         Err(placed) => Err(placed),
     }
 }

@@ -1,5 +1,6 @@
 //! Trees of programs.
 
+use std::mem::forget;
 use syntax_directives::{Directive, Text};
 use syntax_lexer::Position;
 
@@ -19,4 +20,15 @@ pub struct Program<'a> {
 
     /// The dictionary words, in order, each as often as it stands.
     pub words: Vec<&'a [u8]>,
+}
+
+/// Gives back the memory of a program that is not needed any more. A crate that drops a program in a
+/// function of its own proves anew what becomes of each kind of its parts: hand it over here instead.
+pub fn discard(program: Program<'_>) {
+    drop(program);
+}
+
+/// Leaves the memory of a program to the system, which takes it back when the process ends.
+pub fn leave(program: Program<'_>) {
+    forget(program);
 }

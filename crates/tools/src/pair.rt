@@ -102,6 +102,9 @@ pub fn compile_and_run_within<R: Read, W: Write>(
     };
     match run(reader, writer, &mut session) {
         Ok(_place) => Ok(session),
-        Err(fault) => Err(PairFault::Run(fault)),
+        Err(fault) => {
+            session.close();
+            Err(PairFault::Run(fault))
+        }
     }
 }

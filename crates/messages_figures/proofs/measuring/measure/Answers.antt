@@ -50,8 +50,8 @@ returns-in_err-found c =
     refused c.args.limit c.args.version c.args.source.now c.from_residual-in_err-found.result no_memory
     c.from_residual-in_err-found.ensures (without_memory (limits_by c.args.limit) c.args.version c.args.source.now no_memory refl)
 
-pub figures_of-requires : goal.figures_of-requires
-figures_of-requires c =
+pub figures_of-figures-requires : goal.figures_of-figures-requires
+figures_of-figures-requires c =
     let lexed : Lexes 0 1 c.args.source.now (Ok (source_tokens c.deref.result.now)) =
     subst (λ ts. Lexes 0 1 c.args.source.now (Ok (source_tokens ts))) (sym c.deref.ensures.value)
     c.in_ok-tokens.ensures.meets in

@@ -32,19 +32,6 @@ returns-in_err-program-clause-compiles c =
     answered (limits_by c.args.limit) c.args.version c.args.source.now c.from_residual-in_err-program.result c.in_err-program.field-0.0
     c.from_residual-in_err-program.ensures refused
 
-pub returns-in_err-checked-clause-compiles : goal.returns-in_err-checked-clause-compiles
-returns-in_err-checked-clause-compiles c =
-    let lexed : Lexes 0 1 c.args.source.now (Ok (source_tokens c.deref.result.now)) =
-    subst (λ ts. Lexes 0 1 c.args.source.now (Ok (source_tokens ts))) (sym c.deref.ensures.value)
-    c.in_ok-tokens.ensures.meets in
-    let found = c.in_ok-program.ensures.found in
-    let p = program_tree c.in_ok-program.program in
-    let refused : RefusesBy (limits_by c.args.limit) c.args.version c.args.source.now c.in_err-checked.field-0.0.fault =
-    unchecked (limits_by c.args.limit) c.args.version c.args.source.now p c.in_err-checked.field-0.0.fault
-    (is_tree c.args.source.now c.deref.result.now lexed p found.0 found.1) c.in_err-checked.ensures.answers in
-    answered (limits_by c.args.limit) c.args.version c.args.source.now c.from_residual-in_err-checked.result c.in_err-checked.field-0.0
-    c.from_residual-in_err-checked.ensures refused
-
 pub returns-in-Err-clause-compiles : goal.returns-in-Err-clause-compiles
 returns-in-Err-clause-compiles c =
     let lexed : Lexes 0 1 c.args.source.now (Ok (source_tokens c.deref.result.now)) =
@@ -52,44 +39,54 @@ returns-in-Err-clause-compiles c =
     c.in_ok-tokens.ensures.meets in
     let found = c.in_ok-program.ensures.found in
     let p = program_tree c.in_ok-program.program in
-    let checked = c.in_ok-checked.ensures.answers in
-    let large = subst (IsStoryWithin c.args.limit c.args.version c.in_ok-checked.checked) c.in-Err.is
-    c.in_ok-sized.ensures in
-    too_large c.args.limit c.args.version c.args.source.now p c.in_ok-checked.checked c.in-Err.placed.fault
-    (is_tree c.args.source.now c.deref.result.now lexed p found.0 found.1) checked.0 checked.1 large.0
+    unchecked (limits_by c.args.limit) c.args.version c.args.source.now p c.in-Err.placed.fault
+    (is_tree c.args.source.now c.deref.result.now lexed p found.0 found.1) c.in-Err.ensures.answers
 
-pub story_within-requires : goal.story_within-requires
-story_within-requires c =
-    let lexed : Lexes 0 1 c.args.source.now (Ok (source_tokens c.deref.result.now)) =
-    subst (λ ts. Lexes 0 1 c.args.source.now (Ok (source_tokens ts))) (sym c.deref.ensures.value)
-    c.in_ok-tokens.ensures.meets in
-    let parsed = c.in_ok-program.ensures.found.0 in
-    let checked = c.in_ok-checked.ensures.answers in
-    let tree = program_tree c.in_ok-program.program in
-    record {
-      accepted = accepted c.accepted_programs.ensures c.printable_tokens.ensures c.printable_trees.ensures
-          c.printable_programs.ensures c.args.source.now c.deref.result.now tree c.in_ok-checked.checked lexed parsed
-          checked.0 checked.1;
-      printable = printable c.accepted_programs.ensures c.printable_tokens.ensures c.printable_trees.ensures
-          c.printable_programs.ensures c.args.source.now c.deref.result.now tree c.in_ok-checked.checked lexed parsed
-          checked.0 checked.1;
-      light = light c.accepted_programs.ensures c.printable_tokens.ensures c.printable_trees.ensures
-          c.printable_programs.ensures c.args.source.now c.deref.result.now tree c.in_ok-checked.checked lexed parsed
-          checked.0 checked.1 c.small_sources_have_small_code.ensures c.args.version;
-    }
-
-pub returns-in-Ok-clause-compiles : goal.returns-in-Ok-clause-compiles
-returns-in-Ok-clause-compiles c =
+pub returns-in-Err-sized-clause-compiles : goal.returns-in-Err-sized-clause-compiles
+returns-in-Err-sized-clause-compiles c =
     let lexed : Lexes 0 1 c.args.source.now (Ok (source_tokens c.deref.result.now)) =
     subst (λ ts. Lexes 0 1 c.args.source.now (Ok (source_tokens ts))) (sym c.deref.ensures.value)
     c.in_ok-tokens.ensures.meets in
     let found = c.in_ok-program.ensures.found in
-    let checked = c.in_ok-checked.ensures.answers in
-    let sized = subst (IsStoryWithin c.args.limit c.args.version c.in_ok-checked.checked) c.in-Ok.is
+    let p = program_tree c.in_ok-program.program in
+    let checked = c.in-Ok.ensures.answers in
+    let large = subst (IsStoryWithin c.args.limit c.args.version c.in-Ok.checked) c.in-Err-sized.is
+    c.in_ok-sized.ensures in
+    too_large c.args.limit c.args.version c.args.source.now p c.in-Ok.checked c.in-Err-sized.placed.fault
+    (is_tree c.args.source.now c.deref.result.now lexed p found.0 found.1) checked.0 checked.1 large.0
+
+pub story_within-found-requires : goal.story_within-found-requires
+story_within-found-requires c =
+    let lexed : Lexes 0 1 c.args.source.now (Ok (source_tokens c.deref.result.now)) =
+    subst (λ ts. Lexes 0 1 c.args.source.now (Ok (source_tokens ts))) (sym c.deref.ensures.value)
+    c.in_ok-tokens.ensures.meets in
+    let parsed = c.in_ok-program.ensures.found.0 in
+    let checked = c.in-Ok.ensures.answers in
+    let tree = program_tree c.in_ok-program.program in
+    record {
+      accepted = accepted c.accepted_programs.ensures c.printable_tokens.ensures c.printable_trees.ensures
+          c.printable_programs.ensures c.args.source.now c.deref.result.now tree c.in-Ok.checked lexed parsed
+          checked.0 checked.1;
+      printable = printable c.accepted_programs.ensures c.printable_tokens.ensures c.printable_trees.ensures
+          c.printable_programs.ensures c.args.source.now c.deref.result.now tree c.in-Ok.checked lexed parsed
+          checked.0 checked.1;
+      light = light c.accepted_programs.ensures c.printable_tokens.ensures c.printable_trees.ensures
+          c.printable_programs.ensures c.args.source.now c.deref.result.now tree c.in-Ok.checked lexed parsed
+          checked.0 checked.1 c.small_sources_have_small_code.ensures c.args.version;
+    }
+
+pub returns-in-Ok-sized-clause-compiles : goal.returns-in-Ok-sized-clause-compiles
+returns-in-Ok-sized-clause-compiles c =
+    let lexed : Lexes 0 1 c.args.source.now (Ok (source_tokens c.deref.result.now)) =
+    subst (λ ts. Lexes 0 1 c.args.source.now (Ok (source_tokens ts))) (sym c.deref.ensures.value)
+    c.in_ok-tokens.ensures.meets in
+    let found = c.in_ok-program.ensures.found in
+    let checked = c.in-Ok.ensures.answers in
+    let sized = subst (IsStoryWithin c.args.limit c.args.version c.in-Ok.checked) c.in-Ok-sized.is
     c.in_ok-sized.ensures in
     compiled c.accepted_programs.ensures c.printable_tokens.ensures c.printable_trees.ensures
     c.printable_programs.ensures c.args.source.now c.deref.result.now (program_tree c.in_ok-program.program)
-    c.in_ok-checked.checked lexed found.0 checked.0 checked.1
+    c.in-Ok.checked lexed found.0 checked.0 checked.1
     c.stories_hold.ensures c.code_plays.ensures c.args.limit c.args.version sized.0 sized.2
     c.of_bytes.result c.of_bytes.ensures.small (c.of_bytes.ensures.value ∙ sized.1) found.1
 
@@ -113,18 +110,6 @@ returns-in_err-program-clause-stands c =
     (λ ten. c.in_err-program.ensures.place ten once) c.in_err-program.ensures.deep_place
     c.in_err-program.ensures.numbers)
 
-pub returns-in_err-checked-clause-stands : goal.returns-in_err-checked-clause-stands
-returns-in_err-checked-clause-stands c =
-    let lexed : Lexes 0 1 c.args.source.now (Ok (source_tokens c.deref.result.now)) =
-    subst (λ ts. Lexes 0 1 c.args.source.now (Ok (source_tokens ts))) (sym c.deref.ensures.value)
-    c.in_ok-tokens.ensures.meets in
-    let found = c.in_ok-program.ensures.found in
-    let p = program_tree c.in_ok-program.program in
-    stands_answered c.args.source.now c.from_residual-in_err-checked.result c.in_err-checked.field-0.0
-    c.from_residual-in_err-checked.ensures
-    (unchecked_stands c.args.source.now p c.in_err-checked.field-0.0
-    (is_tree c.args.source.now c.deref.result.now lexed p found.0 found.1) c.in_err-checked.ensures.stands)
-
 pub returns-in-Err-clause-stands : goal.returns-in-Err-clause-stands
 returns-in-Err-clause-stands c =
     let lexed : Lexes 0 1 c.args.source.now (Ok (source_tokens c.deref.result.now)) =
@@ -132,10 +117,20 @@ returns-in-Err-clause-stands c =
     c.in_ok-tokens.ensures.meets in
     let found = c.in_ok-program.ensures.found in
     let p = program_tree c.in_ok-program.program in
-    let large = subst (IsStoryWithin c.args.limit c.args.version c.in_ok-checked.checked) c.in-Err.is
+    unchecked_stands c.args.source.now p c.in-Err.placed
+    (is_tree c.args.source.now c.deref.result.now lexed p found.0 found.1) c.in-Err.ensures.stands
+
+pub returns-in-Err-sized-clause-stands : goal.returns-in-Err-sized-clause-stands
+returns-in-Err-sized-clause-stands c =
+    let lexed : Lexes 0 1 c.args.source.now (Ok (source_tokens c.deref.result.now)) =
+    subst (λ ts. Lexes 0 1 c.args.source.now (Ok (source_tokens ts))) (sym c.deref.ensures.value)
+    c.in_ok-tokens.ensures.meets in
+    let found = c.in_ok-program.ensures.found in
+    let p = program_tree c.in_ok-program.program in
+    let large = subst (IsStoryWithin c.args.limit c.args.version c.in-Ok.checked) c.in-Err-sized.is
     c.in_ok-sized.ensures in
-    too_large_stands c.args.source.now p c.in_ok-checked.checked c.in-Err.placed
-    (is_tree c.args.source.now c.deref.result.now lexed p found.0 found.1) c.in_ok-checked.ensures.answers.1 large.1
+    too_large_stands c.args.source.now p c.in-Ok.checked c.in-Err-sized.placed
+    (is_tree c.args.source.now c.deref.result.now lexed p found.0 found.1) c.in-Ok.ensures.answers.1 large.1
 
 pub returns-in_err-sized-clause-stands : goal.returns-in_err-sized-clause-stands
 returns-in_err-sized-clause-stands c =
