@@ -6,7 +6,6 @@ mod advice;
 mod expressions;
 mod features;
 mod loops;
-mod prints;
 mod statements;
 mod switches;
 
