@@ -6,7 +6,7 @@
 - in docs/CHANGING.md the crates by their parts, and the table of what a change costs: how many crates, and minutes
 - in docs/COSTS.md the table of the gate, by the seconds in seconds.txt
 - in docs/PROVING.md the number of crates
-- in docs/DIFFERENCES.md the table of what is missing, by the table of the crate `messages_features`
+- in docs/DIFFERENCES.md the tables of what is missing and of words of other languages, by those of `messages_features`
 - in the READMEs of `rows_of_sources` and `rows_of_machine` how many rows their file `stdin` has
 
 `./lists` writes them, and `tests/documents` fails where one is stale."""
@@ -156,15 +156,25 @@ def with_number(text, crates):
 
 
 def with_features(text, _):
-    """DIFFERENCES.md with the table of what is missing."""
-    table = (TOP / "crates/messages_features/src/table.rt").read_text()
+    """DIFFERENCES.md with the tables of what is missing and of words of other languages."""
     rows = ["| Missing here | Write instead | Section |", "|---|---|---|"]
-    for feature in re.findall(r"Feature = Feature \{(.*?)\n\};", table, re.S):
-        missing, instead, section = (field_of(feature, name) for name in ("missing", "instead", "section"))
-        instead = re.sub(r"(examples/(\w+)\.inf)", r"[\2](../\1)", instead)
-        place = f"[{section}](#{section.lower()})" if section else ""
+    for missing, instead, place in features("table"):
         rows.append(f"| {missing} | {instead} | {place} |".replace("  |", " |"))
-    return between(text, "<!-- From messages_features, by ./lists. -->\n", "<!-- End. -->", "\n".join(["", *rows, "", ""]))
+    text = between(text, "<!-- From messages_features, by ./lists. -->\n", "<!-- End. -->", "\n".join(["", *rows, "", ""]))
+    rows = ["| Elsewhere | Write here |", "|---|---|"]
+    for missing, instead, _ in features("habits"):
+        rows.append(f"| {missing} | {instead} |")
+    words = "<!-- Words, from messages_features, by ./lists. -->\n"
+    return between(text, words, "<!-- End. -->", "\n".join(["", *rows, "", ""]))
+
+
+def features(name):
+    """What is missing, what to write instead and the section, of each feature of a file of `messages_features`."""
+    table = (TOP / f"crates/messages_features/src/{name}.rt").read_text()
+    for feature in re.findall(r"Feature = Feature \{(.*?)\n\};", table, re.S):
+        missing, instead, section = (field_of(feature, field) for field in ("missing", "instead", "section"))
+        instead = re.sub(r"(examples/(\w+)\.inf)", r"[\2](../\1)", instead)
+        yield missing, instead, f"[{section}](#{section.lower()})" if section else ""
 
 
 def field_of(feature, name):

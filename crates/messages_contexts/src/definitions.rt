@@ -1,6 +1,6 @@
 //! Where names are defined. The tokens are those of a program.
 
-use crate::tokens::{before, is_name, is_named, is_sign, kind_at};
+use crate::tokens::{before, is_name, is_named, is_sign, kind_at, text_at};
 use checker_names::{Binding, Table, find};
 use syntax::{Kind, Sign, Token, Word};
 
@@ -37,7 +37,7 @@ fn begun_by(word: Word) -> Option<Definition> {
 }
 
 /// What a definition is of that begins with the token of a number.
-fn begun_at(tokens: &[Token<'_>], at: usize) -> Option<Definition> {
+pub fn begun_at(tokens: &[Token<'_>], at: usize) -> Option<Definition> {
     if is_sign(tokens, at, Sign::OpenBracket) {
         return Some(Definition::Routine);
     }
@@ -126,4 +126,43 @@ pub fn binding_in(
     } else {
         find(table, text)
     }
+}
+
+/// What the name that is the token of a number is defined as: a local of its routine, or what the
+/// file defines.
+pub fn known_as(tokens: &[Token<'_>], at: usize) -> Option<Known> {
+    let text = text_at(tokens, at);
+    if !is_name(tokens, at) {
+        return None;
+    }
+    if is_local(tokens, around(tokens, at), text) {
+        return Some(Known::Local);
+    }
+    let defined = first_definition(tokens, text)?;
+    defined_at(tokens, defined).map(|what| Known::File(what))
+}
+
+/// What a name is defined as.
+#[derive(Clone, Copy)]
+pub enum Known {
+    Local,
+    File(Definition),
+}
+
+/// Whether the token of a number is a name that is defined nowhere.
+pub fn is_unknown(tokens: &[Token<'_>], at: usize) -> bool {
+    is_name(tokens, at) && known_as(tokens, at).is_none()
+}
+
+/// Whether the token of a number is the name of a routine.
+pub fn is_routine(tokens: &[Token<'_>], at: usize) -> bool {
+    matches!(known_as(tokens, at), Some(Known::File(Definition::Routine)))
+}
+
+/// Whether the token of a number is the name of an attribute.
+pub fn is_attribute(tokens: &[Token<'_>], at: usize) -> bool {
+    matches!(
+        known_as(tokens, at),
+        Some(Known::File(Definition::Attribute))
+    )
 }

@@ -5,15 +5,23 @@
 mod definitions;
 mod objects;
 mod operands;
+mod spelling;
+mod statements;
 mod tokens;
 
 pub use definitions::{
-    Defined, Definition, around, binding_in, defined_at, first_definition, first_local,
+    Defined, Definition, Known, around, begun_at, binding_in, defined_at, first_definition,
+    first_local, is_attribute, is_routine, is_unknown, known_as,
 };
 pub use objects::{
     first_given, is_behind_has, is_parent, is_property, may_lack_comma, may_lack_has,
 };
 pub use operands::{begins_expression, ends_operand, is_step, owns_parentheses};
+pub use spelling::{MOST_EDITS, in_small_letters, is_near};
+pub use statements::{
+    begins_line, closes_after, definition_of, has_word_within, is_in_parentheses_of, is_in_routine,
+    is_joined, last_open, last_word, open_parenthesis, start_of, switch_around,
+};
 pub use tokens::{
     before, begins_statement, behind, divides_at, ends_within, is_after_word, is_name, is_named,
     is_sign, is_text, is_word, kind_at, line_of, text_at,

@@ -34,6 +34,22 @@ impl Grouped {
         self.kinds.contains(&TokenKind::Sign(sign))
     }
 
+    /// Whether a reserved word is all that is in the list.
+    pub fn is_only_word(&self, word: Word) -> bool {
+        match (self.kinds.as_slice(), self.groups.as_slice()) {
+            ([TokenKind::Reserved(only)], []) => *only == word,
+            _ => false,
+        }
+    }
+
+    /// Whether a name is all that is in the list.
+    pub fn is_only_name(&self) -> bool {
+        match (self.kinds.as_slice(), self.groups.as_slice()) {
+            ([TokenKind::Name], []) => true,
+            _ => false,
+        }
+    }
+
     /// Whether a sign is all that is in the list.
     pub fn is_only(&self, sign: Sign) -> bool {
         match (self.kinds.as_slice(), self.groups.as_slice()) {

@@ -1,5 +1,6 @@
 //! A feature, how it is found by a name, and how its absence is said.
 
+use crate::habits::{BEGINNINGS, OPERANDS, OPERATORS, STATEMENTS};
 use crate::table::{ALL, IN_EXPRESSIONS};
 use std::fmt::{self, Display, Formatter};
 
@@ -87,4 +88,38 @@ pub fn named(text: &[u8]) -> Option<Feature> {
 /// The feature that is recognized by a name in an expression, in capital or small letters.
 pub fn named_in_expression(text: &[u8]) -> Option<Feature> {
     find(&IN_EXPRESSIONS, text)
+}
+
+/// What to write instead of a word of another language at the beginning of a statement or a
+/// definition, in capital or small letters.
+pub fn habit_at_beginning(text: &[u8]) -> Option<Feature> {
+    find(&BEGINNINGS, text)
+}
+
+/// What to write instead of a word of another language between operands, in capital or small
+/// letters.
+pub fn habit_between(text: &[u8]) -> Option<Feature> {
+    find(&OPERATORS, text)
+}
+
+/// What to write instead of a word of another language that is read as a name, in capital or small
+/// letters.
+pub fn habit_as_name(text: &[u8]) -> Option<Feature> {
+    habit_between(text)
+        .or(habit_as_operand(text))
+        .or(find(&STATEMENTS, text))
+}
+
+/// Whether a word is one of another language, or names a feature.
+pub fn is_habit(text: &[u8]) -> bool {
+    habit_as_name(text)
+        .or(habit_at_beginning(text))
+        .or(named(text))
+        .is_some()
+}
+
+/// What to write instead of a word of another language in the place of an operand, in capital or
+/// small letters.
+pub fn habit_as_operand(text: &[u8]) -> Option<Feature> {
+    find(&OPERANDS, text)
 }

@@ -2,10 +2,16 @@
 #![tactic(auto)]
 
 mod feature;
+mod habits;
 mod table;
 
-pub use feature::{Absent, Feature, Instead, named, named_in_expression};
+pub use feature::{
+    Absent, Feature, Instead, habit_as_name, habit_as_operand, habit_at_beginning, habit_between,
+    is_habit, named, named_in_expression,
+};
 pub use table::{
-    ACCENTS, ASSIGNING_OPERATORS, CONSTANT_EXPRESSIONS, DIRECTIVE_SIGN, INEQUALITY, LABELS,
-    NEGATION, OPCODES, OTHER_VALUES, PRINT_FORMS, SUPERCLASSES,
+    ACCENTS, ADDRESSES, ALTERNATIVES, ARRAY_VALUES, ASSIGNING_OPERATORS, BUFFERS, COMMAS,
+    CONSTANT_EXPRESSIONS, DIRECTIVE_SIGN, INEQUALITY, LABELS, LIBRARY, MESSAGES, NEGATION,
+    NESTED_NEGATIONS, OBJECT_LOOPS, OPCODES, OTHER_VALUES, PRINT_FORMS, SETTINGS, STEPS,
+    SUPERCLASSES,
 };

@@ -3,11 +3,19 @@
 
 use crate::feature::Feature;
 
-const LIBRARY: Feature = Feature {
+/// What the library of Inform 6 does.
+pub const LIBRARY: Feature = Feature {
     missing: "the Inform library, `Include`, `Verb`, `Extend`, actions (`<Look>`)",
     instead: "routines and a `read` loop, as in examples/skeleton.inf",
     section: "Directives",
-    names: &["include", "verb", "extend"],
+    names: &[
+        "include",
+        "verb",
+        "extend",
+        "fake_action",
+        "nearby",
+        "grammar",
+    ],
 };
 
 const CONDITIONS: Feature = Feature {
@@ -19,7 +27,8 @@ const CONDITIONS: Feature = Feature {
     ],
 };
 
-const SETTINGS: Feature = Feature {
+/// What Inform 6 sets for a whole story file.
+pub const SETTINGS: Feature = Feature {
     missing: "`Release`, `Serial`, `Switches`, `Replace`, `Default`",
     instead: "nothing",
     section: "",
@@ -31,6 +40,13 @@ const SETTINGS: Feature = Feature {
         "statusline",
         "lowstring",
         "zcharacter",
+        "stub",
+        "message",
+        "link",
+        "system_file",
+        "trace",
+        "dictionary",
+        "undef",
     ],
 };
 
@@ -57,14 +73,16 @@ pub const CONSTANT_EXPRESSIONS: Feature = Feature {
     names: &[],
 };
 
-const BUFFERS: Feature = Feature {
+/// Arrays of the kind `buffer`.
+pub const BUFFERS: Feature = Feature {
     missing: "`Array line buffer 20`",
     instead: "`Array line -> 22`, and `line-->0 = 20` at the start of `Main`",
     section: "",
     names: &[],
 };
 
-const ARRAY_VALUES: Feature = Feature {
+/// What an array does not hold.
+pub const ARRAY_VALUES: Feature = Feature {
     missing: "texts, brackets and parentheses in arrays",
     instead: "characters and plain values, and a `Constant` for a negative one",
     section: "",
@@ -95,7 +113,8 @@ const FUNCTIONS: Feature = Feature {
     ],
 };
 
-const STEPS: Feature = Feature {
+/// Steps of what is no variable.
+pub const STEPS: Feature = Feature {
     missing: "`bag.p++`, `(a->1)++`",
     instead: "`bag.p = bag.p + 1`, `a->1 = a->1 + 1`",
     section: "Operators",
@@ -126,21 +145,24 @@ pub const NEGATION: Feature = Feature {
     names: &[],
 };
 
-const ALTERNATIVES: Feature = Feature {
+/// `or` after other operators than `==` and `~=`.
+pub const ALTERNATIVES: Feature = Feature {
     missing: "`n > 6 or 4`, `o has a or b`",
     instead: "`n > 6 || n > 4`, `o has a || o has b`",
     section: "",
     names: &[],
 };
 
-const COMMAS: Feature = Feature {
+/// Several expressions in one.
+pub const COMMAS: Feature = Feature {
     missing: "`for (i = 0, j = 9 : ..`",
     instead: "one statement for each expression",
     section: "",
     names: &[],
 };
 
-const NESTED_NEGATIONS: Feature = Feature {
+/// Negations as operands.
+pub const NESTED_NEGATIONS: Feature = Feature {
     missing: "`a + ~~b`, `-~a`",
     instead: "`a + (~~b)`, `-(~a)`",
     section: "",
@@ -156,8 +178,15 @@ pub const PRINT_FORMS: Feature = Feature {
 };
 
 const LONG_TEXTS: Feature = Feature {
-    missing: "texts of several lines; `@` and `\\` in texts",
-    instead: "several print items; `(char) 64`, `(char) 92`",
+    missing: "texts of several lines",
+    instead: "several print items",
+    section: "",
+    names: &[],
+};
+
+const AT_SIGNS: Feature = Feature {
+    missing: "`@` and `\\` in texts",
+    instead: "`(char) 64` and `(char) 92`, as items of a `print`",
     section: "",
     names: &[],
 };
@@ -185,7 +214,8 @@ pub const LABELS: Feature = Feature {
     names: &["jump"],
 };
 
-const OBJECT_LOOPS: Feature = Feature {
+/// Other forms of `objectloop`.
+pub const OBJECT_LOOPS: Feature = Feature {
     missing: "`objectloop (x from y)`",
     instead: "`for (x = y : x : x = sibling(x))`",
     section: "",
@@ -228,7 +258,7 @@ const SAVING: Feature = Feature {
     names: &["save", "restore"],
 };
 
-const CLASSES: Feature = Feature {
+pub(crate) const CLASSES: Feature = Feature {
     missing: "`Class`, `ofclass`",
     instead: "an attribute and a property",
     section: "Objects",
@@ -243,7 +273,8 @@ pub const SUPERCLASSES: Feature = Feature {
     names: &[],
 };
 
-const MESSAGES: Feature = Feature {
+/// Routines that are called through an object.
+pub const MESSAGES: Feature = Feature {
     missing: "`self`, messages, routines as property values",
     instead: "a routine with a `switch` over objects",
     section: "",
@@ -258,13 +289,21 @@ const UNDECLARED: Feature = Feature {
 };
 
 const OBJECT_HEADS: Feature = Feature {
-    missing: "`Object \"bag\"`, `has lit with p 3`, `has ~lit`",
-    instead: "`Object bag \"bag\"`, `with p 3, has lit`, nothing",
+    missing: "`Object \"bag\"`, `has lit with p 3`",
+    instead: "`Object bag \"bag\"`, `with p 3, has lit`",
     section: "",
     names: &[],
 };
 
-const ADDRESSES: Feature = Feature {
+const MISSING_ATTRIBUTES: Feature = Feature {
+    missing: "`has ~lit`",
+    instead: "nothing",
+    section: "",
+    names: &[],
+};
+
+/// Addresses of properties as values.
+pub const ADDRESSES: Feature = Feature {
     missing: "`a = bag.&p`",
     instead: "`bag.&p-->0`",
     section: "",
@@ -275,7 +314,7 @@ const ADDRESSES: Feature = Feature {
 pub(crate) const IN_EXPRESSIONS: [Feature; 2] = [FUNCTIONS, MESSAGES];
 
 /// All features.
-pub(crate) const ALL: [Feature; 34] = [
+pub(crate) const ALL: [Feature; 36] = [
     LIBRARY,
     CONDITIONS,
     SETTINGS,
@@ -295,6 +334,7 @@ pub(crate) const ALL: [Feature; 34] = [
     NESTED_NEGATIONS,
     PRINT_FORMS,
     LONG_TEXTS,
+    AT_SIGNS,
     ACCENTS,
     CHARACTERS,
     LABELS,
@@ -309,5 +349,6 @@ pub(crate) const ALL: [Feature; 34] = [
     MESSAGES,
     UNDECLARED,
     OBJECT_HEADS,
+    MISSING_ATTRIBUTES,
     ADDRESSES,
 ];

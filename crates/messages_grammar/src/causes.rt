@@ -1,13 +1,19 @@
 //! What may be the cause of a token that does not fit.
 
+use crate::mending::mended;
+use crate::misspelt::misspelt;
 use crate::repairs::{
     absence_helps, end_of_routine_helps, equality_helps, fits_after_semicolon, name_helps,
     sign_helps,
 };
+use messages_advice::{advice_at, late_advice_at};
 use messages_contexts::{
-    Definition, around, before, behind, ends_within, is_after_word, is_behind_has, is_name,
-    is_named, is_sign, is_text, is_word, kind_at, line_of, owns_parentheses,
+    Definition, around, before, begins_line, behind, definition_of, divides_at, ends_within,
+    is_after_word, is_behind_has, is_sign, is_text, is_unknown, is_word, kind_at, last_open,
+    last_word, open_parenthesis, owns_parentheses, switch_around,
 };
+use messages_definitions::Advice;
+use messages_expected::Grouped;
 use std::alloc::{AllocError, Global};
 use syntax::{Kind, Sign, Token, Word};
 
@@ -20,15 +26,32 @@ pub enum Cause {
     /// The token of a number is a reserved word, and a name in its place would do.
     Reserved(usize),
 
+    /// The token of a number is a name, and this reserved word in its place would do.
+    Misspelt(usize, Word),
+
+    /// It is a form of another language, or a slip of a known kind.
+    Told(Advice),
+
+    /// This sign in its place would do.
+    Instead(Sign),
+
+    /// This sign in the place of the token of a number, before it, would do.
+    InsteadOf(usize, Sign),
+
+    /// Without the token before it the tokens are a program.
+    ExtraBefore,
+
+    /// It begins a definition, which is in a routine.
+    Inside,
+
+    /// Without the `];` before it, which ends the routine, the tokens are a program.
+    EndedEarly,
+
     /// It is the same as the token before it.
     Repeated,
 
     /// It is `=`, and `==` in its place would do.
     Assigns,
-
-    /// It is in a `print`, in parentheses or after them, where a form of Inform 6 may be meant that
-    /// there is not.
-    PrintForm,
 
     /// Signs may be missing before the token of a number: with them a program could go on after the
     /// end of the statement.
@@ -53,24 +76,31 @@ pub struct Missing {
 
 /// The most tokens of a source in which signs are tried: more than the weight of a source for
 /// version 8 allows.
-const MOST_TOKENS: usize = 15_000;
+pub const MOST_TOKENS: usize = 15_000;
 
-const SEMICOLON: Missing = Missing {
+const CLOSE_PARENTHESIS: Missing = Missing {
+    sign: Sign::CloseParenthesis,
+    written: ")",
+};
+
+const CLOSE_BRACE: Missing = Missing {
+    sign: Sign::CloseBrace,
+    written: "}",
+};
+
+pub const SEMICOLON: Missing = Missing {
     sign: Sign::Semicolon,
     written: ";",
 };
 
-const END_OF_ROUTINE: Missing = Missing {
+pub const END_OF_ROUTINE: Missing = Missing {
     sign: Sign::CloseBracket,
     written: "];",
 };
 
 /// Signs that may be missing, those first whose want is the surer cause where they help.
-const SIGNS: [Missing; 8] = [
-    Missing {
-        sign: Sign::CloseParenthesis,
-        written: ")",
-    },
+pub const SIGNS: [Missing; 8] = [
+    CLOSE_PARENTHESIS,
     Missing {
         sign: Sign::OpenParenthesis,
         written: "(",
@@ -79,10 +109,7 @@ const SIGNS: [Missing; 8] = [
         sign: Sign::OpenBrace,
         written: "{",
     },
-    Missing {
-        sign: Sign::CloseBrace,
-        written: "}",
-    },
+    CLOSE_BRACE,
     Missing {
         sign: Sign::Comma,
         written: ",",
@@ -97,23 +124,6 @@ const SIGNS: [Missing; 8] = [
         written: "=",
     },
 ];
-
-/// The words of forms of `print` of Inform 6 that there are not.
-const FORMS: [&[u8]; 8] = [
-    b"the",
-    b"a",
-    b"an",
-    b"name",
-    b"number",
-    b"address",
-    b"property",
-    b"string",
-];
-
-/// Whether the token of a number is on a later line than the one before it.
-pub fn begins_line(tokens: &[Token<'_>], number: usize) -> bool {
-    line_of(tokens, before(number, 1)) < line_of(tokens, number)
-}
 
 /// Whether the token of a number is in an object after its `has`.
 fn is_after_has(tokens: &[Token<'_>], number: usize) -> bool {
@@ -217,50 +227,37 @@ fn reserved_name(
     Ok(None)
 }
 
-/// Whether the token of a number is a word of a form of `print` that there is not.
-fn is_form(tokens: &[Token<'_>], number: usize) -> bool {
-    for form in &FORMS {
-        if is_named(tokens, number, form) {
-            return true;
-        }
-    }
-    false
-}
-
-/// Whether an item of a `print` begins with the token of a number.
-fn begins_item(tokens: &[Token<'_>], number: usize) -> bool {
-    let last = before(number, 1);
-    let is_first = is_word(tokens, last, Word::Print) || is_word(tokens, last, Word::PrintRet);
-    let is_further = is_sign(tokens, last, Sign::Comma)
-        && (is_after_word(tokens, last, Word::Print)
-            || is_after_word(tokens, last, Word::PrintRet));
-    is_first || is_further
-}
-
-/// Whether the token of a number is a word of a form of `print` that there is not, in parentheses.
-fn is_enclosed_form(tokens: &[Token<'_>], number: usize) -> bool {
-    is_form(tokens, number)
-        && is_sign(tokens, behind(number, 1), Sign::CloseParenthesis)
-        && is_sign(tokens, before(number, 1), Sign::OpenParenthesis)
-        && begins_item(tokens, before(number, 1))
-}
-
-/// Whether the token of a number is in the parentheses of a form of `print` that there is not, or a
-/// name or a reserved word after them.
-fn is_in_form(tokens: &[Token<'_>], number: usize) -> bool {
-    is_enclosed_form(tokens, number)
-        || (is_name(tokens, number) || is_reserved(tokens, number))
-            && is_enclosed_form(tokens, before(number, 2))
+/// Whether `,` may be between the tokens of a number and before it: in a `print`, an object, a list
+/// of cases or the arguments of a call.
+fn may_list(tokens: &[Token<'_>], number: usize) -> bool {
+    is_after_word(tokens, number, Word::Print)
+        || is_after_word(tokens, number, Word::PrintRet)
+        || matches!(definition_of(tokens, number), Some(Definition::Object))
+        || open_parenthesis(tokens, number).is_some()
+        || switch_around(tokens, number).is_some()
 }
 
 /// Whether it is likely that a sign is missing before the token of a number. No `{` is before a
 /// `}`, and no `;` between `return` and a text, which is meant as a value.
-fn is_likely(tokens: &[Token<'_>], number: usize, sign: Sign) -> bool {
+pub fn is_likely(tokens: &[Token<'_>], number: usize, sign: Sign) -> bool {
     match sign {
         Sign::OpenBrace => !is_sign(tokens, number, Sign::CloseBrace),
         Sign::Semicolon => {
             !is_text(tokens, number) || !is_word(tokens, before(number, 1), Word::Return)
         }
+        Sign::Comma => {
+            may_list(tokens, number)
+                && !is_unknown(tokens, number)
+                && !is_unknown(tokens, before(number, 1))
+        }
+        Sign::Colon => {
+            switch_around(tokens, number).is_some()
+                || last_word(tokens, number, Word::For).is_some()
+        }
+        Sign::Assign => matches!(
+            definition_of(tokens, number),
+            Some(Definition::Global | Definition::Constant)
+        ),
         _ => true,
     }
 }
@@ -298,6 +295,20 @@ fn unended_line(
     Ok(None)
 }
 
+/// Whether the token of a number may be one too many: a sign, or a reserved word that is no value.
+pub fn may_be_extra(tokens: &[Token<'_>], number: usize) -> bool {
+    match kind_at(tokens, number) {
+        Kind::Sign(_) => true,
+        Kind::Reserved(word) => !is_value(word),
+        _ => false,
+    }
+}
+
+/// Whether a reserved word is a value.
+fn is_value(word: Word) -> bool {
+    matches!(word, Word::True | Word::False | Word::Nothing)
+}
+
 /// Which sign may be missing, if one may, or else whether the token of a number is one too many.
 /// Each sign costs a parse, so none is tried in a source of very many tokens.
 fn missing_sign(
@@ -317,10 +328,29 @@ fn missing_sign(
     if end_of_routine_helps(alloc, tokens, number)? {
         return Ok(Cause::Missing(END_OF_ROUTINE, number));
     }
+    if !may_be_extra(tokens, number) {
+        return Ok(Cause::Unknown);
+    }
     match absence_helps(alloc, tokens, number) {
         Ok(true) => Ok(Cause::Extra),
         Ok(false) => Ok(Cause::Unknown),
         Err(refused) => Err(refused),
+    }
+}
+
+/// What closes the innermost sign that is open at the end of a source, if that is the token of a
+/// number, and no statement before it lacks its `;`.
+fn open_at_end(tokens: &[Token<'_>], number: usize) -> Option<Missing> {
+    if behind(number, 1) != tokens.len() {
+        None
+    } else if open_parenthesis(tokens, number).is_some() {
+        Some(CLOSE_PARENTHESIS)
+    } else if divides_at(tokens, before(number, 1))
+        && last_open(tokens, number, Sign::OpenBrace, Sign::CloseBrace).is_some()
+    {
+        Some(CLOSE_BRACE)
+    } else {
+        None
     }
 }
 
@@ -350,33 +380,61 @@ fn assigns(alloc: Global, tokens: &mut Vec<Token<'_>>, number: usize) -> Result<
     }
 }
 
-/// What may be the cause of a token that does not fit, and has a number.
+/// What may be the cause of a token that does not fit, and has a number, by the tokens beside it.
+fn beside(
+    alloc: Global,
+    tokens: &mut Vec<Token<'_>>,
+    number: usize,
+) -> Result<Option<Cause>, AllocError> {
+    if is_late_with(tokens, number) {
+        return Ok(Some(Cause::LateWith));
+    }
+    if lacks_semicolon(alloc, tokens, number)? {
+        return Ok(Some(Cause::Missing(SEMICOLON, number)));
+    }
+    if is_repeated(tokens, number) {
+        return Ok(Some(Cause::Repeated));
+    }
+    if let Some(place) = reserved_name(alloc, tokens, number)? {
+        return Ok(Some(Cause::Reserved(place)));
+    }
+    if assigns(alloc, tokens, number)? {
+        return Ok(Some(Cause::Assigns));
+    }
+    Ok(None)
+}
+
+/// What may be the cause of a token that does not fit, and has a number. In its place these kinds
+/// are expected.
 ///
 /// # Errors
 ///
 /// `AllocError` where memory is refused.
 pub fn likely_cause(
     alloc: Global,
+    source: &[u8],
     tokens: &mut Vec<Token<'_>>,
     number: usize,
+    wanted: Option<&Grouped>,
 ) -> Result<Cause, AllocError> {
-    if is_late_with(tokens, number) {
-        return Ok(Cause::LateWith);
+    let is_short = tokens.len() <= MOST_TOKENS;
+    if is_short && let Some((place, word)) = misspelt(alloc, tokens, number)? {
+        return Ok(Cause::Misspelt(place, word));
     }
-    if lacks_semicolon(alloc, tokens, number)? {
-        return Ok(Cause::Missing(SEMICOLON, number));
+    if let Some(advice) = advice_at(source, tokens, number, wanted) {
+        return Ok(Cause::Told(advice));
     }
-    if is_repeated(tokens, number) {
-        return Ok(Cause::Repeated);
+    if let Some(cause) = beside(alloc, tokens, number)? {
+        return Ok(cause);
     }
-    if let Some(place) = reserved_name(alloc, tokens, number)? {
-        return Ok(Cause::Reserved(place));
+    if is_short && let Some(cause) = mended(alloc, tokens, number)? {
+        return Ok(cause);
     }
-    if assigns(alloc, tokens, number)? {
-        return Ok(Cause::Assigns);
+    if let Some(missing) = open_at_end(tokens, number) {
+        return Ok(Cause::Missing(missing, number));
     }
-    if is_in_form(tokens, number) {
-        return Ok(Cause::PrintForm);
+    if let Some(advice) = late_advice_at(tokens, number, wanted) {
+        return Ok(Cause::Told(advice));
     }
     missing_sign(alloc, tokens, number)
 }

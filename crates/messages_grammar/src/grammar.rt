@@ -3,15 +3,15 @@
 ghost use Rattle.syntax_lexer.specs.Token.{lexemes};
 ghost use Rattle.syntax_lexer.specs.Tokens.{EndsOnce};
 
-use crate::causes::{Cause, Missing, begins_line, likely_cause};
-use crate::features::{Meant, meant_at, meant_by_comment};
+use crate::causes::{Cause, Missing, likely_cause};
 use crate::openings::open_before;
-use messages_contexts::{before, line_of, text_at};
-use messages_expected::{Expected, Grouped, expected, in_groups};
-use messages_features::{Absent, PRINT_FORMS};
+use messages_contexts::{before, begins_line, line_of, text_at};
+use messages_definitions::Advice;
+use messages_expected::{Expected, Grouped, TokenKind, expected, in_groups};
+use messages_features::Absent;
 use messages_tokens::{Met, Quoted};
 use std::alloc::{AllocError, Global};
-use syntax::{Position, Sign, Token};
+use syntax::{Kind, Position, Sign, Token, Word};
 
 /// The most tokens of a source for which the kinds that are expected are listed. Each kind costs a
 /// parse.
@@ -153,6 +153,79 @@ fn at_token(sentence: String) -> Misfit {
     }
 }
 
+/// What is wrong with a token that is a form of another language, or a slip of a known kind.
+fn told(
+    alloc: Global,
+    tokens: &[Token<'_>],
+    found: Found<'_, '_>,
+    advice: Advice,
+) -> Result<String, AllocError> {
+    let wanted = found.wanted;
+    let met = Met(found.token);
+    match advice {
+        Advice::Absent(what, feature) => format!(in alloc; "{}", Absent(what, feature)),
+        Advice::Word(number, feature) => {
+            let name = Quoted(text_at(tokens, number));
+            format!(in alloc; "{}", Absent(name, feature))
+        }
+        Advice::Do(what) => format!(in alloc; "{wanted} expected, not {met}: {what}"),
+    }
+}
+
+/// What is wrong with a token after a name that may be a misspelt word.
+fn misspelt(
+    alloc: Global,
+    tokens: &[Token<'_>],
+    place: usize,
+    word: Word,
+) -> Result<String, AllocError> {
+    let name = Quoted(text_at(tokens, place));
+    let meant = TokenKind::Reserved(word);
+    format!(in alloc; "unknown word {name}; did you mean {meant}?")
+}
+
+/// What is wrong with a token, if a token beside it is at fault or another is meant by it.
+fn by_change(
+    alloc: Global,
+    tokens: &[Token<'_>],
+    found: Found<'_, '_>,
+    cause: Cause,
+) -> Result<String, AllocError> {
+    let wanted = found.wanted;
+    let met = Met(found.token);
+    let last = Quoted(text_at(tokens, before(found.number, 1)));
+    match cause {
+        Cause::Instead(sign) => {
+            let sign = TokenKind::Sign(sign);
+            format!(in alloc; "{wanted} expected, not {met}: write {sign} in its place")
+        }
+        Cause::InsteadOf(place, sign) => {
+            let sign = TokenKind::Sign(sign);
+            let other = Quoted(text_at(tokens, place));
+            let line = line_of(tokens, place);
+            format!(in alloc;
+                "{wanted} expected, not {met}: write {sign} for the {other} in line {line}"
+            )
+        }
+        Cause::ExtraBefore => {
+            format!(in alloc; "{wanted} expected, not {met}: remove the {last} before it")
+        }
+        Cause::Inside => format!(in alloc;
+            "{wanted} expected, not {met}: a definition is not within a routine: move it out"
+        ),
+        Cause::EndedEarly => {
+            let line = line_of(tokens, before(found.number, 1));
+            format!(in alloc; "{wanted} expected, not {met}: remove the '];' in line {line}")
+        }
+        _ => format!(in alloc; "{wanted} expected, not {met}"),
+    }
+}
+
+/// Whether a token is `}`.
+fn is_brace(token: Token<'_>) -> bool {
+    matches!(token.kind, Kind::Sign(Sign::CloseBrace))
+}
+
 /// What is wrong with a token, by its likely cause.
 fn by_cause(
     alloc: Global,
@@ -165,9 +238,10 @@ fn by_cause(
     let is_after_line = is_after_line(tokens, found, cause);
     let sentence = match cause {
         Cause::LateWith => format!(in alloc; "'with' must be before 'has'"),
+        Cause::Told(advice) => told(alloc, tokens, found, advice),
+        Cause::Misspelt(place, word) => misspelt(alloc, tokens, place, word),
         Cause::Reserved(place) => reserved(alloc, tokens, found, place),
         Cause::Repeated => format!(in alloc; "{wanted} expected: {met} is there twice"),
-        Cause::PrintForm => { format!(in alloc; "{}", Absent("this form of print", PRINT_FORMS)) }
         Cause::Assigns => format!(in alloc; "{wanted} expected, not {met}: write '==' to compare"),
         Cause::Missing(_, place) if place < found.number => {
             after_earlier_line(alloc, tokens, found, place)
@@ -176,21 +250,12 @@ fn by_cause(
             return after_line(alloc, tokens, found, Some(missing));
         }
         Cause::Missing(missing, _) => missing_before(alloc, tokens, found, missing),
+        Cause::Extra if is_brace(found.token) => format!(in alloc;
+            "{wanted} expected, not {met}: remove it, or write '{{' where its block begins"
+        ),
         Cause::Extra => format!(in alloc; "{wanted} expected, not {met}: remove it"),
         Cause::Unknown if is_after_line => return after_line(alloc, tokens, found, None),
-        Cause::Unknown => format!(in alloc; "{wanted} expected, not {met}"),
-    };
-    Ok(at_token(sentence?))
-}
-
-/// That a feature is not in this language.
-fn absent(alloc: Global, tokens: &[Token<'_>], meant: Meant) -> Result<Misfit, AllocError> {
-    let sentence = match meant {
-        Meant::Name(number, feature) => {
-            let name = Quoted(text_at(tokens, number));
-            format!(in alloc; "{}", Absent(name, feature))
-        }
-        Meant::Other(what, feature) => format!(in alloc; "{}", Absent(what, feature)),
+        other => by_change(alloc, tokens, found, other),
     };
     Ok(at_token(sentence?))
 }
@@ -210,13 +275,7 @@ pub fn misfit_at(
     requires { EndsOnce (lexemes tokens.old.items) }
 {
     let grouped = wanted(alloc, tokens)?;
-    if let Some(meant) = meant_by_comment(source, tokens, number) {
-        return absent(alloc, tokens, meant);
-    }
-    if let Some(meant) = meant_at(tokens, number, grouped.as_ref()) {
-        return absent(alloc, tokens, meant);
-    }
-    let cause = likely_cause(alloc, tokens, number)?;
+    let cause = likely_cause(alloc, source, tokens, number, grouped.as_ref())?;
     let found = Found {
         wanted: Expected(grouped.as_ref()),
         number,

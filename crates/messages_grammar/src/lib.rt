@@ -2,8 +2,9 @@
 #![tactic(auto)]
 
 mod causes;
-mod features;
 mod grammar;
+mod mending;
+mod misspelt;
 mod openings;
 mod repairs;
 

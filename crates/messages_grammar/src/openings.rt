@@ -1,6 +1,6 @@
 //! What a missing sign leaves open.
 
-use messages_contexts::{before, is_sign, line_of};
+use messages_contexts::{last_open, line_of};
 use std::fmt::{self, Display, Formatter};
 use syntax::{Sign, Token};
 
@@ -19,23 +19,6 @@ fn opening(sign: Sign) -> Option<(Sign, &'static str)> {
         Sign::CloseBracket => Some((Sign::OpenBracket, "the routine")),
         _ => None,
     }
-}
-
-/// The number of the last token before one that is an opening sign and is not closed before it.
-fn last_open(tokens: &[Token<'_>], at: usize, open: Sign, close: Sign) -> Option<usize> {
-    let mut closed: usize = 0;
-    for count in 0..at {
-        let number = before(at, count.saturating_add(1));
-        if is_sign(tokens, number, close) {
-            closed = closed.saturating_add(1);
-        } else if is_sign(tokens, number, open) {
-            if closed == 0 {
-                return Some(number);
-            }
-            closed = closed.saturating_sub(1);
-        }
-    }
-    None
 }
 
 /// What is open before the token of a number, if a sign that is missing there closes something.

@@ -5,6 +5,25 @@ use messages_facts::reach;
 use std::alloc::{AllocError, Global};
 use syntax::{Kind, Sign, Token};
 
+/// A change of the tokens that is tried.
+#[derive(Clone, Copy)]
+pub enum Change<'a> {
+    /// A sign before the token of a number.
+    Before(usize, Sign),
+
+    /// Another kind in the place of that of the token of a number.
+    Instead(usize, Kind<'a>),
+
+    /// The token of a number is not there.
+    Without(usize),
+
+    /// The tokens from one number to before another are not there.
+    WithoutAll(usize, usize),
+
+    /// `];` before the token of a number.
+    EndOfRoutine(usize),
+}
+
 /// Whether an offset is after the token of a number.
 fn is_after(tokens: &[Token<'_>], offset: usize, number: usize) -> bool {
     match tokens.get(number) {
@@ -194,6 +213,18 @@ pub fn fits_after_semicolon(
     }
 }
 
+/// The offset of the first token that does not fit where `];` is before the token of a number.
+fn reach_with_end(
+    alloc: Global,
+    tokens: &mut Vec<Token<'_>>,
+    number: usize,
+) -> Result<usize, AllocError> {
+    put_before(tokens, number, Sign::Semicolon)?;
+    let reached = reach_with_sign(alloc, tokens, number, Sign::CloseBracket);
+    take(tokens, number);
+    reached
+}
+
 /// Whether a program could go on after the end of a directive, or of its head, if `];` were before
 /// the token of a number, which does not fit.
 ///
@@ -205,11 +236,48 @@ pub fn end_of_routine_helps(
     tokens: &mut Vec<Token<'_>>,
     number: usize,
 ) -> Result<bool, AllocError> {
-    put_before(tokens, number, Sign::Semicolon)?;
-    let reached = reach_with_sign(alloc, tokens, number, Sign::CloseBracket);
-    take(tokens, number);
-    match reached {
+    match reach_with_end(alloc, tokens, number) {
         Ok(offset) => Ok(is_after(tokens, offset, end_from(tokens, number))),
+        Err(refused) => Err(refused),
+    }
+}
+
+/// The offset of the first token that does not fit without the tokens from one number to before
+/// another.
+fn reach_without_all<'a>(
+    alloc: Global,
+    tokens: &[Token<'a>],
+    from: usize,
+    to: usize,
+) -> Result<usize, AllocError> {
+    let mut others: Vec<Token<'a>> = Vec::new(alloc);
+    for number in 0..tokens.len() {
+        if number < from || number >= to {
+            others.push(tokens[number])?;
+        }
+    }
+    reach(alloc, &others)
+}
+
+/// Whether the tokens are a program after a change.
+///
+/// # Errors
+///
+/// `AllocError` if memory is refused.
+pub fn mends<'a>(
+    alloc: Global,
+    tokens: &mut Vec<Token<'a>>,
+    change: Change<'a>,
+) -> Result<bool, AllocError> {
+    let reached = match change {
+        Change::Before(number, sign) => reach_with_sign(alloc, tokens, number, sign),
+        Change::Instead(number, kind) => reach_with(alloc, tokens, number, kind),
+        Change::Without(number) => reach_without(alloc, tokens, number),
+        Change::WithoutAll(from, to) => reach_without_all(alloc, tokens, from, to),
+        Change::EndOfRoutine(number) => reach_with_end(alloc, tokens, number),
+    };
+    match reached {
+        Ok(offset) => Ok(offset == usize::MAX),
         Err(refused) => Err(refused),
     }
 }

@@ -68,5 +68,7 @@ pub fn too_many_arguments(
     let given = Counted(count(tokens, behind(at, 1)) as u128, "argument");
     let locals = Counted(locals as u128, "local");
     let name = Quoted(token.text);
-    Ok(Some(format!(in alloc; "called with {given}; {name} has {locals}")?))
+    Ok(Some(format!(in alloc;
+        "called with {given}; {name} has {locals}: leave one out, or add a local"
+    )?))
 }

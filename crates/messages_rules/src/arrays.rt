@@ -1,8 +1,8 @@
 //! The entry or the size of an array (E28). The tokens are those of a program.
 
-use crate::kinds::{array_kind, most_entries};
 use checker_names::{Known, Table, constant_known, find};
 use messages_contexts::{Defined, behind, is_sign, is_word, kind_at};
+use messages_names::{array_kind, most_entries};
 use messages_tokens::{Figure, Quoted};
 use std::alloc::{AllocError, Global};
 use syntax::{ArrayKind, Kind, Sign, Token, Word};
@@ -68,10 +68,13 @@ fn entry(alloc: Global, known: Option<Known>) -> Result<Option<String>, AllocErr
     match known {
         Some(Known::Number(number)) => {
             let number = Figure(number as u128);
-            Ok(Some(format!(in alloc; "an entry of {number}; a byte holds at most 255")?))
+            Ok(Some(format!(in alloc;
+                "an entry of {number}; a byte holds at most 255: write '-->' or 'table' for words"
+            )?))
         }
         Some(Known::Key(_)) => {
-            let sentence = "a dictionary word does not fit into a byte";
+            let sentence =
+                "a dictionary word does not fit into a byte: write '-->' or 'table' for words";
             Ok(Some(String::from_str(alloc, sentence)?))
         }
         None => Ok(None),

@@ -1,10 +1,12 @@
 //! What cannot be assigned (E26), and `break` and `continue` where none may stand (E27).
 
-use crate::kinds::{is_variable, kind_of};
 use checker_names::{Binding, Table};
 use messages_contexts::{
-    Defined, before, begins_expression, behind, binding_in, is_name, is_sign, is_step, is_word,
+    Defined, before, begins_expression, behind, binding_in, is_in_parentheses_of, is_name, is_sign,
+    is_step, is_word, last_word, open_parenthesis,
 };
+use messages_features::{Instead, STEPS};
+use messages_names::{is_variable, kind_of};
 use messages_tokens::Quoted;
 use std::alloc::{AllocError, Global};
 use syntax::{Sign, Token, Word};
@@ -56,21 +58,90 @@ fn needed(tokens: &[Token<'_>], at: usize) -> &'static str {
     }
 }
 
-/// What is wrong with a sign whose operand is a name with this binding. Without a binding, and of a
-/// variable, nothing is said of the name.
+/// Whether the token of a number is where a comparison may be meant: in the parentheses of a
+/// condition.
+fn may_compare(tokens: &[Token<'_>], at: usize) -> bool {
+    is_in_parentheses_of(tokens, at, Word::If)
+        || is_in_parentheses_of(tokens, at, Word::While)
+        || is_in_parentheses_of(tokens, at, Word::Until)
+        || is_in_parentheses_of(tokens, at, Word::For)
+        || match open_parenthesis(tokens, at) {
+            Some(open) => is_sign(tokens, before(open, 1), Sign::OpenParenthesis),
+            None => false,
+        }
+}
+
+/// Whether the token of a number steps a property or an entry of an array.
+fn steps_part(tokens: &[Token<'_>], at: usize) -> bool {
+    is_step(tokens, at)
+        && (is_sign(tokens, before(at, 2), Sign::Dot)
+            || is_sign(tokens, before(at, 2), Sign::Arrow)
+            || is_sign(tokens, before(at, 2), Sign::LongArrow)
+            || is_sign(tokens, behind(at, 2), Sign::Dot)
+            || is_sign(tokens, behind(at, 2), Sign::Arrow)
+            || is_sign(tokens, behind(at, 2), Sign::LongArrow)
+            || is_sign(tokens, before(at, 1), Sign::CloseParenthesis))
+}
+
+/// What is wrong with a sign that is not beside a name alone, and what to write.
+fn unnamed(
+    alloc: Global,
+    tokens: &[Token<'_>],
+    at: usize,
+    sign: Token<'_>,
+) -> Result<String, AllocError> {
+    let wanted = needed(tokens, at);
+    let written = Quoted(sign.text);
+    if is_sign(tokens, at, Sign::Assign) && last_word(tokens, at, Word::Has).is_some() {
+        return format!(in alloc;
+            "{written} needs {wanted}: write 'give lamp lit' to set an attribute, '==' to compare"
+        );
+    }
+    if is_sign(tokens, at, Sign::Assign) && may_compare(tokens, at) {
+        return format!(in alloc; "{written} needs {wanted}: write '==' to compare");
+    }
+    if steps_part(tokens, at) && is_sign(tokens, at, Sign::Decrement) {
+        return format!(in alloc;
+            "{written} needs {wanted}: write 'bag.p = bag.p - 1', 'a->1 = a->1 - 1'"
+        );
+    }
+    if steps_part(tokens, at) {
+        let instead = Instead(STEPS);
+        return format!(in alloc; "{written} needs {wanted}: {instead}");
+    }
+    if is_sign(tokens, at, Sign::Assign) {
+        return format!(in alloc; "{written} needs {wanted}: write one before it");
+    }
+    misnamed(alloc, sign, wanted, b"", None, "")
+}
+
+/// What to write where the token of a number changes a name that is no variable.
+fn instead(tokens: &[Token<'_>], at: usize, binding: Option<Binding>) -> &'static str {
+    if is_sign(tokens, at, Sign::Assign) && may_compare(tokens, at) {
+        return ": write '==' to compare";
+    }
+    match binding {
+        Some(Binding::Constant(_)) => ": define it by 'Global' to change it",
+        _ => "",
+    }
+}
+
+/// What is wrong with a sign whose operand is a name with this binding, and what to write instead.
+/// Without a binding, and of a variable, nothing is said of the name.
 fn misnamed(
     alloc: Global,
     sign: Token<'_>,
     wanted: &str,
     name: &[u8],
     binding: Option<Binding>,
+    instead: &str,
 ) -> Result<String, AllocError> {
     let sign = Quoted(sign.text);
     match fixed_kind(binding) {
         None => format!(in alloc; "{sign} needs {wanted}"),
         Some(kind) => {
             let name = Quoted(name);
-            format!(in alloc; "{sign} needs {wanted}, but {name} is {kind}")
+            format!(in alloc; "{sign} needs {wanted}, but {name} is {kind}{instead}")
         }
     }
 }
@@ -91,13 +162,14 @@ pub fn not_assignable(
     let wanted = needed(tokens, at);
     let operand = operand(tokens, at);
     if !is_name(tokens, operand) {
-        return misnamed(alloc, token, wanted, b"", None);
+        return unnamed(alloc, tokens, at, token);
     }
     match tokens.get(operand) {
-        None => misnamed(alloc, token, wanted, b"", None),
+        None => misnamed(alloc, token, wanted, b"", None, ""),
         Some(name) => {
             let binding = binding_in(tokens, around, table, name.text);
-            misnamed(alloc, token, wanted, name.text, binding)
+            let instead = instead(tokens, at, binding);
+            misnamed(alloc, token, wanted, name.text, binding, instead)
         }
     }
 }
@@ -109,9 +181,9 @@ pub fn not_assignable(
 /// `AllocError` where memory is refused.
 pub fn outside(alloc: Global, tokens: &[Token<'_>], at: usize) -> Result<String, AllocError> {
     let sentence = if is_word(tokens, at, Word::Break) {
-        "'break' is not inside a loop or a switch"
+        "'break' is not inside a loop or a switch: write 'return' to leave a routine"
     } else {
-        "'continue' is not inside a loop"
+        "'continue' is not inside a loop: write 'return' to leave a routine"
     };
     Ok(String::from_str(alloc, sentence)?)
 }

@@ -22,20 +22,34 @@ fn first_of(tokens: &[Token<'_>], at: usize, around: Defined, text: &[u8]) -> Op
     }
 }
 
+/// What to do with a name that stands a second time as the token of a number: an object has all
+/// values of a property in one place.
+fn remedy(at: usize, around: Defined) -> &'static str {
+    match around.what {
+        Definition::Object if around.name != at => "put all its values there",
+        _ => "choose another name",
+    }
+}
+
 /// What is wrong with a name that stands first as the token of a number, and again as another.
 fn again(
     alloc: Global,
     tokens: &[Token<'_>],
     at: usize,
     first: usize,
+    around: Defined,
     name: &[u8],
 ) -> Result<String, AllocError> {
     let name = Quoted(name);
+    if first == at && matches!(around.what, Definition::Property) {
+        return format!(in alloc; "{name} is a built-in property: leave this definition out");
+    }
     if first == at {
-        return format!(in alloc; "{name} is a built-in property");
+        return format!(in alloc; "{name} is a built-in property: choose another name");
     }
     let line = line_of(tokens, first);
-    format!(in alloc; "{name} is already defined in line {line}")
+    let remedy = remedy(at, around);
+    format!(in alloc; "{name} is already defined in line {line}: {remedy}")
 }
 
 /// What is wrong with a name that stands a second time as a token, which has a number.
@@ -55,7 +69,7 @@ pub fn defined_twice(
     };
     match first_of(tokens, at, found, token.text) {
         None => Ok(None),
-        Some(first) => Ok(Some(again(alloc, tokens, at, first, token.text)?)),
+        Some(first) => Ok(Some(again(alloc, tokens, at, first, found, token.text)?)),
     }
 }
 

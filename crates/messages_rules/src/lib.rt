@@ -6,13 +6,8 @@ mod arguments;
 mod arrays;
 mod assignments;
 mod duplicates;
-mod kinds;
 mod limits;
-mod nearest;
 mod sentence;
-mod unknown;
-mod wanted;
 mod weights;
-mod wrong_kinds;
 
 pub use sentence::{Told, program_sentence};

@@ -14,16 +14,21 @@ use syntax::{Kind, Token};
 use zcore::MOST_ABBREVIATIONS;
 use zcore::layout::{ATTRIBUTE_COUNT, LONGEST_SHORT_NAME, MOST_LOCALS};
 
-/// A limit: how many there may be, and of what.
+/// A limit: how many there may be, and of what, with what to write instead.
 type Limit = (usize, &'static str);
 
 /// The limit of definitions of a kind.
 fn definitions(what: Definition) -> Option<Limit> {
     match what {
-        Definition::Global => Some((MOST_GLOBALS, "globals")),
-        Definition::Attribute => Some((ATTRIBUTE_COUNT as usize, "attributes")),
-        Definition::Property => Some((MOST_PROPERTIES, "properties besides name")),
-        Definition::Object => Some((MOST_OBJECTS, "objects")),
+        Definition::Global => Some((MOST_GLOBALS, "globals: use entries of an array")),
+        Definition::Attribute => {
+            Some((
+                ATTRIBUTE_COUNT as usize,
+                "attributes: use properties of 0 and 1",
+            ))
+        }
+        Definition::Property => Some((MOST_PROPERTIES, "properties besides name: use arrays")),
+        Definition::Object => Some((MOST_OBJECTS, "objects: use numbers and arrays")),
         _ => None,
     }
 }
@@ -31,12 +36,12 @@ fn definitions(what: Definition) -> Option<Limit> {
 /// The limit that is passed at the token of a number behind the name of a definition.
 fn within(tokens: &[Token<'_>], at: usize, around: Defined) -> Option<Limit> {
     match around.what {
-        Definition::Object => Some((MOST_PROPERTY_WORDS, "words of a property")),
+        Definition::Object => Some((MOST_PROPERTY_WORDS, "words of a property: use a second one")),
         Definition::Routine => {
             if ends_within(tokens, around.name, at) {
-                Some((MOST_ARGUMENTS, "arguments of a call"))
+                Some((MOST_ARGUMENTS, "arguments of a call: use globals"))
             } else {
-                Some((MOST_LOCALS, "locals of a routine"))
+                Some((MOST_LOCALS, "locals of a routine: use globals"))
             }
         }
         _ => None,
@@ -61,7 +66,7 @@ fn passed(tokens: &[Token<'_>], at: usize, around: Option<Defined>) -> Option<Li
 fn long_name(alloc: Global, text: &[u8]) -> Result<Option<String>, AllocError> {
     let words = Figure(name_words(text));
     Ok(Some(format!(in alloc;
-        "a short name of {words} words of Z-text; the limit is {LONGEST_SHORT_NAME}"
+        "a short name of {words} words of Z-text; the limit is {LONGEST_SHORT_NAME}: shorten it"
     )?))
 }
 
@@ -90,7 +95,10 @@ pub fn too_many(
     around: Option<Defined>,
 ) -> Result<Option<String>, AllocError> {
     if is_abbreviation(tokens, at) {
-        return beyond(alloc, Some((MOST_ABBREVIATIONS, "abbreviations")));
+        return beyond(
+            alloc,
+            Some((MOST_ABBREVIATIONS, "abbreviations: leave one out")),
+        );
     }
     match token.kind {
         Kind::Text(text) => long_name(alloc, text),
@@ -102,7 +110,7 @@ pub fn too_many(
 fn needs_many(alloc: Global, number: u8) -> Result<String, AllocError> {
     let or_more = if number == u8::MAX { " or more" } else { "" };
     format!(in alloc;
-        "the expression needs {number}{or_more} temporaries; the limit is {MOST_TEMPORARIES}"
+        "the expression needs {number}{or_more} temporaries; the limit is {MOST_TEMPORARIES}: assign a part to a variable before"
     )
 }
 

@@ -8,13 +8,12 @@ use crate::arrays::bad_array;
 use crate::assignments::{not_assignable, outside};
 use crate::duplicates::{bad_abbreviation, defined_twice};
 use crate::limits::{too_large, too_many};
-use crate::unknown::{no_main, unknown};
 use crate::weights::too_heavy;
-use crate::wrong_kinds::wrong_kind;
 use checker_names::Table;
 use messages_contexts::around;
 use messages_facts::table_of;
 use messages_grammar::{misfit_at, too_deep};
+use messages_names::{no_main, unknown, wrong_kind};
 use std::alloc::{AllocError, Global};
 use syntax::{Position, Token, lex};
 use syntax_lexer::{
@@ -44,7 +43,7 @@ fn by_names(
 ) -> Result<Option<String>, AllocError> {
     let around = around(tokens, at);
     match rule {
-        NO_PROPER_MAIN => no_main(alloc, table),
+        NO_PROPER_MAIN => no_main(alloc, tokens, table),
         WRONG_KIND => wrong_kind(alloc, tokens, at, token, around, table),
         TOO_MANY_ARGUMENTS => too_many_arguments(alloc, tokens, at, token, table),
         NOT_ASSIGNABLE => Ok(Some(not_assignable(alloc, tokens, at, token, around, table)?)),

@@ -40,5 +40,5 @@ pub fn too_heavy(
     let name = Quoted(token.text);
     let weight = Figure(weight(tokens, before(at, 1)).saturating_add(32));
     let most = Figure(GREATEST_ROUTINE_WEIGHT);
-    format!(in alloc; "the routine {name} weighs {weight}; the limit is {most}")
+    format!(in alloc; "the routine {name} weighs {weight}; the limit is {most}: split it")
 }

@@ -13,6 +13,18 @@ fn digits(bytes: &[u8]) -> (Class, usize, &'static str) {
     }
 }
 
+/// What to write for a number that letters, digits or `_` directly follow.
+fn instead(number: &[u8], behind: &[u8]) -> &'static str {
+    match (number, behind) {
+        ([b'0'], [b'x' | b'X', ..]) => "write '$1F' for a hexadecimal number",
+        ([b'0'], [b'b' | b'B', ..]) => "write '$$101' for a binary number",
+        ([b'$', ..], _) =>
+            "a binary number has the digits 0 and 1, a hexadecimal one 0 to 9 and a to f",
+        (_, [b'_', ..]) => "write the digits side by side",
+        _ => "a name begins with a letter, and a number is written in digits alone",
+    }
+}
+
 /// What is wrong with the number at the front.
 ///
 /// # Errors
@@ -28,7 +40,14 @@ pub fn number(alloc: Global, bytes: &[u8]) -> Result<String, AllocError> {
     }
     if run_length(Class::Name, front(behind, 1)) > 0 {
         let next = Quoted(front(behind, 1));
-        return format!(in alloc; "{next} directly follows the number {}", Cut(number));
+        let instead = instead(number, behind);
+        return format!(in alloc;
+            "{next} directly follows the number {}: {instead}",
+            Cut(number)
+        );
     }
-    format!(in alloc; "{} is greater than 65,535", Cut(number))
+    format!(in alloc;
+        "{} is greater than 65,535: write a smaller number",
+        Cut(number)
+    )
 }

@@ -4,15 +4,56 @@ use crate::runs::{Class, byte_of_line, from, front, run_length};
 use messages_features::ACCENTS;
 use std::alloc::{AllocError, Global};
 
-/// Where what is quoted has no end.
-const NO_END: &str = "this quote is not closed on its line";
+/// What is wrong with a text that is not closed, where so many quotes are before it in its line.
+fn unclosed(rest: &[u8], quotes: usize) -> &'static str {
+    if quotes > 0 || !has_letter(rest) {
+        "this quote is not closed on its line: one is missing here or before it"
+    } else {
+        "this quote is not closed on its line: write '\"' at the end of the text, or of each part of a long one"
+    }
+}
 
-/// What is wrong with a text, from the byte behind its quote on.
-fn text(alloc: Global, rest: &[u8]) -> Result<Option<String>, AllocError> {
-    match byte_of_line(rest, run_length(Class::Text, rest)) {
-        None => said(alloc, NO_END),
+/// Whether a letter or a digit is in the line with which some bytes begin.
+fn has_letter(bytes: &[u8]) -> bool {
+    for byte in bytes {
+        if *byte == b'\n' {
+            return false;
+        }
+        if byte.is_ascii_alphanumeric() {
+            return true;
+        }
+    }
+    false
+}
+
+/// What to write in the place of a `\`, before the next byte.
+fn instead_of_backslash(next: Option<u8>) -> &'static str {
+    match next {
+        Some(b'n') => "write '^' for a new line",
+        Some(b'"') => "write '~' for a double quote",
+        Some(b'\'') => "write the quote alone",
+        Some(b't') => "write spaces",
+        None => "end the text, and go on with another item",
+        Some(_) => "write '(char) 92' as an item of its own",
+    }
+}
+
+/// What is wrong with a text, from the byte after its quote on. So many quotes are before it in its
+/// line.
+fn text(alloc: Global, rest: &[u8], quotes: usize) -> Result<Option<String>, AllocError> {
+    let length = run_length(Class::Text, rest);
+    match byte_of_line(rest, length) {
+        None => said(alloc, unclosed(rest, quotes)),
         Some(b'"') => Ok(None),
-        Some(byte) => misplaced(alloc, byte, "in a text"),
+        Some(b'\\') => {
+            let instead = instead_of_backslash(byte_of_line(rest, length.saturating_add(1)));
+            Ok(Some(format!(in alloc; "'\\' is not allowed in a text: {instead}")?))
+        }
+        Some(b'@') => said(
+            alloc,
+            "'@' is not allowed in a text: write '(char) 64' as an item of its own, or a letter without accents",
+        ),
+        Some(_) => misplaced(alloc, from(rest, length), "in a text"),
     }
 }
 
@@ -21,17 +62,33 @@ fn said(alloc: Global, sentence: &str) -> Result<Option<String>, AllocError> {
     Ok(Some(String::from_str(alloc, sentence)?))
 }
 
-/// That a byte may not stand there.
-pub fn misplaced(alloc: Global, byte: u8, place: &str) -> Result<Option<String>, AllocError> {
+/// Whether bytes begin with a quote, a dash or a mark that editors put in the place of one of ASCII.
+fn is_typographic(bytes: &[u8]) -> bool {
+    matches!(bytes, [0xE2, 0x80 | 0x89, _, ..] | [0x91..=0x97, ..])
+}
+
+/// That the first of some bytes is not allowed in a place.
+pub fn misplaced(alloc: Global, bytes: &[u8], place: &str) -> Result<Option<String>, AllocError> {
+    let Some(byte) = bytes.first().copied() else {
+        return Ok(None);
+    };
+    if is_typographic(bytes) {
+        return Ok(Some(format!(in alloc;
+            "byte {byte} is not allowed {place}: write straight quotes, '-', '..', '<=' or '>='"
+        )?));
+    }
     if !byte.is_ascii() {
         let instead = ACCENTS.instead;
         return Ok(Some(format!(in alloc; "byte {byte} is not allowed {place}: write {instead}")?));
     }
+    if byte == b'\t' {
+        return Ok(Some(format!(in alloc; "byte 9 is not allowed {place}: write spaces")?));
+    }
     if !matches!(byte, b' '..=b'~') {
-        return Ok(Some(format!(in alloc; "byte {byte} is not allowed {place}")?));
+        return Ok(Some(format!(in alloc; "byte {byte} is not allowed {place}: remove it")?));
     }
     let sign = char::from(byte);
-    Ok(Some(format!(in alloc; "'{sign}' is not allowed {place}")?))
+    Ok(Some(format!(in alloc; "'{sign}' is not allowed {place}: leave it out")?))
 }
 
 /// Whether two slashes stand side by side.
@@ -47,40 +104,91 @@ fn has_two_slashes(bytes: &[u8]) -> bool {
 /// What is wrong with what stands between single quotes, if no other byte than may stand there.
 fn content(alloc: Global, bytes: &[u8]) -> Result<Option<String>, AllocError> {
     let word = match bytes {
-        [] => return said(alloc, "there is nothing between the quotes"),
-        [_] => return said(alloc, "'^' alone is not a character"),
+        [] => return said(
+            alloc,
+            "there is nothing between the quotes: write a letter or a word",
+        ),
+        [_] => return said(alloc, "'^' alone is not a character: write 94"),
         [word @ .., b'/', b'/'] => word,
         _ => bytes,
     };
     if word.is_empty() {
         said(alloc, "there is nothing before the two slashes")
     } else if has_two_slashes(word) {
-        said(alloc, "two slashes are allowed only at the end of a word")
+        said(
+            alloc,
+            "two slashes are allowed only at the end of a word: leave them out",
+        )
     } else {
-        said(alloc, "a word may not contain a space")
+        said(
+            alloc,
+            "a word may not contain a space: write a text in double quotes, or each word in its own",
+        )
     }
 }
 
-/// What is wrong with a character or a word, from the byte behind its quote on.
-fn character_or_word(alloc: Global, rest: &[u8]) -> Result<Option<String>, AllocError> {
+/// Where a character or a word is not closed, and which bytes are before its quote.
+fn unclosed_word(before: &[u8]) -> &'static str {
+    match before {
+        [.., b'n' | b'N'] => {
+            "no name has an apostrophe: write 'hasnt' for a test, texts in double quotes, '!' before a comment"
+        }
+        [.., last] if last.is_ascii_alphanumeric() => {
+            "no name has an apostrophe: write 'lamp.size' for a property, texts in double quotes, '!' before a comment"
+        }
+        _ => "this quote is not closed on its line: write another one at the end of the word",
+    }
+}
+
+/// What is wrong with a character or a word, from the byte after its quote on.
+fn character_or_word(
+    alloc: Global,
+    rest: &[u8],
+    before: &[u8],
+) -> Result<Option<String>, AllocError> {
     let length = run_length(Class::Quoted, rest);
     match byte_of_line(rest, length) {
-        None => said(alloc, NO_END),
+        None => said(alloc, unclosed_word(before)),
+        Some(b'\'') if rest.starts_with(b"''") => {
+            said(
+                alloc,
+                "there is nothing between the quotes: write 39 for an apostrophe",
+            )
+        }
         Some(b'\'') => content(alloc, front(rest, length)),
-        Some(byte) => misplaced(alloc, byte, "between single quotes"),
+        Some(b'~') if length == 0 => {
+            said(alloc, "'~' is not allowed between single quotes: write 126")
+        }
+        Some(_) => misplaced(alloc, from(rest, length), "between single quotes"),
     }
 }
 
-/// What is wrong with what begins with a quote. `None` where no quote stands.
+/// How many double quotes are in the last line of some bytes.
+fn quotes_in_line(bytes: &[u8]) -> usize {
+    let mut count: usize = 0;
+    for byte in bytes {
+        if *byte == b'\n' {
+            count = 0;
+        } else if *byte == b'"' {
+            count = count.saturating_add(1);
+        }
+    }
+    count
+}
+
+/// What is wrong with what begins with a quote at an offset of a source. `None` where no quote is
+/// there.
 ///
 /// # Errors
 ///
 /// `AllocError` where memory is refused.
-pub fn quoted(alloc: Global, bytes: &[u8]) -> Result<Option<String>, AllocError> {
+pub fn quoted(alloc: Global, source: &[u8], offset: usize) -> Result<Option<String>, AllocError> {
+    let bytes = from(source, offset);
+    let before = front(source, offset);
     let rest = from(bytes, 1);
     match bytes.first().copied() {
-        Some(b'"') => text(alloc, rest),
-        Some(b'\'') => character_or_word(alloc, rest),
+        Some(b'"') => text(alloc, rest, quotes_in_line(before)),
+        Some(b'\'') => character_or_word(alloc, rest, before),
         _ => Ok(None),
     }
 }

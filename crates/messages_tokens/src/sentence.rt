@@ -2,19 +2,53 @@
 
 use crate::numbers::number;
 use crate::quoted::{misplaced, quoted};
-use crate::runs::{Class, from, run_length};
-use messages_features::{Absent, DIRECTIVE_SIGN, Feature, OPCODES};
+use crate::runs::{Class, from, front, run_length};
+use messages_features::{Absent, DIRECTIVE_SIGN, Feature, OPCODES, habit_at_beginning, named};
 use std::alloc::{AllocError, Global};
 use syntax_lexer::{BAD_NUMBER, BAD_TEXT, NAME_TOO_LONG, STRAY_BYTE};
 
+/// Whether a word may begin a directive, here or in Inform 6.
+fn begins_directive(word: &[u8]) -> bool {
+    const WORDS: [&[u8]; 7] = [
+        b"abbreviate",
+        b"array",
+        b"attribute",
+        b"constant",
+        b"global",
+        b"object",
+        b"property",
+    ];
+    for known in &WORDS {
+        if word.eq_ignore_ascii_case(known) {
+            return true;
+        }
+    }
+    named(word).is_some()
+}
+
 /// The feature of Inform 6 that begins with a sign and a letter, and how it is called.
 fn feature_of(bytes: &[u8]) -> Option<(&'static str, Feature)> {
+    let rest = from(bytes, 1);
+    let word = front(rest, run_length(Class::Name, rest));
     match bytes {
-        [b'#', next, ..] if next.is_ascii_alphabetic() => {
-            Some(("'#' before a directive", DIRECTIVE_SIGN))
-        }
+        [b'#', ..] if begins_directive(word) => Some(("'#' before a directive", DIRECTIVE_SIGN)),
+        [b'#', ..] => match habit_at_beginning(word) {
+            Some(feature) => Some(("this line", feature)),
+            None => None,
+        },
         [b'@', next, ..] if next.is_ascii_alphabetic() => Some(("an opcode", OPCODES)),
         _ => None,
+    }
+}
+
+/// What to write in the place of a sign that begins no token.
+fn instead_of(sign: u8) -> &'static str {
+    match sign {
+        b'#' => "a comment begins with '!', and the bytes of a property are 'lamp.#size'",
+        b'?' => "write 'if' and 'else'",
+        b'^' => "it is a new line in a text, which is between double quotes, and no operator",
+        b'`' => "write a quote as in 'word' or \"text\"",
+        _ => "remove it",
     }
 }
 
@@ -28,16 +62,17 @@ fn stray(alloc: Global, bytes: &[u8]) -> Result<Option<String>, AllocError> {
         None => Ok(None),
         Some(byte) if matches!(byte, b' '..=b'~') => {
             let sign = char::from(byte);
-            Ok(Some(format!(in alloc; "no token begins with '{sign}'")?))
+            let instead = instead_of(byte);
+            Ok(Some(format!(in alloc; "no token begins with '{sign}': {instead}")?))
         }
-        Some(byte) => misplaced(alloc, byte, "in a source"),
+        Some(_) => misplaced(alloc, bytes, "in a source"),
     }
 }
 
 /// What is wrong with a name that is too long.
 fn long_name(alloc: Global, bytes: &[u8]) -> Result<String, AllocError> {
     let length = run_length(Class::Name, bytes);
-    format!(in alloc; "the name has {length} bytes; the limit is 32")
+    format!(in alloc; "the name has {length} bytes; the limit is 32: shorten it")
 }
 
 /// What is wrong at an offset of a source that breaks a rule of bytes or tokens, by the rule's
@@ -55,7 +90,7 @@ pub fn source_sentence(
     let bytes = from(source, offset);
     match rule {
         STRAY_BYTE => stray(alloc, bytes),
-        BAD_TEXT => quoted(alloc, bytes),
+        BAD_TEXT => quoted(alloc, source, offset),
         BAD_NUMBER => Ok(Some(number(alloc, bytes)?)),
         NAME_TOO_LONG => Ok(Some(long_name(alloc, bytes)?)),
         _ => Ok(None),

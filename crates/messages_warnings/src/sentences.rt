@@ -2,7 +2,7 @@
 
 use crate::marks::{Concern, Warning};
 use crate::warnings::warnings_of;
-use messages_contexts::{before, is_name, is_sign, is_word, kind_at, line_of, text_at};
+use messages_contexts::{before, is_name, is_sign, kind_at, line_of, text_at};
 use messages_tokens::Quoted;
 use std::alloc::{AllocError, Global};
 use std::fmt::{self, Display, Formatter};

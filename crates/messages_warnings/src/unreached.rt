@@ -3,7 +3,7 @@
 use crate::marks::{Concern, Marks};
 use crate::routines::Routine;
 use crate::statements::{begins_in_list, is_case};
-use messages_contexts::{behind, is_sign, is_text, kind_at};
+use messages_contexts::{is_sign, is_text, kind_at};
 use syntax_lexer::{Kind, Sign, Token, Word};
 
 /// Whether a statement that begins with a reserved word goes elsewhere.

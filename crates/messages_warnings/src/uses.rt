@@ -3,7 +3,7 @@
 use crate::loops::Around;
 use crate::numbers::{NONE, number_at};
 use crate::routines::Routine;
-use messages_contexts::{before, behind, is_name, is_sign, is_word};
+use messages_contexts::{before, behind, is_sign, is_word};
 use std::alloc::{AllocError, Global};
 use syntax_lexer::{Sign, Token, Word};
 

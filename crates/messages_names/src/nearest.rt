@@ -3,13 +3,13 @@
 use crate::wanted::{
     ARRAY, ATTRIBUTE, CONSTANT, OBJECT, PROPERTY, ROUTINE, VALUE, VARIABLE, wanted,
 };
-use messages_contexts::{Defined, Definition, around, defined_at, is_name, text_at};
+use messages_contexts::{
+    Defined, Definition, around, behind, defined_at, in_small_letters, is_attribute, is_name,
+    is_near, text_at,
+};
 use std::alloc::{AllocError, Global};
 use strsim::generic_levenshtein;
 use syntax::Token;
-
-/// The most edits between a name and the one that may be meant.
-const MOST_EDITS: usize = 2;
 
 /// A defined name, by the number of its token, and how many edits lead to it.
 #[derive(Clone, Copy)]
@@ -38,21 +38,6 @@ fn suits(wanted: &str, what: Definition) -> bool {
     }
 }
 
-/// A name in small letters.
-fn in_small_letters(alloc: Global, name: &[u8]) -> Result<Vec<u8>, AllocError> {
-    let mut small = Vec::new(alloc);
-    for byte in name {
-        small.push(byte.to_ascii_lowercase())?;
-    }
-    Ok(small)
-}
-
-/// Whether the name to which so many edits lead may be meant: they are few, and fewer than the
-/// letters.
-fn is_near(name: &[u8], edits: usize) -> bool {
-    edits <= MOST_EDITS && edits < name.len()
-}
-
 /// The nearer of a name that was found and that of the token of a number. The first that was found
 /// if both are as near.
 fn nearer(
@@ -65,8 +50,8 @@ fn nearer(
     let defined = in_small_letters(alloc, text_at(tokens, number))?;
     let edits = generic_levenshtein(alloc, asked.name, defined.as_slice())?;
     let is_nearer = match found {
-        None => is_near(asked.name, edits),
-        Some(near) => edits < near.edits,
+        None => is_near(asked.name, edits, &defined),
+        Some(near) => edits < near.edits && is_near(asked.name, edits, &defined),
     };
     if is_nearer {
         Ok(Some(Near { number, edits }))
@@ -149,4 +134,72 @@ pub fn nearest<'a>(
         Some(near) => Ok(Some(text_at(tokens, near.number))),
         None => Ok(None),
     }
+}
+
+/// Reserved words that are values.
+const VALUES: [&str; 3] = ["true", "false", "nothing"];
+
+/// Reserved words before parentheses.
+const CALLS: [&str; 3] = ["parent", "child", "sibling"];
+
+/// Reserved words in the place of a case.
+const CASES: [&str; 1] = ["default"];
+
+/// Reserved words before attributes, in the place of a property.
+const PARTS: [&str; 1] = ["has"];
+
+/// The first of some words to which so few edits lead from a name that it may be meant: one, or two
+/// if both are as long.
+fn near_word(
+    alloc: Global,
+    name: &[u8],
+    words: &[&'static str],
+) -> Result<Option<&'static str>, AllocError> {
+    let small = in_small_letters(alloc, name)?;
+    for word in words {
+        let edits = generic_levenshtein(alloc, small.as_slice(), word.as_bytes())?;
+        let is_alike = edits == 1 || name.len() == word.len();
+        if is_alike && is_near(name, edits, word.as_bytes()) {
+            return Ok(Some(*word));
+        }
+    }
+    Ok(None)
+}
+
+/// The reserved word that may be meant by the token of a number, whose name is not known.
+///
+/// # Errors
+///
+/// `AllocError` if memory is refused.
+pub fn nearest_word(
+    alloc: Global,
+    tokens: &[Token<'_>],
+    at: usize,
+    name: &[u8],
+) -> Result<Option<&'static str>, AllocError> {
+    let Some(around) = around(tokens, at) else {
+        return Ok(None);
+    };
+    match wanted(tokens, at, around, false) {
+        VALUE => near_word(alloc, name, &VALUES),
+        ROUTINE => near_word(alloc, name, &CALLS),
+        CONSTANT if matches!(around.what, Definition::Routine) => near_word(alloc, name, &CASES),
+        PROPERTY if is_attribute(tokens, behind(at, 1)) => near_word(alloc, name, &PARTS),
+        _ => Ok(None),
+    }
+}
+
+/// The number of the token of the first routine by whose name `Main` may be meant.
+///
+/// # Errors
+///
+/// `AllocError` if memory is refused.
+pub fn nearest_main(alloc: Global, tokens: &[Token<'_>]) -> Result<Option<usize>, AllocError> {
+    for number in 0..tokens.len() {
+        let is_routine = matches!(defined_at(tokens, number), Some(Definition::Routine));
+        if is_routine && near_word(alloc, text_at(tokens, number), &["main"])?.is_some() {
+            return Ok(Some(number));
+        }
+    }
+    Ok(None)
 }

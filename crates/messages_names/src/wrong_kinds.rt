@@ -1,5 +1,6 @@
 //! A name of the wrong kind (E23): what it is, and what is wanted where it stands.
 
+use crate::hints::hint;
 use crate::kinds::{array_kind, is_variable, kind_of};
 use crate::wanted::{CONSTANT, VALUE, is_read, wanted};
 use checker_names::{Binding, Table};
@@ -26,15 +27,26 @@ fn read(alloc: Global, name: &[u8], binding: Binding) -> Result<String, AllocErr
         None => format!(in alloc;
             "{name} is already used by this read; another array is expected here"
         ),
-        Some(kind) => format!(in alloc; "{name} is {kind}; an array of bytes is expected here"),
+        Some(kind) => format!(in alloc;
+            "{name} is {kind}; an array of bytes is expected here: define one by 'Array a -> 50;'"
+        ),
     }
 }
 
-/// What is wrong with a name, if it is not what is wanted.
-fn other(alloc: Global, name: &[u8], binding: Binding, wanted: &str) -> Result<String, AllocError> {
+/// What is wrong with a name, if it is not what is wanted, and what to write.
+fn other(
+    alloc: Global,
+    name: &[u8],
+    binding: Binding,
+    wanted: &str,
+    hint: Option<&'static str>,
+) -> Result<String, AllocError> {
     let name = Quoted(name);
     let kind = kind_of(binding);
     let instead = Instead(OTHER_VALUES);
+    if let Some(hint) = hint {
+        return format!(in alloc; "{name} is {kind}; {wanted} is expected here: {hint}");
+    }
     match binding {
         Binding::Routine(_, _) if wanted == VALUE => format!(in alloc;
             "{name} is {kind}; {wanted} is expected here: call it, or {instead}"
@@ -101,7 +113,13 @@ fn misnamed(
         return after_gap(alloc, name, binding, missing);
     }
     let wanted = wanted(tokens, at, around, is_variable(binding));
-    other(alloc, name, binding, wanted)
+    other(
+        alloc,
+        name,
+        binding,
+        wanted,
+        hint(tokens, at, binding, wanted),
+    )
 }
 
 /// What is wrong with a name of the wrong kind, a token that has a number. `None` where it is not

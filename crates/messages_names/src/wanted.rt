@@ -177,7 +177,7 @@ fn is_bare(tokens: &[Token<'_>], at: usize) -> bool {
 
 /// Whether a name is among the values of a case: what else is before a `:` is in the parentheses of
 /// a `for`.
-fn is_in_case(tokens: &[Token<'_>], at: usize) -> bool {
+pub fn is_in_case(tokens: &[Token<'_>], at: usize) -> bool {
     is_before_colon(tokens, at) && is_bare(tokens, at)
 }
 

@@ -1,0 +1,337 @@
+//! What is told within expressions.
+
+use messages_contexts::{
+    Definition, Known, before, begins_line, behind, closes_after, ends_operand, is_joined, is_name,
+    is_named, is_routine, is_sign, is_text, is_word, kind_at, known_as, open_parenthesis, start_of,
+};
+use messages_definitions::{Advice, joins_equals};
+use messages_features::{ADDRESSES, ALTERNATIVES, MESSAGES, NESTED_NEGATIONS};
+use syntax::{Kind, Sign, Token, Word};
+
+/// Whether a sign compares.
+fn compares(sign: Sign) -> bool {
+    matches!(
+        sign,
+        Sign::Equal
+            | Sign::NotEqual
+            | Sign::Greater
+            | Sign::GreaterOrEqual
+            | Sign::Less
+            | Sign::LessOrEqual
+    )
+}
+
+/// Whether a reserved word tests.
+fn tests(word: Word) -> bool {
+    matches!(
+        word,
+        Word::In | Word::Notin | Word::Has | Word::Hasnt | Word::Provides
+    )
+}
+
+/// Whether the token of a number compares or tests.
+fn compares_at(tokens: &[Token<'_>], at: usize) -> bool {
+    match kind_at(tokens, at) {
+        Kind::Sign(sign) => compares(sign),
+        Kind::Reserved(word) => tests(word),
+        _ => false,
+    }
+}
+
+/// Whether a whole condition begins after the token of a number.
+fn divides_conditions(tokens: &[Token<'_>], at: usize) -> bool {
+    match kind_at(tokens, at) {
+        Kind::Sign(sign) => matches!(
+            sign,
+            Sign::AndAlso | Sign::OrElse | Sign::OpenParenthesis | Sign::Comma | Sign::Assign
+        ),
+        _ => false,
+    }
+}
+
+/// What is told of a comparison after another one, or after the values of an `or`.
+fn chained(tokens: &[Token<'_>], at: usize) -> Option<Advice> {
+    let from = start_of(tokens, at);
+    let mut is_after_or = false;
+    let mut closed: usize = 0;
+    for count in 0..at.saturating_sub(from) {
+        let number = before(at, count.saturating_add(1));
+        if is_sign(tokens, number, Sign::CloseParenthesis) {
+            closed = closed.saturating_add(1);
+        } else if closed > 0 {
+            closed = closed_before(tokens, number, closed);
+        } else if divides_conditions(tokens, number) {
+            return None;
+        } else if compares_at(tokens, number) {
+            return Some(second_comparison(is_after_or));
+        } else if is_word(tokens, number, Word::Or) {
+            is_after_or = true;
+        }
+    }
+    None
+}
+
+/// How many parentheses are closed before the token of a number, of so many after it.
+fn closed_before(tokens: &[Token<'_>], at: usize, closed: usize) -> usize {
+    if is_sign(tokens, at, Sign::OpenParenthesis) {
+        closed.saturating_sub(1)
+    } else {
+        closed
+    }
+}
+
+/// What is told of a second comparison, after an `or` or not.
+fn second_comparison(is_after_or: bool) -> Advice {
+    if is_after_or {
+        Advice::Do("write '||' between conditions: 'or' is between values")
+    } else {
+        Advice::Do("write '&&' between two comparisons, as in 'a < b && b < c'")
+    }
+}
+
+/// Whether the token of a number is the `)` of a condition or of a loop.
+pub fn closes_condition(tokens: &[Token<'_>], at: usize) -> bool {
+    closes_after(tokens, at, Word::If)
+        || closes_after(tokens, at, Word::While)
+        || closes_after(tokens, at, Word::For)
+        || closes_after(tokens, at, Word::Objectloop)
+        || closes_after(tokens, at, Word::Switch)
+}
+
+/// What is told of a `[` in a statement: one that begins a line may begin the next routine.
+fn index(tokens: &[Token<'_>], at: usize) -> Option<Advice> {
+    if is_sign(tokens, at, Sign::OpenBracket) && !begins_line(tokens, at) {
+        bracket(tokens, at)
+    } else {
+        None
+    }
+}
+
+/// Whether a value that is used begins after the token of a number.
+fn begins_value(tokens: &[Token<'_>], at: usize) -> bool {
+    is_sign(tokens, at, Sign::Assign)
+        || is_sign(tokens, at, Sign::Comma)
+        || is_sign(tokens, at, Sign::OpenParenthesis)
+        || is_word(tokens, at, Word::Return)
+}
+
+/// What is told of the token of a number, which is `[`.
+fn bracket(tokens: &[Token<'_>], at: usize) -> Option<Advice> {
+    let last = before(at, 1);
+    let is_after_arrow = is_sign(tokens, last, Sign::Arrow)
+        || is_sign(tokens, last, Sign::LongArrow);
+    if is_after_arrow {
+        Some(Advice::Do("write the index right after the arrow, as in 'a->0'"))
+    } else if is_sign(tokens, before(at, 2), Sign::Dot) {
+        Some(Advice::Do("write 'lamp.&p-->i' for a word of a property"))
+    } else if matches!(
+        known_as(tokens, last),
+        Some(Known::File(Definition::Object))
+    ) {
+        Some(Advice::Do("write 'lamp.size' for a property of an object"))
+    } else if closes_condition(tokens, last) {
+        Some(Advice::Do("write '{' and '}' around a block"))
+    } else if is_routine(tokens, last) {
+        Some(Advice::Do("write the arguments in parentheses, as in 'F(x)'"))
+    } else if ends_operand(tokens, last) {
+        Some(Advice::Do("write 'a->i' for a byte of an array, or 'a-->i' for a word"))
+    } else if begins_value(tokens, last) {
+        Some(Advice::Do("there are no lists: define an array, as by 'Array a -> 1 2 3;'"))
+    } else {
+        None
+    }
+}
+
+/// Whether an arrow is before the token of a number in its operand.
+fn is_after_entry(tokens: &[Token<'_>], at: usize) -> bool {
+    is_sign(tokens, before(at, 2), Sign::Arrow) || is_sign(tokens, before(at, 2), Sign::LongArrow)
+}
+
+/// What is told of an arrow.
+fn arrow(tokens: &[Token<'_>], at: usize) -> Option<Advice> {
+    let last = before(at, 1);
+    if is_after_entry(tokens, at) {
+        Some(Advice::Do("put the index in parentheses, as in 'a->(b->c)'"))
+    } else if is_sign(tokens, last, Sign::CloseParenthesis) {
+        Some(Advice::Do("an entry is one of an array by its name, as in 'a->i'"))
+    } else {
+        None
+    }
+}
+
+/// What is told of a part of a number.
+fn part_of_number(tokens: &[Token<'_>], at: usize) -> Option<Advice> {
+    let last = before(at, 1);
+    let is_after_number = match kind_at(tokens, before(at, 2)) {
+        Kind::Number(_) => true,
+        _ => false,
+    };
+    match kind_at(tokens, at) {
+        Kind::Number(_) if is_sign(tokens, last, Sign::Dot) && is_after_number => {
+            Some(Advice::Do("numbers are whole: write no point"))
+        }
+        Kind::Number(_) if is_sign(tokens, last, Sign::Dot) => {
+            Some(Advice::Do("write 'a->1' or 'a-->1' for an entry of an array"))
+        }
+        _ => None,
+    }
+}
+
+/// What is told of `,` within a number.
+fn comma_in_number(tokens: &[Token<'_>], at: usize) -> Option<Advice> {
+    let is_within = is_joined(tokens, at)
+        && is_joined(tokens, behind(at, 1))
+        && is_sign(tokens, at, Sign::Comma);
+    match (
+        kind_at(tokens, before(at, 1)),
+        kind_at(tokens, behind(at, 1)),
+    ) {
+        (Kind::Number(_), Kind::Number(_)) if is_within => {
+            Some(Advice::Do("write the number without ','"))
+        }
+        _ => None,
+    }
+}
+
+/// Whether a routine is before or after the `.` that is before the name and the `(` of a number.
+fn calls_routine(tokens: &[Token<'_>], at: usize) -> bool {
+    let receiver = before(at, 3);
+    is_routine(tokens, receiver)
+        || is_routine(tokens, before(at, 1)) && !is_named(tokens, receiver, b"self")
+}
+
+/// What is told of a `(` that opens the arguments of no routine.
+fn message(tokens: &[Token<'_>], at: usize) -> Option<Advice> {
+    let last = before(at, 1);
+    let is_property = is_name(tokens, last) && is_sign(tokens, before(at, 2), Sign::Dot);
+    if !is_property || !is_sign(tokens, at, Sign::OpenParenthesis) {
+        None
+    } else if calls_routine(tokens, at) {
+        Some(Advice::Do("write 'F(x)' to call a routine with an object"))
+    } else {
+        Some(Advice::Absent("a call of a property", MESSAGES))
+    }
+}
+
+/// What is told of a reserved word after `.`.
+fn after_dot(tokens: &[Token<'_>], at: usize) -> Option<Advice> {
+    if !is_sign(tokens, before(at, 1), Sign::Dot) {
+        return None;
+    }
+    match kind_at(tokens, at) {
+        Kind::Reserved(word) => word_after_dot(word),
+        _ => None,
+    }
+}
+
+/// What is told of a reserved word in the place of a property.
+fn word_after_dot(word: Word) -> Option<Advice> {
+    match word {
+        Word::Parent | Word::Child | Word::Sibling => {
+            Some(Advice::Do("write 'parent(x)', 'child(x)' or 'sibling(x)'"))
+        }
+        Word::Move => Some(Advice::Do("write 'move a to b;'")),
+        Word::Remove => Some(Advice::Do("write 'remove a;'")),
+        Word::Give => Some(Advice::Do("write 'give lamp lit;'")),
+        Word::Print => Some(Advice::Do("write 'print (object) x;'")),
+        other if tests(other) => {
+            Some(Advice::Do("write the word between both operands, as in 'lamp has lit'"))
+        }
+        _ => None,
+    }
+}
+
+/// What is told of a token after `.&p`.
+fn address(tokens: &[Token<'_>], at: usize) -> Option<Advice> {
+    let is_address = is_name(tokens, before(at, 1))
+        && is_sign(tokens, before(at, 2), Sign::DotAmpersand);
+    if is_address {
+        Some(Advice::Absent("the address of a property as a value", ADDRESSES))
+    } else {
+        None
+    }
+}
+
+/// Whether a condition begins after the token of a number, and no value in a list.
+fn begins_condition(tokens: &[Token<'_>], at: usize) -> bool {
+    is_sign(tokens, at, Sign::OpenParenthesis)
+        || is_sign(tokens, at, Sign::AndAlso)
+        || is_sign(tokens, at, Sign::OrElse)
+        || is_sign(tokens, at, Sign::Colon) && is_enclosed(tokens, at)
+}
+
+/// What is told of a sign before an operand.
+fn before_operand(tokens: &[Token<'_>], at: usize) -> Option<Advice> {
+    let last = before(at, 1);
+    if ends_operand(tokens, last) {
+        return None;
+    }
+    if compares_at(tokens, at) && begins_condition(tokens, last) {
+        return Some(Advice::Do("a value is missing before it"));
+    }
+    let is_after_operator = match kind_at(tokens, last) {
+        Kind::Sign(sign) => joins_equals(sign) || compares(sign),
+        Kind::Reserved(word) => tests(word),
+        _ => false,
+    };
+    match kind_at(tokens, at) {
+        Kind::Sign(sign) => sign_before_operand(sign, is_after_operator),
+        _ => None,
+    }
+}
+
+/// What is told of a sign with which no operand begins, or none after an operator.
+fn sign_before_operand(sign: Sign, is_after_operator: bool) -> Option<Advice> {
+    match sign {
+        Sign::Plus => Some(Advice::Do("write the number without '+'")),
+        Sign::Ampersand | Sign::Star => Some(Advice::Do(
+            "there are no pointers: write 'a->0' or 'a-->0' for an entry of an array",
+        )),
+        Sign::Not | Sign::Tilde if is_after_operator => {
+            Some(Advice::Absent("a negation as an operand", NESTED_NEGATIONS))
+        }
+        _ => None,
+    }
+}
+
+/// What is told of a text in an expression.
+fn text(tokens: &[Token<'_>], at: usize) -> Option<Advice> {
+    let last = before(at, 1);
+    let is_compared = is_sign(tokens, last, Sign::Equal)
+        || is_sign(tokens, last, Sign::NotEqual)
+        || is_word(tokens, last, Word::Or);
+    let is_of_read = is_word(tokens, last, Word::Read);
+    if is_text(tokens, at) && is_compared && !is_of_read {
+        Some(Advice::Do("write a word in single quotes"))
+    } else {
+        None
+    }
+}
+
+/// What is told of a token that does not fit in an expression.
+pub fn in_expression(tokens: &[Token<'_>], at: usize) -> Option<Advice> {
+    let told = index(tokens, at)
+        .or(after_dot(tokens, at))
+        .or(part_of_number(tokens, at))
+        .or(comma_in_number(tokens, at))
+        .or(message(tokens, at))
+        .or(address(tokens, at))
+        .or(text(tokens, at));
+    if told.is_some() {
+        return told;
+    }
+    if is_sign(tokens, at, Sign::Arrow) || is_sign(tokens, at, Sign::LongArrow) {
+        arrow(tokens, at)
+    } else if is_word(tokens, at, Word::Or) {
+        Some(Advice::Absent("'or' except after '==' and '~='", ALTERNATIVES))
+    } else if compares_at(tokens, at) {
+        chained(tokens, at).or(before_operand(tokens, at))
+    } else {
+        before_operand(tokens, at)
+    }
+}
+
+/// Whether the token of a number is in parentheses.
+pub fn is_enclosed(tokens: &[Token<'_>], at: usize) -> bool {
+    open_parenthesis(tokens, at).is_some()
+}

@@ -1,0 +1,15 @@
+//! What to write at a token that does not fit in a definition, and at signs and words of other
+//! languages.
+#![tactic(auto)]
+
+mod advice;
+mod arrays;
+mod definitions;
+mod habits;
+mod objects;
+mod signs;
+
+pub use advice::Advice;
+pub use definitions::in_definition;
+pub use habits::habit_at;
+pub use signs::{joins_equals, pair_at, written_as_comment};

@@ -1,0 +1,153 @@
+//! Signs of other languages, which are written with two or three signs of this one.
+
+use crate::advice::Advice;
+use messages_contexts::{
+    before, begins_line, behind, divides_at, is_joined, is_sign, is_unknown, kind_at,
+    open_parenthesis, start_of,
+};
+use messages_features::{ASSIGNING_OPERATORS, SUPERCLASSES};
+use syntax::{Kind, Sign, Token};
+
+const COMMENTS: &str = "a comment begins with '!'";
+
+/// What is told of signs that are meant to begin a comment: two slashes or a slash and a star, and
+/// where a statement begins `--`, `;` or `{`.
+pub fn written_as_comment(tokens: &[Token<'_>], at: usize) -> Option<Advice> {
+    let start = start_of(tokens, at);
+    let is_meant = begins_comment(tokens, at)
+        || begins_comment(tokens, behind(at, 1))
+        || is_dash(tokens, start)
+        || is_lone_semicolon(tokens, at)
+        || is_lone_semicolon(tokens, before(start, 1))
+        || is_in_braces(tokens, start);
+    if is_meant {
+        Some(Advice::Do(COMMENTS))
+    } else {
+        None
+    }
+}
+
+/// Whether the token of a number is the second of `//` or of `/*`.
+fn begins_comment(tokens: &[Token<'_>], at: usize) -> bool {
+    is_joined(tokens, at)
+        && is_sign(tokens, before(at, 1), Sign::Slash)
+        && (is_sign(tokens, at, Sign::Slash) || is_sign(tokens, at, Sign::Star))
+}
+
+/// Whether the token of a number is `--` with a blank after it.
+fn is_dash(tokens: &[Token<'_>], at: usize) -> bool {
+    let next = behind(at, 1);
+    is_sign(tokens, at, Sign::Decrement) && !is_joined(tokens, next) && !begins_line(tokens, next)
+}
+
+/// Whether the token of a number is a `;` that begins a line and ends no statement, with more after
+/// it in its line.
+fn is_lone_semicolon(tokens: &[Token<'_>], at: usize) -> bool {
+    is_sign(tokens, at, Sign::Semicolon)
+        && begins_line(tokens, at)
+        && !begins_line(tokens, behind(at, 1))
+        && (at == 0 || divides_at(tokens, before(at, 1)))
+}
+
+/// Whether the token of a number is an unknown name after a `{` that begins a line, and no block
+/// of a statement.
+fn is_in_braces(tokens: &[Token<'_>], at: usize) -> bool {
+    let open = before(at, 1);
+    is_sign(tokens, open, Sign::OpenBrace)
+        && begins_line(tokens, open)
+        && divides_at(tokens, before(at, 2))
+        && !begins_line(tokens, at)
+        && is_unknown(tokens, at)
+}
+
+/// Whether a sign is an operator that other languages join with `=`.
+pub fn joins_equals(sign: Sign) -> bool {
+    matches!(
+        sign,
+        Sign::Plus
+            | Sign::Minus
+            | Sign::Star
+            | Sign::Slash
+            | Sign::Percent
+            | Sign::Ampersand
+            | Sign::Bar
+    )
+}
+
+/// What is told of an operator before `=`.
+fn assigning(first: Sign) -> Option<Advice> {
+    if joins_equals(first) {
+        Some(Advice::Absent("an operator with '='", ASSIGNING_OPERATORS))
+    } else {
+        None
+    }
+}
+
+/// What is told of two signs that are side by side.
+fn told_of_pair(first: Sign, second: Sign) -> Option<Advice> {
+    match (first, second) {
+        (Sign::Dot, Sign::Dot) => Some(Advice::Absent("'..'", SUPERCLASSES)),
+        (Sign::Colon, Sign::Colon) => Some(Advice::Absent("'::'", SUPERCLASSES)),
+        (Sign::Equal, Sign::Assign) => Some(Advice::Do("write '=='")),
+        (Sign::NotEqual, Sign::Assign) => Some(Advice::Do("write '~='")),
+        (Sign::Less, Sign::Greater) => Some(Advice::Do("write '~='")),
+        (Sign::Assign, Sign::Tilde) => Some(Advice::Do("write '~='")),
+        (Sign::Assign, Sign::Slash) => Some(Advice::Do("write '~='")),
+        (Sign::Assign, Sign::Greater) => Some(Advice::Do("write '>='")),
+        (Sign::Assign, Sign::Less) => Some(Advice::Do("write '<='")),
+        (Sign::Less, Sign::Minus) => Some(Advice::Do("write '='")),
+        (Sign::Colon, Sign::Assign) => Some(Advice::Do("write '='")),
+        (Sign::Less, Sign::Less) => Some(Advice::Do("there are no shifts: write '*'")),
+        (Sign::Greater, Sign::Greater) => Some(Advice::Do("there are no shifts: write '/'")),
+        (Sign::Star, Sign::Star) => Some(Advice::Do("there are no powers: multiply in a loop")),
+        (Sign::Assign, Sign::Plus) => assigning(second),
+        _ => None,
+    }
+}
+
+/// What is told of two signs, with a blank between them or none, that are one without it.
+fn told_of_parted(first: Sign, second: Sign) -> Option<Advice> {
+    match (first, second) {
+        (Sign::Assign, Sign::Assign) => Some(Advice::Do("write '==' without a blank")),
+        (Sign::Less, Sign::Assign) => Some(Advice::Do("write '<=' without a blank")),
+        (Sign::Greater, Sign::Assign) => Some(Advice::Do("write '>=' without a blank")),
+        (Sign::Tilde, Sign::Assign) => Some(Advice::Do("write '~=' without a blank")),
+        (Sign::Ampersand, Sign::Ampersand) => Some(Advice::Do("write '&&' without a blank")),
+        (Sign::Bar, Sign::Bar) => Some(Advice::Do("write '||' without a blank")),
+        (Sign::Minus, Sign::Greater) => Some(Advice::Do("write '->' without a blank")),
+        (Sign::Minus, Sign::Arrow) => Some(Advice::Do("write '-->' without a blank")),
+        (Sign::Decrement, Sign::Greater) => Some(Advice::Do("write '-->' without a blank")),
+        (_, Sign::Assign) => assigning(first),
+        _ => None,
+    }
+}
+
+/// Whether two signs, the token of a number and the one before it, are not meant as one: `= =`
+/// outside parentheses, or `<<` that begins an action.
+fn are_apart(tokens: &[Token<'_>], at: usize, first: Sign, second: Sign) -> bool {
+    let last = before(at, 1);
+    match first {
+        Sign::Assign => { matches!(second, Sign::Assign) && open_parenthesis(tokens, at).is_none() }
+        Sign::Less => start_of(tokens, last) == last,
+        _ => false,
+    }
+}
+
+/// What is told of two signs, the token of a number and the one before it.
+fn told_of_signs(tokens: &[Token<'_>], at: usize, first: Sign, second: Sign) -> Option<Advice> {
+    if are_apart(tokens, at, first, second) {
+        None
+    } else if is_joined(tokens, at) {
+        told_of_pair(first, second).or(told_of_parted(first, second))
+    } else {
+        told_of_parted(first, second)
+    }
+}
+
+/// What is told of the token of a number and the one before it, if both are signs.
+pub fn pair_at(tokens: &[Token<'_>], at: usize) -> Option<Advice> {
+    match (kind_at(tokens, before(at, 1)), kind_at(tokens, at)) {
+        (Kind::Sign(first), Kind::Sign(second)) => told_of_signs(tokens, at, first, second),
+        _ => None,
+    }
+}

@@ -1,0 +1,14 @@
+//! What is wrong with a name, in a sentence: it is not known, or it is of the wrong kind.
+#![tactic(auto)]
+
+mod definitions;
+mod hints;
+mod kinds;
+mod nearest;
+mod unknown_names;
+mod wanted;
+mod wrong_kinds;
+
+pub use kinds::{array_kind, is_variable, kind_of, most_entries};
+pub use unknown_names::{no_main, unknown};
+pub use wrong_kinds::wrong_kind;

@@ -1,0 +1,192 @@
+//! A name that is not known (E20), and a program without a proper Main (E21).
+
+use crate::definitions::{may_be_word, undefined_name};
+use crate::kinds::kind_of;
+use crate::nearest::{nearest, nearest_main, nearest_word};
+use crate::wanted::{ATTRIBUTE, PROPERTY, wanted};
+use checker_names::{Binding, Table, find};
+use messages_contexts::{
+    Definition, around, begins_statement, behind, definition_of, first_definition, is_after_word,
+    is_sign, line_of, text_at,
+};
+use messages_features::{
+    Absent, Feature, habit_as_name, habit_at_beginning, habit_between, named, named_in_expression,
+};
+use messages_tokens::{Counted, Figure, Quoted};
+use std::alloc::{AllocError, Global};
+use syntax::{Kind, Sign, Token, Word};
+
+/// How many arrows stand from the token of a number on.
+fn arrows(tokens: &[Token<'_>], at: usize) -> usize {
+    for count in 0..tokens.len() {
+        if !is_sign(tokens, behind(at, count), Sign::Arrow) {
+            return count;
+        }
+    }
+    tokens.len()
+}
+
+/// What is wrong with so many arrows without an object to stand in.
+fn arrow(alloc: Global, count: usize) -> Result<String, AllocError> {
+    if count < 2 {
+        return format!(in alloc;
+            "this arrow has no object to go into: leave it out, or define that object before"
+        );
+    }
+    let arrows = Figure(count as u128);
+    let fewer = Counted(count.saturating_sub(1) as u128, "arrow");
+    format!(in alloc;
+        "these {arrows} arrows have no object with {fewer} to go into: write fewer arrows"
+    )
+}
+
+/// The feature or the word of another language that is read as a name.
+fn feature_of(tokens: &[Token<'_>], at: usize, text: &[u8]) -> Option<Feature> {
+    let found = named_in_expression(text).or(habit_as_name(text));
+    if found.is_some() || !begins_statement(tokens, at) {
+        found
+    } else if is_call(tokens, at) {
+        named(text)
+    } else {
+        named(text).or(habit_at_beginning(text))
+    }
+}
+
+/// Whether the token of a number is called.
+fn is_call(tokens: &[Token<'_>], at: usize) -> bool {
+    is_sign(tokens, behind(at, 1), Sign::OpenParenthesis)
+}
+
+/// Whether an attribute or a property is wanted in the place of the token of a number.
+fn is_of_object(tokens: &[Token<'_>], at: usize) -> bool {
+    match around(tokens, at) {
+        Some(found) => {
+            let wanted = wanted(tokens, at, found, false);
+            wanted == ATTRIBUTE || wanted == PROPERTY
+        }
+        None => false,
+    }
+}
+
+/// Whether the token of a number is a word between two parts of an object, as `and`.
+fn is_joint_in_object(tokens: &[Token<'_>], at: usize, text: &[u8]) -> bool {
+    match definition_of(tokens, at) {
+        Some(Definition::Object) => habit_between(text).is_some(),
+        _ => false,
+    }
+}
+
+/// What is wrong with a name that is defined nowhere, the token of a number.
+fn undefined(
+    alloc: Global,
+    tokens: &[Token<'_>],
+    at: usize,
+    text: &[u8],
+) -> Result<String, AllocError> {
+    let name = Quoted(text);
+    if text.eq_ignore_ascii_case(b"not") && is_after_word(tokens, at, Word::Give) {
+        return format!(in alloc;
+            "unknown name {name}: write '~' before an attribute to take it away, as in 'give lamp ~lit;'"
+        );
+    }
+    if is_joint_in_object(tokens, at, text) {
+        return format!(in alloc;
+            "unknown name {name}: write ',' before a property, and nothing before other values"
+        );
+    }
+    if !is_of_object(tokens, at)
+        && let Some(feature) = feature_of(tokens, at, text)
+    {
+        return format!(in alloc; "{}", Absent(name, feature));
+    }
+    if may_be_word(tokens, at) {
+        return undefined_name(alloc, tokens, at, text);
+    }
+    if let Some(word) = nearest_word(alloc, tokens, at, text)? {
+        return format!(in alloc; "unknown name {name}; did you mean '{word}'?");
+    }
+    match nearest(alloc, tokens, at, text)? {
+        Some(meant) => {
+            let meant = Quoted(meant);
+            format!(in alloc; "unknown name {name}; did you mean {meant}?")
+        }
+        None => undefined_name(alloc, tokens, at, text),
+    }
+}
+
+/// What is wrong with a name that is the token of a number.
+fn name(alloc: Global, tokens: &[Token<'_>], at: usize, text: &[u8]) -> Result<String, AllocError> {
+    let name = Quoted(text);
+    match first_definition(tokens, text) {
+        None => undefined(alloc, tokens, at, text),
+        Some(defined) if defined > at => {
+            let line = line_of(tokens, defined);
+            format!(in alloc;
+                "{name} is defined in line {line}, but must be defined before its use here"
+            )
+        }
+        Some(_) => format!(in alloc; "{name} cannot be used in its own definition"),
+    }
+}
+
+/// What is wrong with a token that is no known name, and has a number.
+///
+/// # Errors
+///
+/// `AllocError` where memory is refused.
+pub fn unknown(
+    alloc: Global,
+    tokens: &[Token<'_>],
+    at: usize,
+    token: Token<'_>,
+) -> Result<String, AllocError> {
+    match token.kind {
+        Kind::Name(text) => name(alloc, tokens, at, text),
+        _ => arrow(alloc, arrows(tokens, at)),
+    }
+}
+
+/// What is wrong with a Main that has locals. `None` where it has none.
+fn with_locals(alloc: Global, count: usize) -> Result<Option<String>, AllocError> {
+    if count == 0 {
+        return Ok(None);
+    }
+    let locals = Counted(count as u128, "local");
+    Ok(Some(format!(in alloc;
+        "Main has {locals}; it may have none: write globals, or a routine that Main calls"
+    )?))
+}
+
+/// What is wrong with a program that has no Main.
+fn without_main(alloc: Global, tokens: &[Token<'_>]) -> Result<String, AllocError> {
+    match nearest_main(alloc, tokens)? {
+        Some(number) => {
+            let name = Quoted(text_at(tokens, number));
+            let line = line_of(tokens, number);
+            format!(in alloc; "there is no routine Main; did you mean it by {name} in line {line}?")
+        }
+        None => format!(in alloc;
+            "there is no routine Main, with which a story begins: write '[ Main; .. ];'"
+        ),
+    }
+}
+
+/// What is wrong with Main. `None` where nothing is.
+///
+/// # Errors
+///
+/// `AllocError` where memory is refused.
+pub fn no_main(
+    alloc: Global,
+    tokens: &[Token<'_>],
+    table: &Table,
+) -> Result<Option<String>, AllocError> {
+    match find(table, b"main") {
+        None => Ok(Some(without_main(alloc, tokens)?)),
+        Some(Binding::Routine(_, count)) => with_locals(alloc, count),
+        Some(other) => {
+            let kind = kind_of(other);
+            Ok(Some(format!(in alloc; "Main is {kind}; it must be a routine")?))
+        }
+    }
+}
