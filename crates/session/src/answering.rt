@@ -1,6 +1,6 @@
 //! The reply to a line.
 
-ghost use Rattle.std.specs.Prelude.{◌∷◌, []};
+ghost use Rattle.std.specs.Prelude.{◌≡◌, ◌∷◌, [], bytes_eq, codes, false};
 ghost use Rattle.session.specs.Game.{IsSessionOf, Game};
 ghost use Rattle.session.specs.Heard.{Hears};
 ghost use Rattle.session.specs.Standing.{Standing};
@@ -27,7 +27,24 @@ pub(crate) fn answer<W: Write>(
         } else {
             tell(writer, b"[Nothing to undo.]\n")
         }
-    } else if line == b"/redo".as_slice() {
+    } else {
+        answer_other(line, writer, session)
+    }
+}
+
+/// Answers a line that takes no turn back. It is a function of its own, so that an undo does not
+/// make room for the results of the others.
+fn answer_other<W: Write>(
+    line: &[u8],
+    writer: &mut W,
+    session: &mut Session,
+) -> Result<(), WriteFailed>
+    requires { bytes_eq line.now (codes "/undo") ≡ false }
+    ensures { (game : Game) (s : Standing) → IsSessionOf game s session.old
+        → Hears game (W.contents writer.old) (W.contents writer.new) s
+        (λ t. IsSessionOf game t session.new) (line.now ∷ []) result }
+{
+    if line == b"/redo".as_slice() {
         match session.redo() {
             Some(text) => {
                 put(writer, b"[Redone.]\n")?;
