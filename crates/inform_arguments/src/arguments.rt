@@ -129,7 +129,7 @@ fn arguments<'a>(alloc: Global) -> Result<Vec<Arg<'a>>, AllocError> {
 pub fn command<'a>(alloc: Global) -> Result<Command<'a>, AllocError> {
     let arguments = arguments(alloc)?;
     Command::new(alloc, "inform")
-        .version("1.2.0")
+        .version("1.3.0")
         .about("Compiles a source file to a Z-machine story file")
         .after_help(MORE)
         .args(arguments)

@@ -163,7 +163,7 @@ fn program<'a>(alloc: Global) -> Command<'a>
     ensures { HasNoArgument result }
 {
     Command::new(alloc, "play")
-        .version("1.2.0")
+        .version("1.3.0")
         .about("Plays a Z-machine story file with the lines of standard input")
         .after_help(MORE)
 }
