@@ -4,12 +4,12 @@ use Rattle.std.proofs.Common.{refl, ap, sym, ◌∙◌, subst, append_assoc, tak
 use Rattle.std.proofs.lemmas.List.{take_all, map-append}
 use Rattle.std.specs.Io.KnownBytes.{Appends}
 use Rattle.std.proofs.KnownBytes.{Appends-nil, Appends-trans}
-use Rattle.session.specs.Input.{whole_from, rest_from}
+use Rattle.session_lines.specs.Input.{whole_from, rest_from}
 use Rattle.session.specs.Game.{Game, answer, replies, after}
-use Rattle.session.specs.Standing.{Standing}
-use Rattle.session.specs.Transcript.{Typed, lines_typed}
+use Rattle.session_lines.specs.Standing.{Standing}
+use Rattle.session_lines.specs.Transcript.{Typed, lines_typed}
 use Rattle.session.specs.Heard.{Heard, Broke}
-use Rattle.session.proofs.Cutting.{whole_from-append, whole_ended, whole_going}
+use Rattle.session_lines.proofs.Cutting.{whole_from-append, whole_ended, whole_going}
 
 pub replies-append : (game : Game) (s : Standing) (xs ys : List Typed)
     → replies game s (xs ++ ys) ≡ replies game s xs ++ replies game (after game s xs) ys

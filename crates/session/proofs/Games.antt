@@ -4,7 +4,7 @@ use Rattle.std.proofs.Common.{if◌then◌else◌, nat_lt, length}
 use Rattle.zcore.specs.declared.place.Place.TheVariants as places
 use Rattle.zcore.specs.Turn.{StateOfPlay, is_waiting}
 use Rattle.session.specs.Modes.{loaded_in, turn_with}
-use Rattle.session.specs.Standing.{Standing, undo_of, redo_of, taken}
+use Rattle.session_lines.specs.Standing.{Standing, undo_of, redo_of, taken}
 use Rattle.session.specs.Session.{Session}
 use Rattle.session.specs.Stepped.{stepped_back, stepped_forward, without_oldest, bounded, bounded_by, latest_text}
 use Rattle.session.specs.Game.{Game, bytes_of, play_on, IsSessionOf, text_on, place_on}

@@ -3,19 +3,19 @@ use Rattle.std.proofs.Common.{◌≡◌, ℕ, ◌<◌, Option, None, Some, List,
 use Rattle.std.proofs.Common.{append_assoc, inl, inr, Result, Ok, Err, IsErrAnd}
 use Rattle.std.specs.Io.KnownBytes.{Appends, Consumes, Keeps, IsAtEnd}
 use Rattle.std.proofs.KnownBytes.{Appends-trans, Consumes-nil, Consumes-trans, Consumes-kept}
-use Rattle.session.specs.declared.line.Line.{Line}
+use Rattle.session_lines.specs.declared.line.Line.{Line}
 use Rattle.zcore.specs.declared.place.Place.{Place}
 use Rattle.session.specs.declared.fault.RunFault.{RunFault}
 use Rattle.session.specs.declared.fault.RunFault.TheVariants.{Writing}
-use Rattle.session.specs.Input.{whole_from, rest_from, last_line, lines_of, whole_lines}
+use Rattle.session_lines.specs.Input.{whole_from, rest_from, last_line, lines_of, whole_lines}
 use Rattle.session.specs.Game.{telling_of, Game, text_on, place_on, replies, after, transcript}
-use Rattle.session.specs.Standing.{Standing, nothing}
+use Rattle.session_lines.specs.Standing.{Standing, nothing}
 use Rattle.session.specs.Heard.{Heard, Broke}
-use Rattle.session.specs.Wrote.{WroteSome}
-use Rattle.session.specs.Kept.{IsKept}
+use Rattle.session_lines.specs.Wrote.{WroteSome}
+use Rattle.session_lines.specs.Kept.{IsKept}
 use Rattle.session.specs.Ran.{Streams, RanWhole, RanToRead, RanToWrite, LinesRead, in_opening, in_reply, RanToFault}
 use Rattle.session.specs.Ran.{Ran}
-use Rattle.session.proofs.Cutting.{whole_from-append, rest_from-append, kept_some}
+use Rattle.session_lines.proofs.Cutting.{whole_from-append, rest_from-append, kept_some}
 use Rattle.session.proofs.Chaining.{heard_none, heard_then, heard_broke}
 
 abbrev pub streams : (r r' w w' : Option (List ℕ)) → Streams

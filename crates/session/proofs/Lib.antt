@@ -9,10 +9,8 @@ pub mod Opening
 pub mod Taking
 pub mod Games
 mod Samples
-pub mod Cutting
 pub mod Chaining
 pub mod Replying
 pub mod Going
-pub mod Telling
 pub mod Said
 mod ReplySamples

@@ -17,7 +17,7 @@ use Rattle.session.specs.Inside.{with_cells, places_of, view_of, IsReady, IsBetw
 use Rattle.session.specs.Game.{Game, bytes_of, play_on, IsSessionOf}
 use Rattle.session.specs.Modes.{Known, IsSettled, CanTake, loaded_in, bytes_in, opening_with}
 use Rattle.session.specs.Players.{IsPlayerOf, PlayerTurn}
-use Rattle.session.specs.Standing.{nothing}
+use Rattle.session_lines.specs.Standing.{nothing}
 use Rattle.session.proofs.Moves.{present_cells}
 
 pub opened_between : (known : Known) (new : Recording Contents) (first : Place) (turns : List Turn) → turns ≡ []

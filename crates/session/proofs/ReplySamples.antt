@@ -1,39 +1,17 @@
--- The lines of an input and the replies to them, computed.
-use Rattle.std.proofs.Common.{◌≡◌, ℕ, true, false, None, Some, List, [], ◌∷◌, ◌++◌, codes, refl, inl, inr}
+-- Lines that were read, and lines of both modes, computed.
+use Rattle.std.proofs.Common.{◌≡◌, ℕ, true, false, None, Some, List, [], ◌∷◌, codes, refl, inl, inr}
 use lib.Utf8.{encode}
 use Rattle.std.specs.Prelude.{replicate}
 use Rattle.std.specs.Str.{chars, is_utf8}
 use Rattle.zcore_standard.specs.Loaded.{Loaded}
 use Rattle.zcore_standard.specs.Unicode.{default_characters}
-use Rattle.session.specs.Input.{lines_of, whole_lines}
-use Rattle.session.specs.Game.{Game, text_on, answer, transcript}
+use Rattle.session.specs.Game.{Game, answer}
 use Rattle.session.specs.Modes.{is_typable_with}
 use Rattle.session.specs.declared.mode.Mode.{Mode}
 use Rattle.session.specs.declared.mode.Mode.TheVariants.{Profile}
-use Rattle.session.specs.Standing.{Standing}
 use Rattle.session.specs.Ran.{LinesRead}
-use Rattle.session.specs.Transcript.{answer_of, note}
-
--- lines
-
-no_input : lines_of [] ≡ []
-no_input = refl
-
-last_without_end : lines_of (97 ∷ 10 ∷ 98 ∷ []) ≡ codes "a" ∷ codes "b" ∷ []
-last_without_end = refl
-
-last_with_end : lines_of (97 ∷ 10 ∷ 98 ∷ 10 ∷ []) ≡ codes "a" ∷ codes "b" ∷ []
-last_with_end = refl
-
-empty_lines : lines_of (10 ∷ 10 ∷ 97 ∷ []) ≡ [] ∷ [] ∷ codes "a" ∷ []
-empty_lines = refl
-
-whole_only : whole_lines (97 ∷ 10 ∷ 98 ∷ []) ≡ codes "a" ∷ []
-whole_only = refl
-
--- a carriage return is a byte of its line
-carriage_return : lines_of (97 ∷ 13 ∷ 10 ∷ []) ≡ (97 ∷ 13 ∷ []) ∷ []
-carriage_return = refl
+use Rattle.session_lines.specs.Standing.{Standing}
+use Rattle.session_lines.specs.Transcript.{answer_of, note}
 
 -- lines that were read
 
@@ -47,33 +25,7 @@ no_line_before_its_end : LinesRead (Some (99 ∷ [])) (97 ∷ 10 ∷ 98 ∷ []) 
 no_line_before_its_end (inl e) = cc
 no_line_before_its_end (inr h) = let e : 99 ∷ [] ≡ [] = h.0 in cc
 
-abbrev a : List ℕ
-a = codes "a"
-
--- replies
-
-nothing_undone : (game : Game) → transcript game ((record { line = codes "/undo"; refused = false }) ∷ [])
-    ≡ text_on game [] ++ note (codes "[Nothing to undo.]")
-unfolding answer_of
-nothing_undone game = refl
-
-nothing_redone : (game : Game) (s : Standing) → answer game (record { done = s.done; undone = []; kept = s.kept })
-    (record { line = codes "/redo"; refused = false })
-    ≡ record {
-      reply = note (codes "[Nothing to redo.]");
-      standing = record { done = s.done; undone = []; kept = s.kept };
-    }
-unfolding answer_of
-nothing_redone game s = refl
-
-redone_told : (game : Game) → answer game (record { done = []; undone = a ∷ []; kept = 0 })
-    (record { line = codes "/redo"; refused = false })
-    ≡ record {
-      reply = note (codes "[Redone.]") ++ text_on game (a ∷ []);
-      standing = record { done = a ∷ []; undone = []; kept = 1 };
-    }
-unfolding answer_of
-redone_told game = refl
+-- in the profile a line is of ASCII
 
 abbrev in_mode : Mode → Game
 in_mode mode = record { mode = mode; story = []; fuel = 0; keep = None }

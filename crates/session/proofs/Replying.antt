@@ -11,10 +11,10 @@ use Rattle.zcore_standard.specs.Input.{can_be_typed}
 use Rattle.zcore_standard.specs.Loaded.{Loaded}
 use Rattle.session.specs.Modes.{loaded_in, is_typable_with}
 use Rattle.session.specs.Game.{Game, telling_of, text_on, place_on, is_typable_on, answer}
-use Rattle.session.specs.Standing.{Standing, longest_line, undo_of, redo_of, taken, is_typable_byte}
-use Rattle.session.specs.Transcript.{answer_of, Answer, note, answer_undo, answer_redo, answer_line}
+use Rattle.session_lines.specs.Standing.{Standing, longest_line, undo_of, redo_of, taken, is_typable_byte}
+use Rattle.session_lines.specs.Transcript.{answer_of, Answer, note, answer_undo, answer_redo, answer_line}
 use Rattle.session.specs.Heard.{Heard, Broke, Hears}
-use Rattle.session.specs.Wrote.{WroteText, WroteSome}
+use Rattle.session_lines.specs.Wrote.{WroteText, WroteSome}
 
 pub heard_ok : (game : Game) (w w' : Option (List ℕ)) (s : Standing) (P : Standing → Type 0) (line : List ℕ)
     (refused : Bool) (a : Answer)

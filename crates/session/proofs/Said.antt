@@ -3,14 +3,14 @@ use Rattle.std.proofs.Common.{Option, ◌≡◌, ℕ, List, [], ◌∷◌, ◌++
 use Rattle.std.proofs.Common.{Result, Ok, Err}
 use Rattle.std.specs.Io.KnownBytes.{Appends}
 use Rattle.zcore.specs.declared.place.Place.{Place}
-use Rattle.session.specs.Input.{lines_of}
+use Rattle.session_lines.specs.Input.{lines_of}
 use Rattle.session.specs.Game.{telling_of, Game, place_on, transcript}
-use Rattle.session.specs.Standing.{Standing, nothing}
-use Rattle.session.specs.Transcript.{Telling, Typed, lines_typed, Answer, answer_of, replies_of}
-use Rattle.session.specs.Transcript.{standing_after, transcript_of}
+use Rattle.session_lines.specs.Standing.{Standing, nothing}
+use Rattle.session_lines.specs.Transcript.{Telling, Typed, lines_typed, Answer, answer_of, replies_of}
+use Rattle.session_lines.specs.Transcript.{standing_after, transcript_of}
 use Rattle.session.specs.declared.fault.RunFault.{RunFault}
 use Rattle.session.specs.declared.fault.RunFault.TheVariants.{Reading, Writing}
-use Rattle.session.specs.Wrote.{WroteSome}
+use Rattle.session_lines.specs.Wrote.{WroteSome}
 use Rattle.session.specs.Ran.{Streams, Played, RanWhole, RanToRead, LinesRead, RanToWrite, in_opening}
 use Rattle.session.specs.Ran.{in_reply, Ran}
 

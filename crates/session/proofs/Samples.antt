@@ -1,80 +1,17 @@
 -- The definitions of a session, computed.
-use Rattle.std.proofs.Common.{◌≡◌, ℕ, List, [], ◌∷◌, Some, None, true, false, refl}
-use Rattle.std.specs.Prelude.{codes, replicate}
+use Rattle.std.proofs.Common.{◌≡◌, ℕ, List, [], ◌∷◌, Some, None, refl}
+use Rattle.std.specs.Prelude.{codes}
 use Rattle.zcore.specs.declared.place.Place.TheVariants as places
 use Rattle.zcore.specs.Turn.{StateOfPlay, Whole, at_rest}
-use Rattle.session.specs.Standing.{nothing, is_typable, undo_of, redo_of, taken, reached}
 use Rattle.session.specs.Session.{Session}
-use Rattle.session.specs.Stepped.{stepped_back, stepped_forward, with_turn, bounded, latest_text}
+use Rattle.session.specs.Stepped.{stepped_back, stepped_forward, with_turn, bounded, latest_text, latest_size}
 use Rattle.session.specs.Times.{all_cells}
-use Rattle.session.specs.Stepped.{latest_size}
 
 abbrev a : List ℕ
 a = codes "a"
 
 abbrev b : List ℕ
 b = codes "b"
-
--- lines
-
-typable_line : is_typable (codes "take lamp~") ≡ true
-typable_line = refl
-
-empty_line : is_typable [] ≡ true
-empty_line = refl
-
-control_byte : is_typable (31 ∷ []) ≡ false
-control_byte = refl
-
-delete_byte : is_typable (127 ∷ []) ≡ false
-delete_byte = refl
-
-high_byte : is_typable (97 ∷ 195 ∷ []) ≡ false
-high_byte = refl
-
-longest_line : is_typable (replicate 1000 32) ≡ true
-longest_line = refl
-
-too_long_line : is_typable (replicate 1001 32) ≡ false
-too_long_line = refl
-
--- lines that stand
-
-two_taken : taken None b (taken None a nothing) ≡ record { done = a ∷ b ∷ []; undone = []; kept = 2 }
-two_taken = refl
-
-one_undone : undo_of (taken None b (taken None a nothing)) ≡ record { done = a ∷ []; undone = b ∷ []; kept = 1 }
-one_undone = refl
-
-nothing_undone : undo_of nothing ≡ nothing
-nothing_undone = refl
-
-both_undone : undo_of (undo_of (taken None b (taken None a nothing)))
-    ≡ record { done = []; undone = a ∷ b ∷ []; kept = 0 }
-both_undone = refl
-
-done_again : redo_of (undo_of (undo_of (taken None b (taken None a nothing))))
-    ≡ record { done = a ∷ []; undone = b ∷ []; kept = 1 }
-done_again = refl
-
-undone_no_further : undo_of (record { done = a ∷ []; undone = b ∷ []; kept = 0 })
-    ≡ record { done = a ∷ []; undone = b ∷ []; kept = 0 }
-undone_no_further = refl
-
-nothing_done_again : redo_of (taken None a nothing) ≡ taken None a nothing
-nothing_done_again = refl
-
-undone_given_up : taken None b (undo_of (taken None a nothing)) ≡ record { done = b ∷ []; undone = []; kept = 1 }
-undone_given_up = refl
-
-one_kept : taken (Some 1) b (taken (Some 1) a nothing) ≡ record { done = a ∷ b ∷ []; undone = []; kept = 1 }
-one_kept = refl
-
-none_kept : undo_of (taken (Some 0) a nothing) ≡ record { done = a ∷ []; undone = []; kept = 0 }
-none_kept = refl
-
-reached_lines : reached (taken (Some 1) b (taken (Some 1) a nothing)) (a ∷ b ∷ []) ≡ b ∷ []
-reached_lines = refl
 
 -- cells at all times: the first turn wrote 6 over 5, the second 8 over 7; the first of them is done
 

@@ -9,7 +9,7 @@ use Rattle.zcore.specs.Header.{static_base_of}
 use Rattle.zcore.specs.declared.place.Place.{Place}
 use Rattle.zcore.specs.declared.place.Place.TheVariants as places
 use Rattle.zcore.specs.Turn.{StateOfPlay, Whole, Play, plays_of, last_text, last_place, at_rest}
-use Rattle.session.specs.Standing.{Standing, undo_of, undo_from, redo_of, redo_from, reached}
+use Rattle.session_lines.specs.Standing.{Standing, undo_of, undo_from, redo_of, redo_from, reached}
 use Rattle.session.specs.Session.{Session, largest_record}
 use Rattle.session.specs.Stepped.{stepped_back, stepped_forward, without_oldest, bounded}
 use Rattle.session.specs.Stepped.{bounded_by, latest_text, text_before, latest_size, size_before}

@@ -11,7 +11,7 @@ use Rattle.zcore.specs.Header.{static_base_of}
 use Rattle.zcore.specs.declared.place.Place.TheVariants as places
 use Rattle.zcore.specs.Turn.{StateOfPlay, Whole, Play, plays_of, is_waiting, last_text, last_place}
 use Rattle.session.specs.Modes.{turn_with}
-use Rattle.session.specs.Standing.{Standing, taken, reached}
+use Rattle.session_lines.specs.Standing.{Standing, taken, reached}
 use Rattle.session.specs.Session.{Session, largest_record}
 use Rattle.session.specs.Stepped.{with_turn, without_oldest, bounded, latest_text}
 use Rattle.session.specs.Sessions.{all_lines, IsSession}

@@ -4,10 +4,10 @@ use Rattle.zcore.specs.declared.place.Place.{Place}
 use Rattle.zcore.specs.Turn.{Play, plays_of, last_text, last_place}
 use Rattle.session.specs.declared.mode.Mode.{Mode}
 use Rattle.session.specs.Modes.{loaded_in, bytes_in, play_in, is_typable_with}
-use Rattle.session.specs.Standing.{Standing}
+use Rattle.session_lines.specs.Standing.{Standing}
 use Rattle.session.specs.Session.{Session}
 use Rattle.session.specs.Sessions.{IsSession}
-use Rattle.session.specs.Transcript.{Telling, Typed, Answer, answer_of, replies_of, standing_after, transcript_of}
+use Rattle.session_lines.specs.Transcript.{Telling, Typed, Answer, answer_of, replies_of, standing_after, transcript_of}
 
 pub record Game : Type 0 where
   -- which opcodes it may use

@@ -3,8 +3,8 @@
 use Rattle.std.specs.Prelude.{Option, ◌≡◌, ℕ, List, ◌∷◌, ◌++◌, Result, Ok, Err}
 use Rattle.std.specs.Io.KnownBytes.{Appends}
 use Rattle.session.specs.Game.{Game, answer, replies, after}
-use Rattle.session.specs.Standing.{Standing}
-use Rattle.session.specs.Transcript.{Typed, lines_typed}
+use Rattle.session_lines.specs.Standing.{Standing}
+use Rattle.session_lines.specs.Transcript.{Typed, lines_typed}
 
 -- the lines were answered, and the replies written
 pub record Heard (game : Game) (w w' : Option (List ℕ)) (s : Standing) (P : Standing → Type 0)

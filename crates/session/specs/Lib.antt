@@ -1,4 +1,3 @@
-pub mod Standing
 pub mod Session
 pub mod Times
 pub mod Written
@@ -7,14 +6,9 @@ pub mod Modes
 pub mod Loads
 pub mod Players
 pub mod Sessions
-pub mod Transcript
 pub mod Game
 pub mod Stepped
 pub mod Turned
 pub mod Replies
-pub mod Input
-pub mod Wrote
-pub mod Kept
 pub mod Heard
 pub mod Ran
-pub mod Status

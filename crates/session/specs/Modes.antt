@@ -9,7 +9,7 @@ use Rattle.zcore_standard.specs.Machine.{standard_opening, standard_turn_on}
 use Rattle.machine_frames.specs.Contents.{Contents}
 use Rattle.machine_frames.specs.Playing.{IsWaiting}
 use Rattle.machine_standard_words.specs.Taking.{CanBeGiven}
-use Rattle.session.specs.Standing.{is_typable, longest_line}
+use Rattle.session_lines.specs.Standing.{is_typable, longest_line}
 use Rattle.session.specs.declared.mode.Mode.{Mode}
 use Rattle.session.specs.declared.mode.Mode.TheVariants.{Profile, Standard}
 

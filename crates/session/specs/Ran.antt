@@ -4,10 +4,10 @@ use Rattle.std.specs.Io.KnownBytes.{Appends, Consumes, IsAtEnd, Keeps}
 use Rattle.zcore.specs.declared.place.Place.{Place}
 use Rattle.session.specs.declared.fault.RunFault.{RunFault}
 use Rattle.session.specs.declared.fault.RunFault.TheVariants.{Reading, Writing}
-use Rattle.session.specs.Input.{lines_of, whole_lines}
-use Rattle.session.specs.Standing.{Standing, nothing}
-use Rattle.session.specs.Transcript.{Telling, Typed, lines_typed, Answer, answer_of, standing_after, transcript_of}
-use Rattle.session.specs.Wrote.{WroteSome}
+use Rattle.session_lines.specs.Input.{lines_of, whole_lines}
+use Rattle.session_lines.specs.Standing.{Standing, nothing}
+use Rattle.session_lines.specs.Transcript.{Telling, Typed, lines_typed, Answer, answer_of, standing_after, transcript_of}
+use Rattle.session_lines.specs.Wrote.{WroteSome}
 
 -- what a run did to its reader and its writer, where that is known
 pub record Streams : Type 0 where

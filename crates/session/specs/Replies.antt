@@ -5,7 +5,7 @@ use Rattle.session.specs.declared.fault.OpenFault.{OpenFault}
 use Rattle.session.specs.declared.fault.OpenFault.TheVariants as faults
 use Rattle.session.specs.declared.reply.Reply.{Reply}
 use Rattle.session.specs.declared.reply.Reply.TheVariants as replies
-use Rattle.session.specs.Standing.{Standing, nothing, taken}
+use Rattle.session_lines.specs.Standing.{Standing, nothing, taken}
 use Rattle.session.specs.Session.{Session}
 use Rattle.session.specs.Loads.{RefusesToLoad, CanBeLoaded}
 use Rattle.session.specs.Game.{Game, IsSessionOf, InEach, text_on, place_on, is_typable_on}

@@ -3,7 +3,7 @@ use Rattle.std.specs.Prelude.{◌≡◌, ◌≤◌, ◌+◌, ℕ, List, [], ◌+
 use Rattle.std.specs.List.{All}
 use Rattle.zcore.specs.Header.{static_base_of}
 use Rattle.zcore.specs.Turn.{Whole, Play, plays_of, last_text}
-use Rattle.session.specs.Standing.{Standing, reached}
+use Rattle.session_lines.specs.Standing.{Standing, reached}
 use Rattle.session.specs.Session.{Session, largest_record}
 
 -- all lines that stand, in the order in which they are played

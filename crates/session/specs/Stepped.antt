@@ -3,7 +3,7 @@ use Rattle.std.specs.Prelude.{◌≡◌, ◌≤◌, ℕ, zero, suc, ◌+◌, ◌
 use Rattle.std.specs.Prelude.{◌∷◌, ◌++◌, length, take, drop, slice_index_or, Option, Some, None}
 use Rattle.zcore.specs.Header.{static_base_of}
 use Rattle.zcore.specs.Turn.{Whole}
-use Rattle.session.specs.Standing.{Standing, redo_of}
+use Rattle.session_lines.specs.Standing.{Standing, redo_of}
 use Rattle.session.specs.Session.{Session, largest_record}
 use Rattle.session.specs.Game.{IsSessionOf, InEach}
 

@@ -3,12 +3,11 @@
 ghost use Rattle.std.specs.Prelude.{◌≡◌, ◌∷◌, [], bytes_eq, codes, false};
 ghost use Rattle.session.specs.Game.{IsSessionOf, Game};
 ghost use Rattle.session.specs.Heard.{Hears};
-ghost use Rattle.session.specs.Standing.{Standing};
+ghost use Rattle.session_lines.specs.Standing.{Standing};
 
-use crate::fault::WriteFailed;
 use crate::reply::Reply;
 use crate::session::Session;
-use crate::writing::{put, tell};
+use session_lines::{WriteFailed, put, tell};
 use std::io::Write;
 
 /// Answers a line: the two commands of the player, or a line for the story.

@@ -4,6 +4,7 @@ ghost use Rattle.std.specs.Prelude.{◌≡◌};
 
 use machine::LoadFault;
 use machine_standard::StandardFault;
+use session_lines::WriteFailed;
 use thiserror::Error;
 
 /// Why a session is not opened. `Display` writes the number alone.
@@ -33,10 +34,6 @@ pub enum RunFault {
     #[error("S2")]
     Writing,
 }
-
-/// A write or a flush failed, or a write took no byte.
-#[derive(Clone, Copy, Debug)]
-pub(crate) struct WriteFailed;
 
 impl From<WriteFailed> for RunFault {
     ghost use Rattle.session.specs.declared.fault.RunFault.TheVariants.{Writing};

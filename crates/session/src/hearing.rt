@@ -1,17 +1,15 @@
 //! Lines that are cut out of the input and answered.
 
 ghost use Rattle.std.specs.Prelude.{◌≡◌, ℕ, ◌≤◌, ◌∷◌, List, [], OnOk};
-ghost use Rattle.session.specs.Input.{whole_from, rest_from};
+ghost use Rattle.session_lines.specs.Input.{whole_from, rest_from};
 ghost use Rattle.session.specs.Game.{IsSessionOf, Game};
 ghost use Rattle.session.specs.Heard.{Hears};
-ghost use Rattle.session.specs.Kept.{IsKept};
-ghost use Rattle.session.specs.Standing.{Standing, longest_line};
+ghost use Rattle.session_lines.specs.Kept.{IsKept};
+ghost use Rattle.session_lines.specs.Standing.{Standing, longest_line};
 
 use crate::answering::answer;
-use crate::fault::WriteFailed;
-use crate::line::Line;
 use crate::session::Session;
-use crate::writing::tell;
+use session_lines::{Line, WriteFailed, tell};
 use std::io::Write;
 
 /// Answers the line that ended, and begins an empty one.

@@ -3,21 +3,16 @@
 #![tactic(auto)]
 
 mod answering;
-mod exit;
 mod fault;
 mod hearing;
-mod line;
 mod mode;
 mod player;
 mod reply;
 mod running;
 mod session;
 mod turns;
-mod typable;
-mod writing;
 mod written;
 
-pub use exit::status;
 pub use fault::{OpenFault, RunFault};
 pub use machine::LoadFault;
 pub use machine_standard::StandardFault;
@@ -25,4 +20,5 @@ pub use mode::Mode;
 pub use reply::Reply;
 pub use running::run;
 pub use session::Session;
+pub use session_lines::status;
 pub use zcore::Place;

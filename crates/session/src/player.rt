@@ -9,10 +9,10 @@ ghost use Rattle.session.specs.Players.{known_of, IsReadyIn, LoadsPlayer, Player
 
 use crate::fault::OpenFault;
 use crate::mode::Mode;
-use crate::typable::{is_short, is_typable};
 use journal::{NoMemory, Recorded};
 use machine::{Machine, Store};
 use machine_standard::StandardMachine;
+use session_lines::{is_short, is_typable};
 use std::alloc::Global;
 use zcore::Place;
 

@@ -2,13 +2,12 @@
 
 ghost use Rattle.session.specs.Game.{telling_of, IsSessionOf, Game};
 ghost use Rattle.session.specs.Ran.{Ran};
-ghost use Rattle.session.specs.Standing.{nothing};
+ghost use Rattle.session_lines.specs.Standing.{nothing};
 
 use crate::fault::RunFault;
 use crate::hearing::{finish, hear};
-use crate::line::Line;
 use crate::session::Session;
-use crate::writing::tell;
+use session_lines::{Line, tell};
 use std::io::{Read, Write};
 use zcore::Place;
 

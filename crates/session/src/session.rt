@@ -6,7 +6,7 @@ ghost use Rattle.std.specs.Borrow.{sem};
 ghost use Rattle.std.specs.Io.BufRead.{Rests};
 ghost use Rattle.zcore.specs.declared.place.Place.TheVariants as places;
 ghost use Rattle.zcore.specs.Turn.{StateOfPlay};
-ghost use Rattle.session.specs.Standing.{undo_of, redo_of};
+ghost use Rattle.session_lines.specs.Standing.{undo_of, redo_of};
 ghost use Rattle.session.specs.Session.{largest_record};
 ghost use Rattle.session.specs.Stepped.{latest_text, latest_size};
 ghost use Rattle.session.specs.Stepped.{stepped_back, bounded, without_oldest};

@@ -19,10 +19,10 @@ use Rattle.session.specs.declared.mode.Mode.TheVariants.{Profile}
 use Rattle.session.specs.declared.fault.RunFault.{RunFault}
 use Rattle.session.specs.declared.fault.RunFault.TheVariants.{Reading, Writing}
 use Rattle.session.specs.Game.{game_of, telling_of}
-use Rattle.session.specs.Input.{lines_of, whole_lines}
-use Rattle.session.specs.Transcript.{Telling}
+use Rattle.session_lines.specs.Input.{lines_of, whole_lines}
+use Rattle.session_lines.specs.Transcript.{Telling}
 use Rattle.session.specs.Ran.{Streams, Played, Ran, RanToWrite, in_opening, in_reply}
-use Rattle.session.specs.Standing.{Standing}
+use Rattle.session_lines.specs.Standing.{Standing}
 use Rattle.zcore.specs.declared.place.Place.{Place}
 use Rattle.session.proofs.Said.{Agree}
 use Rattle.tools.specs.Headline.{last_of, meant_by, WantsMemory}

@@ -15,8 +15,8 @@ use Rattle.session.specs.declared.fault.OpenFault.TheVariants as opens
 use Rattle.session.specs.Session.{Session}
 use Rattle.session.specs.Sessions.{IsSession}
 use Rattle.session.specs.declared.fault.RunFault.{RunFault}
-use Rattle.session.specs.Standing.{is_typable}
-use Rattle.session.specs.Transcript.{Telling}
+use Rattle.session_lines.specs.Standing.{is_typable}
+use Rattle.session_lines.specs.Transcript.{Telling}
 use Rattle.session.specs.Ran.{Streams, Ran}
 use Rattle.tools.specs.declared.pair.PairFault.{PairFault}
 use Rattle.tools.specs.declared.pair.PairFault.TheVariants as faults

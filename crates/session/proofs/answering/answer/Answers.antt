@@ -1,7 +1,7 @@
 use Rattle.std.proofs.Common.{◌∙◌, refl, true, false, codes}
 use Rattle.session.specs.Game.{IsSessionOf}
-use Rattle.session.specs.Standing.{undo_of}
-use Rattle.session.specs.Transcript.{note}
+use Rattle.session_lines.specs.Standing.{undo_of}
+use Rattle.session_lines.specs.Transcript.{note}
 use Rattle.session.proofs.Replying.{heard_one, absent, tested, at_undo, undo_some, undo_none}
 use Rattle.session.proofs.answering.answer.Goals as goal
 

@@ -1,12 +1,12 @@
 use Rattle.std.proofs.Common.{◌∙◌, refl, sym, ℕ, ◌∷◌, List, [], true, false, ◌++◌, codes, subst}
 use Rattle.session.specs.Game.{IsSessionOf, text_on}
-use Rattle.session.specs.Standing.{redo_of, taken}
-use Rattle.session.specs.Transcript.{note}
+use Rattle.session_lines.specs.Standing.{redo_of, taken}
+use Rattle.session_lines.specs.Transcript.{note}
 use Rattle.session.specs.Replies.{After}
-use Rattle.session.specs.Wrote.{WroteText}
+use Rattle.session_lines.specs.Wrote.{WroteText}
 use Rattle.session.proofs.Replying.{heard_one, heard_err, hears_err, absent, tested, at_redo, at_line}
 use Rattle.session.proofs.Replying.{redo_some, redo_none, line_taken, line_unmet, line_over, line_refused}
-use Rattle.session.proofs.Telling.{wrote_both, wrote_first}
+use Rattle.session_lines.proofs.Telling.{wrote_both, wrote_first}
 use Rattle.session.proofs.answering.answer_other.Goals as goal
 
 pub returns-in_err-put-in-Some : goal.returns-in_err-put-in-Some

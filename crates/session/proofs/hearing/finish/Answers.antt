@@ -1,7 +1,7 @@
 use Rattle.session.specs.Game.{IsSessionOf}
 use Rattle.std.proofs.Common.{sym, ◌∷◌, [], codes, subst, false}
 use Rattle.session.specs.Heard.{Heard, Broke}
-use Rattle.session.specs.Transcript.{note}
+use Rattle.session_lines.specs.Transcript.{note}
 use Rattle.session.proofs.Replying.{heard_ok, heard_err, hears_err, answer_long}
 use Rattle.session.proofs.hearing.finish.Goals as goal
 use Rattle.session.proofs.hearing.finish.Goals.{then-line+in_ok-tell, else-line+in_ok-answer}

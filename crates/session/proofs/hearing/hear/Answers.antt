@@ -1,12 +1,12 @@
 use Rattle.session.specs.Game.{IsSessionOf}
 use Rattle.std.proofs.Common.{arith, sym, ◌+◌, ◌≤◌, subst, take}
-use Rattle.session.specs.declared.line.Line.{Line}
-use Rattle.session.specs.Input.{whole_from, rest_from}
-use Rattle.session.specs.Standing.{longest_line}
+use Rattle.session_lines.specs.declared.line.Line.{Line}
+use Rattle.session_lines.specs.Input.{whole_from, rest_from}
+use Rattle.session_lines.specs.Standing.{longest_line}
 use Rattle.session.specs.Heard.{Heard}
-use Rattle.session.specs.Kept.{IsKept}
+use Rattle.session_lines.specs.Kept.{IsKept}
 use Rattle.session.proofs.Replying.{hears_err, untrue}
-use Rattle.session.proofs.Cutting.{kept_end, kept_byte, kept_all}
+use Rattle.session_lines.proofs.Cutting.{kept_end, kept_byte, kept_all}
 use Rattle.session.proofs.Chaining.{heard_all, heard_end, heard_byte, heard_break}
 use Rattle.session.proofs.hearing.hear.Goals as goal
 use Rattle.session.proofs.hearing.hear.Goals.{then-byte-eq10+in_ok-finish, else-byte-eq10}

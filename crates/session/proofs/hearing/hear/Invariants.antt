@@ -1,9 +1,9 @@
 use Rattle.std.proofs.Common.{ℕ, ◌≤◌, List, take}
-use Rattle.session.specs.Input.{whole_from, rest_from}
+use Rattle.session_lines.specs.Input.{whole_from, rest_from}
 use Rattle.session.specs.Game.{IsSessionOf, Game}
-use Rattle.session.specs.Standing.{Standing, longest_line}
+use Rattle.session_lines.specs.Standing.{Standing, longest_line}
 use Rattle.session.specs.Heard.{Heard}
-use Rattle.session.specs.Kept.{IsKept}
+use Rattle.session_lines.specs.Kept.{IsKept}
 use Rattle.session.proofs.hearing.hear.Given as goal
 
 abbrev pub invariant-loop-byte : goal.invariant-loop-byte

@@ -1,11 +1,11 @@
 use Rattle.session.specs.Game.{IsSessionOf}
 use Rattle.std.proofs.Common.{arith, sym, ℕ, [], subst, take}
 use Rattle.std.specs.Io.KnownBytes.{Appends, Consumes}
-use Rattle.session.specs.Input.{rest_from, last_line}
+use Rattle.session_lines.specs.Input.{rest_from, last_line}
 use Rattle.session.specs.Heard.{Heard}
-use Rattle.session.specs.Wrote.{WroteSome}
-use Rattle.session.specs.Standing.{Standing, nothing}
-use Rattle.session.proofs.Cutting.{kept_some, kept_none}
+use Rattle.session_lines.specs.Wrote.{WroteSome}
+use Rattle.session_lines.specs.Standing.{Standing, nothing}
+use Rattle.session_lines.proofs.Cutting.{kept_some, kept_none}
 use Rattle.session.proofs.Chaining.{heard_none}
 use Rattle.session.proofs.Going.{going_start, going_on, ran_whole, ran_read, ran_long, ran_broke_in, ran_broke_last}
 use Rattle.session.proofs.Going.{ran_err, opening_broke}

@@ -1,6 +1,6 @@
 use Rattle.std.proofs.Common.{◌≤◌}
 use Rattle.session.specs.Game.{IsSessionOf, Game}
-use Rattle.session.specs.Standing.{nothing, longest_line}
+use Rattle.session_lines.specs.Standing.{nothing, longest_line}
 use Rattle.session.proofs.Going.{Going}
 use Rattle.session.proofs.running.run.Given as goal
 

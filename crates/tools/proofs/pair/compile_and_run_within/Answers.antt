@@ -4,7 +4,7 @@ use Rattle.checker.specs.Programs.{resolve_program}
 use Rattle.zcore.specs.Turn.{by_profile}
 use Rattle.session.specs.Sessions.{IsSession}
 use Rattle.session.specs.declared.mode.Mode.TheVariants.{Profile}
-use Rattle.session.specs.Standing.{nothing}
+use Rattle.session_lines.specs.Standing.{nothing}
 use Rattle.session.specs.Game.{Game, game_of, telling_of, IsSessionOf}
 use Rattle.session.proofs.Going.{streams}
 use Rattle.session.proofs.Said.{ran_same}

@@ -6,7 +6,7 @@ use Rattle.machine_frames.proofs.Steps.{store_after}
 use Rattle.session.specs.Inside.{IsBetweenTurns, view_of}
 use Rattle.session.specs.Game.{Game, game_of, IsSessionOf}
 use Rattle.session.specs.Players.{known_of, IsPlayerOf}
-use Rattle.session.specs.Standing.{nothing}
+use Rattle.session_lines.specs.Standing.{nothing}
 use Rattle.session.specs.Written.{text_of}
 use Rattle.session.proofs.Opening.{opened_between, session_opened}
 use Rattle.session.proofs.session.Session.open_with.Goals as goal

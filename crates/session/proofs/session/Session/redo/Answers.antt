@@ -3,7 +3,7 @@ use Rattle.journal.specs.Swap.{Fits}
 use Rattle.machine_frames.specs.Contents.{bound_of}
 use Rattle.session.specs.Session.{Session}
 use Rattle.session.specs.Game.{Game, IsSessionOf, bytes_of, play_on}
-use Rattle.session.specs.Standing.{Standing, redo_of}
+use Rattle.session_lines.specs.Standing.{Standing, redo_of}
 use Rattle.session.proofs.Insides.{turn_fits, StandsAt, redo_view, redo_between, redone_text}
 use Rattle.session.proofs.Views.{counted, turn_text}
 use Rattle.session.proofs.Games.{game_redo}

@@ -5,7 +5,7 @@ use Rattle.session.specs.Session.{Session}
 use Rattle.session.specs.Stepped.{stepped_back}
 use Rattle.session.specs.Inside.{view_of}
 use Rattle.session.specs.Game.{IsSessionOf}
-use Rattle.session.specs.Standing.{undo_of}
+use Rattle.session_lines.specs.Standing.{undo_of}
 use Rattle.session.proofs.Insides.{turn_fits, undo_view, undo_between}
 use Rattle.session.proofs.Games.{game_undo}
 use Rattle.session.proofs.Sessions.{back_none, found_none, found_some}

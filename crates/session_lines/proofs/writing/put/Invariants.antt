@@ -1,6 +1,6 @@
 use Rattle.std.proofs.Common.{length}
-use Rattle.session.specs.Wrote.{WrittenSoFar}
-use Rattle.session.proofs.writing.put.Given as goal
+use Rattle.session_lines.specs.Wrote.{WrittenSoFar}
+use Rattle.session_lines.proofs.writing.put.Given as goal
 
 abbrev pub invariant-loop-rest : goal.invariant-loop-rest
 invariant-loop-rest g l = WrittenSoFar (g.W.Write.contents l.fn.writer) (g.W.Write.contents l.writer) l.fn.text l.rest

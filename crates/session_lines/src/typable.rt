@@ -2,13 +2,13 @@
 
 ghost use Rattle.std.specs.Prelude.{◌≡◌, nat_le, length};
 ghost use Rattle.std.specs.List.{list_all};
-ghost use Rattle.session.specs.Standing.{is_typable, is_typable_byte, longest_line};
+ghost use Rattle.session_lines.specs.Standing.{is_typable, is_typable_byte, longest_line};
 
 /// The longest line that a story is given, in bytes.
-pub(crate) const LONGEST_LINE: usize = 1_000;
+pub const LONGEST_LINE: usize = 1_000;
 
 /// Whether a line can be given to a story in the profile: it has at most 1,000 bytes, each from 32 to 126.
-pub(crate) fn is_typable(line: &[u8]) -> bool
+pub fn is_typable(line: &[u8]) -> bool
     ensures { result ≡ is_typable line.now }
 {
     let short = is_short(line);
@@ -17,7 +17,7 @@ pub(crate) fn is_typable(line: &[u8]) -> bool
 }
 
 /// Whether a line has at most 1,000 bytes.
-pub(crate) fn is_short(line: &[u8]) -> bool
+pub fn is_short(line: &[u8]) -> bool
     ensures { result ≡ nat_le (length line.now) longest_line }
 {
     line.len() <= LONGEST_LINE

@@ -1,7 +1,7 @@
 //! The exit status of the player.
 
 ghost use Rattle.std.specs.Prelude.{◌≡◌};
-ghost use Rattle.session.specs.Status.{status_of};
+ghost use Rattle.session_lines.specs.Status.{status_of};
 
 use zcore::Place;
 

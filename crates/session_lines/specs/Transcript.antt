@@ -2,7 +2,7 @@
 use Rattle.std.specs.Prelude.{ℕ, Bool, Option, ◌==◌, List, [], ◌∷◌, ◌++◌, length, map, bytes_eq, codes, if◌then◌else◌}
 use Rattle.zcore.specs.declared.place.Place.{Place}
 use Rattle.zcore.specs.Turn.{is_waiting}
-use Rattle.session.specs.Standing.{Standing, nothing, taken, undo_of, redo_of}
+use Rattle.session_lines.specs.Standing.{Standing, nothing, taken, undo_of, redo_of}
 
 -- What a story does on lines, whatever it is made of: what it prints last, where it is then, and what it can be given.
 pub record Telling : Type 0 where

@@ -1,23 +1,23 @@
 //! A line of input that is not yet whole.
 
 ghost use Rattle.std.specs.Prelude.{◌≡◌, ℕ, [], ◌∷◌, ◌++◌, ◌≤◌, List};
-ghost use Rattle.session.specs.Kept.{IsKept};
-ghost use Rattle.session.specs.Standing.{longest_line};
+ghost use Rattle.session_lines.specs.Kept.{IsKept};
+ghost use Rattle.session_lines.specs.Standing.{longest_line};
 
 use crate::typable::LONGEST_LINE;
 
 /// The bytes of a line so far, or the knowledge that there are more than a line for the story can
 /// have.
 #[derive(Drop)]
-pub(crate) struct Line {
-    pub(crate) bytes: [u8; LONGEST_LINE],
-    pub(crate) len: usize,
-    pub(crate) more: bool,
+pub struct Line {
+    pub bytes: [u8; LONGEST_LINE],
+    pub len: usize,
+    pub more: bool,
 }
 
 impl Line {
     /// No byte so far.
-    pub(crate) fn new() -> Line
+    pub fn new() -> Line
         ensures kept { IsKept result [] }
         ensures within { result.len ≤ longest_line }
     {
@@ -29,7 +29,7 @@ impl Line {
     }
 
     /// Begins an empty line.
-    pub(crate) fn clear(&mut self)
+    pub fn clear(&mut self)
         ensures kept { IsKept self.new [] }
         ensures within { self.new.len ≤ longest_line }
     {
@@ -38,7 +38,7 @@ impl Line {
     }
 
     /// Adds a byte. Of a byte past the thousandth it is only kept that it was there.
-    pub(crate) fn push(&mut self, byte: u8)
+    pub fn push(&mut self, byte: u8)
         requires { self.old.len ≤ longest_line }
         ensures kept { (full : List ℕ) → IsKept self.old full
             → IsKept self.new (full ++ byte ∷ []) }

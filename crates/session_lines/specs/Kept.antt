@@ -1,7 +1,7 @@
 -- What the buffer of a line knows of it.
 use Rattle.std.specs.Prelude.{◌≡◌, ℕ, ◌<◌, min, true, false, List, length, take}
-use Rattle.session.specs.declared.line.Line.{Line}
-use Rattle.session.specs.Standing.{longest_line}
+use Rattle.session_lines.specs.declared.line.Line.{Line}
+use Rattle.session_lines.specs.Standing.{longest_line}
 
 -- the buffer holds the line, or knows that it is too long
 pub record IsKept (line : Line) (full : List ℕ) : Type 0 where

@@ -2,9 +2,9 @@
 use Rattle.std.proofs.Common.{◌≡◌, ℕ, ◌+◌, ◌<◌, ◌≤◌, Bool, true, false, List, [], ◌∷◌, ◌++◌, length, get_or, take}
 use Rattle.std.proofs.Common.{refl, ap, sym, ◌∙◌, subst, append-nil, arith, if◌then◌else◌, ◌==◌}
 use Rattle.std.proofs.lemmas.List.{take_all, take_more}
-use Rattle.session.specs.Input.{whole_from, rest_from, last_line}
-use Rattle.session.specs.Kept.{IsKept}
-use Rattle.session.specs.declared.line.Line.{Line}
+use Rattle.session_lines.specs.Input.{whole_from, rest_from, last_line}
+use Rattle.session_lines.specs.Kept.{IsKept}
+use Rattle.session_lines.specs.declared.line.Line.{Line}
 
 whole_step : (line : List ℕ) (b : ℕ) (bs ys : List ℕ) (t : Bool)
     → whole_from [] (bs ++ ys) ≡ whole_from [] bs ++ whole_from (rest_from [] bs) ys

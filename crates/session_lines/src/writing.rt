@@ -1,12 +1,15 @@
 //! Writing a text whole.
 
-ghost use Rattle.session.specs.Wrote.{WroteText};
+ghost use Rattle.session_lines.specs.Wrote.{WroteText};
 
-use crate::fault::WriteFailed;
 use std::io::Write;
 
+/// A write or a flush failed, or a write took no byte.
+#[derive(Clone, Copy, Debug)]
+pub struct WriteFailed;
+
 /// Writes all of a text. A write that takes no byte is a failure like another.
-pub(crate) fn put<W: Write>(writer: &mut W, text: &[u8]) -> Result<(), WriteFailed>
+pub fn put<W: Write>(writer: &mut W, text: &[u8]) -> Result<(), WriteFailed>
     ensures { WroteText (W.contents writer.old) (W.contents writer.new) text.now result }
 {
     let mut rest = text;
@@ -21,7 +24,7 @@ pub(crate) fn put<W: Write>(writer: &mut W, text: &[u8]) -> Result<(), WriteFail
 }
 
 /// Writes all of a text and flushes.
-pub(crate) fn tell<W: Write>(writer: &mut W, text: &[u8]) -> Result<(), WriteFailed>
+pub fn tell<W: Write>(writer: &mut W, text: &[u8]) -> Result<(), WriteFailed>
     ensures { WroteText (W.contents writer.old) (W.contents writer.new) text.now result }
 {
     put(writer, text)?;

@@ -5,7 +5,7 @@ use Rattle.std.proofs.Math.Seq.{take-length}
 use Rattle.std.proofs.lemmas.List.{length-drop}
 use Rattle.std.specs.Io.KnownBytes.{Appends}
 use Rattle.std.proofs.KnownBytes.{Appends-trans}
-use Rattle.session.specs.Wrote.{WrittenSoFar, WroteSome, WroteText}
+use Rattle.session_lines.specs.Wrote.{WrittenSoFar, WroteSome, WroteText}
 
 pub written_more : {a b c : Option (List ℕ)} {text rest : List ℕ} (n : ℕ) → WrittenSoFar a b text rest
     → Appends b c (take n rest) → WrittenSoFar a c text (drop n rest)
