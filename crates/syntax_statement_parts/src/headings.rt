@@ -7,6 +7,7 @@ ghost use Rattle.syntax_statement_parts.specs.Views.{part_tree, heading_tree};
 ghost use Rattle.syntax_statement_parts.specs.Parse as spec;
 
 use crate::effects::has_effect;
+use crate::memory::boxed;
 use crate::tree::Heading;
 use syntax_expressions::expression;
 use syntax_lexer::Sign;
@@ -82,7 +83,10 @@ fn heading<'t, 'a>(
         test,
         behind,
     };
-    Ok(Box::new(parser.alloc, found)?)
+    match boxed(parser.alloc, found) {
+        Ok(found) => Ok(found),
+        Err(e) => Err(e),
+    }
 }
 
 /// The parts of a `for` in parentheses, which are a nesting.
@@ -101,7 +105,11 @@ pub fn enclosed_heading<'t, 'a>(
     ensures open { IfOk result (λ x. 0 < depth) }
 {
     let opening = parser.tokens;
-    expect(parser, Sign::OpenParenthesis)?;
-    let inside = open(depth, opening)?;
-    heading(parser, inside)
+    match expect(parser, Sign::OpenParenthesis) {
+        Ok(()) => match open(depth, opening) {
+            Ok(inside) => heading(parser, inside),
+            Err(e) => Err(e),
+        },
+        Err(e) => Err(e),
+    }
 }

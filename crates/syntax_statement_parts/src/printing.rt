@@ -6,6 +6,7 @@ ghost use Rattle.syntax_statement_parts.specs.Tree as tree;
 ghost use Rattle.syntax_statement_parts.specs.Views.{item_tree};
 ghost use Rattle.syntax_statement_parts.specs.Parse as spec;
 
+use crate::memory::push;
 use crate::tree::PrintItem;
 use syntax_expressions::expression;
 use syntax_lexer::{Kind, Sign, Word};
@@ -19,13 +20,21 @@ fn character<'t, 'a>(parser: &mut Parser<'t, 'a>, depth: usize) -> Result<PrintI
     ensures { Takes item_tree result parser.new
         (spec.cast depth tree.character_item (ahead parser.old)) }
 {
-    open(depth, parser.tokens)?;
-    pass(parser);
-    pass(parser);
-    expect(parser, Sign::CloseParenthesis)?;
-    let begin = position(parser.tokens);
-    match expression(parser, depth) {
-        Ok(value) => Ok(PrintItem::Character(begin, value)),
+    match open(depth, parser.tokens) {
+        Ok(_) => {
+            pass(parser);
+            pass(parser);
+            match expect(parser, Sign::CloseParenthesis) {
+                Ok(()) => {
+                    let begin = position(parser.tokens);
+                    match expression(parser, depth) {
+                        Ok(value) => Ok(PrintItem::Character(begin, value)),
+                        Err(e) => Err(e),
+                    }
+                }
+                Err(e) => Err(e),
+            }
+        }
         Err(e) => Err(e),
     }
 }
@@ -36,13 +45,21 @@ fn object<'t, 'a>(parser: &mut Parser<'t, 'a>, depth: usize) -> Result<PrintItem
     ensures { Takes item_tree result parser.new
         (spec.cast depth tree.object_item (ahead parser.old)) }
 {
-    open(depth, parser.tokens)?;
-    pass(parser);
-    pass(parser);
-    expect(parser, Sign::CloseParenthesis)?;
-    let begin = position(parser.tokens);
-    match expression(parser, depth) {
-        Ok(value) => Ok(PrintItem::Object(begin, value)),
+    match open(depth, parser.tokens) {
+        Ok(_) => {
+            pass(parser);
+            pass(parser);
+            match expect(parser, Sign::CloseParenthesis) {
+                Ok(()) => {
+                    let begin = position(parser.tokens);
+                    match expression(parser, depth) {
+                        Ok(value) => Ok(PrintItem::Object(begin, value)),
+                        Err(e) => Err(e),
+                    }
+                }
+                Err(e) => Err(e),
+            }
+        }
         Err(e) => Err(e),
     }
 }
@@ -85,14 +102,14 @@ pub fn items<'t, 'a>(
 {
     let mut found = Vec::new(parser.alloc);
     let first = item(parser, depth)?;
-    found.push(first)?;
+    push(&mut found, first)?;
     for _turn in 0..parser.tokens.len() {
         if !is_sign(peek(parser.tokens), Sign::Comma) {
             break;
         }
         pass(parser);
         let next = item(parser, depth)?;
-        found.push(next)?;
+        push(&mut found, next)?;
     }
     Ok(found)
 }
