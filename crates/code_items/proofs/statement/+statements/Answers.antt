@@ -43,7 +43,8 @@ put_while-returns t c =
     c.in-Ok.ensures c.written.ensures c.in-Ok-put_statement.ensures c.in-Ok-put_value.ensures c.lead_back.ensures
 
 pub put_if_else-returns : goal.put_if_else-returns
-put_if_else-returns t c = on_ok c.put_value.result (else_more _ _ _ _ _ c.args.exits (value_of c.args.test.now) (action_of c.args.then.now)
+put_if_else-returns t c = on_ok c.put_value.result
+    (else_more _ _ _ _ _ c.args.exits (value_of c.args.test.now) (action_of c.args.then.now)
     (action_of c.args.otherwise.now) c.written-end.result c.written-next.result c.written-end.ensures
     c.in-Ok.ensures c.written-next.ensures c.in-Ok-put.ensures c.in-Ok-put_statement.ensures) c.put_value.ensures
 
@@ -85,8 +86,9 @@ put_case-returns t c =
     (λ n at. actions_items (exits_of n c.args.exits) at (actions_of (map action_of l))) in
     let Q : List Span → Type 0 = λ l. WritesBefore (written_in body) (written_in c.put_tests.new.draft)
     (λ n at. tests_items at (groups_of (map range_of l)) (n - c.written-inside.result) (n - c.written-behind.result)) in
-    on_ok c.put_tests.result (λ w. case_leaves old over body c.put_tests.new.draft c.args.exits c.args.case.now c.args.end c.written-inside.result
-    c.written-behind.result c.written-behind.ensures c.in-Ok.ensures
+    on_ok c.put_tests.result
+    (λ w. case_leaves old over body c.put_tests.new.draft c.args.exits c.args.case.now c.args.end
+    c.written-inside.result c.written-behind.result c.written-behind.ensures c.in-Ok.ensures
     (subst P c.deref.ensures.value c.in-Ok-put_statements.ensures) c.written-inside.ensures
     (subst Q c.deref-2.ensures.value w)) c.put_tests.ensures
 
@@ -111,7 +113,8 @@ put_switch-returns t c =
     let other = other_of c.args.other.now in
     let P : CasesOf → Type 0 = λ l. WritesBefore (written_in old) (written_in c.put_cases.new.draft)
     (λ n at. cases_items (exits_of n inside) at l (n - end)) in
-    on_ok c.put_value.result (switch_more _ _ _ c.args.exits (value_of c.args.value.now) (cases_of cs other) inside c.written-end.ensures refl
+    on_ok c.put_value.result
+    (switch_more _ _ _ c.args.exits (value_of c.args.value.now) (cases_of cs other) inside c.written-end.ensures refl
     (subst P (cases_all cs other) (c.in-Ok-put_cases.ensures (written_in old) (cases_of [] other)
     (sym c.written-end.ensures) (c.in-Ok.ensures end)))) c.put_value.ensures
 
@@ -156,20 +159,23 @@ pub put_each-returns : goal.put_each-returns
 put_each-returns t c =
     let a = action_of c.args.body.now in
     let next = c.in-Ok.ensures in
-    on_ok c.put.result (λ w y. each_more _ _ _ _ _ c.args.variable (action_count a) (λ inside place. action_items inside place a)
+    on_ok c.put.result
+    (λ w y. each_more _ _ _ _ _ c.args.variable (action_count a) (λ inside place. action_items inside place a)
     c.in-Ok.inside c.written-end.result (λ e at. action_length e a at) c.written-end.ensures next.0 next.1
     next.2 c.in-Ok-put_statement.ensures c.lead_back.ensures w) c.put.ensures
 
 pub put_each_where-returns : goal.put_each_where-returns
 put_each_where-returns t c =
     let next = c.in-Ok.ensures in
-    on_ok c.put.result (each_where_more _ _ _ _ _ _ c.args.variable (value_of c.args.test.now) (action_of c.args.body.now)
+    on_ok c.put.result
+    (each_where_more _ _ _ _ _ _ c.args.variable (value_of c.args.test.now) (action_of c.args.body.now)
     c.in-Ok.inside c.written-end.result c.written-end.ensures next.0 next.1 next.2
     c.in-Ok-put_statement.ensures c.in-Ok-put_value.ensures c.lead_back.ensures) c.put.ensures
 
 pub put_each_in-returns : goal.put_each_in-returns
 put_each_in-returns t c =
-    on_ok c.put_operand.result (each_in_more _ _ _ _ _ _ _ c.args.variable _ (value_of c.args.parent.now) (action_of c.args.body.now) _
+    on_ok c.put_operand.result
+    (each_in_more _ _ _ _ _ _ _ c.args.variable _ (value_of c.args.parent.now) (action_of c.args.body.now) _
     c.written-end.ensures c.in-Ok.ensures c.in-Ok-put_kin.ensures c.written.ensures c.in-Ok-put_statement.ensures
     c.lead_back.ensures c.alone-operand.ensures c.in-Ok-put_kin-2.ensures) c.put_operand.ensures
 
