@@ -37,8 +37,12 @@ pub fn put_branch<'a>(
     ensures { OnOk result (PutsItem draft.old draft.new
         (branch_true (as_operand operand) when left)) }
 {
-    let operands = vec![in draft.alloc; operand]?;
-    put(draft, Item::Branch(Test::IsZero, operands, !when, left))?;
+    let Ok(operands) = vec![in draft.alloc; operand] else {
+        return Err(AllocError);
+    };
+    let Ok(()) = put(draft, Item::Branch(Test::IsZero, operands, !when, left)) else {
+        return Err(AllocError);
+    };
     Ok(())
 }
 

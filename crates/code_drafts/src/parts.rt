@@ -26,7 +26,9 @@ pub fn put_word(draft: &mut Draft<'_>, wanted: Wanted) -> Result<Destination, Al
     match wanted {
         Wanted::Word(destination) => Ok(destination),
         Wanted::Branch(when, left) => {
-            put_branch(draft, Operand::Pushed, when, left)?;
+            let Ok(()) = put_branch(draft, Operand::Pushed, when, left) else {
+                return Err(AllocError);
+            };
             Ok(Destination::Push)
         }
     }
@@ -46,15 +48,21 @@ pub fn put_truth(draft: &mut Draft<'_>, wanted: Wanted) -> Result<(bool, usize),
             Ok((true, end))
         }
         Wanted::Word(Destination::Push) => {
-            let left = put_choice(draft, Destination::Push)?;
+            let Ok(left) = put_choice(draft, Destination::Push) else {
+                return Err(AllocError);
+            };
             Ok((true, left))
         }
         Wanted::Word(Destination::Into(variable)) => {
-            let left = put_choice(draft, Destination::Into(variable))?;
+            let Ok(left) = put_choice(draft, Destination::Into(variable)) else {
+                return Err(AllocError);
+            };
             Ok((true, left))
         }
         Wanted::Word(Destination::Aside) => {
-            let left = put_choice(draft, Destination::Aside)?;
+            let Ok(left) = put_choice(draft, Destination::Aside) else {
+                return Err(AllocError);
+            };
             Ok((true, left))
         }
     }
@@ -66,10 +74,16 @@ fn put_choice(draft: &mut Draft<'_>, destination: Destination) -> Result<usize, 
     ensures { IfOk result (λ left. WritesChoice draft.old draft.new destination left) }
 {
     let end = written(draft);
-    put(draft, Item::Move(Operand::Number(1), destination))?;
+    let Ok(()) = put(draft, Item::Move(Operand::Number(1), destination)) else {
+        return Err(AllocError);
+    };
     let left = written(draft);
-    put(draft, Item::Jump(end))?;
-    put(draft, Item::Move(Operand::Number(0), destination))?;
+    let Ok(()) = put(draft, Item::Jump(end)) else {
+        return Err(AllocError);
+    };
+    let Ok(()) = put(draft, Item::Move(Operand::Number(0), destination)) else {
+        return Err(AllocError);
+    };
     Ok(left)
 }
 
@@ -78,10 +92,16 @@ pub fn put_number(draft: &mut Draft<'_>, number: u16, wanted: Wanted) -> Result<
     ensures { OnOk result (WritesValue draft.old draft.new wanted (source.number number)) }
 {
     match wanted {
-        Wanted::Word(destination) => put_moved(draft, Operand::Number(number), destination)?,
+        Wanted::Word(destination) => {
+            let Ok(()) = put_moved(draft, Operand::Number(number), destination) else {
+                return Err(AllocError);
+            };
+        }
         Wanted::Branch(when, left) => {
             if is_known(number, when) {
-                put(draft, Item::Jump(left))?;
+                let Ok(()) = put(draft, Item::Jump(left)) else {
+                    return Err(AllocError);
+                };
             }
         }
     }
@@ -100,9 +120,15 @@ pub fn put_read(draft: &mut Draft<'_>, variable: Variable, wanted: Wanted) -> Re
     ensures { OnOk result (WritesValue draft.old draft.new wanted (source.read variable)) }
 {
     match wanted {
-        Wanted::Word(destination) => put_moved(draft, Operand::Variable(variable), destination)?,
+        Wanted::Word(destination) => {
+            let Ok(()) = put_moved(draft, Operand::Variable(variable), destination) else {
+                return Err(AllocError);
+            };
+        }
         Wanted::Branch(when, left) => {
-            put_branch(draft, Operand::Variable(variable), when, left)?;
+            let Ok(()) = put_branch(draft, Operand::Variable(variable), when, left) else {
+                return Err(AllocError);
+            };
         }
     }
     Ok(())
@@ -134,8 +160,12 @@ pub fn put_step_before(
     ensures { OnOk result (WritesValue draft.old draft.new wanted
         (source.step_before step variable)) }
 {
-    let destination = put_word(draft, wanted)?;
-    put(draft, Item::Step(step, variable, destination))?;
+    let Ok(destination) = put_word(draft, wanted) else {
+        return Err(AllocError);
+    };
+    let Ok(()) = put(draft, Item::Step(step, variable, destination)) else {
+        return Err(AllocError);
+    };
     Ok(())
 }
 

@@ -22,9 +22,15 @@ fn put_same(
     ensures { OnOk result (PutsItem draft.old draft.new
         (items.branch same (as_operand operand ∷ as_operands others.now) when target)) }
 {
-    let mut operands = vec![in draft.alloc; operand]?;
-    operands.extend_from_slice(others)?;
-    put(draft, Item::Branch(Test::Same, operands, when, target))?;
+    let Ok(mut operands) = vec![in draft.alloc; operand] else {
+        return Err(AllocError);
+    };
+    let Ok(()) = operands.extend_from_slice(others) else {
+        return Err(AllocError);
+    };
+    let Ok(()) = put(draft, Item::Branch(Test::Same, operands, when, target)) else {
+        return Err(AllocError);
+    };
     Ok(())
 }
 
@@ -56,23 +62,27 @@ pub fn put_each_same(
 {
     let count = groups_before_last(others.len());
     let end = written(draft);
-    put_same(
+    let Ok(()) = put_same(
         draft,
         operand,
         &others[MOST_COMPARED * count..],
         when,
         target,
-    )?;
+    ) else {
+        return Err(AllocError);
+    };
     let found = where_equal(when, target, end);
     for done in 0..count {
         let first = MOST_COMPARED * (count - 1 - done);
-        put_same(
+        let Ok(()) = put_same(
             draft,
             operand,
             &others[first..first + MOST_COMPARED],
             true,
             found,
-        )?;
+        ) else {
+            return Err(AllocError);
+        };
     }
     Ok(())
 }

@@ -17,14 +17,18 @@ use std::alloc::AllocError;
 fn put_lower(draft: &mut Draft<'_>, low: u16, left: usize) -> Result<(), AllocError>
     ensures { OnOk result (PutsItem draft.old draft.new (case less (low ∷ []) true left)) }
 {
-    let numbers = vec![in draft.alloc; low]?;
+    let Ok(numbers) = vec![in draft.alloc; low] else {
+        return Err(AllocError);
+    };
     put(draft, Item::Case(Test::Less, numbers, true, left))
 }
 
 fn put_upper(draft: &mut Draft<'_>, high: u16, when: bool, left: usize) -> Result<(), AllocError>
     ensures { OnOk result (PutsItem draft.old draft.new (case greater (high ∷ []) when left)) }
 {
-    let numbers = vec![in draft.alloc; high]?;
+    let Ok(numbers) = vec![in draft.alloc; high] else {
+        return Err(AllocError);
+    };
     put(draft, Item::Case(Test::Greater, numbers, when, left))
 }
 
@@ -36,7 +40,9 @@ fn put_numbers(
 ) -> Result<(), AllocError>
     ensures { OnOk result (PutsItem draft.old draft.new (case same numbers.now when left)) }
 {
-    let numbers = Vec::from_slice(draft.alloc, numbers)?;
+    let Ok(numbers) = Vec::from_slice(draft.alloc, numbers) else {
+        return Err(AllocError);
+    };
     put(draft, Item::Case(Test::Same, numbers, when, left))
 }
 
@@ -50,7 +56,9 @@ fn put_group(draft: &mut Draft<'_>, group: &Group, inside: usize) -> Result<(), 
         Group::Numbers(numbers) => put_numbers(draft, numbers, true, inside),
         Group::Range(low, high) => {
             let next = written(draft);
-            put_upper(draft, *high, false, inside)?;
+            let Ok(()) = put_upper(draft, *high, false, inside) else {
+                return Err(AllocError);
+            };
             put_lower(draft, *low, next)
         }
     }
@@ -65,7 +73,9 @@ fn put_last(draft: &mut Draft<'_>, group: &Group, behind: usize) -> Result<(), A
     match group {
         Group::Numbers(numbers) => put_numbers(draft, numbers, false, behind),
         Group::Range(low, high) => {
-            put_upper(draft, *high, true, behind)?;
+            let Ok(()) = put_upper(draft, *high, true, behind) else {
+                return Err(AllocError);
+            };
             put_lower(draft, *low, behind)
         }
     }
@@ -81,13 +91,19 @@ pub fn put_tests(
     ensures { OnOk result (Writes draft.old draft.new
         (λ n at. tests_items at (groups_of (map range_of spans.now)) (n - inside) (n - behind))) }
 {
-    let found = groups(draft.alloc, spans)?;
+    let Ok(found) = groups(draft.alloc, spans) else {
+        return Err(AllocError);
+    };
     if found.is_empty() {
         return put(draft, Item::Jump(behind));
     }
-    put_last(draft, &found[0], behind)?;
+    let Ok(()) = put_last(draft, &found[0], behind) else {
+        return Err(AllocError);
+    };
     for group in &found[1..] {
-        put_group(draft, group, inside)?;
+        let Ok(()) = put_group(draft, group, inside) else {
+            return Err(AllocError);
+        };
     }
     Ok(())
 }
@@ -99,7 +115,7 @@ pub fn put_over(draft: &mut Draft<'_>, end: usize) -> Result<(), AllocError>
         (λ n at. over_items (length (written_in draft.old) - end) (n - end))) }
 {
     if written(draft) > end {
-        put(draft, Item::Jump(end))?;
+        return put(draft, Item::Jump(end));
     }
     Ok(())
 }

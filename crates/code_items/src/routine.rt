@@ -25,13 +25,19 @@ pub fn routine_items<'a>(
 {
     let items = Vec::new(alloc);
     let mut draft = Draft { alloc, items };
-    put(&mut draft, Item::Return(Operand::Number(1)))?;
+    let Ok(()) = put(&mut draft, Item::Return(Operand::Number(1))) else {
+        return Err(AllocError);
+    };
     let end = written(&draft);
     let outside = Exits {
         breaks: end,
         continues: end,
     };
-    put_statements(&mut draft, outside, &routine.body)?;
-    let code = in_order(draft)?;
+    let Ok(()) = put_statements(&mut draft, outside, &routine.body) else {
+        return Err(AllocError);
+    };
+    let Ok(code) = in_order(draft) else {
+        return Err(AllocError);
+    };
     Ok(code)
 }

@@ -37,7 +37,9 @@ pub fn put_statements<'a>(
 {
     for done in 0..statements.len() {
         let statement = &statements[statements.len() - 1 - done];
-        put_statement(draft, exits, statement)?;
+        let Ok(()) = put_statement(draft, exits, statement) else {
+            return Err(AllocError);
+        };
     }
     Ok(())
 }
@@ -84,9 +86,10 @@ fn put_text<'a>(draft: &mut Draft<'a>, text: &'a [u8]) -> Result<(), AllocError>
     ensures { OnOk result ((x : _) → WritesAction draft.old draft.new x
         (text_alone text.entry.now)) }
 {
-    put_end_of_line(draft)?;
-    put(draft, Item::PrintText(text))?;
-    Ok(())
+    let Ok(()) = put_end_of_line(draft) else {
+        return Err(AllocError);
+    };
+    put(draft, Item::PrintText(text))
 }
 
 /// `print_ret`.
@@ -94,9 +97,10 @@ fn put_print_return<'a>(draft: &mut Draft<'a>, items: &[Printed<'a>]) -> Result<
     ensures { OnOk result ((x : _) → WritesAction draft.old draft.new x
         (print_return (map printed_of items.now))) }
 {
-    put_end_of_line(draft)?;
-    put_prints(draft, items)?;
-    Ok(())
+    let Ok(()) = put_end_of_line(draft) else {
+        return Err(AllocError);
+    };
+    put_prints(draft, items)
 }
 
 /// `if` without `else`: a branch over what the test guards.
@@ -112,9 +116,10 @@ fn put_if<'a>(
         (if_then (value_of test.now) (action_of then.now))) }
 {
     let end = written(draft);
-    put_statement(draft, exits, then)?;
-    put_value(draft, test, Wanted::Branch(false, end))?;
-    Ok(())
+    let Ok(()) = put_statement(draft, exits, then) else {
+        return Err(AllocError);
+    };
+    put_value(draft, test, Wanted::Branch(false, end))
 }
 
 /// `if` with `else`: a branch to what stands behind `else`, and behind what the test guards a jump
@@ -132,12 +137,17 @@ fn put_if_else<'a>(
         (if_else (value_of test.now) (action_of then.now) (action_of otherwise.now))) }
 {
     let end = written(draft);
-    put_statement(draft, exits, otherwise)?;
+    let Ok(()) = put_statement(draft, exits, otherwise) else {
+        return Err(AllocError);
+    };
     let next = written(draft);
-    put(draft, Item::Jump(end))?;
-    put_statement(draft, exits, then)?;
-    put_value(draft, test, Wanted::Branch(false, next))?;
-    Ok(())
+    let Ok(()) = put(draft, Item::Jump(end)) else {
+        return Err(AllocError);
+    };
+    let Ok(()) = put_statement(draft, exits, then) else {
+        return Err(AllocError);
+    };
+    put_value(draft, test, Wanted::Branch(false, next))
 }
 
 /// `while`: behind what the test guards it goes back to the test.
@@ -148,13 +158,19 @@ fn put_while<'a>(draft: &mut Draft<'a>, body: &Action<'a>, test: &Value) -> Resu
         (while_do (value_of test.now) (action_of body.now))) }
 {
     let behind = written(draft);
-    put(draft, Item::Back(0))?;
+    let Ok(()) = put(draft, Item::Back(0)) else {
+        return Err(AllocError);
+    };
     let within = Exits {
         breaks: behind,
         continues: written(draft),
     };
-    put_statement(draft, within, body)?;
-    put_value(draft, test, Wanted::Branch(false, behind))?;
+    let Ok(()) = put_statement(draft, within, body) else {
+        return Err(AllocError);
+    };
+    let Ok(()) = put_value(draft, test, Wanted::Branch(false, behind)) else {
+        return Err(AllocError);
+    };
     lead_back(draft, behind);
     Ok(())
 }
@@ -166,13 +182,19 @@ fn put_do<'a>(draft: &mut Draft<'a>, body: &Action<'a>, test: &Value) -> Result<
         (do_until (action_of body.now) (value_of test.now))) }
 {
     let end = written(draft);
-    put(draft, Item::Back(0))?;
-    put_value(draft, test, Wanted::Branch(true, end))?;
+    let Ok(()) = put(draft, Item::Back(0)) else {
+        return Err(AllocError);
+    };
+    let Ok(()) = put_value(draft, test, Wanted::Branch(true, end)) else {
+        return Err(AllocError);
+    };
     let inside = Exits {
         breaks: end,
         continues: written(draft),
     };
-    put_statement(draft, inside, body)?;
+    let Ok(()) = put_statement(draft, inside, body) else {
+        return Err(AllocError);
+    };
     lead_back(draft, end);
     Ok(())
 }
@@ -191,17 +213,24 @@ fn put_for<'a>(
         (option_map boxed_value behind.now) (action_of body.now))) }
 {
     let end = written(draft);
-    put(draft, Item::Back(0))?;
-    put_once(draft, behind)?;
+    let Ok(()) = put(draft, Item::Back(0)) else {
+        return Err(AllocError);
+    };
+    let Ok(()) = put_once(draft, behind) else {
+        return Err(AllocError);
+    };
     let inside = Exits {
         breaks: end,
         continues: written(draft),
     };
-    put_statement(draft, inside, body)?;
-    put_test(draft, test, end)?;
+    let Ok(()) = put_statement(draft, inside, body) else {
+        return Err(AllocError);
+    };
+    let Ok(()) = put_test(draft, test, end) else {
+        return Err(AllocError);
+    };
     lead_back(draft, end);
-    put_once(draft, before)?;
-    Ok(())
+    put_once(draft, before)
 }
 
 /// `objectloop` over all objects.
@@ -215,11 +244,14 @@ fn put_each<'a>(
         (each_object variable (action_of body.now))) }
 {
     let end = written(draft);
-    let inside = put_next(draft, variable)?;
-    put_statement(draft, inside, body)?;
+    let Ok(inside) = put_next(draft, variable) else {
+        return Err(AllocError);
+    };
+    let Ok(()) = put_statement(draft, inside, body) else {
+        return Err(AllocError);
+    };
     lead_back(draft, end);
-    put(draft, Item::FirstObject(variable, end))?;
-    Ok(())
+    put(draft, Item::FirstObject(variable, end))
 }
 
 /// `objectloop` over the objects for which a condition holds.
@@ -234,12 +266,17 @@ fn put_each_where<'a>(
         (each_where variable (value_of test.now) (action_of body.now))) }
 {
     let end = written(draft);
-    let inside = put_next(draft, variable)?;
-    put_statement(draft, inside, body)?;
-    put_value(draft, test, Wanted::Branch(false, inside.continues))?;
+    let Ok(inside) = put_next(draft, variable) else {
+        return Err(AllocError);
+    };
+    let Ok(()) = put_statement(draft, inside, body) else {
+        return Err(AllocError);
+    };
+    let Ok(()) = put_value(draft, test, Wanted::Branch(false, inside.continues)) else {
+        return Err(AllocError);
+    };
     lead_back(draft, end);
-    put(draft, Item::FirstObject(variable, end))?;
-    Ok(())
+    put(draft, Item::FirstObject(variable, end))
 }
 
 /// `objectloop` over the children of an object.
@@ -254,24 +291,31 @@ fn put_each_in<'a>(
         (each_in variable (value_of parent.now) (action_of body.now))) }
 {
     let end = written(draft);
-    put(draft, Item::Back(0))?;
-    put_kin(
+    let Ok(()) = put(draft, Item::Back(0)) else {
+        return Err(AllocError);
+    };
+    let Ok(()) = put_kin(
         draft,
         Relative::Sibling,
         Operand::Variable(variable),
         variable,
         end,
-    )?;
+    ) else {
+        return Err(AllocError);
+    };
     let inside = Exits {
         breaks: end,
         continues: written(draft),
     };
-    put_statement(draft, inside, body)?;
+    let Ok(()) = put_statement(draft, inside, body) else {
+        return Err(AllocError);
+    };
     lead_back(draft, end);
     let operand = alone(parent);
-    put_kin(draft, Relative::Child, operand, variable, end)?;
-    put_operand(draft, parent, operand)?;
-    Ok(())
+    let Ok(()) = put_kin(draft, Relative::Child, operand, variable, end) else {
+        return Err(AllocError);
+    };
+    put_operand(draft, parent, operand)
 }
 
 /// `switch`: its word is put aside, and its cases follow.
@@ -291,10 +335,13 @@ fn put_switch<'a>(
         breaks: end,
         continues: exits.continues,
     };
-    put_other(draft, inside, other)?;
-    put_cases(draft, inside, cases, end)?;
-    put_value(draft, value, Wanted::Word(Destination::Aside))?;
-    Ok(())
+    let Ok(()) = put_other(draft, inside, other) else {
+        return Err(AllocError);
+    };
+    let Ok(()) = put_cases(draft, inside, cases, end) else {
+        return Err(AllocError);
+    };
+    put_value(draft, value, Wanted::Word(Destination::Aside))
 }
 
 /// The statements of `default`.
@@ -324,7 +371,9 @@ fn put_cases<'a>(
     ensures { OnOk result (LeavesCases draft.old draft.new exits cases.now end) }
 {
     for done in 0..cases.len() {
-        put_case(draft, exits, &cases[cases.len() - 1 - done], end)?;
+        let Ok(()) = put_case(draft, exits, &cases[cases.len() - 1 - done], end) else {
+            return Err(AllocError);
+        };
     }
     Ok(())
 }
@@ -340,11 +389,14 @@ fn put_case<'a>(
     ensures { OnOk result (LeavesCases draft.old draft.new exits (case.now ∷ []) end) }
 {
     let behind = written(draft);
-    put_over(draft, end)?;
-    put_statements(draft, exits, &case.1)?;
+    let Ok(()) = put_over(draft, end) else {
+        return Err(AllocError);
+    };
+    let Ok(()) = put_statements(draft, exits, &case.1) else {
+        return Err(AllocError);
+    };
     let inside = written(draft);
-    put_tests(draft, &case.0, inside, behind)?;
-    Ok(())
+    put_tests(draft, &case.0, inside, behind)
 }
 
 /// Behind a round of an `objectloop` over all objects: the next object, and back. Where the body
@@ -353,8 +405,12 @@ fn put_next(draft: &mut Draft<'_>, variable: Variable) -> Result<Exits, AllocErr
     ensures { IfOk result (λ exits. PutsNext draft.old draft.new variable exits) }
 {
     let end = written(draft);
-    put(draft, Item::Back(0))?;
-    put(draft, Item::NextObject(variable, end))?;
+    let Ok(()) = put(draft, Item::Back(0)) else {
+        return Err(AllocError);
+    };
+    let Ok(()) = put(draft, Item::NextObject(variable, end)) else {
+        return Err(AllocError);
+    };
     Ok(Exits {
         breaks: end,
         continues: written(draft),
@@ -373,9 +429,15 @@ fn put_kin(
     ensures { OnOk result (Writes draft.old draft.new
         (λ n at. relative_items relation (as_operand object) variable (n - end))) }
 {
-    put_branch(draft, Operand::Pushed, false, end)?;
-    put(draft, Item::Keep(variable))?;
-    put(draft, Item::Relative(relation, object, Destination::Push))?;
+    let Ok(()) = put_branch(draft, Operand::Pushed, false, end) else {
+        return Err(AllocError);
+    };
+    let Ok(()) = put(draft, Item::Keep(variable)) else {
+        return Err(AllocError);
+    };
+    let Ok(()) = put(draft, Item::Relative(relation, object, Destination::Push)) else {
+        return Err(AllocError);
+    };
     Ok(())
 }
 
@@ -390,8 +452,12 @@ fn put_give(
 {
     let operand = alone(object);
     let mut given = Vec::new(draft.alloc);
-    given.extend_from_slice(changes)?;
-    put_after(draft, object, operand, Item::Give(operand, given))?;
+    let Ok(()) = given.extend_from_slice(changes) else {
+        return Err(AllocError);
+    };
+    let Ok(()) = put_after(draft, object, operand, Item::Give(operand, given)) else {
+        return Err(AllocError);
+    };
     Ok(())
 }
 
@@ -402,9 +468,10 @@ fn put_move(draft: &mut Draft<'_>, object: &Value, into: &Value) -> Result<(), A
 {
     let left = left_of(object, into);
     let right = alone(into);
-    put_after(draft, into, right, Item::MoveObject(left, right))?;
-    put_operand(draft, object, left)?;
-    Ok(())
+    let Ok(()) = put_after(draft, into, right, Item::MoveObject(left, right)) else {
+        return Err(AllocError);
+    };
+    put_operand(draft, object, left)
 }
 
 fn put_remove(draft: &mut Draft<'_>, object: &Value) -> Result<(), AllocError>
@@ -412,7 +479,9 @@ fn put_remove(draft: &mut Draft<'_>, object: &Value) -> Result<(), AllocError>
         (remove_from (value_of object.now))) }
 {
     let operand = alone(object);
-    put_after(draft, object, operand, Item::RemoveObject(operand))?;
+    let Ok(()) = put_after(draft, object, operand, Item::RemoveObject(operand)) else {
+        return Err(AllocError);
+    };
     Ok(())
 }
 
@@ -422,7 +491,9 @@ fn put_return(draft: &mut Draft<'_>, value: &Value) -> Result<(), AllocError>
         (return_value (value_of value.now))) }
 {
     let operand = alone(value);
-    put_after(draft, value, operand, Item::Return(operand))?;
+    let Ok(()) = put_after(draft, value, operand, Item::Return(operand)) else {
+        return Err(AllocError);
+    };
     Ok(())
 }
 
@@ -436,8 +507,12 @@ fn put_after<'a>(
 ) -> Result<(), AllocError>
     ensures { OnOk result (WritesTaken draft.old draft.new operand item.entry value.now) }
 {
-    put(draft, item)?;
-    put_operand(draft, value, operand)?;
+    let Ok(()) = put(draft, item) else {
+        return Err(AllocError);
+    };
+    let Ok(()) = put_operand(draft, value, operand) else {
+        return Err(AllocError);
+    };
     Ok(())
 }
 
@@ -446,7 +521,9 @@ fn put_prints<'a>(draft: &mut Draft<'a>, items: &[Printed<'a>]) -> Result<(), Al
     ensures { OnOk result (WritesPrinted draft.old draft.new items.now) }
 {
     for done in 0..items.len() {
-        put_printed(draft, &items[items.len() - 1 - done])?;
+        let Ok(()) = put_printed(draft, &items[items.len() - 1 - done]) else {
+            return Err(AllocError);
+        };
     }
     Ok(())
 }
@@ -456,18 +533,28 @@ fn put_printed<'a>(draft: &mut Draft<'a>, item: &Printed<'a>) -> Result<(), Allo
         (λ n at. printed_items at (printed_of item.now))) }
 {
     match item {
-        Printed::Text(text) => put(draft, Item::PrintText(text))?,
+        Printed::Text(text) => {
+            let Ok(()) = put(draft, Item::PrintText(text)) else {
+                return Err(AllocError);
+            };
+        }
         Printed::Character(value) => {
             let operand = alone(value);
-            put_after(draft, value, operand, Item::PrintCharacter(operand))?;
+            let Ok(()) = put_after(draft, value, operand, Item::PrintCharacter(operand)) else {
+                return Err(AllocError);
+            };
         }
         Printed::Number(value) => {
             let operand = alone(value);
-            put_after(draft, value, operand, Item::PrintNumber(operand))?;
+            let Ok(()) = put_after(draft, value, operand, Item::PrintNumber(operand)) else {
+                return Err(AllocError);
+            };
         }
         Printed::Name(value) => {
             let operand = alone(value);
-            put_after(draft, value, operand, Item::PrintName(operand))?;
+            let Ok(()) = put_after(draft, value, operand, Item::PrintName(operand)) else {
+                return Err(AllocError);
+            };
         }
     }
     Ok(())
@@ -478,7 +565,11 @@ fn put_printed<'a>(draft: &mut Draft<'a>, item: &Printed<'a>) -> Result<(), Allo
 fn put_end_of_line(draft: &mut Draft<'_>) -> Result<(), AllocError>
     ensures { OnOk result (Writes draft.old draft.new (λ n at. new_line ∷ return_true ∷ [])) }
 {
-    put(draft, Item::Return(Operand::Number(1)))?;
-    put(draft, Item::NewLine)?;
+    let Ok(()) = put(draft, Item::Return(Operand::Number(1))) else {
+        return Err(AllocError);
+    };
+    let Ok(()) = put(draft, Item::NewLine) else {
+        return Err(AllocError);
+    };
     Ok(())
 }

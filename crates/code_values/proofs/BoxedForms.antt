@@ -1,6 +1,7 @@
 -- What is written for an expression by its form, as the code comes to it: d and so on are the trees behind the boxes.
 use Rattle.std.proofs.Common.{◌≡◌, ℕ, List, Bool, Result, OnOk, map, sym, subst, refl}
 use Rattle.std.specs.Global.{Vec, Box}
+use Rattle.std.specs.Prelude.{Ok, Err}
 use Rattle.syntax_trees.specs.declared.tree.Binary.{Binary}
 use Rattle.syntax_trees.specs.declared.tree.Comparison.{Comparison}
 use Rattle.syntax_trees.specs.declared.tree.Containment.{Containment}
@@ -23,6 +24,11 @@ use Rattle.code_drafts.proofs.Trees.{call_is, prefixed_is, step_after_is, compar
 use Rattle.code_drafts.proofs.Trees.{assign_entry_is, relative_is, contained_is, has_is, provides_is, property_is}
 use Rattle.code_drafts.proofs.Trees.{property_size_is, property_word_is, assign_property_is}
 use Rattle.code_values.proofs.ObjectForms.{one_boxed, two_boxed, three_boxed}
+
+-- what a call's answer leads to, if memory sufficed
+pub on_ok : {T E P Q : Type 0} (result : Result T E) → (P → Q) → OnOk result P → OnOk result Q
+on_ok (Ok x) next h = next h
+on_ok (Err e) next h = tt
 
 -- what is wanted of a value was written, if memory sufficed
 abbrev pub WroteForm : {T E : Type 0} → Result T E → List Item → List Item → Wanted → Value → Type 0

@@ -31,11 +31,14 @@ pub(crate) fn put_relative<'a>(
     ensures { OnOk result (WritesValue draft.old draft.new wanted
         (relative relation (value_of object.now))) }
 {
-    let destination = put_word(draft, wanted)?;
+    let Ok(destination) = put_word(draft, wanted) else {
+        return Err(AllocError);
+    };
     let operand = alone(object);
-    put(draft, Item::Relative(relation, operand, destination))?;
-    put_operand(draft, object, operand)?;
-    Ok(())
+    let Ok(()) = put(draft, Item::Relative(relation, operand, destination)) else {
+        return Err(AllocError);
+    };
+    put_operand(draft, object, operand)
 }
 
 /// Whether an object stands in another, or whether it does not.
@@ -52,9 +55,10 @@ pub(crate) fn put_contained<'a>(
         (contained containment (value_of object.now) (value_of parent.now))) }
 {
     let left = left_of(object, parent);
-    put_containment(draft, parent, containment, left, wanted)?;
-    put_operand(draft, object, left)?;
-    Ok(())
+    let Ok(()) = put_containment(draft, parent, containment, left, wanted) else {
+        return Err(AllocError);
+    };
+    put_operand(draft, object, left)
 }
 
 /// `in` or `notin` and the word at its right, where the operand for the object is known.
@@ -70,12 +74,15 @@ fn put_containment<'a>(
     ensures { OnOk result (WritesContained draft.old draft.new
         wanted containment object parent.now) }
 {
-    let (when, target) = put_truth(draft, wanted)?;
+    let Ok((when, target)) = put_truth(draft, wanted) else {
+        return Err(AllocError);
+    };
     let operand = alone(parent);
     let when = containment_when(containment, when);
-    put(draft, Item::IsIn(object, operand, when, target))?;
-    put_operand(draft, parent, operand)?;
-    Ok(())
+    let Ok(()) = put(draft, Item::IsIn(object, operand, when, target)) else {
+        return Err(AllocError);
+    };
+    put_operand(draft, parent, operand)
 }
 
 /// Whether an object has an attribute.
@@ -91,12 +98,15 @@ pub(crate) fn put_has<'a>(
     ensures { OnOk result (WritesValue draft.old draft.new wanted
         (has positive (value_of object.now) attribute)) }
 {
-    let (when, target) = put_truth(draft, wanted)?;
+    let Ok((when, target)) = put_truth(draft, wanted) else {
+        return Err(AllocError);
+    };
     let operand = alone(object);
     let when = has_when(positive, when);
-    put(draft, Item::Has(operand, attribute, when, target))?;
-    put_operand(draft, object, operand)?;
-    Ok(())
+    let Ok(()) = put(draft, Item::Has(operand, attribute, when, target)) else {
+        return Err(AllocError);
+    };
+    put_operand(draft, object, operand)
 }
 
 /// Whether an object provides a property.
@@ -111,11 +121,14 @@ pub(crate) fn put_provides<'a>(
     ensures { OnOk result (WritesValue draft.old draft.new wanted
         (provides (value_of object.now) property)) }
 {
-    let (when, target) = put_truth(draft, wanted)?;
+    let Ok((when, target)) = put_truth(draft, wanted) else {
+        return Err(AllocError);
+    };
     let operand = alone(object);
-    put(draft, Item::Provides(operand, property, when, target))?;
-    put_operand(draft, object, operand)?;
-    Ok(())
+    let Ok(()) = put(draft, Item::Provides(operand, property, when, target)) else {
+        return Err(AllocError);
+    };
+    put_operand(draft, object, operand)
 }
 
 /// The word of a property, or of the last of several of which each is one of the word before it.
@@ -132,12 +145,17 @@ pub(crate) fn put_property<'a>(
     ensures { OnOk result (WritesValue draft.old draft.new wanted
         (propertied (property (value_of object.now) number) others.now)) }
 {
-    let wanted = put_properties(draft, others, wanted)?;
-    let destination = put_word(draft, wanted)?;
+    let Ok(wanted) = put_properties(draft, others, wanted) else {
+        return Err(AllocError);
+    };
+    let Ok(destination) = put_word(draft, wanted) else {
+        return Err(AllocError);
+    };
     let operand = alone(object);
-    put(draft, Item::Property(operand, number, destination))?;
-    put_operand(draft, object, operand)?;
-    Ok(())
+    let Ok(()) = put(draft, Item::Property(operand, number, destination)) else {
+        return Err(AllocError);
+    };
+    put_operand(draft, object, operand)
 }
 
 /// Properties of which each is one of the word before it, from the last one on: what is then wanted
@@ -153,8 +171,12 @@ fn put_properties(
     let mut wanted = wanted;
     for done in 0..numbers.len() {
         let number = numbers[numbers.len() - 1 - done];
-        let destination = put_word(draft, wanted)?;
-        put(draft, Item::Property(Operand::Pushed, number, destination))?;
+        let Ok(destination) = put_word(draft, wanted) else {
+            return Err(AllocError);
+        };
+        let Ok(()) = put(draft, Item::Property(Operand::Pushed, number, destination)) else {
+            return Err(AllocError);
+        };
         wanted = Wanted::Word(Destination::Push);
     }
     Ok(wanted)
@@ -172,11 +194,14 @@ pub(crate) fn put_property_size<'a>(
     ensures { OnOk result (WritesValue draft.old draft.new wanted
         (property_size (value_of object.now) number)) }
 {
-    let destination = put_word(draft, wanted)?;
+    let Ok(destination) = put_word(draft, wanted) else {
+        return Err(AllocError);
+    };
     let operand = alone(object);
-    put(draft, Item::PropertySize(operand, number, destination))?;
-    put_operand(draft, object, operand)?;
-    Ok(())
+    let Ok(()) = put(draft, Item::PropertySize(operand, number, destination)) else {
+        return Err(AllocError);
+    };
+    put_operand(draft, object, operand)
 }
 
 /// A word of a property.
@@ -193,9 +218,10 @@ pub(crate) fn put_property_word<'a>(
         (property_word (value_of object.now) number (value_of index.now))) }
 {
     let left = left_of(object, index);
-    put_indexed_property(draft, index, number, left, wanted)?;
-    put_operand(draft, object, left)?;
-    Ok(())
+    let Ok(()) = put_indexed_property(draft, index, number, left, wanted) else {
+        return Err(AllocError);
+    };
+    put_operand(draft, object, left)
 }
 
 /// A word of a property, where the operand for the object is known.
@@ -210,14 +236,17 @@ fn put_indexed_property<'a>(
 ) -> Result<(), AllocError>
     ensures { OnOk result (WritesPropertyWord draft.old draft.new wanted number object index.now) }
 {
-    let destination = put_word(draft, wanted)?;
+    let Ok(destination) = put_word(draft, wanted) else {
+        return Err(AllocError);
+    };
     let operand = alone(index);
-    put(
+    let Ok(()) = put(
         draft,
         Item::PropertyWord(number, object, operand, destination),
-    )?;
-    put_operand(draft, index, operand)?;
-    Ok(())
+    ) else {
+        return Err(AllocError);
+    };
+    put_operand(draft, index, operand)
 }
 
 /// A property that is assigned.
@@ -234,9 +263,10 @@ pub(crate) fn put_assign_property<'a>(
         (assign_property (value_of object.now) number (value_of value.now))) }
 {
     let left = left_of(object, value);
-    put_assigned_property(draft, value, number, left, wanted)?;
-    put_operand(draft, object, left)?;
-    Ok(())
+    let Ok(()) = put_assigned_property(draft, value, number, left, wanted) else {
+        return Err(AllocError);
+    };
+    put_operand(draft, object, left)
 }
 
 /// A property that is assigned, where the operand for the object is known.
@@ -252,14 +282,17 @@ fn put_assigned_property<'a>(
     ensures { OnOk result (WritesAssignedProperty draft.old draft.new
         wanted number object value.now) }
 {
-    let destination = put_word(draft, wanted)?;
+    let Ok(destination) = put_word(draft, wanted) else {
+        return Err(AllocError);
+    };
     let operand = alone(value);
-    put(
+    let Ok(()) = put(
         draft,
         Item::AssignProperty(number, object, operand, destination),
-    )?;
-    put_operand(draft, value, operand)?;
-    Ok(())
+    ) else {
+        return Err(AllocError);
+    };
+    put_operand(draft, value, operand)
 }
 
 /// A word of a property that is assigned.
@@ -279,10 +312,13 @@ pub(crate) fn put_assign_property_word<'a>(
 {
     let first = first_of(object, index, value);
     let second = left_of(index, value);
-    put_assigned_word(draft, value, number, (first, second), wanted)?;
-    put_operand(draft, index, second)?;
-    put_operand(draft, object, first)?;
-    Ok(())
+    let Ok(()) = put_assigned_word(draft, value, number, (first, second), wanted) else {
+        return Err(AllocError);
+    };
+    let Ok(()) = put_operand(draft, index, second) else {
+        return Err(AllocError);
+    };
+    put_operand(draft, object, first)
 }
 
 /// A word of a property that is assigned, where the operands for the object and the index are
@@ -299,12 +335,15 @@ fn put_assigned_word<'a>(
     ensures { OnOk result (WritesAssignedWord draft.old draft.new
         wanted number places.0 places.1 value.now) }
 {
-    let destination = put_word(draft, wanted)?;
+    let Ok(destination) = put_word(draft, wanted) else {
+        return Err(AllocError);
+    };
     let operand = alone(value);
-    put(
+    let Ok(()) = put(
         draft,
         Item::AssignPropertyWord(number, places.0, places.1, operand, destination),
-    )?;
-    put_operand(draft, value, operand)?;
-    Ok(())
+    ) else {
+        return Err(AllocError);
+    };
+    put_operand(draft, value, operand)
 }

@@ -34,11 +34,14 @@ pub(crate) fn put_chain<'a>(
         (chained (binary operator (value_of first.now) (value_of second.now))
         (map link_of links.now))) }
 {
-    let wanted = put_links(draft, links, wanted)?;
+    let Ok(wanted) = put_links(draft, links, wanted) else {
+        return Err(AllocError);
+    };
     let left = left_of(first, second);
-    let wanted = put_link(draft, second, operator, left, wanted)?;
-    put_first(draft, first, operator, left, wanted)?;
-    Ok(())
+    let Ok(wanted) = put_link(draft, second, operator, left, wanted) else {
+        return Err(AllocError);
+    };
+    put_first(draft, first, operator, left, wanted)
 }
 
 /// Operations that group to the left, from the last one on: what is then wanted of what stands
@@ -54,7 +57,10 @@ fn put_links<'a>(
     let mut wanted = wanted;
     for done in 0..links.len() {
         let (operator, operand) = &links[links.len() - 1 - done];
-        wanted = put_link(draft, operand, *operator, Operand::Pushed, wanted)?;
+        let Ok(before) = put_link(draft, operand, *operator, Operand::Pushed, wanted) else {
+            return Err(AllocError);
+        };
+        wanted = before;
     }
     Ok(wanted)
 }
@@ -75,23 +81,37 @@ fn put_link<'a>(
 {
     match operator {
         Binary::AndAlso => {
-            let (when, target) = put_truth(draft, wanted)?;
+            let Ok((when, target)) = put_truth(draft, wanted) else {
+                return Err(AllocError);
+            };
             let end = written(draft);
-            put_value(draft, second, Wanted::Branch(when, target))?;
+            let Ok(()) = put_value(draft, second, Wanted::Branch(when, target)) else {
+                return Err(AllocError);
+            };
             Ok(first_of_and(when, target, end))
         }
         Binary::OrElse => {
-            let (when, target) = put_truth(draft, wanted)?;
+            let Ok((when, target)) = put_truth(draft, wanted) else {
+                return Err(AllocError);
+            };
             let end = written(draft);
-            put_value(draft, second, Wanted::Branch(when, target))?;
+            let Ok(()) = put_value(draft, second, Wanted::Branch(when, target)) else {
+                return Err(AllocError);
+            };
             Ok(first_of_or(when, target, end))
         }
         _ => {
-            let destination = put_word(draft, wanted)?;
+            let Ok(destination) = put_word(draft, wanted) else {
+                return Err(AllocError);
+            };
             let right = alone(second);
             let place = right_place(operator, left);
-            put(draft, operated(operator, left, right, place, destination))?;
-            put_right(draft, second, right, place)?;
+            let Ok(()) = put(draft, operated(operator, left, right, place, destination)) else {
+                return Err(AllocError);
+            };
+            let Ok(()) = put_right(draft, second, right, place) else {
+                return Err(AllocError);
+            };
             Ok(Wanted::Word(Destination::Push))
         }
     }
@@ -109,14 +129,15 @@ fn put_first<'a>(
     ensures { OnOk result (WritesFirst draft.old draft.new operator left wanted first.now) }
 {
     match left {
-        Operand::Pushed => put_value(draft, first, wanted)?,
+        Operand::Pushed => put_value(draft, first, wanted),
         Operand::Number(_) | Operand::Variable(_) => {
             if is_logical(operator) {
-                put_value(draft, first, wanted)?;
+                put_value(draft, first, wanted)
+            } else {
+                Ok(())
             }
         }
     }
-    Ok(())
 }
 
 /// A comparison of two words.
@@ -133,9 +154,10 @@ pub(crate) fn put_compare<'a>(
         (compare comparison (value_of left.now) (value_of right.now))) }
 {
     let operand = left_of(left, right);
-    put_comparison(draft, right, comparison, operand, wanted)?;
-    put_operand(draft, left, operand)?;
-    Ok(())
+    let Ok(()) = put_comparison(draft, right, comparison, operand, wanted) else {
+        return Err(AllocError);
+    };
+    put_operand(draft, left, operand)
 }
 
 /// A comparison and its right side, where the operand for the left one is known.
@@ -149,14 +171,19 @@ fn put_comparison<'a>(
 ) -> Result<(), AllocError>
     ensures { OnOk result (WritesComparison draft.old draft.new wanted comparison left right.now) }
 {
-    let (when, target) = put_truth(draft, wanted)?;
+    let Ok((when, target)) = put_truth(draft, wanted) else {
+        return Err(AllocError);
+    };
     let operand = alone(right);
-    let operands = vec![in draft.alloc; left, operand]?;
+    let Ok(operands) = vec![in draft.alloc; left, operand] else {
+        return Err(AllocError);
+    };
     let test = comparison_test(comparison);
     let when = comparison_when(comparison, when);
-    put(draft, Item::Branch(test, operands, when, target))?;
-    put_operand(draft, right, operand)?;
-    Ok(())
+    let Ok(()) = put(draft, Item::Branch(test, operands, when, target)) else {
+        return Err(AllocError);
+    };
+    put_operand(draft, right, operand)
 }
 
 /// `==` or `~=` with all its right sides.
@@ -174,10 +201,13 @@ pub(crate) fn put_equal<'a>(
         (equal equality (value_of left.now) (more_in right.now others.now))) }
 {
     let (first, second) = side_operands(left, right, others);
-    put_others(draft, others, equality, (first, second), wanted)?;
-    put_operand(draft, right, second)?;
-    put_operand(draft, left, first)?;
-    Ok(())
+    let Ok(()) = put_others(draft, others, equality, (first, second), wanted) else {
+        return Err(AllocError);
+    };
+    let Ok(()) = put_operand(draft, right, second) else {
+        return Err(AllocError);
+    };
+    put_operand(draft, left, first)
 }
 
 /// `==` or `~=` with the right sides behind the first, where the operands for the left side and the
@@ -200,18 +230,17 @@ fn put_others<'a>(
         let mut operands = vec![in draft.alloc; sides.0, sides.1]?;
         push_operands(&mut operands, others)?;
         put(draft, Item::Branch(Test::Same, operands, when, target))?;
-        put_operands(draft, others)?;
+        put_operands(draft, others)
     } else if is_pushed(sides.0) {
         put_branch(draft, Operand::Pushed, when, target)?;
         put(draft, Item::DropBelow)?;
         put_folded(draft, others)?;
-        put(draft, Item::FirstEqual)?;
+        put(draft, Item::FirstEqual)
     } else {
         let mut compared = vec![in draft.alloc; sides.1]?;
         push_alone(&mut compared, others)?;
-        put_each_same(draft, sides.0, &compared, when, target)?;
+        put_each_same(draft, sides.0, &compared, when, target)
     }
-    Ok(())
 }
 
 /// Right sides that are folded into a flag one after another.
@@ -221,9 +250,13 @@ fn put_folded<'a>(draft: &mut Draft<'a>, values: &[Value]) -> Result<(), AllocEr
     ensures { OnOk result (WritesFolded draft.old draft.new values.now) }
 {
     for done in 0..values.len() {
-        put(draft, Item::AlsoEqual)?;
+        let Ok(()) = put(draft, Item::AlsoEqual) else {
+            return Err(AllocError);
+        };
         let value = &values[values.len() - 1 - done];
-        put_value(draft, value, Wanted::Word(Destination::Push))?;
+        let Ok(()) = put_value(draft, value, Wanted::Word(Destination::Push)) else {
+            return Err(AllocError);
+        };
     }
     Ok(())
 }

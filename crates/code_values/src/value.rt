@@ -78,10 +78,9 @@ pub fn put_operand<'a>(
     ensures { OnOk result (WritesOperand draft.old draft.new operand value.now) }
 {
     match operand {
-        Operand::Pushed => put_value(draft, value, Wanted::Word(Destination::Push))?,
-        Operand::Number(_) | Operand::Variable(_) => {}
+        Operand::Pushed => put_value(draft, value, Wanted::Word(Destination::Push)),
+        Operand::Number(_) | Operand::Variable(_) => Ok(()),
     }
-    Ok(())
 }
 
 /// What puts an operand where it goes; none where it stands in place.
@@ -95,10 +94,9 @@ pub(crate) fn put_right<'a>(
     ensures { OnOk result (WritesPlaced draft.old draft.new operand place value.now) }
 {
     match operand {
-        Operand::Pushed => put_value(draft, value, Wanted::Word(place))?,
-        Operand::Number(_) | Operand::Variable(_) => {}
+        Operand::Pushed => put_value(draft, value, Wanted::Word(place)),
+        Operand::Number(_) | Operand::Variable(_) => Ok(()),
     }
-    Ok(())
 }
 
 /// What pushes the operands of a list, from left to right.
@@ -111,7 +109,9 @@ pub(crate) fn put_operands<'a>(draft: &mut Draft<'a>, values: &[Value]) -> Resul
         let number = values.len() - 1 - done;
         let value = &values[number];
         let operand = before(value, &values[number + 1..]);
-        put_operand(draft, value, operand)?;
+        let Ok(()) = put_operand(draft, value, operand) else {
+            return Err(AllocError);
+        };
     }
     Ok(())
 }
@@ -132,7 +132,9 @@ fn put_arguments<'a>(
         let value = &values[number];
         let operand = before(value, &values[number + 1..]);
         let place = argument_place(several, behind);
-        put_right(draft, value, operand, place)?;
+        let Ok(()) = put_right(draft, value, operand, place) else {
+            return Err(AllocError);
+        };
         behind = are_behind(operand, behind);
     }
     Ok(())
@@ -149,13 +151,18 @@ fn put_call<'a>(
     ensures { OnOk result (WritesValue draft.old draft.new wanted
         (call routine (values_in arguments.now))) }
 {
-    let destination = put_word(draft, wanted)?;
+    let Ok(destination) = put_word(draft, wanted) else {
+        return Err(AllocError);
+    };
     let mut operands = Vec::new(draft.alloc);
-    push_operands(&mut operands, arguments)?;
+    let Ok(()) = push_operands(&mut operands, arguments) else {
+        return Err(AllocError);
+    };
     let several = are_more_pushed(&operands);
-    put(draft, called(routine, operands, several, destination))?;
-    put_arguments(draft, arguments, several)?;
-    Ok(())
+    let Ok(()) = put(draft, called(routine, operands, several, destination)) else {
+        return Err(AllocError);
+    };
+    put_arguments(draft, arguments, several)
 }
 
 #[cycle(values)]
@@ -171,17 +178,22 @@ fn put_prefixed<'a>(
 {
     match prefix {
         Prefix::Not => {
-            let (when, left) = put_truth(draft, wanted)?;
-            put_value(draft, value, Wanted::Branch(!when, left))?;
+            let Ok((when, left)) = put_truth(draft, wanted) else {
+                return Err(AllocError);
+            };
+            put_value(draft, value, Wanted::Branch(!when, left))
         }
         _ => {
-            let destination = put_word(draft, wanted)?;
+            let Ok(destination) = put_word(draft, wanted) else {
+                return Err(AllocError);
+            };
             let operand = alone(value);
-            put(draft, Item::Prefix(prefix, operand, destination))?;
-            put_operand(draft, value, operand)?;
+            let Ok(()) = put(draft, Item::Prefix(prefix, operand, destination)) else {
+                return Err(AllocError);
+            };
+            put_operand(draft, value, operand)
         }
     }
-    Ok(())
 }
 
 #[cycle(values)]
@@ -195,26 +207,38 @@ fn put_assigned<'a>(
     ensures { OnOk result (WritesValue draft.old draft.new wanted
         (assign variable (value_of value.now))) }
 {
-    match put_word(draft, wanted)? {
+    let Ok(destination) = put_word(draft, wanted) else {
+        return Err(AllocError);
+    };
+    match destination {
         Destination::Nowhere => {
-            put_value(draft, value, Wanted::Word(Destination::Into(variable)))?;
+            put_value(draft, value, Wanted::Word(Destination::Into(variable)))
         }
         Destination::Push => {
-            put(draft, Item::Keep(variable))?;
-            put_value(draft, value, Wanted::Word(Destination::Push))?;
+            let Ok(()) = put(draft, Item::Keep(variable)) else {
+                return Err(AllocError);
+            };
+            put_value(draft, value, Wanted::Word(Destination::Push))
         }
         Destination::Into(other) => {
-            put(draft, Item::Move(Operand::Pushed, Destination::Into(other)))?;
-            put(draft, Item::Keep(variable))?;
-            put_value(draft, value, Wanted::Word(Destination::Push))?;
+            let Ok(()) = put(draft, Item::Move(Operand::Pushed, Destination::Into(other))) else {
+                return Err(AllocError);
+            };
+            let Ok(()) = put(draft, Item::Keep(variable)) else {
+                return Err(AllocError);
+            };
+            put_value(draft, value, Wanted::Word(Destination::Push))
         }
         Destination::Aside => {
-            put(draft, Item::Move(Operand::Pushed, Destination::Aside))?;
-            put(draft, Item::Keep(variable))?;
-            put_value(draft, value, Wanted::Word(Destination::Push))?;
+            let Ok(()) = put(draft, Item::Move(Operand::Pushed, Destination::Aside)) else {
+                return Err(AllocError);
+            };
+            let Ok(()) = put(draft, Item::Keep(variable)) else {
+                return Err(AllocError);
+            };
+            put_value(draft, value, Wanted::Word(Destination::Push))
         }
     }
-    Ok(())
 }
 
 /// An entry of an array.
@@ -230,11 +254,14 @@ fn put_entry<'a>(
     ensures { OnOk result (WritesValue draft.old draft.new wanted
         (entry width array (value_of index.now))) }
 {
-    let destination = put_word(draft, wanted)?;
+    let Ok(destination) = put_word(draft, wanted) else {
+        return Err(AllocError);
+    };
     let operand = alone(index);
-    put(draft, loaded(width, array, operand, destination))?;
-    put_right(draft, index, operand, Destination::Aside)?;
-    Ok(())
+    let Ok(()) = put(draft, loaded(width, array, operand, destination)) else {
+        return Err(AllocError);
+    };
+    put_right(draft, index, operand, Destination::Aside)
 }
 
 /// An entry that is assigned.
@@ -252,10 +279,11 @@ fn put_assign_entry<'a>(
         (assign_entry width array (value_of index.now) (value_of value.now))) }
 {
     let left = left_of(index, value);
-    put_assigned_entry(draft, value, width, array, left, wanted)?;
+    let Ok(()) = put_assigned_entry(draft, value, width, array, left, wanted) else {
+        return Err(AllocError);
+    };
     let place = index_place(alone(value));
-    put_right(draft, index, left, place)?;
-    Ok(())
+    put_right(draft, index, left, place)
 }
 
 /// An entry that is assigned, where the operand for its index is known.
@@ -272,9 +300,12 @@ fn put_assigned_entry<'a>(
     ensures { OnOk result (WritesAssignedEntry draft.old draft.new
         wanted width array index value.now) }
 {
-    let destination = put_word(draft, wanted)?;
+    let Ok(destination) = put_word(draft, wanted) else {
+        return Err(AllocError);
+    };
     let operand = alone(value);
-    put(draft, stored(width, array, index, operand, destination))?;
-    put_right(draft, value, operand, Destination::Aside)?;
-    Ok(())
+    let Ok(()) = put(draft, stored(width, array, index, operand, destination)) else {
+        return Err(AllocError);
+    };
+    put_right(draft, value, operand, Destination::Aside)
 }

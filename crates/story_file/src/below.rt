@@ -75,13 +75,21 @@ fn put_table(
         (table_bytes place (map encoded_length texts.now))) }
 {
     let mut sizes = Vec::new(alloc);
-    add_text_sizes(&mut sizes, texts)?;
-    let addresses = array_addresses(alloc, place, &sizes)?;
-    put_halves(bytes, &addresses)?;
-    put_words(
+    let Ok(()) = add_text_sizes(&mut sizes, texts) else {
+        return Err(AllocError);
+    };
+    let Ok(addresses) = array_addresses(alloc, place, &sizes) else {
+        return Err(AllocError);
+    };
+    let Ok(()) = put_halves(bytes, &addresses) else {
+        return Err(AllocError);
+    };
+    let Ok(()) = put_words(
         bytes,
         &[HALVED_EMPTY_TEXT; MOST_ABBREVIATIONS][texts.len()..],
-    )?;
+    ) else {
+        return Err(AllocError);
+    };
     Ok(())
 }
 
@@ -90,8 +98,12 @@ fn put_globals(bytes: &mut Vec<u8>, globals: &[u16]) -> Result<(), AllocError>
     requires { length globals.now ≤ global_count }
     ensures { OnOk result (Adds bytes.old bytes.new (global_bytes globals.now)) }
 {
-    put_words(bytes, globals)?;
-    put_zeros(bytes, 2 * (GLOBAL_COUNT - globals.len()))?;
+    let Ok(()) = put_words(bytes, globals) else {
+        return Err(AllocError);
+    };
+    let Ok(()) = put_zeros(bytes, 2 * (GLOBAL_COUNT - globals.len())) else {
+        return Err(AllocError);
+    };
     Ok(())
 }
 
@@ -120,9 +132,15 @@ fn put_dictionary(bytes: &mut Vec<u8>, keys: &[u64]) -> Result<(), AllocError>
     requires { length keys.now ≤ greatest_word }
     ensures { OnOk result (Adds bytes.old bytes.new (dictionary_bytes keys.now)) }
 {
-    bytes.extend_from_slice(b"\x03.,\"\x09")?;
-    put_word(bytes, keys.len() as u16)?;
-    put_entries(bytes, keys)?;
+    let Ok(()) = bytes.extend_from_slice(b"\x03.,\"\x09") else {
+        return Err(AllocError);
+    };
+    let Ok(()) = put_word(bytes, keys.len() as u16) else {
+        return Err(AllocError);
+    };
+    let Ok(()) = put_entries(bytes, keys) else {
+        return Err(AllocError);
+    };
     Ok(())
 }
 
@@ -152,9 +170,15 @@ fn put_all(bytes: &mut Vec<u8>, texts: &[Vec<u8>]) -> Result<(), AllocError>
 fn put_start(bytes: &mut Vec<u8>, main: u16) -> Result<(), AllocError>
     ensures { OnOk result (Adds bytes.old bytes.new (start_code main)) }
 {
-    bytes.push(CALL)?;
-    put_word(bytes, main)?;
-    bytes.push(QUIT)?;
+    let Ok(()) = bytes.push(CALL) else {
+        return Err(AllocError);
+    };
+    let Ok(()) = put_word(bytes, main) else {
+        return Err(AllocError);
+    };
+    let Ok(()) = bytes.push(QUIT) else {
+        return Err(AllocError);
+    };
     Ok(())
 }
 
@@ -182,15 +206,35 @@ pub fn put_low(
     requires printable { All (λ a. list_all is_printable a ≡ true) checked.now.abbreviations }
     ensures { OnOk result (Adds bytes.old bytes.new (low_bytes (program_of checked.now) main)) }
 {
-    let texts = z_texts(alloc, checked.abbreviations().texts())?;
-    put_table(alloc, bytes, &texts, at.texts)?;
-    put_word(bytes, NO_CHARACTERS)?;
-    put_globals(bytes, checked.globals())?;
-    bytes.extend_from_slice(checked.array_bytes())?;
-    put_objects(alloc, bytes, checked, at)?;
-    put_dictionary(bytes, checked.keys())?;
-    put_zeros(bytes, filling(checked, at))?;
-    put_all(bytes, &texts)?;
-    put_start(bytes, main)?;
+    let Ok(texts) = z_texts(alloc, checked.abbreviations().texts()) else {
+        return Err(AllocError);
+    };
+    let Ok(()) = put_table(alloc, bytes, &texts, at.texts) else {
+        return Err(AllocError);
+    };
+    let Ok(()) = put_word(bytes, NO_CHARACTERS) else {
+        return Err(AllocError);
+    };
+    let Ok(()) = put_globals(bytes, checked.globals()) else {
+        return Err(AllocError);
+    };
+    let Ok(()) = bytes.extend_from_slice(checked.array_bytes()) else {
+        return Err(AllocError);
+    };
+    let Ok(()) = put_objects(alloc, bytes, checked, at) else {
+        return Err(AllocError);
+    };
+    let Ok(()) = put_dictionary(bytes, checked.keys()) else {
+        return Err(AllocError);
+    };
+    let Ok(()) = put_zeros(bytes, filling(checked, at)) else {
+        return Err(AllocError);
+    };
+    let Ok(()) = put_all(bytes, &texts) else {
+        return Err(AllocError);
+    };
+    let Ok(()) = put_start(bytes, main) else {
+        return Err(AllocError);
+    };
     Ok(())
 }

@@ -64,9 +64,13 @@ pub fn put_header(
 {
     let start = places.start as u16;
     let dictionary = places.dictionary as u16;
-    story.push(number_of(version))?;
-    story.push(0)?;
-    put_words(
+    let Ok(()) = story.push(number_of(version)) else {
+        return Err(AllocError);
+    };
+    let Ok(()) = story.push(0) else {
+        return Err(AllocError);
+    };
+    let Ok(()) = put_words(
         story,
         &[
             RELEASE,
@@ -78,16 +82,24 @@ pub fn put_header(
             dictionary,
             0,
         ],
-    )?;
-    story.extend_from_slice(b"000000")?;
-    put_words(
+    ) else {
+        return Err(AllocError);
+    };
+    let Ok(()) = story.extend_from_slice(b"000000") else {
+        return Err(AllocError);
+    };
+    let Ok(()) = put_words(
         story,
         &[
             ABBREVIATIONS_ADDRESS,
             stated_length(version, body),
             sum_of(body),
         ],
-    )?;
-    put_zeros(story, UNUSED)?;
+    ) else {
+        return Err(AllocError);
+    };
+    let Ok(()) = put_zeros(story, UNUSED) else {
+        return Err(AllocError);
+    };
     Ok(())
 }

@@ -109,8 +109,12 @@ fn row(
         (object_at (map object_of objects.now) (index + 1))) }
 {
     let object = &objects[index];
-    let name = characters(alloc, object.name)?;
-    let properties = copied(alloc, &object.properties)?;
+    let Ok(name) = characters(alloc, object.name) else {
+        return Err(AllocError);
+    };
+    let Ok(properties) = copied(alloc, &object.properties) else {
+        return Err(AllocError);
+    };
     let attributes = [
         attribute_byte(&object.attributes, 0),
         attribute_byte(&object.attributes, 8),

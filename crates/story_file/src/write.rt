@@ -28,14 +28,30 @@ fn fault_texts(alloc: Global) -> Result<Vec<Vec<u8>>, AllocError>
     ensures { IfOk result (λ t. map bytes_in t.items ≡ layout.fault_texts) }
 {
     let mut texts = Vec::new(alloc);
-    add_text(alloc, &mut texts, b"\r[Fault: division by zero]\r")?;
-    add_text(alloc, &mut texts, b"\r[Fault: not an object]\r")?;
-    add_text(alloc, &mut texts, b"\r[Fault: index out of range]\r")?;
-    add_text(alloc, &mut texts, b"\r[Fault: no such property]\r")?;
-    add_text(alloc, &mut texts, b"\r[Fault: property of many words]\r")?;
-    add_text(alloc, &mut texts, b"\r[Fault: object inside itself]\r")?;
-    add_text(alloc, &mut texts, b"\r[Fault: not a character]\r")?;
-    add_text(alloc, &mut texts, b"\r[Fault: buffer too small]\r")?;
+    let Ok(()) = add_text(alloc, &mut texts, b"\r[Fault: division by zero]\r") else {
+        return Err(AllocError);
+    };
+    let Ok(()) = add_text(alloc, &mut texts, b"\r[Fault: not an object]\r") else {
+        return Err(AllocError);
+    };
+    let Ok(()) = add_text(alloc, &mut texts, b"\r[Fault: index out of range]\r") else {
+        return Err(AllocError);
+    };
+    let Ok(()) = add_text(alloc, &mut texts, b"\r[Fault: no such property]\r") else {
+        return Err(AllocError);
+    };
+    let Ok(()) = add_text(alloc, &mut texts, b"\r[Fault: property of many words]\r") else {
+        return Err(AllocError);
+    };
+    let Ok(()) = add_text(alloc, &mut texts, b"\r[Fault: object inside itself]\r") else {
+        return Err(AllocError);
+    };
+    let Ok(()) = add_text(alloc, &mut texts, b"\r[Fault: not a character]\r") else {
+        return Err(AllocError);
+    };
+    let Ok(()) = add_text(alloc, &mut texts, b"\r[Fault: buffer too small]\r") else {
+        return Err(AllocError);
+    };
     Ok(texts)
 }
 
@@ -123,9 +139,15 @@ fn is_within(
     ensures { IfOk result (λ b. b ≡ nat_le (end_from (scale_of version) place
         (map part_size codes.now ++ map length layout.fault_texts)) (layout.greatest_length version)) }
 {
-    let texts = fault_texts(alloc)?;
-    let mut sizes = code_sizes(alloc, codes)?;
-    add_text_sizes(&mut sizes, &texts)?;
+    let Ok(texts) = fault_texts(alloc) else {
+        return Err(AllocError);
+    };
+    let Ok(mut sizes) = code_sizes(alloc, codes) else {
+        return Err(AllocError);
+    };
+    let Ok(()) = add_text_sizes(&mut sizes, &texts) else {
+        return Err(AllocError);
+    };
     Ok(reach_end(version, place, &sizes))
 }
 
@@ -143,16 +165,32 @@ fn body_of(
     requires fits { FitsStory version (program_of checked.now) }
     ensures { IfOk result (λ v. v.items ≡ layout.body_of version (program_of checked.now)) }
 {
-    let texts = fault_texts(alloc)?;
-    let mut sizes = code_sizes(alloc, &codes)?;
-    add_text_sizes(&mut sizes, &texts)?;
-    let packed = packed_addresses(alloc, version, at.routines, &sizes)?;
-    let arrays = array_addresses(alloc, arrays_place(checked, at), checked.array_sizes())?;
+    let Ok(texts) = fault_texts(alloc) else {
+        return Err(AllocError);
+    };
+    let Ok(mut sizes) = code_sizes(alloc, &codes) else {
+        return Err(AllocError);
+    };
+    let Ok(()) = add_text_sizes(&mut sizes, &texts) else {
+        return Err(AllocError);
+    };
+    let Ok(packed) = packed_addresses(alloc, version, at.routines, &sizes) else {
+        return Err(AllocError);
+    };
+    let Ok(arrays) = array_addresses(alloc, arrays_place(checked, at), checked.array_sizes()) else {
+        return Err(AllocError);
+    };
     let addresses = addresses_in(&packed, codes.len(), &arrays);
     let mut body = Vec::new(alloc);
-    put_low(alloc, &mut body, checked, at, packed[checked.main()])?;
-    put_routines(&mut body, version, &codes, &addresses)?;
-    put_texts(&mut body, version, &texts)?;
+    let Ok(()) = put_low(alloc, &mut body, checked, at, packed[checked.main()]) else {
+        return Err(AllocError);
+    };
+    let Ok(()) = put_routines(&mut body, version, &codes, &addresses) else {
+        return Err(AllocError);
+    };
+    let Ok(()) = put_texts(&mut body, version, &texts) else {
+        return Err(AllocError);
+    };
     Ok(body)
 }
 
@@ -168,10 +206,16 @@ fn story_with(
     ensures { IfOk result (λ v. v.items ≡ layout.story_of version (program_of checked.now)) }
 {
     let at = part_places(checked);
-    let body = body_of(alloc, version, checked, at, codes)?;
+    let Ok(body) = body_of(alloc, version, checked, at, codes) else {
+        return Err(AllocError);
+    };
     let mut story = Vec::new(alloc);
-    put_header(&mut story, version, at, &body)?;
-    story.extend_from_slice(&body)?;
+    let Ok(()) = put_header(&mut story, version, at, &body) else {
+        return Err(AllocError);
+    };
+    let Ok(()) = story.extend_from_slice(&body) else {
+        return Err(AllocError);
+    };
     Ok(story)
 }
 

@@ -24,123 +24,125 @@ use Rattle.code_values.proofs.BoxedForms.{prefixed_form, assign_form, entry_form
 use Rattle.code_values.proofs.BoxedForms.{provides_form, property_form, property_size_form, compare_form}
 use Rattle.code_values.proofs.BoxedForms.{assign_entry_form, contained_form, property_word_form, assign_property_form}
 use Rattle.code_values.proofs.BoxedForms.{chain_form, equal_form, assign_property_word_form}
+use Rattle.code_values.proofs.BoxedForms.{on_ok}
 use Rattle.code_values.proofs.+values.Goals as goal
 
-pub value::put_assigned-returns-in_ok-put_value-in-Nowhere : goal.value::put_assigned-returns-in_ok-put_value-in-Nowhere
-value::put_assigned-returns-in_ok-put_value-in-Nowhere t c = assigned_nowhere _ _ _ c.args.wanted c.args.variable _ _
-    c.in-Nowhere.is c.in_ok-put_word.ensures c.in_ok-put_value-in-Nowhere.ensures
+pub value::put_assigned-returns-in-Nowhere : goal.value::put_assigned-returns-in-Nowhere
+value::put_assigned-returns-in-Nowhere t c = on_ok c.put_value.result
+    (assigned_nowhere _ _ _ c.args.wanted c.args.variable _ _ c.in-Nowhere.is c.in-Ok.ensures) c.put_value.ensures
 
-pub value::put_assigned-returns-in_ok-put_value-in-Push : goal.value::put_assigned-returns-in_ok-put_value-in-Push
-value::put_assigned-returns-in_ok-put_value-in-Push t c = assigned_pushed _ _ _ _ c.args.wanted c.args.variable _ _
-    c.in-Push.is c.in_ok-put_word.ensures c.in_ok-put-in-Push.ensures c.in_ok-put_value-in-Push.ensures
+pub value::put_assigned-returns-in-Ok-put : goal.value::put_assigned-returns-in-Ok-put
+value::put_assigned-returns-in-Ok-put t c = on_ok c.put_value-in-Push.result
+    (assigned_pushed _ _ _ _ c.args.wanted c.args.variable _ _ c.in-Push.is c.in-Ok.ensures c.in-Ok-put.ensures)
+    c.put_value-in-Push.ensures
 
-pub value::put_assigned-returns-in_ok-put_value-in-Into : goal.value::put_assigned-returns-in_ok-put_value-in-Into
-value::put_assigned-returns-in_ok-put_value-in-Into t c =
-    assigned_kept _ _ _ _ _ c.args.wanted c.args.variable c.in-Into.other _ _ c.in-Into.is c.in_ok-put_word.ensures
-    c.in_ok-put-in-Into.ensures c.in_ok-put-in-Into-2.ensures c.in_ok-put_value-in-Into.ensures
+pub value::put_assigned-returns-in-Ok-put-3 : goal.value::put_assigned-returns-in-Ok-put-3
+value::put_assigned-returns-in-Ok-put-3 t c = on_ok c.put_value-in-Into.result
+    (assigned_kept _ _ _ _ _ c.args.wanted c.args.variable c.in-Into.other _ _ c.in-Into.is c.in-Ok.ensures
+    c.in-Ok-put-2.ensures c.in-Ok-put-3.ensures) c.put_value-in-Into.ensures
 
-pub value::put_assigned-returns-in_ok-put_value-in-Aside : goal.value::put_assigned-returns-in_ok-put_value-in-Aside
-value::put_assigned-returns-in_ok-put_value-in-Aside t c =
-    assigned_aside _ _ _ _ _ c.args.wanted c.args.variable _ _ c.in-Aside.is c.in_ok-put_word.ensures
-    c.in_ok-put-in-Aside.ensures c.in_ok-put-in-Aside-2.ensures c.in_ok-put_value-in-Aside.ensures
+pub value::put_assigned-returns-in-Ok-put-5 : goal.value::put_assigned-returns-in-Ok-put-5
+value::put_assigned-returns-in-Ok-put-5 t c = on_ok c.put_value-in-Aside.result
+    (assigned_aside _ _ _ _ _ c.args.wanted c.args.variable _ _ c.in-Aside.is c.in-Ok.ensures
+    c.in-Ok-put-4.ensures c.in-Ok-put-5.ensures) c.put_value-in-Aside.ensures
 
 pub value::put_call-returns : goal.value::put_call-returns
-value::put_call-returns t c = call_written _ _ _ _ c.args.wanted (as_destination c.in_ok-destination.destination)
+value::put_call-returns t c = on_ok c.put_arguments.result
+    (call_written _ _ _ _ c.args.wanted (as_destination c.in-Ok.destination)
     c.args.routine (values_of (map value_of c.args.arguments.now)) _ _ _ _ c.new-operands.ensures.items
-    c.in_ok-destination.ensures c.in_ok-push_operands.ensures
+    c.in-Ok.ensures c.in-Ok-push_operands.ensures
     (c.are_more_pushed-several.ensures ∙ ap (λ (l : List code_operand.Operand). are_more_pushed (as_operands l))
     c.deref.ensures.value)
-    c.called.ensures c.in_ok-put.ensures c.in_ok-put_arguments.ensures
+    c.called.ensures c.in-Ok-put.ensures) c.put_arguments.ensures
 
-pub value::put_prefixed-returns-in_ok-put_value-in-Not : goal.value::put_prefixed-returns-in_ok-put_value-in-Not
-value::put_prefixed-returns-in_ok-put_value-in-Not t c = not_more_at _ _ _ c.args.wanted c.in_ok-when-in-Not.when
-    c.in_ok-when-in-Not.left c.args.prefix _ c.in-Not.is c.in_ok-when-in-Not.ensures c.in_ok-put_value-in-Not.ensures
+pub value::put_prefixed-returns-in-Ok : goal.value::put_prefixed-returns-in-Ok
+value::put_prefixed-returns-in-Ok t c = on_ok c.put_value.result
+    (not_more_at _ _ _ c.args.wanted c.in-Ok.when c.in-Ok.left c.args.prefix _ c.in-Not.is c.in-Ok.ensures)
+    c.put_value.ensures
 
-pub value::put_prefixed-returns-in_ok-put_operand-in_default :
-    goal.value::put_prefixed-returns-in_ok-put_operand-in_default
-value::put_prefixed-returns-in_ok-put_operand-in_default t c =
-    prefix_more _ _ _ _ c.args.wanted _ c.args.prefix _ _ c.in_default.not-Not c.in_ok-destination-in_default.ensures
-    c.alone-operand.ensures c.in_ok-put-in_default.ensures c.in_ok-put_operand-in_default.ensures
+pub value::put_prefixed-returns-in-Ok-put : goal.value::put_prefixed-returns-in-Ok-put
+value::put_prefixed-returns-in-Ok-put t c = on_ok c.put_operand.result
+    (prefix_more _ _ _ _ c.args.wanted _ c.args.prefix _ _ c.in_default.not-Not c.in-Ok-put_word.ensures
+    c.alone-operand.ensures c.in-Ok-put.ensures) c.put_operand.ensures
 
 pub value::put_entry-returns : goal.value::put_entry-returns
-value::put_entry-returns t c = entry_more _ _ _ _ c.args.wanted _ c.args.width c.args.array _ _ _
-    c.in_ok-destination.ensures c.alone-operand.ensures c.loaded.ensures c.in_ok-put.ensures c.in_ok-put_right.ensures
+value::put_entry-returns t c = on_ok c.put_right.result
+    (entry_more _ _ _ _ c.args.wanted _ c.args.width c.args.array _ _ _
+    c.in-Ok.ensures c.alone-operand.ensures c.loaded.ensures c.in-Ok-put.ensures) c.put_right.ensures
 
 pub value::put_assigned_entry-returns : goal.value::put_assigned_entry-returns
-value::put_assigned_entry-returns t c = assigned_entry_link _ _ _ _ c.args.wanted _ c.args.width c.args.array _ _ _ _
-    c.in_ok-destination.ensures c.alone-operand.ensures c.stored.ensures c.in_ok-put.ensures c.in_ok-put_right.ensures
+value::put_assigned_entry-returns t c = on_ok c.put_right.result
+    (assigned_entry_link _ _ _ _ c.args.wanted _ c.args.width c.args.array _ _ _ _
+    c.in-Ok.ensures c.alone-operand.ensures c.stored.ensures c.in-Ok-put.ensures) c.put_right.ensures
 
 pub operations::put_comparison-returns : goal.operations::put_comparison-returns
-operations::put_comparison-returns t c = comparison_written _ _ _ _ c.args.wanted c.in_ok-when.when _
-    c.in_ok-when.target
-    c.args.comparison _ _ _ _ _ c.in_ok-when.ensures c.alone-operand.ensures c.in_ok-operands.ensures.items
-    c.comparison_test-test.ensures c.comparison_when-when.ensures c.in_ok-put.ensures c.in_ok-put_operand.ensures
+operations::put_comparison-returns t c = on_ok c.put_operand.result
+    (comparison_written _ _ _ _ c.args.wanted c.in-Ok.when _
+    c.in-Ok.target
+    c.args.comparison _ _ _ _ _ c.in-Ok.ensures c.alone-operand.ensures c.in-Ok-vec.ensures.items
+    c.comparison_test-test.ensures c.comparison_when-when.ensures c.in-Ok-put.ensures) c.put_operand.ensures
 
-pub operations::put_link-returns-in_ok-put_value-in-AndAlso :
-    goal.operations::put_link-returns-in_ok-put_value-in-AndAlso
-operations::put_link-returns-in_ok-put_value-in-AndAlso t c = and_written _ _ _ c.args.wanted _
-    c.in_ok-when-in-AndAlso.when
-    c.in_ok-when-in-AndAlso.target _ c.args.operator _ _ c.in-AndAlso.is c.in_ok-when-in-AndAlso.ensures
-    c.written-end.ensures c.in_ok-put_value-in-AndAlso.ensures c.first_of_and.ensures
+pub operations::put_link-returns-in-Ok-put_value : goal.operations::put_link-returns-in-Ok-put_value
+operations::put_link-returns-in-Ok-put_value t c = and_written _ _ _ c.args.wanted _ c.in-Ok.when c.in-Ok.target _
+    c.args.operator _ _ c.in-AndAlso.is c.in-Ok.ensures c.written-end.ensures c.in-Ok-put_value.ensures
+    c.first_of_and.ensures
 
-pub operations::put_link-returns-in_ok-put_value-in-OrElse : goal.operations::put_link-returns-in_ok-put_value-in-OrElse
-operations::put_link-returns-in_ok-put_value-in-OrElse t c = or_written _ _ _ c.args.wanted _
-    c.in_ok-when-in-OrElse.when
-    c.in_ok-when-in-OrElse.target _ c.args.operator _ _ c.in-OrElse.is c.in_ok-when-in-OrElse.ensures
-    c.written-end-in-OrElse.ensures c.in_ok-put_value-in-OrElse.ensures c.first_of_or.ensures
+pub operations::put_link-returns-in-Ok-put_value-2 : goal.operations::put_link-returns-in-Ok-put_value-2
+operations::put_link-returns-in-Ok-put_value-2 t c = or_written _ _ _ c.args.wanted _ c.in-Ok-put_truth.when
+    c.in-Ok-put_truth.target _ c.args.operator _ _ c.in-OrElse.is c.in-Ok-put_truth.ensures
+    c.written-end-in-OrElse.ensures c.in-Ok-put_value-2.ensures c.first_of_or.ensures
 
-pub operations::put_link-returns-in_ok-put_right-in_default :
-    goal.operations::put_link-returns-in_ok-put_right-in_default
-operations::put_link-returns-in_ok-put_right-in_default t c =
+pub operations::put_link-returns-in-Ok-put_right : goal.operations::put_link-returns-in-Ok-put_right
+operations::put_link-returns-in-Ok-put_right t c =
     operation_written _ _ _ _ c.args.wanted _ _ c.args.operator _ _ _ _ c.in_default.not-AndAlso
-    c.in_default.not-OrElse c.in_ok-destination-in_default.ensures c.alone-right.ensures c.right_place-place.ensures
-    c.operated.ensures c.in_ok-put-in_default.ensures c.in_ok-put_right-in_default.ensures
+    c.in_default.not-OrElse c.in-Ok-put_word.ensures c.alone-right.ensures c.right_place-place.ensures
+    c.operated.ensures c.in-Ok-put.ensures c.in-Ok-put_right.ensures
 
-pub operations::put_others-returns-in_ok-put_operands : goal.operations::put_others-returns-in_ok-put_operands
-operations::put_others-returns-in_ok-put_operands t c = few_written _ _ _ _ c.args.wanted c.in_ok-when.when _ _
-    c.in_ok-when.target
-    c.args.equality _ _ _ _ (values_of (map value_of c.args.others.now)) c.are_few.ensures c.if-are_few.true
-    c.in_ok-when.ensures c.in_ok-operands.ensures.items c.in_ok-push_operands.ensures c.equality_when-when.ensures
-    c.in_ok-put.ensures c.in_ok-put_operands.ensures
+pub operations::put_others-returns-in_ok-put : goal.operations::put_others-returns-in_ok-put
+operations::put_others-returns-in_ok-put t c = on_ok c.put_operands.result (few_written _ _ _ _ c.args.wanted
+    c.in_ok-when.when _ _ c.in_ok-when.target c.args.equality _ _ _ _ (values_of (map value_of c.args.others.now))
+    c.are_few.ensures c.if-are_few.true c.in_ok-when.ensures c.in_ok-operands.ensures.items
+    c.in_ok-push_operands.ensures c.equality_when-when.ensures c.in_ok-put.ensures) c.put_operands.ensures
 
-pub operations::put_others-returns-in_ok-put-3 : goal.operations::put_others-returns-in_ok-put-3
-operations::put_others-returns-in_ok-put-3 t c = many_written _ _ _ _ _ _ c.args.wanted c.in_ok-when.when _ _ _
-    c.in_ok-when.target
-    c.args.equality _ _ (values_of (map value_of c.args.others.now)) c.are_few.ensures c.if-are_few.false
-    c.is_pushed.ensures c.if-is_pushed.true c.in_ok-when.ensures c.equality_when-when.ensures
-    c.in_ok-put_branch.ensures c.in_ok-put-2.ensures
-    c.in_ok-put_folded.ensures c.in_ok-put-3.ensures
+pub operations::put_others-returns-in_ok-put_folded : goal.operations::put_others-returns-in_ok-put_folded
+operations::put_others-returns-in_ok-put_folded t c = on_ok c.put-then-is_pushed-2.result
+    (many_written _ _ _ _ _ _ c.args.wanted
+    c.in_ok-when.when _ _ _ c.in_ok-when.target c.args.equality _ _ (values_of (map value_of c.args.others.now))
+    c.are_few.ensures c.if-are_few.false c.is_pushed.ensures c.if-is_pushed.true c.in_ok-when.ensures
+    c.equality_when-when.ensures c.in_ok-put_branch.ensures c.in_ok-put-2.ensures c.in_ok-put_folded.ensures)
+    c.put-then-is_pushed-2.ensures
 
-pub operations::put_others-returns-in_ok-put_each_same : goal.operations::put_others-returns-in_ok-put_each_same
-operations::put_others-returns-in_ok-put_each_same t c = placed_written _ _ _ c.args.wanted c.in_ok-when.when _ _ _
-    c.in_ok-when.target c.args.equality _ _ _ _ _ (values_of (map value_of c.args.others.now)) c.are_few.ensures
-    c.if-are_few.false c.is_pushed.ensures c.if-is_pushed.false c.in_ok-when.ensures c.in_ok-compared.ensures.items
-    c.in_ok-push_alone.ensures c.deref.ensures.value c.equality_when-when.ensures c.in_ok-put_each_same.ensures
+pub operations::put_others-returns-in_ok-push_alone : goal.operations::put_others-returns-in_ok-push_alone
+operations::put_others-returns-in_ok-push_alone t c = on_ok c.put_each_same.result (placed_written _ _ _ c.args.wanted
+    c.in_ok-when.when _ _ _ c.in_ok-when.target c.args.equality _ _ _ _ _ (values_of (map value_of c.args.others.now))
+    c.are_few.ensures c.if-are_few.false c.is_pushed.ensures c.if-is_pushed.false c.in_ok-when.ensures
+    c.in_ok-compared.ensures.items c.in_ok-push_alone.ensures c.deref.ensures.value c.equality_when-when.ensures)
+    c.put_each_same.ensures
 
 -- Rounds of loops
 
 pub operations::put_folded-loop-done-preserved : goal.operations::put_folded-loop-done-preserved
 operations::put_folded-loop-done-preserved t c = folded_round _ _ _ _ c.args.values.now c.loop-done.done _
     c.loop-done-test.true
-    c.index-values-values.is c.loop-done.invariant c.in_ok-put.ensures c.in_ok-put_value.ensures
+    c.index-values-values.is c.loop-done.invariant c.in-Ok.ensures c.in-Ok-put_value.ensures
 
 pub value::put_operands-loop-done-preserved : goal.value::put_operands-loop-done-preserved
 value::put_operands-loop-done-preserved t c = operand_round _ _ _ c.args.values.now c.loop-done.done _ _
     c.loop-done-test.true
-    c.index-values-number.is c.before-operand.ensures c.loop-done.invariant c.in_ok-put_operand.ensures
+    c.index-values-number.is c.before-operand.ensures c.loop-done.invariant c.in-Ok.ensures
 
 pub value::put_arguments-loop-done-preserved : goal.value::put_arguments-loop-done-preserved
 value::put_arguments-loop-done-preserved t c = (
   argument_round c.args.values.now c.loop-done.done _ _ c.loop-done.behind c.loop-done-test.true
       c.index-values-number.is c.before-operand.ensures c.loop-done.invariant.1 _ _ _ c.args.several _
-      c.argument_place-place.ensures c.loop-done.invariant.0 c.in_ok-put_right.ensures,
+      c.argument_place-place.ensures c.loop-done.invariant.0 c.in-Ok.ensures,
   pushed_round c.args.values.now c.loop-done.done _ _ c.loop-done.behind c.loop-done-test.true
       c.index-values-number.is c.before-operand.ensures c.loop-done.invariant.1 _ c.are_behind-behind.ensures,
 )
 
 pub operations::put_links-loop-done-preserved : goal.operations::put_links-loop-done-preserved
 operations::put_links-loop-done-preserved t c = link_round _ _ _ c.args.wanted _ _ c.args.links.now c.loop-done.done _
-    c.loop-done-test.true c.index-links-links.is c.loop-done.invariant c.in_ok-wanted.ensures
+    c.loop-done-test.true c.index-links-links.is c.loop-done.invariant c.in-Ok.ensures
 
 pub operations::put_links-returns : goal.operations::put_links-returns
 operations::put_links-returns t c =
@@ -149,86 +151,99 @@ operations::put_links-returns t c =
 -- What is said of objects
 
 pub objects::put_relative-returns : goal.objects::put_relative-returns
-objects::put_relative-returns t c = relative_written _ _ _ _ c.args.wanted _ c.args.relation _ _
-    c.in_ok-destination.ensures
-    c.alone-operand.ensures c.in_ok-put.ensures c.in_ok-put_operand.ensures
+objects::put_relative-returns t c = on_ok c.put_operand.result
+    (relative_written _ _ _ _ c.args.wanted _ c.args.relation _ _
+    c.in-Ok.ensures
+    c.alone-operand.ensures c.in-Ok-put.ensures) c.put_operand.ensures
 
 pub objects::put_property-returns : goal.objects::put_property-returns
-objects::put_property-returns t c = property_more _ _ _ _ _ c.args.wanted _ _ c.args.number _ _ c.args.others.now
-    c.in_ok-wanted.ensures c.in_ok-destination.ensures c.alone-operand.ensures c.in_ok-put.ensures
-    c.in_ok-put_operand.ensures
+objects::put_property-returns t c = on_ok c.put_operand.result
+    (property_more _ _ _ _ _ c.args.wanted _ _ c.args.number _ _ c.args.others.now
+    c.in-Ok.ensures c.in-Ok-put_word.ensures c.alone-operand.ensures c.in-Ok-put.ensures) c.put_operand.ensures
 
 pub objects::put_property_size-returns : goal.objects::put_property_size-returns
-objects::put_property_size-returns t c = property_size_written _ _ _ _ c.args.wanted _ c.args.number _ _
-    c.in_ok-destination.ensures c.alone-operand.ensures c.in_ok-put.ensures c.in_ok-put_operand.ensures
+objects::put_property_size-returns t c = on_ok c.put_operand.result
+    (property_size_written _ _ _ _ c.args.wanted _ c.args.number _ _
+    c.in-Ok.ensures c.alone-operand.ensures c.in-Ok-put.ensures) c.put_operand.ensures
 
 pub objects::put_has-returns : goal.objects::put_has-returns
-objects::put_has-returns t c =
-    has_written _ _ _ _ c.args.wanted c.in_ok-when.when _ c.in_ok-when.target c.args.positive c.args.attribute _ _
-    c.in_ok-when.ensures c.alone-operand.ensures c.has_when-when.ensures c.in_ok-put.ensures c.in_ok-put_operand.ensures
+objects::put_has-returns t c = on_ok c.put_operand.result
+    (has_written _ _ _ _ c.args.wanted c.in-Ok.when _ c.in-Ok.target c.args.positive c.args.attribute _ _
+    c.in-Ok.ensures c.alone-operand.ensures c.has_when-when.ensures c.in-Ok-put.ensures) c.put_operand.ensures
 
 pub objects::put_provides-returns : goal.objects::put_provides-returns
-objects::put_provides-returns t c = provides_written _ _ _ _ c.args.wanted c.in_ok-when.when c.in_ok-when.target
+objects::put_provides-returns t c = on_ok c.put_operand.result
+    (provides_written _ _ _ _ c.args.wanted c.in-Ok.when c.in-Ok.target
     c.args.property
-    _ _ c.in_ok-when.ensures c.alone-operand.ensures c.in_ok-put.ensures c.in_ok-put_operand.ensures
+    _ _ c.in-Ok.ensures c.alone-operand.ensures c.in-Ok-put.ensures) c.put_operand.ensures
 
 pub objects::put_containment-returns : goal.objects::put_containment-returns
-objects::put_containment-returns t c = containment_written _ _ _ _ c.args.wanted c.in_ok-when.when _ c.in_ok-when.target
-    c.args.containment _ _ _ c.in_ok-when.ensures c.alone-operand.ensures c.containment_when-when.ensures
-    c.in_ok-put.ensures c.in_ok-put_operand.ensures
+objects::put_containment-returns t c = on_ok c.put_operand.result
+    (containment_written _ _ _ _ c.args.wanted c.in-Ok.when _ c.in-Ok.target
+    c.args.containment _ _ _ c.in-Ok.ensures c.alone-operand.ensures c.containment_when-when.ensures
+    c.in-Ok-put.ensures) c.put_operand.ensures
 
 pub objects::put_indexed_property-returns : goal.objects::put_indexed_property-returns
-objects::put_indexed_property-returns t c = indexed_property_written _ _ _ _ c.args.wanted _ c.args.number _ _ _
-    c.in_ok-destination.ensures c.alone-operand.ensures c.in_ok-put.ensures c.in_ok-put_operand.ensures
+objects::put_indexed_property-returns t c = on_ok c.put_operand.result
+    (indexed_property_written _ _ _ _ c.args.wanted _ c.args.number _ _ _
+    c.in-Ok.ensures c.alone-operand.ensures c.in-Ok-put.ensures) c.put_operand.ensures
 
 pub objects::put_assigned_property-returns : goal.objects::put_assigned_property-returns
-objects::put_assigned_property-returns t c = assigned_property_written _ _ _ _ c.args.wanted _ c.args.number _ _ _
-    c.in_ok-destination.ensures c.alone-operand.ensures c.in_ok-put.ensures c.in_ok-put_operand.ensures
+objects::put_assigned_property-returns t c = on_ok c.put_operand.result
+    (assigned_property_written _ _ _ _ c.args.wanted _ c.args.number _ _ _
+    c.in-Ok.ensures c.alone-operand.ensures c.in-Ok-put.ensures) c.put_operand.ensures
 
 pub objects::put_assigned_word-returns : goal.objects::put_assigned_word-returns
-objects::put_assigned_word-returns t c = assigned_word_link _ _ _ _ c.args.wanted _ c.args.number _ _ _ _
-    c.in_ok-destination.ensures c.alone-operand.ensures c.in_ok-put.ensures c.in_ok-put_operand.ensures
+objects::put_assigned_word-returns t c = on_ok c.put_operand.result
+    (assigned_word_link _ _ _ _ c.args.wanted _ c.args.number _ _ _ _
+    c.in-Ok.ensures c.alone-operand.ensures c.in-Ok-put.ensures) c.put_operand.ensures
 
 -- Forms of two or more parts
 
 pub operations::put_compare-returns : goal.operations::put_compare-returns
-operations::put_compare-returns t c = compare_more _ _ _ c.args.wanted c.args.comparison _ _ _ c.left_of-operand.ensures
-    c.in_ok-put_comparison.ensures c.in_ok-put_operand.ensures
+operations::put_compare-returns t c = on_ok c.put_operand.result
+    (compare_more _ _ _ c.args.wanted c.args.comparison _ _ _ c.left_of-operand.ensures
+    c.in-Ok.ensures) c.put_operand.ensures
 
 pub value::put_assign_entry-returns : goal.value::put_assign_entry-returns
-value::put_assign_entry-returns t c = assigned_entry_more _ _ _ c.args.wanted c.args.width c.args.array _ _ _ _ _
-    c.left_of-left.ensures c.in_ok-put_assigned_entry.ensures c.alone.ensures c.index_place-place.ensures
-    c.in_ok-put_right.ensures
+value::put_assign_entry-returns t c = on_ok c.put_right.result
+    (assigned_entry_more _ _ _ c.args.wanted c.args.width c.args.array _ _ _ _ _
+    c.left_of-left.ensures c.in-Ok.ensures c.alone.ensures c.index_place-place.ensures) c.put_right.ensures
 
 pub objects::put_contained-returns : goal.objects::put_contained-returns
-objects::put_contained-returns t c = contained_more _ _ _ c.args.wanted c.args.containment _ _ _ c.left_of-left.ensures
-    c.in_ok-put_containment.ensures c.in_ok-put_operand.ensures
+objects::put_contained-returns t c = on_ok c.put_operand.result
+    (contained_more _ _ _ c.args.wanted c.args.containment _ _ _ c.left_of-left.ensures
+    c.in-Ok.ensures) c.put_operand.ensures
 
 pub objects::put_property_word-returns : goal.objects::put_property_word-returns
-objects::put_property_word-returns t c = property_word_more _ _ _ c.args.wanted c.args.number _ _ _
+objects::put_property_word-returns t c = on_ok c.put_operand.result
+    (property_word_more _ _ _ c.args.wanted c.args.number _ _ _
     c.left_of-left.ensures
-    c.in_ok-put_indexed_property.ensures c.in_ok-put_operand.ensures
+    c.in-Ok.ensures) c.put_operand.ensures
 
 pub objects::put_assign_property-returns : goal.objects::put_assign_property-returns
-objects::put_assign_property-returns t c = assign_property_more _ _ _ c.args.wanted c.args.number _ _ _
+objects::put_assign_property-returns t c = on_ok c.put_operand.result
+    (assign_property_more _ _ _ c.args.wanted c.args.number _ _ _
     c.left_of-left.ensures
-    c.in_ok-put_assigned_property.ensures c.in_ok-put_operand.ensures
+    c.in-Ok.ensures) c.put_operand.ensures
 
 pub operations::put_chain-returns : goal.operations::put_chain-returns
-operations::put_chain-returns t c = chain_more _ _ _ _ c.args.wanted _ _ c.args.operator _ (value_of c.args.first.now)
-    (value_of c.args.second.now) (map link_of c.args.links.now) c.in_ok-wanted.ensures c.left_of-left.ensures
-    c.in_ok-wanted-2.ensures c.in_ok-put_first.ensures
+operations::put_chain-returns t c = on_ok c.put_first.result
+    (chain_more _ _ _ _ c.args.wanted _ _ c.args.operator _ (value_of c.args.first.now)
+    (value_of c.args.second.now) (map link_of c.args.links.now) c.in-Ok.ensures c.left_of-left.ensures
+    c.in-Ok-put_link.ensures) c.put_first.ensures
 
 pub operations::put_equal-returns : goal.operations::put_equal-returns
-operations::put_equal-returns t c =
-    equal_more _ _ _ _ c.args.wanted c.args.equality _ _ (value_of c.args.left.now) (value_of c.args.right.now)
+operations::put_equal-returns t c = on_ok c.put_operand-2.result
+    (equal_more _ _ _ _ c.args.wanted c.args.equality _ _ (value_of c.args.left.now) (value_of c.args.right.now)
     (values_of (map value_of c.args.others.now)) c.side_operands-first.ensures.left c.side_operands-first.ensures.right
-    c.in_ok-put_others.ensures c.in_ok-put_operand.ensures c.in_ok-put_operand-2.ensures
+    c.in-Ok.ensures c.in-Ok-put_operand.ensures) c.put_operand-2.ensures
 
 pub objects::put_assign_property_word-returns : goal.objects::put_assign_property_word-returns
-objects::put_assign_property_word-returns t c = assigned_word_more _ _ _ _ c.args.wanted c.args.number _ _
+objects::put_assign_property_word-returns t c = on_ok c.put_operand-2.result
+    (assigned_word_more _ _ _ _ c.args.wanted c.args.number _ _
     (value_of c.args.object.now) (value_of c.args.index.now) (value_of c.args.value.now) c.first_of-first.ensures
-    c.left_of-second.ensures c.in_ok-put_assigned_word.ensures c.in_ok-put_operand.ensures c.in_ok-put_operand-2.ensures
+    c.left_of-second.ensures c.in-Ok.ensures c.in-Ok-put_operand.ensures) c.put_operand-2.ensures
 
 -- An expression: its form, whose parts are in boxes
 

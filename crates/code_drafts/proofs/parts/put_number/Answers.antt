@@ -4,8 +4,8 @@ use Rattle.code_drafts.specs.declared.wanted.Wanted.{Wanted}
 use Rattle.code_drafts.specs.Writing.{written_in, wanted_items, WritesBefore}
 use Rattle.code_drafts.proofs.parts.put_number.Goals as goal
 
-pub returns-in_ok-put_moved-in-Word : goal.returns-in_ok-put_moved-in-Word
-returns-in_ok-put_moved-in-Word c =
+pub returns-in-Ok : goal.returns-in-Ok
+returns-in-Ok c =
     let P : Wanted → Type 0 = λ w. WritesBefore (written_in c.args.draft.now) (written_in c.put_moved.new.draft)
     (wanted_items w (source.number c.args.number)) in
-    subst P (sym c.in-Word.is) c.in_ok-put_moved-in-Word.ensures
+    subst P (sym c.in-Word.is) c.in-Ok.ensures

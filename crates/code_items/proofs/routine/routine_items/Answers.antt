@@ -17,6 +17,6 @@ returns c =
     (actions_of (map action_of xs))) in
     routine_more _ _ _ _ c.args.routine.now.locals
     (actions_of (map action_of c.args.routine.now.body.items))
-    (c.in_ok-put.ensures ∙ ap (λ xs. items_of xs ++ return_true ∷ []) c.new-items.ensures.items)
-    (subst Q c.deref.ensures.value c.in_ok-put_statements.ensures) c.written-end.ensures c.written-end.ensures
-    c.in_ok-code.ensures
+    (c.in-Ok.ensures ∙ ap (λ xs. items_of xs ++ return_true ∷ []) c.new-items.ensures.items)
+    (subst Q c.deref.ensures.value c.in-Ok-put_statements.ensures) c.written-end.ensures c.written-end.ensures
+    c.in-Ok-in_order.ensures

@@ -31,23 +31,22 @@ put_statements-loop-done-preserved t c =
     let before : length xs - c.loop-done.done ≡ i + 1 = omega (arith, lt) in
     let after : i ≡ length xs - (c.loop-done.done + 1) = omega arith in
     subst Q after (action_next _ _ _ c.args.exits xs i _ (omega (arith, lt)) c.index-statements-statements.is
-    (subst P before c.loop-done.invariant) c.in_ok-put_statement.ensures)
+    (subst P before c.loop-done.invariant) c.in-Ok.ensures)
 
 pub put_if-returns : goal.put_if-returns
-put_if-returns t c = if_more _ _ _ c.args.exits (value_of c.args.test.now)
-    (action_of c.args.then.now) c.written-end.result c.written-end.ensures c.in_ok-put_statement.ensures
-    c.in_ok-put_value.ensures
+put_if-returns t c = on_ok c.put_value.result (if_more _ _ _ c.args.exits (value_of c.args.test.now)
+    (action_of c.args.then.now) c.written-end.result c.written-end.ensures c.in-Ok.ensures) c.put_value.ensures
 
 pub put_while-returns : goal.put_while-returns
 put_while-returns t c =
     while_more _ _ _ _ _ (value_of c.args.test.now) (action_of c.args.body.now) _ c.written-behind.ensures
-    c.in_ok-put.ensures c.written.ensures c.in_ok-put_statement.ensures c.in_ok-put_value.ensures c.lead_back.ensures
+    c.in-Ok.ensures c.written.ensures c.in-Ok-put_statement.ensures c.in-Ok-put_value.ensures c.lead_back.ensures
 
 pub put_if_else-returns : goal.put_if_else-returns
-put_if_else-returns t c = else_more _ _ _ _ _ c.args.exits (value_of c.args.test.now) (action_of c.args.then.now)
+put_if_else-returns t c = on_ok c.put_value.result
+    (else_more _ _ _ _ _ c.args.exits (value_of c.args.test.now) (action_of c.args.then.now)
     (action_of c.args.otherwise.now) c.written-end.result c.written-next.result c.written-end.ensures
-    c.in_ok-put_statement.ensures c.written-next.ensures c.in_ok-put.ensures c.in_ok-put_statement-2.ensures
-    c.in_ok-put_value.ensures
+    c.in-Ok.ensures c.written-next.ensures c.in-Ok-put.ensures c.in-Ok-put_statement.ensures) c.put_value.ensures
 
 pub put_statement-returns-in-While : goal.put_statement-returns-in-While
 put_statement-returns-in-While t c = on_ok c.put_while.result (λ w.
@@ -69,14 +68,14 @@ put_statement-returns-in-ReturnValue t c = on_ok c.put_return.result (λ w.
 
 pub put_do-returns : goal.put_do-returns
 put_do-returns t c = do_more _ _ _ _ _ (value_of c.args.test.now) (action_of c.args.body.now) _
-    c.written-end.ensures c.in_ok-put.ensures c.in_ok-put_value.ensures c.written.ensures
-    c.in_ok-put_statement.ensures c.lead_back.ensures
+    c.written-end.ensures c.in-Ok.ensures c.in-Ok-put_value.ensures c.written.ensures
+    c.in-Ok-put_statement.ensures c.lead_back.ensures
 
 pub put_for-returns : goal.put_for-returns
-put_for-returns t c = for_more _ _ _ _ _ _ _ (option_map boxed_value c.args.before.now)
+put_for-returns t c = on_ok c.put_once-2.result (for_more _ _ _ _ _ _ _ (option_map boxed_value c.args.before.now)
     (option_map boxed_value c.args.test.now) (option_map boxed_value c.args.behind.now) (action_of c.args.body.now) _
-    c.written-end.ensures c.in_ok-put.ensures c.in_ok-put_once.ensures c.written.ensures
-    c.in_ok-put_statement.ensures c.in_ok-put_test.ensures c.lead_back.ensures c.in_ok-put_once-2.ensures
+    c.written-end.ensures c.in-Ok.ensures c.in-Ok-put_once.ensures c.written.ensures
+    c.in-Ok-put_statement.ensures c.in-Ok-put_test.ensures c.lead_back.ensures) c.put_once-2.ensures
 
 pub put_case-returns : goal.put_case-returns
 put_case-returns t c =
@@ -87,10 +86,11 @@ put_case-returns t c =
     (λ n at. actions_items (exits_of n c.args.exits) at (actions_of (map action_of l))) in
     let Q : List Span → Type 0 = λ l. WritesBefore (written_in body) (written_in c.put_tests.new.draft)
     (λ n at. tests_items at (groups_of (map range_of l)) (n - c.written-inside.result) (n - c.written-behind.result)) in
-    case_leaves old over body c.put_tests.new.draft c.args.exits c.args.case.now c.args.end c.written-inside.result
-    c.written-behind.result c.written-behind.ensures c.in_ok-put_over.ensures
-    (subst P c.deref.ensures.value c.in_ok-put_statements.ensures) c.written-inside.ensures
-    (subst Q c.deref-2.ensures.value c.in_ok-put_tests.ensures)
+    on_ok c.put_tests.result
+    (λ w. case_leaves old over body c.put_tests.new.draft c.args.exits c.args.case.now c.args.end
+    c.written-inside.result c.written-behind.result c.written-behind.ensures c.in-Ok.ensures
+    (subst P c.deref.ensures.value c.in-Ok-put_statements.ensures) c.written-inside.ensures
+    (subst Q c.deref-2.ensures.value w)) c.put_tests.ensures
 
 pub put_cases-loop-done-preserved : goal.put_cases-loop-done-preserved
 put_cases-loop-done-preserved t c =
@@ -102,7 +102,7 @@ put_cases-loop-done-preserved t c =
     let before : length xs - c.loop-done.done ≡ i + 1 = omega (arith, lt) in
     let after : i ≡ length xs - (c.loop-done.done + 1) = omega arith in
     subst Q after (case_next c.args.draft.now c.loop-done.draft c.put_case.new.draft c.args.exits xs i _ c.args.end
-    (omega (arith, lt)) c.index-cases-cases.is (subst P before c.loop-done.invariant) c.in_ok-put_case.ensures)
+    (omega (arith, lt)) c.index-cases-cases.is (subst P before c.loop-done.invariant) c.in-Ok.ensures)
 
 pub put_switch-returns : goal.put_switch-returns
 put_switch-returns t c =
@@ -113,10 +113,10 @@ put_switch-returns t c =
     let other = other_of c.args.other.now in
     let P : CasesOf → Type 0 = λ l. WritesBefore (written_in old) (written_in c.put_cases.new.draft)
     (λ n at. cases_items (exits_of n inside) at l (n - end)) in
-    switch_more _ _ _ c.args.exits (value_of c.args.value.now) (cases_of cs other) inside c.written-end.ensures refl
-    (subst P (cases_all cs other) (c.in_ok-put_cases.ensures (written_in old) (cases_of [] other)
-    (sym c.written-end.ensures) (c.in_ok-put_other.ensures end)))
-    c.in_ok-put_value.ensures
+    on_ok c.put_value.result
+    (switch_more _ _ _ c.args.exits (value_of c.args.value.now) (cases_of cs other) inside c.written-end.ensures refl
+    (subst P (cases_all cs other) (c.in-Ok-put_cases.ensures (written_in old) (cases_of [] other)
+    (sym c.written-end.ensures) (c.in-Ok.ensures end)))) c.put_value.ensures
 
 pub put_statement-returns-in-Do : goal.put_statement-returns-in-Do
 put_statement-returns-in-Do t c = on_ok c.put_do.result (λ w.
@@ -156,25 +156,28 @@ put_statement-returns-in-Switch t c = on_ok c.put_switch.result (λ w.
 -- Objects
 
 pub put_each-returns : goal.put_each-returns
-put_each-returns t c y =
+put_each-returns t c =
     let a = action_of c.args.body.now in
-    let next = c.in_ok-inside.ensures in
-    each_more _ _ _ _ _ c.args.variable (action_count a) (λ inside place. action_items inside place a)
-    c.in_ok-inside.inside c.written-end.result (λ e at. action_length e a at) c.written-end.ensures next.0 next.1
-    next.2 c.in_ok-put_statement.ensures c.lead_back.ensures c.in_ok-put.ensures
+    let next = c.in-Ok.ensures in
+    on_ok c.put.result
+    (λ w y. each_more _ _ _ _ _ c.args.variable (action_count a) (λ inside place. action_items inside place a)
+    c.in-Ok.inside c.written-end.result (λ e at. action_length e a at) c.written-end.ensures next.0 next.1
+    next.2 c.in-Ok-put_statement.ensures c.lead_back.ensures w) c.put.ensures
 
 pub put_each_where-returns : goal.put_each_where-returns
 put_each_where-returns t c =
-    let next = c.in_ok-inside.ensures in
-    each_where_more _ _ _ _ _ _ c.args.variable (value_of c.args.test.now) (action_of c.args.body.now)
-    c.in_ok-inside.inside c.written-end.result c.written-end.ensures next.0 next.1 next.2
-    c.in_ok-put_statement.ensures c.in_ok-put_value.ensures c.lead_back.ensures c.in_ok-put.ensures
+    let next = c.in-Ok.ensures in
+    on_ok c.put.result
+    (each_where_more _ _ _ _ _ _ c.args.variable (value_of c.args.test.now) (action_of c.args.body.now)
+    c.in-Ok.inside c.written-end.result c.written-end.ensures next.0 next.1 next.2
+    c.in-Ok-put_statement.ensures c.in-Ok-put_value.ensures c.lead_back.ensures) c.put.ensures
 
 pub put_each_in-returns : goal.put_each_in-returns
 put_each_in-returns t c =
-    each_in_more _ _ _ _ _ _ _ c.args.variable _ (value_of c.args.parent.now) (action_of c.args.body.now) _
-    c.written-end.ensures c.in_ok-put.ensures c.in_ok-put_kin.ensures c.written.ensures c.in_ok-put_statement.ensures
-    c.lead_back.ensures c.alone-operand.ensures c.in_ok-put_kin-2.ensures c.in_ok-put_operand.ensures
+    on_ok c.put_operand.result
+    (each_in_more _ _ _ _ _ _ _ c.args.variable _ (value_of c.args.parent.now) (action_of c.args.body.now) _
+    c.written-end.ensures c.in-Ok.ensures c.in-Ok-put_kin.ensures c.written.ensures c.in-Ok-put_statement.ensures
+    c.lead_back.ensures c.alone-operand.ensures c.in-Ok-put_kin-2.ensures) c.put_operand.ensures
 
 pub put_statement-returns-in-Give : goal.put_statement-returns-in-Give
 put_statement-returns-in-Give t c = on_ok c.put_give.result (λ w.

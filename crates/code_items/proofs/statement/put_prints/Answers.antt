@@ -17,4 +17,4 @@ loop-done-preserved c =
     let before : length xs - c.loop-done.done ≡ i + 1 = omega (arith, lt) in
     let after : i ≡ length xs - (c.loop-done.done + 1) = omega arith in
     subst Q after (printed_next _ _ _ xs i _ (omega (arith, lt)) c.index-items-items.is
-    (subst P before c.loop-done.invariant) c.in_ok-put_printed.ensures)
+    (subst P before c.loop-done.invariant) c.in-Ok.ensures)

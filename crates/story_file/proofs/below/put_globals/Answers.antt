@@ -5,4 +5,4 @@ pub returns : goal.returns
 returns c =
     globals_joined c.args.globals.now c.args.bytes.now.items c.put_words.new.bytes.items c.put_zeros.new.bytes.items
     c.requires
-    c.in_ok-put_words.ensures c.in_ok-put_zeros.ensures
+    c.in-Ok.ensures c.in-Ok-put_zeros.ensures

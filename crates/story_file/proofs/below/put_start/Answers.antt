@@ -5,4 +5,4 @@ pub returns : goal.returns
 returns c =
     start_joined c.args.main c.args.bytes.now.items c.push.new.self.items c.put_word.new.bytes.items
     c.push-2.new.self.items
-    c.in_ok-push.ensures.items c.in_ok-put_word.ensures c.in_ok-push-2.ensures.items
+    c.in-Ok.ensures.items c.in-Ok-put_word.ensures c.in-Ok-push.ensures.items

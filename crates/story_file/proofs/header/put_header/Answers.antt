@@ -9,5 +9,5 @@ returns c =
     c.extend_from_slice.new.self.items c.put_words-2.new.bytes.items c.put_zeros.new.bytes.items c.number_of.result
     c.stated_length.result c.sum_of.result
     c.number_of.ensures c.stated_length.ensures c.sum_of.ensures
-    c.in_ok-push.ensures.items c.in_ok-push-2.ensures.items c.in_ok-put_words.ensures
-    c.in_ok-extend_from_slice.ensures.items c.in_ok-put_words-2.ensures c.in_ok-put_zeros.ensures
+    c.in-Ok.ensures.items c.in-Ok-push.ensures.items c.in-Ok-put_words.ensures
+    c.in-Ok-extend_from_slice.ensures.items c.in-Ok-put_words-2.ensures c.in-Ok-put_zeros.ensures

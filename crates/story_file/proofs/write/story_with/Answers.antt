@@ -19,16 +19,16 @@ put_header-requires-clause-words c =
 pub put_header-requires-clause-length : goal.put_header-requires-clause-length
 put_header-requires-clause-length c =
     body_within c.args.version (program_of c.args.checked.now) c.deref.result.now c.requires.fits (c.deref.ensures.value
-    ∙ c.in_ok-body.ensures)
+    ∙ c.in-Ok.ensures)
 
 pub returns : goal.returns
 returns c =
     let body : c.deref.result.now ≡ body_of c.args.version (program_of c.args.checked.now) =
-    c.deref.ensures.value ∙ c.in_ok-body.ensures in
+    c.deref.ensures.value ∙ c.in-Ok.ensures in
     let again : c.deref-2.result.now ≡ c.deref.result.now = cc in
     story_laid c.args.version (program_of c.args.checked.now) c.deref.result.now c.new-story.result.items
     c.put_header.new.story.items c.extend_from_slice.new.self.items
     body c.new-story.ensures.items
-    (c.in_ok-put_header.ensures ∙ ap (λ (at : Places). c.new-story.result.items
+    (c.in-Ok-put_header.ensures ∙ ap (λ (at : Places). c.new-story.result.items
     ++ header_of c.args.version at c.deref.result.now) c.part_places-at.ensures)
-    (c.in_ok-extend_from_slice.ensures.items ∙ ap (λ z. c.put_header.new.story.items ++ z) again)
+    (c.in-Ok-extend_from_slice.ensures.items ∙ ap (λ z. c.put_header.new.story.items ++ z) again)
