@@ -109,7 +109,7 @@ module _ (c : Running) where
   pub single_tests : (tables : List PropertyTable) (before rest old : List ℕ) (there o q : ℕ) (words : List ℕ)
       (is : List Instruction) → next_place c < length m
       → IsObjectHere c o → world.objects.properties o q ≡ Some words → word_of old 250 ≡ words_at c tables o q
-      → Works c tables before rest old there (tested_single a ++ is)
+      → Works c tables before rest old there (tested_single a false ++ is)
       → SingleTested (length words == 1) tables before rest old is
   unfolding perform bytes_of
   single_tests tables before rest old there o q words is followed known e address t =

@@ -83,6 +83,7 @@ pub mod Samples
 pub mod Sim
 pub mod Shortened
 pub mod SingleSteps
+pub mod Singles
 pub mod Stepping
 pub mod Steps
 pub mod StoredEntries

@@ -39,8 +39,10 @@ through before x y more other same = omega (
 )
 
 module _ (a b : Addresses) where
-  pub value_same : (q v : ℕ) → AsLong (λ x. property_value a x q v) (λ x. property_value b x q v)
-  value_same q v x =
+  pub value_same : (single : Bool) (q v : ℕ)
+      → AsLong (λ x. property_value a single x q v) (λ x. property_value b single x q v)
+  value_same true q v x = refl
+  value_same false q v x =
       through
       (property_address x q (temporary 1) ∷ branching_zero (temporary 1) true 13
       ∷ length_at (temporary 1) (temporary 1) ∷ branching_single (temporary 1) ∷ [])
@@ -66,9 +68,10 @@ module _ (a b : Addresses) where
       ∷ branching operations.JumpIfLess (i ∷ Variable (temporary 3) ∷ []) true 6 ∷ [])
       (fault_address a causes.IndexOutOfRange) (fault_address b causes.IndexOutOfRange) more more refl
 
-  single_same : (more : List Instruction)
-      → length (bytes_of_all (tested_single a ++ more)) ≡ length (bytes_of_all (tested_single b ++ more))
-  single_same more =
+  single_same : (single : Bool) (more : List Instruction)
+      → length (bytes_of_all (tested_single a single ++ more)) ≡ length (bytes_of_all (tested_single b single ++ more))
+  single_same true more = refl
+  single_same false more =
       through (length_at (temporary 2) (temporary 3) ∷ branching_single (temporary 3) ∷ [])
       (fault_address a causes.PropertyOfManyWords) (fault_address b causes.PropertyOfManyWords) more more refl
 
@@ -100,13 +103,14 @@ module _ (a b : Addresses) where
         load : List Instruction
         load = giving operations.LoadWord (Variable (temporary 2) ∷ assigned_word i ∷ []) (result_in d) ∷ []
 
-    pub single_assigned_same : (q : ℕ) (o w : items.Operand) (d : Destination)
-        → length (bytes_of_all (assign_property_code a objects q o w d))
-        ≡ length (bytes_of_all (assign_property_code b objects q o w d))
-    single_assigned_same q o w d =
-        behind_same (assigned_takes w) o (λ x. assigned_single a x q (assigned_word w) d)
-        (λ x. assigned_single b x q (assigned_word w) d)
-        (λ x. provided_same x q (tested_single a ++ store) (tested_single b ++ store) (single_same store))
+    pub single_assigned_same : (single : Bool) (q : ℕ) (o w : items.Operand) (d : Destination)
+        → length (bytes_of_all (assign_property_code a objects single q o w d))
+        ≡ length (bytes_of_all (assign_property_code b objects single q o w d))
+    single_assigned_same single q o w d =
+        behind_same (assigned_takes w) o (λ x. assigned_single a single x q (assigned_word w) d)
+        (λ x. assigned_single b single x q (assigned_word w) d)
+        (λ x. provided_same x q (tested_single a single ++ store) (tested_single b single ++ store)
+        (single_same single store))
       where
         store : List Instruction
         store = plain operations.StoreWord (Variable (temporary 2) ∷ Small 0 ∷ assigned_word w ∷ [])

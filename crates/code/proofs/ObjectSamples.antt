@@ -16,7 +16,7 @@ branched = item_bytes sizes a 10
 
 -- a program of so many objects
 abbrev having : ℕ → Sizes
-having n = record { arrays = []; objects = n; abbreviations = [] }
+having n = record { arrays = []; objects = n; abbreviations = []; singles = [] }
 
 -- jl v 1 ?fault; jl v 4 over the fault: print_paddr; quit
 abbrev tests : ℕ → List ℕ
@@ -87,6 +87,11 @@ reads_property : written (property (variable x) 7 push)
 unfolding bytes_of
 reads_property = refl
 
+-- get_prop x 2 -> sp
+reads_single : written (property (variable x) 2 push) ≡ tests 1 ++ 81 ∷ 1 ∷ 2 ∷ 0 ∷ []
+unfolding bytes_of
+reads_single = refl
+
 -- get_prop_addr x 7 -> U; get_prop_len U -> y
 property_bytes : written (property_size (variable x) 7 (into y)) ≡ tests 1 ++ 82 ∷ 1 ∷ 7 ∷ 249 ∷ 164 ∷ 249 ∷ 2 ∷ []
 unfolding bytes_of
@@ -120,6 +125,12 @@ writes_property : written (assign_property 7 (variable x) (variable y) nowhere)
     ∷ 225 ∷ 155 ∷ 250 ∷ 0 ∷ 2 ∷ [])
 unfolding bytes_of
 writes_property = refl
+
+-- get_prop_addr x 2 -> P; jz P ?~ok; print_paddr; quit; storew P 0 y
+writes_single : written (assign_property 2 (variable x) (variable y) nowhere)
+    ≡ tests 1 ++ 82 ∷ 1 ∷ 2 ∷ 250 ∷ 160 ∷ 250 ∷ 70 ∷ 141 ∷ 2 ∷ 6 ∷ 186 ∷ 225 ∷ 155 ∷ 250 ∷ 0 ∷ 2 ∷ []
+unfolding bytes_of
+writes_single = refl
 
 -- pull U; pull T; ..; storew P 0 U; push U
 writes_pushed : written (assign_property 7 pushed pushed push)

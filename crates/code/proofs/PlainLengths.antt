@@ -9,7 +9,7 @@ use Rattle.syntax_trees.specs.declared.tree.Binary.{Binary}
 use Rattle.syntax_trees.specs.declared.tree.Binary.TheVariants as binaries
 use Rattle.code_drafts.specs.Items.{Item, Destination}
 use Rattle.code_drafts.specs.Items as items
-use Rattle.code_encoding.specs.Addresses.{Addresses, Sizes}
+use Rattle.code_encoding.specs.Addresses.{Addresses, Sizes, has_one_word}
 use Rattle.code_encoding.specs.Instructions.{plain, number_of, temporary, result_in}
 use Rattle.meaning.specs.Limits.{most_arguments}
 use Rattle.code_encoding.specs.Bytes.{bytes_of_all}
@@ -123,8 +123,9 @@ module _ (sizes : Sizes) where
       no_text_same (item_code sizes a offset (items.property o q d))
       (item_code sizes no_addresses 2 (items.property o q d))
       (object_same a no_addresses (objects_of sizes) o
-      (λ x. property_value a x (q % 256) (result_in d)) (λ x. property_value no_addresses x (q % 256) (result_in d))
-      (value_same a no_addresses (q % 256) (result_in d)))
+      (λ x. property_value a (has_one_word sizes (q % 256)) x (q % 256) (result_in d))
+      (λ x. property_value no_addresses (has_one_word sizes (q % 256)) x (q % 256) (result_in d))
+      (value_same a no_addresses (has_one_word sizes (q % 256)) (q % 256) (result_in d)))
   same_length a offset (items.property_size o q d) e =
       no_text_same (item_code sizes a offset (items.property_size o q d))
       (item_code sizes no_addresses 2 (items.property_size o q d))
@@ -139,7 +140,7 @@ module _ (sizes : Sizes) where
   same_length a offset (items.assign_property q o w d) e =
       no_text_same (item_code sizes a offset (items.assign_property q o w d))
       (item_code sizes no_addresses 2 (items.assign_property q o w d))
-      (single_assigned_same a no_addresses (objects_of sizes) (q % 256) o w d)
+      (single_assigned_same a no_addresses (objects_of sizes) (has_one_word sizes (q % 256)) (q % 256) o w d)
   same_length a offset (items.assign_property_word q o i w d) e =
       no_text_same (item_code sizes a offset (items.assign_property_word q o i w d))
       (item_code sizes no_addresses 2 (items.assign_property_word q o i w d))

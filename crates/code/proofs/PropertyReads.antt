@@ -19,9 +19,10 @@ use Rattle.code_drafts.specs.Items.{Destination}
 use Rattle.code_drafts.specs.Items as items
 use Rattle.code_items.specs.Stack as stack
 use Rattle.code_object_memory.specs.Tables.{PropertyTable}
-use Rattle.code_encoding.specs.Addresses.{fault_address}
+use Rattle.code_encoding.specs.Addresses.{fault_address, has_one_word}
 use Rattle.code_encoding.specs.Instructions.{giving, branching, fail, aside_variable, result_in}
-use Rattle.code_objects.specs.ObjectCode.{property_address, length_at}
+use Rattle.code_objects.specs.ObjectCode.{property_address, length_at, property_value}
+use Rattle.code.specs.HeldProgram.{sizes_of}
 use Rattle.code.proofs.Behind.{Holds, holds_append}
 use Rattle.code.proofs.Play.{Leads}
 use Rattle.code.proofs.Memory.{word_of, with_variable}
@@ -35,10 +36,11 @@ use Rattle.code.proofs.Delivering.{result_small}
 use Rattle.code.proofs.Alone.{alone_count, IsOperandHere, IsHere, next_place, gives_here_led}
 use Rattle.code.proofs.StoringSteps.{after_bound}
 use Rattle.code.proofs.TestedWords.{AtIndex}
-use Rattle.code.proofs.TestedObjects.{IsObjectHere, acts_in, begins, begun_end, object_tests, tests_led}
+use Rattle.code.proofs.TestedObjects.{IsObjectHere, acts_in, begins, begun_end, object_tests, single_here, tests_led}
 use Rattle.code.proofs.Working.{Works, writes, branch_leads, fault_led}
 use Rattle.code.proofs.FaultTests.{Passed, tests}
 use Rattle.code.proofs.Providing.{words_at}
+use Rattle.code.proofs.Pulling.{works_at}
 use Rattle.code.proofs.CountedWords.{double_single}
 use Rattle.code.proofs.PropertySizes.{Delivered, tables, behind, none_found, some_found, some_there, other_stays}
 use Rattle.code.proofs.PropertySizes.{bytes_counted}
@@ -68,6 +70,14 @@ module _ (c : Running) where
 
   abbrev counting : ℕ → Destination → Operand → List Instruction
   counting n d x = length_at 249 249 ∷ single_test ∷ (many_fault ++ last_read n d x ∷ [])
+
+  -- what a property of these words comes to
+  abbrev Single : Destination → List ℕ → List ℕ → Bool → List ℕ → stack.Next
+  Single d before rest b words =
+      stack.after_part
+      (bound {A = Unit {0}}
+      ((if b then source.give tt else source.fault causes.PropertyOfManyWords) (situation_here c))
+      (λ _. source.give (slice_index words 0))) (λ w situation. Delivered c d before rest w situation)
 
   module _ (n : ℕ) (d : Destination) (before rest : List ℕ) (v : ℕ) (named : IsProperty n) (is_d : IsHere c d)
       (room : length rest ≤ 48) (followed : next_place c < length m) (object : IsObjectHere c v)
@@ -204,19 +214,11 @@ module _ (c : Running) where
         (reads_written c m1 249 k next.scratch (omega arith) (omega arith))) (small_value st2 2))
         (λ after. refl) (omega arith) counted)
 
-    -- what a property of these words comes to
-    abbrev Single : Bool → List ℕ → stack.Next
-    Single b words =
-        stack.after_part
-        (bound {A = Unit {0}}
-        ((if b then source.give tt else source.fault causes.PropertyOfManyWords) (situation_here c))
-        (λ _. source.give (slice_index words 0))) (λ w situation. Delivered c d before rest w situation)
-
     single_by : (b : Bool) (words : List ℕ) → (length words == 1) ≡ b → world.objects.properties v n ≡ Some words
         → Passed c b causes.PropertyOfManyWords read_tables before rest
         (with_variable (with_variable t.reached.memory 249 (words_at c read_tables v n)) 249 (2 * length words))
         (from_here + 3 + 3 + 4 + 4) (last_read n d t.operand ∷ [])
-        → LedFrom c before (Single b words)
+        → LedFrom c before (Single d before rest b words)
     single_by true words one e next =
         let w = words_at c read_tables v n in
         let k = 2 * length words in
@@ -244,17 +246,76 @@ module _ (c : Running) where
     read_by None e = none_read e
     read_by (Some words) e = single_by (length words == 1) words refl e (words_counted words e)
 
+  -- A property that has one word wherever it is provided is read at once
+
+  module _ (n : ℕ) (d : Destination) (before rest : List ℕ) (v : ℕ) (named : IsProperty n) (is_d : IsHere c d)
+      (room : length rest ≤ 48) (object : IsObjectHere c v)
+      (single : has_one_word (sizes_of p) (n % 256) ≡ true)
+      (t : AtIndex c v before rest m (λ x. last_read n d x ∷ [])) where
+    at_once : (w : ℕ)
+        → ((after : ℕ) → get_property (point t.reached.q world.fuel) after (Some (result_in d)) v n
+        (at_words (around c) t.reached.memory locals rest world.text)
+        ≡ give_result (point t.reached.q world.fuel) after (Some (result_in d)) w
+        (at_words (around c) t.reached.memory locals rest world.text))
+        → LedFrom c before (Delivered c d before rest w (situation_here c))
+    unfolding perform
+    at_once w does =
+        let same : n % 256 ≡ n = omega (arith, named.1) in
+        let q = t.reached.q in
+        let memory = t.reached.memory in
+        let st = at_words (around c) memory locals rest world.text in
+        let i = last_read n d t.operand in
+        let works = works_at c v before rest m (λ x. last_read n d x ∷ []) t in
+        gives_here_led c operations.GetProperty (t.operand ∷ Small (n % 256) ∷ []) d w q before rest rest memory
+        (v ∷ n % 256 ∷ []) is_d works.scratch room works.from
+        (record { least = omega arith; most = omega arith; result_fits = result_small d; branch_fits = tt })
+        (first_held m q i [] works.held) (omega (arith, works.end, one_length i))
+        (two_operands st st st t.operand (Small (n % 256)) v (n % 256) t.value (small_value st (n % 256)))
+        (λ after. ap (λ (k : ℕ). get_property (point q world.fuel) after (Some (result_in d)) v k st) same ∙ does after)
+        works.leads
+
+    once_by : (words : Option (List ℕ)) → world.objects.properties v n ≡ words
+        → LedFrom c before (stack.after_part
+        (single_word (slice_index p.defaults (n - 1)) words (situation_here c))
+        (λ w situation. Delivered c d before rest w situation))
+    once_by None e =
+        at_once (slice_index p.defaults (n - 1)) (λ after.
+        (acts_in c t.reached.memory rest world.text t.reached.scratch).default (point t.reached.q world.fuel) after
+        (Some (result_in d)) v n object named.0 named.1 e)
+    once_by (Some words) e =
+        let one = single_here c v n words named object single e in
+        subst (λ b. LedFrom c before (Single d before rest b words)) (sym one)
+        (at_once (slice_index words 0) (λ after.
+        (acts_in c t.reached.memory rest world.text t.reached.scratch).single (point t.reached.q world.fuel) after
+        (Some (result_in d)) v n (slice_index words 0) object (e ∙ ap Some (only_word words one))))
+
+  abbrev reading : Bool → ℕ → Destination → Operand → List Instruction
+  reading single n d x = property_value a single x (n % 256) (result_in d)
+
+  read_either : (n : ℕ) (d : Destination) (before rest : List ℕ) (v : ℕ) → IsProperty n → IsHere c d
+      → length rest ≤ 48 → next_place c < length m → IsObjectHere c v
+      → (single : Bool) → has_one_word (sizes_of p) (n % 256) ≡ single
+      → AtIndex c v before rest m (reading single n d)
+      → LedFrom c before (stack.after_part
+      (single_word (slice_index p.defaults (n - 1)) (world.objects.properties v n) (situation_here c))
+      (λ w situation. Delivered c d before rest w situation))
+  read_either n d before rest v named is_d room followed object true single t =
+      once_by n d before rest v named is_d room object single t (world.objects.properties v n) refl
+  read_either n d before rest v named is_d room followed object false single t =
+      read_by n d before rest v named is_d room followed object t (world.objects.properties v n) refl
+
   pub property_led : (o : items.Operand) (n : ℕ) (d : Destination) (s : List ℕ) → IsProperty n → IsOperandHere c o
       → IsHere c d → length s ≤ 48 → ArrivesAt c (items.property o n d)
       → LedFrom c s (stack.with_operand o (situation_here c) s
       (λ v rest. stack.gives (stack.property_of p v n) d rest (at c s)))
   property_led o n d s named is is_d room stands =
       let item = items.property o n d in
-      let act : Operand → List Instruction = λ x. property_address x (n % 256) 249 ∷ zero_test ∷ counting n d x in
+      let single = has_one_word (sizes_of p) (n % 256) in
+      let act : Operand → List Instruction = reading single n d in
       tests_led c o s s m act
       (λ v situation. single_word (slice_index p.defaults (n - 1)) (situation.world.objects.properties v n) situation)
       (λ rest w situation. Delivered c d s rest w situation)
       (object_tests c o act s s m is (begins c item s stands) (begun_end c item s refl stands) stands.followed)
       (λ v rest alone object t.
-      read_by n d s rest v named is_d (omega (arith, room, alone_count o (situation_here c) s v rest alone))
-      stands.followed object t (world.objects.properties v n) refl)
+      read_either n d s rest v named is_d (omega (arith, room, alone_count o (situation_here c) s v rest alone))
+      stands.followed object single refl t)

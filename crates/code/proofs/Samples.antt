@@ -30,9 +30,14 @@ a = record {
   faults = 515 ∷ 516 ∷ 517 ∷ 518 ∷ 519 ∷ 521 ∷ 520 ∷ 522 ∷ [];
 }
 
--- arrays of 10 bytes and of 600, and 3 objects
+-- arrays of 10 bytes and of 600, and 3 objects, in which the property 2 has one word
 abbrev pub sizes : Sizes
-sizes = record { arrays = 10 ∷ 600 ∷ []; objects = 3; abbreviations = [] }
+sizes = record {
+  arrays = 10 ∷ 600 ∷ [];
+  objects = 3;
+  abbreviations = [];
+  singles = false ∷ false ∷ true ∷ [];
+}
 
 abbrev pub x : Variable
 x = variables.Local 0

@@ -38,7 +38,7 @@ use Rattle.code_items.specs.Statements.{routine_items}
 use Rattle.code_object_memory.specs.Rows.{rows_of, rows_bytes}
 use Rattle.code_encoding.specs.Addresses.{Addresses, Sizes, all_causes}
 use Rattle.code.specs.Bytes.{code_bytes}
-use Rattle.code.specs.HeldProgram.{start_code, fault_line}
+use Rattle.code.specs.HeldProgram.{start_code, fault_line, singles_of}
 
 -- so many bytes, of which the first are these
 abbrev slot : ℕ → List ℕ → List ℕ
@@ -79,7 +79,12 @@ abbrev line_slot : Cause → List ℕ
 line_slot cause = slot 64 (encoded (fault_line (words_of cause)))
 
 abbrev sizes_with : List ℕ → Sizes
-sizes_with array = record { arrays = length array ∷ []; objects = 2; abbreviations = [] }
+sizes_with array = record {
+  arrays = length array ∷ [];
+  objects = 2;
+  abbreviations = [];
+  singles = singles_of objects;
+}
 
 abbrev pub story_of : List ℕ → List ℕ → RoutineOf → RoutineOf → List ℕ
 story_of globals array main other =

@@ -37,7 +37,7 @@ use Rattle.code.proofs.TestedObjects.{IsObjectHere}
 use Rattle.code.proofs.Working.{Works, HoldsWord, fault_led, reads_word, word_value, word_still, same_base}
 use Rattle.code.proofs.Changing.{variable_same, high_same, stored_objects, passed_led}
 use Rattle.code.proofs.Providing.{words_at, acts_on, Finds}
-use Rattle.code.proofs.CountedWords.{WordTested, word_tests, SingleTested, single_tests}
+use Rattle.code.proofs.CountedWords.{Kept, WordTested, word_tests, SingleTested, single_tests}
 
 -- one word where there is one
 only_word : (words : List ℕ) (w : ℕ) → (length words == 1) ≡ true → slice_set words 0 w ≡ w ∷ []
@@ -142,7 +142,7 @@ module _ (c : Running) where
 
     pub single_found : (other : List ℕ) (words : Option (List ℕ)) → world.objects.properties v q ≡ words
         → HoldsWord c 1 o w other
-        → Finds c words tables before rest other v q (tested_single a ++ storing (Small 0) o d)
+        → Finds c words tables before rest other v q (tested_single a false ++ storing (Small 0) o d)
         → LedFrom c before (stack.after_part
         (bound (test_provided words (situation_here c)) Single) (onward d before rest))
     single_found other None e word t =
@@ -156,6 +156,20 @@ module _ (c : Running) where
         (word_still c 1 o w other t.memory (t.others 249 (omega arith) (λ f. omega (arith, f))) word)
         (single_tests c tables before rest t.memory t.there v q words (storing (Small 0) o d) followed known e t.address
         t.works)
+
+    -- the same of a property that has one word wherever it is provided
+    pub one_found : (other : List ℕ) (words : Option (List ℕ)) → world.objects.properties v q ≡ words
+        → ((ws : List ℕ) → words ≡ Some ws → (length ws == 1) ≡ true) → HoldsWord c 1 o w other
+        → Finds c words tables before rest other v q (storing (Small 0) o d)
+        → LedFrom c before (stack.after_part
+        (bound (test_provided words (situation_here c)) Single) (onward d before rest))
+    one_found other None e one word t = single_found other None e word t
+    one_found other (Some words) e one word t =
+        let kept : Kept c tables before rest t.memory (storing (Small 0) o d) =
+        record { memory = t.memory; there = t.there; works = t.works; others = λ x low differs. refl } in
+        single_led words t.memory (length words == 1) refl e t.address
+        (word_still c 1 o w other t.memory (t.others 249 (omega arith) (λ f. omega (arith, f))) word)
+        (subst (λ b. SingleTested c b tables before rest t.memory (storing (Small 0) o d)) (sym (one words refl)) kept)
 
     -- A word at an index
 

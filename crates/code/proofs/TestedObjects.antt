@@ -1,13 +1,14 @@
 -- An object is tested, and memory then holds it; else the fault is printed.
-use Rattle.std.proofs.Common.{◌≡◌, ℕ, ◌+◌, ◌<◌, ◌≤◌, ◌⊎◌, inl, inr, List, [], length, Bool, true, false, refl, sym, ap}
-use Rattle.std.proofs.Common.{◌∙◌, subst, arith}
-use Rattle.std.specs.Prelude.{nat_lt, nat_le, if◌then◌else◌, ◌&&◌}
+use Rattle.std.proofs.Common.{◌≡◌, ℕ, ◌+◌, ◌%◌, ◌<◌, ◌≤◌, ◌⊎◌, inl, inr, List, [], length, Bool, true, false, refl, sym}
+use Rattle.std.proofs.Common.{ap, ◌∙◌, subst, arith, Some}
+use Rattle.std.specs.Prelude.{nat_lt, nat_le, if◌then◌else◌, ◌&&◌, ◌==◌}
 use Rattle.std.specs.List.{flat_map}
 use Rattle.std.proofs.lemmas.Bool.{cases_lt, lt-ltb, le-ltb, le-leb, lt-leb, leb-true, and_parts}
 use Rattle.zcore.specs.declared.instruction.Operand.{Operand}
 use Rattle.zcore.specs.Instruction.{Instruction}
 use Rattle.zcore.specs.InstructionBytes.{bytes_of}
 use Rattle.meaning.specs.declared.cause.Cause.TheVariants as causes
+use Rattle.meaning.specs.Accepted.{IsProperty}
 use Rattle.meaning.specs.Forests.{IsObjectNumber}
 use Rattle.meaning.specs.World.{Situation, Part, bound}
 use Rattle.meaning.specs.World as source
@@ -16,13 +17,14 @@ use Rattle.code_drafts.specs.Items as items
 use Rattle.code_items.specs.Stack as stack
 use Rattle.code_object_memory.specs.Laws.{Acts}
 use Rattle.code_object_memory.proofs.Together.{region_laws}
-use Rattle.code_encoding.specs.Addresses.{fault_address}
+use Rattle.code_encoding.specs.Addresses.{fault_address, has_one_word}
 use Rattle.code_instructions.specs.Instructions.{is_between}
 use Rattle.code_objects.specs.ObjectCode.{at_object, at_label, objects_of}
 use Rattle.code_selection.specs.ItemBytes.{text_bytes}
 use Rattle.code.specs.HeldProgram.{sizes_of}
 use Rattle.code.proofs.Play.{stays}
 use Rattle.code.proofs.Parts.{machine as at_words}
+use Rattle.code.proofs.Singles.{one_word, single_at}
 use Rattle.code.proofs.Steps.{point}
 use Rattle.code.proofs.Texts.{cause_line}
 use Rattle.code.proofs.Arriving.{Running, around, here, LedFrom, code_here, code_held, situation_here, ArrivesAt}
@@ -80,6 +82,16 @@ module _ (c : Running) where
   acts_in other words text scratch =
       region_laws.acts p.objects p.defaults world.objects scratch.stored.tables
       (at_words (around c) other locals words text) scratch.stored.has
+
+  -- the words of a property that has one wherever it is provided
+  pub single_here : (o q : ℕ) (words : List ℕ) → IsProperty q → IsObjectHere o
+      → has_one_word (sizes_of p) (q % 256) ≡ true → world.objects.properties o q ≡ Some words
+      → (length words == 1) ≡ true
+  single_here o q words named known single is =
+      let same : q % 256 ≡ q = omega (arith, named.1) in
+      one_word p.objects p.defaults world.objects good.stored.tables m good.stored.has o q known
+      (single_at p.objects q (omega (arith, named.1))
+      (subst (λ (k : ℕ). has_one_word (sizes_of p) k ≡ true) same single)) words is
 
   -- an item begins
   pub begins : (item : Item) (s : List ℕ) → ArrivesAt c item → Reached c s s m (code_here c item)

@@ -1,18 +1,19 @@
 -- A program that stands in a story.
-use Rattle.std.specs.Prelude.{◌≡◌, ◌+◌, ◌*◌, ◌^◌, ◌<◌, ◌≤◌, ℕ, List, [], ◌∷◌, ◌++◌, codes, length, map, take}
-use Rattle.std.specs.Prelude.{slice_index}
-use Rattle.std.specs.List.{All, concat}
+use Rattle.std.specs.Prelude.{◌≡◌, ◌+◌, ◌*◌, ◌^◌, ◌<◌, ◌≤◌, ◌==◌, ◌||◌, not, ℕ, Bool, List, [], ◌∷◌, ◌++◌, codes, length}
+use Rattle.std.specs.Prelude.{map, take, slice_index}
+use Rattle.std.specs.List.{All, concat, list_all, range_with_len}
 use Rattle.zcore.specs.declared.instruction.Operand.TheVariants.{Large}
 use Rattle.zcore.specs.declared.instruction.Operation.TheVariants.{Call1n, Quit}
 use Rattle.ztext.specs.Bytes.{word_at, most_abbreviations}
 use Rattle.zcore.specs.Header.{abbreviations_of, defaults_of, dictionary_of, globals_of, static_base_of}
-use Rattle.zcore.specs.Layout.{header_size, globals_size}
+use Rattle.zcore.specs.Layout.{header_size, globals_size, default_count}
 use Rattle.zcore.specs.Parts.{unpacked}
 use Rattle.ztext.specs.Text.{Holds, encoded}
 use Rattle.ztext.specs.Abbreviations.{abbreviation_at}
 use Rattle.tables.specs.Dictionary.{ReadsKeys}
 use Rattle.meaning.specs.Resolved.{RoutineOf, ProgramOf}
 use Rattle.meaning.specs.Meaning.{routine_at}
+use Rattle.meaning.specs.Objects.{ObjectOf}
 use Rattle.meaning.specs.World.{words_of}
 use Rattle.meaning.specs.Places.{dictionary_place}
 use Rattle.meaning.specs.Sizes.{greatest_routine_weight}
@@ -28,8 +29,25 @@ use Rattle.code.specs.Bytes.{code_size, code_bytes}
 abbrev pub start_code : ℕ → List ℕ
 start_code main = bytes_of_all (plain Call1n (Large main ∷ []) ∷ plain Quit [] ∷ [])
 
+-- one word, where these are the number and the words of the property of a number
+abbrev pub is_one_word : ℕ → ℕ × List ℕ → Bool
+is_one_word q x = not (x.0 == q) || length x.1 == 1
+
+-- each object that provides the property of a number has one word of it
+abbrev pub is_single : List ObjectOf → ℕ → Bool
+is_single objects q = list_all (λ (o : ObjectOf). list_all (is_one_word q) o.properties) objects
+
+-- which properties are such, by their numbers from 0, which is that of none
+abbrev pub singles_of : List ObjectOf → List Bool
+singles_of objects = map (is_single objects) (range_with_len 0 (default_count + 1))
+
 abbrev pub sizes_of : ProgramOf → Sizes
-sizes_of p = record { arrays = map length p.arrays; objects = length p.objects; abbreviations = p.abbreviations }
+sizes_of p = record {
+  arrays = map length p.arrays;
+  objects = length p.objects;
+  abbreviations = p.abbreviations;
+  singles = singles_of p.objects;
+}
 
 -- how many bytes of arrays stand before the array of a number, where they stand one behind another
 abbrev pub offset_in : List (List ℕ) → ℕ → ℕ

@@ -1,9 +1,13 @@
 -- What the values of the code stand for.
-use Rattle.std.specs.Prelude.{◌+◌, List, [], ◌∷◌, ℕ}
+use Rattle.std.specs.Prelude.{◌≡◌, ◌+◌, ◌&&◌, Bool, false, List, [], ◌∷◌, ℕ, slice_index_or}
+use Rattle.meaning.specs.Resolved.{ProgramOf}
 use Rattle.code_drafts.specs.Items.{Item}
 use Rattle.code_drafts.specs.Items as items
 use Rattle.code_encoding.specs.Addresses.{Sizes}
+use Rattle.code_encoding.specs.Written.{sizes_in}
+use Rattle.code_encoding.specs.declared.addresses.Sizes as counted
 use Rattle.code_instructions.specs.Places.{offset_of}
+use Rattle.code.specs.HeldProgram.{sizes_of}
 
 -- the offsets of the branches to labels, of items of which the first has this number
 abbrev pub branch_offsets : (ℕ → ℕ) → ℕ → List Item → List ℕ
@@ -25,3 +29,10 @@ pub record CodeOf : Type 0 where
   pub locals : ℕ
   pub sizes : Sizes
   pub items : List Item
+
+abbrev pub AreSizesOf : counted.Sizes → ProgramOf → Type 0
+AreSizesOf s p = sizes_in s ≡ sizes_of p
+
+-- flags by the numbers of properties, of which those are cleared that fail a test
+abbrev pub Narrows : List Bool → List Bool → (ℕ → Bool) → Type 0
+Narrows old new test = (q : ℕ) → slice_index_or new q false ≡ (slice_index_or old q false && test q)

@@ -4,9 +4,11 @@
 mod fault;
 mod laws;
 mod routine;
+mod sizes;
 
 pub use code_branch_forms::{BranchUse, Form};
 pub use code_encoding::{Addresses, Sizes};
 pub use fault::CodeFault;
 pub use laws::code_plays;
 pub use routine::{Code, routine_code};
+pub use sizes::program_sizes;

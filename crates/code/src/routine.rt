@@ -11,6 +11,7 @@ ghost use Rattle.code_encoding.specs.Written.{addresses_of, sizes_in};
 ghost use Rattle.code.specs.Bytes.{lefts_of, place_of, items_bytes};
 ghost use Rattle.code.specs.Bytes as spec;
 ghost use Rattle.code.specs.HeldProgram.{sizes_of};
+ghost use Rattle.code.specs.Written.{AreSizesOf};
 
 use crate::fault::CodeFault;
 use code_branch_forms::{BranchUse, Part, branches, lay_out};
@@ -31,7 +32,7 @@ pub struct Code<'a, 'b> {
     alloc: Global,
     locals: usize,
 
-    /// How many bytes each array has, how many objects there are, and the abbreviations.
+    /// Those of the program.
     sizes: Sizes<'b>,
 
     items: Vec<Item<'a>>,
@@ -141,7 +142,7 @@ fn code_of<'a, 'b>(
     })
 }
 
-/// The code of the routine of a number, ready to be written.
+/// The code of the routine of a number, ready to be written, of a program of these sizes.
 ///
 /// # Errors
 ///
@@ -149,9 +150,11 @@ fn code_of<'a, 'b>(
 pub fn routine_code<'a, 'b>(
     alloc: Global,
     checked: &'b Checked<'a>,
+    sizes: &Sizes<'b>,
     routine: usize,
 ) -> Result<Code<'a, 'b>, CodeFault>
-    requires { routine < length checked.now.routines }
+    requires routine { routine < length checked.now.routines }
+    requires sizes { AreSizesOf sizes.now (program_of checked.now) }
     ensures locals { IfOk result (λ c. c.locals
         ≡ (routine_at (program_of checked.now).routines routine).locals) }
     ensures sizes { IfOk result (λ c. c.sizes ≡ sizes_of (program_of checked.now)) }
@@ -160,12 +163,7 @@ pub fn routine_code<'a, 'b>(
 {
     let source = checked.routine(routine);
     let items = routine_items(alloc, source)?;
-    let sizes = Sizes {
-        arrays: checked.array_sizes(),
-        objects: checked.objects().len(),
-        abbreviations: checked.abbreviations(),
-    };
-    Ok(code_of(alloc, source.locals, sizes, items)?)
+    Ok(code_of(alloc, source.locals, *sizes, items)?)
 }
 
 impl Code<'_, '_> {

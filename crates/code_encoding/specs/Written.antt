@@ -48,4 +48,9 @@ addresses_of a = record {
 }
 
 abbrev pub sizes_in : counted.Sizes → Sizes
-sizes_in s = record { arrays = s.arrays.now; objects = s.objects; abbreviations = s.abbreviations.now }
+sizes_in s = record {
+  arrays = s.arrays.now;
+  objects = s.objects;
+  abbreviations = s.abbreviations.now;
+  singles = s.singles;
+}

@@ -2,6 +2,7 @@
 
 ghost use Rattle.std.specs.Prelude.{◌≡◌, slice_index};
 ghost use Rattle.code_encoding.specs.Addresses as spec;
+ghost use Rattle.code_encoding.specs.Written.{sizes_in};
 
 use meaning::Cause;
 use zcore::Abbreviations;
@@ -15,6 +16,9 @@ pub struct Addresses<'a> {
     pub faults: &'a [u16],
 }
 
+/// The numbers of properties are less than this.
+pub const PROPERTY_NUMBERS: usize = 64;
+
 /// How many bytes each array of a program has, in order of definition, how many objects it has, and
 /// its abbreviations.
 #[derive(Clone, Copy)]
@@ -22,6 +26,17 @@ pub struct Sizes<'a> {
     pub arrays: &'a [usize],
     pub objects: usize,
     pub abbreviations: &'a Abbreviations,
+
+    /// By the number of each property, whether it has one word wherever an object provides it.
+    pub singles: [bool; PROPERTY_NUMBERS],
+}
+
+/// Whether the property of a number has one word wherever an object provides it.
+pub fn has_one_word(sizes: &Sizes<'_>, property: u8) -> bool
+    ensures { result ≡ spec.has_one_word (sizes_in sizes.now) property }
+{
+    let number = usize::from(property);
+    number < PROPERTY_NUMBERS && sizes.singles[number]
 }
 
 /// The address of a number, 0 where there is none.

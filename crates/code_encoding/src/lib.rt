@@ -7,7 +7,9 @@ mod instruction;
 mod opcode;
 mod operands;
 
-pub use addresses::{Addresses, Sizes, array_address, fault_address, routine_address};
+pub use addresses::{
+    Addresses, PROPERTY_NUMBERS, Sizes, array_address, fault_address, has_one_word, routine_address,
+};
 pub use instruction::{
     ASIDE, FIRST, FOURTH, Instruction, Operands, SECOND, ShortBranch, THIRD, branching, copy,
     giving, plain, print_fault, pull, push, put_all, put_instruction, quit, store,

@@ -140,6 +140,7 @@ module _ (definitions : List ObjectOf) (defaults : List ℕ) (objects : Objects)
                   (word_elsewhere x 13 j (omega arith) (omega arith))));
               provided = has.provided;
               names = has.names;
+              shaped = has.shaped;
             }
           where
             not_it : (c : Link) → (at < place_of (defaults_of m) c) ⊎ (place_of (defaults_of m) c + 2 ≤ at)

@@ -199,6 +199,7 @@ module _ (story : List ℕ) (definitions : List ObjectOf) (defaults : List ℕ) 
       listed = has_tables;
       provided = λ o q i. ap (λ t. words_in q t.properties) (table_is o i);
       names = λ o i. ap (λ t. t.name) (table_is o i);
+      shaped = λ o q i. refl;
     }
 
 pub begins : (story : List ℕ) (definitions : List ObjectOf) (defaults : List ℕ) → AreProper definitions

@@ -166,4 +166,5 @@ keeps definitions defaults objects tables old new has kept =
           (kept.above _ (omega (arith, e.0)) (omega (arith, e.1, below))));
       provided = has.provided;
       names = has.names;
+      shaped = has.shaped;
     }

@@ -61,6 +61,7 @@ module _ (definitions : List ObjectOf) (defaults : List ℕ) (objects : Objects)
             (subst (λ k. slice_index new k ≡ slice_index old k) next last));
         provided = has.provided;
         names = has.names;
+        shaped = has.shaped;
       }
 
   relinked_rest : (old new : List ℕ) → HasObjects definitions defaults objects tables old

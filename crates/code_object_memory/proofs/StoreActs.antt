@@ -1,7 +1,7 @@
 -- A word of a property that is stored, in memory that holds objects.
 use Rattle.std.proofs.Common.{◌≡◌, ◌≢◌, ◌≤◌, ◌<◌, ◌+◌, ◌-◌, ◌*◌, ◌%◌, ℕ, List, length, slice_index, slice_set, Some, ap}
 use Rattle.std.proofs.Common.{sym, ◌∙◌, arith, subst, inl, inr}
-use Rattle.std.specs.Prelude.{take}
+use Rattle.std.specs.Prelude.{take, option_map}
 use Rattle.std.specs.List.{flat_map}
 use Rattle.std.proofs.lemmas.Bool.{cases_eq}
 use Rattle.std.proofs.lemmas.List.{length-append, length-set, get_or-set_same, get_or-set_other}
@@ -17,7 +17,7 @@ use Rattle.zcore.specs.State.{State}
 use Rattle.tables.specs.Rows.{name_bytes}
 use Rattle.tables.proofs.Names.{name_even}
 use Rattle.meaning.specs.Forests.{IsObjectNumber}
-use Rattle.meaning.specs.Objects.{Objects, ObjectOf, words_in, with_words}
+use Rattle.meaning.specs.Objects.{Objects, ObjectOf, object_at, words_in, with_words}
 use Rattle.code_object_memory.specs.Laws.{Changes, on}
 use Rattle.code_object_memory.specs.Links.{links_of}
 use Rattle.code_object_memory.specs.Region.{HasObjects, HasTables, KeepsRest, tables_base}
@@ -200,6 +200,28 @@ module _ (definitions : List ObjectOf) (defaults : List ℕ) (objects : Objects)
           ∙ sym (if_not_first x o p q (Some others) (objects.properties x p) other)
     ]
 
+    -- as many words as before
+    shaped_after : (x p : ℕ) → IsObjectNumber (length definitions) x
+        → option_map length ((with_words o q others objects).properties x p)
+        ≡ option_map length (words_in p (object_at definitions x).properties)
+    shaped_after x p j = elim (cases_eq x o) [
+      | inl same ↦ elim (cases_eq p q) [
+        | inl it ↦
+            ap (option_map length) (if_both x o p q (Some others) (objects.properties x p) same it)
+            ∙ ap (λ (n : ℕ). Some n) size
+            ∙ sym (ap (option_map length) is)
+            ∙ ap (λ y. option_map length (objects.properties y q)) (sym same)
+            ∙ ap (λ r. option_map length (objects.properties x r)) (sym it)
+            ∙ has.shaped x p j
+        | inr other ↦
+            ap (option_map length) (if_not_second x o p q (Some others) (objects.properties x p) same other)
+            ∙ has.shaped x p j
+      ]
+      | inr other ↦
+          ap (option_map length) (if_not_first x o p q (Some others) (objects.properties x p) other)
+          ∙ has.shaped x p j
+    ]
+
     pub stored_objects : HasObjects definitions defaults (with_words o q others objects) after new
     stored_objects =
         let n = length definitions in
@@ -226,6 +248,7 @@ module _ (definitions : List ObjectOf) (defaults : List ℕ) (objects : Objects)
                 ap (λ t. t.name) (table_here x same) ∙ ap (λ y. (table_at tables y).name) (sym same) ∙ has.names x j
             | inr other ↦ ap (λ t. t.name) (table_there x j other) ∙ has.names x j
           ];
+          shaped = shaped_after;
         }
 
     pub stored_rest : KeepsRest m new

@@ -1,6 +1,6 @@
 -- The objects of a running source in the memory of a story that runs: entries with their links and attributes, and
 -- behind them the property tables, one behind another (Z-Machine Standards Document 1.1, section 12).
-use Rattle.std.specs.Prelude.{◌≡◌, ◌+◌, ◌-◌, ◌*◌, ◌<◌, ◌≤◌, ℕ, List, length, map, drop, slice_index}
+use Rattle.std.specs.Prelude.{◌≡◌, ◌+◌, ◌-◌, ◌*◌, ◌<◌, ◌≤◌, ℕ, List, length, map, drop, slice_index, option_map}
 use Rattle.std.specs.List.{All, flat_map}
 use Rattle.ztext.specs.Bytes.{word_at}
 use Rattle.zcore.specs.Entries.{properties_place, attribute_place, is_set}
@@ -50,6 +50,9 @@ pub record HasObjects (definitions : List ObjectOf) (defaults : List ℕ) (objec
         → words_in q ((table_at tables o).properties) ≡ objects.properties o q
     pub names : (o : ℕ) → IsObjectNumber (length definitions) o
         → (table_at tables o).name ≡ map machine_character ((object_at definitions o).name)
+    -- a property has as many words as it was defined with
+    pub shaped : (o q : ℕ) → IsObjectNumber (length definitions) o
+        → option_map length (objects.properties o q) ≡ option_map length (words_in q (object_at definitions o).properties)
 
 -- bytes in the region of objects may differ, and no others
 pub record KeepsRest (old new : List ℕ) : Type 0 where

@@ -140,17 +140,23 @@ abbrev pub provides_code : Addresses → ℕ → items.Operand → ℕ → Bool 
 provides_code a objects o q when offset = at_label a objects o (λ x.
     property_address x q (temporary 0) ∷ labelled JumpIfZero (Variable (temporary 0) ∷ []) (not when) offset)
 
--- a property that is provided has one word, and else the fault's text is printed
-abbrev pub property_value : Addresses → Operand → ℕ → ℕ → List Instruction
-property_value a x q variable =
-    property_address x q (temporary 1)
+-- the word of a property, or its default
+abbrev pub read_property : Operand → ℕ → ℕ → Instruction
+read_property x q variable = giving GetProperty (x ∷ Small q ∷ []) variable
+
+-- A property that is provided has one word, and else the fault's text is printed. It is not tested where it has one
+-- word wherever it is provided.
+abbrev pub property_value : Addresses → Bool → Operand → ℕ → ℕ → List Instruction
+property_value a single x q variable =
+    if single then read_property x q variable ∷ []
+    else (property_address x q (temporary 1)
     ∷ branching_zero (temporary 1) true 13
     ∷ length_at (temporary 1) (temporary 1)
     ∷ branching_single (temporary 1)
-    ∷ (fail (fault_address a causes.PropertyOfManyWords) ++ giving GetProperty (x ∷ Small q ∷ []) variable ∷ [])
+    ∷ (fail (fault_address a causes.PropertyOfManyWords) ++ read_property x q variable ∷ []))
 
-abbrev pub property_code : Addresses → ℕ → items.Operand → ℕ → Destination → List Instruction
-property_code a objects o q d = at_object a objects o (λ x. property_value a x q (result_in d))
+abbrev pub property_code : Addresses → ℕ → Bool → items.Operand → ℕ → Destination → List Instruction
+property_code a objects single o q d = at_object a objects o (λ x. property_value a single x q (result_in d))
 
 abbrev pub property_size_code : Addresses → ℕ → items.Operand → ℕ → Destination → List Instruction
 property_size_code a objects o q d = at_object a objects o (λ x.
@@ -163,12 +169,13 @@ provided a x q =
     ∷ branching_zero (temporary 2) false 6
     ∷ fail (fault_address a causes.NoSuchProperty)
 
--- there is one word, and else the fault's text is printed
-abbrev pub tested_single : Addresses → List Instruction
-tested_single a =
-    length_at (temporary 2) (temporary 3)
+-- there is one word, and else the fault's text is printed; not tested where there is one wherever it is provided
+abbrev pub tested_single : Addresses → Bool → List Instruction
+tested_single a single =
+    if single then []
+    else (length_at (temporary 2) (temporary 3)
     ∷ branching_single (temporary 3)
-    ∷ fail (fault_address a causes.PropertyOfManyWords)
+    ∷ fail (fault_address a causes.PropertyOfManyWords))
 
 -- how far a branch leads to behind a comparison of an operand with a variable: it has 4 bytes, or 6 where the operand
 -- takes two
@@ -196,14 +203,15 @@ property_word_code a objects q o i d =
     assigned_takes i ++ at_object a objects o (λ x. loaded_at a x q (assigned_word i) (result_in d))
 
 -- a word goes to the only one of a property, and on
-abbrev pub assigned_single : Addresses → Operand → ℕ → Operand → Destination → List Instruction
-assigned_single a x q word d =
+abbrev pub assigned_single : Addresses → Bool → Operand → ℕ → Operand → Destination → List Instruction
+assigned_single a single x q word d =
     provided a x q
-    ++ (tested_single a ++ plain StoreWord (Variable (temporary 2) ∷ Small 0 ∷ word ∷ []) ∷ passed_on d word)
+    ++ (tested_single a single ++ plain StoreWord (Variable (temporary 2) ∷ Small 0 ∷ word ∷ []) ∷ passed_on d word)
 
-abbrev pub assign_property_code : Addresses → ℕ → ℕ → items.Operand → items.Operand → Destination → List Instruction
-assign_property_code a objects q o w d =
-    assigned_takes w ++ at_object a objects o (λ x. assigned_single a x q (assigned_word w) d)
+abbrev pub assign_property_code : Addresses → ℕ → Bool → ℕ → items.Operand → items.Operand → Destination
+    → List Instruction
+assign_property_code a objects single q o w d =
+    assigned_takes w ++ at_object a objects o (λ x. assigned_single a single x q (assigned_word w) d)
 
 -- to the one at an index
 abbrev pub assigned_at : Addresses → Operand → ℕ → Operand → Operand → Destination → List Instruction

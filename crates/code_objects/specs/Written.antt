@@ -1,8 +1,9 @@
 -- What the values of the code stand for.
-use Rattle.std.specs.Prelude.{if◌then◌else◌, Option, Some, None, ℕ}
+use Rattle.std.specs.Prelude.{if◌then◌else◌, Bool, Option, Some, None, ℕ}
 use Rattle.zcore.specs.declared.instruction.Operand.{Operand}
 use Rattle.code_drafts.specs.Items as items
 use Rattle.code_instructions.specs.Instructions.{is_between}
+use Rattle.code_encoding.specs.Addresses.{has_one_word}
 use Rattle.code_encoding.specs.Instructions.{constant, word_in}
 use Rattle.code_encoding.specs.Written.{sizes_in}
 use Rattle.code_encoding.specs.declared.addresses.Sizes as counted
@@ -16,3 +17,7 @@ found_in n low end (items.variable x) = Some (word_in n (items.variable x))
 
 abbrev pub objects_in : counted.Sizes → ℕ
 objects_in s = objects_of (sizes_in s)
+
+-- the property of a number has one word wherever an object provides it
+abbrev pub single_in : counted.Sizes → ℕ → Bool
+single_in s q = has_one_word (sizes_in s) q

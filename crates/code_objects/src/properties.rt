@@ -8,13 +8,13 @@ ghost use Rattle.code_encoding.specs.Instructions as basic;
 ghost use Rattle.code_encoding.specs.Bytes.{AddsCode};
 ghost use Rattle.code_encoding.specs.Written.{addresses_of, instruction_of};
 ghost use Rattle.code_objects.specs.ObjectCode as spec;
-ghost use Rattle.code_objects.specs.Written.{objects_in};
+ghost use Rattle.code_objects.specs.Written.{objects_in, single_in};
 
 use crate::objects::{found, put_object};
 use code_drafts::Destination;
 use code_encoding::{
     ASIDE, Addresses, FIRST, FOURTH, Instruction, Operands, SECOND, Sizes, THIRD, branching,
-    fault_address, giving, plain, print_fault, push, put_all, quit, result_in, store,
+    fault_address, giving, has_one_word, plain, print_fault, push, put_all, quit, result_in, store,
     variable_number,
 };
 use code_instructions::{put_labelled, put_pulled, word_in};
@@ -77,20 +77,25 @@ pub fn put_provides(
     put_labelled(bytes, Operation::JumpIfZero, &operands, !when, offset)
 }
 
-/// The word of a property that has one, or its default.
+/// The word of a property that has one, or its default. It is not tested where it has one word
+/// wherever it is provided.
 fn put_value(
     bytes: &mut Vec<u8>,
     addresses: &Addresses<'_>,
+    single: bool,
     object: Operand,
     property: u8,
     destination: Destination,
 ) -> Result<(), AllocError>
     ensures { OnOk result (AddsCode bytes.old bytes.new
-        (spec.property_value (addresses_of addresses.now) object property
+        (spec.property_value (addresses_of addresses.now) single object property
         (basic.result_in (as_destination destination)))) }
 {
-    let variable = result_in(destination);
     let operands = Operands::Two(object, Operand::Small(property));
+    let read = giving(Operation::GetProperty, operands, result_in(destination));
+    if single {
+        return put_all(bytes, &[read]);
+    }
     put_all(
         bytes,
         &[
@@ -100,7 +105,7 @@ fn put_value(
             by_single(SECOND),
             print_fault(fault_address(addresses, Cause::PropertyOfManyWords)),
             quit(),
-            giving(Operation::GetProperty, operands, variable),
+            read,
         ],
     )
 }
@@ -115,12 +120,13 @@ pub fn put_property(
     destination: Destination,
 ) -> Result<(), AllocError>
     ensures { OnOk result (AddsCode bytes.old bytes.new
-        (spec.property_code (addresses_of addresses.now) (objects_in sizes.now) (as_operand operand)
-        property (as_destination destination))) }
+        (spec.property_code (addresses_of addresses.now) (objects_in sizes.now)
+        (single_in sizes.now property) (as_operand operand) property (as_destination destination))) }
 {
     put_object(bytes, addresses, sizes, operand)?;
     if let Some(object) = found(sizes, 0, operand) {
-        put_value(bytes, addresses, object, property, destination)?;
+        let single = has_one_word(sizes, property);
+        put_value(bytes, addresses, single, object, property, destination)?;
     }
     Ok(())
 }
@@ -169,11 +175,19 @@ fn put_provided(
     )
 }
 
-/// There is one word, or the text of the fault is printed, and the story ends.
-fn put_tested_single(bytes: &mut Vec<u8>, addresses: &Addresses<'_>) -> Result<(), AllocError>
+/// There is one word, or the text of the fault is printed, and the story ends. It is not tested
+/// where there is one wherever the property is provided.
+fn put_tested_single(
+    bytes: &mut Vec<u8>,
+    addresses: &Addresses<'_>,
+    single: bool,
+) -> Result<(), AllocError>
     ensures { OnOk result (AddsCode bytes.old bytes.new
-        (spec.tested_single (addresses_of addresses.now))) }
+        (spec.tested_single (addresses_of addresses.now) single)) }
 {
+    if single {
+        return put_all(bytes, &[]);
+    }
     put_all(
         bytes,
         &[
@@ -295,17 +309,18 @@ fn put_stored(
 fn put_assigned(
     bytes: &mut Vec<u8>,
     addresses: &Addresses<'_>,
+    single: bool,
     object: Operand,
     property: u8,
     word: Operand,
     destination: Destination,
 ) -> Result<(), AllocError>
     ensures { OnOk result (AddsCode bytes.old bytes.new
-        (spec.assigned_single (addresses_of addresses.now) object property word
+        (spec.assigned_single (addresses_of addresses.now) single object property word
         (as_destination destination))) }
 {
     put_provided(bytes, addresses, object, property)?;
-    put_tested_single(bytes, addresses)?;
+    put_tested_single(bytes, addresses, single)?;
     put_stored(bytes, Operand::Small(0), word, destination)
 }
 
@@ -319,15 +334,25 @@ pub fn put_assign_property(
     destination: Destination,
 ) -> Result<(), AllocError>
     ensures { OnOk result (AddsCode bytes.old bytes.new
-        (spec.assign_property_code (addresses_of addresses.now) (objects_in sizes.now) property
-        (as_operand words.0) (as_operand words.1) (as_destination destination))) }
+        (spec.assign_property_code (addresses_of addresses.now) (objects_in sizes.now)
+        (single_in sizes.now property) property (as_operand words.0) (as_operand words.1)
+        (as_destination destination))) }
 {
     let (operand, word) = words;
     put_pulled(bytes, 1, word)?;
     put_object(bytes, addresses, sizes, operand)?;
     if let Some(object) = found(sizes, 0, operand) {
         let word = word_in(1, word);
-        put_assigned(bytes, addresses, object, property, word, destination)?;
+        let single = has_one_word(sizes, property);
+        put_assigned(
+            bytes,
+            addresses,
+            single,
+            object,
+            property,
+            word,
+            destination,
+        )?;
     }
     Ok(())
 }

@@ -12,7 +12,7 @@ use Rattle.syntax_trees.specs.declared.tree.Width.TheVariants as widths
 use Rattle.meaning.specs.declared.cause.Cause.TheVariants as causes
 use Rattle.code_drafts.specs.Items.{Item, Destination}
 use Rattle.code_drafts.specs.Items as items
-use Rattle.code_encoding.specs.Addresses.{Addresses, Sizes}
+use Rattle.code_encoding.specs.Addresses.{Addresses, Sizes, has_one_word}
 use Rattle.code_encoding.specs.Instructions.{plain, giving, number_of, temporary, pull, copy, in_place, most_tested}
 use Rattle.code_encoding.specs.Instructions.{aside_variable, result_in}
 use Rattle.meaning.specs.Limits.{most_arguments}
@@ -133,10 +133,12 @@ item_code sizes a offset (items.assign_entry width n o q d) =
 item_code sizes a offset (items.assign_entry_aside width n o q d) =
     assign_entry_aside_code a width (slice_index sizes.arrays n % 65536) (slice_index a.arrays n) o q d
 item_code sizes a offset (items.relative r o d) = relative_code a (objects_of sizes) r o d
-item_code sizes a offset (items.property o q d) = property_code a (objects_of sizes) o (q % 256) d
+item_code sizes a offset (items.property o q d) =
+    property_code a (objects_of sizes) (has_one_word sizes (q % 256)) o (q % 256) d
 item_code sizes a offset (items.property_size o q d) = property_size_code a (objects_of sizes) o (q % 256) d
 item_code sizes a offset (items.property_word q o i d) = property_word_code a (objects_of sizes) (q % 256) o i d
-item_code sizes a offset (items.assign_property q o w d) = assign_property_code a (objects_of sizes) (q % 256) o w d
+item_code sizes a offset (items.assign_property q o w d) =
+    assign_property_code a (objects_of sizes) (has_one_word sizes (q % 256)) (q % 256) o w d
 item_code sizes a offset (items.assign_property_word q o i w d) =
     assign_property_word_code a (objects_of sizes) (q % 256) o i w d
 item_code sizes a offset (items.give o changes) = give_code a (objects_of sizes) o changes

@@ -8,6 +8,7 @@ ghost use Rattle.map_lines.specs.Rows.{address_at, AreOf, IsMapOf, IsMapOfSource
 use crate::cursor::Cursor;
 use crate::routine::put_routine;
 use checker::check;
+use code::program_sizes;
 use map_text::{Row, heading, put_rows, word_in};
 use meaning::Checked;
 use std::alloc::{AllocError, Global};
@@ -40,12 +41,21 @@ fn rows_of<'a>(
     ensures routines { IfOk result (λ v. AreOf (map title_of checked.now.routines) (map row_of v.items)) }
     ensures ascend { IfOk result (λ v. Ascend 0 (map row_of v.items)) }
 {
+    let sizes = program_sizes(checked);
     let mut rows = Vec::new(alloc);
     let mut cursor = Cursor { tokens, at: 0 };
     let mut at = place;
     for number in 0..checked.routines() {
         let address = aligned(version, at);
-        at = put_routine(alloc, &mut rows, checked, number, address, &mut cursor)?;
+        at = put_routine(
+            alloc,
+            &mut rows,
+            checked,
+            &sizes,
+            number,
+            address,
+            &mut cursor,
+        )?;
     }
     Ok(rows)
 }

@@ -42,18 +42,13 @@ fn marks_of<'a>(
 fn left_of_routine(
     alloc: Global,
     routine: &CheckedRoutine<'_>,
-    checked: &Checked<'_>,
+    sizes: &Sizes<'_>,
 ) -> Result<Vec<usize>, AllocError>
     ensures { IfOk result (λ v. (m n : ℕ) → m ≤ n
         → place_in (reverse v.items) m ≤ place_in (reverse v.items) n) }
 {
-    let sizes = Sizes {
-        arrays: checked.array_sizes(),
-        objects: checked.objects().len(),
-        abbreviations: checked.abbreviations(),
-    };
     let items = routine_items(alloc, routine)?;
-    left_of_items(alloc, &sizes, &items)
+    left_of_items(alloc, sizes, &items)
 }
 
 /// Where the rows of a routine begin: its name, and its first byte.
@@ -98,7 +93,8 @@ fn put_marks<'a>(
     Ok(())
 }
 
-/// Adds the rows of the routine of a number, which is at an address, and answers where it ends.
+/// Adds the rows of the routine of a number, which is at an address, in a program of these sizes,
+/// and answers where it ends.
 ///
 /// # Errors
 ///
@@ -107,6 +103,7 @@ pub fn put_routine<'a>(
     alloc: Global,
     rows: &mut Vec<Row<'a>>,
     checked: &Checked<'a>,
+    sizes: &Sizes<'_>,
     number: usize,
     address: usize,
     cursor: &mut Cursor<'_, 'a>,
@@ -121,7 +118,7 @@ pub fn put_routine<'a>(
     let beginning = Beginning { name, address };
     cursor.pass_to(name.position.offset);
     let marks = marks_of(alloc, routine, cursor)?;
-    let left = left_of_routine(alloc, routine, checked)?;
+    let left = left_of_routine(alloc, routine, sizes)?;
     rows.push(row_of(beginning, 0, name.position.line))?;
     put_marks(rows, beginning, &left, &marks)?;
     let length = place(&left, NO_ITEM).saturating_add(1);

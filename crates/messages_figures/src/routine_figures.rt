@@ -2,9 +2,11 @@
 
 ghost use Rattle.std.specs.Prelude.{◌≡◌, ◌+◌, ◌≤◌, ◌*◌, ◌^◌, ◌<◌, ◌∷◌, ◌++◌, IfOk, OnOk, Some, length, map, slice_get, take, drop};
 ghost use Rattle.std.specs.Option.{option_map};
+ghost use Rattle.meaning.specs.Views.{program_of};
+ghost use Rattle.code.specs.Written.{AreSizesOf};
 ghost use Rattle.messages_figures.specs.Figures as spec;
 
-use code::{CodeFault, routine_code};
+use code::{CodeFault, Sizes, program_sizes, routine_code};
 use meaning::Checked;
 use std::alloc::{AllocError, Global};
 use syntax_trees::Name;
@@ -34,16 +36,18 @@ pub struct Routines<'a> {
 }
 
 /// The figures of the routine of a number.
-fn figures_at<'a>(
+fn figures_at<'a, 'b>(
     alloc: Global,
-    checked: &Checked<'a>,
+    checked: &'b Checked<'a>,
+    sizes: &Sizes<'b>,
     routine: usize,
 ) -> Result<RoutineFigures<'a>, AllocError>
-    requires { routine < length checked.now.routines }
+    requires routine { routine < length checked.now.routines }
+    requires sizes { AreSizesOf sizes.now (program_of checked.now) }
     ensures { IfOk result (λ f. Some f
         ≡ option_map (spec.figures_in checked.now) (slice_get checked.now.routines routine)) }
 {
-    match routine_code(alloc, checked, routine) {
+    match routine_code(alloc, checked, sizes, routine) {
         Ok(code) => Ok(RoutineFigures {
             name: checked.routine(routine).name,
             weight: checked.routine(routine).weight,
@@ -95,11 +99,12 @@ pub fn routines_of<'a>(alloc: Global, checked: &Checked<'a>) -> Result<Routines<
     ensures heaviest { IfOk result (λ r. r.heaviest.items ≡ spec.heaviest_in checked.now) }
     ensures size { IfOk result (λ r. r.size ≡ spec.code_bytes_in checked.now) }
 {
+    let sizes = program_sizes(checked);
     let mut heaviest = Vec::new(alloc);
     let mut size = 0;
     let count = checked.routines();
     for behind in 0..count {
-        let figures = figures_at(alloc, checked, count - 1 - behind)?;
+        let figures = figures_at(alloc, checked, &sizes, count - 1 - behind)?;
         size = with_bytes(size, figures.size);
         place(&mut heaviest, figures)?;
     }

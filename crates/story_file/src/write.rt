@@ -8,6 +8,7 @@ ghost use Rattle.meaning.specs.Places.{places_of, routines_place};
 ghost use Rattle.meaning.specs.Views.{program_of};
 ghost use Rattle.code_encoding.specs.Written.{addresses_of};
 ghost use Rattle.code.specs.HeldProgram.{sizes_of};
+ghost use Rattle.code.specs.Written.{AreSizesOf};
 ghost use Rattle.story_file.specs.Layout as layout;
 ghost use Rattle.story_file.specs.Written.{bytes_in, code_of, codes_in, end_from, part_size};
 ghost use Rattle.story_file.specs.Written.{AnswersCodes, AnswersStory, FitsStory, FitsTables};
@@ -18,7 +19,7 @@ use crate::high::{add_text, put_routines, put_texts};
 use crate::packed::{
     add_text_sizes, array_addresses, code_sizes, end_after, packed_addresses, reach_end,
 };
-use code::{Addresses, Code, CodeFault, routine_code};
+use code::{Addresses, Code, CodeFault, Sizes, program_sizes, routine_code};
 use meaning::{Checked, Places, part_places};
 use std::alloc::{AllocError, Global};
 use zcore::Version;
@@ -76,13 +77,15 @@ fn addresses_in<'a>(packed: &'a [u16], routines: usize, arrays: &'a [u16]) -> Ad
 fn code_at<'a, 'b>(
     alloc: Global,
     checked: &'b Checked<'a>,
+    sizes: &Sizes<'b>,
     routine: usize,
 ) -> Result<Code<'a, 'b>, AllocError>
-    requires { routine < length checked.now.routines }
+    requires routine { routine < length checked.now.routines }
+    requires sizes { AreSizesOf sizes.now (program_of checked.now) }
     ensures { IfOk result (λ c. c ≡ code_of (sizes_of (program_of checked.now))
         (routine_at (program_of checked.now).routines routine)) }
 {
-    match routine_code(alloc, checked, routine) {
+    match routine_code(alloc, checked, sizes, routine) {
         Ok(code) => Ok(code),
         Err(CodeFault::Memory) => Err(AllocError),
     }
@@ -95,9 +98,10 @@ fn codes_of<'a, 'b>(
 ) -> Result<Vec<Code<'a, 'b>>, AllocError>
     ensures { IfOk result (λ v. v.items ≡ codes_in (program_of checked.now)) }
 {
+    let sizes = program_sizes(checked);
     let mut codes = Vec::new(alloc);
     for routine in 0..checked.routines() {
-        codes.push(code_at(alloc, checked, routine)?)?;
+        codes.push(code_at(alloc, checked, &sizes, routine)?)?;
     }
     Ok(codes)
 }
@@ -114,10 +118,11 @@ fn codes_within<'a, 'b>(
     requires placed { place ≤ greatest_word }
     ensures { IfOk result (AnswersCodes version (program_of checked.now)) }
 {
+    let sizes = program_sizes(checked);
     let mut codes = Vec::new(alloc);
     let mut at = place;
     for routine in 0..checked.routines() {
-        let code = code_at(alloc, checked, routine)?;
+        let code = code_at(alloc, checked, &sizes, routine)?;
         let Some(end) = end_after(version, at, code.length()) else {
             return Ok(None);
         };

@@ -10,7 +10,7 @@ use Rattle.code_drafts.specs.Items as items
 use Rattle.code_branch_forms.specs.Layout.{first, form_for, offset_over, part_size, lefts}
 use Rattle.code_encoding.specs.Instructions.{plain, in_place}
 use Rattle.meaning.specs.Limits.{most_arguments}
-use Rattle.code_encoding.specs.Addresses.{Sizes}
+use Rattle.code_encoding.specs.Addresses.{Sizes, has_one_word}
 use Rattle.code_encoding.specs.Bytes.{bytes_of_all}
 use Rattle.code_instructions.specs.Instructions.{binary_code, prefix_code, move_code, step_code, character_code}
 use Rattle.code_instructions.specs.Instructions.{call_code, return_code, aside_code, with_last_aside}
@@ -86,7 +86,12 @@ module _ (sizes : Sizes) where
   part_few (items.relative r o d) n rest =
       omega (arith, no_text (relative_code no_addresses count r o d), relative_few count r o d)
   part_few (items.property o q d) n rest =
-      omega (arith, no_text (property_code no_addresses count o (q % 256) d), property_few count o (q % 256) d)
+      let single = has_one_word sizes (q % 256) in
+      omega (
+        arith,
+        no_text (property_code no_addresses count single o (q % 256) d),
+        property_few count single o (q % 256) d,
+      )
   part_few (items.property_size o q d) n rest = omega (
     arith,
     no_text (property_size_code no_addresses count o (q % 256) d),
@@ -97,11 +102,13 @@ module _ (sizes : Sizes) where
     no_text (property_word_code no_addresses count (q % 256) o i d),
     property_word_few count (q % 256) o i d,
   )
-  part_few (items.assign_property q o w d) n rest = omega (
-    arith,
-    no_text (assign_property_code no_addresses count (q % 256) o w d),
-    assign_property_few count (q % 256) o w d,
-  )
+  part_few (items.assign_property q o w d) n rest =
+      let single = has_one_word sizes (q % 256) in
+      omega (
+        arith,
+        no_text (assign_property_code no_addresses count single (q % 256) o w d),
+        assign_property_few count single (q % 256) o w d,
+      )
   part_few (items.assign_property_word q o i w d) n rest = omega (
     arith,
     no_text (assign_property_word_code no_addresses count (q % 256) o i w d),

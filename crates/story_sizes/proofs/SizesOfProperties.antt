@@ -13,8 +13,8 @@ use Rattle.code_encoding.specs.Instructions.{plain, giving, fail, result_in, tem
 use Rattle.code_instructions.specs.Instructions.{labelled}
 use Rattle.code_encoding.specs.Bytes.{bytes_of_all}
 use Rattle.code_objects.specs.ObjectCode.{assigned_takes, assigned_word, passed_on, at_object, property_address}
-use Rattle.code_objects.specs.ObjectCode.{length_at, branching_zero, branching_single, provides_code, property_value}
-use Rattle.code_objects.specs.ObjectCode.{property_code, property_size_code, provided, tested_single, tested_word}
+use Rattle.code_objects.specs.ObjectCode.{length_at, branching_zero, branching_single, provides_code, read_property}
+use Rattle.code_objects.specs.ObjectCode.{property_value, property_code, property_size_code, provided, tested_single, tested_word}
 use Rattle.code_objects.specs.ObjectCode.{loaded_at, property_word_code, assigned_single, assign_property_code}
 use Rattle.code_objects.specs.ObjectCode.{assigned_at, assign_property_word_code}
 use Rattle.code.specs.Bytes.{no_addresses}
@@ -49,11 +49,14 @@ single_few : (text : ℕ) → length (bytes_of_all (branching_zero (temporary 1)
 unfolding bytes_of
 single_few text = omega arith
 
-value_few : (q v : ℕ) → FewAt (λ x. property_value no_addresses x q v) 26
-value_few q v x h =
+value_few : (single : Bool) (q v : ℕ) → FewAt (λ x. property_value no_addresses single x q v) 26
+value_few true q v x h =
+    let word = read_property x q v in
+    omega (arith, one_length word, giving_few operations.GetProperty x (Small q) v refl, h)
+value_few false q v x h =
     let text = fault_address no_addresses causes.PropertyOfManyWords in
     let address = property_address x q (temporary 1) in
-    let word = giving operations.GetProperty (x ∷ Small q ∷ []) v in
+    let word = read_property x q v in
     let tests = branching_zero (temporary 1) true 13
     ∷ length_at (temporary 1) (temporary 1)
     ∷ branching_single (temporary 1)
@@ -70,10 +73,11 @@ value_few q v x h =
       h,
     )
 
-pub property_few : (objects : ℕ) (o : items.Operand) (q : ℕ) (d : Destination)
-    → length (bytes_of_all (property_code no_addresses objects o q d)) ≤ 43
-property_few objects o q d = object_few objects o (λ x. property_value no_addresses x q (result_in d)) 26
-    (value_few q (result_in d))
+pub property_few : (objects : ℕ) (single : Bool) (o : items.Operand) (q : ℕ) (d : Destination)
+    → length (bytes_of_all (property_code no_addresses objects single o q d)) ≤ 43
+property_few objects single o q d =
+    object_few objects o (λ x. property_value no_addresses single x q (result_in d)) 26
+    (value_few single q (result_in d))
 
 length_few : (place v : ℕ) → length (bytes_of_all (length_at place v ∷ [])) ≤ 3
 unfolding bytes_of
@@ -109,9 +113,10 @@ provided_few q x h =
       place_few text,
     )
 
-tested_single_few : length (bytes_of_all (tested_single no_addresses)) ≤ 11
+tested_single_few : (single : Bool) → length (bytes_of_all (tested_single no_addresses single)) ≤ 11
 unfolding bytes_of
-tested_single_few = omega arith
+tested_single_few true = omega arith
+tested_single_few false = omega arith
 
 tested_word_few : (i : Operand) → length (bytes_of_all (tested_word no_addresses i)) ≤ 23
 unfolding bytes_of
@@ -161,28 +166,28 @@ written_few i word d h =
       h,
     )
 
-single_assigned_few : (q : ℕ) (word : Operand) (d : Destination) → length (operand_bytes word) ≤ 2
-    → FewAt (λ x. assigned_single no_addresses x q word d) 35
-single_assigned_few q word d k x h =
+single_assigned_few : (single : Bool) (q : ℕ) (word : Operand) (d : Destination) → length (operand_bytes word) ≤ 2
+    → FewAt (λ x. assigned_single no_addresses single x q word d) 35
+single_assigned_few single q word d k x h =
     let last = plain operations.StoreWord (Variable (temporary 2) ∷ Small 0 ∷ word ∷ []) ∷ passed_on d word in
     omega (
       arith,
-      all_length (provided no_addresses x q) (tested_single no_addresses ++ last),
-      all_length (tested_single no_addresses) last,
+      all_length (provided no_addresses x q) (tested_single no_addresses single ++ last),
+      all_length (tested_single no_addresses single) last,
       provided_few q x h,
-      tested_single_few,
+      tested_single_few single,
       written_few (Small 0) word d k,
     )
 
-pub assign_property_few : (objects q : ℕ) (o w : items.Operand) (d : Destination)
-    → length (bytes_of_all (assign_property_code no_addresses objects q o w d)) ≤ 55
-assign_property_few objects q o w d =
-    let act = λ (x : Operand). assigned_single no_addresses x q (assigned_word w) d in
+pub assign_property_few : (objects : ℕ) (single : Bool) (q : ℕ) (o w : items.Operand) (d : Destination)
+    → length (bytes_of_all (assign_property_code no_addresses objects single q o w d)) ≤ 55
+assign_property_few objects single q o w d =
+    let act = λ (x : Operand). assigned_single no_addresses single x q (assigned_word w) d in
     omega (
       arith,
       all_length (assigned_takes w) (at_object no_addresses objects o act),
       pulled_into_few 1 w,
-      object_few objects o act 35 (single_assigned_few q (assigned_word w) d (word_in_few 1 w)),
+      object_few objects o act 35 (single_assigned_few single q (assigned_word w) d (word_in_few 1 w)),
     )
 
 word_assigned_few : (q : ℕ) (i word : Operand) (d : Destination) → length (operand_bytes i) ≤ 2

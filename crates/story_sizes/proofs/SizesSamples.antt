@@ -35,7 +35,7 @@ use Rattle.code.specs.Sizes.{routine_size, routines_size}
 
 -- arrays of 10 bytes, of 600 and of 1,100, and 300 objects
 abbrev sizes : Sizes
-sizes = record { arrays = 10 ∷ 600 ∷ 1100 ∷ []; objects = 300; abbreviations = [] }
+sizes = record { arrays = 10 ∷ 600 ∷ 1100 ∷ []; objects = 300; abbreviations = []; singles = [] }
 
 abbrev x : Variable
 x = variables.Local 0
@@ -66,7 +66,7 @@ no_text_has = refl
 
 -- `print` and two words, where the first four characters are an abbreviation; else there are three
 abbrev shortening : List (List ℕ) → Sizes
-shortening abbreviations = record { arrays = []; objects = 0; abbreviations = abbreviations }
+shortening abbreviations = record { arrays = []; objects = 0; abbreviations = abbreviations; singles = [] }
 
 shorter_text_has : least_size (shortening (codes "the " ∷ [])) (items.print_text (codes "the end"))
     ∷ least_size (shortening []) (items.print_text (codes "the end")) ∷ []

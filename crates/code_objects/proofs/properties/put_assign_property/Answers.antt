@@ -1,4 +1,4 @@
-use Rattle.std.proofs.Common.{◌≡◌, ◌++◌, List, subst}
+use Rattle.std.proofs.Common.{◌≡◌, ◌++◌, Bool, List, subst}
 use Rattle.zcore.specs.declared.instruction.Operand.{Operand}
 use Rattle.zcore.specs.Instruction.{Instruction}
 use Rattle.code_drafts.specs.Code.{as_operand, as_destination}
@@ -6,7 +6,7 @@ use Rattle.code_encoding.specs.Instructions.{word_in}
 use Rattle.code_encoding.specs.Bytes.{bytes_of_all}
 use Rattle.code_encoding.specs.Written.{addresses_of}
 use Rattle.code_objects.specs.ObjectCode.{at_object, assigned_takes, assigned_single}
-use Rattle.code_objects.specs.Written.{objects_in}
+use Rattle.code_objects.specs.Written.{objects_in, single_in}
 use Rattle.code_encoding.proofs.Chains.{all_joined}
 use Rattle.code_objects.proofs.ObjectTests.{found_joined}
 use Rattle.code_objects.proofs.properties.put_assign_property.Goals as goal
@@ -19,12 +19,15 @@ returns-in_ok-put_assigned c =
     let q = c.args.property in
     let w = word_in 1 (as_operand c.args.words.1) in
     let d = as_destination c.args.destination in
-    let act : Operand → List Instruction = λ x. assigned_single a x q w d in
+    let single = single_in c.args.sizes.now q in
+    let act : Operand → List Instruction = λ x. assigned_single a single x q w d in
     let b1 = c.put_pulled.new.bytes.items in
     let b2 = c.put_object.new.bytes.items in
     let b3 = c.put_assigned.new.bytes.items in
     all_joined (assigned_takes (as_operand c.args.words.1)) (at_object a n o act) c.args.bytes.now.items b1 b3
     c.in_ok-put_pulled.ensures
     (found_joined a n o act b1 b2 b3 c.in-Some.object c.in_ok-put_object.ensures c.in-Some.ensures
-    (subst (λ (j : Operand). b3 ≡ b2 ++ bytes_of_all (assigned_single a c.in-Some.object q j d)) c.word_in-word.ensures
-    c.in_ok-put_assigned.ensures))
+    (subst (λ (j : Operand). b3 ≡ b2 ++ bytes_of_all (assigned_single a single c.in-Some.object q j d))
+    c.word_in-word.ensures
+    (subst (λ (s : Bool). b3 ≡ b2 ++ bytes_of_all (assigned_single a s c.in-Some.object q c.word_in-word.result d))
+    c.has_one_word-single.ensures c.in_ok-put_assigned.ensures)))
