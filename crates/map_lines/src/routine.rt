@@ -10,11 +10,9 @@ ghost use Rattle.map_lines.specs.Rows.{address_at, AddsMarks, AddsRoutine};
 use crate::cursor::Cursor;
 use crate::mark::Mark;
 use crate::passing::Passing;
-use crate::placing::left_of_items;
 use crate::statements::pass_statements;
-use code_encoding::Sizes;
+use code::{CodeFault, routine_code};
 use code_instructions::place;
-use code_items::routine_items;
 use map_text::Row;
 use meaning::{Checked, CheckedRoutine};
 use std::alloc::{AllocError, Global};
@@ -41,19 +39,17 @@ fn marks_of<'a>(
 /// How many bytes there are from each item of a routine on to the end, the end's first.
 fn left_of_routine(
     alloc: Global,
-    routine: &CheckedRoutine<'_>,
     checked: &Checked<'_>,
+    number: usize,
 ) -> Result<Vec<usize>, AllocError>
+    requires { number < length checked.now.routines }
     ensures { IfOk result (λ v. (m n : ℕ) → m ≤ n
         → place_in (reverse v.items) m ≤ place_in (reverse v.items) n) }
 {
-    let sizes = Sizes {
-        arrays: checked.array_sizes(),
-        objects: checked.objects().len(),
-        abbreviations: checked.abbreviations(),
-    };
-    let items = routine_items(alloc, routine)?;
-    left_of_items(alloc, &sizes, &items)
+    match routine_code(alloc, checked, number) {
+        Ok(code) => Ok(code.into_left()),
+        Err(CodeFault::Memory) => Err(AllocError),
+    }
 }
 
 /// Where the rows of a routine begin: its name, and its first byte.
@@ -121,7 +117,7 @@ pub fn put_routine<'a>(
     let beginning = Beginning { name, address };
     cursor.pass_to(name.position.offset);
     let marks = marks_of(alloc, routine, cursor)?;
-    let left = left_of_routine(alloc, routine, checked)?;
+    let left = left_of_routine(alloc, checked, number)?;
     rows.push(row_of(beginning, 0, name.position.line))?;
     put_marks(rows, beginning, &left, &marks)?;
     let length = place(&left, NO_ITEM).saturating_add(1);
