@@ -166,14 +166,20 @@ pub fn routine_code<'a, 'b>(
     Ok(code_of(alloc, source.locals, *sizes, items)?)
 }
 
+/// Gives back the memory of items that are not needed any more. A crate that drops items in a function of
+/// its own proves anew what becomes of each kind: hand them over here instead.
+pub fn discard(items: Vec<Item<'_>>) {
+    drop(items);
+}
+
 impl Code<'_, '_> {
-    ghost use Rattle.std.specs.Prelude.{◌≡◌, ◌+◌, ◌%◌, ◌∷◌, ◌++◌, map, OnOk, OnErr};
+    ghost use Rattle.std.specs.Prelude.{◌≡◌, ◌+◌, ◌%◌, ◌∷◌, ◌++◌, map, reverse, OnOk, OnErr};
     ghost use Rattle.std.specs.List.{All};
     ghost use Rattle.code_branch_forms.specs.Layout.{IsShortest};
     ghost use Rattle.code_branch_forms.specs.declared.layout.BranchUse.{BranchUse};
     ghost use Rattle.code_encoding.specs.Bytes.{Adds};
     ghost use Rattle.code_encoding.specs.Written.{addresses_of};
-    ghost use Rattle.code.specs.Bytes.{code_size, code_bytes, place_of};
+    ghost use Rattle.code.specs.Bytes.{code_size, code_bytes, lefts_of, place_of};
     ghost use Rattle.code.specs.Written.{branch_offsets};
 
     /// How many bytes `put` writes: one for the number of locals, and those of the items.
@@ -194,6 +200,14 @@ impl Code<'_, '_> {
         ensures shortest { All IsShortest result.now }
     {
         &self.branches
+    }
+
+    /// How many bytes there are from each item on to the end, the end's first. The memory of all else is
+    /// given back.
+    pub fn into_left(self) -> Vec<usize>
+        ensures { result.items ≡ reverse (lefts_of self.entry.sizes self.entry.items) }
+    {
+        self.left
     }
 
     /// Writes the routine behind what is written of a story: how many locals it has, and its code

@@ -13,8 +13,8 @@ use crate::output::{is_one_file, write_whole};
 use crate::refusals::{limit_of, refused, show};
 use crate::source::read_source;
 use crate::warnings::warn;
-use clap::{ArgMatches, Error};
-use inform_arguments::{Asked, Words, command, words_of};
+use clap::Error;
+use command_lines::inform::{Asked, Words, command, words_of};
 use messages_diagnosis::{Limit, diagnose};
 use messages_explanations::Program;
 use messages_figures::{Figures, measure};
@@ -41,15 +41,15 @@ fn main(rt: HostRuntime) -> ExitCode {
     let Ok(command) = command(alloc) else {
         return misused(&rt, "cannot read the command line");
     };
-    match command.try_get_matches_from(given.as_slice()) {
-        Ok(matches) => answer(&rt, &matches),
+    match words_of(command, given.as_slice()) {
+        Ok(asked) => answer(&rt, asked),
         Err(error) => unread(&rt, error),
     }
 }
 
 /// Does what the words of the command line ask for.
-fn answer(rt: &HostRuntime, matches: &ArgMatches<'_>) -> ExitCode {
-    match words_of(matches) {
+fn answer(rt: &HostRuntime, asked: Option<Asked<'_>>) -> ExitCode {
+    match asked {
         Some(Asked::Compile(words)) => build(rt, words),
         Some(Asked::Explain(name)) => explain(rt, name),
         Some(Asked::Sizes(source, version, large)) => show_sizes(

@@ -3,7 +3,7 @@
 use crate::misused;
 use crate::output::{is_one_file, write_whole};
 use crate::refusals::refused;
-use inform_arguments::Words;
+use command_lines::inform::Words;
 use map_lines::map_of;
 use one_line::OneLine;
 use std::process::ExitCode;

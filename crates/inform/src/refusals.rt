@@ -1,6 +1,6 @@
 //! Why and where a source is refused, on standard error.
 
-use inform_arguments::Words;
+use command_lines::inform::Words;
 use messages_diagnosis::{Diagnosis, Limit, Shown};
 use messages_further::further_rules;
 use messages_sentences::message_of;

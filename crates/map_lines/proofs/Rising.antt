@@ -1,8 +1,7 @@
 -- Rows whose addresses ascend.
 use Rattle.std.proofs.Common.{◌≡◌, ◌<◌, ◌≤◌, ◌+◌, ◌-◌, ◌%◌, ◌^◌, ℕ, min, List, [], ◌∷◌, ◌++◌, map}
 use Rattle.std.proofs.Common.{reverse, refl, sym, ap, ◌∙◌, subst, arith, append_assoc, append-nil, length-append}
-use Rattle.std.proofs.Common.{mod-lt, inl, inr, Result, Ok, Err, OkIff, IfOk}
-use Rattle.std.specs.Global.{Vec}
+use Rattle.std.proofs.Common.{mod-lt, inl, inr, Result, Ok, Err, OkIff}
 use Rattle.std.specs.Result.{result_unwrap_or}
 use Rattle.std.proofs.lemmas.Bool.{cases_lt}
 use Rattle.std.proofs.lemmas.List.{map-append, reverse-reverse}
@@ -35,18 +34,12 @@ rise_ascend a [] m up = tt
 rise_ascend a (r ∷ rs) m up = (up.0, rise_ascend r.address rs m up.1)
 
 -- places of items rise
-places_rise : (sizes : Sizes) (items : List Item) (left : List ℕ) → left ≡ reverse (lefts_of sizes items)
+pub places_rise : (sizes : Sizes) (items : List Item) (left : List ℕ) → left ≡ reverse (lefts_of sizes items)
     → (m n : ℕ) → m ≤ n → place_in (reverse left) m ≤ place_in (reverse left) n
 places_rise sizes items left is =
     let same : lefts_of sizes items ≡ reverse left =
     sym (ap (λ (xs : List ℕ). reverse xs) is ∙ reverse-reverse (lefts_of sizes items)) in
     subst (λ (lefts : List ℕ). (m n : ℕ) → m ≤ n → place_in lefts m ≤ place_in lefts n) same (rises sizes items)
-
-pub left_rise : {E : Type 0} (sizes : Sizes) (items : List Item) (r : Result (Vec ℕ) E)
-    → IfOk r (λ v. v.items ≡ reverse (lefts_of sizes items))
-    → IfOk r (λ v. (m n : ℕ) → m ≤ n → place_in (reverse v.items) m ≤ place_in (reverse v.items) n)
-left_rise sizes items (Ok v) is = places_rise sizes items v.items is
-left_rise sizes items (Err e) is = tt
 
 pub scale_few : (version : Version) (s : ℕ) → s ≡ scale_of version → (0 < s) × (s ≤ 8)
 scale_few V5 s is = (omega (arith, is), omega (arith, is))

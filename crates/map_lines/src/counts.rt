@@ -1,5 +1,6 @@
 //! How many items expressions have: these are written, as for the story, and counted.
 
+use code::discard;
 use code_drafts::{Draft, Operand, Wanted, written};
 use code_values::{put_operand, put_value};
 use meaning::Value;
@@ -9,14 +10,20 @@ use std::alloc::{AllocError, Global};
 pub fn value_count(alloc: Global, value: &Value, wanted: Wanted) -> Result<usize, AllocError> {
     let items = Vec::new(alloc);
     let mut draft = Draft { alloc, items };
-    put_value(&mut draft, value, wanted)?;
-    Ok(written(&draft))
+    let put = put_value(&mut draft, value, wanted);
+    let count = written(&draft);
+    discard(draft.items);
+    put?;
+    Ok(count)
 }
 
 /// How many items push an operand, if it is pushed.
 pub fn operand_count(alloc: Global, value: &Value, operand: Operand) -> Result<usize, AllocError> {
     let items = Vec::new(alloc);
     let mut draft = Draft { alloc, items };
-    put_operand(&mut draft, value, operand)?;
-    Ok(written(&draft))
+    let put = put_operand(&mut draft, value, operand);
+    let count = written(&draft);
+    discard(draft.items);
+    put?;
+    Ok(count)
 }

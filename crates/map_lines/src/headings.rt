@@ -3,29 +3,69 @@
 use crate::passing::Passing;
 use crate::tests_of_cases::test_count;
 use code_drafts::{Destination, Wanted, alone};
-use meaning::{Span, Value};
+use meaning::{Action, Span, Value};
 use std::alloc::AllocError;
 use syntax_lexer::Sign;
 
 /// How many items end a round of an `objectloop` over all objects, and go back.
-pub const NEXT_OBJECT_ITEMS: usize = 2;
+const NEXT_OBJECT_ITEMS: usize = 2;
 
 /// How many items give the variable of an `objectloop` a relative of an object.
 const RELATIVE_ITEMS: usize = 3;
 
 /// How many items end a round of an `objectloop` over children, and go back.
-pub const SIBLING_ITEMS: usize = RELATIVE_ITEMS + 1;
+const SIBLING_ITEMS: usize = RELATIVE_ITEMS + 1;
+
+/// Passes what is before the first statement in another: a word, and what is in parentheses after it.
+/// Its line.
+pub fn pass_opening(
+    passing: &mut Passing<'_, '_>,
+    statement: &Action<'_>,
+) -> Result<usize, AllocError> {
+    let line = passing.line();
+    passing.mark_line(line)?;
+    pass_opening_items(passing, statement)?;
+    passing.pass_heading();
+    Ok(line)
+}
+
+/// Passes the items of what is before the first statement in another.
+fn pass_opening_items(
+    passing: &mut Passing<'_, '_>,
+    statement: &Action<'_>,
+) -> Result<(), AllocError> {
+    match statement {
+        Action::If(test, _) => passing.pass_test(test, false),
+        Action::IfElse(test, _, _) => passing.pass_test(test, false),
+        Action::While(test, _) => passing.pass_test(test, false),
+        Action::For(before, test, _, _) => passing.pass_for(before, test),
+        Action::EachWhere(_, test, _) => passing.pass_each_where(test),
+        Action::EachIn(_, parent, _) => passing.pass_each_in(parent),
+        _ => {
+            passing.pass_items(1);
+            Ok(())
+        }
+    }
+}
+
+/// Passes what follows the statement in an `if` or a loop but `do`, whose line this is: the items that
+/// end a round, and go back.
+pub fn pass_closing(
+    passing: &mut Passing<'_, '_>,
+    statement: &Action<'_>,
+    line: usize,
+) -> Result<(), AllocError> {
+    match statement {
+        Action::While(_, _) => passing.pass_back(1, line),
+        Action::For(_, _, behind, _) => passing.pass_next_round(behind, line),
+        Action::EachObject(_, _) => passing.pass_back(NEXT_OBJECT_ITEMS, line),
+        Action::EachWhere(_, _, _) => passing.pass_back(NEXT_OBJECT_ITEMS, line),
+        Action::EachIn(_, _, _) => passing.pass_back(SIBLING_ITEMS, line),
+        _ => Ok(()),
+    }
+}
 
 impl Passing<'_, '_> {
-    /// Passes `if` or `while` with its condition. Its line.
-    pub fn pass_condition(&mut self, test: &Value) -> Result<usize, AllocError> {
-        let line = self.line();
-        self.mark_line(line)?;
-        self.pass_test(test, false)?;
-        self.pass_heading();
-        Ok(line)
-    }
-
     /// Passes `else`, and the jump over what follows it.
     pub fn pass_else(&mut self) -> Result<(), AllocError> {
         self.mark()?;
@@ -43,22 +83,18 @@ impl Passing<'_, '_> {
         Ok(())
     }
 
-    /// Passes `for` with what is done before the first round, and the test. Its line.
-    pub fn pass_for(
+    /// Passes the items of what a `for` does before the first round, and of its test.
+    fn pass_for(
         &mut self,
         before: &Option<Box<Value>>,
         test: &Option<Box<Value>>,
-    ) -> Result<usize, AllocError> {
-        let line = self.line();
-        self.mark_line(line)?;
+    ) -> Result<(), AllocError> {
         self.pass_once(before)?;
-        self.pass_test_if(test)?;
-        self.pass_heading();
-        Ok(line)
+        self.pass_test_if(test)
     }
 
     /// Passes what a `for` does after each round, and the way back. Both are of its line.
-    pub fn pass_next_round(
+    fn pass_next_round(
         &mut self,
         behind: &Option<Box<Value>>,
         line: usize,
@@ -69,37 +105,21 @@ impl Passing<'_, '_> {
         Ok(())
     }
 
-    /// Passes `objectloop` over all objects. Its line.
-    pub fn pass_each(&mut self) -> Result<usize, AllocError> {
-        let line = self.line();
-        self.mark_line(line)?;
+    /// Passes the items with which an `objectloop` over the objects begins for which a condition holds.
+    fn pass_each_where(&mut self, test: &Value) -> Result<(), AllocError> {
         self.pass_items(1);
-        self.pass_heading();
-        Ok(line)
+        self.pass_test(test, false)
     }
 
-    /// Passes `objectloop` over the objects for which a condition holds. Its line.
-    pub fn pass_each_where(&mut self, test: &Value) -> Result<usize, AllocError> {
-        let line = self.line();
-        self.mark_line(line)?;
-        self.pass_items(1);
-        self.pass_test(test, false)?;
-        self.pass_heading();
-        Ok(line)
-    }
-
-    /// Passes `objectloop` over the children of an object. Its line.
-    pub fn pass_each_in(&mut self, parent: &Value) -> Result<usize, AllocError> {
-        let line = self.line();
-        self.mark_line(line)?;
+    /// Passes the items with which an `objectloop` over the children of an object begins.
+    fn pass_each_in(&mut self, parent: &Value) -> Result<(), AllocError> {
         self.pass_operand(parent, alone(parent))?;
         self.pass_items(RELATIVE_ITEMS);
-        self.pass_heading();
-        Ok(line)
+        Ok(())
     }
 
     /// Passes the items that end a round of a loop, and go back. They are of the loop's line.
-    pub fn pass_back(&mut self, count: usize, line: usize) -> Result<(), AllocError> {
+    fn pass_back(&mut self, count: usize, line: usize) -> Result<(), AllocError> {
         self.mark_line(line)?;
         self.pass_items(count);
         Ok(())

@@ -6,7 +6,6 @@ mod cursor;
 mod headings;
 mod mark;
 mod passing;
-mod placing;
 mod program;
 mod routine;
 mod silence;

@@ -7,7 +7,7 @@ ghost use Rattle.map_lines.specs.Rows.{address_at, AreOf, IsMapOf, IsMapOfSource
 
 use crate::cursor::Cursor;
 use crate::routine::put_routine;
-use checker::check;
+use checker::{check, discard};
 use code::program_sizes;
 use map_text::{Row, heading, put_rows, word_in};
 use meaning::Checked;
@@ -93,6 +93,8 @@ pub fn map_of(
     let tokens = lex(alloc, source)?;
     let program = parse(alloc, &tokens)?;
     let checked = check(alloc, program)?;
-    let text = text_of_rows(alloc, &checked, &tokens, version, story)?;
+    let found = text_of_rows(alloc, &checked, &tokens, version, story);
+    discard(checked);
+    let text = found?;
     Ok(text)
 }

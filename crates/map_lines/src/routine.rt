@@ -2,7 +2,8 @@
 
 ghost use Rattle.std.specs.Prelude.{◌≡◌, ◌<◌, ◌≤◌, ◌+◌, ℕ, Some, length, map, reverse, slice_get, IfOk, OnOk};
 ghost use Rattle.meaning.specs.declared.checked.CheckedRoutine.{CheckedRoutine};
-ghost use Rattle.meaning.specs.Views.{title_of};
+ghost use Rattle.meaning.specs.Views.{program_of, title_of};
+ghost use Rattle.code.specs.Written.{AreSizesOf};
 ghost use Rattle.code_instructions.specs.Places.{place_in};
 ghost use Rattle.map_text.specs.Text as text;
 ghost use Rattle.map_lines.specs.Rows.{address_at, AddsMarks, AddsRoutine};
@@ -10,11 +11,9 @@ ghost use Rattle.map_lines.specs.Rows.{address_at, AddsMarks, AddsRoutine};
 use crate::cursor::Cursor;
 use crate::mark::Mark;
 use crate::passing::Passing;
-use crate::placing::left_of_items;
 use crate::statements::pass_statements;
-use code_encoding::Sizes;
+use code::{CodeFault, Sizes, routine_code};
 use code_instructions::place;
-use code_items::routine_items;
 use map_text::Row;
 use meaning::{Checked, CheckedRoutine};
 use std::alloc::{AllocError, Global};
@@ -39,16 +38,21 @@ fn marks_of<'a>(
 }
 
 /// How many bytes there are from each item of a routine on to the end, the end's first.
-fn left_of_routine(
+fn left_of_routine<'b>(
     alloc: Global,
-    routine: &CheckedRoutine<'_>,
-    sizes: &Sizes<'_>,
+    checked: &'b Checked<'_>,
+    sizes: &Sizes<'b>,
+    number: usize,
 ) -> Result<Vec<usize>, AllocError>
+    requires routine { number < length checked.now.routines }
+    requires sizes { AreSizesOf sizes.now (program_of checked.now) }
     ensures { IfOk result (λ v. (m n : ℕ) → m ≤ n
         → place_in (reverse v.items) m ≤ place_in (reverse v.items) n) }
 {
-    let items = routine_items(alloc, routine)?;
-    left_of_items(alloc, sizes, &items)
+    match routine_code(alloc, checked, sizes, number) {
+        Ok(code) => Ok(code.into_left()),
+        Err(CodeFault::Memory) => Err(AllocError),
+    }
 }
 
 /// Where the rows of a routine begin: its name, and its first byte.
@@ -99,16 +103,17 @@ fn put_marks<'a>(
 /// # Errors
 ///
 /// `AllocError` where memory is refused.
-pub fn put_routine<'a>(
+pub fn put_routine<'a, 'b>(
     alloc: Global,
     rows: &mut Vec<Row<'a>>,
-    checked: &Checked<'a>,
-    sizes: &Sizes<'_>,
+    checked: &'b Checked<'a>,
+    sizes: &Sizes<'b>,
     number: usize,
     address: usize,
     cursor: &mut Cursor<'_, 'a>,
 ) -> Result<usize, AllocError>
-    requires { number < length checked.now.routines }
+    requires routine { number < length checked.now.routines }
+    requires sizes { AreSizesOf sizes.now (program_of checked.now) }
     ensures { IfOk result (λ end. (r : CheckedRoutine) → Some r ≡ slice_get checked.now.routines number
         → AddsRoutine (title_of r) address (map text.row_of rows.old.items)
         (map text.row_of rows.new.items) end) }
@@ -118,7 +123,7 @@ pub fn put_routine<'a>(
     let beginning = Beginning { name, address };
     cursor.pass_to(name.position.offset);
     let marks = marks_of(alloc, routine, cursor)?;
-    let left = left_of_routine(alloc, routine, sizes)?;
+    let left = left_of_routine(alloc, checked, sizes, number)?;
     rows.push(row_of(beginning, 0, name.position.line))?;
     put_marks(rows, beginning, &left, &marks)?;
     let length = place(&left, NO_ITEM).saturating_add(1);

@@ -1,6 +1,6 @@
 //! The marks of statements.
 
-use crate::headings::{NEXT_OBJECT_ITEMS, SIBLING_ITEMS};
+use crate::headings::{pass_closing, pass_opening};
 use crate::passing::Passing;
 use crate::silence::is_other_silent;
 use crate::simple::pass_simple;
@@ -33,17 +33,29 @@ fn pass_statement<'a>(
             Ok(())
         }
         Action::Block(statements) => pass_block(passing, statements),
-        Action::If(test, then) => pass_if(passing, then, test),
-        Action::IfElse(test, then, otherwise) => pass_if_else(passing, then, otherwise, test),
-        Action::While(test, body) => pass_while(passing, body, test),
+        Action::If(_, then) => pass_outer(passing, then, statement),
+        Action::IfElse(_, then, otherwise) => pass_if_else(passing, then, otherwise, statement),
+        Action::While(_, body) => pass_outer(passing, body, statement),
         Action::Do(body, test) => pass_do(passing, body, test),
-        Action::For(before, test, behind, body) => pass_for(passing, body, before, test, behind),
+        Action::For(_, _, _, body) => pass_outer(passing, body, statement),
         Action::Switch(value, cases, other) => pass_switch(passing, cases, other, value),
-        Action::EachObject(_, body) => pass_each(passing, body),
-        Action::EachWhere(_, test, body) => pass_each_where(passing, body, test),
-        Action::EachIn(_, parent, body) => pass_each_in(passing, body, parent),
+        Action::EachObject(_, body) => pass_outer(passing, body, statement),
+        Action::EachWhere(_, _, body) => pass_outer(passing, body, statement),
+        Action::EachIn(_, _, body) => pass_outer(passing, body, statement),
         _ => pass_simple(passing, statement),
     }
+}
+
+/// Passes a statement with one other in it: an `if` without `else`, or a loop but `do`.
+#[cycle(statements)]
+fn pass_outer<'a>(
+    passing: &mut Passing<'_, 'a>,
+    inner: &Action<'a>,
+    statement: &Action<'a>,
+) -> Result<(), AllocError> {
+    let line = pass_opening(passing, statement)?;
+    pass_statement(passing, inner)?;
+    pass_closing(passing, statement, line)
 }
 
 /// Passes a block.
@@ -58,41 +70,18 @@ fn pass_block<'a>(
     Ok(())
 }
 
-/// Passes an `if` without `else`.
-#[cycle(statements)]
-fn pass_if<'a>(
-    passing: &mut Passing<'_, 'a>,
-    then: &Action<'a>,
-    test: &Value,
-) -> Result<(), AllocError> {
-    passing.pass_condition(test)?;
-    pass_statement(passing, then)
-}
-
 /// Passes an `if` with `else`. The jump over the second statement is of the line of the `else`.
 #[cycle(statements)]
 fn pass_if_else<'a>(
     passing: &mut Passing<'_, 'a>,
     then: &Action<'a>,
     otherwise: &Action<'a>,
-    test: &Value,
+    statement: &Action<'a>,
 ) -> Result<(), AllocError> {
-    passing.pass_condition(test)?;
+    pass_opening(passing, statement)?;
     pass_statement(passing, then)?;
     passing.pass_else()?;
     pass_statement(passing, otherwise)
-}
-
-/// Passes a `while`. The way back is of its line.
-#[cycle(statements)]
-fn pass_while<'a>(
-    passing: &mut Passing<'_, 'a>,
-    body: &Action<'a>,
-    test: &Value,
-) -> Result<(), AllocError> {
-    let line = passing.pass_condition(test)?;
-    pass_statement(passing, body)?;
-    passing.pass_back(1, line)
 }
 
 /// Passes a `do`. Its test is of the line of the `until`.
@@ -105,52 +94,6 @@ fn pass_do<'a>(
     passing.pass_token();
     pass_statement(passing, body)?;
     passing.pass_until(test)
-}
-
-/// Passes a `for`. What is done behind each round is of its line.
-#[cycle(statements)]
-fn pass_for<'a>(
-    passing: &mut Passing<'_, 'a>,
-    body: &Action<'a>,
-    before: &Option<Box<Value>>,
-    test: &Option<Box<Value>>,
-    behind: &Option<Box<Value>>,
-) -> Result<(), AllocError> {
-    let line = passing.pass_for(before, test)?;
-    pass_statement(passing, body)?;
-    passing.pass_next_round(behind, line)
-}
-
-/// Passes an `objectloop` over all objects. The way to the next object is of its line.
-#[cycle(statements)]
-fn pass_each<'a>(passing: &mut Passing<'_, 'a>, body: &Action<'a>) -> Result<(), AllocError> {
-    let line = passing.pass_each()?;
-    pass_statement(passing, body)?;
-    passing.pass_back(NEXT_OBJECT_ITEMS, line)
-}
-
-/// Passes an `objectloop` over the objects for which a condition holds.
-#[cycle(statements)]
-fn pass_each_where<'a>(
-    passing: &mut Passing<'_, 'a>,
-    body: &Action<'a>,
-    test: &Value,
-) -> Result<(), AllocError> {
-    let line = passing.pass_each_where(test)?;
-    pass_statement(passing, body)?;
-    passing.pass_back(NEXT_OBJECT_ITEMS, line)
-}
-
-/// Passes an `objectloop` over the children of an object.
-#[cycle(statements)]
-fn pass_each_in<'a>(
-    passing: &mut Passing<'_, 'a>,
-    body: &Action<'a>,
-    parent: &Value,
-) -> Result<(), AllocError> {
-    let line = passing.pass_each_in(parent)?;
-    pass_statement(passing, body)?;
-    passing.pass_back(SIBLING_ITEMS, line)
 }
 
 /// Passes a `switch`: its word is put aside, and its cases follow.

@@ -1,8 +1,8 @@
 //! What is in story files, without running them.
 
 use crate::{broken, refuse, story_in};
+use command_lines::play::{Format, place_of};
 use one_line::OneLine;
-use play_arguments::{Format, place_of};
 use session::{LoadFault, RunFault};
 use std::fmt::Display;
 use std::io;

@@ -8,16 +8,16 @@ mod reading;
 mod standing;
 mod terminal;
 
-ghost use Rattle.play_arguments.specs.Range.{IsInRange};
+ghost use Rattle.command_lines.specs.Range.{IsInRange};
 
 use crate::checking::{check, take_mode};
 use crate::place::{Placed, map_in, rows_in};
 use crate::reading::read_story;
 use crate::terminal::Transcript;
+use command_lines::play::{Asked, Words, take_format, words_of};
 use map_text::Row;
 use messages_explanations::Program;
 use one_line::OneLine;
-use play_arguments::{Asked, Words, take_format, words_of};
 use session::{Mode, Place, RunFault, Session, run, status};
 use std::fmt::Display;
 use std::fs::File;

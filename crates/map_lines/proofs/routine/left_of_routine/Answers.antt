@@ -1,8 +1,6 @@
-use Rattle.code_drafts.specs.Code.{items_of}
-use Rattle.code_encoding.specs.Written.{sizes_in}
-use Rattle.map_lines.proofs.Rising.{left_rise}
+use Rattle.map_lines.proofs.Rising.{places_rise}
 use Rattle.map_lines.proofs.routine.left_of_routine.Goals as goal
 
-pub returns : goal.returns
-returns c =
-    left_rise (sizes_in c.args.sizes.now) (items_of c.deref.result.now) c.left_of_items.result c.left_of_items.ensures
+pub returns-in-Ok : goal.returns-in-Ok
+returns-in-Ok c =
+    places_rise c.in-Ok.code.sizes c.in-Ok.code.items c.into_left.result.items c.into_left.ensures

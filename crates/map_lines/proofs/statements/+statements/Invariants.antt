@@ -7,10 +7,12 @@ decreases-pass_statement l = 8 * goal.size-pass_statement l
 abbrev pub decreases-pass_block : goal.decreases-pass_block
 decreases-pass_block l = 8 * goal.size-pass_block l + 2
 
-abbrev pub decreases-pass_if : goal.decreases-pass_if
-decreases-pass_if l = 8 * goal.size-pass_if l + 2
+-- the statement in the other is passed
+abbrev pub decreases-pass_outer : goal.decreases-pass_outer
+decreases-pass_outer l = 8 * (goal.size-pass_statement
+    (record { the-lifetimes = ([], ([], ([], ([], tt)))); passing = l.passing; statement = l.inner })) + 2
 
--- the measure that is offered goes by what the test guards alone
+-- both statements are passed
 abbrev pub decreases-pass_if_else : goal.decreases-pass_if_else
 decreases-pass_if_else l = 8 * max
     (goal.size-pass_statement
@@ -18,23 +20,8 @@ decreases-pass_if_else l = 8 * max
     (goal.size-pass_statement
     (record { the-lifetimes = ([], ([], ([], ([], tt)))); passing = l.passing; statement = l.otherwise })) + 2
 
-abbrev pub decreases-pass_while : goal.decreases-pass_while
-decreases-pass_while l = 8 * goal.size-pass_while l + 2
-
 abbrev pub decreases-pass_do : goal.decreases-pass_do
 decreases-pass_do l = 8 * goal.size-pass_do l + 2
-
-abbrev pub decreases-pass_for : goal.decreases-pass_for
-decreases-pass_for l = 8 * goal.size-pass_for l + 2
-
-abbrev pub decreases-pass_each : goal.decreases-pass_each
-decreases-pass_each l = 8 * goal.size-pass_each l + 2
-
-abbrev pub decreases-pass_each_where : goal.decreases-pass_each_where
-decreases-pass_each_where l = 8 * goal.size-pass_each_where l + 2
-
-abbrev pub decreases-pass_each_in : goal.decreases-pass_each_in
-decreases-pass_each_in l = 8 * goal.size-pass_each_in l + 2
 
 abbrev pub decreases-pass_statements : goal.decreases-pass_statements
 decreases-pass_statements l = 8 * goal.size-pass_statements l + 1

@@ -2,9 +2,9 @@ use Rattle.std.proofs.Common.{◌≤◌, sym, subst, ℕ, codes, arith}
 use Rattle.std.specs.Prelude.{Option, Some, None, IfSome}
 use Rattle.std.specs.Str.Parse.{ParsesUnsigned, ExplainsUnsignedError, HasUnsignedDigitsIfOk}
 use Rattle.clap.specs.Matches.{found_of}
-use Rattle.play_arguments.specs.Range.{least_fuel, most_fuel, most_undo}
-use Rattle.play_arguments.proofs.Optional.{number_read, number_or}
-use Rattle.play_arguments.proofs.words.words_in.Goals as goal
+use Rattle.command_lines.specs.Range.{least_fuel, most_fuel, most_undo}
+use Rattle.command_lines.proofs.Optional.{number_read, number_or}
+use Rattle.command_lines.proofs.play.words.words_in.Goals as goal
 
 at_most : (high : ℕ) (o : Option ℕ) → IfSome o (λ n. (0 ≤ n) × (n ≤ high)) → IfSome o (λ n. n ≤ high)
 at_most high None h = tt

@@ -12,7 +12,7 @@ use Rattle.clap.specs.declared.builder.value_parser.Reading.{Reading}
 use Rattle.clap.specs.declared.builder.value_parser.ValueParser.TheVariants.{Signed}
 use Rattle.clap.specs.declared.parser.matches.ArgMatches.{ArgMatches}
 use Rattle.clap.specs.declared.parser.matches.Found.{Found}
-use Rattle.play_arguments.specs.Range.{least_fuel, most_fuel, most_undo}
+use Rattle.command_lines.specs.Range.{least_fuel, most_fuel, most_undo}
 
 -- the argument has this name, excludes no other and is in no group
 abbrev pub IsPlainNamed : List ℕ → Arg → Type 0

@@ -1,5 +1,4 @@
-//! The command line of the compiler: its words, and what they ask for.
-#![tactic(auto)]
+//! The command line of the compiler.
 
 mod arguments;
 mod words;

@@ -14,7 +14,7 @@ use Rattle.clap.specs.Built.{NamesNoGroup, IsParsedFrom, IsAuto, AddsArg, AddsIn
 use Rattle.clap.specs.Built.{HasDistinctIds}
 use Rattle.clap.specs.Matches.{matched_of, one_text, found_of, ReadsOne}
 use Rattle.clap.specs.declared.parser.matches.Found.{Found}
-use Rattle.play_arguments.specs.Arguments.{MayRead}
+use Rattle.command_lines.specs.Arguments.{MayRead}
 use Rattle.clap.specs.Values.{Accepts, read_as, reading_of}
 use Rattle.clap.specs.declared.builder.value_parser.Reading.{Reading}
 use Rattle.clap.proofs.CallerReads.{signed_reads}

@@ -8,10 +8,10 @@ use Rattle.clap.specs.Values.{Accepts, reading_of}
 use Rattle.clap.specs.declared.builder.arg.Arg.{Arg}
 use Rattle.clap.specs.declared.builder.command.Command.{Command}
 use Rattle.clap.specs.declared.builder.value_parser.ValueParser.TheVariants.{Signed}
-use Rattle.play_arguments.specs.Arguments.{AreArguments, AreNamed, HasNoArgument, MayRead, ReadsNumber, TakesNumber, names}
-use Rattle.play_arguments.specs.Range.{least_fuel, most_fuel, most_undo}
-use Rattle.play_arguments.proofs.Chains.{all_distinct, all_join}
-use Rattle.play_arguments.proofs.Optional.{optional_in_chain}
+use Rattle.command_lines.specs.Arguments.{AreArguments, AreNamed, HasNoArgument, MayRead, ReadsNumber, TakesNumber, names}
+use Rattle.command_lines.specs.Range.{least_fuel, most_fuel, most_undo}
+use Rattle.command_lines.proofs.Chains.{all_distinct, all_join}
+use Rattle.command_lines.proofs.Optional.{optional_in_chain}
 
 number_at : (k : ℕ) (d : Arg) (name : List ℕ) (low high : ℕ) (start cmd : Command) (given : List Arg)
     → AddsInTurn AddsArg start given cmd → HasNoArgument start → AreNamed names given → k < length given

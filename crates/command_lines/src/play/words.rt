@@ -1,11 +1,11 @@
-//! The words of the command line.
+//! What the words of the player's command line ask for.
 
 ghost use Rattle.std.specs.Prelude.{IfOk, codes};
 ghost use Rattle.clap.specs.Matches.{found_of};
-ghost use Rattle.play_arguments.specs.Range.{IsAskedInRange, IsInRange, least_fuel, most_fuel, most_undo};
-ghost use Rattle.play_arguments.specs.Arguments.{MayReadNumber};
+ghost use Rattle.command_lines.specs.Range.{IsAskedInRange, IsInRange, least_fuel, most_fuel, most_undo};
+ghost use Rattle.command_lines.specs.Arguments.{MayReadNumber};
 
-use crate::arguments::command;
+use crate::play::arguments::command;
 use clap::{ArgMatches, Error};
 use std::alloc::{AllocError, Global};
 
@@ -64,12 +64,25 @@ pub fn words_of<'a>(alloc: Global, given: &'a [String]) -> Result<Asked<'a>, Err
     ensures { IfOk result IsAskedInRange }
 {
     let matches = command(alloc)?.try_get_matches_from(given)?;
+    asked_in(alloc, &matches)
+}
+
+/// What a command line asks for.
+///
+/// # Errors
+///
+/// That memory was refused.
+fn asked_in<'a>(alloc: Global, matches: &ArgMatches<'a>) -> Result<Asked<'a>, Error>
+    requires fuel { MayReadNumber (codes "fuel") least_fuel most_fuel (found_of matches.now) }
+    requires undo { MayReadNumber (codes "undo") 0 most_undo (found_of matches.now) }
+    ensures { IfOk result IsAskedInRange }
+{
     if matches.contains_id("explain") {
         return Ok(Asked::Explain(matches.get_str("explain")));
     }
-    match files_in(alloc, &matches)? {
+    match files_in(alloc, matches)? {
         Some(files) => Ok(Asked::Check(files)),
-        None => Ok(Asked::Play(words_in(&matches))),
+        None => Ok(Asked::Play(words_in(matches))),
     }
 }
 

@@ -1,5 +1,4 @@
-//! The command line of the player: its words, and what they ask for.
-#![tactic(auto)]
+//! The command line of the player.
 
 mod arguments;
 mod taking;

@@ -6,8 +6,8 @@ use Rattle.std.specs.Str.{bytes_eq}
 use Rattle.std.proofs.lemmas.Slice.Eq.{bytes_eq-Decides}
 use Rattle.clap.specs.Built.{HasDistinctIds}
 use Rattle.clap.specs.declared.builder.arg.Arg.{Arg}
-use Rattle.play_arguments.specs.Arguments.{AreNamed, IsNamed}
-use Rattle.play_arguments.proofs.Optional.{Joins}
+use Rattle.command_lines.specs.Arguments.{AreNamed, IsNamed}
+use Rattle.command_lines.proofs.Optional.{Joins}
 
 -- a name that is not empty, and that `clap` gives no argument of its own
 abbrev pub is_free : List ℕ → Bool

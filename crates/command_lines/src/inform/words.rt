@@ -1,6 +1,6 @@
-//! What the words of the command line ask for.
+//! What the words of the compiler's command line ask for.
 
-use clap::ArgMatches;
+use clap::{ArgMatches, Command, Error};
 use zcore::Version;
 
 /// What the command line asks for.
@@ -42,9 +42,19 @@ pub struct Words<'a> {
     pub warn: bool,
 }
 
-/// What the words of a command line that passed `command` ask for; `None` if they name a version
-/// other than 5 and 8.
-pub fn words_of<'a>(matches: &ArgMatches<'a>) -> Option<Asked<'a>> {
+/// Reads the words of a command line; `None` if they name a version other than 5 and 8.
+///
+/// # Errors
+///
+/// What `clap` says of words that it refuses, and of those that ask for help or for the version; or
+/// that memory was refused.
+pub fn words_of<'a>(command: Command<'a>, given: &'a [String]) -> Result<Option<Asked<'a>>, Error> {
+    let matches = command.try_get_matches_from(given)?;
+    Ok(asked_in(&matches))
+}
+
+/// What a command line asks for; `None` if it names a version other than 5 and 8.
+fn asked_in<'a>(matches: &ArgMatches<'a>) -> Option<Asked<'a>> {
     if matches.contains_id("explain") {
         return Some(Asked::Explain(matches.get_str("explain")));
     }

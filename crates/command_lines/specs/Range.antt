@@ -1,8 +1,8 @@
 -- The ranges of the command line's numbers.
 use Rattle.std.specs.Prelude.{ℕ, ◌≤◌, IfSome, ⊤}
-use Rattle.play_arguments.specs.declared.words.Asked.{Asked}
-use Rattle.play_arguments.specs.declared.words.Asked.TheVariants.{Explain, Play, Check}
-use Rattle.play_arguments.specs.declared.words.Words.{Words}
+use Rattle.command_lines.specs.declared.play.words.Asked.{Asked}
+use Rattle.command_lines.specs.declared.play.words.Asked.TheVariants.{Explain, Play, Check}
+use Rattle.command_lines.specs.declared.play.words.Words.{Words}
 
 -- the units of fuel that a turn may spend, at least and at most
 abbrev pub least_fuel : ℕ
