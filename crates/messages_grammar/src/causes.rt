@@ -10,7 +10,7 @@ use messages_advice::{advice_at, late_advice_at};
 use messages_contexts::{
     Definition, around, before, begins_line, behind, definition_of, divides_at, ends_within,
     is_after_word, is_behind_has, is_sign, is_text, is_unknown, is_word, kind_at, last_open,
-    last_word, open_parenthesis, owns_parentheses, switch_around,
+    last_word, open_parenthesis, owns_parentheses, start_of, switch_around,
 };
 use messages_definitions::Advice;
 use messages_expected::Grouped;
@@ -354,14 +354,19 @@ fn open_at_end(tokens: &[Token<'_>], number: usize) -> Option<Missing> {
     }
 }
 
-/// Whether a `;` may be missing before the token of a number, which begins a line: a reserved word
-/// would fit after it, or what any other token begins.
+/// Whether the token of a number is a reserved word in the head of a routine, where only names are.
+fn is_word_in_head(tokens: &[Token<'_>], number: usize) -> bool {
+    is_reserved(tokens, number) && is_sign(tokens, start_of(tokens, number), Sign::OpenBracket)
+}
+
+/// Whether a `;` may be missing before the token of a number, which begins a line or is a reserved
+/// word in the head of a routine: a reserved word would fit after it, or what any other token begins.
 fn lacks_semicolon(
     alloc: Global,
     tokens: &mut Vec<Token<'_>>,
     number: usize,
 ) -> Result<bool, AllocError> {
-    if !begins_line(tokens, number) {
+    if !begins_line(tokens, number) && !is_word_in_head(tokens, number) {
         return Ok(false);
     }
     if is_reserved(tokens, number) {
