@@ -17,15 +17,32 @@ use zcore::layout::ATTRIBUTE_COUNT;
 /// The bytes of the longest name.
 const LONGEST_NAME: usize = 32;
 
-/// A figure.
+/// A figure: what it is, and the limit, where one is named.
 #[derive(Clone, Copy)]
-struct Line(&'static str, u128);
+struct Line(&'static str, u128, Option<u128>);
 
 impl Display for Line {
     fn fmt<W: fmt::Write>(&self, f: &mut Formatter<W>) -> fmt::Result {
         let what = self.0;
         let figure = self.1;
-        write!(f, "{what:<42}{figure:>11}")
+        write!(f, "{what:<42}{figure:>11}")?;
+        match self.2 {
+            Some(most) => write!(f, " of {most}"),
+            None => Ok(()),
+        }
+    }
+}
+
+/// Figures, each on a line.
+#[derive(Clone, Copy)]
+struct Lines<'a>(&'a [Line]);
+
+impl Display for Lines<'_> {
+    fn fmt<W: fmt::Write>(&self, f: &mut Formatter<W>) -> fmt::Result {
+        for line in self.0 {
+            writeln!(f, "{line}")?;
+        }
+        Ok(())
     }
 }
 
@@ -59,30 +76,40 @@ impl Display for RoutineFigures<'_> {
 
 impl Display for Counts {
     fn fmt<W: fmt::Write>(&self, f: &mut Formatter<W>) -> fmt::Result {
-        let globals = Line("globals", self.globals as u128);
-        writeln!(f, "{globals} of {MOST_GLOBALS}")?;
-        let attributes = Line("attributes", self.attributes as u128);
-        writeln!(f, "{attributes} of {ATTRIBUTE_COUNT}")?;
-        let properties = Line("properties beside name", self.properties as u128);
-        writeln!(f, "{properties} of {MOST_PROPERTIES}")?;
-        let objects = Line("objects", self.objects as u128);
-        writeln!(f, "{objects} of {MOST_OBJECTS}")?;
-        let words = Line("keys of dictionary words", self.words as u128);
-        writeln!(f, "{words}")?;
-        let abbreviations = Line("abbreviations", self.abbreviations as u128);
-        writeln!(f, "{abbreviations} of {MOST_ABBREVIATIONS}")?;
-        let routines = Line("routines", self.routines as u128);
-        writeln!(f, "{routines}")
+        let lines = [
+            Line("globals", self.globals as u128, Some(MOST_GLOBALS as u128)),
+            Line(
+                "attributes",
+                self.attributes as u128,
+                Some(ATTRIBUTE_COUNT as u128),
+            ),
+            Line(
+                "properties beside name",
+                self.properties as u128,
+                Some(MOST_PROPERTIES as u128),
+            ),
+            Line("objects", self.objects as u128, Some(MOST_OBJECTS as u128)),
+            Line("keys of dictionary words", self.words as u128, None),
+            Line(
+                "abbreviations",
+                self.abbreviations as u128,
+                Some(MOST_ABBREVIATIONS as u128),
+            ),
+            Line("routines", self.routines as u128, None),
+        ];
+        write!(f, "{}", Lines(&lines))
     }
 }
 
 impl Display for TableBytes {
     fn fmt<W: fmt::Write>(&self, f: &mut Formatter<W>) -> fmt::Result {
-        let arrays = Line("bytes of arrays", self.arrays as u128);
-        let objects = Line("bytes of objects", self.objects);
-        let words = Line("bytes of dictionary words", self.words);
-        let abbreviations = Line("bytes of abbreviations", self.abbreviations);
-        writeln!(f, "{arrays}\n{objects}\n{words}\n{abbreviations}")
+        let lines = [
+            Line("bytes of arrays", self.arrays as u128, None),
+            Line("bytes of objects", self.objects, None),
+            Line("bytes of dictionary words", self.words, None),
+            Line("bytes of abbreviations", self.abbreviations, None),
+        ];
+        write!(f, "{}", Lines(&lines))
     }
 }
 
@@ -92,16 +119,15 @@ struct Greatest(Option<Temporaries>);
 
 impl Display for Greatest {
     fn fmt<W: fmt::Write>(&self, f: &mut Formatter<W>) -> fmt::Result {
+        let number = match self.0 {
+            Some(greatest) => greatest.number as u128,
+            None => 0,
+        };
+        let most = Some(MOST_TEMPORARIES as u128);
+        write!(f, "{}", Line("temporaries of an expression", number, most))?;
         match self.0 {
-            None => {
-                let none = Line("temporaries of an expression", 0);
-                writeln!(f, "{none} of {MOST_TEMPORARIES}")
-            }
-            Some(greatest) => {
-                let number = Line("temporaries of an expression", greatest.number as u128);
-                let line = greatest.position.line;
-                writeln!(f, "{number} of {MOST_TEMPORARIES}, line {line}")
-            }
+            Some(greatest) => writeln!(f, ", line {}", greatest.position.line),
+            None => writeln!(f),
         }
     }
 }
@@ -118,30 +144,45 @@ impl Figures<'_> {
 
 impl Display for Figures<'_> {
     fn fmt<W: fmt::Write>(&self, f: &mut Formatter<W>) -> fmt::Result {
-        let weight = Line("weight of the source", self.weight);
-        match self.limit {
-            Limit::Weight => writeln!(f, "{weight} of {}", greatest_weight(self.version))?,
-            Limit::Length => writeln!(f, "{weight}")?,
-        }
+        let (most_weight, most_length) = match self.limit {
+            Limit::Weight => (Some(greatest_weight(self.version)), None),
+            Limit::Length => (None, Some(greatest_length(self.version) as u128)),
+        };
+        writeln!(
+            f,
+            "{}",
+            Line("weight of the source", self.weight, most_weight)
+        )?;
         for routine in &self.heaviest {
             write!(f, "{routine}")?;
         }
         let temporaries = Greatest(self.temporaries);
         write!(f, "{}{temporaries}{}", self.counts, self.tables)?;
-        let tables = Line("bytes of these four", self.table_total);
-        writeln!(f, "{tables} of {MOST_TABLE_BYTES}")?;
-        let fixed = Line("bytes of header and tables of one length", FIXED_LENGTH);
-        let code = Line("bytes of routines", self.code);
-        writeln!(f, "{fixed}\n{code}")?;
-        if let Ok(story) = self.story {
-            let rest = Line("bytes of texts of faults, and of filling", self.rest(story));
-            let story = Line("bytes of the story file", story as u128);
-            write!(f, "{rest}\n{story}")?;
-            match self.limit {
-                Limit::Weight => writeln!(f)?,
-                Limit::Length => writeln!(f, " of {}", greatest_length(self.version))?,
-            }
-        }
-        Ok(())
+        let lines = [
+            Line(
+                "bytes of these four",
+                self.table_total,
+                Some(MOST_TABLE_BYTES),
+            ),
+            Line(
+                "bytes of header and tables of one length",
+                FIXED_LENGTH,
+                None,
+            ),
+            Line("bytes of routines", self.code, None),
+        ];
+        write!(f, "{}", Lines(&lines))?;
+        let Ok(story) = self.story else {
+            return Ok(());
+        };
+        let lines = [
+            Line(
+                "bytes of texts of faults, and of filling",
+                self.rest(story),
+                None,
+            ),
+            Line("bytes of the story file", story as u128, most_length),
+        ];
+        write!(f, "{}", Lines(&lines))
     }
 }

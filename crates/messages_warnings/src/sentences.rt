@@ -43,23 +43,29 @@ fn why_left(tokens: &[Token<'_>], at: usize) -> &'static str {
     }
 }
 
+/// What is said before and after the name of which a warning is, if it needs nothing else.
+fn around_name(concern: Concern) -> Option<(&'static str, &'static str)> {
+    match concern {
+        Concern::UnusedGlobal => Some(("the global ", " is never used")),
+        Concern::UnusedRoutine => Some(("the routine ", " is never called")),
+        Concern::UnusedProperty => Some(("the property ", " is never used")),
+        Concern::Unset => Some(("", " is read here before anything sets it: it is 0")),
+        _ => None,
+    }
+}
+
 impl Display for Sentence<'_, '_> {
     fn fmt<W: fmt::Write>(&self, f: &mut Formatter<W>) -> fmt::Result {
         let at = self.warning.at;
         let name = Quoted(text_at(self.tokens, at));
+        if let Some((front, rest)) = around_name(self.warning.concern) {
+            return write!(f, "{front}{name}{rest}");
+        }
         match self.warning.concern {
-            Concern::Assigns => match name_set(self.tokens, at) {
-                Some(set) => write!(f, "'=' sets {} here; '==' compares", Quoted(set)),
-                None => f.write_str("'=' assigns here; '==' compares"),
-            },
             Concern::UnusedLocal(routine) => {
                 let routine = Quoted(text_at(self.tokens, routine));
                 write!(f, "the local {name} of {routine} is never used")
             }
-            Concern::UnusedGlobal => write!(f, "the global {name} is never used"),
-            Concern::UnusedRoutine => write!(f, "the routine {name} is never called"),
-            Concern::UnusedProperty => write!(f, "the property {name} is never used"),
-            Concern::Unset => write!(f, "{name} is read here before anything sets it: it is 0"),
             Concern::Unreached(before) => {
                 let line = line_of(self.tokens, before);
                 let why = why_left(self.tokens, before);
@@ -72,6 +78,10 @@ impl Display for Sentence<'_, '_> {
                     "'{letter}' is a character; the dictionary word is '{letter}//'"
                 )
             }
+            _ => match name_set(self.tokens, at) {
+                Some(set) => write!(f, "'=' sets {} here; '==' compares", Quoted(set)),
+                None => f.write_str("'=' assigns here; '==' compares"),
+            },
         }
     }
 }
