@@ -99,8 +99,7 @@ impl Shown {
         }
     }
 
-    /// Adds the first byte or the part that is repeated at the front of the bytes, and lends what
-    /// stands behind it.
+    /// Adds the byte or the repeated part at the front of the bytes, and lends what is after it.
     fn front<'a>(&mut self, bytes: &'a [u8]) -> &'a [u8] {
         for size in 1..=LONGEST_PART {
             let count = repetitions(bytes, size);
@@ -127,7 +126,10 @@ impl Shown {
         self.display(&count);
         self.bytes(b"{");
         for byte in bytes.iter().take(size) {
-            self.byte(*byte);
+            match byte {
+                b'}' => self.text("\\x7D"),
+                _ => self.byte(*byte),
+            }
         }
         self.bytes(b"}");
     }
@@ -150,11 +152,7 @@ impl Shown {
         self.bytes.is_empty()
     }
 
-    /// The bytes.
-    ///
-    /// # Errors
-    ///
-    /// [`RowError::Memory`] where memory was refused to any of them.
+    /// The bytes, where memory was refused to none of them.
     pub fn taken(&self) -> Result<&[u8], RowError> {
         if self.is_refused {
             return Err(RowError::Memory);

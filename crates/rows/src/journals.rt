@@ -2,8 +2,10 @@
 
 ghost use Rattle.std.specs.Prelude.{◌≡◌, ◌≤◌, ℕ, List, [], length, nat_lt, if◌then◌else◌};
 
-use crate::names::{Cells, PAGE, Recorded, WORD_PAGES, swap_back, swap_forward};
-use rows::{RowError, Shown, number_in, written_bytes};
+use crate::names::{
+    Cells, PAGE, Recorded, RowError, Shown, WORD_PAGES, number_in, swap_back, swap_forward,
+    written_bytes,
+};
 use std::alloc::{AllocError, Global};
 use std::marker::Model;
 
