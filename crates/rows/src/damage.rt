@@ -14,10 +14,8 @@ const BROKEN: u8 = 5;
 /// How a story is changed.
 #[derive(Clone, Copy)]
 struct Change {
-    /// Where its byte stands.
+    /// Where its byte is, and what it becomes.
     place: usize,
-
-    /// What the byte becomes.
     value: u8,
 
     /// Whether the sum is mended.

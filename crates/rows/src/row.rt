@@ -1,7 +1,7 @@
 //! One row.
 
 use crate::damage::put_damaged;
-use crate::journals::{Words, put_abandoned, put_closed, recorded, write};
+use crate::journals::{Words, act_on, recorded};
 use crate::names::{Recorded, RowError, Session, Setting, Shown, number_in};
 use crate::sessions::{open, put_cells, put_redo, put_reply, put_run, put_undo};
 use crate::sources::put_compiled;
@@ -50,7 +50,9 @@ impl Row {
         match word {
             "#" => Ok(()),
             "--" => {
-                self.entitle(text);
+                self.shown.text("-- ");
+                self.shown.text(text);
+                self.shown.text("\n");
                 Ok(())
             }
             "put" => put_text_at(&mut self.story, self.setting.alloc, text),
@@ -61,21 +63,16 @@ impl Row {
             "mend" => mend(&mut self.story),
             "define" => self.define(definitions, text),
             _ if self.setting.takes(word, text)? => Ok(()),
-            _ => match definitions.iter().find(|known| known.name.as_str() == word) {
-                Some(definition) => self.begin(definition, text),
-                None => {
-                    self.has_outcome = true;
-                    self.act(word, text)
+            _ => {
+                for definition in definitions.iter() {
+                    if definition.name.as_str() == word {
+                        return self.begin(definition, text);
+                    }
                 }
-            },
+                self.has_outcome = true;
+                self.act(word, text)
+            }
         }
-    }
-
-    /// Shows the title.
-    fn entitle(&mut self, text: &str) {
-        self.shown.text("-- ");
-        self.shown.text(text);
-        self.shown.text("\n");
     }
 
     /// Gives the story a name, with the place where rows put their bytes.
@@ -110,30 +107,22 @@ impl Row {
             "memory" => put_memory(shown, &self.setting, &self.story, text),
             "record" => put_record(shown, &self.setting, &self.story, text),
             "damage" => put_damaged(shown, &self.setting, &self.story),
-            "words" => self.begin_words(text),
+            "words" => {
+                self.words = Some(recorded(alloc, text)?);
+                Ok(())
+            }
             "write" | "close" | "abandon" => self.act_on_words(word, text),
             "reply" | "undo" | "redo" | "cells" => self.act_on_session(word, text),
             _ => Err(RowError::Word),
         }
     }
 
-    /// Begins with the cells that a text writes.
-    fn begin_words(&mut self, text: &str) -> Result<(), RowError> {
-        self.words = Some(recorded(self.setting.alloc, text)?);
-        Ok(())
-    }
-
     /// Writes to the cells, or ends the turn.
     fn act_on_words(&mut self, word: &str, text: &str) -> Result<(), RowError> {
-        let Some(turn) = &mut self.words else {
-            return Err(RowError::Word);
-        };
-        match word {
-            "write" => return write(turn, text),
-            "close" => put_closed(&mut self.shown, turn),
-            _ => put_abandoned(&mut self.shown, turn),
+        match &mut self.words {
+            Some(turn) => act_on(turn, &mut self.shown, word, text),
+            None => Err(RowError::Word),
         }
-        Ok(())
     }
 
     /// Calls the session, which is opened by the first call.
@@ -155,7 +144,8 @@ impl Row {
 
     /// Opens the session.
     fn open(&mut self) -> Result<(), RowError> {
-        match open(&self.setting, self.story.to_vec(self.setting.alloc)?) {
+        let story = self.story.as_slice().to_vec(self.setting.alloc)?;
+        match open(&self.setting, story) {
             Ok(session) => self.session = Some(session),
             Err(_) => return Err(RowError::Story),
         }

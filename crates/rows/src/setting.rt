@@ -28,16 +28,13 @@ pub struct Setting {
     /// The lines, each with byte 10: `line`; and a last one without it: `last`.
     pub input: Vec<u8>,
 
-    /// How many bytes of the input can be read: `reads`.
+    /// How many bytes of the input can be read: `reads`; and at most at a call: `part`.
     pub reads: usize,
-
-    /// How many bytes are read at most at a call: `part`.
     pub part: usize,
 
-    /// How many bytes can be written: `room`, or `breaks` where the next write then fails.
+    /// How many bytes can be written: `room`; and whether the next write then fails, and does not
+    /// just take no byte: `breaks`.
     pub room: Option<usize>,
-
-    /// Whether the next write then fails, and does not just take no byte.
     pub breaks: bool,
 
     /// How often what is written can be flushed: `flushes`.

@@ -4,16 +4,11 @@ use crate::names::{RowError, number_in};
 use std::alloc::Global;
 use zcore::layout::{HEADER_LENGTH, LENGTH_WORD, SUM_WORD};
 
-/// A story under a name. Rows name it with bytes, which are put at its place.
+/// A story under a name. Rows name it with bytes, which are put at its place in a copy.
 #[derive(Drop)]
 pub struct Definition {
-    /// Its name.
     pub name: String,
-
-    /// Where a row's bytes are put.
     pub place: usize,
-
-    /// The story without them.
     pub story: Vec<u8>,
 }
 

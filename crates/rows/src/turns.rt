@@ -49,10 +49,13 @@ fn put_turn(
 
 /// Adds so many bytes from a place on.
 fn put_part(shown: &mut Shown, memory: &[u8], first: usize, count: usize) -> Result<(), RowError> {
-    if first > memory.len() || count > memory.len() - first {
+    let Some((_, rest)) = memory.split_at_checked(first) else {
         return Err(RowError::Number);
-    }
-    shown.hexadecimal_line(&memory[first..first + count]);
+    };
+    let Some((part, _)) = rest.split_at_checked(count) else {
+        return Err(RowError::Number);
+    };
+    shown.hexadecimal_line(part);
     Ok(())
 }
 

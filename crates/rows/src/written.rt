@@ -80,7 +80,7 @@ fn put_escape<'a>(
         Some('x') => {
             let high = hexadecimal(letters.next())?;
             let low = hexadecimal(letters.next())?;
-            bytes.push(high.wrapping_mul(16) | low)?;
+            bytes.push((high.wrapping_mul(16) | low) as u8)?;
         }
         _ => return Err(RowError::Escape),
     }
@@ -88,9 +88,9 @@ fn put_escape<'a>(
 }
 
 /// The value of a hexadecimal digit.
-fn hexadecimal(digit: Option<char>) -> Result<u8, RowError> {
-    match digit.and_then(|digit| digit.to_digit(16)) {
-        Some(value) => u8::try_from(value).map_err(|_| RowError::Escape),
+fn hexadecimal(digit: Option<char>) -> Result<u32, RowError> {
+    match digit {
+        Some(digit) => digit.to_digit(16).ok_or(RowError::Escape),
         None => Err(RowError::Escape),
     }
 }
