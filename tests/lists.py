@@ -7,7 +7,7 @@
 - in docs/COSTS.md the table of the gate, by the seconds in seconds.txt
 - in docs/PROVING.md the number of crates
 - in docs/DIFFERENCES.md the tables of what is missing and of words of other languages, by those of `messages_features`
-- in the READMEs of `rows_of_sources` and `rows_of_machine` how many rows their file `stdin` has
+- in the README of `rows` how many rows its file `stdin` has, and each of its parts
 
 `./lists` writes them, and `tests/documents` fails where one is stale."""
 
@@ -17,7 +17,7 @@ from pathlib import Path
 
 TOP = Path(__file__).resolve().parent.parent
 COLUMNS = 100
-ROWS = ("rows_of_sources", "rows_of_machine")
+ROWS = "rows"
 
 
 class Crates:
@@ -183,16 +183,17 @@ def field_of(feature, name):
     return text.replace('\\"', '"').replace("\\\\", "\\").replace("|", r"\|")
 
 
-def rows_of(name):
-    """How many rows the file `stdin` of a crate has in each of its parts, which begin with `# Sources`."""
-    parts = (TOP / "crates" / name / "stdin").read_text().split("\n# Sources ")
-    return [len(re.findall(r"^-- ", part, re.M)) for part in parts]
+def numbers_of_rows():
+    """How many rows crates/rows/stdin has: in all, of sources, in each part of these, which begin with `# Sources`, and
+    of the machine."""
+    sources, machine = (TOP / "crates" / ROWS / "stdin").read_text().split("\n# Part 2: ")
+    parts = [len(re.findall(r"^-- ", part, re.M)) for part in (*sources.split("\n# Sources "), machine)]
+    return [sum(parts), sum(parts[:-1]), *parts]
 
 
-def with_rows(text, name):
-    """The README of a program of rows with their number, and where there are several parts with that of each."""
-    rows = rows_of(name)
-    numbers = [sum(rows), *rows] if len(rows) > 1 else rows
+def with_rows(text):
+    """The README of the program of rows with these numbers."""
+    numbers = numbers_of_rows()
     ahead = iter(numbers)
     return re.sub(r"\d[\d,]*(?=\s(?:sources|rows)\b)", lambda _: f"{next(ahead):,}", text, count=len(numbers))
 
@@ -203,7 +204,7 @@ def documents():
     for name in crates.libraries:
         now = readme_of(name).read_text()
         wanted = with_stage(now, crates, name)
-        yield readme_of(name), now, with_rows(wanted, name) if name in ROWS else wanted
+        yield readme_of(name), now, with_rows(wanted) if name == ROWS else wanted
     for name, change in (
         ("docs/ARCHITECTURE.md", with_crates),
         ("docs/CHANGING.md", lambda text, crates: with_costs(with_map(text, crates), crates)),

@@ -1,18 +1,23 @@
 //! What each row may say.
 
-use crate::error::RowError;
+use crate::names::{Mode, RowError, Version, number_in, put_written};
 use crate::streams::{Input, Output};
-use crate::written::{number_in, put_written};
 use std::alloc::Global;
 
 /// The fuel of a turn where a row names none.
 const FUEL: u32 = 1_000_000;
 
-/// A row's title and input, and under which conditions it is played.
+/// A row's source and input, and under which conditions a story is played.
 #[derive(Drop)]
 pub struct Setting {
-    /// The text behind `--`.
-    pub title: Vec<u8>,
+    /// The source, its lines with byte 10 between them: `source`.
+    pub source: Vec<u8>,
+
+    /// The version for which the source is compiled: `version`.
+    pub version: Version,
+
+    /// By which opcodes a story is played that is made byte by byte: `standard`.
+    pub mode: Mode,
 
     /// The units of fuel of each turn: `fuel`.
     pub fuel: u32,
@@ -23,30 +28,29 @@ pub struct Setting {
     /// The lines, each with byte 10: `line`; and a last one without it: `last`.
     pub input: Vec<u8>,
 
-    /// How many bytes of the input can be read: `reads`.
+    /// How many bytes of the input can be read: `reads`; and at most at a call: `part`.
     pub reads: usize,
-
-    /// How many bytes are read at most at a call: `part`.
     pub part: usize,
 
-    /// How many bytes can be written: `room`, or `breaks` where the next write then fails.
+    /// How many bytes can be written: `room`; and whether the next write then fails, and does not
+    /// just take no byte: `breaks`.
     pub room: Option<usize>,
-
-    /// Whether the next write then fails, and does not just take no byte.
     pub breaks: bool,
 
     /// How often what is written can be flushed: `flushes`.
     pub flushes: usize,
 
     /// Where bytes come from.
-    alloc: Global,
+    pub alloc: Global,
 }
 
 impl Setting {
     /// A row that says nothing.
     pub fn new(alloc: Global) -> Setting {
         Setting {
-            title: Vec::new(alloc),
+            source: Vec::new(alloc),
+            version: Version::V5,
+            mode: Mode::Profile,
             fuel: FUEL,
             keep: None,
             input: Vec::new(alloc),
@@ -59,15 +63,13 @@ impl Setting {
         }
     }
 
-    /// Takes a line of a row, its first word and the text behind it.
-    ///
-    /// # Errors
-    ///
-    /// [`RowError::Word`] where the word is none of these, [`RowError::Number`] and
-    /// [`RowError::Escape`] where the text is not what the word wants, [`RowError::Memory`].
-    pub fn take(&mut self, word: &str, text: &str) -> Result<(), RowError> {
+    /// Takes a line of a row, its first word and the text after it, and says whether the word is one
+    /// of these.
+    pub fn takes(&mut self, word: &str, text: &str) -> Result<bool, RowError> {
         match word {
-            "--" => put_written(&mut self.title, self.alloc, text)?,
+            "source" => self.add_source(text)?,
+            "version" => self.version = version_in(text)?,
+            "standard" => self.mode = Mode::Standard(small(text)?),
             "fuel" => self.fuel = small(text)?,
             "keep" => self.keep = Some(small(text)?),
             "line" => {
@@ -83,9 +85,17 @@ impl Setting {
                 self.breaks = true;
             }
             "flushes" => self.flushes = number_in(text)?,
-            _ => return Err(RowError::Word),
+            _ => return Ok(false),
         }
-        Ok(())
+        Ok(true)
+    }
+
+    /// Adds a line to the source.
+    fn add_source(&mut self, text: &str) -> Result<(), RowError> {
+        if !self.source.is_empty() {
+            self.source.push(b'\n')?;
+        }
+        put_written(&mut self.source, self.alloc, text)
     }
 
     /// The input as a reader.
@@ -113,5 +123,14 @@ fn small(text: &str) -> Result<u32, RowError> {
     match u32::try_from(number_in(text)?) {
         Ok(number) => Ok(number),
         Err(_) => Err(RowError::Number),
+    }
+}
+
+/// The version that a text names.
+fn version_in(text: &str) -> Result<Version, RowError> {
+    match text {
+        "5" => Ok(Version::V5),
+        "8" => Ok(Version::V8),
+        _ => Err(RowError::Number),
     }
 }

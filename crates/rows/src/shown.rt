@@ -80,9 +80,7 @@ impl Shown {
         self.bytes(b"\n");
     }
 
-    /// Adds the lines of a text as rows show them: each behind `| `, with `\n` at its end where it
-    /// ends in byte 10. A `\` and bytes outside 32 to 126 are shown as rows write them, and so is a
-    /// part of at most three bytes that comes again and again.
+    /// Adds the lines of a text, each after `| `, with the escapes that README.md describes.
     pub fn lines(&mut self, text: &[u8]) {
         for line in text.split_inclusive(|byte| *byte == b'\n') {
             self.bytes(b"| ");
@@ -99,8 +97,7 @@ impl Shown {
         }
     }
 
-    /// Adds the first byte or the part that is repeated at the front of the bytes, and lends what
-    /// stands behind it.
+    /// Adds the byte or the repeated part at the front of the bytes, and lends what is after it.
     fn front<'a>(&mut self, bytes: &'a [u8]) -> &'a [u8] {
         for size in 1..=LONGEST_PART {
             let count = repetitions(bytes, size);
@@ -127,7 +124,10 @@ impl Shown {
         self.display(&count);
         self.bytes(b"{");
         for byte in bytes.iter().take(size) {
-            self.byte(*byte);
+            match byte {
+                b'}' => self.text("\\x7D"),
+                _ => self.byte(*byte),
+            }
         }
         self.bytes(b"}");
     }
@@ -150,11 +150,7 @@ impl Shown {
         self.bytes.is_empty()
     }
 
-    /// The bytes.
-    ///
-    /// # Errors
-    ///
-    /// [`RowError::Memory`] where memory was refused to any of them.
+    /// The bytes, where memory was refused to none of them.
     pub fn taken(&self) -> Result<&[u8], RowError> {
         if self.is_refused {
             return Err(RowError::Memory);
@@ -167,11 +163,15 @@ impl Shown {
 fn repetitions(bytes: &[u8], size: usize) -> usize
     requires { 0 < size }
 {
-    match bytes.split_at_checked(size) {
-        Some((part, _)) => bytes
-            .chunks(size)
-            .take_while(|other| *other == part)
-            .count(),
-        None => 0,
+    let Some((part, _)) = bytes.split_at_checked(size) else {
+        return 0;
+    };
+    let mut count = 0usize;
+    for other in bytes.chunks(size) {
+        if other != part {
+            break;
+        }
+        count = count.wrapping_add(1);
     }
+    count
 }

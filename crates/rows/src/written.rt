@@ -3,11 +3,7 @@
 use crate::error::RowError;
 use std::alloc::Global;
 
-/// The number that a text is, in decimal.
-///
-/// # Errors
-///
-/// [`RowError::Number`] where it is none of 64 bits.
+/// The number that a text is, in decimal, of 64 bits.
 pub fn number_in(text: &str) -> Result<usize, RowError> {
     match text.parse::<usize>() {
         Ok(number) => Ok(number),
@@ -16,10 +12,6 @@ pub fn number_in(text: &str) -> Result<usize, RowError> {
 }
 
 /// The bytes of a written text.
-///
-/// # Errors
-///
-/// Those of [`put_written`].
 pub fn written_bytes(alloc: Global, text: &str) -> Result<Vec<u8>, RowError> {
     let mut bytes = Vec::new(alloc);
     put_written(&mut bytes, alloc, text)?;
@@ -29,11 +21,6 @@ pub fn written_bytes(alloc: Global, text: &str) -> Result<Vec<u8>, RowError> {
 /// Adds the bytes of a written text. A `\` begins what stands for other bytes: `\n` for byte 10,
 /// `\\` for itself, `\xC3` for the byte of that number, and `\40{text}` for a text forty times, in
 /// which `\#` is the number of the repetition, from 0.
-///
-/// # Errors
-///
-/// [`RowError::Escape`] and [`RowError::Number`] where a `\` begins nothing of these,
-/// [`RowError::Memory`].
 pub fn put_written(bytes: &mut Vec<u8>, alloc: Global, text: &str) -> Result<(), RowError> {
     let mut rest = text;
     for _ in 0..text.len() {
@@ -78,8 +65,7 @@ fn put_part(bytes: &mut Vec<u8>, alloc: Global, part: &str, number: usize) -> Re
     Ok(())
 }
 
-/// Adds what stands for one byte or for the number of a repetition, and lends what stands behind
-/// it.
+/// Adds one byte or the number of a repetition, and lends what is after the escape.
 fn put_escape<'a>(
     bytes: &mut Vec<u8>,
     alloc: Global,
@@ -90,28 +76,21 @@ fn put_escape<'a>(
     match letters.next() {
         Some('n') => bytes.push(b'\n')?,
         Some('\\') => bytes.push(b'\\')?,
-        Some('#') => put_number(bytes, alloc, number)?,
+        Some('#') => bytes.extend_from_slice(number.to_string(alloc)?.as_bytes())?,
         Some('x') => {
             let high = hexadecimal(letters.next())?;
             let low = hexadecimal(letters.next())?;
-            bytes.push(high.wrapping_mul(16) | low)?;
+            bytes.push((high.wrapping_mul(16) | low) as u8)?;
         }
         _ => return Err(RowError::Escape),
     }
     Ok(letters.as_str())
 }
 
-/// Adds a number in decimal.
-fn put_number(bytes: &mut Vec<u8>, alloc: Global, number: usize) -> Result<(), RowError> {
-    let digits = number.to_string(alloc)?;
-    bytes.extend_from_slice(digits.as_bytes())?;
-    Ok(())
-}
-
 /// The value of a hexadecimal digit.
-fn hexadecimal(digit: Option<char>) -> Result<u8, RowError> {
-    match digit.and_then(|digit| digit.to_digit(16)) {
-        Some(value) => u8::try_from(value).map_err(|_| RowError::Escape),
+fn hexadecimal(digit: Option<char>) -> Result<u32, RowError> {
+    match digit {
+        Some(digit) => digit.to_digit(16).ok_or(RowError::Escape),
         None => Err(RowError::Escape),
     }
 }

@@ -1,18 +1,22 @@
-//! Plays the stories of rows, which are made byte by byte, and prints what came of each; and so
-//! with texts and recorded cells.
+//! Plays the rows of standard input and prints what each shows: sources that are compiled, stories
+//! that are made byte by byte, texts, and recorded cells.
 #![tactic(auto)]
 
 mod damage;
-mod hexadecimal;
+mod error;
 mod journals;
-mod memory;
 mod names;
 mod program;
-mod records;
 mod row;
 mod sessions;
+mod setting;
+mod shown;
+mod sources;
 mod stories;
+mod streams;
 mod texts;
+mod turns;
+mod written;
 
 use crate::program::Program;
 use anyhow::Result;

@@ -1,7 +1,8 @@
 //! Texts in Z-characters.
 
-use crate::names::{decode_text, encode_text, encode_with, word_key};
-use rows::{RowError, Shown, number_in, written_bytes};
+use crate::names::{
+    RowError, Shown, decode_text, encode_text, encode_with, number_in, word_key, written_bytes,
+};
 use std::alloc::Global;
 
 /// Adds the Z-text of a written text, or the fault.

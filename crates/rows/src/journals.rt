@@ -2,8 +2,10 @@
 
 ghost use Rattle.std.specs.Prelude.{◌≡◌, ◌≤◌, ℕ, List, [], length, nat_lt, if◌then◌else◌};
 
-use crate::names::{Cells, PAGE, Recorded, WORD_PAGES, swap_back, swap_forward};
-use rows::{RowError, Shown, number_in, written_bytes};
+use crate::names::{
+    Cells, PAGE, Recorded, RowError, Shown, WORD_PAGES, number_in, swap_back, swap_forward,
+    written_bytes,
+};
 use std::alloc::{AllocError, Global};
 use std::marker::Model;
 
@@ -99,7 +101,7 @@ fn values_in(alloc: Global, written: &[u8]) -> Result<Vec<u16>, AllocError> {
 }
 
 /// Writes a value into a cell, which a text names.
-pub fn write(turn: &mut Recorded<Words>, text: &str) -> Result<(), RowError> {
+fn write(turn: &mut Recorded<Words>, text: &str) -> Result<(), RowError> {
     let (cell, value) = text.split_once(' ').ok_or(RowError::Number)?;
     let cell = number_in(cell)?;
     let Ok(value) = u16::try_from(number_in(value)?) else {
@@ -117,7 +119,7 @@ pub fn write(turn: &mut Recorded<Words>, text: &str) -> Result<(), RowError> {
 
 /// Ends the turn, and adds how many cells its record holds and what the cells hold; then with the
 /// turn taken back, and with it done again.
-pub fn put_closed(shown: &mut Shown, turn: &mut Recorded<Words>) {
+fn put_closed(shown: &mut Shown, turn: &mut Recorded<Words>) {
     let mut record = turn.close();
     shown.display(&record.cells());
     shown.text(" cells");
@@ -130,7 +132,7 @@ pub fn put_closed(shown: &mut Shown, turn: &mut Recorded<Words>) {
 }
 
 /// Gives the turn up, and adds what the cells hold.
-pub fn put_abandoned(shown: &mut Shown, turn: &mut Recorded<Words>) {
+fn put_abandoned(shown: &mut Shown, turn: &mut Recorded<Words>) {
     turn.abandon();
     put_values(shown, "abandoned: ", turn.store());
     shown.text("\n");
@@ -147,4 +149,19 @@ fn put_values(shown: &mut Shown, front: &str, words: &Words) {
         shown.display(value);
         front = " ";
     }
+}
+
+/// Writes to the cells or ends the turn, as a word says.
+pub fn act_on(
+    turn: &mut Recorded<Words>,
+    shown: &mut Shown,
+    word: &str,
+    text: &str,
+) -> Result<(), RowError> {
+    match word {
+        "write" => return write(turn, text),
+        "close" => put_closed(shown, turn),
+        _ => put_abandoned(shown, turn),
+    }
+    Ok(())
 }

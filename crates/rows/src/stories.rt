@@ -1,35 +1,15 @@
 //! Stories that are made byte by byte.
 
-use crate::hexadecimal::bytes_in;
-use rows::{RowError, number_in};
+use crate::names::{RowError, number_in};
 use std::alloc::Global;
 use zcore::layout::{HEADER_LENGTH, LENGTH_WORD, SUM_WORD};
 
-/// A story under a name. Rows name it with bytes, which are put at its place.
+/// A story under a name. Rows name it with bytes, which are put at its place in a copy.
 #[derive(Drop)]
 pub struct Definition {
-    /// Its name.
     pub name: String,
-
-    /// Where a row's bytes are put.
     pub place: usize,
-
-    /// The story without them.
     pub story: Vec<u8>,
-}
-
-impl Definition {
-    /// A copy of a story, under a name.
-    pub fn new(
-        alloc: Global,
-        name: &str,
-        place: usize,
-        story: &[u8],
-    ) -> Result<Definition, RowError> {
-        let story = story.to_vec(alloc)?;
-        let name = String::from_str(alloc, name)?;
-        Ok(Definition { name, place, story })
-    }
 }
 
 /// Puts bytes at a place. The story grows by zeros where it ends before them.
@@ -42,6 +22,18 @@ pub fn put_at(story: &mut Vec<u8>, place: usize, bytes: &[u8]) -> Result<(), Row
         *cell = *byte;
     }
     Ok(())
+}
+
+/// The bytes that a text names, two digits each, with spaces between them.
+pub fn bytes_in(alloc: Global, text: &str) -> Result<Vec<u8>, RowError> {
+    let mut bytes = Vec::new(alloc);
+    for digits in text.split_whitespace() {
+        match u8::from_str_radix(digits, 16) {
+            Ok(byte) => bytes.push(byte)?,
+            Err(_) => return Err(RowError::Number),
+        }
+    }
+    Ok(bytes)
 }
 
 /// Puts the bytes that a text names at the place that it names first.

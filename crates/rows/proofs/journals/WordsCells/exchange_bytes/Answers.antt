@@ -1,7 +1,7 @@
 use Rattle.std.proofs.Common.{◌≡◌, ℕ, ◌*◌, List, [], ◌∷◌, length, refl, ap, sym, arith}
 use Rattle.std.proofs.lemmas.List.{take-append-drop}
 use Rattle.journal.specs.Pages.{put_run, run_of}
-use Rattle.rows_of_machine.proofs.journals.WordsCells.exchange_bytes.Goals as goal
+use Rattle.rows.proofs.journals.WordsCells.exchange_bytes.Goals as goal
 
 put_none : (c vs : List ℕ) (first : ℕ) → length vs ≡ 0 → c ≡ put_run c first vs
 put_none c [] first none = sym (take-append-drop first c)

@@ -3,7 +3,6 @@
 use crate::row::Row;
 use crate::stories::Definition;
 use anyhow::{Context, Result};
-use rows::RowError;
 use std::alloc::Global;
 use std::io::{BufRead, Write};
 
@@ -44,7 +43,7 @@ impl Program {
         if line.is_empty() {
             return self.end(output);
         }
-        let answer: Result<(), RowError> = self.row.take(&mut self.definitions, line);
+        let answer = self.row.take(&mut self.definitions, line);
         answer.context(format_args!("line {number}"))
     }
 

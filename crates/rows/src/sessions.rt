@@ -1,39 +1,29 @@
 //! Stories that are played, by a run over an input or call by call.
 
-use crate::names::{Mode, OpenFault, Place, Reply, Session, run, status};
-use rows::{RowError, Setting, Shown, written_bytes};
+use crate::names::{
+    OpenFault, Place, Reply, RowError, Session, Setting, Shown, run, status, written_bytes,
+};
 use std::alloc::Global;
 
-/// Opens a story in a mode, under the row's conditions.
-///
-/// # Errors
-///
-/// Why the story is not opened.
-pub fn open(
-    alloc: Global,
-    setting: &Setting,
-    mode: Mode,
-    story: Vec<u8>,
-) -> Result<Session, OpenFault> {
-    Session::open_with(alloc, story, mode, setting.fuel, setting.keep)
+/// Opens a story under the row's conditions.
+pub fn open(setting: &Setting, story: Vec<u8>) -> Result<Session, OpenFault> {
+    Session::open_with(
+        setting.alloc,
+        story,
+        setting.mode,
+        setting.fuel,
+        setting.keep,
+    )
 }
 
-/// Opens a story in a mode, runs it on the row's input, and adds the transcript and how it ended; or
-/// adds why it is not opened.
-///
-/// # Errors
-///
-/// [`RowError::Memory`] where memory is refused for a copy of the story.
-pub fn put_run(
-    shown: &mut Shown,
-    alloc: Global,
-    setting: &Setting,
-    mode: Mode,
-    story: &[u8],
-) -> Result<(), RowError> {
-    let story = story.to_vec(alloc)?;
-    match open(alloc, setting, mode, story) {
-        Ok(mut session) => put_played(shown, setting, &mut session),
+/// Opens a story, runs it on the row's input, and adds the transcript and how it ended; or adds why
+/// it is not opened.
+pub fn put_run(shown: &mut Shown, setting: &Setting, story: &[u8]) -> Result<(), RowError> {
+    match open(setting, story.to_vec(setting.alloc)?) {
+        Ok(mut session) => {
+            put_played(shown, setting, &mut session);
+            session.close();
+        }
         Err(fault) => shown.display_line(&fault),
     }
     Ok(())
@@ -127,12 +117,8 @@ fn has_replied(shown: &mut Shown, session: &mut Session, line: &[u8]) -> bool {
 
 /// Takes a turn back, and adds what came of it.
 pub fn put_undo(shown: &mut Shown, session: &mut Session) {
-    let found = session.undo();
-    shown.text(if found {
-        "undo: true\n"
-    } else {
-        "undo: false\n"
-    });
+    shown.text("undo: ");
+    shown.display_line(&session.undo());
     put_state(shown, session);
 }
 

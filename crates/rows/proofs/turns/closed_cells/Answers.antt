@@ -1,4 +1,4 @@
-use Rattle.rows_of_machine.proofs.records.closed_cells.Goals as goal
+use Rattle.rows.proofs.turns.closed_cells.Goals as goal
 
 -- the opening ended where it waits, and `close` leaves the store
 pub turn-requires-2-clause-ready : goal.turn-requires-2-clause-ready

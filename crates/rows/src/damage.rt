@@ -1,9 +1,8 @@
 //! Stories of which a byte is changed.
 
-use crate::names::{Mode, Session, run, status};
+use crate::names::{RowError, Session, Setting, Shown, run, status};
 use crate::sessions::open;
 use crate::stories::{mend_sum, put_at};
-use rows::{RowError, Setting, Shown};
 use std::alloc::Global;
 
 /// The player's status where a story is not opened.
@@ -15,10 +14,8 @@ const BROKEN: u8 = 5;
 /// How a story is changed.
 #[derive(Clone, Copy)]
 struct Change {
-    /// Where its byte stands.
+    /// Where its byte is, and what it becomes.
     place: usize,
-
-    /// What the byte becomes.
     value: u8,
 
     /// Whether the sum is mended.
@@ -27,13 +24,7 @@ struct Change {
 
 /// Plays a story with each byte made 0, 255 and one greater, with its sum as it is and mended. Adds
 /// how many stories these were, and each that ended with another status than 0, 1, 3 and 4.
-pub fn put_damaged(
-    shown: &mut Shown,
-    alloc: Global,
-    setting: &Setting,
-    mode: Mode,
-    story: &[u8],
-) -> Result<(), RowError> {
+pub fn put_damaged(shown: &mut Shown, setting: &Setting, story: &[u8]) -> Result<(), RowError> {
     let mut count = 0u64;
     for (place, byte) in story.iter().enumerate() {
         for value in [0, 255, byte.wrapping_add(1)] {
@@ -43,7 +34,7 @@ pub fn put_damaged(
                     value,
                     mends,
                 };
-                put_changed(shown, alloc, setting, mode, story, change)?;
+                put_changed(shown, setting, story, change)?;
                 count = count.wrapping_add(1);
             }
         }
@@ -53,17 +44,14 @@ pub fn put_damaged(
     Ok(())
 }
 
-/// Plays a changed story, and adds how it ended where that is none of the player's statuses for a
-/// story.
+/// Plays a changed story, and adds its status where that is none of the player's for a story.
 fn put_changed(
     shown: &mut Shown,
-    alloc: Global,
     setting: &Setting,
-    mode: Mode,
     story: &[u8],
     change: Change,
 ) -> Result<(), RowError> {
-    let end = ended(alloc, setting, mode, changed(alloc, story, change)?);
+    let end = ended(setting, changed(setting.alloc, story, change)?);
     if !matches!(end, 0 | 1 | 3 | 4) {
         shown.text("byte ");
         shown.display(&change.place);
@@ -78,23 +66,21 @@ fn put_changed(
 /// The changed story.
 fn changed(alloc: Global, story: &[u8], change: Change) -> Result<Vec<u8>, RowError> {
     let mut story = story.to_vec(alloc)?;
-    put_change(&mut story, change)?;
+    put_at(&mut story, change.place, &[change.value])?;
+    if change.mends {
+        mend_sum(&mut story)?;
+    }
     Ok(story)
 }
 
-/// Changes a story.
-fn put_change(story: &mut Vec<u8>, change: Change) -> Result<(), RowError> {
-    put_at(story, change.place, &[change.value])?;
-    if change.mends {
-        mend_sum(story)?;
-    }
-    Ok(())
-}
-
 /// The status with which a player of the story ends.
-fn ended(alloc: Global, setting: &Setting, mode: Mode, story: Vec<u8>) -> u8 {
-    match open(alloc, setting, mode, story) {
-        Ok(mut session) => played(setting, &mut session),
+fn ended(setting: &Setting, story: Vec<u8>) -> u8 {
+    match open(setting, story) {
+        Ok(mut session) => {
+            let end = played(setting, &mut session);
+            session.close();
+            end
+        }
         Err(_) => REFUSED,
     }
 }
