@@ -1,6 +1,5 @@
 //! Advice, and the order in which it is sought.
 
-use crate::expressions::in_expression;
 use crate::features::{meant_at, meant_by_comment, named_feature};
 use crate::loops::{in_loop, late_in_for, misplaced_until};
 use crate::statements::{in_statement, no_statement};
@@ -8,7 +7,7 @@ use crate::switches::{between_signs, in_switch_or_if};
 use messages_contexts::{is_in_routine, is_named, start_of};
 use messages_definitions::{Advice, habit_at, in_definition, written_as_comment};
 use messages_expected::Grouped;
-use messages_prints::{absent_form, in_print, items_beside};
+use messages_expressions::{absent_form, in_expression, in_print, items_beside};
 use syntax::Token;
 
 /// What is told of a token in a routine.

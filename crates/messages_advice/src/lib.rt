@@ -3,7 +3,6 @@
 #![tactic(auto)]
 
 mod advice;
-mod expressions;
 mod features;
 mod loops;
 mod statements;

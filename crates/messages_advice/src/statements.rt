@@ -1,6 +1,5 @@
 //! What is told of statements, those in the modules of their own apart.
 
-use crate::expressions::{closes_condition, is_enclosed, word_after_dot};
 use messages_contexts::{
     Definition, Known, before, begins_line, begins_statement, begun_at, behind, closes_after,
     definition_of, ends_operand, has_word_within, is_attribute, is_name, is_named, is_routine,
@@ -8,6 +7,7 @@ use messages_contexts::{
 };
 use messages_definitions::{Advice, is_article};
 use messages_expected::{Group, Grouped};
+use messages_expressions::{closes_condition, is_enclosed, word_after_dot};
 use messages_features::{LIBRARY, SETTINGS};
 use syntax::{Kind, Sign, Token, Word};
 

@@ -1,12 +1,12 @@
 //! What is told within a `switch` and an `if`.
 
-use crate::expressions::closes_condition;
 use crate::statements::begins_statement_with;
 use messages_contexts::{
     before, behind, is_joined, is_name, is_routine, is_sign, is_text, is_unknown, is_word, kind_at,
     known_as, last_open, start_of, switch_around,
 };
 use messages_definitions::{Advice, pair_at};
+use messages_expressions::closes_condition;
 use messages_features::LABELS;
 use syntax::{Kind, Sign, Token, Word};
 
