@@ -171,7 +171,7 @@ def with_features(text, _):
 def features(name):
     """What is missing, what to write instead and the section, of each feature of a file of `messages_features`."""
     table = (TOP / f"crates/messages_features/src/{name}.rt").read_text()
-    for feature in re.findall(r"Feature = Feature \{(.*?)\n\};", table, re.S):
+    for feature in re.findall(r"= &Feature \{(.*?)\n\};", table, re.S):
         missing, instead, section = (field_of(feature, field) for field in ("missing", "instead", "section"))
         instead = re.sub(r"(examples/(\w+)\.inf)", r"[\2](../\1)", instead)
         yield missing, instead, f"[{section}](#{section.lower()})" if section else ""

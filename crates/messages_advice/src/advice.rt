@@ -2,7 +2,7 @@
 
 use crate::expressions::in_expression;
 use crate::features::{meant_at, meant_by_comment, named_feature};
-use crate::loops::{in_loop, misplaced_until};
+use crate::loops::{in_loop, late_in_for, misplaced_until};
 use crate::statements::{in_statement, no_statement};
 use crate::switches::{between_signs, in_switch_or_if};
 use messages_contexts::{is_in_routine, is_named, start_of};
@@ -64,6 +64,7 @@ pub fn advice_at(
 /// What is wrong at a token that does not fit, and for which no small change would do.
 pub fn late_advice_at(tokens: &[Token<'_>], at: usize, wanted: Option<&Grouped>) -> Option<Advice> {
     misplaced_until(tokens, at)
+        .or(late_in_for(tokens, at))
         .or(items_beside(tokens, at))
         .or(no_statement(tokens, at, wanted))
 }

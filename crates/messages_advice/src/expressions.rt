@@ -8,6 +8,8 @@ use messages_definitions::{Advice, joins_equals};
 use messages_features::{ADDRESSES, ALTERNATIVES, MESSAGES, NESTED_NEGATIONS};
 use syntax::{Kind, Sign, Token, Word};
 
+const WHOLE: &str = "numbers are whole: write no point";
+
 /// Whether a sign compares.
 fn compares(sign: Sign) -> bool {
     matches!(
@@ -63,7 +65,7 @@ fn chained(tokens: &[Token<'_>], at: usize) -> Option<Advice> {
         } else if divides_conditions(tokens, number) {
             return None;
         } else if compares_at(tokens, number) {
-            return Some(second_comparison(is_after_or));
+            return Some(second_comparison(is_after_or, is_truth(tokens, behind(at, 1))));
         } else if is_word(tokens, number, Word::Or) {
             is_after_or = true;
         }
@@ -80,9 +82,16 @@ fn closed_before(tokens: &[Token<'_>], at: usize, closed: usize) -> usize {
     }
 }
 
-/// What is told of a second comparison, after an `or` or not.
-fn second_comparison(is_after_or: bool) -> Advice {
-    if is_after_or {
+/// Whether the token of a number is `true` or `false`.
+fn is_truth(tokens: &[Token<'_>], at: usize) -> bool {
+    is_word(tokens, at, Word::True) || is_word(tokens, at, Word::False)
+}
+
+/// What is told of a second comparison, after an `or` or not, with `true` or not.
+fn second_comparison(is_after_or: bool, is_truth: bool) -> Advice {
+    if is_truth {
+        Advice::Do("leave it out: what is before it is true or false itself, as 'lamp has lit'")
+    } else if is_after_or {
         Advice::Do("write '||' between conditions: 'or' is between values")
     } else {
         Advice::Do("write '&&' between two comparisons, as in 'a < b && b < c'")
@@ -98,9 +107,15 @@ pub fn closes_condition(tokens: &[Token<'_>], at: usize) -> bool {
         || closes_after(tokens, at, Word::Switch)
 }
 
+/// Whether the token of a number is `{` with no blank after a name.
+fn is_brace_of_name(tokens: &[Token<'_>], at: usize) -> bool {
+    is_sign(tokens, at, Sign::OpenBrace) && is_joined(tokens, at) && is_name(tokens, before(at, 1))
+}
+
 /// What is told of a `[` in a statement: one that begins a line may begin the next routine.
 fn index(tokens: &[Token<'_>], at: usize) -> Option<Advice> {
-    if is_sign(tokens, at, Sign::OpenBracket) && !begins_line(tokens, at) {
+    let is_bracket = is_sign(tokens, at, Sign::OpenBracket) && !begins_line(tokens, at);
+    if is_bracket || is_brace_of_name(tokens, at) {
         bracket(tokens, at)
     } else {
         None
@@ -161,19 +176,27 @@ fn arrow(tokens: &[Token<'_>], at: usize) -> Option<Advice> {
 
 /// What is told of a part of a number.
 fn part_of_number(tokens: &[Token<'_>], at: usize) -> Option<Advice> {
-    let last = before(at, 1);
-    let is_after_number = match kind_at(tokens, before(at, 2)) {
+    if !is_sign(tokens, before(at, 1), Sign::Dot) {
+        return if is_sign(tokens, at, Sign::Dot) && is_number(tokens, behind(at, 1)) {
+            Some(Advice::Do(WHOLE))
+        } else {
+            None
+        };
+    }
+    if is_number(tokens, before(at, 2)) {
+        Some(Advice::Do(WHOLE))
+    } else if is_number(tokens, at) {
+        Some(Advice::Do("write 'a->1' or 'a-->1' for an entry of an array"))
+    } else {
+        None
+    }
+}
+
+/// Whether the token of a number is a number.
+fn is_number(tokens: &[Token<'_>], at: usize) -> bool {
+    match kind_at(tokens, at) {
         Kind::Number(_) => true,
         _ => false,
-    };
-    match kind_at(tokens, at) {
-        Kind::Number(_) if is_sign(tokens, last, Sign::Dot) && is_after_number => {
-            Some(Advice::Do("numbers are whole: write no point"))
-        }
-        Kind::Number(_) if is_sign(tokens, last, Sign::Dot) => {
-            Some(Advice::Do("write 'a->1' or 'a-->1' for an entry of an array"))
-        }
-        _ => None,
     }
 }
 
@@ -213,19 +236,31 @@ fn message(tokens: &[Token<'_>], at: usize) -> Option<Advice> {
     }
 }
 
-/// What is told of a reserved word after `.`.
+/// What is told of a token in the place of a name: after `.`, `has`, `hasnt` or `provides`.
 fn after_dot(tokens: &[Token<'_>], at: usize) -> Option<Advice> {
-    if !is_sign(tokens, before(at, 1), Sign::Dot) {
-        return None;
-    }
+    let last = before(at, 1);
+    let is_after_dot = is_sign(tokens, last, Sign::Dot);
+    let is_before_name = is_after_dot
+        || is_word(tokens, last, Word::Has)
+        || is_word(tokens, last, Word::Hasnt)
+        || is_word(tokens, last, Word::Provides);
     match kind_at(tokens, at) {
-        Kind::Reserved(word) => word_after_dot(word),
+        Kind::Reserved(word) if is_after_dot => word_after_dot(word),
+        Kind::Text(_) | Kind::DictionaryWord(_) | Kind::Character(_) if is_before_name => {
+            Some(Advice::Do("write the name without quotes"))
+        }
+        Kind::Sign(Sign::OpenParenthesis) if is_before_name => {
+            Some(Advice::Do("write the name without parentheses"))
+        }
+        Kind::Sign(Sign::Tilde | Sign::Not) if is_word(tokens, last, Word::Has) => {
+            Some(Advice::Do("write 'hasnt' in the place of 'has'"))
+        }
         _ => None,
     }
 }
 
-/// What is told of a reserved word in the place of a property.
-fn word_after_dot(word: Word) -> Option<Advice> {
+/// What is told of a reserved word in the place of a property, or after an object.
+pub fn word_after_dot(word: Word) -> Option<Advice> {
     match word {
         Word::Parent | Word::Child | Word::Sibling => {
             Some(Advice::Do("write 'parent(x)', 'child(x)' or 'sibling(x)'"))

@@ -13,15 +13,21 @@ const FOR: &str = "write 'for (i = 0 : i < 9 : i++)'";
 
 const EACH: &str = "write 'objectloop (x in y)'";
 
-/// Whether a sign is in the parentheses that are open at the token of a number.
-fn has_colon(tokens: &[Token<'_>], at: usize) -> bool {
+/// How many `:` are before the token of a number in the parentheses that are open there.
+fn colons_before(tokens: &[Token<'_>], at: usize) -> usize {
     let from = open_parenthesis(tokens, at).unwrap_or(at);
+    let mut count: usize = 0;
     for number in from..at {
         if is_sign(tokens, number, Sign::Colon) {
-            return true;
+            count = count.saturating_add(1);
         }
     }
-    false
+    count
+}
+
+/// Whether a `:` is before the token of a number in the parentheses that are open there.
+fn has_colon(tokens: &[Token<'_>], at: usize) -> bool {
+    colons_before(tokens, at) > 0
 }
 
 /// How many of the next tokens in the same parentheses are commas, with the token of a number.
@@ -161,6 +167,17 @@ pub fn misplaced_until(tokens: &[Token<'_>], at: usize) -> Option<Advice> {
         Some(Advice::Do("write 'do' before the block that ends here"))
     } else {
         Some(Advice::Do("write 'while (~~(a))': 'until' only ends a 'do'"))
+    }
+}
+
+/// What is told of a token in the parentheses of a `for` for which no small change would do. In the
+/// last part another `:` is told of alone: what else is there may be after the parentheses.
+pub fn late_in_for(tokens: &[Token<'_>], at: usize) -> Option<Advice> {
+    let is_told = colons_before(tokens, at) < 2 || is_sign(tokens, at, Sign::Colon);
+    if is_told && is_in_parentheses_of(tokens, at, Word::For) {
+        Some(Advice::Do(FOR))
+    } else {
+        None
     }
 }
 

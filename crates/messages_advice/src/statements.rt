@@ -1,10 +1,11 @@
 //! What is told of statements, those in the modules of their own apart.
 
-use crate::expressions::is_enclosed;
+use crate::expressions::{closes_condition, is_enclosed, word_after_dot};
 use messages_contexts::{
     Definition, Known, before, begins_line, begins_statement, begun_at, behind, closes_after,
-    ends_operand, has_word_within, is_attribute, is_name, is_routine, is_sign, is_step, is_unknown,
-    is_word, kind_at, known_as, last_open, last_word, start_of,
+    definition_of, ends_operand, has_word_within, is_article, is_attribute, is_name, is_named,
+    is_routine, is_sign, is_step, is_unknown, is_word, kind_at, known_as, last_open, last_word,
+    start_of,
 };
 use messages_definitions::Advice;
 use messages_expected::{Group, Grouped};
@@ -85,11 +86,13 @@ fn sign_in_give(sign: Sign) -> Option<Advice> {
 /// What is told in a `return`.
 fn in_return(tokens: &[Token<'_>], at: usize) -> Option<Advice> {
     let is_statement = match kind_at(tokens, at) {
-        Kind::Reserved(word) => is_before_return(word),
+        Kind::Reserved(word) => begins_statement_with(word),
         _ => false,
     };
     if is_sign(tokens, at, Sign::Comma) {
         Some(Advice::Do("a routine returns one value: leave the others out"))
+    } else if is_word(tokens, at, Word::Rtrue) || is_word(tokens, at, Word::Rfalse) {
+        Some(Advice::Do("write 'return true;' or 'return false;'"))
     } else if is_statement
         && is_word(tokens, before(at, 1), Word::Return)
         && !begins_line(tokens, at)
@@ -100,9 +103,26 @@ fn in_return(tokens: &[Token<'_>], at: usize) -> Option<Advice> {
     }
 }
 
-/// Whether a reserved word begins a statement that may be meant before a `return`.
-fn is_before_return(word: Word) -> bool {
-    matches!(word, Word::If | Word::Print | Word::PrintRet | Word::Switch)
+/// Whether a reserved word begins a statement, and could be nothing else.
+pub fn begins_statement_with(word: Word) -> bool {
+    matches!(
+        word,
+        Word::If
+            | Word::Print
+            | Word::PrintRet
+            | Word::Switch
+            | Word::Quit
+            | Word::NewLine
+            | Word::Move
+            | Word::Give
+            | Word::Remove
+            | Word::Read
+            | Word::For
+            | Word::While
+            | Word::Objectloop
+            | Word::Break
+            | Word::Continue
+    )
 }
 
 /// Whether a reserved word is a statement of its own.
@@ -151,9 +171,41 @@ fn declared(tokens: &[Token<'_>], at: usize) -> Option<Advice> {
         Some(Advice::Do("write 'if' or 'while' before the condition"))
     } else if is_word(tokens, at, Word::To) && begins_statement(tokens, before(at, 1)) {
         Some(Advice::Do("write 'move a to b;'"))
-    } else {
+    } else if begins_line(tokens, at) {
         None
+    } else if is_after_parentheses_of(tokens, at) {
+        Some(Advice::Do("put parentheses around the whole condition, as in 'if ((a) && (b))'"))
+    } else {
+        after_first(tokens, at)
     }
+}
+
+/// Whether the token of a number is an operator after the parentheses of a condition.
+fn is_after_parentheses_of(tokens: &[Token<'_>], at: usize) -> bool {
+    let is_operator = is_sign(tokens, at, Sign::AndAlso)
+        || is_sign(tokens, at, Sign::OrElse)
+        || is_sign(tokens, at, Sign::Equal)
+        || is_word(tokens, at, Word::Or);
+    is_operator && closes_condition(tokens, before(at, 1))
+}
+
+/// What is told of a reserved word after the first words of a statement, which are meant after it.
+fn after_first(tokens: &[Token<'_>], at: usize) -> Option<Advice> {
+    let last = before(at, 1);
+    let is_object = is_name(tokens, last) && begins_statement(tokens, last);
+    match kind_at(tokens, at) {
+        Kind::Reserved(Word::If) if ends_operand(tokens, last) && is_assigned(tokens, at) => {
+            Some(Advice::Do("write 'if' and its condition before the statement"))
+        }
+        Kind::Reserved(word) if is_object && begins_statement_with(word) => word_after_dot(word),
+        _ => None,
+    }
+}
+
+/// Whether the statement of the token of a number assigns to the name or the entry that begins it.
+fn is_assigned(tokens: &[Token<'_>], at: usize) -> bool {
+    let start = start_of(tokens, at);
+    is_name(tokens, start) && has_within(tokens, start, at, Sign::Assign)
 }
 
 /// Whether only parentheses are before the token of a number in its statement.
@@ -206,7 +258,8 @@ pub fn in_statement(tokens: &[Token<'_>], at: usize) -> Option<Advice> {
     if is_sign(tokens, at, Sign::Comma) && last_word(tokens, at, Word::Move).is_some() {
         return in_move(tokens, at);
     }
-    let told = after_lone_word(tokens, at)
+    let told = block_in_parentheses(tokens, at)
+        .or(after_lone_word(tokens, at))
         .or(after_routine(tokens, at))
         .or(declared(tokens, at));
     if told.is_some() || is_enclosed(tokens, at) {
@@ -242,7 +295,11 @@ fn value_alone(tokens: &[Token<'_>], at: usize) -> Advice {
     if is_step(tokens, last) {
         Advice::Do("write 'a->1 = a->1 + 1;' or 'lamp.size = lamp.size + 1;'")
     } else if begins_statement(tokens, last) && is_unknown(tokens, last) {
-        Advice::Do("a name alone is not a statement: call a routine as 'F();'")
+        Advice::Do(
+            "a name alone is not a statement: call a routine as 'F();', list a local in the head",
+        )
+    } else if has_arrow(tokens, start) {
+        Advice::Do("write '=' and a value, as in 'g = 5;' or 'a->0 = 5;'")
     } else if has_within(tokens, start, at, Sign::Equal) {
         Advice::Do("write '=' to assign")
     } else if last_word(tokens, at, Word::Has).is_some() {
@@ -252,6 +309,14 @@ fn value_alone(tokens: &[Token<'_>], at: usize) -> Advice {
     } else {
         Advice::Do("a value alone is not a statement: assign it, print it or test it")
     }
+}
+
+/// Whether an arrow or `<-` is after the token of a number.
+fn has_arrow(tokens: &[Token<'_>], at: usize) -> bool {
+    let next = behind(at, 1);
+    is_sign(tokens, next, Sign::Arrow)
+        || is_sign(tokens, next, Sign::LongArrow)
+        || is_sign(tokens, next, Sign::Less) && is_sign(tokens, behind(at, 2), Sign::Minus)
 }
 
 /// Whether an operator is expected and no end of a statement.
@@ -279,6 +344,12 @@ fn no_directive(tokens: &[Token<'_>], at: usize) -> Option<Advice> {
     match kind_at(tokens, at) {
         Kind::Reserved(word) => Some(word_outside(word)),
         Kind::Sign(sign) => Some(sign_outside(sign)),
+        Kind::Name(_) if is_word(tokens, behind(at, 2), Word::Object) => {
+            Some(Advice::Do("begin with 'Object' and the name, as in 'Object bag \"bag\"'"))
+        }
+        Kind::Name(_) if is_property_of_file(tokens, at) => Some(Advice::Do(
+            "remove the ';' before it: ',' is between the properties of an object",
+        )),
         Kind::Name(_) if is_sign(tokens, at.saturating_add(1), Sign::Assign) => {
             Some(Advice::Do("write 'Global' before a variable; other statements are in a routine"))
         }
@@ -298,6 +369,9 @@ fn word_outside(word: Word) -> Advice {
     match word {
         Word::With | Word::Has => Advice::Do("remove the ';' before it, which ends the object"),
         Word::Default => Advice::Absent("'Default'", SETTINGS),
+        Word::Char | Word::String => {
+            Advice::Do("write 'Global n;' for a variable, or 'Array a -> 10;' for 10 bytes")
+        }
         _ => Advice::Do(OUTSIDE),
     }
 }
@@ -311,23 +385,36 @@ fn sign_outside(sign: Sign) -> Advice {
         Sign::OpenBrace => {
             Advice::Do("a routine is '[ R a b; .. ];', and a comment begins with '!'")
         }
-        _ => Advice::Do(OUTSIDE),
+        _ => Advice::Do("a comment begins with '!', and a statement is in a routine"),
     }
+}
+
+/// Whether the token of a number is the name of a property.
+fn is_property_of_file(tokens: &[Token<'_>], at: usize) -> bool {
+    matches!(
+        known_as(tokens, at),
+        Some(Known::File(Definition::Property))
+    )
+}
+
+/// Whether the token of a number is `of`, and no name that is defined.
+fn is_of(tokens: &[Token<'_>], at: usize) -> bool {
+    is_named(tokens, at, b"of") && is_unknown(tokens, at)
 }
 
 /// What is told of two names side by side, of which one is defined nowhere.
 fn names_beside(tokens: &[Token<'_>], at: usize) -> Option<Advice> {
     let last = before(at, 1);
     if is_name(tokens, at) && is_name(tokens, last) && !begins_line(tokens, at) {
+        if is_article(tokens, last) {
+            return Some(Advice::Do("leave the article before it out"));
+        }
         if is_attribute(tokens, last) || is_attribute(tokens, at) {
             return Some(Advice::Do(
                 "write 'lamp has lit' to test an attribute, 'give lamp lit' to set it",
             ));
         }
-        if matches!(
-            known_as(tokens, at),
-            Some(Known::File(Definition::Property))
-        ) {
+        if is_property_of_file(tokens, at) || is_of(tokens, at) {
             return Some(Advice::Do("write 'lamp.size' for a property of an object"));
         }
         if begins_statement(tokens, last) && is_unknown(tokens, last) && is_unknown(tokens, at) {
@@ -403,8 +490,18 @@ pub fn no_statement(tokens: &[Token<'_>], at: usize, wanted: Option<&Grouped>) -
     }
     operands_beside(tokens, at)
         .or(in_condition(tokens, at))
-        .or(block_in_parentheses(tokens, at))
         .or(value_missing(tokens, at, wanted))
+        .or(second_value(tokens, at))
+}
+
+/// What is told of `,` after a value, where neither a list nor another statement is.
+fn second_value(tokens: &[Token<'_>], at: usize) -> Option<Advice> {
+    let is_in_list = is_enclosed(tokens, at) || definition_of(tokens, at).is_some();
+    if is_sign(tokens, at, Sign::Comma) && !is_in_list {
+        Some(Advice::Do("write a statement for each value, and ';' between them"))
+    } else {
+        None
+    }
 }
 
 /// What is told of `,` in a condition.
@@ -412,20 +509,42 @@ fn in_condition(tokens: &[Token<'_>], at: usize) -> Option<Advice> {
     let is_in = last_word(tokens, at, Word::If).is_some()
         || last_word(tokens, at, Word::While).is_some()
         || last_word(tokens, at, Word::Until).is_some();
-    if is_in && is_enclosed(tokens, at) && is_sign(tokens, at, Sign::Comma) {
-        Some(Advice::Do("write 'or' between values, and '&&' or '||' between conditions"))
-    } else {
-        None
+    if !is_in || !is_enclosed(tokens, at) {
+        return None;
     }
+    match kind_at(tokens, at) {
+        Kind::Sign(Sign::Comma) => {
+            Some(Advice::Do("write 'or' between values, and '&&' or '||' between conditions"))
+        }
+        Kind::Sign(Sign::Ampersand | Sign::Bar) => {
+            Some(Advice::Do("write '&&' or '||' between conditions"))
+        }
+        Kind::Reserved(Word::To) => {
+            Some(Advice::Do("write two comparisons with '&&' between, as in 'a >= 1 && a <= 9'"))
+        }
+        _ => None,
+    }
+}
+
+/// Whether the token of a number is the `(` of a block that is in parentheses.
+fn opens_block(tokens: &[Token<'_>], at: usize) -> bool {
+    let last = before(at, 1);
+    is_word(tokens, last, Word::Do)
+        || is_word(tokens, last, Word::Else)
+        || closes_condition(tokens, last)
 }
 
 /// What is told of a statement in parentheses.
 fn block_in_parentheses(tokens: &[Token<'_>], at: usize) -> Option<Advice> {
-    let is_after = is_sign(tokens, before(at, 1), Sign::OpenParenthesis)
-        && is_sign(tokens, before(at, 2), Sign::CloseParenthesis);
-    match kind_at(tokens, at) {
-        Kind::Reserved(_) if is_after => Some(Advice::Do("write '{' and '}' around a block")),
-        _ => None,
+    let open = last_open(tokens, at, Sign::OpenParenthesis, Sign::CloseParenthesis)?;
+    let is_part = match kind_at(tokens, at) {
+        Kind::Reserved(_) => before(at, 1) == open,
+        _ => is_sign(tokens, at, Sign::Semicolon),
+    };
+    if is_part && opens_block(tokens, open) {
+        Some(Advice::Do("write '{' and '}' around a block"))
+    } else {
+        None
     }
 }
 
@@ -468,9 +587,11 @@ fn operands_beside(tokens: &[Token<'_>], at: usize) -> Option<Advice> {
                 || is_word(tokens, at, Word::Nothing)
         }
     };
-    if is_operand && ends_operand(tokens, before(at, 1)) && !begins_line(tokens, at) {
-        Some(Advice::Do("put an operator between, or end the statement before it with ';'"))
-    } else {
+    if !is_operand || !ends_operand(tokens, before(at, 1)) || begins_line(tokens, at) {
         None
+    } else if definition_of(tokens, at).is_some() {
+        Some(Advice::Do("write '=' before the value"))
+    } else {
+        Some(Advice::Do("put an operator between, or end the statement before it with ';'"))
     }
 }

@@ -1,13 +1,17 @@
 //! What is told within a `switch` and an `if`.
 
 use crate::expressions::closes_condition;
+use crate::statements::begins_statement_with;
 use messages_contexts::{
-    before, behind, is_name, is_routine, is_sign, is_text, is_word, kind_at, last_open, start_of,
-    switch_around,
+    before, behind, is_joined, is_name, is_routine, is_sign, is_text, is_unknown, is_word, kind_at,
+    known_as, last_open, start_of, switch_around,
 };
 use messages_definitions::{Advice, pair_at};
 use messages_features::LABELS;
 use syntax::{Kind, Sign, Token, Word};
+
+const CONDITION_IN_CASE: &str =
+    "a case lists values, or a range as '1 to 9': write other conditions with 'if'";
 
 /// How many blocks are open after the token of a number, of so many before it.
 fn open_after(tokens: &[Token<'_>], at: usize, open: usize) -> usize {
@@ -48,6 +52,15 @@ fn is_in_block_of_case(tokens: &[Token<'_>], at: usize) -> bool {
     }
 }
 
+/// What is told of a `:` after a name that begins a statement, the token of a number.
+fn after_first_name(tokens: &[Token<'_>], at: usize) -> Advice {
+    if is_unknown(tokens, at) {
+        Advice::Absent("a label", LABELS)
+    } else {
+        Advice::Do("write '=' to assign")
+    }
+}
+
 /// What is told of a `:` that does not fit.
 fn colon(tokens: &[Token<'_>], at: usize) -> Option<Advice> {
     let last = before(at, 1);
@@ -73,7 +86,10 @@ fn colon(tokens: &[Token<'_>], at: usize) -> Option<Advice> {
             Some(Advice::Do("remove the ';' before it"))
         }
         None if is_name(tokens, last) && start_of(tokens, at) == last => {
-            Some(Advice::Absent("a label", LABELS))
+            Some(after_first_name(tokens, last))
+        }
+        None if is_joined(tokens, at) && known_as(tokens, last).is_some() => {
+            Some(Advice::Do("write 'lamp.size' for a property, 'a->0' for an entry of an array"))
         }
         None if is_in_case(tokens, at) => {
             Some(Advice::Do("a case is only in the block of a 'switch'"))
@@ -123,9 +139,8 @@ fn sign_in_case(tokens: &[Token<'_>], at: usize, sign: Sign) -> Option<Advice> {
             Some(Advice::Do("remove it"))
         }
         Sign::Semicolon => Some(Advice::Do("write ':' in its place, after the values of a case")),
-        Sign::Less | Sign::LessOrEqual | Sign::GreaterOrEqual => Some(Advice::Do(
-            "a case lists values, or a range as '1 to 9': write other conditions with 'if'",
-        )),
+        Sign::Less | Sign::LessOrEqual | Sign::GreaterOrEqual | Sign::Equal | Sign::NotEqual =>
+            Some(Advice::Do(CONDITION_IN_CASE)),
         _ => None,
     }
 }
@@ -150,10 +165,36 @@ fn is_text_case(tokens: &[Token<'_>], at: usize) -> bool {
     is_after && is_text(tokens, last) && start_of(tokens, last) == last
 }
 
+/// What is told after `default`, or where it is to be.
+fn at_default(tokens: &[Token<'_>], at: usize) -> Option<Advice> {
+    let is_sign_in_place = match kind_at(tokens, at) {
+        Kind::Sign(sign) => !matches!(sign, Sign::OpenParenthesis),
+        _ => false,
+    };
+    if is_word(tokens, before(at, 1), Word::Default) && !is_sign_in_place {
+        Some(Advice::Do("write ':' right after 'default'"))
+    } else if is_sign(tokens, at, Sign::Star) && is_sign(tokens, behind(at, 1), Sign::Colon) {
+        Some(Advice::Do("write 'default:' after the other cases"))
+    } else {
+        None
+    }
+}
+
+/// Whether a statement begins with the token of a number.
+fn is_statement_word(tokens: &[Token<'_>], at: usize) -> bool {
+    match kind_at(tokens, at) {
+        Kind::Reserved(word) => begins_statement_with(word),
+        _ => false,
+    }
+}
+
 /// What is told where a case of a `switch` may begin.
 fn at_case(tokens: &[Token<'_>], open: usize, at: usize) -> Option<Advice> {
     if is_word(tokens, at, Word::Default) && is_after_default(tokens, open, at) {
         return Some(Advice::Do("a 'switch' has one 'default:' at most"));
+    }
+    if let Some(told) = at_default(tokens, at) {
+        return Some(told);
     }
     if is_text_case(tokens, at) || is_text_case(tokens, behind(at, 1)) {
         return Some(Advice::Do("write the words of a case in single quotes"));
@@ -163,6 +204,9 @@ fn at_case(tokens: &[Token<'_>], open: usize, at: usize) -> Option<Advice> {
         || is_word(tokens, at, Word::To);
     if is_late && is_after_default(tokens, open, at) && is_in_case(tokens, at) {
         return Some(Advice::Do("write 'default:' after all other cases"));
+    }
+    if before(at, 1) == open && is_statement_word(tokens, at) {
+        return Some(Advice::Do("begin with a value and ':', as in '1: print 2;'"));
     }
     if is_sign(tokens, at, Sign::OpenParenthesis)
         && is_sign(tokens, before(at, 1), Sign::OpenBrace)
@@ -174,9 +218,7 @@ fn at_case(tokens: &[Token<'_>], open: usize, at: usize) -> Option<Advice> {
         || is_sign(tokens, at, Sign::Greater)
         || is_sign(tokens, at, Sign::GreaterOrEqual);
     if begins && start_of(tokens, at) == at {
-        return Some(Advice::Do(
-            "a case lists values, or a range as '1 to 9': write other conditions with 'if'",
-        ));
+        return Some(Advice::Do(CONDITION_IN_CASE));
     }
     if is_in_case(tokens, at) {
         in_case(tokens, at)
@@ -202,6 +244,18 @@ fn is_after_if(tokens: &[Token<'_>], at: usize) -> bool {
     false
 }
 
+/// Whether an `else` begins the statement or the block before the token of a number.
+fn is_after_else(tokens: &[Token<'_>], at: usize) -> bool {
+    let last = before(at, 1);
+    match last_open(tokens, last, Sign::OpenBrace, Sign::CloseBrace) {
+        Some(open) if is_sign(tokens, last, Sign::CloseBrace) => {
+            is_word(tokens, before(open, 1), Word::Else)
+        }
+        _ => is_word(tokens, start_of(tokens, last), Word::Else)
+            && !is_word(tokens, behind(start_of(tokens, last), 1), Word::If),
+    }
+}
+
 /// What is told of an `else` without an `if`.
 fn misplaced_else(tokens: &[Token<'_>], at: usize) -> Option<Advice> {
     let last = before(at, 1);
@@ -214,6 +268,8 @@ fn misplaced_else(tokens: &[Token<'_>], at: usize) -> Option<Advice> {
         Some(Advice::Do("write 'default:' after the other cases"))
     } else if is_after_block {
         Some(Advice::Do("remove the ';' before it"))
+    } else if is_after_else(tokens, at) {
+        Some(Advice::Do("an 'if' has one 'else': write 'else if' before another condition"))
     } else if is_after_if(tokens, at) {
         Some(Advice::Do("put '{' and '}' around the statements between the 'if' and it"))
     } else if switch_around(tokens, at).is_some() {
@@ -223,6 +279,12 @@ fn misplaced_else(tokens: &[Token<'_>], at: usize) -> Option<Advice> {
     }
 }
 
+/// Whether the token of a number is `<` after a text or `print`, as other languages write.
+fn is_after_item(tokens: &[Token<'_>], at: usize) -> bool {
+    let last = before(at, 1);
+    is_sign(tokens, at, Sign::Less) && (is_text(tokens, last) || is_word(tokens, last, Word::Print))
+}
+
 /// What is told of two signs side by side that are one in another language, of which the token of a
 /// number is the first or the second.
 pub fn between_signs(tokens: &[Token<'_>], at: usize) -> Option<Advice> {
@@ -230,6 +292,8 @@ pub fn between_signs(tokens: &[Token<'_>], at: usize) -> Option<Advice> {
         && (is_sign(tokens, at, Sign::Colon) && !is_sign(tokens, behind(at, 1), Sign::Assign)
             || is_in_case(tokens, at));
     if is_case {
+        None
+    } else if is_after_item(tokens, at) {
         None
     } else {
         pair_at(tokens, at).or(pair_at(tokens, behind(at, 1)))

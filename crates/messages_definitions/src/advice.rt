@@ -6,10 +6,10 @@ use messages_features::Feature;
 #[derive(Clone, Copy)]
 pub enum Advice {
     /// What is called so is not in this language.
-    Absent(&'static str, Feature),
+    Absent(&'static str, &'static Feature),
 
     /// The token of a number is a word that is not in this language.
-    Word(usize, Feature),
+    Word(usize, &'static Feature),
 
     /// What to write, or to leave out.
     Do(&'static str),

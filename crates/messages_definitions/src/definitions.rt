@@ -6,10 +6,10 @@ use crate::objects::in_object;
 use crate::signs::joins_equals;
 use messages_contexts::{
     Definition, before, begins_line, begun_at, behind, definition_of, is_joined, is_name, is_named,
-    is_sign, is_text, kind_at, start_of,
+    is_sign, is_text, is_word, kind_at, start_of, text_at,
 };
-use messages_features::{CONSTANT_EXPRESSIONS, OTHER_VALUES};
-use syntax::{Kind, Sign, Token};
+use messages_features::{CONSTANT_EXPRESSIONS, OTHER_VALUES, habit_at_beginning};
+use syntax::{Kind, Sign, Token, Word};
 
 /// What is told of a sign in the head of a routine.
 fn sign_in_head(sign: Sign) -> Option<Advice> {
@@ -20,6 +20,7 @@ fn sign_in_head(sign: Sign) -> Option<Advice> {
         )),
         Sign::OpenBrace => Some(Advice::Do("write ';' there: a routine is '[ R a b; .. ];'")),
         Sign::Colon => Some(Advice::Do("write ';' in its place, as in '[ R a b;'")),
+        Sign::OpenBracket => Some(Advice::Do("remove it: one '[' is enough")),
         Sign::Assign => Some(Advice::Do(
             "a local begins as 0 or as an argument: assign to it in the routine",
         )),
@@ -27,9 +28,25 @@ fn sign_in_head(sign: Sign) -> Option<Advice> {
     }
 }
 
-/// What is told of a token in the head of a routine. A sign after the first token of a line is in a
-/// statement, before which `;` is missing.
-fn in_head(tokens: &[Token<'_>], at: usize) -> Option<Advice> {
+/// Whether a `]` is before the first `;` from the token of a number on.
+fn is_in_brackets(tokens: &[Token<'_>], start: usize) -> bool {
+    for number in start..tokens.len() {
+        if is_sign(tokens, number, Sign::Semicolon) {
+            return false;
+        }
+        if is_sign(tokens, number, Sign::CloseBracket) {
+            return true;
+        }
+    }
+    false
+}
+
+/// What is told of a token in the head of a routine that begins with the token of another number. A
+/// sign after the first token of a line is in a statement, before which `;` is missing.
+fn in_head(tokens: &[Token<'_>], start: usize, at: usize) -> Option<Advice> {
+    if is_in_brackets(tokens, start) {
+        return Some(Advice::Do("a comment begins with '!', and a routine is '[ R a b; .. ];'"));
+    }
     let is_in_statement = begins_line(tokens, at) || begins_line(tokens, before(at, 1));
     match kind_at(tokens, at) {
         Kind::Sign(sign) if !is_in_statement || matches!(sign, Sign::OpenBrace) => {
@@ -48,7 +65,7 @@ fn goes_on(tokens: &[Token<'_>], at: usize) -> bool {
 /// Whether the token of a number is in the line of the one before it and no sign.
 fn is_value_beside(tokens: &[Token<'_>], at: usize) -> bool {
     match kind_at(tokens, at) {
-        Kind::Sign(sign) => matches!(sign, Sign::Assign | Sign::Minus),
+        Kind::Sign(sign) => matches!(sign, Sign::Assign | Sign::Minus | Sign::Colon),
         _ => !begins_line(tokens, at),
     }
 }
@@ -66,13 +83,26 @@ fn in_attribute(tokens: &[Token<'_>], at: usize) -> Option<Advice> {
     }
 }
 
+/// Whether the token of a number is a sign that is written before the value of a property.
+fn is_before_value(tokens: &[Token<'_>], at: usize) -> bool {
+    match kind_at(tokens, at) {
+        Kind::Sign(sign) => matches!(
+            sign,
+            Sign::Assign | Sign::Colon | Sign::Arrow | Sign::LongArrow | Sign::OpenParenthesis
+        ),
+        _ => false,
+    }
+}
+
 /// What is told in the definition of a property that begins with the token of a number.
 fn in_property(tokens: &[Token<'_>], start: usize, at: usize) -> Option<Advice> {
     if is_named(tokens, before(at, 1), b"alias") {
         Some(Advice::Do("a property has one name: leave 'alias' out"))
+    } else if is_named(tokens, behind(start, 1), b"long") {
+        Some(Advice::Do("leave 'long' out: write the name right after 'Property'"))
     } else if goes_on(tokens, at) {
         Some(Advice::Do("write a 'Property' of its own for each"))
-    } else if is_sign(tokens, at, Sign::Assign) {
+    } else if is_before_value(tokens, at) {
         Some(Advice::Do(
             "write the value after the name with nothing between, as in 'Property p 5;'",
         ))
@@ -152,9 +182,14 @@ fn after_name(tokens: &[Token<'_>], at: usize, what: Definition) -> Option<Advic
     match kind_at(tokens, at) {
         Kind::Sign(sign) => sign_after_name(sign, what),
         Kind::Text(_) => Some(Advice::Absent("a text as a value", OTHER_VALUES)),
-        Kind::Name(_) if goes_on(tokens, at) && matches!(what, Definition::Global) => {
+        Kind::Name(_) if begins_line(tokens, at) => None,
+        Kind::Name(_) if habit_at_beginning(text_at(tokens, before(at, 1))).is_some() => {
+            Some(Advice::Do("no type is written: leave the word before it out"))
+        }
+        Kind::Name(_) if matches!(what, Definition::Global) => {
             Some(Advice::Do("write a 'Global' of its own for each, and '=' before a value"))
         }
+        Kind::Name(_) => Some(Advice::Do("write '=' before the value")),
         _ => None,
     }
 }
@@ -197,9 +232,31 @@ fn is_after_name(tokens: &[Token<'_>], at: usize) -> bool {
     }
 }
 
+/// Whether the token of a number is a word or a text in the place of a name.
+fn is_quoted_name(tokens: &[Token<'_>], at: usize, what: Definition) -> bool {
+    match kind_at(tokens, at) {
+        Kind::Text(_) | Kind::DictionaryWord(_) | Kind::Character(_) => {
+            !matches!(what, Definition::Object)
+        }
+        _ => false,
+    }
+}
+
+/// What is told among abbreviations.
+fn in_abbreviations(tokens: &[Token<'_>], at: usize) -> Option<Advice> {
+    match kind_at(tokens, at) {
+        Kind::Name(_) | Kind::DictionaryWord(_) | Kind::Character(_) if !begins_line(tokens, at) =>
+            { Some(Advice::Do("write the texts in double quotes")) }
+        _ => None,
+    }
+}
+
 /// What is told of a token that does not fit in a definition.
 pub fn in_definition(tokens: &[Token<'_>], at: usize) -> Option<Advice> {
     let start = start_of(tokens, at);
+    if is_word(tokens, start, Word::Abbreviate) {
+        return in_abbreviations(tokens, at);
+    }
     let what = definition_of(tokens, at)?;
     if begins_another(tokens, at) {
         return None;
@@ -210,8 +267,11 @@ pub fn in_definition(tokens: &[Token<'_>], at: usize) -> Option<Advice> {
     if before(at, 1) == start && is_after_name(tokens, at) {
         return Some(Advice::Do("write a name before it"));
     }
+    if before(at, 1) == start && is_quoted_name(tokens, at, what) {
+        return Some(Advice::Do("write the name without quotes"));
+    }
     match what {
-        Definition::Routine => in_head(tokens, at),
+        Definition::Routine => in_head(tokens, start, at),
         Definition::Attribute => in_attribute(tokens, at),
         Definition::Property => in_property(tokens, start, at),
         Definition::Array => in_array(tokens, start, at),

@@ -2,14 +2,14 @@
 
 use crate::advice::Advice;
 use messages_contexts::{
-    before, behind, is_in_routine, is_name, is_named, is_sign, is_unknown, is_word, start_of,
-    text_at,
+    before, behind, is_in_routine, is_name, is_named, is_sign, is_unknown, is_word, kind_at,
+    last_open, start_of, text_at,
 };
 use messages_features::{Feature, habit_as_operand, habit_at_beginning, habit_between};
-use syntax::{Sign, Token, Word};
+use syntax::{Kind, Sign, Token, Word};
 
 /// The word of another language that the token of a number is, if no definition gives its name.
-fn habit(tokens: &[Token<'_>], at: usize, feature: Option<Feature>) -> Option<Advice> {
+fn habit(tokens: &[Token<'_>], at: usize, feature: Option<&'static Feature>) -> Option<Advice> {
     match feature {
         Some(feature) if is_unknown(tokens, at) => Some(Advice::Word(at, feature)),
         _ => None,
@@ -86,6 +86,48 @@ fn assigned(tokens: &[Token<'_>], at: usize) -> Option<Advice> {
     }
 }
 
+/// What is told of `is` before a word that tests: that the word is enough.
+fn told_of_test(word: Word, is_negated: bool) -> Option<Advice> {
+    match word {
+        Word::In if is_negated => Some(Advice::Do("write 'notin' alone")),
+        Word::Has if is_negated => Some(Advice::Do("write 'hasnt' alone")),
+        Word::In => Some(Advice::Do("write 'in' alone")),
+        Word::Has => Some(Advice::Do("write 'has' alone")),
+        Word::Notin | Word::Hasnt | Word::Provides => {
+            Some(Advice::Do("leave 'is' out: the word after it is enough"))
+        }
+        _ => None,
+    }
+}
+
+/// What is told of `is` in a condition before another word that tests or compares.
+fn before_test(tokens: &[Token<'_>], at: usize) -> Option<Advice> {
+    let next = behind(at, 1);
+    let is_negated = is_named(tokens, next, b"not");
+    let is_before = (is_named(tokens, at, b"is") || is_named(tokens, at, b"are"))
+        && is_unknown(tokens, at);
+    if !is_before {
+        return None;
+    }
+    match kind_at(tokens, if is_negated { behind(at, 2) } else { next }) {
+        Kind::Reserved(word) => told_of_test(word, is_negated),
+        Kind::Name(_) if !is_negated => between(tokens, next),
+        _ => None,
+    }
+}
+
+/// A word of another language between conditions that are in parentheses of their own, which is read
+/// as a routine: the token of a number is after the last parenthesis.
+fn between_parentheses(tokens: &[Token<'_>], at: usize) -> Option<Advice> {
+    let last = before(at, 1);
+    if is_sign(tokens, last, Sign::CloseParenthesis) {
+        let open = last_open(tokens, last, Sign::OpenParenthesis, Sign::CloseParenthesis)?;
+        between(tokens, before(open, 1))
+    } else {
+        None
+    }
+}
+
 /// What is told of the head of a routine in other languages, as `int main()`.
 fn called(tokens: &[Token<'_>], at: usize) -> Option<Advice> {
     let start = start_of(tokens, at);
@@ -133,6 +175,7 @@ pub fn habit_at(tokens: &[Token<'_>], at: usize) -> Option<Advice> {
     let last = before(at, 1);
     let start = start_of(tokens, at);
     called(tokens, at)
+        .or(before_test(tokens, at))
         .or(negated(tokens, at))
         .or(assigned(tokens, at))
         .or(parted_word(tokens, at))
@@ -140,6 +183,7 @@ pub fn habit_at(tokens: &[Token<'_>], at: usize) -> Option<Advice> {
         .or(negation(tokens, last))
         .or(between(tokens, at))
         .or(between(tokens, last))
+        .or(between_parentheses(tokens, at))
         .or(after_condition(tokens, at))
         .or(after_condition(tokens, last))
         .or(after_condition(tokens, before(at, 2)))

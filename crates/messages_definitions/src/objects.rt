@@ -1,11 +1,12 @@
 //! What is told within the definition of an object.
 
 use crate::advice::Advice;
+use crate::signs::joins_equals;
 use messages_contexts::{
     Definition, Known, before, begins_line, behind, has_word_within, is_attribute, is_name,
     is_named, is_property, is_sign, is_text, is_unknown, is_word, kind_at, known_as,
 };
-use messages_features::{MESSAGES, OTHER_VALUES};
+use messages_features::{CLASSES, CONSTANT_EXPRESSIONS, MESSAGES, OTHER_VALUES};
 use syntax::{Kind, Sign, Token, Word};
 
 const WITH: &str = "write 'with' before the properties";
@@ -53,7 +54,25 @@ fn in_place_of_name(tokens: &[Token<'_>], at: usize) -> Option<Advice> {
         Kind::DictionaryWord(_) | Kind::Character(_) => Some(Advice::Do(
             "write a name for the source, and then the short name in double quotes",
         )),
-        Kind::Sign(Sign::LongArrow) => Some(Advice::Do("write '->' for each step inside")),
+        Kind::Reserved(Word::With | Word::Has) => {
+            Some(Advice::Do("write the name of the object before it"))
+        }
+        Kind::Sign(sign) => sign_in_place_of_name(sign),
+        _ => None,
+    }
+}
+
+/// What is told of a sign in the place of an object's name.
+fn sign_in_place_of_name(sign: Sign) -> Option<Advice> {
+    match sign {
+        Sign::LongArrow => Some(Advice::Do("write '->' for each step inside")),
+        Sign::Minus | Sign::Decrement | Sign::Greater | Sign::Assign => {
+            Some(Advice::Do("write '->' without blanks, or the name alone"))
+        }
+        Sign::Semicolon => Some(Advice::Do("write the name of the object before it")),
+        Sign::OpenParenthesis | Sign::OpenBracket | Sign::OpenBrace => {
+            Some(Advice::Do("write the name right after 'Object', without brackets"))
+        }
         _ => None,
     }
 }
@@ -95,8 +114,17 @@ fn is_preposition(word: Word) -> bool {
     matches!(word, Word::In | Word::To)
 }
 
+/// Whether the token of a number is `class`, and no name that is defined.
+fn is_class(tokens: &[Token<'_>], at: usize) -> bool {
+    is_named(tokens, at, b"class") && is_unknown(tokens, at)
+}
+
 /// What is told of a token in the head of an object.
 fn in_head(tokens: &[Token<'_>], at: usize) -> Option<Advice> {
+    let last = before(at, 1);
+    if is_class(tokens, last) || is_class(tokens, at) {
+        return Some(Advice::Absent("'class'", CLASSES));
+    }
     match kind_at(tokens, at) {
         Kind::Text(_) => text_in_head(tokens, at),
         Kind::DictionaryWord(_) | Kind::Character(_) | Kind::Number(_)
@@ -108,10 +136,12 @@ fn in_head(tokens: &[Token<'_>], at: usize) -> Option<Advice> {
         Kind::Reserved(word) if is_preposition(word) => {
             Some(Advice::Do("write the parent right after the short name, with nothing between"))
         }
-        Kind::Name(_) if !begins_line(tokens, at) && is_name(tokens, before(at, 1)) => {
+        Kind::Name(_) if !begins_line(tokens, at) && is_name(tokens, last) => {
             head_names(tokens, at)
         }
-        Kind::Name(_) if is_text(tokens, before(at, 1)) => Some(after_short_name(tokens, at)),
+        Kind::Name(_) if is_text(tokens, last) || is_sign(tokens, last, Sign::Comma) => {
+            Some(after_short_name(tokens, at))
+        }
         _ => None,
     }
 }
@@ -162,7 +192,10 @@ fn head_names(tokens: &[Token<'_>], at: usize) -> Option<Advice> {
 
 /// What is told of a text among properties.
 fn text_among_properties(tokens: &[Token<'_>], at: usize) -> Advice {
-    if is_named(tokens, before(at, 1), b"name") || is_after_word_of_name(tokens, at) {
+    let last = before(at, 1);
+    if is_word(tokens, last, Word::With) {
+        Advice::Do("write the short name right after the name, before 'with'")
+    } else if is_named(tokens, last, b"name") || is_after_word_of_name(tokens, at) {
         Advice::Do("write the words in single quotes, as in 'with name 'lamp''")
     } else {
         Advice::Absent("a text as the value of a property", OTHER_VALUES)
@@ -202,12 +235,22 @@ fn valueless(tokens: &[Token<'_>], at: usize) -> Option<Advice> {
     let last = before(at, 1);
     if is_sign(tokens, last, Sign::Comma) {
         Some(Advice::Do("remove the ',' before it"))
+    } else if is_named(tokens, last, b"and") {
+        Some(Advice::Do("leave the 'and' before it out"))
     } else if !is_property(tokens, last) {
         None
     } else if is_attribute(tokens, last) {
         Some(Advice::Do("write 'has' before the attribute"))
     } else {
         Some(Advice::Do("give the property a value, as in 'with p 0'"))
+    }
+}
+
+/// What is told of an operator after a value of a property, the token of a number.
+fn operator_among_values(tokens: &[Token<'_>], at: usize) -> Advice {
+    match kind_at(tokens, at) {
+        Kind::Number(_) => Advice::Absent("an expression in an object", CONSTANT_EXPRESSIONS),
+        _ => Advice::Do("list the values of a property with nothing between"),
     }
 }
 
@@ -222,6 +265,7 @@ fn sign_among_properties(tokens: &[Token<'_>], at: usize, sign: Sign) -> Option<
             "write the values right after the property, without brackets",
         )),
         Sign::Semicolon | Sign::Comma => valueless(tokens, at),
+        other if joins_equals(other) => Some(operator_among_values(tokens, before(at, 1))),
         _ => None,
     }
 }
@@ -251,9 +295,13 @@ fn among_properties(tokens: &[Token<'_>], at: usize) -> Option<Advice> {
 fn sign_among_attributes(tokens: &[Token<'_>], at: usize, sign: Sign) -> Option<Advice> {
     match sign {
         Sign::Comma if is_word(tokens, behind(at, 1), Word::With) => None,
+        Sign::Comma | Sign::Assign if is_word(tokens, before(at, 1), Word::Has) => None,
         Sign::Comma => Some(Advice::Do("list the attributes with nothing between")),
         Sign::Tilde | Sign::Not | Sign::Minus => Some(Advice::Do(LISTED)),
-        Sign::Assign => Some(Advice::Do(VALUELESS)),
+        Sign::Assign | Sign::Colon => Some(Advice::Do(VALUELESS)),
+        Sign::OpenParenthesis | Sign::OpenBracket | Sign::OpenBrace => {
+            Some(Advice::Do("list the attributes without brackets"))
+        }
         _ => None,
     }
 }
@@ -277,6 +325,10 @@ fn among_attributes(tokens: &[Token<'_>], at: usize) -> Option<Advice> {
         Kind::Sign(sign) => sign_among_attributes(tokens, at, sign),
         Kind::Reserved(word) => word_among_attributes(tokens, at, word),
         Kind::Number(_) => Some(Advice::Do(VALUELESS)),
+        Kind::DictionaryWord(_) | Kind::Character(_) | Kind::Text(_)
+            if is_word(tokens, before(at, 1), Word::Has) => {
+            Some(Advice::Do("write the attributes without quotes"))
+        }
         Kind::DictionaryWord(_) | Kind::Text(_) => {
             Some(Advice::Do("write 'with' and a property before values, and 'has' after them"))
         }

@@ -2,11 +2,11 @@
 
 use crate::advice::Advice;
 use messages_contexts::{
-    before, begins_line, behind, divides_at, is_joined, is_sign, is_unknown, kind_at,
-    open_parenthesis, start_of,
+    before, begins_line, behind, divides_at, is_in_parentheses_of, is_joined, is_sign, is_unknown,
+    kind_at, open_parenthesis, start_of,
 };
 use messages_features::{ASSIGNING_OPERATORS, SUPERCLASSES};
-use syntax::{Kind, Sign, Token};
+use syntax::{Kind, Sign, Token, Word};
 
 const COMMENTS: &str = "a comment begins with '!'";
 
@@ -27,11 +27,16 @@ pub fn written_as_comment(tokens: &[Token<'_>], at: usize) -> Option<Advice> {
     }
 }
 
-/// Whether the token of a number is the second of `//` or of `/*`.
+/// Whether the token of a number is the second of `//` or of `/*`, or of `(*` where a statement
+/// begins.
 fn begins_comment(tokens: &[Token<'_>], at: usize) -> bool {
+    let last = before(at, 1);
     is_joined(tokens, at)
-        && is_sign(tokens, before(at, 1), Sign::Slash)
-        && (is_sign(tokens, at, Sign::Slash) || is_sign(tokens, at, Sign::Star))
+        && (is_sign(tokens, last, Sign::Slash)
+            && (is_sign(tokens, at, Sign::Slash) || is_sign(tokens, at, Sign::Star))
+            || is_sign(tokens, last, Sign::OpenParenthesis)
+                && is_sign(tokens, at, Sign::Star)
+                && start_of(tokens, at) == last)
 }
 
 /// Whether the token of a number is `--` with a blank after it.
@@ -133,10 +138,19 @@ fn are_apart(tokens: &[Token<'_>], at: usize, first: Sign, second: Sign) -> bool
     }
 }
 
+/// Whether two signs are `/=` in the condition of an `if`, the token of a number the second.
+fn compares_by_slash(tokens: &[Token<'_>], at: usize, first: Sign, second: Sign) -> bool {
+    matches!(first, Sign::Slash)
+        && matches!(second, Sign::Assign)
+        && is_in_parentheses_of(tokens, at, Word::If)
+}
+
 /// What is told of two signs, the token of a number and the one before it.
 fn told_of_signs(tokens: &[Token<'_>], at: usize, first: Sign, second: Sign) -> Option<Advice> {
     if are_apart(tokens, at, first, second) {
         None
+    } else if compares_by_slash(tokens, at, first, second) {
+        Some(Advice::Do("write '~='"))
     } else if is_joined(tokens, at) {
         told_of_pair(first, second).or(told_of_parted(first, second))
     } else {

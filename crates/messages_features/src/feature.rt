@@ -1,7 +1,7 @@
 //! A feature, how it is found by a name, and how its absence is said.
 
 use crate::habits::{BEGINNINGS, OPERANDS, OPERATORS, STATEMENTS};
-use crate::table::{ALL, IN_EXPRESSIONS};
+use crate::table::{ALL, DIRECTIVES, IN_EXPRESSIONS};
 use std::fmt::{self, Display, Formatter};
 
 /// A feature of Inform 6, or one that authors expect there, that is not in this language. In its
@@ -24,11 +24,11 @@ pub struct Feature {
 /// That something is not in this language, and what to write instead: `'random' is not in this
 /// language: write a routine of your own`.
 #[derive(Clone, Copy)]
-pub struct Absent<N>(pub N, pub Feature);
+pub struct Absent<N>(pub N, pub &'static Feature);
 
 /// What to write in the place of a feature: `write a routine of your own`.
 #[derive(Clone, Copy)]
-pub struct Instead(pub Feature);
+pub struct Instead(pub &'static Feature);
 
 /// A text with quotes in the place of backquotes.
 #[derive(Clone, Copy)]
@@ -71,7 +71,7 @@ fn has_name(feature: &Feature, text: &[u8]) -> bool {
 }
 
 /// The first feature of a list that has a name, in capital or small letters.
-fn find(features: &[Feature], text: &[u8]) -> Option<Feature> {
+fn find(features: &[&'static Feature], text: &[u8]) -> Option<&'static Feature> {
     for feature in features {
         if has_name(feature, text) {
             return Some(*feature);
@@ -81,38 +81,42 @@ fn find(features: &[Feature], text: &[u8]) -> Option<Feature> {
 }
 
 /// The feature that is recognized by a name, in capital or small letters.
-pub fn named(text: &[u8]) -> Option<Feature> {
+pub fn named(text: &[u8]) -> Option<&'static Feature> {
     find(&ALL, text)
 }
 
+/// The feature that is recognized by the name of a directive, in capital or small letters.
+pub fn named_as_directive(text: &[u8]) -> Option<&'static Feature> {
+    find(&DIRECTIVES, text)
+}
+
 /// The feature that is recognized by a name in an expression, in capital or small letters.
-pub fn named_in_expression(text: &[u8]) -> Option<Feature> {
+pub fn named_in_expression(text: &[u8]) -> Option<&'static Feature> {
     find(&IN_EXPRESSIONS, text)
 }
 
 /// What to write instead of a word of another language at the beginning of a statement or a
 /// definition, in capital or small letters.
-pub fn habit_at_beginning(text: &[u8]) -> Option<Feature> {
+pub fn habit_at_beginning(text: &[u8]) -> Option<&'static Feature> {
     find(&BEGINNINGS, text)
 }
 
 /// What to write instead of a word of another language between operands, in capital or small
 /// letters.
-pub fn habit_between(text: &[u8]) -> Option<Feature> {
+pub fn habit_between(text: &[u8]) -> Option<&'static Feature> {
     find(&OPERATORS, text)
 }
 
 /// What to write instead of a word of another language that is read as a name, in capital or small
 /// letters.
-pub fn habit_as_name(text: &[u8]) -> Option<Feature> {
-    habit_between(text)
-        .or(habit_as_operand(text))
-        .or(find(&STATEMENTS, text))
+pub fn habit_as_name(text: &[u8]) -> Option<&'static Feature> {
+    habit_as_operand(text).or(find(&STATEMENTS, text))
 }
 
 /// Whether a word is one of another language, or names a feature.
 pub fn is_habit(text: &[u8]) -> bool {
     habit_as_name(text)
+        .or(habit_between(text))
         .or(habit_at_beginning(text))
         .or(named(text))
         .is_some()
@@ -120,6 +124,6 @@ pub fn is_habit(text: &[u8]) -> bool {
 
 /// What to write instead of a word of another language in the place of an operand, in capital or
 /// small letters.
-pub fn habit_as_operand(text: &[u8]) -> Option<Feature> {
+pub fn habit_as_operand(text: &[u8]) -> Option<&'static Feature> {
     find(&OPERANDS, text)
 }

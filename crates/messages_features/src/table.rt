@@ -4,7 +4,7 @@
 use crate::feature::Feature;
 
 /// What the library of Inform 6 does.
-pub const LIBRARY: Feature = Feature {
+pub const LIBRARY: &Feature = &Feature {
     missing: "the Inform library, `Include`, `Verb`, `Extend`, actions (`<Look>`)",
     instead: "routines and a `read` loop, as in examples/skeleton.inf",
     section: "Directives",
@@ -18,7 +18,8 @@ pub const LIBRARY: Feature = Feature {
     ],
 };
 
-const CONDITIONS: Feature = Feature {
+/// What Inform 6 compiles on a condition.
+pub const CONDITIONS: &Feature = &Feature {
     missing: "`Ifdef`, `Ifndef`, `Ifnot`, `Endif`",
     instead: "only the branch that you need",
     section: "",
@@ -28,7 +29,7 @@ const CONDITIONS: Feature = Feature {
 };
 
 /// What Inform 6 sets for a whole story file.
-pub const SETTINGS: Feature = Feature {
+pub const SETTINGS: &Feature = &Feature {
     missing: "`Release`, `Serial`, `Switches`, `Replace`, `Default`",
     instead: "nothing",
     section: "",
@@ -37,6 +38,8 @@ pub const SETTINGS: Feature = Feature {
         "serial",
         "switches",
         "replace",
+        "default",
+        "version",
         "statusline",
         "lowstring",
         "zcharacter",
@@ -51,14 +54,14 @@ pub const SETTINGS: Feature = Feature {
 };
 
 /// `#` before a directive.
-pub const DIRECTIVE_SIGN: Feature = Feature {
+pub const DIRECTIVE_SIGN: &Feature = &Feature {
     missing: "`#` before directives",
     instead: "the directive without it",
     section: "",
     names: &[],
 };
 
-const MAIN_LOCALS: Feature = Feature {
+const MAIN_LOCALS: &Feature = &Feature {
     missing: "locals of `Main`",
     instead: "globals, or a routine that `Main` calls",
     section: "Definitions",
@@ -66,7 +69,7 @@ const MAIN_LOCALS: Feature = Feature {
 };
 
 /// Values that have to be computed before the story runs.
-pub const CONSTANT_EXPRESSIONS: Feature = Feature {
+pub const CONSTANT_EXPRESSIONS: &Feature = &Feature {
     missing: "`Constant size = 2 + 3;`, `Constant size 5;`, `Constant debug;`",
     instead: "one value, as in `Constant size = 5;` and `Constant debug = 0;`",
     section: "",
@@ -74,7 +77,7 @@ pub const CONSTANT_EXPRESSIONS: Feature = Feature {
 };
 
 /// Arrays of the kind `buffer`.
-pub const BUFFERS: Feature = Feature {
+pub const BUFFERS: &Feature = &Feature {
     missing: "`Array line buffer 20`",
     instead: "`Array line -> 22`, and `line-->0 = 20` at the start of `Main`",
     section: "",
@@ -82,7 +85,7 @@ pub const BUFFERS: Feature = Feature {
 };
 
 /// What an array does not hold.
-pub const ARRAY_VALUES: Feature = Feature {
+pub const ARRAY_VALUES: &Feature = &Feature {
     missing: "texts, brackets and parentheses in arrays",
     instead: "characters and plain values, and a `Constant` for a negative one",
     section: "",
@@ -90,14 +93,14 @@ pub const ARRAY_VALUES: Feature = Feature {
 };
 
 /// Texts, routines and other things that are no numbers as values.
-pub const OTHER_VALUES: Feature = Feature {
+pub const OTHER_VALUES: &Feature = &Feature {
     missing: "routines, arrays, attributes, properties, texts as values",
     instead: "a number, and a `switch` over it",
     section: "Values",
     names: &[],
 };
 
-const FUNCTIONS: Feature = Feature {
+const FUNCTIONS: &Feature = &Feature {
     missing: "`random`, `children`, `youngest`, `indirect`, `metaclass`",
     instead: "a routine of your own",
     section: "",
@@ -113,8 +116,7 @@ const FUNCTIONS: Feature = Feature {
     ],
 };
 
-/// Steps of what is no variable.
-pub const STEPS: Feature = Feature {
+const STEPS: &Feature = &Feature {
     missing: "`bag.p++`, `(a->1)++`",
     instead: "`bag.p = bag.p + 1`, `a->1 = a->1 + 1`",
     section: "Operators",
@@ -122,7 +124,7 @@ pub const STEPS: Feature = Feature {
 };
 
 /// Operators that also assign.
-pub const ASSIGNING_OPERATORS: Feature = Feature {
+pub const ASSIGNING_OPERATORS: &Feature = &Feature {
     missing: "`a += b`, which Inform 6 lacks too",
     instead: "`a = a + b`",
     section: "",
@@ -130,7 +132,7 @@ pub const ASSIGNING_OPERATORS: Feature = Feature {
 };
 
 /// `!=`, which begins a comment.
-pub const INEQUALITY: Feature = Feature {
+pub const INEQUALITY: &Feature = &Feature {
     missing: "`a != b`, which Inform 6 lacks too",
     instead: "`a ~= b`, since `!` begins a comment",
     section: "",
@@ -138,7 +140,7 @@ pub const INEQUALITY: Feature = Feature {
 };
 
 /// `!` as an operator, which begins a comment.
-pub const NEGATION: Feature = Feature {
+pub const NEGATION: &Feature = &Feature {
     missing: "`!a`, which Inform 6 lacks too",
     instead: "`~~a`, since `!` begins a comment",
     section: "",
@@ -146,7 +148,7 @@ pub const NEGATION: Feature = Feature {
 };
 
 /// `or` after other operators than `==` and `~=`.
-pub const ALTERNATIVES: Feature = Feature {
+pub const ALTERNATIVES: &Feature = &Feature {
     missing: "`n > 6 or 4`, `o has a or b`",
     instead: "`n > 6 || n > 4`, `o has a || o has b`",
     section: "",
@@ -154,7 +156,7 @@ pub const ALTERNATIVES: Feature = Feature {
 };
 
 /// Several expressions in one.
-pub const COMMAS: Feature = Feature {
+pub const COMMAS: &Feature = &Feature {
     missing: "`for (i = 0, j = 9 : ..`",
     instead: "one statement for each expression",
     section: "",
@@ -162,7 +164,7 @@ pub const COMMAS: Feature = Feature {
 };
 
 /// Negations as operands.
-pub const NESTED_NEGATIONS: Feature = Feature {
+pub const NESTED_NEGATIONS: &Feature = &Feature {
     missing: "`a + ~~b`, `-~a`",
     instead: "`a + (~~b)`, `-(~a)`",
     section: "",
@@ -170,21 +172,21 @@ pub const NESTED_NEGATIONS: Feature = Feature {
 };
 
 /// The forms of `print`.
-pub const PRINT_FORMS: Feature = Feature {
+pub const PRINT_FORMS: &Feature = &Feature {
     missing: "`print (name) x`, `print (The) x`, `print (string) x`, `print (Stars) 3`",
     instead: "`(object)` for a short name, `(char)` for a character, or a statement that calls, as `Stars(3);`",
     section: "Statements",
     names: &[],
 };
 
-const LONG_TEXTS: Feature = Feature {
+const LONG_TEXTS: &Feature = &Feature {
     missing: "texts of several lines",
     instead: "several print items",
     section: "",
     names: &[],
 };
 
-const AT_SIGNS: Feature = Feature {
+const AT_SIGNS: &Feature = &Feature {
     missing: "`@` and `\\` in texts",
     instead: "`(char) 64` and `(char) 92`, as items of a `print`",
     section: "",
@@ -192,14 +194,14 @@ const AT_SIGNS: Feature = Feature {
 };
 
 /// Letters with accents.
-pub const ACCENTS: Feature = Feature {
+pub const ACCENTS: &Feature = &Feature {
     missing: "accented letters, also in comments",
     instead: "letters without accents",
     section: "",
     names: &[],
 };
 
-const CHARACTERS: Feature = Feature {
+const CHARACTERS: &Feature = &Feature {
     missing: "`'^'`, `'~'`, `'''`, `'lamps//p'`",
     instead: "94, 126, 39, `'lamps'`",
     section: "",
@@ -207,7 +209,7 @@ const CHARACTERS: Feature = Feature {
 };
 
 /// Places to jump to.
-pub const LABELS: Feature = Feature {
+pub const LABELS: &Feature = &Feature {
     missing: "`jump`, labels",
     instead: "a loop",
     section: "",
@@ -215,21 +217,21 @@ pub const LABELS: Feature = Feature {
 };
 
 /// Other forms of `objectloop`.
-pub const OBJECT_LOOPS: Feature = Feature {
+pub const OBJECT_LOOPS: &Feature = &Feature {
     missing: "`objectloop (x from y)`",
     instead: "`for (x = y : x : x = sibling(x))`",
     section: "",
     names: &[],
 };
 
-const READING: Feature = Feature {
+const READING: &Feature = &Feature {
     missing: "`read` with a variable, 0 or a third operand",
     instead: "the names of two arrays of bytes",
     section: "",
     names: &[],
 };
 
-const SPACES: Feature = Feature {
+const SPACES: &Feature = &Feature {
     missing: "`spaces`",
     instead: "a `print` with a text of spaces",
     section: "",
@@ -237,28 +239,29 @@ const SPACES: Feature = Feature {
 };
 
 /// Opcodes of the machine.
-pub const OPCODES: Feature = Feature {
+pub const OPCODES: &Feature = &Feature {
     missing: "opcodes such as `@print_num`",
     instead: "a statement such as `print`",
     section: "",
     names: &[],
 };
 
-const STYLES: Feature = Feature {
+const STYLES: &Feature = &Feature {
     missing: "`font`, `style`, `box`, `inversion`, `string`",
     instead: "nothing",
     section: "",
     names: &["font", "style", "box", "inversion"],
 };
 
-const SAVING: Feature = Feature {
+const SAVING: &Feature = &Feature {
     missing: "`save`, `restore`",
     instead: "`/undo` in the player, or keep the lines that you type",
     section: "",
     names: &["save", "restore"],
 };
 
-pub(crate) const CLASSES: Feature = Feature {
+/// Classes of objects.
+pub const CLASSES: &Feature = &Feature {
     missing: "`Class`, `ofclass`",
     instead: "an attribute and a property",
     section: "Objects",
@@ -266,7 +269,7 @@ pub(crate) const CLASSES: Feature = Feature {
 };
 
 /// The operators of classes.
-pub const SUPERCLASSES: Feature = Feature {
+pub const SUPERCLASSES: &Feature = &Feature {
     missing: "`..`, `::`",
     instead: "`.` and a property of each object",
     section: "",
@@ -274,28 +277,28 @@ pub const SUPERCLASSES: Feature = Feature {
 };
 
 /// Routines that are called through an object.
-pub const MESSAGES: Feature = Feature {
+pub const MESSAGES: &Feature = &Feature {
     missing: "`self`, messages, routines as property values",
     instead: "a routine with a `switch` over objects",
     section: "",
     names: &["self"],
 };
 
-const UNDECLARED: Feature = Feature {
+const UNDECLARED: &Feature = &Feature {
     missing: "undeclared properties, `with p,`, `with name \"bag\"`",
     instead: "`Property p;`, `with p 0`, `with name 'bag'`",
     section: "",
     names: &[],
 };
 
-const OBJECT_HEADS: Feature = Feature {
+const OBJECT_HEADS: &Feature = &Feature {
     missing: "`Object \"bag\"`, `has lit with p 3`",
     instead: "`Object bag \"bag\"`, `with p 3, has lit`",
     section: "",
     names: &[],
 };
 
-const MISSING_ATTRIBUTES: Feature = Feature {
+const MISSING_ATTRIBUTES: &Feature = &Feature {
     missing: "`has ~lit`",
     instead: "nothing",
     section: "",
@@ -303,18 +306,21 @@ const MISSING_ATTRIBUTES: Feature = Feature {
 };
 
 /// Addresses of properties as values.
-pub const ADDRESSES: Feature = Feature {
+pub const ADDRESSES: &Feature = &Feature {
     missing: "`a = bag.&p`",
     instead: "`bag.&p-->0`",
     section: "",
     names: &[],
 };
 
+/// The features whose names are directives.
+pub(crate) const DIRECTIVES: [&Feature; 4] = [LIBRARY, CONDITIONS, SETTINGS, CLASSES];
+
 /// The features whose names are in expressions.
-pub(crate) const IN_EXPRESSIONS: [Feature; 2] = [FUNCTIONS, MESSAGES];
+pub(crate) const IN_EXPRESSIONS: [&Feature; 2] = [FUNCTIONS, MESSAGES];
 
 /// All features.
-pub(crate) const ALL: [Feature; 36] = [
+pub(crate) const ALL: [&Feature; 36] = [
     LIBRARY,
     CONDITIONS,
     SETTINGS,

@@ -2,19 +2,15 @@
 
 use crate::mending::mended;
 use crate::misspelt::misspelt;
-use crate::repairs::{
-    absence_helps, end_of_routine_helps, equality_helps, fits_after_semicolon, name_helps,
-    sign_helps,
-};
+use crate::repairs::Trial;
 use messages_advice::{advice_at, late_advice_at};
 use messages_contexts::{
-    Definition, around, before, begins_line, behind, definition_of, divides_at, ends_within,
-    is_after_word, is_behind_has, is_sign, is_text, is_unknown, is_word, kind_at, last_open,
-    last_word, open_parenthesis, owns_parentheses, start_of, switch_around,
+    Definition, around, before, begins_line, begun_at, behind, definition_of, divides_at,
+    ends_within, is_after_word, is_behind_has, is_sign, is_text, is_unknown, is_word, kind_at,
+    last_open, last_word, open_parenthesis, owns_parentheses, start_of, switch_around,
 };
 use messages_definitions::Advice;
 use messages_expected::Grouped;
-use std::alloc::{AllocError, Global};
 use syntax::{Kind, Sign, Token, Word};
 
 /// What may be the cause of a token that does not fit.
@@ -210,21 +206,27 @@ fn is_bare_word(tokens: &[Token<'_>], number: usize) -> bool {
     is_reserved(tokens, number) && !has_parentheses && !begins_form(tokens, number)
 }
 
+/// Whether the token of a number is a reserved word right after the word that begins a definition,
+/// where only a name is.
+fn is_in_place_of_name(tokens: &[Token<'_>], number: usize) -> bool {
+    is_reserved(tokens, number)
+        && begun_at(tokens, before(number, 1)).is_some()
+        && start_of(tokens, number) == before(number, 1)
+}
+
 /// The number of the reserved word for which a name would do: the token of a number itself, or the
 /// one before it.
-fn reserved_name(
-    alloc: Global,
-    tokens: &mut Vec<Token<'_>>,
-    number: usize,
-) -> Result<Option<usize>, AllocError> {
-    if is_bare_word(tokens, number) && name_helps(alloc, tokens, number, number)? {
-        return Ok(Some(number));
-    }
+fn reserved_name(trial: &mut Trial<'_>, number: usize) -> Option<usize> {
     let last = before(number, 1);
-    if may_be_meant(tokens, last) && name_helps(alloc, tokens, number, last)? {
-        return Ok(Some(last));
+    if is_in_place_of_name(&trial.tokens, number)
+        || is_bare_word(&trial.tokens, number) && trial.name_helps(number, number)
+    {
+        Some(number)
+    } else if may_be_meant(&trial.tokens, last) && trial.name_helps(number, last) {
+        Some(last)
+    } else {
+        None
     }
-    Ok(None)
 }
 
 /// Whether `,` may be between the tokens of a number and before it: in a `print`, an object, a list
@@ -263,36 +265,28 @@ pub fn is_likely(tokens: &[Token<'_>], number: usize, sign: Sign) -> bool {
 }
 
 /// The sign that may be missing before the token of a number.
-fn missing_before(
-    alloc: Global,
-    tokens: &mut Vec<Token<'_>>,
-    number: usize,
-) -> Result<Option<Missing>, AllocError> {
+fn missing_before(trial: &mut Trial<'_>, number: usize) -> Option<Missing> {
     for missing in &SIGNS {
-        if is_likely(tokens, number, missing.sign)
-            && sign_helps(alloc, tokens, number, number, missing.sign)?
+        if is_likely(&trial.tokens, number, missing.sign)
+            && trial.sign_helps(number, number, missing.sign)
         {
-            return Ok(Some(*missing));
+            return Some(*missing);
         }
     }
-    Ok(None)
+    None
 }
 
 /// Where a `;` may be missing at the end of a line: before the token of a number, or before the
 /// one that is before it.
-fn unended_line(
-    alloc: Global,
-    tokens: &mut Vec<Token<'_>>,
-    number: usize,
-) -> Result<Option<usize>, AllocError> {
+fn unended_line(trial: &mut Trial<'_>, number: usize) -> Option<usize> {
     let last = before(number, 1);
-    if begins_line(tokens, last) && sign_helps(alloc, tokens, number, last, Sign::Semicolon)? {
-        return Ok(Some(last));
+    if begins_line(&trial.tokens, last) && trial.sign_helps(number, last, Sign::Semicolon) {
+        Some(last)
+    } else if begins_line(&trial.tokens, number) && trial.fits_after_semicolon(number) {
+        Some(number)
+    } else {
+        None
     }
-    if begins_line(tokens, number) && fits_after_semicolon(alloc, tokens, number)? {
-        return Ok(Some(number));
-    }
-    Ok(None)
 }
 
 /// Whether the token of a number may be one too many: a sign, or a reserved word that is no value.
@@ -311,30 +305,22 @@ fn is_value(word: Word) -> bool {
 
 /// Which sign may be missing, if one may, or else whether the token of a number is one too many.
 /// Each sign costs a parse, so none is tried in a source of very many tokens.
-fn missing_sign(
-    alloc: Global,
-    tokens: &mut Vec<Token<'_>>,
-    number: usize,
-) -> Result<Cause, AllocError> {
-    if tokens.len() > MOST_TOKENS {
-        return Ok(Cause::Unknown);
+fn missing_sign(trial: &mut Trial<'_>, number: usize) -> Cause {
+    if trial.tokens.len() > MOST_TOKENS {
+        return Cause::Unknown;
     }
-    if let Some(missing) = missing_before(alloc, tokens, number)? {
-        return Ok(Cause::Missing(missing, number));
+    if let Some(missing) = missing_before(trial, number) {
+        return Cause::Missing(missing, number);
     }
-    if let Some(place) = unended_line(alloc, tokens, number)? {
-        return Ok(Cause::Missing(SEMICOLON, place));
+    if let Some(place) = unended_line(trial, number) {
+        return Cause::Missing(SEMICOLON, place);
     }
-    if end_of_routine_helps(alloc, tokens, number)? {
-        return Ok(Cause::Missing(END_OF_ROUTINE, number));
-    }
-    if !may_be_extra(tokens, number) {
-        return Ok(Cause::Unknown);
-    }
-    match absence_helps(alloc, tokens, number) {
-        Ok(true) => Ok(Cause::Extra),
-        Ok(false) => Ok(Cause::Unknown),
-        Err(refused) => Err(refused),
+    if trial.end_of_routine_helps(number) {
+        Cause::Missing(END_OF_ROUTINE, number)
+    } else if may_be_extra(&trial.tokens, number) && trial.absence_helps(number) {
+        Cause::Extra
+    } else {
+        Cause::Unknown
     }
 }
 
@@ -361,85 +347,76 @@ fn is_word_in_head(tokens: &[Token<'_>], number: usize) -> bool {
 
 /// Whether a `;` may be missing before the token of a number, which begins a line or is a reserved
 /// word in the head of a routine: a reserved word would fit after it, or what any other token begins.
-fn lacks_semicolon(
-    alloc: Global,
-    tokens: &mut Vec<Token<'_>>,
-    number: usize,
-) -> Result<bool, AllocError> {
-    if !begins_line(tokens, number) && !is_word_in_head(tokens, number) {
-        return Ok(false);
-    }
-    if is_reserved(tokens, number) {
-        fits_after_semicolon(alloc, tokens, number)
+fn lacks_semicolon(trial: &mut Trial<'_>, number: usize) -> bool {
+    if !begins_line(&trial.tokens, number) && !is_word_in_head(&trial.tokens, number) {
+        false
+    } else if is_reserved(&trial.tokens, number) {
+        trial.fits_after_semicolon(number)
     } else {
-        sign_helps(alloc, tokens, number, number, Sign::Semicolon)
+        trial.sign_helps(number, number, Sign::Semicolon)
     }
 }
 
 /// Whether the token of a number is `=`, and `==` in its place would do.
-fn assigns(alloc: Global, tokens: &mut Vec<Token<'_>>, number: usize) -> Result<bool, AllocError> {
-    if is_sign(tokens, number, Sign::Assign) {
-        equality_helps(alloc, tokens, number)
-    } else {
-        Ok(false)
-    }
+fn assigns(trial: &mut Trial<'_>, number: usize) -> bool {
+    is_sign(&trial.tokens, number, Sign::Assign) && trial.equality_helps(number)
 }
 
 /// What may be the cause of a token that does not fit, and has a number, by the tokens beside it.
-fn beside(
-    alloc: Global,
-    tokens: &mut Vec<Token<'_>>,
-    number: usize,
-) -> Result<Option<Cause>, AllocError> {
-    if is_late_with(tokens, number) {
-        return Ok(Some(Cause::LateWith));
+fn beside(trial: &mut Trial<'_>, number: usize) -> Option<Cause> {
+    if is_late_with(&trial.tokens, number) {
+        Some(Cause::LateWith)
+    } else if lacks_semicolon(trial, number) {
+        Some(Cause::Missing(SEMICOLON, number))
+    } else if is_repeated(&trial.tokens, number) {
+        Some(Cause::Repeated)
+    } else if let Some(place) = reserved_name(trial, number) {
+        Some(Cause::Reserved(place))
+    } else if assigns(trial, number) {
+        Some(Cause::Assigns)
+    } else {
+        None
     }
-    if lacks_semicolon(alloc, tokens, number)? {
-        return Ok(Some(Cause::Missing(SEMICOLON, number)));
+}
+
+/// What may be the cause of a token that does not fit, and has a number, if the parser tells by a
+/// small change.
+fn tried(trial: &mut Trial<'_>, number: usize) -> Option<Cause> {
+    let cause = beside(trial, number);
+    if cause.is_some() {
+        return cause;
     }
-    if is_repeated(tokens, number) {
-        return Ok(Some(Cause::Repeated));
+    if trial.tokens.len() > MOST_TOKENS {
+        None
+    } else {
+        mended(trial, number)
     }
-    if let Some(place) = reserved_name(alloc, tokens, number)? {
-        return Ok(Some(Cause::Reserved(place)));
-    }
-    if assigns(alloc, tokens, number)? {
-        return Ok(Some(Cause::Assigns));
-    }
-    Ok(None)
 }
 
 /// What may be the cause of a token that does not fit, and has a number. In its place these kinds
 /// are expected.
-///
-/// # Errors
-///
-/// `AllocError` where memory is refused.
 pub fn likely_cause(
-    alloc: Global,
+    trial: &mut Trial<'_>,
     source: &[u8],
-    tokens: &mut Vec<Token<'_>>,
     number: usize,
     wanted: Option<&Grouped>,
-) -> Result<Cause, AllocError> {
-    let is_short = tokens.len() <= MOST_TOKENS;
-    if is_short && let Some((place, word)) = misspelt(alloc, tokens, number)? {
-        return Ok(Cause::Misspelt(place, word));
+) -> Cause {
+    if trial.tokens.len() <= MOST_TOKENS
+        && let Some((place, word)) = misspelt(trial, number)
+    {
+        return Cause::Misspelt(place, word);
     }
-    if let Some(advice) = advice_at(source, tokens, number, wanted) {
-        return Ok(Cause::Told(advice));
+    if let Some(advice) = advice_at(source, &trial.tokens, number, wanted) {
+        return Cause::Told(advice);
     }
-    if let Some(cause) = beside(alloc, tokens, number)? {
-        return Ok(cause);
+    if let Some(cause) = tried(trial, number) {
+        return cause;
     }
-    if is_short && let Some(cause) = mended(alloc, tokens, number)? {
-        return Ok(cause);
+    if let Some(missing) = open_at_end(&trial.tokens, number) {
+        return Cause::Missing(missing, number);
     }
-    if let Some(missing) = open_at_end(tokens, number) {
-        return Ok(Cause::Missing(missing, number));
+    match late_advice_at(&trial.tokens, number, wanted) {
+        Some(advice) => Cause::Told(advice),
+        None => missing_sign(trial, number),
     }
-    if let Some(advice) = late_advice_at(tokens, number, wanted) {
-        return Ok(Cause::Told(advice));
-    }
-    missing_sign(alloc, tokens, number)
 }

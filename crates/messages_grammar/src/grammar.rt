@@ -4,13 +4,15 @@ ghost use Rattle.syntax_lexer.specs.Token.{lexemes};
 ghost use Rattle.syntax_lexer.specs.Tokens.{EndsOnce};
 
 use crate::causes::{Cause, Missing, likely_cause};
-use crate::openings::open_before;
+use crate::openings::{Open, open_before};
+use crate::repairs::Trial;
 use messages_contexts::{before, begins_line, line_of, text_at};
 use messages_definitions::Advice;
 use messages_expected::{Expected, Grouped, TokenKind, expected, in_groups};
 use messages_features::Absent;
 use messages_tokens::{Met, Quoted};
 use std::alloc::{AllocError, Global};
+use std::fmt::{self, Display, Formatter};
 use syntax::{Kind, Position, Sign, Token, Word};
 
 /// The most tokens of a source for which the kinds that are expected are listed. Each kind costs a
@@ -59,16 +61,64 @@ fn end_before(tokens: &[Token<'_>], number: usize) -> Option<Position> {
     })
 }
 
-/// What is wrong with a token that is a reserved word, or is after one, for which a name would do.
-fn reserved(
-    alloc: Global,
-    tokens: &[Token<'_>],
-    found: Found<'_, '_>,
-    place: usize,
-) -> Result<String, AllocError> {
-    let wanted = found.wanted;
-    let word = Quoted(text_at(tokens, place));
-    format!(in alloc; "{wanted} expected: {word} is reserved and cannot be a name")
+/// What to do about a token that does not fit.
+#[derive(Clone, Copy)]
+enum Remedy<'a> {
+    Do(&'static str),
+
+    /// Another sign in its place.
+    Replace(Sign),
+
+    /// A sign in the place of some bytes in a line.
+    ReplaceIn(Sign, &'a [u8], usize),
+
+    /// Without the bytes of the token before it.
+    RemoveBefore(&'a [u8]),
+
+    /// Without the `];` in a line.
+    RemoveEnd(usize),
+
+    /// With `;` after a line.
+    EndLine(usize),
+}
+
+impl Display for Remedy<'_> {
+    fn fmt<W: fmt::Write>(&self, f: &mut Formatter<W>) -> fmt::Result {
+        match *self {
+            Remedy::Do(what) => f.write_str(what),
+            Remedy::Replace(sign) => write!(f, "write {} in its place", TokenKind::Sign(sign)),
+            Remedy::ReplaceIn(sign, other, line) => {
+                let sign = TokenKind::Sign(sign);
+                write!(f, "write {sign} for the {} in line {line}", Quoted(other))
+            }
+            Remedy::RemoveBefore(last) => write!(f, "remove the {} before it", Quoted(last)),
+            Remedy::RemoveEnd(line) => write!(f, "remove the '];' in line {line}"),
+            Remedy::EndLine(line) => write!(f, "put ';' after line {line}"),
+        }
+    }
+}
+
+/// What is told of signs that are missing, after what is expected.
+#[derive(Clone, Copy)]
+enum Lack {
+    /// Nothing: they are all that is expected.
+    Known,
+
+    /// What they would close.
+    Open(Open),
+
+    /// How they are written.
+    Put(&'static str),
+}
+
+impl Display for Lack {
+    fn fmt<W: fmt::Write>(&self, f: &mut Formatter<W>) -> fmt::Result {
+        match *self {
+            Lack::Known => Ok(()),
+            Lack::Open(open) => write!(f, ": {open}"),
+            Lack::Put(written) => write!(f, ": put '{written}' there"),
+        }
+    }
 }
 
 /// Whether a sign is all that is expected.
@@ -86,44 +136,41 @@ fn is_wanted(wanted: Expected<'_>, sign: Sign) -> bool {
 fn is_after_line(tokens: &[Token<'_>], found: Found<'_, '_>, cause: Cause) -> bool {
     let is_missing = match cause {
         Cause::Missing(missing, _) => matches!(missing.sign, Sign::Semicolon),
-        _ => false,
+        Cause::Unknown => false,
+        _ => return false,
     };
     begins_line(tokens, found.number) && (is_missing || is_wanted(found.wanted, Sign::Semicolon))
 }
 
-/// What is wrong at the end of the line before a token, where these signs may be missing.
+/// What is told of signs that may be missing, where what they close is not named.
+fn lack_of(wanted: Expected<'_>, missing: Missing) -> Lack {
+    if is_only(wanted, missing.sign) {
+        Lack::Known
+    } else {
+        Lack::Put(missing.written)
+    }
+}
+
+/// What is wrong at the end of the line before a token, where signs may be missing or not.
 fn after_line(
     alloc: Global,
     tokens: &[Token<'_>],
     found: Found<'_, '_>,
-    missing: Option<Missing>,
+    cause: Cause,
 ) -> Result<Misfit, AllocError> {
     let wanted = found.wanted;
     let line = line_of(tokens, before(found.number, 1));
-    let sentence = match missing {
-        Some(missing) if !is_only(wanted, missing.sign) => {
-            let written = missing.written;
-            format!(in alloc; "{wanted} expected after line {line}: put '{written}' there")
-        }
-        _ => format!(in alloc; "{wanted} expected after line {line}"),
+    let lack = match cause {
+        Cause::Missing(missing, _) => lack_of(wanted, missing),
+        _ => Lack::Known,
     };
-    Ok(Misfit {
-        sentence: sentence?,
-        place: end_before(tokens, found.number),
-    })
-}
-
-/// What is wrong with a token if `;` may be missing before an earlier one, at the end of a line.
-fn after_earlier_line(
-    alloc: Global,
-    tokens: &[Token<'_>],
-    found: Found<'_, '_>,
-    place: usize,
-) -> Result<String, AllocError> {
-    let wanted = found.wanted;
-    let met = Met(found.token);
-    let line = line_of(tokens, before(place, 1));
-    format!(in alloc; "{wanted} expected, not {met}: put ';' after line {line}")
+    match format!(in alloc; "{wanted} expected after line {line}{lack}") {
+        Ok(sentence) => Ok(Misfit {
+            sentence,
+            place: end_before(tokens, found.number),
+        }),
+        Err(refused) => Err(refused),
+    }
 }
 
 /// What is wrong with a token before which signs may be missing.
@@ -135,95 +182,97 @@ fn missing_before(
 ) -> Result<String, AllocError> {
     let wanted = found.wanted;
     let met = Met(found.token);
-    let written = missing.written;
-    match open_before(tokens, found.number, missing.sign) {
-        Some(open) => format!(in alloc; "{wanted} expected before {met}: {open}"),
-        None if is_only(wanted, missing.sign) => {
-            format!(in alloc; "{wanted} expected before {met}")
+    let lack = match open_before(tokens, found.number, missing.sign) {
+        Some(open) => Lack::Open(open),
+        None => lack_of(wanted, missing),
+    };
+    format!(in alloc; "{wanted} expected before {met}{lack}")
+}
+
+/// Whether a token is `}`.
+fn is_brace(token: Token<'_>) -> bool {
+    matches!(token.kind, Kind::Sign(Sign::CloseBrace))
+}
+
+/// What to do about a token that does not fit, by its likely cause, if the sentence ends with that.
+fn remedy_of<'a>(tokens: &[Token<'a>], found: Found<'_, '_>, cause: Cause) -> Option<Remedy<'a>> {
+    let last = before(found.number, 1);
+    match cause {
+        Cause::Told(Advice::Do(what)) => Some(Remedy::Do(what)),
+        Cause::Assigns => Some(Remedy::Do("write '==' to compare")),
+        Cause::Inside => Some(Remedy::Do("a definition is not within a routine: move it out")),
+        Cause::Extra if is_brace(found.token) => {
+            Some(Remedy::Do("remove it, or write '{' where its block begins"))
         }
-        None => format!(in alloc; "{wanted} expected before {met}: put '{written}' there"),
+        Cause::Extra => Some(Remedy::Do("remove it")),
+        Cause::Instead(sign) => Some(Remedy::Replace(sign)),
+        Cause::InsteadOf(place, sign) => {
+            Some(Remedy::ReplaceIn(sign, text_at(tokens, place), line_of(tokens, place)))
+        }
+        Cause::ExtraBefore => Some(Remedy::RemoveBefore(text_at(tokens, last))),
+        Cause::EndedEarly => Some(Remedy::RemoveEnd(line_of(tokens, last))),
+        Cause::Missing(_, place) if place < found.number => {
+            Some(Remedy::EndLine(line_of(tokens, before(place, 1))))
+        }
+        _ => None,
     }
 }
 
-/// A sentence about the token itself.
-fn at_token(sentence: String) -> Misfit {
-    Misfit {
-        sentence,
-        place: None,
-    }
-}
-
-/// What is wrong with a token that is a form of another language, or a slip of a known kind.
-fn told(
-    alloc: Global,
-    tokens: &[Token<'_>],
-    found: Found<'_, '_>,
-    advice: Advice,
-) -> Result<String, AllocError> {
+/// What is wrong with a token, and what to do.
+fn remedied(alloc: Global, found: Found<'_, '_>, remedy: Remedy<'_>) -> Result<String, AllocError> {
     let wanted = found.wanted;
     let met = Met(found.token);
-    match advice {
-        Advice::Absent(what, feature) => format!(in alloc; "{}", Absent(what, feature)),
-        Advice::Word(number, feature) => {
-            let name = Quoted(text_at(tokens, number));
-            format!(in alloc; "{}", Absent(name, feature))
-        }
-        Advice::Do(what) => format!(in alloc; "{wanted} expected, not {met}: {what}"),
-    }
+    format!(in alloc; "{wanted} expected, not {met}: {remedy}")
 }
 
-/// What is wrong with a token after a name that may be a misspelt word.
-fn misspelt(
-    alloc: Global,
-    tokens: &[Token<'_>],
-    place: usize,
-    word: Word,
-) -> Result<String, AllocError> {
-    let name = Quoted(text_at(tokens, place));
-    let meant = TokenKind::Reserved(word);
-    format!(in alloc; "unknown word {name}; did you mean {meant}?")
-}
-
-/// What is wrong with a token, if a token beside it is at fault or another is meant by it.
-fn by_change(
+/// What is wrong with a token that is of another language, or is a misspelt or a reserved word, the
+/// token of a number.
+fn by_word(
     alloc: Global,
     tokens: &[Token<'_>],
     found: Found<'_, '_>,
     cause: Cause,
 ) -> Result<String, AllocError> {
     let wanted = found.wanted;
-    let met = Met(found.token);
-    let last = Quoted(text_at(tokens, before(found.number, 1)));
     match cause {
-        Cause::Instead(sign) => {
-            let sign = TokenKind::Sign(sign);
-            format!(in alloc; "{wanted} expected, not {met}: write {sign} in its place")
+        Cause::Told(Advice::Word(number, feature)) => {
+            format!(in alloc; "{}", Absent(Quoted(text_at(tokens, number)), feature))
         }
-        Cause::InsteadOf(place, sign) => {
-            let sign = TokenKind::Sign(sign);
-            let other = Quoted(text_at(tokens, place));
-            let line = line_of(tokens, place);
-            format!(in alloc;
-                "{wanted} expected, not {met}: write {sign} for the {other} in line {line}"
-            )
+        Cause::Misspelt(place, word) => {
+            let name = Quoted(text_at(tokens, place));
+            let meant = TokenKind::Reserved(word);
+            format!(in alloc; "unknown word {name}; did you mean {meant}?")
         }
-        Cause::ExtraBefore => {
-            format!(in alloc; "{wanted} expected, not {met}: remove the {last} before it")
+        Cause::Reserved(place) => {
+            let word = Quoted(text_at(tokens, place));
+            format!(in alloc; "{wanted} expected: {word} is reserved and cannot be a name")
         }
-        Cause::Inside => format!(in alloc;
-            "{wanted} expected, not {met}: a definition is not within a routine: move it out"
-        ),
-        Cause::EndedEarly => {
-            let line = line_of(tokens, before(found.number, 1));
-            format!(in alloc; "{wanted} expected, not {met}: remove the '];' in line {line}")
-        }
-        _ => format!(in alloc; "{wanted} expected, not {met}"),
+        _ => format!(in alloc; "{wanted} expected, not {}", Met(found.token)),
     }
 }
 
-/// Whether a token is `}`.
-fn is_brace(token: Token<'_>) -> bool {
-    matches!(token.kind, Kind::Sign(Sign::CloseBrace))
+/// What is wrong with a token, by its likely cause, in a sentence about the token itself.
+fn at_token(
+    alloc: Global,
+    tokens: &[Token<'_>],
+    found: Found<'_, '_>,
+    cause: Cause,
+) -> Result<String, AllocError> {
+    if let Some(remedy) = remedy_of(tokens, found, cause) {
+        return remedied(alloc, found, remedy);
+    }
+    match cause {
+        Cause::LateWith => String::from_str(alloc, "'with' must be before 'has'"),
+        Cause::Told(Advice::Absent(what, feature)) => {
+            format!(in alloc; "{}", Absent(what, feature))
+        }
+        Cause::Repeated => {
+            let wanted = found.wanted;
+            format!(in alloc; "{wanted} expected: {} is there twice", Met(found.token))
+        }
+        Cause::Missing(missing, _) => missing_before(alloc, tokens, found, missing),
+        other => by_word(alloc, tokens, found, other),
+    }
 }
 
 /// What is wrong with a token, by its likely cause.
@@ -233,31 +282,20 @@ fn by_cause(
     found: Found<'_, '_>,
     cause: Cause,
 ) -> Result<Misfit, AllocError> {
-    let wanted = found.wanted;
-    let met = Met(found.token);
-    let is_after_line = is_after_line(tokens, found, cause);
-    let sentence = match cause {
-        Cause::LateWith => format!(in alloc; "'with' must be before 'has'"),
-        Cause::Told(advice) => told(alloc, tokens, found, advice),
-        Cause::Misspelt(place, word) => misspelt(alloc, tokens, place, word),
-        Cause::Reserved(place) => reserved(alloc, tokens, found, place),
-        Cause::Repeated => format!(in alloc; "{wanted} expected: {met} is there twice"),
-        Cause::Assigns => format!(in alloc; "{wanted} expected, not {met}: write '==' to compare"),
-        Cause::Missing(_, place) if place < found.number => {
-            after_earlier_line(alloc, tokens, found, place)
-        }
-        Cause::Missing(missing, _) if is_after_line => {
-            return after_line(alloc, tokens, found, Some(missing));
-        }
-        Cause::Missing(missing, _) => missing_before(alloc, tokens, found, missing),
-        Cause::Extra if is_brace(found.token) => format!(in alloc;
-            "{wanted} expected, not {met}: remove it, or write '{{' where its block begins"
-        ),
-        Cause::Extra => format!(in alloc; "{wanted} expected, not {met}: remove it"),
-        Cause::Unknown if is_after_line => return after_line(alloc, tokens, found, None),
-        other => by_change(alloc, tokens, found, other),
+    let is_earlier = match cause {
+        Cause::Missing(_, place) => place < found.number,
+        _ => false,
     };
-    Ok(at_token(sentence?))
+    if !is_earlier && is_after_line(tokens, found, cause) {
+        return after_line(alloc, tokens, found, cause);
+    }
+    match at_token(alloc, tokens, found, cause) {
+        Ok(sentence) => Ok(Misfit {
+            sentence,
+            place: None,
+        }),
+        Err(refused) => Err(refused),
+    }
 }
 
 /// What is wrong with the first token of a source that does not fit, and has a number.
@@ -265,23 +303,27 @@ fn by_cause(
 /// # Errors
 ///
 /// `AllocError` where memory is refused.
-pub fn misfit_at(
+pub fn misfit_at<'a>(
     alloc: Global,
     source: &[u8],
-    tokens: &mut Vec<Token<'_>>,
+    tokens: Vec<Token<'a>>,
     number: usize,
-    token: Token<'_>,
+    token: Token<'a>,
 ) -> Result<Misfit, AllocError>
-    requires { EndsOnce (lexemes tokens.old.items) }
+    requires { EndsOnce (lexemes tokens.items) }
 {
-    let grouped = wanted(alloc, tokens)?;
-    let cause = likely_cause(alloc, source, tokens, number, grouped.as_ref())?;
+    let grouped = wanted(alloc, &tokens)?;
+    let mut trial = Trial::of(alloc, tokens);
+    let cause = likely_cause(&mut trial, source, number, grouped.as_ref());
+    if trial.is_refused {
+        return Err(AllocError);
+    }
     let found = Found {
         wanted: Expected(grouped.as_ref()),
         number,
         token,
     };
-    by_cause(alloc, tokens, found, cause)
+    by_cause(alloc, &trial.tokens, found, cause)
 }
 
 /// What is wrong with a token that is nested too deep.

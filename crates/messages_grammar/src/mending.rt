@@ -1,12 +1,11 @@
 //! Small changes after which the tokens are a program.
 
 use crate::causes::{Cause, END_OF_ROUTINE, SEMICOLON, SIGNS, is_likely, may_be_extra};
-use crate::repairs::{Change, mends};
+use crate::repairs::{Change, Trial};
 use messages_contexts::{
     Definition, before, begins_line, begun_at, behind, definition_of, is_in_routine, is_sign,
     is_word, kind_at, start_of,
 };
-use std::alloc::{AllocError, Global};
 use syntax::{Kind, Sign, Token, Word};
 
 /// Signs that may be meant by another one.
@@ -29,62 +28,44 @@ fn is_empty_call(tokens: &[Token<'_>], number: usize, sign: Sign) -> bool {
 }
 
 /// A sign with which the tokens are a program before the token of a number.
-fn with_sign(
-    alloc: Global,
-    tokens: &mut Vec<Token<'_>>,
-    number: usize,
-) -> Result<Option<Cause>, AllocError> {
+fn with_sign(trial: &mut Trial<'_>, number: usize) -> Option<Cause> {
     for missing in &SIGNS {
-        if is_likely(tokens, number, missing.sign)
-            && !is_empty_call(tokens, number, missing.sign)
-            && mends(alloc, tokens, Change::Before(number, missing.sign))?
+        if is_likely(&trial.tokens, number, missing.sign)
+            && !is_empty_call(&trial.tokens, number, missing.sign)
+            && trial.mends(Change::Before(number, missing.sign))
         {
-            return Ok(Some(Cause::Missing(*missing, number)));
+            return Some(Cause::Missing(*missing, number));
         }
     }
-    if mends(alloc, tokens, Change::EndOfRoutine(number))? {
-        return Ok(Some(Cause::Missing(END_OF_ROUTINE, number)));
+    if trial.mends(Change::EndOfRoutine(number)) {
+        Some(Cause::Missing(END_OF_ROUTINE, number))
+    } else {
+        None
     }
-    Ok(None)
 }
 
 /// A sign with which the tokens are a program in the place of that of a number.
-fn other_sign(
-    alloc: Global,
-    tokens: &mut Vec<Token<'_>>,
-    number: usize,
-) -> Result<Option<Sign>, AllocError> {
-    match kind_at(tokens, number) {
+fn other_sign(trial: &mut Trial<'_>, number: usize) -> Option<Sign> {
+    match kind_at(&trial.tokens, number) {
         Kind::Sign(_) => {}
-        _ => return Ok(None),
+        _ => return None,
     }
     for sign in &OTHERS {
-        let may_be = !matches!(sign, Sign::Equal) || is_sign(tokens, number, Sign::Assign);
-        if may_be && mends(alloc, tokens, Change::Instead(number, Kind::Sign(*sign)))? {
-            return Ok(Some(*sign));
+        let may_be = !matches!(sign, Sign::Equal) || is_sign(&trial.tokens, number, Sign::Assign);
+        if may_be && trial.mends(Change::Instead(number, Kind::Sign(*sign))) {
+            return Some(*sign);
         }
     }
-    Ok(None)
+    None
 }
 
 /// Whether the tokens are a program with `,` in the place of a `;` before the token of a number,
 /// which is `,`.
-fn needs_comma_before(
-    alloc: Global,
-    tokens: &mut Vec<Token<'_>>,
-    number: usize,
-) -> Result<bool, AllocError> {
-    let start = start_of(tokens, number);
-    let last = before(start, 1);
-    if is_sign(tokens, number, Sign::Comma) && is_sign(tokens, last, Sign::Semicolon) {
-        mends(
-            alloc,
-            tokens,
-            Change::Instead(last, Kind::Sign(Sign::Comma)),
-        )
-    } else {
-        Ok(false)
-    }
+fn needs_comma_before(trial: &mut Trial<'_>, number: usize) -> bool {
+    let last = before(start_of(&trial.tokens, number), 1);
+    is_sign(&trial.tokens, number, Sign::Comma)
+        && is_sign(&trial.tokens, last, Sign::Semicolon)
+        && trial.mends(Change::Instead(last, Kind::Sign(Sign::Comma)))
 }
 
 /// The number of the token after the end of the definition that begins with the token of a number.
@@ -101,32 +82,19 @@ fn end_of_definition(tokens: &[Token<'_>], number: usize) -> usize {
 
 /// Whether the tokens are a program without the definition that begins with the token of a number,
 /// in a routine.
-fn is_inside(
-    alloc: Global,
-    tokens: &mut Vec<Token<'_>>,
-    number: usize,
-) -> Result<bool, AllocError> {
-    if !is_in_routine(tokens, number) || begun_at(tokens, number).is_none() {
-        return Ok(false);
-    }
-    let end = end_of_definition(tokens, number);
-    mends(alloc, tokens, Change::WithoutAll(number, end))
+fn is_inside(trial: &mut Trial<'_>, number: usize) -> bool {
+    let end = end_of_definition(&trial.tokens, number);
+    is_in_routine(&trial.tokens, number)
+        && begun_at(&trial.tokens, number).is_some()
+        && trial.mends(Change::WithoutAll(number, end))
 }
 
 /// Whether the tokens are a program without the `];` before the token of a number.
-fn is_ended_early(
-    alloc: Global,
-    tokens: &mut Vec<Token<'_>>,
-    number: usize,
-) -> Result<bool, AllocError> {
+fn is_ended_early(trial: &mut Trial<'_>, number: usize) -> bool {
     let from = before(number, 2);
-    let is_after_end = is_sign(tokens, before(number, 1), Sign::Semicolon)
-        && is_sign(tokens, from, Sign::CloseBracket);
-    if is_after_end {
-        mends(alloc, tokens, Change::WithoutAll(from, number))
-    } else {
-        Ok(false)
-    }
+    is_sign(&trial.tokens, before(number, 1), Sign::Semicolon)
+        && is_sign(&trial.tokens, from, Sign::CloseBracket)
+        && trial.mends(Change::WithoutAll(from, number))
 }
 
 /// Whether the token of a number is a `;` at the end of a line: without it two statements would be
@@ -145,13 +113,11 @@ fn is_after_condition(tokens: &[Token<'_>], number: usize) -> bool {
 }
 
 /// Whether the tokens are a program without the token of a number, a sign or a reserved word.
-fn is_extra(alloc: Global, tokens: &mut Vec<Token<'_>>, number: usize) -> Result<bool, AllocError> {
-    let is_meant = ends_line(tokens, number) || is_after_condition(tokens, number);
-    if may_be_extra(tokens, number) && !is_meant {
-        mends(alloc, tokens, Change::Without(number))
-    } else {
-        Ok(false)
-    }
+fn is_extra(trial: &mut Trial<'_>, number: usize) -> bool {
+    may_be_extra(&trial.tokens, number)
+        && !ends_line(&trial.tokens, number)
+        && !is_after_condition(&trial.tokens, number)
+        && trial.mends(Change::Without(number))
 }
 
 /// Whether the token of a number may be one too many before one that does not fit: a sign that
@@ -177,43 +143,51 @@ fn may_be_left_out(tokens: &[Token<'_>], number: usize) -> bool {
     }
 }
 
+/// The cause of a token that does not fit, and has a number, by another way to write what is before
+/// it.
+fn earlier(trial: &mut Trial<'_>, number: usize) -> Option<Cause> {
+    let last = before(number, 1);
+    if begins_line(&trial.tokens, last) && trial.mends(Change::Before(last, Sign::Semicolon)) {
+        Some(Cause::Missing(SEMICOLON, last))
+    } else if is_ended_early(trial, number) {
+        Some(Cause::EndedEarly)
+    } else if is_inside(trial, number) {
+        Some(Cause::Inside)
+    } else if needs_comma_before(trial, number) {
+        let place = before(start_of(&trial.tokens, number), 1);
+        Some(Cause::InsteadOf(place, Sign::Comma))
+    } else {
+        None
+    }
+}
+
+/// The cause of a token that does not fit, and has a number, by a change of that token, or without
+/// it or the one before it.
+fn changed(trial: &mut Trial<'_>, number: usize) -> Option<Cause> {
+    let last = before(number, 1);
+    if is_extra(trial, number) {
+        return Some(Cause::Extra);
+    }
+    if let Some(sign) = other_sign(trial, number) {
+        return Some(Cause::Instead(sign));
+    }
+    if may_be_left_out(&trial.tokens, last) && is_extra(trial, last) {
+        Some(Cause::ExtraBefore)
+    } else {
+        None
+    }
+}
+
 /// The cause of a token that does not fit, and has a number, by a change after which the tokens are
 /// a program.
-///
-/// # Errors
-///
-/// `AllocError` if memory is refused.
-pub fn mended(
-    alloc: Global,
-    tokens: &mut Vec<Token<'_>>,
-    number: usize,
-) -> Result<Option<Cause>, AllocError> {
-    if let Some(cause) = with_sign(alloc, tokens, number)? {
-        return Ok(Some(cause));
+pub fn mended(trial: &mut Trial<'_>, number: usize) -> Option<Cause> {
+    let missing = with_sign(trial, number);
+    if missing.is_some() {
+        return missing;
     }
-    let last = before(number, 1);
-    let line_end = Change::Before(last, Sign::Semicolon);
-    if begins_line(tokens, last) && mends(alloc, tokens, line_end)? {
-        return Ok(Some(Cause::Missing(SEMICOLON, last)));
+    let before_it = earlier(trial, number);
+    if before_it.is_some() {
+        return before_it;
     }
-    if is_ended_early(alloc, tokens, number)? {
-        return Ok(Some(Cause::EndedEarly));
-    }
-    if is_inside(alloc, tokens, number)? {
-        return Ok(Some(Cause::Inside));
-    }
-    if needs_comma_before(alloc, tokens, number)? {
-        let place = before(start_of(tokens, number), 1);
-        return Ok(Some(Cause::InsteadOf(place, Sign::Comma)));
-    }
-    if is_extra(alloc, tokens, number)? {
-        return Ok(Some(Cause::Extra));
-    }
-    if let Some(sign) = other_sign(alloc, tokens, number)? {
-        return Ok(Some(Cause::Instead(sign)));
-    }
-    if may_be_left_out(tokens, before(number, 1)) && is_extra(alloc, tokens, before(number, 1))? {
-        return Ok(Some(Cause::ExtraBefore));
-    }
-    Ok(None)
+    changed(trial, number)
 }

@@ -1,11 +1,10 @@
 //! Reserved words that may be misspelt as names.
 
-use crate::repairs::{Change, mends};
+use crate::repairs::{Change, Trial};
 use messages_contexts::{
     MOST_EDITS, before, in_small_letters, is_near, is_unknown, start_of, text_at,
 };
 use messages_features::is_habit;
-use std::alloc::{AllocError, Global};
 use strsim::generic_levenshtein;
 use syntax::{Kind, Token, Word};
 
@@ -68,78 +67,68 @@ const WORDS: [Written; 46] = [
 /// The reserved word with which the tokens are a program in the place of the token of a number,
 /// among those with so many edits to its name.
 fn word_at_distance(
-    alloc: Global,
-    tokens: &mut Vec<Token<'_>>,
+    trial: &mut Trial<'_>,
     number: usize,
     name: &[u8],
     distance: usize,
-) -> Result<Option<Word>, AllocError> {
+) -> Option<Word> {
     for (word, written) in WORDS {
-        let edits = generic_levenshtein(alloc, name, written)?;
-        if edits == distance && is_near(name, edits, written) {
-            let change = Change::Instead(number, Kind::Reserved(word));
-            if mends(alloc, tokens, change)? {
-                return Ok(Some(word));
-            }
+        let Ok(edits) = generic_levenshtein(trial.alloc, name, written) else {
+            trial.is_refused = true;
+            return None;
+        };
+        if edits == distance
+            && is_near(name, edits, written)
+            && trial.mends(Change::Instead(number, Kind::Reserved(word)))
+        {
+            return Some(word);
         }
     }
-    Ok(None)
+    None
 }
 
 /// The reserved word with which the tokens are a program in the place of the token of a number: the
 /// nearest to its name.
-fn word_at(
-    alloc: Global,
-    tokens: &mut Vec<Token<'_>>,
-    number: usize,
-) -> Result<Option<Word>, AllocError> {
-    let name = in_small_letters(alloc, text_at(tokens, number))?;
+fn word_at(trial: &mut Trial<'_>, number: usize) -> Option<Word> {
+    let Ok(name) = in_small_letters(trial.alloc, text_at(&trial.tokens, number)) else {
+        trial.is_refused = true;
+        return None;
+    };
     for distance in 1..=MOST_EDITS {
-        if let Some(word) = word_at_distance(alloc, tokens, number, &name, distance)? {
-            return Ok(Some(word));
+        let word = word_at_distance(trial, number, &name, distance);
+        if word.is_some() {
+            return word;
         }
     }
-    Ok(None)
+    None
 }
 
 /// The reserved word that the token of a number may be meant as: a name that is defined nowhere, and
 /// no word of another language.
-fn meant_at(
-    alloc: Global,
-    tokens: &mut Vec<Token<'_>>,
-    number: usize,
-) -> Result<Option<Word>, AllocError> {
-    if is_unknown(tokens, number) && !is_habit(text_at(tokens, number)) {
-        word_at(alloc, tokens, number)
+fn meant_at(trial: &mut Trial<'_>, number: usize) -> Option<Word> {
+    if is_unknown(&trial.tokens, number) && !is_habit(text_at(&trial.tokens, number)) {
+        word_at(trial, number)
     } else {
-        Ok(None)
+        None
     }
 }
 
 /// The number of the token that may be a misspelt reserved word, and that word: in the statement of
 /// the token of a number, which does not fit, the last with which the tokens are a program, or the
 /// first of the statement.
-///
-/// # Errors
-///
-/// `AllocError` if memory is refused.
-pub fn misspelt(
-    alloc: Global,
-    tokens: &mut Vec<Token<'_>>,
-    number: usize,
-) -> Result<Option<(usize, Word)>, AllocError> {
-    let start = start_of(tokens, number);
+pub fn misspelt(trial: &mut Trial<'_>, number: usize) -> Option<(usize, Word)> {
+    let start = start_of(&trial.tokens, number);
     for count in 0..MOST_BEFORE {
         let place = before(number, count);
         if place < start || place > number {
-            return Ok(None);
+            return None;
         }
-        if let Some(word) = meant_at(alloc, tokens, place)? {
-            return Ok(Some((place, word)));
+        if let Some(word) = meant_at(trial, place) {
+            return Some((place, word));
         }
     }
-    match meant_at(alloc, tokens, start)? {
-        Some(word) => Ok(Some((start, word))),
-        None => Ok(None),
+    match meant_at(trial, start) {
+        Some(word) => Some((start, word)),
+        None => None,
     }
 }

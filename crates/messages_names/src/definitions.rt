@@ -1,7 +1,7 @@
 //! How a name that is not known is defined.
 
 use crate::wanted::{
-    ARRAY, ATTRIBUTE, CONSTANT, OBJECT, PROPERTY, ROUTINE, VARIABLE, is_in_case, wanted,
+    ARRAY, ATTRIBUTE, CONSTANT, OBJECT, PROPERTY, ROUTINE, VALUE, VARIABLE, is_in_case, wanted,
 };
 use messages_contexts::{
     Definition, around, before, behind, is_after_word, is_joined, is_name, is_named, is_property,
@@ -75,61 +75,72 @@ fn is_item(tokens: &[Token<'_>], at: usize) -> bool {
     begins && (is_sign(tokens, next, Sign::Comma) || is_sign(tokens, next, Sign::Semicolon))
 }
 
-/// How a value or a variable may be defined, or what else may be meant.
-fn value(
-    alloc: Global,
-    tokens: &[Token<'_>],
-    at: usize,
-    text: &[u8],
-) -> Result<String, AllocError> {
-    let name = Quoted(text);
-    let written = Cut(text);
-    if is_hyphened(tokens, at) {
-        let second = Cut(text_at(tokens, behind(at, 2)));
-        return format!(in alloc;
-            "unknown name {name}: a name has no '-': write '{written}_{second}'"
-        );
-    }
+/// What to write, before and after a name.
+#[derive(Clone, Copy)]
+struct Form(&'static str, &'static str);
+
+/// How a value or a variable may be defined, or what else may be meant. `None` for one that may be
+/// anything.
+fn form_of_value(tokens: &[Token<'_>], at: usize) -> Option<Form> {
     if is_compared(tokens, at) {
-        return format!(in alloc;
-            "unknown name {name}: define it, or write a word in single quotes, as {name}"
-        );
+        Some(Form("define it, or write a word in single quotes, as '", "'"))
+    } else if is_item(tokens, at) {
+        Some(Form(
+            "define it, as by 'Global ",
+            ";', or write a text in double quotes",
+        ))
+    } else if may_be_local(tokens, at) {
+        Some(Form(
+            "list it as a local after the routine's name, or define it, as by 'Global ",
+            ";'",
+        ))
+    } else {
+        None
     }
-    if is_item(tokens, at) {
-        return format!(in alloc;
-            "unknown name {name}: define it, as by 'Global {written};', or write a text in double quotes"
-        );
-    }
-    if may_be_local(tokens, at) {
-        return format!(in alloc;
-            "unknown name {name}: list it as a local after the routine's name, or define it, as by 'Global {written};'"
-        );
-    }
-    format!(in alloc;
-        "unknown name {name}: define it, as by 'Global {written};' or 'Object {written};'"
-    )
 }
 
 /// How what is known before a story runs may be defined.
-fn constant(
+fn form_of_constant(tokens: &[Token<'_>], at: usize) -> Form {
+    if may_be_word(tokens, at) || is_in_case(tokens, at) {
+        Form(
+            "write a word in single quotes, as '",
+            "', or define a Constant",
+        )
+    } else {
+        Form("define it by 'Constant ", " = 1;'")
+    }
+}
+
+/// How what is wanted in the place of a name may be defined. `None` for a value that may be
+/// anything.
+fn form_of(tokens: &[Token<'_>], at: usize, wanted: &str) -> Option<Form> {
+    match wanted {
+        ARRAY => Some(Form("define it by 'Array ", " -> 10;'")),
+        ATTRIBUTE => Some(Form("define it by 'Attribute ", ";'")),
+        PROPERTY => Some(Form("define it by 'Property ", ";'")),
+        OBJECT => Some(Form("define it by 'Object ", ";' before this")),
+        ROUTINE => Some(Form("define it by '[ ", "; .. ];'")),
+        CONSTANT => Some(form_of_constant(tokens, at)),
+        VARIABLE if !may_be_local(tokens, at) => Some(Form("define it by 'Global ", ";'")),
+        _ => form_of_value(tokens, at),
+    }
+}
+
+/// Whether the token of a number is a word that Inform 6 has before the name of a property.
+fn is_of_property(tokens: &[Token<'_>], at: usize) -> bool {
+    is_named(tokens, at, b"long") || is_named(tokens, at, b"additive")
+}
+
+/// What is wrong with a name that has `-` within it, the token of a number.
+fn hyphened(
     alloc: Global,
     tokens: &[Token<'_>],
     at: usize,
     text: &[u8],
 ) -> Result<String, AllocError> {
-    let name = Quoted(text);
-    let written = Cut(text);
-    let last = before(at, 1);
-    if is_named(tokens, last, b"long") || is_named(tokens, last, b"additive") {
-        let word = Quoted(text_at(tokens, last));
-        return format!(in alloc; "unknown name {name}: leave {word} out");
-    }
-    if may_be_word(tokens, at) || is_in_case(tokens, at) {
-        return format!(in alloc;
-            "unknown name {name}: write a word in single quotes, as {name}, or define a Constant"
-        );
-    }
-    format!(in alloc; "unknown name {name}: define it by 'Constant {written} = 1;'")
+    let first = Cut(text);
+    let second = Cut(text_at(tokens, behind(at, 2)));
+    format!(in alloc; "unknown name '{first}': a name has no '-': write '{first}_{second}'")
 }
 
 /// What is wrong with a name that is defined nowhere, and how it may be defined.
@@ -143,23 +154,25 @@ pub fn undefined_name(
     at: usize,
     text: &[u8],
 ) -> Result<String, AllocError> {
-    let name = Quoted(text);
-    let written = Cut(text);
-    let Some(around) = around(tokens, at) else {
-        return format!(in alloc; "unknown name {name}");
+    let name = Cut(text);
+    let wanted = match around(tokens, at) {
+        Some(around) => wanted(tokens, at, around, false),
+        None => VALUE,
     };
-    match wanted(tokens, at, around, false) {
-        ARRAY => format!(in alloc; "unknown name {name}: define it by 'Array {written} -> 10;'"),
-        ATTRIBUTE => format!(in alloc; "unknown name {name}: define it by 'Attribute {written};'"),
-        PROPERTY => format!(in alloc; "unknown name {name}: define it by 'Property {written};'"),
-        OBJECT => format!(in alloc;
-            "unknown name {name}: define it by 'Object {written};' before this"
-        ),
-        ROUTINE => format!(in alloc; "unknown name {name}: define it by '[ {written}; .. ];'"),
-        CONSTANT => constant(alloc, tokens, at, text),
-        VARIABLE if !may_be_local(tokens, at) => {
-            format!(in alloc; "unknown name {name}: define it by 'Global {written};'")
-        }
-        _ => value(alloc, tokens, at, text),
+    let is_value = wanted == VALUE || wanted == VARIABLE && may_be_local(tokens, at);
+    let last = before(at, 1);
+    if is_value && is_hyphened(tokens, at) {
+        hyphened(alloc, tokens, at, text)
+    } else if wanted == CONSTANT && is_of_property(tokens, last) {
+        format!(in alloc;
+            "unknown name '{name}': leave {} out",
+            Quoted(text_at(tokens, last))
+        )
+    } else if let Some(form) = form_of(tokens, at, wanted) {
+        format!(in alloc; "unknown name '{name}': {}{name}{}", form.0, form.1)
+    } else {
+        format!(in alloc;
+            "unknown name '{name}': define it, as by 'Global {name};' or 'Object {name};'"
+        )
     }
 }

@@ -42,6 +42,9 @@ fn for_value(tokens: &[Token<'_>], at: usize, binding: Binding) -> Option<&'stat
             Some("call it, or write a word in single quotes")
         }
         Binding::Array(_, _) => Some("write an entry of it, as in 'a->0' or 'a-->0'"),
+        Binding::Attribute(_) if is_word(tokens, before(at, 1), Word::Give) => {
+            Some("write the object first, as in 'give lamp lit'")
+        }
         Binding::Attribute(_) => Some("ask an object for it, as in 'lamp has lit'"),
         Binding::Property(_) => Some("ask an object for it, as in 'lamp.size'"),
         _ => None,
@@ -72,6 +75,7 @@ fn for_variable(binding: Binding) -> Option<&'static str> {
         Binding::Attribute(_) => Some("write 'give lamp lit' to set it"),
         Binding::Property(_) => Some("write 'lamp.size = 5' to set that of an object"),
         Binding::Array(_, _) => Some("write 'a->0 = 5' or 'a-->0 = 5' to set an entry"),
+        Binding::Routine(_, _) => Some("only a Global or a local can be set, and a call is 'F(x);'"),
         _ => Some("only a Global or a local can be set"),
     }
 }
@@ -107,6 +111,7 @@ fn for_array(binding: Binding) -> Option<&'static str> {
 fn for_routine(binding: Binding) -> Option<&'static str> {
     match binding {
         Binding::Array(_, _) => Some("write 'a->0' or 'a-->0' for an entry"),
+        Binding::Property(_) => Some("write 'lamp.size' for that of an object"),
         _ => Some("write it without the parentheses after it"),
     }
 }

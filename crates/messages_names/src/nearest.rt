@@ -148,6 +148,9 @@ const CASES: [&str; 1] = ["default"];
 /// Reserved words before attributes, in the place of a property.
 const PARTS: [&str; 1] = ["has"];
 
+/// The property that every program has.
+const PROPERTIES: [&str; 1] = ["name"];
+
 /// The first of some words to which so few edits lead from a name that it may be meant: one, or two
 /// if both are as long.
 fn near_word(
@@ -185,6 +188,7 @@ pub fn nearest_word(
         ROUTINE => near_word(alloc, name, &CALLS),
         CONSTANT if matches!(around.what, Definition::Routine) => near_word(alloc, name, &CASES),
         PROPERTY if is_attribute(tokens, behind(at, 1)) => near_word(alloc, name, &PARTS),
+        PROPERTY => near_word(alloc, name, &PROPERTIES),
         _ => Ok(None),
     }
 }

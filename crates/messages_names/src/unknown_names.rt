@@ -7,10 +7,11 @@ use crate::wanted::{ATTRIBUTE, PROPERTY, wanted};
 use checker_names::{Binding, Table, find};
 use messages_contexts::{
     Definition, around, begins_statement, behind, definition_of, first_definition, is_after_word,
-    is_sign, line_of, text_at,
+    is_article, is_name, is_sign, line_of, text_at,
 };
 use messages_features::{
-    Absent, Feature, habit_as_name, habit_at_beginning, habit_between, named, named_in_expression,
+    Absent, CLASSES, Feature, habit_as_name, habit_at_beginning, habit_between, named,
+    named_in_expression,
 };
 use messages_tokens::{Counted, Figure, Quoted};
 use std::alloc::{AllocError, Global};
@@ -41,14 +42,26 @@ fn arrow(alloc: Global, count: usize) -> Result<String, AllocError> {
 }
 
 /// The feature or the word of another language that is read as a name.
-fn feature_of(tokens: &[Token<'_>], at: usize, text: &[u8]) -> Option<Feature> {
+fn feature_of(tokens: &[Token<'_>], at: usize, text: &[u8]) -> Option<&'static Feature> {
     let found = named_in_expression(text).or(habit_as_name(text));
-    if found.is_some() || !begins_statement(tokens, at) {
+    if found.is_some() {
         found
     } else if is_call(tokens, at) {
-        named(text)
+        named_call(tokens, at, text)
+    } else if !begins_statement(tokens, at) {
+        None
     } else {
         named(text).or(habit_at_beginning(text))
+    }
+}
+
+/// The feature or the operator of another language that is read as the name of a routine.
+fn named_call(tokens: &[Token<'_>], at: usize, text: &[u8]) -> Option<&'static Feature> {
+    let operator = habit_between(text);
+    if operator.is_some() || !begins_statement(tokens, at) {
+        operator
+    } else {
+        named(text)
     }
 }
 
@@ -76,6 +89,41 @@ fn is_joint_in_object(tokens: &[Token<'_>], at: usize, text: &[u8]) -> bool {
     }
 }
 
+/// What to write in the place of a word of everyday English between or before other names.
+fn instead_of_joint(tokens: &[Token<'_>], at: usize, text: &[u8]) -> Option<&'static str> {
+    if is_article(tokens, at) && is_name(tokens, behind(at, 1)) {
+        Some("leave the article out")
+    } else if is_after_word(tokens, at, Word::Give) {
+        instead_in_give(text)
+    } else if is_joint_in_object(tokens, at, text) && !text.eq_ignore_ascii_case(b"class") {
+        Some("write ',' before a property, and nothing before other values")
+    } else {
+        None
+    }
+}
+
+/// What to write in the place of `not` and `and` in a `give`.
+fn instead_in_give(text: &[u8]) -> Option<&'static str> {
+    if text.eq_ignore_ascii_case(b"not") {
+        Some("write '~' before an attribute to take it away, as in 'give lamp ~lit;'")
+    } else if text.eq_ignore_ascii_case(b"and") {
+        Some("list the attributes with nothing between")
+    } else {
+        None
+    }
+}
+
+/// The feature or the word of another language that a name may be, the token of a number.
+fn absent_at(tokens: &[Token<'_>], at: usize, text: &[u8]) -> Option<&'static Feature> {
+    if text.eq_ignore_ascii_case(b"class") {
+        Some(CLASSES)
+    } else if is_of_object(tokens, at) {
+        None
+    } else {
+        feature_of(tokens, at, text)
+    }
+}
+
 /// What is wrong with a name that is defined nowhere, the token of a number.
 fn undefined(
     alloc: Global,
@@ -84,19 +132,10 @@ fn undefined(
     text: &[u8],
 ) -> Result<String, AllocError> {
     let name = Quoted(text);
-    if text.eq_ignore_ascii_case(b"not") && is_after_word(tokens, at, Word::Give) {
-        return format!(in alloc;
-            "unknown name {name}: write '~' before an attribute to take it away, as in 'give lamp ~lit;'"
-        );
+    if let Some(instead) = instead_of_joint(tokens, at, text) {
+        return format!(in alloc; "unknown name {name}: {instead}");
     }
-    if is_joint_in_object(tokens, at, text) {
-        return format!(in alloc;
-            "unknown name {name}: write ',' before a property, and nothing before other values"
-        );
-    }
-    if !is_of_object(tokens, at)
-        && let Some(feature) = feature_of(tokens, at, text)
-    {
+    if let Some(feature) = absent_at(tokens, at, text) {
         return format!(in alloc; "{}", Absent(name, feature));
     }
     if may_be_word(tokens, at) {

@@ -1,8 +1,9 @@
 //! What is told within a `print`.
 
 use messages_contexts::{
-    before, begins_line, begins_statement, behind, ends_operand, is_joined, is_name, is_named,
-    is_routine, is_sign, is_text, is_unknown, is_word, kind_at, last_word, open_parenthesis,
+    before, begins_line, begins_statement, behind, ends_operand, is_article, is_joined, is_name,
+    is_named, is_routine, is_sign, is_text, is_unknown, is_word, kind_at, last_word,
+    open_parenthesis,
 };
 use messages_definitions::{Advice, joins_equals};
 use messages_features::PRINT_FORMS;
@@ -71,9 +72,13 @@ fn is_in_form(tokens: &[Token<'_>], number: usize) -> bool {
 
 /// What is told of a form of `print` of Inform 6 that there is not.
 pub fn absent_form(tokens: &[Token<'_>], at: usize) -> Option<Advice> {
-    if is_in_print(tokens, at) && is_in_quotes(tokens, at) {
+    if !is_in_print(tokens, at) {
+        None
+    } else if is_in_quotes(tokens, at) {
         Some(Advice::Do("write '~' for a double quote within a text"))
-    } else if is_in_print(tokens, at) && is_in_form(tokens, at) {
+    } else if is_text(tokens, before(at, 1)) && is_named(tokens, at, b"and") {
+        Some(Advice::Do("write ',' between the items of a 'print'"))
+    } else if is_in_form(tokens, at) {
         Some(Advice::Absent("this form of print", PRINT_FORMS))
     } else {
         None
@@ -83,7 +88,8 @@ pub fn absent_form(tokens: &[Token<'_>], at: usize) -> Option<Advice> {
 /// Whether the token of a number is an operator with which other languages join texts.
 fn joins_texts(tokens: &[Token<'_>], at: usize) -> bool {
     match kind_at(tokens, at) {
-        Kind::Sign(sign) => joins_equals(sign) || matches!(sign, Sign::Dot | Sign::Less),
+        Kind::Sign(sign) => joins_equals(sign)
+            || matches!(sign, Sign::Dot | Sign::Less | Sign::Tilde),
         _ => false,
     }
 }
@@ -97,8 +103,23 @@ fn text(tokens: &[Token<'_>], at: usize) -> Option<Advice> {
         None
     } else if joins_texts(tokens, last) || is_unknown(tokens, last) {
         Some(Advice::Do("write ',' between the items of a 'print'"))
+    } else if is_sign(tokens, last, Sign::CloseParenthesis) {
+        after_form(tokens, at)
     } else {
         None
+    }
+}
+
+/// What is told of a text after a form of `print`.
+fn after_form(tokens: &[Token<'_>], at: usize) -> Option<Advice> {
+    match kind_at(tokens, before(at, 2)) {
+        Kind::Reserved(Word::Char) => {
+            Some(Advice::Do("write a character in single quotes, as in '(char) 'a''"))
+        }
+        Kind::Reserved(Word::Object) => {
+            Some(Advice::Do("write the name of the object, or the text without '(object)'"))
+        }
+        _ => after_name(tokens, at),
     }
 }
 
@@ -115,6 +136,8 @@ fn form(tokens: &[Token<'_>], at: usize) -> Option<Advice> {
         Some(Advice::Do("write '(object)' and then the object"))
     } else if is_form_after_operand(tokens, at) {
         Some(Advice::Do("write ',' before the parenthesis of the form"))
+    } else if opens_form(tokens, at) && is_text(tokens, behind(at, 1)) {
+        Some(Advice::Do("write the items of a 'print' without brackets around them"))
     } else if begins_item(tokens, at) && opens_form(tokens, at) {
         Some(Advice::Do("write the form in parentheses, as in '(object) x'"))
     } else if is_sign(tokens, at, Sign::Comma) && is_in_list(tokens, at) {
@@ -164,6 +187,7 @@ fn after_name(tokens: &[Token<'_>], at: usize) -> Option<Advice> {
         && (is_routine(tokens, name) || is_unknown(tokens, name));
     let is_value = match kind_at(tokens, at) {
         Kind::Name(_) | Kind::Number(_) | Kind::DictionaryWord(_) | Kind::Character(_) => true,
+        Kind::Text(_) => is_unknown(tokens, name),
         _ => {
             is_word(tokens, at, Word::Parent)
                 || is_word(tokens, at, Word::Child)
@@ -220,6 +244,9 @@ fn form_alone(tokens: &[Token<'_>], at: usize) -> Option<Advice> {
 /// What is told where two items of a `print` have nothing between.
 pub fn items_beside(tokens: &[Token<'_>], at: usize) -> Option<Advice> {
     let last = before(at, 1);
+    if is_in_print(tokens, at) && is_article(tokens, last) && !is_unknown(tokens, at) {
+        return Some(Advice::Do("write 'print (object) x;' for the short name of an object"));
+    }
     if is_in_print(tokens, at) && are_words(tokens, at) {
         return Some(Advice::Do("write a text in double quotes, and ',' between items"));
     }
@@ -250,6 +277,17 @@ fn are_words(tokens: &[Token<'_>], at: usize) -> bool {
         && open_parenthesis(tokens, at).is_none()
 }
 
+/// What is told of a token in the place of an item of a `print`.
+fn in_place_of_item(tokens: &[Token<'_>], at: usize) -> Option<Advice> {
+    if is_word(tokens, at, Word::NewLine) {
+        Some(Advice::Do("write '^' in a text for a new line, or 'new_line;' on its own"))
+    } else if is_sign(tokens, at, Sign::Less) {
+        Some(Advice::Do("write the items right after 'print', with ',' between them"))
+    } else {
+        None
+    }
+}
+
 /// What is told of a token that does not fit in a `print`.
 pub fn in_print(tokens: &[Token<'_>], at: usize) -> Option<Advice> {
     if !is_in_print(tokens, at) {
@@ -257,6 +295,11 @@ pub fn in_print(tokens: &[Token<'_>], at: usize) -> Option<Advice> {
     }
     if is_word(tokens, at, Word::If) && !begins_line(tokens, at) {
         return Some(Advice::Do("end the 'print' before it: 'if' begins a statement of its own"));
+    }
+    if begins_item(tokens, at)
+        && let Some(told) = in_place_of_item(tokens, at)
+    {
+        return Some(told);
     }
     if is_text(tokens, at) {
         return text(tokens, at);

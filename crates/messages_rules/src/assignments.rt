@@ -3,9 +3,8 @@
 use checker_names::{Binding, Table};
 use messages_contexts::{
     Defined, before, begins_expression, behind, binding_in, is_in_parentheses_of, is_name, is_sign,
-    is_step, is_word, last_word, open_parenthesis,
+    is_step, is_word, last_word, open_parenthesis, text_at,
 };
-use messages_features::{Instead, STEPS};
 use messages_names::{is_variable, kind_of};
 use messages_tokens::Quoted;
 use std::alloc::{AllocError, Global};
@@ -83,36 +82,35 @@ fn steps_part(tokens: &[Token<'_>], at: usize) -> bool {
             || is_sign(tokens, before(at, 1), Sign::CloseParenthesis))
 }
 
-/// What is wrong with a sign that is not beside a name alone, and what to write.
+/// What to write where a sign is not beside a name alone, the token of a number.
+fn instead_of_part(tokens: &[Token<'_>], at: usize) -> &'static str {
+    if !is_sign(tokens, at, Sign::Assign) {
+        return if !steps_part(tokens, at) {
+            ""
+        } else if is_sign(tokens, at, Sign::Decrement) {
+            ": write 'bag.p = bag.p - 1', 'a->1 = a->1 - 1'"
+        } else {
+            ": write 'bag.p = bag.p + 1', 'a->1 = a->1 + 1'"
+        };
+    }
+    if last_word(tokens, at, Word::Has).is_some() {
+        ": write 'give lamp lit' to set an attribute, '==' to compare"
+    } else if may_compare(tokens, at) {
+        ": write '==' to compare"
+    } else {
+        ": write one before it"
+    }
+}
+
+/// What is wrong with a sign that is not beside a name that is no variable, and what to write.
 fn unnamed(
     alloc: Global,
-    tokens: &[Token<'_>],
-    at: usize,
     sign: Token<'_>,
+    wanted: &str,
+    instead: &str,
 ) -> Result<String, AllocError> {
-    let wanted = needed(tokens, at);
     let written = Quoted(sign.text);
-    if is_sign(tokens, at, Sign::Assign) && last_word(tokens, at, Word::Has).is_some() {
-        return format!(in alloc;
-            "{written} needs {wanted}: write 'give lamp lit' to set an attribute, '==' to compare"
-        );
-    }
-    if is_sign(tokens, at, Sign::Assign) && may_compare(tokens, at) {
-        return format!(in alloc; "{written} needs {wanted}: write '==' to compare");
-    }
-    if steps_part(tokens, at) && is_sign(tokens, at, Sign::Decrement) {
-        return format!(in alloc;
-            "{written} needs {wanted}: write 'bag.p = bag.p - 1', 'a->1 = a->1 - 1'"
-        );
-    }
-    if steps_part(tokens, at) {
-        let instead = Instead(STEPS);
-        return format!(in alloc; "{written} needs {wanted}: {instead}");
-    }
-    if is_sign(tokens, at, Sign::Assign) {
-        return format!(in alloc; "{written} needs {wanted}: write one before it");
-    }
-    misnamed(alloc, sign, wanted, b"", None, "")
+    format!(in alloc; "{written} needs {wanted}{instead}")
 }
 
 /// What to write where the token of a number changes a name that is no variable.
@@ -126,24 +124,18 @@ fn instead(tokens: &[Token<'_>], at: usize, binding: Option<Binding>) -> &'stati
     }
 }
 
-/// What is wrong with a sign whose operand is a name with this binding, and what to write instead.
-/// Without a binding, and of a variable, nothing is said of the name.
+/// What is wrong with a sign whose operand is a name of some kind, and what to write instead.
 fn misnamed(
     alloc: Global,
     sign: Token<'_>,
     wanted: &str,
     name: &[u8],
-    binding: Option<Binding>,
+    kind: &str,
     instead: &str,
 ) -> Result<String, AllocError> {
     let sign = Quoted(sign.text);
-    match fixed_kind(binding) {
-        None => format!(in alloc; "{sign} needs {wanted}"),
-        Some(kind) => {
-            let name = Quoted(name);
-            format!(in alloc; "{sign} needs {wanted}, but {name} is {kind}{instead}")
-        }
-    }
+    let name = Quoted(name);
+    format!(in alloc; "{sign} needs {wanted}, but {name} is {kind}{instead}")
 }
 
 /// What is wrong with an assignment or a step by a token, which has a number.
@@ -162,14 +154,21 @@ pub fn not_assignable(
     let wanted = needed(tokens, at);
     let operand = operand(tokens, at);
     if !is_name(tokens, operand) {
-        return unnamed(alloc, tokens, at, token);
+        return unnamed(alloc, token, wanted, instead_of_part(tokens, at));
     }
-    match tokens.get(operand) {
-        None => misnamed(alloc, token, wanted, b"", None, ""),
-        Some(name) => {
-            let binding = binding_in(tokens, around, table, name.text);
-            let instead = instead(tokens, at, binding);
-            misnamed(alloc, token, wanted, name.text, binding, instead)
+    let name = text_at(tokens, operand);
+    let binding = binding_in(tokens, around, table, name);
+    match fixed_kind(binding) {
+        None => unnamed(alloc, token, wanted, ""),
+        Some(kind) => {
+            misnamed(
+                alloc,
+                token,
+                wanted,
+                name,
+                kind,
+                instead(tokens, at, binding),
+            )
         }
     }
 }

@@ -22,11 +22,12 @@ fn first_of(tokens: &[Token<'_>], at: usize, around: Defined, text: &[u8]) -> Op
     }
 }
 
-/// What to do with a name that stands a second time as the token of a number: an object has all
-/// values of a property in one place.
-fn remedy(at: usize, around: Defined) -> &'static str {
+/// What to do with a name that stands first as the token of a number, and again as another: an
+/// object has all values of a property in one place.
+fn remedy(at: usize, first: usize, around: Defined) -> &'static str {
     match around.what {
-        Definition::Object if around.name != at => "put all its values there",
+        Definition::Property if first == at => "leave this definition out",
+        Definition::Object if first != at && around.name != at => "put all its values there",
         _ => "choose another name",
     }
 }
@@ -41,14 +42,11 @@ fn again(
     name: &[u8],
 ) -> Result<String, AllocError> {
     let name = Quoted(name);
-    if first == at && matches!(around.what, Definition::Property) {
-        return format!(in alloc; "{name} is a built-in property: leave this definition out");
-    }
+    let remedy = remedy(at, first, around);
     if first == at {
-        return format!(in alloc; "{name} is a built-in property: choose another name");
+        return format!(in alloc; "{name} is a built-in property: {remedy}");
     }
     let line = line_of(tokens, first);
-    let remedy = remedy(at, around);
     format!(in alloc; "{name} is already defined in line {line}: {remedy}")
 }
 

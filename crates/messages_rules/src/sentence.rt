@@ -121,7 +121,7 @@ fn at_place(sentence: Option<String>) -> Option<Told> {
 fn at_offset(
     alloc: Global,
     source: &[u8],
-    mut tokens: Vec<Token<'_>>,
+    tokens: Vec<Token<'_>>,
     offset: usize,
     rule: u8,
 ) -> Result<Option<Told>, AllocError>
@@ -132,11 +132,13 @@ fn at_offset(
         return Ok(None);
     };
     if rule == NOT_IN_GRAMMAR {
-        let misfit = misfit_at(alloc, source, &mut tokens, at, token)?;
-        return Ok(Some(Told {
-            sentence: misfit.sentence,
-            place: misfit.place,
-        }));
+        return match misfit_at(alloc, source, tokens, at, token) {
+            Ok(misfit) => Ok(Some(Told {
+                sentence: misfit.sentence,
+                place: misfit.place,
+            })),
+            Err(refused) => Err(refused),
+        };
     }
     let sentence = match rule {
         NESTED_TOO_DEEP => Some(too_deep(alloc, token)?),

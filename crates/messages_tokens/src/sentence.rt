@@ -3,11 +3,15 @@
 use crate::numbers::number;
 use crate::quoted::{misplaced, quoted};
 use crate::runs::{Class, from, front, run_length};
-use messages_features::{Absent, DIRECTIVE_SIGN, Feature, OPCODES, habit_at_beginning, named};
+use crate::written::Quoted;
+use messages_features::{
+    Absent, CONDITIONS, DIRECTIVE_SIGN, Feature, LIBRARY, OPCODES, habit_at_beginning,
+    named_as_directive,
+};
 use std::alloc::{AllocError, Global};
 use syntax_lexer::{BAD_NUMBER, BAD_TEXT, NAME_TOO_LONG, STRAY_BYTE};
 
-/// Whether a word may begin a directive, here or in Inform 6.
+/// Whether a word begins a directive.
 fn begins_directive(word: &[u8]) -> bool {
     const WORDS: [&[u8]; 7] = [
         b"abbreviate",
@@ -23,15 +27,27 @@ fn begins_directive(word: &[u8]) -> bool {
             return true;
         }
     }
-    named(word).is_some()
+    false
+}
+
+/// Whether a word begins a condition of another language after `#`.
+fn is_condition(word: &[u8]) -> bool {
+    word.eq_ignore_ascii_case(b"if") || word.eq_ignore_ascii_case(b"else")
+}
+
+/// The word after the sign with which some bytes begin.
+fn word_after_sign(bytes: &[u8]) -> &[u8] {
+    let rest = from(bytes, 1);
+    front(rest, run_length(Class::Name, rest))
 }
 
 /// The feature of Inform 6 that begins with a sign and a letter, and how it is called.
-fn feature_of(bytes: &[u8]) -> Option<(&'static str, Feature)> {
-    let rest = from(bytes, 1);
-    let word = front(rest, run_length(Class::Name, rest));
+fn feature_of(bytes: &[u8]) -> Option<(&'static str, &'static Feature)> {
+    let word = word_after_sign(bytes);
     match bytes {
+        [b'#', b'#', ..] => Some(("the number of an action", LIBRARY)),
         [b'#', ..] if begins_directive(word) => Some(("'#' before a directive", DIRECTIVE_SIGN)),
+        [b'#', ..] if is_condition(word) => Some(("this line", CONDITIONS)),
         [b'#', ..] => match habit_at_beginning(word) {
             Some(feature) => Some(("this line", feature)),
             None => None,
@@ -44,16 +60,35 @@ fn feature_of(bytes: &[u8]) -> Option<(&'static str, Feature)> {
 /// What to write in the place of a sign that begins no token.
 fn instead_of(sign: u8) -> &'static str {
     match sign {
-        b'#' => "a comment begins with '!', and the bytes of a property are 'lamp.#size'",
+        b'#' =>
+            "a comment begins with '!', a number in hexadecimal with '$'; the bytes of a property are 'lamp.#size'",
         b'?' => "write 'if' and 'else'",
-        b'^' => "it is a new line in a text, which is between double quotes, and no operator",
+        b'^' =>
+            "write it within the quotes of a text, for a new line; for a power, multiply in a loop",
+        b'\\' => "write '/' to divide, and '^' in a text for a new line",
         b'`' => "write a quote as in 'word' or \"text\"",
         _ => "remove it",
     }
 }
 
+/// What is wrong with a `#` before a directive of Inform 6 that is not in this language.
+fn absent_directive(alloc: Global, bytes: &[u8]) -> Result<Option<String>, AllocError> {
+    let word = word_after_sign(bytes);
+    match named_as_directive(word) {
+        Some(feature) if bytes.starts_with(b"#") => {
+            let absent = Absent(Quoted(word), feature);
+            Ok(Some(format!(in alloc; "{absent}")?))
+        }
+        _ => Ok(None),
+    }
+}
+
 /// What is wrong with a byte that begins no token.
 fn stray(alloc: Global, bytes: &[u8]) -> Result<Option<String>, AllocError> {
+    let absent = absent_directive(alloc, bytes)?;
+    if absent.is_some() {
+        return Ok(absent);
+    }
     if let Some((what, feature)) = feature_of(bytes) {
         let absent = Absent(what, feature);
         return Ok(Some(format!(in alloc; "{absent}")?));
