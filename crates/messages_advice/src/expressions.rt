@@ -245,6 +245,9 @@ fn after_dot(tokens: &[Token<'_>], at: usize) -> Option<Advice> {
         || is_word(tokens, last, Word::Hasnt)
         || is_word(tokens, last, Word::Provides);
     match kind_at(tokens, at) {
+        Kind::Reserved(_) if is_after_dot && begins_line(tokens, at) => {
+            Some(Advice::Do("write ';' in the place of the '.' before it"))
+        }
         Kind::Reserved(word) if is_after_dot => word_after_dot(word),
         Kind::Text(_) | Kind::DictionaryWord(_) | Kind::Character(_) if is_before_name => {
             Some(Advice::Do("write the name without quotes"))

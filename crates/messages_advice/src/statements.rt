@@ -3,11 +3,10 @@
 use crate::expressions::{closes_condition, is_enclosed, word_after_dot};
 use messages_contexts::{
     Definition, Known, before, begins_line, begins_statement, begun_at, behind, closes_after,
-    definition_of, ends_operand, has_word_within, is_article, is_attribute, is_name, is_named,
-    is_routine, is_sign, is_step, is_unknown, is_word, kind_at, known_as, last_open, last_word,
-    start_of,
+    definition_of, ends_operand, has_word_within, is_attribute, is_name, is_named, is_routine,
+    is_sign, is_step, is_unknown, is_word, kind_at, known_as, last_open, last_word, start_of,
 };
-use messages_definitions::Advice;
+use messages_definitions::{Advice, is_article};
 use messages_expected::{Group, Grouped};
 use messages_features::{LIBRARY, SETTINGS};
 use syntax::{Kind, Sign, Token, Word};

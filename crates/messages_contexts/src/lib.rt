@@ -17,7 +17,7 @@ pub use objects::{
     first_given, is_behind_has, is_parent, is_property, may_lack_comma, may_lack_has,
 };
 pub use operands::{begins_expression, ends_operand, is_step, owns_parentheses};
-pub use spelling::{MOST_EDITS, in_small_letters, is_article, is_near};
+pub use spelling::{MOST_EDITS, in_small_letters, is_near};
 pub use statements::{
     begins_line, closes_after, definition_of, has_word_within, is_in_parentheses_of, is_in_routine,
     is_joined, last_open, last_word, open_parenthesis, start_of, switch_around,

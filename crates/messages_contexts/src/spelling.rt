@@ -1,9 +1,6 @@
 //! Names that differ in few letters.
 
-use crate::definitions::is_unknown;
-use crate::tokens::is_named;
 use std::alloc::{AllocError, Global};
-use syntax::Token;
 
 /// The most edits between a name and the one that may be meant. An edit changes, adds or leaves out
 /// a letter.
@@ -11,14 +8,6 @@ pub const MOST_EDITS: usize = 2;
 
 /// The letters of a name that is not short.
 const SHORT: usize = 5;
-
-/// Whether the token of a number is an article, and no name that is defined.
-pub fn is_article(tokens: &[Token<'_>], at: usize) -> bool {
-    let is_word = is_named(tokens, at, b"the")
-        || is_named(tokens, at, b"a")
-        || is_named(tokens, at, b"an");
-    is_word && is_unknown(tokens, at)
-}
 
 /// A name in small letters.
 ///

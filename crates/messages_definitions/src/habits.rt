@@ -8,6 +8,14 @@ use messages_contexts::{
 use messages_features::{Feature, habit_as_operand, habit_at_beginning, habit_between};
 use syntax::{Kind, Sign, Token, Word};
 
+/// Whether the token of a number is an article, and no name that is defined.
+pub fn is_article(tokens: &[Token<'_>], at: usize) -> bool {
+    let is_written = is_named(tokens, at, b"the")
+        || is_named(tokens, at, b"a")
+        || is_named(tokens, at, b"an");
+    is_written && is_unknown(tokens, at)
+}
+
 /// The word of another language that the token of a number is, if no definition gives its name.
 fn habit(tokens: &[Token<'_>], at: usize, feature: Option<&'static Feature>) -> Option<Advice> {
     match feature {

@@ -11,5 +11,5 @@ mod signs;
 
 pub use advice::Advice;
 pub use definitions::in_definition;
-pub use habits::habit_at;
+pub use habits::{habit_at, is_article};
 pub use signs::{joins_equals, pair_at, written_as_comment};

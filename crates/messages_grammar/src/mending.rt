@@ -112,11 +112,17 @@ fn is_after_condition(tokens: &[Token<'_>], number: usize) -> bool {
         || is_word(tokens, last, Word::Switch)
 }
 
+/// Whether the token of a number is a `[` that begins a line: it is hardly too many.
+fn begins_routine(tokens: &[Token<'_>], number: usize) -> bool {
+    is_sign(tokens, number, Sign::OpenBracket) && begins_line(tokens, number)
+}
+
 /// Whether the tokens are a program without the token of a number, a sign or a reserved word.
 fn is_extra(trial: &mut Trial<'_>, number: usize) -> bool {
     may_be_extra(&trial.tokens, number)
         && !ends_line(&trial.tokens, number)
         && !is_after_condition(&trial.tokens, number)
+        && !begins_routine(&trial.tokens, number)
         && trial.mends(Change::Without(number))
 }
 

@@ -75,7 +75,9 @@ fn for_variable(binding: Binding) -> Option<&'static str> {
         Binding::Attribute(_) => Some("write 'give lamp lit' to set it"),
         Binding::Property(_) => Some("write 'lamp.size = 5' to set that of an object"),
         Binding::Array(_, _) => Some("write 'a->0 = 5' or 'a-->0 = 5' to set an entry"),
-        Binding::Routine(_, _) => Some("only a Global or a local can be set, and a call is 'F(x);'"),
+        Binding::Routine(_, _) => Some(
+            "only a Global or a local can be set, and a call is 'F(x);'",
+        ),
         _ => Some("only a Global or a local can be set"),
     }
 }

@@ -7,7 +7,7 @@ use crate::wanted::{ATTRIBUTE, PROPERTY, wanted};
 use checker_names::{Binding, Table, find};
 use messages_contexts::{
     Definition, around, begins_statement, behind, definition_of, first_definition, is_after_word,
-    is_article, is_name, is_sign, line_of, text_at,
+    is_name, is_sign, line_of, text_at,
 };
 use messages_features::{
     Absent, CLASSES, Feature, habit_as_name, habit_at_beginning, habit_between, named,
@@ -89,9 +89,16 @@ fn is_joint_in_object(tokens: &[Token<'_>], at: usize, text: &[u8]) -> bool {
     }
 }
 
+/// Whether a word is an article.
+fn is_article(text: &[u8]) -> bool {
+    text.eq_ignore_ascii_case(b"the")
+        || text.eq_ignore_ascii_case(b"a")
+        || text.eq_ignore_ascii_case(b"an")
+}
+
 /// What to write in the place of a word of everyday English between or before other names.
 fn instead_of_joint(tokens: &[Token<'_>], at: usize, text: &[u8]) -> Option<&'static str> {
-    if is_article(tokens, at) && is_name(tokens, behind(at, 1)) {
+    if is_article(text) && is_name(tokens, behind(at, 1)) {
         Some("leave the article out")
     } else if is_after_word(tokens, at, Word::Give) {
         instead_in_give(text)

@@ -1,11 +1,10 @@
 //! What is told within a `print`.
 
 use messages_contexts::{
-    before, begins_line, begins_statement, behind, ends_operand, is_article, is_joined, is_name,
-    is_named, is_routine, is_sign, is_text, is_unknown, is_word, kind_at, last_word,
-    open_parenthesis,
+    before, begins_line, begins_statement, behind, ends_operand, is_joined, is_name, is_named,
+    is_routine, is_sign, is_text, is_unknown, is_word, kind_at, last_word, open_parenthesis,
 };
-use messages_definitions::{Advice, joins_equals};
+use messages_definitions::{Advice, is_article, joins_equals};
 use messages_features::PRINT_FORMS;
 use syntax::{Kind, Sign, Token, Word};
 
