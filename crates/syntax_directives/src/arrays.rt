@@ -3,7 +3,7 @@
 ghost use Rattle.std.specs.Prelude.{◌≡◌, map};
 ghost use Rattle.syntax_lexer.specs.Token.{lexeme};
 ghost use Rattle.syntax_parsing.specs.Returned.{ahead, Takes};
-ghost use Rattle.syntax_directives.specs.Views.{array_tree, value_tree};
+ghost use Rattle.syntax_directives.specs.Views.{value_tree};
 ghost use Rattle.syntax_directives.specs.Returned.{TakesDirective};
 ghost use Rattle.syntax_directives.specs.Grammar as grammar;
 ghost use Rattle.syntax_directives.specs.Parse as spec;
@@ -74,31 +74,20 @@ pub fn values<'t, 'a>(parser: &mut Parser<'t, 'a>) -> Result<Vec<ArrayValue<'a>>
     Ok(found)
 }
 
-// An array, behind its word.
-#[tactic(auto, unfolding(crate::specs::Parse::array_behind))]
-fn array_behind<'t, 'a>(parser: &mut Parser<'t, 'a>) -> Result<Array<'a>, ParseError>
-    ensures { Takes array_tree result parser.new (spec.array_behind (ahead parser.old)) }
-{
-    let name = expect_name(parser)?;
-    let kind = kind(parser)?;
-    let values = values(parser)?;
-    expect(parser, Sign::Semicolon)?;
-    Ok(Array { name, kind, values })
-}
-
 /// An array, from its word on.
 ///
 /// # Errors
 ///
 /// `Fault::Grammar` at the first token with which no derivation goes on; `Memory` where a growth is
 /// refused.
-#[tactic(auto, unfolding(crate::specs::Parse::worded))]
+#[tactic(auto, unfolding(crate::specs::Parse::worded, crate::specs::Parse::array_behind))]
 pub fn array<'t, 'a>(parser: &mut Parser<'t, 'a>) -> Result<Box<Directive<'a>>, ParseError>
     ensures { TakesDirective result parser.new (spec.worded Word.Array (ahead parser.old)) }
 {
     pass(parser);
-    match array_behind(parser) {
-        Ok(found) => in_box(parser, Directive::Array(found)),
-        Err(e) => Err(e),
-    }
+    let name = expect_name(parser)?;
+    let kind = kind(parser)?;
+    let values = values(parser)?;
+    expect(parser, Sign::Semicolon)?;
+    in_box(parser, Directive::Array(Array { name, kind, values }))
 }

@@ -20,19 +20,13 @@ fn global<'t, 'a>(parser: &mut Parser<'t, 'a>) -> Result<Box<Directive<'a>>, Par
     ensures { TakesDirective result parser.new (spec.worded Word.Global (ahead parser.old)) }
 {
     pass(parser);
-    match expect_name(parser) {
-        Ok(name) => {
-            if !is_sign(peek(parser.tokens), Sign::Assign) {
-                return parts::global(parser, name, None);
-            }
-            pass(parser);
-            match known_value(parser) {
-                Ok(first) => parts::global(parser, name, Some(first)),
-                Err(e) => Err(e),
-            }
-        }
-        Err(e) => Err(e),
+    let name = expect_name(parser)?;
+    if !is_sign(peek(parser.tokens), Sign::Assign) {
+        return parts::global(parser, name, None);
     }
+    pass(parser);
+    let first = known_value(parser)?;
+    parts::global(parser, name, Some(first))
 }
 
 // A constant, from its word on.
@@ -41,16 +35,10 @@ fn constant<'t, 'a>(parser: &mut Parser<'t, 'a>) -> Result<Box<Directive<'a>>, P
     ensures { TakesDirective result parser.new (spec.worded Word.Constant (ahead parser.old)) }
 {
     pass(parser);
-    match expect_name(parser) {
-        Ok(name) => match expect(parser, Sign::Assign) {
-            Ok(()) => match known_value(parser) {
-                Ok(value) => parts::constant(parser, name, value),
-                Err(e) => Err(e),
-            },
-            Err(e) => Err(e),
-        },
-        Err(e) => Err(e),
-    }
+    let name = expect_name(parser)?;
+    expect(parser, Sign::Assign)?;
+    let value = known_value(parser)?;
+    parts::constant(parser, name, value)
 }
 
 // An attribute, from its word on.
@@ -59,10 +47,8 @@ fn attribute<'t, 'a>(parser: &mut Parser<'t, 'a>) -> Result<Box<Directive<'a>>, 
     ensures { TakesDirective result parser.new (spec.worded Word.Attribute (ahead parser.old)) }
 {
     pass(parser);
-    match expect_name(parser) {
-        Ok(name) => parts::attribute(parser, name),
-        Err(e) => Err(e),
-    }
+    let name = expect_name(parser)?;
+    parts::attribute(parser, name)
 }
 
 // A property, from its word on.
@@ -71,18 +57,12 @@ fn property<'t, 'a>(parser: &mut Parser<'t, 'a>) -> Result<Box<Directive<'a>>, P
     ensures { TakesDirective result parser.new (spec.worded Word.Property (ahead parser.old)) }
 {
     pass(parser);
-    match expect_name(parser) {
-        Ok(name) => {
-            if !begins_value(peek(parser.tokens)) {
-                return parts::property(parser, name, None);
-            }
-            match known_value(parser) {
-                Ok(default) => parts::property(parser, name, Some(default)),
-                Err(e) => Err(e),
-            }
-        }
-        Err(e) => Err(e),
+    let name = expect_name(parser)?;
+    if !begins_value(peek(parser.tokens)) {
+        return parts::property(parser, name, None);
     }
+    let default = known_value(parser)?;
+    parts::property(parser, name, Some(default))
 }
 
 // The directive that begins with that word.

@@ -5,7 +5,7 @@ ghost use Rattle.std.specs.Option.{option_map};
 ghost use Rattle.syntax_lexer.specs.Token.{lexemes};
 ghost use Rattle.syntax_trees.specs.Views.{name_tree};
 ghost use Rattle.syntax_parsing.specs.Returned.{ahead, Takes};
-ghost use Rattle.syntax_directives.specs.Views.{text_tree, head_tree, object_tree, property_tree};
+ghost use Rattle.syntax_directives.specs.Views.{text_tree, head_tree, property_tree};
 ghost use Rattle.syntax_directives.specs.Returned.{TakesDirective};
 ghost use Rattle.syntax_directives.specs.Parse as spec;
 
@@ -186,38 +186,30 @@ fn attributes<'t, 'a>(parser: &mut Parser<'t, 'a>) -> Result<Vec<Name<'a>>, Pars
     Ok(Vec::new(parser.alloc))
 }
 
-// An object, behind its word.
-#[tactic(auto, unfolding(crate::specs::Parse::object_behind))]
-fn object_behind<'t, 'a>(parser: &mut Parser<'t, 'a>) -> Result<Object<'a>, ParseError>
-    ensures { Takes object_tree result parser.new (spec.object_behind (ahead parser.old)) }
-{
-    let head = object_heading(parser)?;
-    let properties = properties(parser)?;
-    let attributes = attributes(parser)?;
-    expect(parser, Sign::Semicolon)?;
-    Ok(Object {
-        arrows: head.arrows,
-        name: head.name,
-        short: head.short,
-        parent: head.parent,
-        properties,
-        attributes,
-    })
-}
-
 /// An object, from its word on.
 ///
 /// # Errors
 ///
 /// `Fault::Grammar` at the first token with which no derivation goes on; `Memory` where a growth is
 /// refused.
-#[tactic(auto, unfolding(crate::specs::Parse::worded))]
+#[tactic(auto, unfolding(crate::specs::Parse::worded, crate::specs::Parse::object_behind))]
 pub fn object<'t, 'a>(parser: &mut Parser<'t, 'a>) -> Result<Box<Directive<'a>>, ParseError>
     ensures { TakesDirective result parser.new (spec.worded Word.Object (ahead parser.old)) }
 {
     pass(parser);
-    match object_behind(parser) {
-        Ok(found) => in_box(parser, Directive::Object(found)),
-        Err(e) => Err(e),
-    }
+    let head = object_heading(parser)?;
+    let properties = properties(parser)?;
+    let attributes = attributes(parser)?;
+    expect(parser, Sign::Semicolon)?;
+    in_box(
+        parser,
+        Directive::Object(Object {
+            arrows: head.arrows,
+            name: head.name,
+            short: head.short,
+            parent: head.parent,
+            properties,
+            attributes,
+        }),
+    )
 }

@@ -20,7 +20,7 @@ ghost use Rattle.syntax_directives.specs.Parse as spec;
 use crate::tree::Directive;
 use syntax_lexer::Sign;
 use syntax_parsing::{ParseError, Parser, expect};
-use syntax_statement_parts::{Literal, boxed};
+use syntax_statement_parts::Literal;
 use syntax_trees::Name;
 
 /// A directive in a box. Where memory is refused the directive is dropped here.
@@ -31,7 +31,10 @@ pub fn in_box<'t, 'a>(
     ensures { TakesDirective result parser.now
         (Ok (directive_tree directive.entry, ahead parser.now)) }
 {
-    boxed(parser.alloc, directive)
+    match Box::new(parser.alloc, directive) {
+        Ok(directive) => Ok(directive),
+        Err(refused) => Err(ParseError::from(refused)),
+    }
 }
 
 /// A global variable, with its `;`.
@@ -45,10 +48,8 @@ pub fn global<'t, 'a>(
         (spec.ended (tree.global (name_tree name.entry) (optional_tree first.entry))
         (ahead parser.old)) }
 {
-    match expect(parser, Sign::Semicolon) {
-        Ok(()) => in_box(parser, Directive::Global(name, first)),
-        Err(e) => Err(e),
-    }
+    expect(parser, Sign::Semicolon)?;
+    in_box(parser, Directive::Global(name, first))
 }
 
 /// A constant, with its `;`.
@@ -62,10 +63,8 @@ pub fn constant<'t, 'a>(
         (spec.ended (tree.constant (name_tree name.entry) (literal_tree value.entry))
         (ahead parser.old)) }
 {
-    match expect(parser, Sign::Semicolon) {
-        Ok(()) => in_box(parser, Directive::Constant(name, value)),
-        Err(e) => Err(e),
-    }
+    expect(parser, Sign::Semicolon)?;
+    in_box(parser, Directive::Constant(name, value))
 }
 
 /// An attribute, with its `;`.
@@ -77,10 +76,8 @@ pub fn attribute<'t, 'a>(
     ensures { TakesDirective result parser.new
         (spec.ended (tree.attribute (name_tree name.entry)) (ahead parser.old)) }
 {
-    match expect(parser, Sign::Semicolon) {
-        Ok(()) => in_box(parser, Directive::Attribute(name)),
-        Err(e) => Err(e),
-    }
+    expect(parser, Sign::Semicolon)?;
+    in_box(parser, Directive::Attribute(name))
 }
 
 /// A property, with its `;`.
@@ -94,8 +91,6 @@ pub fn property<'t, 'a>(
         (spec.ended (tree.property (name_tree name.entry) (optional_tree default.entry))
         (ahead parser.old)) }
 {
-    match expect(parser, Sign::Semicolon) {
-        Ok(()) => in_box(parser, Directive::Property(name, default)),
-        Err(e) => Err(e),
-    }
+    expect(parser, Sign::Semicolon)?;
+    in_box(parser, Directive::Property(name, default))
 }

@@ -26,20 +26,9 @@ pub fn enclosed_condition<'t, 'a>(
     ensures open { IfOk result (λ x. 0 < depth) }
 {
     let opening = parser.tokens;
-    match expect(parser, Sign::OpenParenthesis) {
-        Ok(()) => match open(depth, opening) {
-            Ok(inside) => match expression(parser, inside) {
-                Ok(found) => match expect(parser, Sign::CloseParenthesis) {
-                    Ok(()) => Ok(found),
-                    Err(e) => {
-                        drop(found);
-                        Err(e)
-                    }
-                },
-                Err(e) => Err(e),
-            },
-            Err(e) => Err(e),
-        },
-        Err(e) => Err(e),
-    }
+    expect(parser, Sign::OpenParenthesis)?;
+    let inside = open(depth, opening)?;
+    let found = expression(parser, inside)?;
+    expect(parser, Sign::CloseParenthesis)?;
+    Ok(found)
 }

@@ -7,7 +7,6 @@ ghost use Rattle.syntax_statement_parts.specs.Views.{part_tree, heading_tree};
 ghost use Rattle.syntax_statement_parts.specs.Parse as spec;
 
 use crate::effects::has_effect;
-use crate::memory::boxed;
 use crate::tree::Heading;
 use syntax_expressions::expression;
 use syntax_lexer::Sign;
@@ -83,10 +82,7 @@ fn heading<'t, 'a>(
         test,
         behind,
     };
-    match boxed(parser.alloc, found) {
-        Ok(found) => Ok(found),
-        Err(e) => Err(e),
-    }
+    Ok(Box::new(parser.alloc, found)?)
 }
 
 /// The parts of a `for` in parentheses, which are a nesting.
@@ -105,11 +101,7 @@ pub fn enclosed_heading<'t, 'a>(
     ensures open { IfOk result (λ x. 0 < depth) }
 {
     let opening = parser.tokens;
-    match expect(parser, Sign::OpenParenthesis) {
-        Ok(()) => match open(depth, opening) {
-            Ok(inside) => heading(parser, inside),
-            Err(e) => Err(e),
-        },
-        Err(e) => Err(e),
-    }
+    expect(parser, Sign::OpenParenthesis)?;
+    let inside = open(depth, opening)?;
+    heading(parser, inside)
 }

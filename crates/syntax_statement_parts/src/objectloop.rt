@@ -7,7 +7,6 @@ ghost use Rattle.syntax_parsing.specs.Returned.{ahead, Takes};
 ghost use Rattle.syntax_statement_parts.specs.Views.{part_tree, loop_tree};
 ghost use Rattle.syntax_statement_parts.specs.Parse as spec;
 
-use crate::memory::boxed;
 use crate::tree::Loop;
 use syntax_expression_parts::name_of;
 use syntax_expressions::unassigned;
@@ -125,19 +124,9 @@ fn looped<'t, 'a>(parser: &mut Parser<'t, 'a>, depth: usize) -> Result<Box<Loop<
     let Some(variable) = name_of(peek(parser.tokens)) else {
         return Err(fault_at(Fault::Grammar, parser.tokens));
     };
-    match unassigned(parser, depth) {
-        Ok(found) => match expect(parser, Sign::CloseParenthesis) {
-            Ok(()) => match boxed(parser.alloc, loop_of(variable, found)) {
-                Ok(found) => Ok(found),
-                Err(e) => Err(e),
-            },
-            Err(e) => {
-                drop(found);
-                Err(e)
-            }
-        },
-        Err(e) => Err(e),
-    }
+    let found = unassigned(parser, depth)?;
+    expect(parser, Sign::CloseParenthesis)?;
+    Ok(Box::new(parser.alloc, loop_of(variable, found))?)
 }
 
 /// What an `objectloop` goes over, in parentheses, which are a nesting.
@@ -156,11 +145,7 @@ pub fn enclosed_loop<'t, 'a>(
     ensures open { IfOk result (λ x. 0 < depth) }
 {
     let opening = parser.tokens;
-    match expect(parser, Sign::OpenParenthesis) {
-        Ok(()) => match open(depth, opening) {
-            Ok(inside) => looped(parser, inside),
-            Err(e) => Err(e),
-        },
-        Err(e) => Err(e),
-    }
+    expect(parser, Sign::OpenParenthesis)?;
+    let inside = open(depth, opening)?;
+    looped(parser, inside)
 }

@@ -6,7 +6,6 @@ ghost use Rattle.syntax_statement_parts.specs.Tree as tree;
 ghost use Rattle.syntax_statement_parts.specs.Views.{item_tree};
 ghost use Rattle.syntax_statement_parts.specs.Parse as spec;
 
-use crate::memory::push;
 use crate::tree::PrintItem;
 use syntax_expressions::expression;
 use syntax_lexer::{Kind, Sign, Word};
@@ -20,21 +19,13 @@ fn character<'t, 'a>(parser: &mut Parser<'t, 'a>, depth: usize) -> Result<PrintI
     ensures { Takes item_tree result parser.new
         (spec.cast depth tree.character_item (ahead parser.old)) }
 {
-    match open(depth, parser.tokens) {
-        Ok(_) => {
-            pass(parser);
-            pass(parser);
-            match expect(parser, Sign::CloseParenthesis) {
-                Ok(()) => {
-                    let begin = position(parser.tokens);
-                    match expression(parser, depth) {
-                        Ok(value) => Ok(PrintItem::Character(begin, value)),
-                        Err(e) => Err(e),
-                    }
-                }
-                Err(e) => Err(e),
-            }
-        }
+    open(depth, parser.tokens)?;
+    pass(parser);
+    pass(parser);
+    expect(parser, Sign::CloseParenthesis)?;
+    let begin = position(parser.tokens);
+    match expression(parser, depth) {
+        Ok(value) => Ok(PrintItem::Character(begin, value)),
         Err(e) => Err(e),
     }
 }
@@ -45,21 +36,13 @@ fn object<'t, 'a>(parser: &mut Parser<'t, 'a>, depth: usize) -> Result<PrintItem
     ensures { Takes item_tree result parser.new
         (spec.cast depth tree.object_item (ahead parser.old)) }
 {
-    match open(depth, parser.tokens) {
-        Ok(_) => {
-            pass(parser);
-            pass(parser);
-            match expect(parser, Sign::CloseParenthesis) {
-                Ok(()) => {
-                    let begin = position(parser.tokens);
-                    match expression(parser, depth) {
-                        Ok(value) => Ok(PrintItem::Object(begin, value)),
-                        Err(e) => Err(e),
-                    }
-                }
-                Err(e) => Err(e),
-            }
-        }
+    open(depth, parser.tokens)?;
+    pass(parser);
+    pass(parser);
+    expect(parser, Sign::CloseParenthesis)?;
+    let begin = position(parser.tokens);
+    match expression(parser, depth) {
+        Ok(value) => Ok(PrintItem::Object(begin, value)),
         Err(e) => Err(e),
     }
 }
@@ -102,14 +85,14 @@ pub fn items<'t, 'a>(
 {
     let mut found = Vec::new(parser.alloc);
     let first = item(parser, depth)?;
-    push(&mut found, first)?;
+    found.push(first)?;
     for _turn in 0..parser.tokens.len() {
         if !is_sign(peek(parser.tokens), Sign::Comma) {
             break;
         }
         pass(parser);
         let next = item(parser, depth)?;
-        push(&mut found, next)?;
+        found.push(next)?;
     }
     Ok(found)
 }

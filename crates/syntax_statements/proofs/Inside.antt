@@ -31,20 +31,16 @@ count : (ts : List Token) → length (lexemes ts) ≡ length ts
 count [] = refl
 count (t ∷ ts) = ap suc (count ts)
 
-pub bodies_more : (d k : ℕ) (ts : List Lexeme) → d ≡ k + 1
-    → bodies d ts ≡ as_long begins_in_case (inside k) (length ts) ts
-unfolding bodies
-bodies_more zero k ts e = absurd (omega arith)
-bodies_more (suc d) k ts e =
-    let same : d ≡ k = omega arith in ap (λ j. as_long begins_in_case (inside j) (length ts) ts) same
-
 -- nothing is read yet
-pub case_begun : (d : ℕ) (found : List Statement) (ts : List Token) → found ≡ []
-    → joined (map statement_tree found) (as_long begins_in_case (inside d) (length ts - 0) (lexemes ts))
-    ≡ as_long begins_in_case (inside d) (length (lexemes ts)) (lexemes ts)
-case_begun d found ts none =
+pub bodies_begun : (d k : ℕ) (found : List Statement) (ts : List Token) → d ≡ k + 1 → found ≡ []
+    → joined (map statement_tree found) (as_long begins_in_case (inside k) (length ts - 0) (lexemes ts))
+    ≡ bodies d (lexemes ts)
+unfolding bodies
+bodies_begun zero k found ts more none = absurd (omega arith)
+bodies_begun (suc d) k found ts more none =
+    let same : k ≡ d = omega arith in
     let all : length ts - 0 ≡ length (lexemes ts) = omega (arith, count ts) in
-    rw (none, all) (joined_none _)
+    rw (none, all, same) (joined_none _)
 
 -- behind a brace: no nesting is left for it, or none for the statement that begins; nothing begins; a statement
 -- begins

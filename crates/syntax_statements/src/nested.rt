@@ -2,7 +2,7 @@
 
 ghost use Rattle.std.specs.Prelude.{◌≡◌, ◌<◌, length, map};
 ghost use Rattle.syntax_lexer.specs.Token.{lexeme, lexemes};
-ghost use Rattle.syntax_parsing.specs.Parse.{as_long, tail};
+ghost use Rattle.syntax_parsing.specs.Parse.{tail};
 ghost use Rattle.syntax_parsing.specs.Returned.{ahead, Takes};
 ghost use Rattle.syntax_statements.specs.Grammar as grammar;
 ghost use Rattle.syntax_statements.specs.Nesting as nesting;
@@ -19,8 +19,7 @@ use syntax_parsing::{
     Fault, ParseError, Parser, expect, expect_word, fault_at, is_sign, is_word, open, pass, peek,
 };
 use syntax_statement_parts::{
-    Range, as_kept, begins_case, begins_value, enclosed_condition, enclosed_heading, enclosed_loop,
-    push, push_inner_exact, ranges,
+    Range, begins_case, begins_value, enclosed_condition, enclosed_heading, enclosed_loop, ranges,
 };
 
 // Whether the word begins a statement.
@@ -130,20 +129,11 @@ pub fn statements<'t, 'a>(
             break;
         }
         match statement(parser, depth) {
-            Ok(next) => match push_inner_exact(&mut found, next) {
-                Ok(()) => {}
-                Err(e) => {
-                    drop(found);
-                    return Err(e);
-                }
-            },
-            Err(e) => {
-                drop(found);
-                return Err(e);
-            }
+            Ok(next) => parts::add(&mut found, next)?,
+            Err(e) => return Err(e),
         }
     }
-    Ok(as_kept(found))
+    Ok(parts::row(found))
 }
 
 // The statements of a block or of `default`, from its brace or its colon on. Its brace is a
@@ -157,19 +147,13 @@ fn braces<'t, 'a>(
     ensures { Takes (λ xs. map statement_tree xs.items) result parser.new
         (spec.braces depth (length (ahead parser.old)) (tail (ahead parser.old))) }
 {
-    match open(depth, parser.tokens) {
-        Ok(inside) => {
-            pass(parser);
-            if !begins_statement(peek(parser.tokens)) {
-                return Ok(Vec::new(parser.alloc));
-            }
-            match open(inside, parser.tokens) {
-                Ok(inside) => statements(parser, inside),
-                Err(e) => Err(e),
-            }
-        }
-        Err(e) => Err(e),
+    let inside = open(depth, parser.tokens)?;
+    pass(parser);
+    if !begins_statement(peek(parser.tokens)) {
+        return Ok(Vec::new(parser.alloc));
     }
+    let inside = open(inside, parser.tokens)?;
+    statements(parser, inside)
 }
 
 // A block, from its brace on.
@@ -197,10 +181,8 @@ fn further_in<'t, 'a>(
     ensures { TakesStatement result parser.new
         (spec.inside depth (ahead parser.old)) }
 {
-    match open(depth, parser.tokens) {
-        Ok(inside) => statement(parser, inside),
-        Err(e) => Err(e),
-    }
+    let inside = open(depth, parser.tokens)?;
+    statement(parser, inside)
 }
 
 // What follows `if`, which stands at `position`.
@@ -214,20 +196,18 @@ fn choice<'t, 'a>(
     ensures { TakesStatement result parser.new
         (spec.choice depth (spec.inside depth) position (ahead parser.old)) }
 {
-    match enclosed_condition(parser, depth) {
-        Ok(condition) => match further_in(parser, depth) {
-            Ok(first) => {
-                if !else_follows(parser.tokens) {
-                    return parts::if_then(parser, position, condition, first);
-                }
-                pass(parser);
-                match further_in(parser, depth) {
-                    Ok(second) => parts::if_else(parser, position, condition, first, second),
-                    Err(e) => Err(e),
-                }
+    let condition = enclosed_condition(parser, depth)?;
+    match further_in(parser, depth) {
+        Ok(first) => {
+            if !else_follows(parser.tokens) {
+                return parts::if_then(parser, position, condition, first);
             }
-            Err(e) => Err(e),
-        },
+            pass(parser);
+            match further_in(parser, depth) {
+                Ok(second) => parts::if_else(parser, position, condition, first, second),
+                Err(e) => Err(e),
+            }
+        }
         Err(e) => Err(e),
     }
 }
@@ -243,11 +223,9 @@ fn repetition<'t, 'a>(
     ensures { TakesStatement result parser.new
         (spec.repetition depth (spec.inside depth) position (ahead parser.old)) }
 {
-    match enclosed_condition(parser, depth) {
-        Ok(condition) => match further_in(parser, depth) {
-            Ok(body) => parts::while_do(parser, position, condition, body),
-            Err(e) => Err(e),
-        },
+    let condition = enclosed_condition(parser, depth)?;
+    match further_in(parser, depth) {
+        Ok(body) => parts::while_do(parser, position, condition, body),
         Err(e) => Err(e),
     }
 }
@@ -280,13 +258,11 @@ fn until<'t, 'a>(
         (spec.until depth (spec.inside depth) position (ahead parser.old)) }
 {
     match entered(parser, depth) {
-        Ok(body) => match expect_word(parser, Word::Until) {
-            Ok(()) => match enclosed_condition(parser, depth) {
-                Ok(condition) => parts::do_until(parser, position, body, condition),
-                Err(e) => Err(e),
-            },
-            Err(e) => Err(e),
-        },
+        Ok(body) => {
+            expect_word(parser, Word::Until)?;
+            let condition = enclosed_condition(parser, depth)?;
+            parts::do_until(parser, position, body, condition)
+        }
         Err(e) => Err(e),
     }
 }
@@ -302,11 +278,9 @@ fn iteration<'t, 'a>(
     ensures { TakesStatement result parser.new
         (spec.iteration depth (spec.inside depth) position (ahead parser.old)) }
 {
-    match enclosed_heading(parser, depth) {
-        Ok(heading) => match further_in(parser, depth) {
-            Ok(body) => parts::for_loop(parser, position, heading, body),
-            Err(e) => Err(e),
-        },
+    let heading = enclosed_heading(parser, depth)?;
+    match further_in(parser, depth) {
+        Ok(body) => parts::for_loop(parser, position, heading, body),
         Err(e) => Err(e),
     }
 }
@@ -322,52 +296,17 @@ fn traversal<'t, 'a>(
     ensures { TakesStatement result parser.new
         (spec.traversal depth (spec.inside depth) position (ahead parser.old)) }
 {
-    match enclosed_loop(parser, depth) {
-        Ok(over) => match further_in(parser, depth) {
-            Ok(body) => parts::loop_over(parser, position, over, body),
-            Err(e) => Err(e),
-        },
+    let over = enclosed_loop(parser, depth)?;
+    match further_in(parser, depth) {
+        Ok(body) => parts::loop_over(parser, position, over, body),
         Err(e) => Err(e),
     }
-}
-
-// Statements one nesting further in, up to the next case.
-#[cycle(statement)]
-#[tactic(auto, using(syntax_parsing::proofs::Loops::as_long_out, syntax_parsing::proofs::Loops::as_long_done, syntax_parsing::proofs::Loops::as_long_more, syntax_parsing::proofs::Loops::as_long_fails, syntax_parsing::proofs::Loops::joined_none))]
-fn case_statements<'t, 'a>(
-    parser: &mut Parser<'t, 'a>,
-    depth: usize,
-) -> Result<Vec<Statement<'a>>, ParseError>
-    ensures { Takes (λ xs. map statement_tree xs.items) result parser.new
-        (as_long nesting.begins_in_case (spec.inside depth) (length (ahead parser.old))
-        (ahead parser.old)) }
-{
-    let mut found = Vec::new(parser.alloc);
-    for _turn in 0..parser.tokens.len() {
-        if !begins_in_case(parser.tokens) {
-            break;
-        }
-        match further_in(parser, depth) {
-            Ok(next) => match push_inner_exact(&mut found, next) {
-                Ok(()) => {}
-                Err(e) => {
-                    drop(found);
-                    return Err(e);
-                }
-            },
-            Err(e) => {
-                drop(found);
-                return Err(e);
-            }
-        }
-    }
-    Ok(as_kept(found))
 }
 
 // The statements of a case, up to the next case. The brace of its `switch` is a nesting, and so is
 // each statement.
 #[cycle(statement)]
-#[tactic(auto, using(crate::proofs::Inside::bodies_zero, crate::proofs::Inside::bodies_more))]
+#[tactic(auto, using(crate::proofs::Inside::bodies_zero, syntax_parsing::proofs::Loops::as_long_out, syntax_parsing::proofs::Loops::as_long_done, syntax_parsing::proofs::Loops::as_long_more, syntax_parsing::proofs::Loops::as_long_fails, syntax_parsing::proofs::Loops::joined_none))]
 fn bodies<'t, 'a>(
     parser: &mut Parser<'t, 'a>,
     depth: usize,
@@ -375,10 +314,18 @@ fn bodies<'t, 'a>(
     ensures { Takes (λ xs. map statement_tree xs.items) result parser.new
         (spec.bodies depth (ahead parser.old)) }
 {
-    match open(depth, parser.tokens) {
-        Ok(inside) => case_statements(parser, inside),
-        Err(e) => Err(e),
+    let inside = open(depth, parser.tokens)?;
+    let mut found = Vec::new(parser.alloc);
+    for _turn in 0..parser.tokens.len() {
+        if !begins_in_case(parser.tokens) {
+            break;
+        }
+        match further_in(parser, inside) {
+            Ok(next) => parts::add(&mut found, next)?,
+            Err(e) => return Err(e),
+        }
     }
+    Ok(parts::row(found))
 }
 
 // A case: its ranges, and its statements behind a colon.
@@ -391,14 +338,10 @@ fn one_case<'t, 'a>(
     ensures { Takes case_tree result parser.new
         (spec.one_case (spec.bodies depth) (ahead parser.old)) }
 {
-    match ranges(parser) {
-        Ok(ranges) => match expect(parser, Sign::Colon) {
-            Ok(()) => match bodies(parser, depth) {
-                Ok(body) => Ok((ranges, body)),
-                Err(e) => Err(e),
-            },
-            Err(e) => Err(e),
-        },
+    let ranges = ranges(parser)?;
+    expect(parser, Sign::Colon)?;
+    match bodies(parser, depth) {
+        Ok(body) => Ok((ranges, body)),
         Err(e) => Err(e),
     }
 }
@@ -419,17 +362,8 @@ fn cases<'t, 'a>(
             break;
         }
         match one_case(parser, depth) {
-            Ok(next) => match push(&mut found, next) {
-                Ok(()) => {}
-                Err(e) => {
-                    drop(found);
-                    return Err(e);
-                }
-            },
-            Err(e) => {
-                drop(found);
-                return Err(e);
-            }
+            Ok(next) => parts::add_case(&mut found, next)?,
+            Err(e) => return Err(e),
         }
     }
     Ok(found)
@@ -471,19 +405,11 @@ fn selection<'t, 'a>(
         (spec.selection depth (spec.braces depth)
         (spec.bodies depth) position (ahead parser.old)) }
 {
-    match enclosed_condition(parser, depth) {
-        Ok(value) => match expect(parser, Sign::OpenBrace) {
-            Ok(()) => match cases(parser, depth) {
-                Ok(cases) => match otherwise(parser, depth) {
-                    Ok(other) => parts::switch_on(parser, position, value, cases, other),
-                    Err(e) => {
-                        drop(value);
-                        drop(cases);
-                        Err(e)
-                    }
-                },
-                Err(e) => Err(e),
-            },
+    let value = enclosed_condition(parser, depth)?;
+    expect(parser, Sign::OpenBrace)?;
+    match cases(parser, depth) {
+        Ok(cases) => match otherwise(parser, depth) {
+            Ok(other) => parts::switch_on(parser, position, value, cases, other),
             Err(e) => Err(e),
         },
         Err(e) => Err(e),

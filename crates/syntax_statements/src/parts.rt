@@ -1,7 +1,7 @@
 //! Statements made of their parts, where the last part is read already. Trees come and go in boxes,
 //! and a kind of statement is spelled here and in `simple` alone.
 
-ghost use Rattle.std.specs.Prelude.{Ok, map};
+ghost use Rattle.std.specs.Prelude.{◌≡◌, IfErr, IfOk, Ok, map, [], ◌∷◌, ◌++◌};
 ghost use Rattle.syntax_trees.specs.Views.{expression_tree};
 ghost use Rattle.syntax_parsing.specs.Parse as reading;
 ghost use Rattle.syntax_parsing.specs.Returned.{ahead};
@@ -15,7 +15,7 @@ use crate::simple::simple;
 use crate::tree::Statement;
 use syntax_lexer::{Position, Sign};
 use syntax_parsing::{ParseError, Parser, expect};
-use syntax_statement_parts::{Heading, Loop, Range, boxed};
+use syntax_statement_parts::{Heading, Loop, Range};
 use syntax_trees::Expression;
 
 /// A statement in a box. Where memory is refused the statement is dropped here. The parser comes
@@ -29,7 +29,10 @@ pub fn in_box<'t, 'a>(
     ensures { TakesStatement result parser.now
         (Ok (statement_tree statement.entry, ahead parser.now)) }
 {
-    boxed(parser.alloc, statement)
+    match Box::new(parser.alloc, statement) {
+        Ok(statement) => Ok(statement),
+        Err(refused) => Err(ParseError::from(refused)),
+    }
 }
 
 /// `;` alone, which is read already.
@@ -57,6 +60,33 @@ pub fn plain<'t, 'a>(
     }
 }
 
+/// One more statement in a row.
+pub fn add<'a>(
+    statements: &mut Vec<Statement<'a>>,
+    next: Box<Statement<'a>>,
+) -> Result<(), ParseError>
+    ensures ok { IfOk result (λ _. statements.new.items
+        ≡ statements.old.items ++ next.entry.value ∷ []) }
+    ensures err { IfErr result (λ e. e ≡ ParseError.Memory) }
+{
+    // Most rows inside a statement are of one. A first `push` would ask for several places.
+    if statements.is_empty() {
+        statements.reserve_exact(1)?;
+    }
+    statements.push(Box::into_inner(next))?;
+    Ok(())
+}
+
+/// A row of statements as it is kept: it gives back the room in which it grew, so rows of some
+/// dozens take no more than what stands in them.
+pub fn row<'a>(statements: Vec<Statement<'a>>) -> Vec<Statement<'a>>
+    ensures { result.items ≡ statements.entry.items }
+{
+    let mut found = statements;
+    found.shrink_to_fit();
+    found
+}
+
 /// A block, with its second brace.
 pub fn block<'t, 'a>(
     parser: &mut Parser<'t, 'a>,
@@ -67,10 +97,7 @@ pub fn block<'t, 'a>(
 {
     match expect(parser, Sign::CloseBrace) {
         Ok(()) => in_box(parser, Statement::Block(found)),
-        Err(e) => {
-            drop(found);
-            Err(e)
-        }
+        Err(e) => Err(e),
     }
 }
 
@@ -140,11 +167,7 @@ pub fn do_until<'t, 'a>(
 {
     match expect(parser, Sign::Semicolon) {
         Ok(()) => in_box(parser, Statement::Do(position, body, condition)),
-        Err(e) => {
-            drop(body);
-            drop(condition);
-            Err(e)
-        }
+        Err(e) => Err(e),
     }
 }
 
@@ -181,6 +204,18 @@ pub fn loop_over<'t, 'a>(
     in_box(parser, Statement::Objectloop(position, over, body))
 }
 
+/// One more case in a row.
+pub fn add_case<'a>(
+    cases: &mut Vec<(Vec<Range<'a>>, Vec<Statement<'a>>)>,
+    next: (Vec<Range<'a>>, Vec<Statement<'a>>),
+) -> Result<(), ParseError>
+    ensures ok { IfOk result (λ _. cases.new.items ≡ cases.old.items ++ next.entry ∷ []) }
+    ensures err { IfErr result (λ e. e ≡ ParseError.Memory) }
+{
+    cases.push(next)?;
+    Ok(())
+}
+
 /// `switch`, with its second brace.
 pub fn switch_on<'t, 'a>(
     parser: &mut Parser<'t, 'a>,
@@ -195,11 +230,6 @@ pub fn switch_on<'t, 'a>(
 {
     match expect(parser, Sign::CloseBrace) {
         Ok(()) => in_box(parser, Statement::Switch(position, value, cases, other)),
-        Err(e) => {
-            drop(value);
-            drop(cases);
-            drop(other);
-            Err(e)
-        }
+        Err(e) => Err(e),
     }
 }

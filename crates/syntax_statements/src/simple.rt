@@ -15,7 +15,7 @@ use syntax_lexer::{Kind, Position, Sign, Word};
 use syntax_parsing::{
     Fault, ParseError, Parser, expect, expect_word, fault_at, is_sign, pass, peek, position,
 };
-use syntax_statement_parts::{boxed, flags, has_effect, items};
+use syntax_statement_parts::{flags, has_effect, items};
 
 // The statement in a box. The parser comes first here, in `ended` and in all that makes statements,
 // also where nothing is read: so the lifetimes of the arguments have the places that they have in
@@ -26,7 +26,10 @@ fn in_box<'t, 'a>(
 ) -> Result<Box<SimpleStatement<'a>>, ParseError>
     ensures { TakesSimple result parser.now (Ok (simple_tree statement.entry, ahead parser.now)) }
 {
-    boxed(parser.alloc, statement)
+    match Box::new(parser.alloc, statement) {
+        Ok(statement) => Ok(statement),
+        Err(refused) => Err(ParseError::from(refused)),
+    }
 }
 
 // The statement, behind its `;`.
@@ -117,13 +120,9 @@ fn returned<'t, 'a>(
 fn read<'t, 'a>(parser: &mut Parser<'t, 'a>) -> Result<Box<SimpleStatement<'a>>, ParseError>
     ensures { TakesSimple result parser.new (spec.line_read (ahead parser.old)) }
 {
-    match expect_name(parser) {
-        Ok(text) => match expect_name(parser) {
-            Ok(words) => ended(parser, SimpleStatement::Read(text, words)),
-            Err(e) => Err(e),
-        },
-        Err(e) => Err(e),
-    }
+    let text = expect_name(parser)?;
+    let words = expect_name(parser)?;
+    ended(parser, SimpleStatement::Read(text, words))
 }
 
 /// What follows `give`, which stands at `position`.
@@ -139,11 +138,9 @@ fn given<'t, 'a>(
 ) -> Result<Box<SimpleStatement<'a>>, ParseError>
     ensures { TakesSimple result parser.new (spec.given depth position (ahead parser.old)) }
 {
-    match expression(parser, depth) {
-        Ok(object) => match flags(parser) {
-            Ok(found) => ended(parser, SimpleStatement::Give(position, object, found)),
-            Err(e) => Err(e),
-        },
+    let object = expression(parser, depth)?;
+    match flags(parser) {
+        Ok(found) => ended(parser, SimpleStatement::Give(position, object, found)),
         Err(e) => Err(e),
     }
 }
@@ -161,14 +158,10 @@ fn moved<'t, 'a>(
 ) -> Result<Box<SimpleStatement<'a>>, ParseError>
     ensures { TakesSimple result parser.new (spec.moved depth position (ahead parser.old)) }
 {
+    let object = expression(parser, depth)?;
+    expect_word(parser, Word::To)?;
     match expression(parser, depth) {
-        Ok(object) => match expect_word(parser, Word::To) {
-            Ok(()) => match expression(parser, depth) {
-                Ok(parent) => ended(parser, SimpleStatement::Move(position, object, parent)),
-                Err(e) => Err(e),
-            },
-            Err(e) => Err(e),
-        },
+        Ok(parent) => ended(parser, SimpleStatement::Move(position, object, parent)),
         Err(e) => Err(e),
     }
 }

@@ -3,7 +3,6 @@ use Rattle.syntax_parsing.specs.Returned.{ahead}
 use Rattle.syntax_statement_parts.proofs.Looped.{looped_read}
 use Rattle.syntax_statement_parts.proofs.objectloop.looped.Goals as goal
 
-pub returns-in-Ok-boxed : goal.returns-in-Ok-boxed
-returns-in-Ok-boxed c = rw (c.in-Ok-boxed.ensures.ok, c.loop_of.ensures)
-    (looped_read c.args.depth (ahead c.args.parser.now) _ _
-    c.in-Some.variable _ (sym c.peek.ensures ∙ c.in-Some.ensures) c.in-Ok.ensures c.in-Ok-expect.ensures)
+pub returns : goal.returns
+returns c = rw (c.in_ok-new.ensures.ok, c.loop_of.ensures) (looped_read c.args.depth (ahead c.args.parser.now) _ _
+    c.in-Some.variable _ (sym c.peek.ensures ∙ c.in-Some.ensures) c.in_ok-found.ensures c.in_ok-expect.ensures)

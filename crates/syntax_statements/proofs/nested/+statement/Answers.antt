@@ -10,7 +10,7 @@ use Rattle.syntax_statements.specs.Views.{statement_tree, case_tree}
 use Rattle.syntax_statements.specs.Parse.{one_case, statement, inside, braces, bodies}
 use Rattle.syntax_statements.proofs.Cases.{block_behind, block_read, repetition_made, iteration_made, traversal_made}
 use Rattle.syntax_statements.proofs.Cases.{otherwise_default, otherwise_made, otherwise_uncoloned, selection_made}
-use Rattle.syntax_statements.proofs.Inside.{bodies_more, case_begun}
+use Rattle.syntax_statements.proofs.Inside.{bodies_begun}
 use Rattle.syntax_statements.proofs.nested.+statement.Goals as goal
 use Rattle.syntax_statements.proofs.nested.+statement.Goals.{cases-else-loop-turn-test}
 use Rattle.syntax_statements.proofs.nested.+statement.Goals.{cases-then-loop-turn-test+then-not-begins_value}
@@ -22,20 +22,20 @@ pub block-returns-in-Err : goal.block-returns-in-Err
 block-returns-in-Err t c = part_fails c.in-Err.e _ _ _ c.in-Err.ensures
     (block_behind (braces c.args.depth) _ (tail (ahead c.args.parser.now)))
 
-pub repetition-returns-in-Ok-further_in : goal.repetition-returns-in-Ok-further_in
-repetition-returns-in-Ok-further_in t c = rw
+pub repetition-returns-in-Ok : goal.repetition-returns-in-Ok
+repetition-returns-in-Ok t c = rw
     (repetition_made c.args.depth (inside c.args.depth) c.args.position (ahead c.args.parser.now) _ _
-    c.in-Ok.ensures.gives _ _ c.in-Ok-further_in.ensures) c.while_do.ensures
+    c.in_ok-condition.ensures.gives _ _ c.in-Ok.ensures) c.while_do.ensures
 
-pub iteration-returns-in-Ok-further_in : goal.iteration-returns-in-Ok-further_in
-iteration-returns-in-Ok-further_in t c = rw
+pub iteration-returns-in-Ok : goal.iteration-returns-in-Ok
+iteration-returns-in-Ok t c = rw
     (iteration_made c.args.depth (inside c.args.depth) c.args.position (ahead c.args.parser.now) _ _ _ _
-    c.in-Ok.ensures.gives c.in-Ok-further_in.ensures) c.for_loop.ensures
+    c.in_ok-heading.ensures.gives c.in-Ok.ensures) c.for_loop.ensures
 
-pub traversal-returns-in-Ok-further_in : goal.traversal-returns-in-Ok-further_in
-traversal-returns-in-Ok-further_in t c = rw
+pub traversal-returns-in-Ok : goal.traversal-returns-in-Ok
+traversal-returns-in-Ok t c = rw
     (traversal_made c.args.depth (inside c.args.depth) c.args.position (ahead c.args.parser.now) _ _ _ _
-    c.in-Ok.ensures.gives c.in-Ok-further_in.ensures) c.loop_over.ensures
+    c.in_ok-over.ensures.gives c.in-Ok.ensures) c.loop_over.ensures
 
 pub otherwise-returns-then-not-is_sign : goal.otherwise-returns-then-not-is_sign
 otherwise-returns-then-not-is_sign t c = rw c.fault_at.ensures
@@ -52,11 +52,11 @@ otherwise-returns-in-Err t c = part_fails c.in-Err.e _ _ _ c.in-Err.ensures
 pub selection-returns-in-Ok-otherwise : goal.selection-returns-in-Ok-otherwise
 selection-returns-in-Ok-otherwise t c = rw
     (selection_made c.args.depth (braces c.args.depth) (bodies c.args.depth) c.args.position
-    (ahead c.args.parser.now) _ _ _ _ _ _ _ c.in-Ok.ensures.gives c.in-Ok-expect.ensures c.in-Ok-cases.ensures
+    (ahead c.args.parser.now) _ _ _ _ _ _ _ c.in_ok-value.ensures.gives c.in_ok-expect.ensures c.in-Ok.ensures
     c.in-Ok-otherwise.ensures) c.switch_on.ensures
 
 pub statements-loop-turn-preserved : goal.statements-loop-turn-preserved
-statements-loop-turn-preserved t c = rw c.in-Ok-push_inner_exact.ensures.ok
+statements-loop-turn-preserved t c = rw c.in_ok-add-in-Ok.ensures.ok
     (sym (repeated_more statement_tree begins_statement (statement c.args.depth) (length c.args.parser.now.tokens.now)
     c.loop-turn._turn c.loop-turn.found.items (ahead c.loop-turn.parser) c.in-Ok.next.value
     _ c.loop-turn-test.true
@@ -70,30 +70,25 @@ statements-returns-in-Err t c = repeated_fails statement_tree begins_statement (
     (ap begins_statement (sym c.peek.ensures) ∙ sym c.begins_statement.ensures ∙ c.if-not-begins_statement.false)
     c.in-Err.ensures c.loop-turn.invariant
 
-pub case_statements-loop-turn-preserved : goal.case_statements-loop-turn-preserved
-case_statements-loop-turn-preserved t c = rw c.in-Ok-push_inner_exact.ensures.ok
-    (sym (as_long_more statement_tree begins_in_case (inside c.args.depth)
+pub bodies-loop-turn-preserved : goal.bodies-loop-turn-preserved
+bodies-loop-turn-preserved t c = rw c.in_ok-add-in-Ok.ensures.ok
+    (sym (as_long_more statement_tree begins_in_case (inside c.in_ok-inside.inside)
     (length c.args.parser.now.tokens.now) c.loop-turn._turn c.loop-turn.found.items (ahead c.loop-turn.parser)
     c.in-Ok.next.value _ c.loop-turn-test.true
     (sym c.begins_in_case.ensures ∙ c.if-not-begins_in_case.false) c.in-Ok.ensures) ∙ c.loop-turn.invariant)
 
-pub case_statements-returns-in-Err : goal.case_statements-returns-in-Err
-case_statements-returns-in-Err t c = as_long_fails statement_tree begins_in_case (inside c.args.depth) c.in-Err.e
+pub bodies-returns-in-Err : goal.bodies-returns-in-Err
+bodies-returns-in-Err t c = as_long_fails statement_tree begins_in_case (inside c.in_ok-inside.inside) c.in-Err.e
     (length c.args.parser.now.tokens.now) c.loop-turn._turn c.loop-turn.found.items (ahead c.loop-turn.parser) _
     c.loop-turn-test.true (sym c.begins_in_case.ensures ∙ c.if-not-begins_in_case.false)
     c.in-Err.ensures c.loop-turn.invariant
 
-pub case_statements-loop-turn-init : goal.case_statements-loop-turn-init
-case_statements-loop-turn-init t c = case_begun c.args.depth c.new-found.result.items c.args.parser.now.tokens.now
-    c.new-found.ensures.items
-
-pub bodies-returns-in-Ok : goal.bodies-returns-in-Ok
-bodies-returns-in-Ok t c = rw
-    (bodies_more c.args.depth c.in-Ok.inside (ahead c.args.parser.now) c.in-Ok.ensures.opened)
-    c.case_statements.ensures
+pub bodies-loop-turn-init : goal.bodies-loop-turn-init
+bodies-loop-turn-init t c = bodies_begun c.args.depth c.in_ok-inside.inside c.new-found.result.items
+    c.args.parser.now.tokens.now c.in_ok-inside.ensures.opened c.new-found.ensures.items
 
 pub cases-loop-turn-preserved : goal.cases-loop-turn-preserved
-cases-loop-turn-preserved t c = rw c.in-Ok-push.ensures.ok
+cases-loop-turn-preserved t c = rw c.in_ok-add_case-in-Ok.ensures.ok
     (sym (repeated_more case_tree begins_value (one_case (bodies c.args.depth)) (length c.args.parser.now.tokens.now)
     c.loop-turn._turn c.loop-turn.found.items (ahead c.loop-turn.parser) c.in-Ok.next
     _ c.loop-turn-test.true

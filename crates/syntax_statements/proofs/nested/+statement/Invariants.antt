@@ -1,4 +1,4 @@
-use Rattle.std.proofs.Common.{◌≡◌, map, ◌+◌, ◌-◌, ◌*◌, length}
+use Rattle.std.proofs.Common.{◌≡◌, map, ◌+◌, ◌-◌, ◌*◌}
 use Rattle.syntax_parsing.specs.Returned.{ahead}
 use Rattle.syntax_parsing.specs.Parse as reading
 use Rattle.syntax_parsing.proofs.Loops.{joined}
@@ -41,9 +41,6 @@ decreases-iteration l = 8 * l.depth + 5
 abbrev pub decreases-traversal : goal.decreases-traversal
 decreases-traversal l = 8 * l.depth + 5
 
-abbrev pub decreases-case_statements : goal.decreases-case_statements
-decreases-case_statements l = 8 * l.depth + 1
-
 abbrev pub decreases-bodies : goal.decreases-bodies
 decreases-bodies l = 8 * l.depth + 1
 
@@ -65,11 +62,11 @@ invariant-statements-loop-turn l =
     (reading.repeated begins_statement (spec.statement l.depth) (l._turn-end - l._turn) (ahead l.parser))
     ≡ spec.statements l.depth (ahead l.fn.parser)
 
-abbrev pub invariant-case_statements-loop-turn : goal.invariant-case_statements-loop-turn
-invariant-case_statements-loop-turn l =
+abbrev pub invariant-bodies-loop-turn : goal.invariant-bodies-loop-turn
+invariant-bodies-loop-turn l =
     joined (map statement_tree l.found.items)
-    (reading.as_long begins_in_case (spec.inside l.depth) (l._turn-end - l._turn) (ahead l.parser))
-    ≡ reading.as_long begins_in_case (spec.inside l.depth) (length (ahead l.fn.parser)) (ahead l.fn.parser)
+    (reading.as_long begins_in_case (spec.inside l.inside) (l._turn-end - l._turn) (ahead l.parser))
+    ≡ spec.bodies l.depth (ahead l.fn.parser)
 
 abbrev pub invariant-cases-loop-turn : goal.invariant-cases-loop-turn
 invariant-cases-loop-turn l =
