@@ -80,7 +80,7 @@ fn put_escape<'a>(
         Some('x') => {
             let high = hexadecimal(letters.next())?;
             let low = hexadecimal(letters.next())?;
-            bytes.push((high.wrapping_mul(16) | low) as u8)?;
+            bytes.push(u8::try_from(high.wrapping_mul(16) | low).unwrap_or(0))?;
         }
         _ => return Err(RowError::Escape),
     }
