@@ -1,5 +1,4 @@
-//! Plays the rows of standard input and prints what each shows: sources that are compiled, stories
-//! that are made byte by byte, texts, and recorded cells.
+//! Plays the rows of standard input and prints what each shows: sources, stories, texts, cells.
 #![tactic(auto)]
 
 mod damage;

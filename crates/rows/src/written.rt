@@ -5,10 +5,7 @@ use std::alloc::Global;
 
 /// The number that a text is, in decimal, of 64 bits.
 pub fn number_in(text: &str) -> Result<usize, RowError> {
-    match text.parse::<usize>() {
-        Ok(number) => Ok(number),
-        Err(_) => Err(RowError::Number),
-    }
+    text.parse::<usize>().ok().ok_or(RowError::Number)
 }
 
 /// The bytes of a written text.
@@ -76,21 +73,26 @@ fn put_escape<'a>(
     match letters.next() {
         Some('n') => bytes.push(b'\n')?,
         Some('\\') => bytes.push(b'\\')?,
-        Some('#') => bytes.extend_from_slice(number.to_string(alloc)?.as_bytes())?,
+        Some('#') => put_number(bytes, alloc, number)?,
         Some('x') => {
             let high = hexadecimal(letters.next())?;
             let low = hexadecimal(letters.next())?;
-            bytes.push((high.wrapping_mul(16) | low) as u8)?;
+            bytes.push(high.wrapping_mul(16) | low)?;
         }
         _ => return Err(RowError::Escape),
     }
     Ok(letters.as_str())
 }
 
+/// Adds a number in decimal.
+fn put_number(bytes: &mut Vec<u8>, alloc: Global, number: usize) -> Result<(), RowError> {
+    let digits = number.to_string(alloc)?;
+    bytes.extend_from_slice(digits.as_bytes())?;
+    Ok(())
+}
+
 /// The value of a hexadecimal digit.
-fn hexadecimal(digit: Option<char>) -> Result<u32, RowError> {
-    match digit {
-        Some(digit) => digit.to_digit(16).ok_or(RowError::Escape),
-        None => Err(RowError::Escape),
-    }
+fn hexadecimal(digit: Option<char>) -> Result<u8, RowError> {
+    let value = digit.unwrap_or(' ').to_digit(16).ok_or(RowError::Escape)?;
+    Ok(u8::try_from(value).unwrap_or(0))
 }
