@@ -139,6 +139,13 @@ impl<'a> Trial<'a> {
         }
     }
 
+    /// Whether an offset is after the end of the statement or the definition, or of its head, that goes
+    /// on with the token of a number.
+    fn is_after_end(&self, offset: usize, number: usize) -> bool {
+        let end = end_from(&self.tokens, number);
+        is_after(&self.tokens, offset, end)
+    }
+
     /// Whether the tokens are a program after a change.
     pub fn mends(&mut self, change: Change<'a>) -> bool {
         let reached = match change {
@@ -155,21 +162,21 @@ impl<'a> Trial<'a> {
     /// if a name were in the place of a token. The token that does not fit has a number.
     pub fn name_helps(&mut self, number: usize, place: usize) -> bool {
         let offset = self.reach_with(place, Kind::Name(b"name"));
-        is_after(&self.tokens, offset, end_from(&self.tokens, number))
+        self.is_after_end(offset, number)
     }
 
     /// Whether a program could go on after the end of a statement or a definition, or of its head,
     /// if `==` were in the place of the token of a number, which does not fit.
     pub fn equality_helps(&mut self, number: usize) -> bool {
         let offset = self.reach_with(number, Kind::Sign(Sign::Equal));
-        is_after(&self.tokens, offset, end_from(&self.tokens, number))
+        self.is_after_end(offset, number)
     }
 
     /// Whether a program could go on after the end of a statement or a definition, or of its head,
     /// if a sign were before a token. The token that does not fit has a number.
     pub fn sign_helps(&mut self, number: usize, place: usize, sign: Sign) -> bool {
         let offset = self.reach_with_sign(place, sign);
-        is_after(&self.tokens, offset, end_from(&self.tokens, number))
+        self.is_after_end(offset, number)
     }
 
     /// Whether a program could go on after the end of a statement or a definition, or of its head,
@@ -180,7 +187,7 @@ impl<'a> Trial<'a> {
             return false;
         }
         let offset = self.reach_without(number);
-        is_after(&self.tokens, offset, end_from(&self.tokens, next))
+        self.is_after_end(offset, next)
     }
 
     /// Whether the token of a number would fit if `;` were before it.
@@ -193,7 +200,7 @@ impl<'a> Trial<'a> {
     /// before the token of a number, which does not fit.
     pub fn end_of_routine_helps(&mut self, number: usize) -> bool {
         let offset = self.reach_with_end(number);
-        is_after(&self.tokens, offset, end_from(&self.tokens, number))
+        self.is_after_end(offset, number)
     }
 }
 
