@@ -39,4 +39,4 @@ returns-in-Ok c =
     ∙ ap (λ xs. 1 + code_size sizes xs) c.in-Ok.ensures.items
     ∙ ap (λ x. routine_size sizes x) (sym c.routine.ensures.resolved) in
     figured checked (slice_get checked.routines c.args.routine) r c.routine-in-Ok.result.now n c.routine.ensures.given
-        c.routine-in-Ok.ensures.given size
+    c.routine-in-Ok.ensures.given size
