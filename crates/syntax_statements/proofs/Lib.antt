@@ -1,5 +1,6 @@
 pub mod Shapes
 pub mod Inside
+pub mod Rows
 pub mod Cases
 pub mod KnownValues
 pub mod Labels

@@ -4,3 +4,4 @@ pub mod Grammar
 pub mod Nesting
 pub mod Parse
 pub mod Returned
+pub mod Rows

@@ -1,6 +1,7 @@
 //! Statements: their trees, and the parser that reads them.
 #![tactic(auto)]
 
+mod memory;
 mod nested;
 mod parts;
 mod simple;

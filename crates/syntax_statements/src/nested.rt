@@ -9,7 +9,10 @@ ghost use Rattle.syntax_statements.specs.Nesting as nesting;
 ghost use Rattle.syntax_statements.specs.Views.{statement_tree, case_tree, other_tree};
 ghost use Rattle.syntax_statements.specs.Returned.{TakesStatement};
 ghost use Rattle.syntax_statements.specs.Parse as spec;
+ghost use Rattle.syntax_statements.specs.Rows as rows;
+ghost use Rattle.syntax_statements.specs.Rows.{AddsStatement};
 
+use crate::memory::{as_kept, push};
 use crate::parts;
 use crate::parts::plain;
 use crate::tree::Statement;
@@ -58,6 +61,27 @@ fn opens_statement(token: Token<'_>) -> bool
         Kind::Text(_) => true,
         Kind::Sign(sign) => matches!(sign, Sign::Semicolon | Sign::OpenBrace),
         Kind::Reserved(word) => word_opens(word),
+        _ => false,
+    }
+}
+
+// Whether the word begins a statement that contains others.
+fn word_contains(word: Word) -> bool
+    ensures { result ≡ rows.word_contains word }
+{
+    matches!(
+        word,
+        Word::If | Word::While | Word::Do | Word::For | Word::Objectloop | Word::Switch
+    )
+}
+
+// Whether the token begins a statement that contains others.
+fn contains_statements(token: Token<'_>) -> bool
+    ensures { result ≡ rows.contains_statements (lexeme token.entry) }
+{
+    match token.kind {
+        Kind::Sign(sign) => matches!(sign, Sign::OpenBrace),
+        Kind::Reserved(word) => word_contains(word),
         _ => false,
     }
 }
@@ -115,7 +139,7 @@ fn else_follows(tokens: &[Token<'_>]) -> bool
 /// - `Fault::Deep` at the token for which no nesting is left.
 /// - `Memory`: a growth is refused.
 #[cycle(statement)]
-#[tactic(auto, unfolding(crate::specs::Parse::statements), using(syntax_parsing::proofs::Loops::repeated_out, syntax_parsing::proofs::Loops::repeated_done, syntax_parsing::proofs::Loops::repeated_more, syntax_parsing::proofs::Loops::repeated_fails, syntax_parsing::proofs::Loops::joined_none))]
+#[tactic(auto, unfolding(crate::specs::Parse::statements), using(syntax_parsing::proofs::Loops::joined_none))]
 pub fn statements<'t, 'a>(
     parser: &mut Parser<'t, 'a>,
     depth: usize,
@@ -128,12 +152,48 @@ pub fn statements<'t, 'a>(
         if !begins_statement(peek(parser.tokens)) {
             break;
         }
-        match statement(parser, depth) {
-            Ok(next) => parts::add(&mut found, next)?,
+        match add_next(parser, depth, &mut found) {
+            Ok(()) => {}
             Err(e) => return Err(e),
         }
     }
-    Ok(parts::row(found))
+    Ok(as_kept(found))
+}
+
+// One more statement of a row. One that contains no others goes there directly: a box would be made
+// and given back for each.
+#[cycle(statement)]
+fn add_next<'t, 'a>(
+    parser: &mut Parser<'t, 'a>,
+    depth: usize,
+    row: &mut Vec<Statement<'a>>,
+) -> Result<(), ParseError>
+    ensures { AddsStatement result row.old.items row.new.items parser.new
+        (spec.statement depth (ahead parser.old)) }
+{
+    if !contains_statements(peek(parser.tokens)) {
+        return parts::add_flat(parser, depth, row);
+    }
+    match statement(parser, depth) {
+        Ok(next) => parts::add_boxed(parser, row, next),
+        Err(e) => Err(e),
+    }
+}
+
+// The same one nesting further in than where `depth` may be opened.
+#[cycle(statement)]
+fn add_inside<'t, 'a>(
+    parser: &mut Parser<'t, 'a>,
+    depth: usize,
+    row: &mut Vec<Statement<'a>>,
+) -> Result<(), ParseError>
+    ensures { AddsStatement result row.old.items row.new.items parser.new
+        (spec.inside depth (ahead parser.old)) }
+{
+    match open(depth, parser.tokens) {
+        Ok(inside) => add_next(parser, inside, row),
+        Err(e) => Err(e),
+    }
 }
 
 // The statements of a block or of `default`, from its brace or its colon on. Its brace is a
@@ -306,7 +366,7 @@ fn traversal<'t, 'a>(
 // The statements of a case, up to the next case. The brace of its `switch` is a nesting, and so is
 // each statement.
 #[cycle(statement)]
-#[tactic(auto, using(crate::proofs::Inside::bodies_zero, syntax_parsing::proofs::Loops::as_long_out, syntax_parsing::proofs::Loops::as_long_done, syntax_parsing::proofs::Loops::as_long_more, syntax_parsing::proofs::Loops::as_long_fails, syntax_parsing::proofs::Loops::joined_none))]
+#[tactic(auto, using(crate::proofs::Inside::bodies_zero))]
 fn bodies<'t, 'a>(
     parser: &mut Parser<'t, 'a>,
     depth: usize,
@@ -320,12 +380,12 @@ fn bodies<'t, 'a>(
         if !begins_in_case(parser.tokens) {
             break;
         }
-        match further_in(parser, inside) {
-            Ok(next) => parts::add(&mut found, next)?,
+        match add_inside(parser, inside, &mut found) {
+            Ok(()) => {}
             Err(e) => return Err(e),
         }
     }
-    Ok(parts::row(found))
+    Ok(as_kept(found))
 }
 
 // A case: its ranges, and its statements behind a colon.
@@ -348,7 +408,7 @@ fn one_case<'t, 'a>(
 
 // Cases, up to `default` or a brace.
 #[cycle(statement)]
-#[tactic(auto, unfolding(crate::specs::Parse::cases), using(syntax_parsing::proofs::Loops::repeated_out, syntax_parsing::proofs::Loops::repeated_done, syntax_parsing::proofs::Loops::repeated_more, syntax_parsing::proofs::Loops::repeated_fails, syntax_parsing::proofs::Loops::joined_none))]
+#[tactic(auto, unfolding(crate::specs::Parse::cases), using(syntax_parsing::proofs::Loops::joined_none))]
 fn cases<'t, 'a>(
     parser: &mut Parser<'t, 'a>,
     depth: usize,
@@ -362,7 +422,7 @@ fn cases<'t, 'a>(
             break;
         }
         match one_case(parser, depth) {
-            Ok(next) => parts::add_case(&mut found, next)?,
+            Ok(next) => push(&mut found, next)?,
             Err(e) => return Err(e),
         }
     }

@@ -1,20 +1,23 @@
 //! Statements made of their parts, where the last part is read already. Trees come and go in boxes,
 //! and a kind of statement is spelled here and in `simple` alone.
 
-ghost use Rattle.std.specs.Prelude.{◌≡◌, IfErr, IfOk, Ok, map, [], ◌∷◌, ◌++◌};
+ghost use Rattle.std.specs.Prelude.{Ok, map};
 ghost use Rattle.syntax_trees.specs.Views.{expression_tree};
 ghost use Rattle.syntax_parsing.specs.Parse as reading;
 ghost use Rattle.syntax_parsing.specs.Returned.{ahead};
 ghost use Rattle.syntax_statement_parts.specs.Views.{heading_tree, loop_tree};
 ghost use Rattle.syntax_statements.specs.Tree as tree;
-ghost use Rattle.syntax_statements.specs.Views.{statement_tree, case_tree, other_tree};
+ghost use Rattle.syntax_statements.specs.Views.{statement_tree, simple_tree, case_tree, other_tree};
 ghost use Rattle.syntax_statements.specs.Returned.{TakesStatement};
 ghost use Rattle.syntax_statements.specs.Parse as spec;
+ghost use Rattle.syntax_statements.specs.Rows as rows;
+ghost use Rattle.syntax_statements.specs.Rows.{AddsStatement};
 
+use crate::memory::{boxed, push_exact, push_inner_exact};
 use crate::simple::simple;
-use crate::tree::Statement;
+use crate::tree::{SimpleStatement, Statement};
 use syntax_lexer::{Position, Sign};
-use syntax_parsing::{ParseError, Parser, expect};
+use syntax_parsing::{ParseError, Parser, expect, is_sign, pass, peek};
 use syntax_statement_parts::{Heading, Loop, Range};
 use syntax_trees::Expression;
 
@@ -29,10 +32,7 @@ pub fn in_box<'t, 'a>(
     ensures { TakesStatement result parser.now
         (Ok (statement_tree statement.entry, ahead parser.now)) }
 {
-    match Box::new(parser.alloc, statement) {
-        Ok(statement) => Ok(statement),
-        Err(refused) => Err(ParseError::from(refused)),
-    }
+    boxed(parser.alloc, statement)
 }
 
 /// `;` alone, which is read already.
@@ -60,31 +60,74 @@ pub fn plain<'t, 'a>(
     }
 }
 
-/// One more statement in a row.
-pub fn add<'a>(
-    statements: &mut Vec<Statement<'a>>,
-    next: Box<Statement<'a>>,
+// The statement at the end of a row.
+fn add<'t, 'a>(
+    parser: &Parser<'t, 'a>,
+    row: &mut Vec<Statement<'a>>,
+    next: Statement<'a>,
 ) -> Result<(), ParseError>
-    ensures ok { IfOk result (λ _. statements.new.items
-        ≡ statements.old.items ++ next.entry.value ∷ []) }
-    ensures err { IfErr result (λ e. e ≡ ParseError.Memory) }
+    ensures { AddsStatement result row.old.items row.new.items parser.now
+        (Ok (statement_tree next.entry, ahead parser.now)) }
 {
-    // Most rows inside a statement are of one. A first `push` would ask for several places.
-    if statements.is_empty() {
-        statements.reserve_exact(1)?;
-    }
-    statements.push(Box::into_inner(next))?;
-    Ok(())
+    push_exact(row, next)
 }
 
-/// A row of statements as it is kept: it gives back the room in which it grew, so rows of some
-/// dozens take no more than what stands in them.
-pub fn row<'a>(statements: Vec<Statement<'a>>) -> Vec<Statement<'a>>
-    ensures { result.items ≡ statements.entry.items }
+/// The statement in the box at the end of a row.
+pub fn add_boxed<'t, 'a>(
+    parser: &Parser<'t, 'a>,
+    row: &mut Vec<Statement<'a>>,
+    next: Box<Statement<'a>>,
+) -> Result<(), ParseError>
+    ensures { AddsStatement result row.old.items row.new.items parser.now
+        (Ok (statement_tree next.entry.value, ahead parser.now)) }
 {
-    let mut found = statements;
-    found.shrink_to_fit();
-    found
+    push_inner_exact(row, next)
+}
+
+// `;` alone, which is read already, at the end of a row.
+fn add_empty<'t, 'a>(
+    parser: &Parser<'t, 'a>,
+    row: &mut Vec<Statement<'a>>,
+) -> Result<(), ParseError>
+    ensures { AddsStatement result row.old.items row.new.items parser.now
+        (Ok (tree.empty, ahead parser.now)) }
+{
+    add(parser, row, Statement::Empty)
+}
+
+// A statement that contains no others, and which is not `;` alone, at the end of a row.
+fn add_simple<'t, 'a>(
+    parser: &Parser<'t, 'a>,
+    row: &mut Vec<Statement<'a>>,
+    next: Box<SimpleStatement<'a>>,
+) -> Result<(), ParseError>
+    ensures { AddsStatement result row.old.items row.new.items parser.now
+        (Ok (simple_tree next.entry.value, ahead parser.now)) }
+{
+    add(parser, row, Statement::Simple(next))
+}
+
+/// Reads a statement that contains no others, and puts it at the end of a row.
+///
+/// # Errors
+///
+/// Those of `simple`.
+pub fn add_flat<'t, 'a>(
+    parser: &mut Parser<'t, 'a>,
+    depth: usize,
+    row: &mut Vec<Statement<'a>>,
+) -> Result<(), ParseError>
+    ensures { AddsStatement result row.old.items row.new.items parser.new
+        (rows.flat depth (ahead parser.old)) }
+{
+    if is_sign(peek(parser.tokens), Sign::Semicolon) {
+        pass(parser);
+        return add_empty(parser, row);
+    }
+    match simple(parser, depth) {
+        Ok(found) => add_simple(parser, row, found),
+        Err(e) => Err(e),
+    }
 }
 
 /// A block, with its second brace.
@@ -97,7 +140,10 @@ pub fn block<'t, 'a>(
 {
     match expect(parser, Sign::CloseBrace) {
         Ok(()) => in_box(parser, Statement::Block(found)),
-        Err(e) => Err(e),
+        Err(e) => {
+            drop(found);
+            Err(e)
+        }
     }
 }
 
@@ -167,7 +213,11 @@ pub fn do_until<'t, 'a>(
 {
     match expect(parser, Sign::Semicolon) {
         Ok(()) => in_box(parser, Statement::Do(position, body, condition)),
-        Err(e) => Err(e),
+        Err(e) => {
+            drop(body);
+            drop(condition);
+            Err(e)
+        }
     }
 }
 
@@ -204,18 +254,6 @@ pub fn loop_over<'t, 'a>(
     in_box(parser, Statement::Objectloop(position, over, body))
 }
 
-/// One more case in a row.
-pub fn add_case<'a>(
-    cases: &mut Vec<(Vec<Range<'a>>, Vec<Statement<'a>>)>,
-    next: (Vec<Range<'a>>, Vec<Statement<'a>>),
-) -> Result<(), ParseError>
-    ensures ok { IfOk result (λ _. cases.new.items ≡ cases.old.items ++ next.entry ∷ []) }
-    ensures err { IfErr result (λ e. e ≡ ParseError.Memory) }
-{
-    cases.push(next)?;
-    Ok(())
-}
-
 /// `switch`, with its second brace.
 pub fn switch_on<'t, 'a>(
     parser: &mut Parser<'t, 'a>,
@@ -230,6 +268,11 @@ pub fn switch_on<'t, 'a>(
 {
     match expect(parser, Sign::CloseBrace) {
         Ok(()) => in_box(parser, Statement::Switch(position, value, cases, other)),
-        Err(e) => Err(e),
+        Err(e) => {
+            drop(value);
+            drop(cases);
+            drop(other);
+            Err(e)
+        }
     }
 }

@@ -8,6 +8,7 @@ ghost use Rattle.syntax_statements.specs.Views.{simple_tree};
 ghost use Rattle.syntax_statements.specs.Returned.{TakesSimple};
 ghost use Rattle.syntax_statements.specs.Parse as spec;
 
+use crate::memory::boxed;
 use crate::tree::SimpleStatement;
 use syntax_expression_parts::expect_name;
 use syntax_expressions::expression;
@@ -26,10 +27,7 @@ fn in_box<'t, 'a>(
 ) -> Result<Box<SimpleStatement<'a>>, ParseError>
     ensures { TakesSimple result parser.now (Ok (simple_tree statement.entry, ahead parser.now)) }
 {
-    match Box::new(parser.alloc, statement) {
-        Ok(statement) => Ok(statement),
-        Err(refused) => Err(ParseError::from(refused)),
-    }
+    boxed(parser.alloc, statement)
 }
 
 // The statement, behind its `;`.

@@ -9,7 +9,13 @@ use Rattle.syntax_statements.specs.Parse as spec
 use Rattle.syntax_statements.proofs.nested.+statement.Given as goal
 
 abbrev pub decreases-statements : goal.decreases-statements
-decreases-statements l = 8 * l.depth + 7
+decreases-statements l = 8 * l.depth + 8
+
+abbrev pub decreases-add_next : goal.decreases-add_next
+decreases-add_next l = 8 * l.depth + 7
+
+abbrev pub decreases-add_inside : goal.decreases-add_inside
+decreases-add_inside l = 8 * l.depth
 
 abbrev pub decreases-statement : goal.decreases-statement
 decreases-statement l = 8 * l.depth + 6
