@@ -1,8 +1,8 @@
 //! Expressions: the rules that they can break, and what they resolve to.
 //!
-//! What an expression resolves to goes on in a box, and what walks one kind of expression is no part
-//! of `boxed` in machine code: a walk over a tree then takes little stack for each kind on its way,
-//! and none for others.
+//! What an expression resolves to is put in a box only where its tree has one. What walks one kind of
+//! expression is no part of `expression` in machine code: a walk over a tree then takes little stack
+//! for each kind on its way, and none for others.
 
 ghost use Rattle.std.specs.Prelude.{◌≡◌, ◌++◌, [], ◌∷◌, if◌then◌else◌, IfOk, map};
 ghost use Rattle.std.specs.Option.{option_map};
@@ -13,7 +13,6 @@ ghost use Rattle.meaning.specs.Views as views;
 ghost use Rattle.meaning.specs.Resolved as meant;
 ghost use Rattle.checker_names.specs.Breaches.{at};
 ghost use Rattle.checker_names.specs.Noted.{noted};
-ghost use Rattle.checker_names.specs.Keys.{key_of_word};
 ghost use Rattle.checker_names.specs.Scope.{look_in, number_at, seen_in};
 ghost use Rattle.checker_names.specs.Names as names;
 ghost use Rattle.checker_values.specs.Expressions.{tested_breaches, tested_for, assigned};
@@ -162,10 +161,10 @@ fn in_box(value: Value, alloc: Global) -> Result<Box<Value>, AllocError>
 
 // One more of several.
 #[inline(never)]
-fn add(found: &mut Vec<Value>, next: Box<Value>) -> Result<(), AllocError>
-    ensures { IfOk result (λ _. found.new.items ≡ found.old.items ++ next.value ∷ []) }
+fn add(found: &mut Vec<Value>, next: Value) -> Result<(), AllocError>
+    ensures { IfOk result (λ _. found.new.items ≡ found.old.items ++ next ∷ []) }
 {
-    found.push(Box::into_inner(next))?;
+    found.push(next)?;
     Ok(())
 }
 
@@ -174,12 +173,12 @@ fn add(found: &mut Vec<Value>, next: Box<Value>) -> Result<(), AllocError>
 fn add_link(
     links: &mut Vec<(Binary, Value)>,
     operator: Binary,
-    operand: Box<Value>,
+    operand: Value,
 ) -> Result<(), AllocError>
     ensures { IfOk result (λ _. links.new.items
-        ≡ links.old.items ++ (operator, operand.value) ∷ []) }
+        ≡ links.old.items ++ (operator, operand) ∷ []) }
 {
-    links.push((operator, Box::into_inner(operand)))?;
+    links.push((operator, operand))?;
     Ok(())
 }
 
@@ -203,26 +202,6 @@ fn tested_value(
     }
 }
 
-// A number as an expression.
-#[inline(never)]
-fn constant(number: u16, alloc: Global) -> Result<Box<Value>, AllocError>
-    ensures { IfOk result (λ v. value_of v.value ≡ meant.number number) }
-{
-    in_box(Value::Number(number), alloc)
-}
-
-// A dictionary word as an expression.
-#[inline(never)]
-fn word(text: &[u8], alloc: Global, scope: &Scope<'_>) -> Result<Box<Value>, AllocError>
-    ensures { IfOk result (λ v. value_of v.value
-        ≡ meant.number (number_at scope.now.file.now.numbers (key_of_word text.now))) }
-{
-    in_box(
-        Value::Number(scope.file.numbers.number(key_of_word(text))),
-        alloc,
-    )
-}
-
 // A name as an expression.
 #[inline(never)]
 fn named_value(name: &Name<'_>, scope: &Scope<'_>, least: &mut Least) -> Value
@@ -231,20 +210,6 @@ fn named_value(name: &Name<'_>, scope: &Scope<'_>, least: &mut Least) -> Value
 {
     let found = scope.look(name.text);
     value(*name, &scope.file.numbers, found, least)
-}
-
-// The same, in a box.
-#[inline(never)]
-fn boxed_name(
-    name: &Name<'_>,
-    alloc: Global,
-    scope: &Scope<'_>,
-    least: &mut Least,
-) -> Result<Box<Value>, AllocError>
-    ensures { GivesBoxed (seen_in scope.now) result least.old least.new
-        (trees.named (name_tree name.now)) }
-{
-    in_box(named_value(name, scope, least), alloc)
 }
 
 // The number of the routine that a name stands for, which is called with so many arguments.
@@ -291,12 +256,12 @@ fn property_numbers(
     Ok(numbers)
 }
 
-/// Resolves the names of an expression, and notes the rules that it breaks. What most statements and
-/// lists hold, an assignment, a name or a number, is made without a box.
+/// Resolves the names of an expression, and notes the rules that it breaks.
 ///
 /// # Errors
 ///
 /// `AllocError` where memory is refused.
+#[cycle(expression)]
 #[inline(never)]
 pub fn expression(
     e: &Expression<'_>,
@@ -310,37 +275,9 @@ pub fn expression(
         Expression::Constant(number) => Ok(Value::Number(*number)),
         Expression::Word(text) => Ok(Value::Number(scope.file.numbers.number(key_of_word(text)))),
         Expression::Named(name) => Ok(named_value(name, scope, least)),
-        Expression::Assign(left, at, right) => assign(left, right, alloc, scope, *at, least),
-        _ => {
-            let Ok(found) = boxed(e, alloc, scope, least) else {
-                return Err(AllocError);
-            };
-            Ok(Box::into_inner(found))
-        }
-    }
-}
-
-/// The same, in a box.
-///
-/// # Errors
-///
-/// `AllocError` where memory is refused.
-#[cycle(expression)]
-pub fn boxed(
-    e: &Expression<'_>,
-    alloc: Global,
-    scope: &Scope<'_>,
-    least: &mut Least,
-) -> Result<Box<Value>, AllocError>
-    ensures { GivesBoxed (seen_in scope.now) result least.old least.new (expression_tree e.now) }
-{
-    match e {
-        Expression::Constant(number) => constant(*number, alloc),
-        Expression::Word(text) => word(text, alloc, scope),
-        Expression::Named(name) => boxed_name(name, alloc, scope, least),
         Expression::Call(name, given) => call(given, name, alloc, scope, least),
         Expression::Index(name, width, inside) => index(inside, name, alloc, scope, *width, least),
-        Expression::Parenthesised(inside) => boxed(inside, alloc, scope, least),
+        Expression::Parenthesised(inside) => expression(inside, alloc, scope, least),
         Expression::RelativeOf(which, object) => relative_of(object, alloc, scope, *which, least),
         Expression::Property(object, name, others) => {
             properties(object, name, others, alloc, scope, least)
@@ -369,10 +306,28 @@ pub fn boxed(
             contained(left, right, alloc, scope, *containment, least)
         }
         Expression::Tested(object, test, name) => tested(object, name, alloc, scope, *test, least),
-        Expression::Assign(left, at, right) => {
-            boxed_assignment(left, right, alloc, scope, *at, least)
-        }
+        Expression::Assign(left, at, right) => assign(left, right, alloc, scope, *at, least),
     }
+}
+
+/// The same, in a box.
+///
+/// # Errors
+///
+/// `AllocError` where memory is refused.
+#[cycle(expression)]
+pub fn boxed(
+    e: &Expression<'_>,
+    alloc: Global,
+    scope: &Scope<'_>,
+    least: &mut Least,
+) -> Result<Box<Value>, AllocError>
+    ensures { GivesBoxed (seen_in scope.now) result least.old least.new (expression_tree e.now) }
+{
+    let Ok(value) = expression(e, alloc, scope, least) else {
+        return Err(AllocError);
+    };
+    in_box(value, alloc)
 }
 
 #[cycle(expression)]
@@ -386,9 +341,9 @@ fn all_expressions(
     ensures { IfOk result (λ v. AreResolved (seen_in scope.now) given.now
         least.old least.new (map value_of v.items)) }
 {
-    let mut found = Vec::new(alloc);
+    let mut found = Vec::with_capacity(alloc, given.len())?;
     for e in given {
-        let Ok(resolved) = boxed(e, alloc, scope, least) else {
+        let Ok(resolved) = expression(e, alloc, scope, least) else {
             return Err(AllocError);
         };
         add(&mut found, resolved)?;
@@ -408,9 +363,9 @@ fn chain_links(
     ensures { IfOk result (λ v. AreLinks (seen_in scope.now) links.now
         least.old least.new (map value_link v.items)) }
 {
-    let mut found = Vec::new(alloc);
+    let mut found = Vec::with_capacity(alloc, links.len())?;
     for link in links {
-        let Ok(operand) = boxed(&link.1, alloc, scope, least) else {
+        let Ok(operand) = expression(&link.1, alloc, scope, least) else {
             return Err(AllocError);
         };
         add_link(&mut found, link.0, operand)?;
@@ -449,15 +404,15 @@ fn call(
     alloc: Global,
     scope: &Scope<'_>,
     least: &mut Least,
-) -> Result<Box<Value>, AllocError>
-    ensures { GivesBoxed (seen_in scope.now) result least.old least.new
+) -> Result<Value, AllocError>
+    ensures { GivesValue (seen_in scope.now) result least.old least.new
         (trees.call (name_tree name.now) (trees_of (map expression_tree given.now))) }
 {
     let number = routine_of(name, given.len(), scope, least);
     let Ok(given) = all_expressions(given, alloc, scope, least) else {
         return Err(AllocError);
     };
-    in_box(Value::Call(number, given), alloc)
+    Ok(Value::Call(number, given))
 }
 
 #[cycle(expression)]
@@ -469,15 +424,15 @@ fn index(
     scope: &Scope<'_>,
     width: Width,
     least: &mut Least,
-) -> Result<Box<Value>, AllocError>
-    ensures { GivesBoxed (seen_in scope.now) result least.old least.new
+) -> Result<Value, AllocError>
+    ensures { GivesValue (seen_in scope.now) result least.old least.new
         (trees.index (name_tree name.now) width (expression_tree operand.now)) }
 {
     let number = array_of(name, scope, least);
     let Ok(operand) = boxed(operand, alloc, scope, least) else {
         return Err(AllocError);
     };
-    in_box(Value::Entry(width, number, operand), alloc)
+    Ok(Value::Entry(width, number, operand))
 }
 
 #[cycle(expression)]
@@ -488,14 +443,14 @@ fn relative_of(
     scope: &Scope<'_>,
     relative: Relative,
     least: &mut Least,
-) -> Result<Box<Value>, AllocError>
-    ensures { GivesBoxed (seen_in scope.now) result least.old least.new
+) -> Result<Value, AllocError>
+    ensures { GivesValue (seen_in scope.now) result least.old least.new
         (trees.relative_of relative (expression_tree object.now)) }
 {
     let Ok(object) = boxed(object, alloc, scope, least) else {
         return Err(AllocError);
     };
-    in_box(Value::Relative(relative, object), alloc)
+    Ok(Value::Relative(relative, object))
 }
 
 #[cycle(expression)]
@@ -507,8 +462,8 @@ fn properties(
     alloc: Global,
     scope: &Scope<'_>,
     least: &mut Least,
-) -> Result<Box<Value>, AllocError>
-    ensures { GivesBoxed (seen_in scope.now) result least.old least.new
+) -> Result<Value, AllocError>
+    ensures { GivesValue (seen_in scope.now) result least.old least.new
         (propertied (trees.property (expression_tree object.now) (name_tree name.now))
         others.now) }
 {
@@ -519,7 +474,7 @@ fn properties(
     let Ok(others) = property_numbers(others, alloc, scope, least) else {
         return Err(AllocError);
     };
-    in_box(Value::Property(object, number, others), alloc)
+    Ok(Value::Property(object, number, others))
 }
 
 #[cycle(expression)]
@@ -530,15 +485,15 @@ fn length_of(
     alloc: Global,
     scope: &Scope<'_>,
     least: &mut Least,
-) -> Result<Box<Value>, AllocError>
-    ensures { GivesBoxed (seen_in scope.now) result least.old least.new
+) -> Result<Value, AllocError>
+    ensures { GivesValue (seen_in scope.now) result least.old least.new
         (trees.property_length (expression_tree object.now) (name_tree name.now)) }
 {
     let Ok(object) = boxed(object, alloc, scope, least) else {
         return Err(AllocError);
     };
     let number = property_of(name, scope, least);
-    in_box(Value::PropertySize(object, number), alloc)
+    Ok(Value::PropertySize(object, number))
 }
 
 #[cycle(expression)]
@@ -550,8 +505,8 @@ fn property_entry(
     alloc: Global,
     scope: &Scope<'_>,
     least: &mut Least,
-) -> Result<Box<Value>, AllocError>
-    ensures { GivesBoxed (seen_in scope.now) result least.old least.new
+) -> Result<Value, AllocError>
+    ensures { GivesValue (seen_in scope.now) result least.old least.new
         (trees.property_entry (expression_tree object.now) (name_tree name.now)
         (expression_tree index.now)) }
 {
@@ -562,7 +517,7 @@ fn property_entry(
     let Ok(index) = boxed(index, alloc, scope, least) else {
         return Err(AllocError);
     };
-    in_box(Value::PropertyWord(object, number, index), alloc)
+    Ok(Value::PropertyWord(object, number, index))
 }
 
 #[cycle(expression)]
@@ -573,14 +528,14 @@ fn prefixed(
     scope: &Scope<'_>,
     prefix: Prefix,
     least: &mut Least,
-) -> Result<Box<Value>, AllocError>
-    ensures { GivesBoxed (seen_in scope.now) result least.old least.new
+) -> Result<Value, AllocError>
+    ensures { GivesValue (seen_in scope.now) result least.old least.new
         (trees.prefixed prefix (expression_tree operand.now)) }
 {
     let Ok(operand) = boxed(operand, alloc, scope, least) else {
         return Err(AllocError);
     };
-    in_box(Value::Prefixed(prefix, operand), alloc)
+    Ok(Value::Prefixed(prefix, operand))
 }
 
 #[cycle(expression)]
@@ -592,14 +547,14 @@ fn step_before(
     step: Step,
     position: Position,
     least: &mut Least,
-) -> Result<Box<Value>, AllocError>
-    ensures { GivesBoxed (seen_in scope.now) result least.old least.new
+) -> Result<Value, AllocError>
+    ensures { GivesValue (seen_in scope.now) result least.old least.new
         (trees.step_before step position (expression_tree operand.now)) }
 {
     let Ok(variable) = variable(operand, alloc, scope, position, least) else {
         return Err(AllocError);
     };
-    in_box(Value::StepBefore(step, variable), alloc)
+    Ok(Value::StepBefore(step, variable))
 }
 
 #[cycle(expression)]
@@ -611,14 +566,14 @@ fn step_after(
     step: Step,
     position: Position,
     least: &mut Least,
-) -> Result<Box<Value>, AllocError>
-    ensures { GivesBoxed (seen_in scope.now) result least.old least.new
+) -> Result<Value, AllocError>
+    ensures { GivesValue (seen_in scope.now) result least.old least.new
         (trees.step_after (expression_tree operand.now) step position) }
 {
     let Ok(variable) = variable(operand, alloc, scope, position, least) else {
         return Err(AllocError);
     };
-    in_box(Value::StepAfter(variable, step), alloc)
+    Ok(Value::StepAfter(variable, step))
 }
 
 #[cycle(expression)]
@@ -631,8 +586,8 @@ fn chain(
     scope: &Scope<'_>,
     operator: Binary,
     least: &mut Least,
-) -> Result<Box<Value>, AllocError>
-    ensures { GivesBoxed (seen_in scope.now) result least.old least.new
+) -> Result<Value, AllocError>
+    ensures { GivesValue (seen_in scope.now) result least.old least.new
         (chained
         (trees.binary operator (expression_tree first.now) (expression_tree second.now))
         (map link links.now)) }
@@ -646,7 +601,7 @@ fn chain(
     let Ok(links) = chain_links(links, alloc, scope, least) else {
         return Err(AllocError);
     };
-    in_box(Value::Chain(first, operator, second, links), alloc)
+    Ok(Value::Chain(first, operator, second, links))
 }
 
 #[cycle(expression)]
@@ -658,8 +613,8 @@ fn compare(
     scope: &Scope<'_>,
     comparison: Comparison,
     least: &mut Least,
-) -> Result<Box<Value>, AllocError>
-    ensures { GivesBoxed (seen_in scope.now) result least.old least.new
+) -> Result<Value, AllocError>
+    ensures { GivesValue (seen_in scope.now) result least.old least.new
         (trees.compare comparison (expression_tree left.now) (expression_tree right.now)) }
 {
     let Ok(left) = boxed(left, alloc, scope, least) else {
@@ -668,7 +623,7 @@ fn compare(
     let Ok(right) = boxed(right, alloc, scope, least) else {
         return Err(AllocError);
     };
-    in_box(Value::Compare(left, comparison, right), alloc)
+    Ok(Value::Compare(left, comparison, right))
 }
 
 #[cycle(expression)]
@@ -681,8 +636,8 @@ fn equal(
     scope: &Scope<'_>,
     equality: Equality,
     least: &mut Least,
-) -> Result<Box<Value>, AllocError>
-    ensures { GivesBoxed (seen_in scope.now) result least.old least.new
+) -> Result<Value, AllocError>
+    ensures { GivesValue (seen_in scope.now) result least.old least.new
         (trees.equal equality (expression_tree left.now)
         (trees.more (expression_tree right.now) (trees_of (map expression_tree others.now)))) }
 {
@@ -695,7 +650,7 @@ fn equal(
     let Ok(others) = all_expressions(others, alloc, scope, least) else {
         return Err(AllocError);
     };
-    in_box(Value::Equal(left, equality, right, others), alloc)
+    Ok(Value::Equal(left, equality, right, others))
 }
 
 #[cycle(expression)]
@@ -707,8 +662,8 @@ fn contained(
     scope: &Scope<'_>,
     containment: Containment,
     least: &mut Least,
-) -> Result<Box<Value>, AllocError>
-    ensures { GivesBoxed (seen_in scope.now) result least.old least.new
+) -> Result<Value, AllocError>
+    ensures { GivesValue (seen_in scope.now) result least.old least.new
         (trees.contained containment (expression_tree left.now) (expression_tree right.now)) }
 {
     let Ok(left) = boxed(left, alloc, scope, least) else {
@@ -717,7 +672,7 @@ fn contained(
     let Ok(right) = boxed(right, alloc, scope, least) else {
         return Err(AllocError);
     };
-    in_box(Value::Contained(left, containment, right), alloc)
+    Ok(Value::Contained(left, containment, right))
 }
 
 #[cycle(expression)]
@@ -729,15 +684,15 @@ fn tested(
     scope: &Scope<'_>,
     test: ObjectTest,
     least: &mut Least,
-) -> Result<Box<Value>, AllocError>
-    ensures { GivesBoxed (seen_in scope.now) result least.old least.new
+) -> Result<Value, AllocError>
+    ensures { GivesValue (seen_in scope.now) result least.old least.new
         (trees.tested test (expression_tree object.now) (name_tree name.now)) }
 {
     let Ok(object) = boxed(object, alloc, scope, least) else {
         return Err(AllocError);
     };
     let found = scope.look(name.text);
-    in_box(tested_value(*name, object, test, found, least), alloc)
+    Ok(tested_value(*name, object, test, found, least))
 }
 
 // A name as the left side of an assignment, whose operator stands at this position.
@@ -768,9 +723,11 @@ fn left_side(
     match name_of(e) {
         Some(name) => Ok(left_name(name, scope, operator, least)),
         None => {
-            let left = boxed(e, alloc, scope, least)?;
+            let Ok(left) = expression(e, alloc, scope, least) else {
+                return Err(AllocError);
+            };
             not_place(is_place(e), operator, least);
-            Ok(Box::into_inner(left))
+            Ok(left)
         }
     }
 }
@@ -796,24 +753,4 @@ fn assign(
         return Err(AllocError);
     };
     assignment(left, right, alloc)
-}
-
-// The same, in a box.
-#[cycle(expression)]
-#[inline(never)]
-fn boxed_assignment(
-    left: &Expression<'_>,
-    right: &Expression<'_>,
-    alloc: Global,
-    scope: &Scope<'_>,
-    position: Position,
-    least: &mut Least,
-) -> Result<Box<Value>, AllocError>
-    ensures { GivesBoxed (seen_in scope.now) result least.old least.new
-        (trees.assign (expression_tree left.now) position (expression_tree right.now)) }
-{
-    let Ok(value) = assign(left, right, alloc, scope, position, least) else {
-        return Err(AllocError);
-    };
-    in_box(value, alloc)
 }
