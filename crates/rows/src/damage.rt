@@ -3,7 +3,6 @@
 use crate::names::{RowError, Session, Setting, Shown, run, status};
 use crate::sessions::open;
 use crate::stories::{mend_sum, put_at};
-use std::alloc::Global;
 
 /// The player's status where a story is not opened.
 const REFUSED: u8 = 1;
@@ -51,7 +50,12 @@ fn put_changed(
     story: &[u8],
     change: Change,
 ) -> Result<(), RowError> {
-    let end = ended(setting, changed(setting.alloc, story, change)?);
+    let mut changed = story.to_vec(setting.alloc)?;
+    put_at(&mut changed, change.place, &[change.value])?;
+    if change.mends {
+        mend_sum(&mut changed)?;
+    }
+    let end = ended(setting, changed);
     if !matches!(end, 0 | 1 | 3 | 4) {
         shown.text("byte ");
         shown.display(&change.place);
@@ -61,16 +65,6 @@ fn put_changed(
         shown.display_line(&end);
     }
     Ok(())
-}
-
-/// The changed story.
-fn changed(alloc: Global, story: &[u8], change: Change) -> Result<Vec<u8>, RowError> {
-    let mut story = story.to_vec(alloc)?;
-    put_at(&mut story, change.place, &[change.value])?;
-    if change.mends {
-        mend_sum(&mut story)?;
-    }
-    Ok(story)
 }
 
 /// The status with which a player of the story ends.

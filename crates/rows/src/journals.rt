@@ -3,7 +3,7 @@
 ghost use Rattle.std.specs.Prelude.{◌≡◌, ◌≤◌, ℕ, List, [], length, nat_lt, if◌then◌else◌};
 
 use crate::names::{
-    Cells, PAGE, Recorded, RowError, Shown, WORD_PAGES, number_in, swap_back, swap_forward,
+    Cells, PAGE, Recorded, RowError, Shown, WORD_PAGES, number_in, parted, swap_back, swap_forward,
     written_bytes,
 };
 use std::alloc::{AllocError, Global};
@@ -74,14 +74,47 @@ impl Cells for Words {
     }
 }
 
-/// The words that a text writes, of which nothing is recorded yet.
-pub fn recorded(alloc: Global, text: &str) -> Result<Recorded<Words>, RowError> {
+/// Records what lines do with the words that a text writes, and adds what comes of it.
+pub fn put_recorded(
+    shown: &mut Shown,
+    alloc: Global,
+    text: &str,
+    steps: &[String],
+) -> Result<(), RowError> {
+    let mut turn = Recorded::new(alloc, words_in(alloc, text)?);
+    put_steps(shown, &mut turn, steps)
+}
+
+/// Does what lines say with words, and adds what comes of it.
+fn put_steps(
+    shown: &mut Shown,
+    turn: &mut Recorded<Words>,
+    steps: &[String],
+) -> Result<(), RowError> {
+    for step in steps {
+        let (word, text) = parted(step.as_str());
+        match word {
+            "write" => write(turn, text)?,
+            "close" => put_closed(shown, turn),
+            "abandon" => {
+                turn.abandon();
+                put_values(shown, "abandoned: ", turn.store());
+                shown.text("\n");
+            }
+            _ => return Err(RowError::Word),
+        }
+    }
+    Ok(())
+}
+
+/// The words that a text writes.
+fn words_in(alloc: Global, text: &str) -> Result<Words, RowError> {
     let written = written_bytes(alloc, text)?;
     let values = values_in(alloc, &written)?;
     if values.len() > MOST {
         return Err(RowError::Number);
     }
-    Ok(Recorded::new(alloc, Words { values }))
+    Ok(Words { values })
 }
 
 /// The numbers that bytes write, with spaces between them.
@@ -131,13 +164,6 @@ fn put_closed(shown: &mut Shown, turn: &mut Recorded<Words>) {
     shown.text("\n");
 }
 
-/// Gives the turn up, and adds what the cells hold.
-fn put_abandoned(shown: &mut Shown, turn: &mut Recorded<Words>) {
-    turn.abandon();
-    put_values(shown, "abandoned: ", turn.store());
-    shown.text("\n");
-}
-
 /// Adds what the cells hold, where they are few.
 fn put_values(shown: &mut Shown, front: &str, words: &Words) {
     if words.values.len() > SHOWN {
@@ -149,19 +175,4 @@ fn put_values(shown: &mut Shown, front: &str, words: &Words) {
         shown.display(value);
         front = " ";
     }
-}
-
-/// Writes to the cells or ends the turn, as a word says.
-pub fn act_on(
-    turn: &mut Recorded<Words>,
-    shown: &mut Shown,
-    word: &str,
-    text: &str,
-) -> Result<(), RowError> {
-    match word {
-        "write" => return write(turn, text),
-        "close" => put_closed(shown, turn),
-        _ => put_abandoned(shown, turn),
-    }
-    Ok(())
 }

@@ -3,7 +3,7 @@
 pub use crate::error::RowError;
 pub use crate::setting::Setting;
 pub use crate::shown::Shown;
-pub use crate::written::{number_in, put_written, written_bytes};
+pub use crate::written::{number_in, parted, put_written, written_bytes};
 pub use journal::{Cells, PAGE, Recorded, WORD_PAGES, swap_back, swap_forward};
 pub use machine::{Machine, Store};
 pub use session::{Mode, OpenFault, Place, Reply, Session, run, status};

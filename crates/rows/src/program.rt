@@ -35,21 +35,22 @@ impl Program {
             let line = line?;
             self.take(&line, number, output)?;
         }
-        self.end(output)
+        self.end(number, output)
     }
 
     /// Takes a line, which ends the row where it is empty.
     fn take<W: Write>(&mut self, line: &str, number: u64, output: &mut W) -> Result<()> {
         if line.is_empty() {
-            return self.end(output);
+            return self.end(number, output);
         }
         let answer = self.row.take(&mut self.definitions, line);
         answer.context(format_args!("line {number}"))
     }
 
-    /// Writes what the row shows, and begins another.
-    fn end<W: Write>(&mut self, output: &mut W) -> Result<()> {
-        output.write_all(self.row.outcome()?)?;
+    /// Writes what the row shows, whose lines end at that number, and begins another.
+    fn end<W: Write>(&mut self, number: u64, output: &mut W) -> Result<()> {
+        let shown = self.row.outcome().context(format_args!("line {number}"))?;
+        output.write_all(shown)?;
         self.row = Row::new(self.alloc);
         Ok(())
     }

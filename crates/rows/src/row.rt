@@ -1,13 +1,13 @@
 //! One row.
 
 use crate::damage::put_damaged;
-use crate::journals::{Words, act_on, recorded};
-use crate::names::{Recorded, RowError, Session, Setting, Shown, number_in};
-use crate::sessions::{open, put_cells, put_redo, put_reply, put_run, put_undo};
+use crate::journals::put_recorded;
+use crate::names::{RowError, Setting, Shown, number_in, parted};
+use crate::sessions::{put_called, put_run};
 use crate::sources::put_compiled;
 use crate::stories::{Definition, bytes_in, mend, put_at, put_text_at};
 use crate::texts::{put_decoded, put_encoded, put_key, put_shortened};
-use crate::turns::{put_memory, put_record};
+use crate::turns::{put_by_hand, put_counted};
 use std::alloc::Global;
 
 /// A row whose lines are being read.
@@ -18,11 +18,8 @@ pub struct Row {
     /// The story, as far as it is made byte by byte.
     story: Vec<u8>,
 
-    /// The session that the row's calls are made on.
-    session: Option<Session>,
-
-    /// The cells that the row writes to.
-    words: Option<Recorded<Words>>,
+    /// The lines that call a session, or that write words and do something with them.
+    calls: Vec<String>,
 
     /// What is shown of the row: its title, and what came of it.
     shown: Shown,
@@ -37,8 +34,7 @@ impl Row {
         Row {
             setting: Setting::new(alloc),
             story: Vec::new(alloc),
-            session: None,
-            words: None,
+            calls: Vec::new(alloc),
             shown: Shown::new(alloc),
             has_outcome: false,
         }
@@ -46,7 +42,7 @@ impl Row {
 
     /// Takes a line: its first word says what the text after it is.
     pub fn take(&mut self, definitions: &mut Vec<Definition>, line: &str) -> Result<(), RowError> {
-        let (word, text) = line.split_once(' ').unwrap_or((line, ""));
+        let (word, text) = parted(line);
         match word {
             "#" => Ok(()),
             "--" => {
@@ -70,7 +66,7 @@ impl Row {
                     }
                 }
                 self.has_outcome = true;
-                self.act(word, text)
+                self.act(line, word, text)
             }
         }
     }
@@ -95,8 +91,8 @@ impl Row {
         mend(&mut self.story)
     }
 
-    /// Does what a word says, and shows what comes of it.
-    fn act(&mut self, word: &str, text: &str) -> Result<(), RowError> {
+    /// Does what a line says. Calls of a session, and steps with words, wait for the row's end.
+    fn act(&mut self, line: &str, word: &str, text: &str) -> Result<(), RowError> {
         let shown = &mut self.shown;
         let alloc = self.setting.alloc;
         match word {
@@ -104,73 +100,43 @@ impl Row {
             "shorten" => put_shortened(shown, alloc, text),
             "decode" => put_decoded(shown, alloc, &self.story, text),
             "key" => put_key(shown, alloc, text),
-            "memory" => put_memory(shown, &self.setting, &self.story, text),
-            "record" => put_record(shown, &self.setting, &self.story, text),
+            "memory" => put_by_hand(shown, &self.setting, &self.story, word, text),
+            "record" => {
+                put_by_hand(shown, &self.setting, &self.story, word, text)?;
+                put_counted(shown, &self.setting, &self.story, text)
+            }
             "damage" => put_damaged(shown, &self.setting, &self.story),
-            "words" => {
-                self.words = Some(recorded(alloc, text)?);
+            _ => {
+                self.calls.push(String::from_str(alloc, line)?)?;
                 Ok(())
             }
-            "write" | "close" | "abandon" => self.act_on_words(word, text),
-            "reply" | "undo" | "redo" | "cells" => self.act_on_session(word, text),
-            _ => Err(RowError::Word),
         }
     }
 
-    /// Writes to the cells, or ends the turn.
-    fn act_on_words(&mut self, word: &str, text: &str) -> Result<(), RowError> {
-        match &mut self.words {
-            Some(turn) => act_on(turn, &mut self.shown, word, text),
-            None => Err(RowError::Word),
-        }
-    }
-
-    /// Calls the session, which is opened by the first call.
-    fn act_on_session(&mut self, word: &str, text: &str) -> Result<(), RowError> {
-        if self.session.is_none() {
-            self.open()?;
-        }
-        let Some(session) = &mut self.session else {
-            return Err(RowError::Story);
-        };
-        match word {
-            "reply" => return put_reply(&mut self.shown, self.setting.alloc, session, text),
-            "undo" => put_undo(&mut self.shown, session),
-            "redo" => put_redo(&mut self.shown, session),
-            _ => put_cells(&mut self.shown, session, number_in(text)?),
-        }
-        Ok(())
-    }
-
-    /// Opens the session.
-    fn open(&mut self) -> Result<(), RowError> {
-        let story = self.story.as_slice().to_vec(self.setting.alloc)?;
-        match open(&self.setting, story) {
-            Ok(session) => self.session = Some(session),
-            Err(_) => return Err(RowError::Story),
-        }
-        Ok(())
-    }
-
-    /// What is shown of the row, once all its lines are read. A row of which nothing came yet is
-    /// played.
+    /// What is shown of the row, once all its lines are read.
     pub fn outcome(&mut self) -> Result<&[u8], RowError> {
-        if !self.has_outcome {
-            self.play()?;
-        }
+        self.play()?;
         if !self.shown.is_empty() {
             self.shown.text("\n");
         }
         self.shown.taken()
     }
 
-    /// Plays the row's story; where it has a title and no story, that of its source.
+    /// Makes the calls of a session, or does with words what the row says. A row of which nothing came
+    /// is played: its story; where it has a title and no story, that of its source.
     fn play(&mut self) -> Result<(), RowError> {
-        if !self.story.is_empty() {
-            return put_run(&mut self.shown, &self.setting, &self.story);
+        let shown = &mut self.shown;
+        if let Some((first, steps)) = self.calls.as_slice().split_first() {
+            return match parted(first.as_str()) {
+                ("words", text) => put_recorded(shown, self.setting.alloc, text, steps),
+                _ => put_called(shown, &self.setting, &self.story, &self.calls),
+            };
         }
-        if !self.shown.is_empty() {
-            put_compiled(&mut self.shown, &self.setting);
+        if !self.has_outcome && !self.story.is_empty() {
+            return put_run(shown, &self.setting, &self.story);
+        }
+        if !self.has_outcome && !shown.is_empty() {
+            put_compiled(shown, &self.setting);
         }
         Ok(())
     }

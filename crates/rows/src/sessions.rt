@@ -1,9 +1,9 @@
 //! Stories that are played, by a run over an input or call by call.
 
 use crate::names::{
-    OpenFault, Place, Reply, RowError, Session, Setting, Shown, run, status, written_bytes,
+    OpenFault, Place, Reply, RowError, Session, Setting, Shown, number_in, parted, run, status,
+    written_bytes,
 };
-use std::alloc::Global;
 
 /// Opens a story under the row's conditions.
 pub fn open(setting: &Setting, story: Vec<u8>) -> Result<Session, OpenFault> {
@@ -47,7 +47,12 @@ fn put_played(shown: &mut Shown, setting: &Setting, session: &mut Session) {
 
 /// Adds where the story stands, and how many turns are kept and undone where there are any.
 fn put_state(shown: &mut Shown, session: &Session) {
-    put_place(shown, &session.place());
+    match session.place() {
+        Place::Waiting => shown.text("waiting"),
+        Place::Quit => shown.text("quit"),
+        Place::Limit(limit) => shown.display(&limit),
+        Place::Fault(fault) => shown.display(&fault),
+    }
     let (kept, undone) = session.counts();
     if kept > 0 || undone > 0 {
         shown.text(", ");
@@ -59,31 +64,51 @@ fn put_state(shown: &mut Shown, session: &Session) {
     shown.text("\n");
 }
 
-/// Adds where a story stands.
-fn put_place(shown: &mut Shown, place: &Place) {
-    match place {
-        Place::Waiting => shown.text("waiting"),
-        Place::Quit => shown.text("quit"),
-        Place::Limit(limit) => shown.display(limit),
-        Place::Fault(fault) => shown.display(fault),
+/// Opens a story, makes the calls of lines, and adds what comes of them.
+pub fn put_called(
+    shown: &mut Shown,
+    setting: &Setting,
+    story: &[u8],
+    calls: &[String],
+) -> Result<(), RowError> {
+    match open(setting, story.to_vec(setting.alloc)?) {
+        Ok(mut session) => {
+            let answer = put_calls(shown, setting, &mut session, calls);
+            session.close();
+            answer
+        }
+        Err(_) => Err(RowError::Story),
     }
 }
 
-/// Replies to a written line, and adds what came of it. Where memory is refused, nothing may have
-/// changed, and the line is given once more.
-pub fn put_reply(
+/// Makes the calls of lines, and adds what comes of them.
+fn put_calls(
     shown: &mut Shown,
-    alloc: Global,
+    setting: &Setting,
     session: &mut Session,
-    text: &str,
+    calls: &[String],
 ) -> Result<(), RowError> {
-    let line = written_bytes(alloc, text)?;
+    for call in calls {
+        let (word, text) = parted(call.as_str());
+        match word {
+            "reply" => put_reply(shown, session, text, &written_bytes(setting.alloc, text)?),
+            "undo" => put_undo(shown, session),
+            "redo" => put_redo(shown, session),
+            "cells" => put_cells(shown, session, number_in(text)?),
+            _ => return Err(RowError::Word),
+        }
+    }
+    Ok(())
+}
+
+/// Replies to a line, which a text writes, and adds what came of it. Where memory is refused, nothing
+/// may have changed, and the line is given once more.
+fn put_reply(shown: &mut Shown, session: &mut Session, text: &str, line: &[u8]) {
     shown.text("reply ");
     shown.text(text);
     shown.text(": ");
-    put_replies(shown, session, &line);
+    put_replies(shown, session, line);
     put_state(shown, session);
-    Ok(())
 }
 
 /// Replies to a line, once more where memory is refused, and adds what came of it.
@@ -116,14 +141,14 @@ fn has_replied(shown: &mut Shown, session: &mut Session, line: &[u8]) -> bool {
 }
 
 /// Takes a turn back, and adds what came of it.
-pub fn put_undo(shown: &mut Shown, session: &mut Session) {
+fn put_undo(shown: &mut Shown, session: &mut Session) {
     shown.text("undo: ");
     shown.display_line(&session.undo());
     put_state(shown, session);
 }
 
 /// Does a turn again, and adds what came of it.
-pub fn put_redo(shown: &mut Shown, session: &mut Session) {
+fn put_redo(shown: &mut Shown, session: &mut Session) {
     match session.redo() {
         Some(told) => {
             shown.text("redo: true\n");
@@ -135,7 +160,7 @@ pub fn put_redo(shown: &mut Shown, session: &mut Session) {
 }
 
 /// Adds whether the record of the latest kept turn holds cells, and at most so many.
-pub fn put_cells(shown: &mut Shown, session: &Session, most: usize) {
+fn put_cells(shown: &mut Shown, session: &Session, most: usize) {
     let cells = session.last_cells();
     if cells == 0 {
         return shown.text("no cells\n");

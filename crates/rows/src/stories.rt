@@ -49,20 +49,14 @@ pub fn mend(story: &mut Vec<u8>) -> Result<(), RowError> {
         [8, ..] => 8,
         _ => 4,
     };
-    fill_up(story, scale)?;
-    let length = u16::try_from(story.len() / scale).unwrap_or(0);
-    put_at(story, LENGTH_WORD, &length.to_be_bytes())?;
-    mend_sum(story)
-}
-
-/// Adds zeros up to a multiple of the scale.
-fn fill_up(story: &mut Vec<u8>, scale: usize) -> Result<(), RowError> {
-    for _ in 0..scale {
+    for _ in 1..scale {
         if story.len().checked_rem(scale) != Some(0) {
             story.push(0)?;
         }
     }
-    Ok(())
+    let length = u16::try_from(story.len() / scale).unwrap_or(0);
+    put_at(story, LENGTH_WORD, &length.to_be_bytes())?;
+    mend_sum(story)
 }
 
 /// Writes the sum of a story's bytes behind its header.

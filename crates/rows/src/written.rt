@@ -1,7 +1,12 @@
-//! Bytes and numbers as rows write them.
+//! Lines, bytes and numbers as rows write them.
 
 use crate::error::RowError;
 use std::alloc::Global;
+
+/// The first word of a line, and the text after it.
+pub fn parted(line: &str) -> (&str, &str) {
+    line.split_once(' ').unwrap_or((line, ""))
+}
 
 /// The number that a text is, in decimal, of 64 bits.
 pub fn number_in(text: &str) -> Result<usize, RowError> {
@@ -73,7 +78,7 @@ fn put_escape<'a>(
     match letters.next() {
         Some('n') => bytes.push(b'\n')?,
         Some('\\') => bytes.push(b'\\')?,
-        Some('#') => put_number(bytes, alloc, number)?,
+        Some('#') => bytes.extend_from_slice(number.to_string(alloc)?.as_bytes())?,
         Some('x') => {
             let high = hexadecimal(letters.next())?;
             let low = hexadecimal(letters.next())?;
@@ -82,13 +87,6 @@ fn put_escape<'a>(
         _ => return Err(RowError::Escape),
     }
     Ok(letters.as_str())
-}
-
-/// Adds a number in decimal.
-fn put_number(bytes: &mut Vec<u8>, alloc: Global, number: usize) -> Result<(), RowError> {
-    let digits = number.to_string(alloc)?;
-    bytes.extend_from_slice(digits.as_bytes())?;
-    Ok(())
 }
 
 /// The value of a hexadecimal digit.
