@@ -124,6 +124,15 @@ undone : (telling : Telling) → answer_of telling None between (typed (codes "/
 unfolding answer_of
 undone telling = refl
 
+-- an undo takes no memory: its mark changes nothing
+undone_unmet : (telling : Telling) → answer_of telling None between (unmet (codes "/undo"))
+    ≡ record {
+      reply = note (codes "[Undone.]");
+      standing = record { done = []; undone = a ∷ b ∷ []; kept = 0 };
+    }
+unfolding answer_of
+undone_unmet telling = refl
+
 nothing_to_redo : (telling : Telling) → answer_of telling None (taken None a nothing) (typed (codes "/redo"))
     ≡ record { reply = note (codes "[Nothing to redo.]"); standing = taken None a nothing }
 unfolding answer_of
@@ -137,6 +146,15 @@ redone : (telling : Telling) → answer_of telling None between (typed (codes "/
 unfolding answer_of
 redone telling = refl
 
+-- nor does a redo
+redone_unmet : (telling : Telling) → answer_of telling None between (unmet (codes "/redo"))
+    ≡ record {
+      reply = note (codes "[Redone.]") ++ telling.text (a ∷ b ∷ []);
+      standing = record { done = a ∷ b ∷ []; undone = []; kept = 2 };
+    }
+unfolding answer_of
+redone_unmet telling = refl
+
 line_taken : (text : List (List ℕ) → List ℕ) → answer_of (story text Waiting true) (Some 1) between (typed a)
     ≡ record {
       reply = text (a ∷ a ∷ []);
@@ -149,6 +167,11 @@ line_not_taken : (text : List (List ℕ) → List ℕ) → answer_of (story text
     ≡ record { reply = note (codes "[No memory: line not taken.]"); standing = between }
 unfolding answer_of
 line_not_taken text = refl
+
+first_line_not_taken : (text : List (List ℕ) → List ℕ) → answer_of (story text Waiting true) None nothing (unmet a)
+    ≡ record { reply = note (codes "[No memory: line not taken.]"); standing = nothing }
+unfolding answer_of
+first_line_not_taken text = refl
 
 line_refused : (text : List (List ℕ) → List ℕ) → answer_of (story text Waiting false) (Some 1) between (typed a)
     ≡ record { reply = note (codes "[Line refused.]"); standing = between }
