@@ -1,5 +1,6 @@
 pub mod Chain
 pub mod Nested
+pub mod Singles
 pub mod Limited
 pub mod Properties
 pub mod Repeated

@@ -4,3 +4,4 @@ pub mod Parse
 pub mod Levels
 pub mod Laws
 pub mod Returned
+pub mod Single

@@ -3,7 +3,8 @@
 //! Each takes how many nestings more may be opened, reads from the front of the tokens, and gives
 //! the tree. A token that opens a nesting is tested where it stands. A function that has read a
 //! tree hands it on at once to one that goes on with it: what holds a tree is proved for the tree's
-//! end too, at each of its ways out.
+//! end too, at each of its ways out. A name or a number is read at once where it is all that the
+//! levels would read.
 //!
 //! Ten of these functions are on the way from a nesting to the next one. So what makes a tree or
 //! drops one is in `parts` of `syntax_expression_parts`, and no part of them in machine code: each
@@ -21,6 +22,7 @@ ghost use Rattle.syntax_expressions.specs.Returned.{values_tree};
 ghost use Rattle.syntax_expression_parts.specs.Levels.{operator_of};
 ghost use Rattle.syntax_expressions.specs.Levels.{operand_of, chain_of};
 
+use crate::single::{OPERAND, is_single, width};
 use syntax_expression_parts::{
     Operators, array, begins_expression, comparing, containing, equating, operator, parts,
     prefixes, property_name, relating_word, stepping,
@@ -122,6 +124,9 @@ fn chain<'t, 'a>(
     ensures { TakesExpression result parser.new
         (chain_of (spec.nested depth) operators (ahead parser.old)) }
 {
+    if is_single(width(operators), parser.tokens) {
+        return atom(parser, depth);
+    }
     match operand(parser, depth, operators) {
         Ok(first) => links(parser, depth, operators, first),
         Err(e) => Err(e),
@@ -376,6 +381,9 @@ fn complemented<'t, 'a>(
     ensures { TakesExpression result parser.new
         (spec.complemented (spec.nested depth) (ahead parser.old)) }
 {
+    if is_single(OPERAND, parser.tokens) {
+        return atom(parser, depth);
+    }
     if !is_sign(peek(parser.tokens), Sign::Tilde) {
         return indexed(parser, depth);
     }

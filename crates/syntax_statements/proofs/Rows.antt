@@ -1,7 +1,8 @@
 -- Statements that are put at the end of a row, one after the other.
 use Rattle.std.proofs.Common.{◌≡◌, ℕ, suc, ◌+◌, ◌-◌, ◌<◌, Bool, true, false, List, [], ◌∷◌, ◌++◌, length, Result, Ok}
 use Rattle.std.proofs.Common.{Err, map, refl, sym, ap, ◌∙◌, arith}
-use Rattle.std.specs.Prelude.{if◌then◌else◌, IfOk, IfErr}
+use Rattle.std.specs.Prelude.{if◌then◌else◌}
+use Rattle.std.specs.Global.{Box}
 use Rattle.std.proofs.lemmas.List.{map_push}
 use Rattle.syntax_lexer.specs.declared.token.Sign.TheVariants as s
 use Rattle.syntax_lexer.specs.declared.token.Word.TheVariants as w
@@ -14,11 +15,14 @@ use Rattle.syntax_parsing.specs.declared.parser.Parser.{Parser}
 use Rattle.syntax_parsing.specs.Parse.{◌>>=◌, Fails, Parse, head, tail, is_sign, as_long, repeated}
 use Rattle.syntax_parsing.specs.Returned.{ahead}
 use Rattle.syntax_parsing.proofs.Loops.{joined}
+use Rattle.syntax_statements.specs.declared.tree.SimpleStatement.{SimpleStatement}
 use Rattle.syntax_statements.specs.declared.tree.Statement.{Statement}
+use Rattle.syntax_statements.specs.declared.tree.Statement.TheVariants as said
+use Rattle.syntax_statements.specs.declared.tree.Statement.TheFolds.{fold-roll-Statement}
 use Rattle.syntax_statements.specs.Tree.{StatementTree, empty}
-use Rattle.syntax_statements.specs.Views.{statement_tree}
+use Rattle.syntax_statements.specs.Views.{layer, simple_tree, statement_tree}
 use Rattle.syntax_statements.specs.Parse.{plain_on, statement_on, statement_over, inside, braces, bodies, statement}
-use Rattle.syntax_statements.specs.Rows.{contains_statements, flat, after, AddsStatement}
+use Rattle.syntax_statements.specs.Rows.{contains_statements, flat, after}
 use Rattle.syntax_statements.proofs.Inside.{inside_zero}
 
 -- ---- one turn of a loop
@@ -77,13 +81,19 @@ module _ {A : Type 0} (begins : Lexeme → Bool) (one : Parse A) where
 
 -- ---- one statement
 
--- memory was refused, or the row is longer
-pub added : {X : Type 0} (result : Result X ParseError) (before longer : List Statement) (x : Statement) (left : Parser)
-    → IfOk result (λ _. longer ≡ before ++ x ∷ []) → IfErr result (λ e. e ≡ errors.Memory)
-    → AddsStatement result before longer left (Ok (statement_tree x, ahead left))
-added (Ok u) before longer x left pushed refused = ap (λ ts. Ok (ts, ahead left))
-    (sym (ap (map statement_tree) pushed ∙ map_push statement_tree before x))
-added (Err e) before longer x left pushed refused = rw refused tt
+-- the row is longer
+pub added : (before room longer : List Statement) (x : Statement) (y : StatementTree) (left : Parser) → room ≡ before
+    → longer ≡ room ++ x ∷ [] → statement_tree x ≡ y
+    → after (map statement_tree before) (Ok (y, ahead left)) ≡ Ok (map statement_tree longer, ahead left)
+added before room longer x y left same pushed is = ap (λ ts. Ok (ts, ahead left))
+    (ap (λ z. map statement_tree before ++ z ∷ []) (sym is) ∙ sym (map_push statement_tree before x)
+    ∙ ap (map statement_tree) (ap (λ xs. xs ++ x ∷ []) (sym same) ∙ sym pushed))
+
+pub is_empty : statement_tree said.Empty ≡ empty
+is_empty = ap statement_tree (sym said.rolls-Empty) ∙ fold-roll-Statement StatementTree layer _
+
+pub is_simple : (x : Box SimpleStatement) → statement_tree (said.Simple x) ≡ simple_tree x.value
+is_simple x = ap statement_tree (sym (said.rolls-Simple x)) ∙ fold-roll-Statement StatementTree layer _
 
 pub after_fails : {A : Type 0} (e : ParseError) (front : List A) (one : Result (A × List Lexeme) Stop) → Fails e one
     → Fails e (after front one)

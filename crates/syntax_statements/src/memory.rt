@@ -5,7 +5,7 @@
 //!
 //! `Memory`: a growth is refused. The value is dropped.
 
-ghost use Rattle.std.specs.Prelude.{◌≡◌, IfErr, IfOk, [], ◌∷◌, ◌++◌};
+ghost use Rattle.std.specs.Prelude.{◌≡◌, ◌<◌, IfErr, IfOk, [], ◌∷◌, ◌++◌, vec_capacity, vec_len};
 
 use std::alloc::Global;
 use syntax_parsing::ParseError;
@@ -30,26 +30,20 @@ pub fn push<T: Drop>(row: &mut Vec<T>, next: T) -> Result<(), ParseError>
     Ok(())
 }
 
-/// The same where most rows are of one: such a row has no more room than that takes, and a first
-/// `push` would ask for several places.
-pub fn push_exact<T: Drop>(row: &mut Vec<T>, next: T) -> Result<(), ParseError>
-    ensures ok { IfOk result (λ _. row.new.items ≡ row.old.items ++ next ∷ []) }
+/// Room for one more value in a row. Most rows are of one: such a row has no more room than that
+/// takes, and a first `push` would ask for several places.
+///
+/// The value is made after this, in its place: a value that is there before is copied on its way.
+pub fn make_room<T: Drop>(row: &mut Vec<T>) -> Result<(), ParseError>
+    ensures items { row.new.items ≡ row.old.items }
+    ensures ok { IfOk result (λ _. vec_len row.new < vec_capacity row.new) }
     ensures err { IfErr result (λ e. e ≡ ParseError.Memory) }
 {
     if row.is_empty() {
         row.reserve_exact(1)?;
     }
     row.reserve(1)?;
-    row.push_reserved(next);
     Ok(())
-}
-
-/// What is in the box at the end of the row.
-pub fn push_inner_exact<T: Drop>(row: &mut Vec<T>, next: Box<T>) -> Result<(), ParseError>
-    ensures ok { IfOk result (λ _. row.new.items ≡ row.old.items ++ next.value ∷ []) }
-    ensures err { IfErr result (λ e. e ≡ ParseError.Memory) }
-{
-    push_exact(row, Box::into_inner(next))
 }
 
 /// The row without the room in which it grew, so one of some dozens takes no more than what is in

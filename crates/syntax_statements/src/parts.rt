@@ -1,7 +1,7 @@
 //! Statements made of their parts, where the last part is read already. Trees come and go in boxes,
 //! and a kind of statement is spelled here and in `simple` alone.
 
-ghost use Rattle.std.specs.Prelude.{Ok, map};
+ghost use Rattle.std.specs.Prelude.{◌≡◌, ◌<◌, IfErr, IfOk, Ok, map, [], ◌∷◌, ◌++◌, vec_capacity, vec_len};
 ghost use Rattle.syntax_trees.specs.Views.{expression_tree};
 ghost use Rattle.syntax_parsing.specs.Parse as reading;
 ghost use Rattle.syntax_parsing.specs.Returned.{ahead};
@@ -13,7 +13,7 @@ ghost use Rattle.syntax_statements.specs.Parse as spec;
 ghost use Rattle.syntax_statements.specs.Rows as rows;
 ghost use Rattle.syntax_statements.specs.Rows.{AddsStatement};
 
-use crate::memory::{boxed, push_exact, push_inner_exact};
+use crate::memory::{boxed, make_room};
 use crate::simple::simple;
 use crate::tree::{SimpleStatement, Statement};
 use syntax_lexer::{Position, Sign};
@@ -60,16 +60,21 @@ pub fn plain<'t, 'a>(
     }
 }
 
-// The statement at the end of a row.
-fn add<'t, 'a>(
-    parser: &Parser<'t, 'a>,
-    row: &mut Vec<Statement<'a>>,
-    next: Statement<'a>,
-) -> Result<(), ParseError>
-    ensures { AddsStatement result row.old.items row.new.items parser.now
-        (Ok (statement_tree next.entry, ahead parser.now)) }
+// Room for one more statement in a row.
+fn room<'a>(row: &mut Vec<Statement<'a>>) -> Result<(), ParseError>
+    ensures items { row.new.items ≡ row.old.items }
+    ensures ok { IfOk result (λ _. vec_len row.new < vec_capacity row.new) }
+    ensures err { IfErr result (λ e. e ≡ ParseError.Memory) }
 {
-    push_exact(row, next)
+    make_room(row)
+}
+
+// The statement at the end of a row that has room for it.
+fn put<'a>(row: &mut Vec<Statement<'a>>, next: Statement<'a>)
+    requires { vec_len row.old < vec_capacity row.old }
+    ensures { row.new.items ≡ row.old.items ++ next.entry ∷ [] }
+{
+    row.push_reserved(next);
 }
 
 /// The statement in the box at the end of a row.
@@ -81,7 +86,16 @@ pub fn add_boxed<'t, 'a>(
     ensures { AddsStatement result row.old.items row.new.items parser.now
         (Ok (statement_tree next.entry.value, ahead parser.now)) }
 {
-    push_inner_exact(row, next)
+    match room(row) {
+        Ok(()) => {
+            put(row, Box::into_inner(next));
+            Ok(())
+        }
+        Err(e) => {
+            drop(next);
+            Err(e)
+        }
+    }
 }
 
 // `;` alone, which is read already, at the end of a row.
@@ -92,7 +106,13 @@ fn add_empty<'t, 'a>(
     ensures { AddsStatement result row.old.items row.new.items parser.now
         (Ok (tree.empty, ahead parser.now)) }
 {
-    add(parser, row, Statement::Empty)
+    match room(row) {
+        Ok(()) => {
+            put(row, Statement::Empty);
+            Ok(())
+        }
+        Err(e) => Err(e),
+    }
 }
 
 // A statement that contains no others, and which is not `;` alone, at the end of a row.
@@ -104,7 +124,16 @@ fn add_simple<'t, 'a>(
     ensures { AddsStatement result row.old.items row.new.items parser.now
         (Ok (simple_tree next.entry.value, ahead parser.now)) }
 {
-    add(parser, row, Statement::Simple(next))
+    match room(row) {
+        Ok(()) => {
+            put(row, Statement::Simple(next));
+            Ok(())
+        }
+        Err(e) => {
+            drop(next);
+            Err(e)
+        }
+    }
 }
 
 /// Reads a statement that contains no others, and puts it at the end of a row.

@@ -1,4 +1,4 @@
-use Rattle.std.proofs.Common.{refl, sym, ◌∙◌, arith, ◌∷◌}
+use Rattle.std.proofs.Common.{refl, sym, ap, ◌∙◌, arith, ◌∷◌}
 use Rattle.std.proofs.lemmas.Result.{err_from_is_err_and}
 use Rattle.syntax_lexer.specs.declared.token.Sign.TheVariants as s
 use Rattle.syntax_lexer.specs.declared.token.Word.TheVariants as w
@@ -9,12 +9,27 @@ use Rattle.syntax_parsing.proofs.Loops.{further_out, further_done, further_more,
 use Rattle.syntax_expressions.specs.Parse.{nested, expression, sum}
 use Rattle.syntax_expression_parts.specs.Levels.{operator_of}
 use Rattle.syntax_expressions.specs.Levels.{operand_of}
+use Rattle.syntax_expressions.specs.Single.{is_single}
 use Rattle.syntax_expressions.proofs.Chain.{chain_fails, chain_more, level_fails}
+use Rattle.syntax_expressions.proofs.Singles.{chain_single, complemented_single}
 use Rattle.syntax_expressions.proofs.parser.+expression.Goals.{values-else-loop-turn-test}
 use Rattle.syntax_expressions.proofs.parser.+expression.Goals.{values-then-loop-turn-test+then-not-is_word}
 use Rattle.syntax_expressions.proofs.parser.+expression.Goals as goal
 
 -- ---- chains
+
+pub chain-returns-then-is_single : goal.chain-returns-then-is_single
+chain-returns-then-is_single t c = rw
+    (chain_single (nested c.args.depth) c.args.operators (ahead c.args.parser.now)
+    (ap (λ w. is_single w (ahead c.args.parser.now)) (sym c.width.ensures) ∙ sym c.is_single.ensures
+    ∙ c.if-is_single.true))
+    c.atom.ensures
+
+pub complemented-returns-then-is_single : goal.complemented-returns-then-is_single
+complemented-returns-then-is_single t c = rw
+    (complemented_single (nested c.args.depth) (ahead c.args.parser.now)
+    (sym c.is_single.ensures ∙ c.if-is_single.true))
+    c.atom.ensures
 
 pub chain-returns-in-Err : goal.chain-returns-in-Err
 chain-returns-in-Err t c = level_fails (nested c.args.depth) c.args.operators c.in-Err.e (ahead c.args.parser.now)

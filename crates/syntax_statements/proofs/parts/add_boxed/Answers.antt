@@ -1,6 +1,8 @@
+use Rattle.std.proofs.Common.{ap}
+use Rattle.syntax_statements.specs.Views.{statement_tree}
 use Rattle.syntax_statements.proofs.Rows.{added}
 use Rattle.syntax_statements.proofs.parts.add_boxed.Goals as goal
 
-pub returns : goal.returns
-returns c = added c.push_inner_exact.result c.args.row.now.items c.push_inner_exact.new.row.items c.args.next.value
-    c.args.parser.now c.push_inner_exact.ensures.ok c.push_inner_exact.ensures.err
+pub returns-in-Ok : goal.returns-in-Ok
+returns-in-Ok c = added c.args.row.now.items _ _ _ _ c.args.parser.now c.in-Ok.ensures.items c.put.ensures
+    (ap statement_tree c.into_inner.ensures)
