@@ -13,6 +13,7 @@ ghost use Rattle.meaning.specs.Views as views;
 ghost use Rattle.meaning.specs.Resolved as meant;
 ghost use Rattle.checker_names.specs.Breaches.{at};
 ghost use Rattle.checker_names.specs.Noted.{noted};
+ghost use Rattle.checker_names.specs.Keys.{key_of_word};
 ghost use Rattle.checker_names.specs.Scope.{look_in, number_at, seen_in};
 ghost use Rattle.checker_names.specs.Names as names;
 ghost use Rattle.checker_values.specs.Expressions.{tested_breaches, tested_for, assigned};
@@ -202,6 +203,15 @@ fn tested_value(
     }
 }
 
+// A dictionary word as an expression.
+#[inline(never)]
+fn word(text: &[u8], scope: &Scope<'_>) -> Value
+    ensures { value_of result
+        ≡ meant.number (number_at scope.now.file.now.numbers (key_of_word text.now)) }
+{
+    Value::Number(scope.file.numbers.number(key_of_word(text)))
+}
+
 // A name as an expression.
 #[inline(never)]
 fn named_value(name: &Name<'_>, scope: &Scope<'_>, least: &mut Least) -> Value
@@ -273,7 +283,7 @@ pub fn expression(
 {
     match e {
         Expression::Constant(number) => Ok(Value::Number(*number)),
-        Expression::Word(text) => Ok(Value::Number(scope.file.numbers.number(key_of_word(text)))),
+        Expression::Word(text) => Ok(word(text, scope)),
         Expression::Named(name) => Ok(named_value(name, scope, least)),
         Expression::Call(name, given) => call(given, name, alloc, scope, least),
         Expression::Index(name, width, inside) => index(inside, name, alloc, scope, *width, least),

@@ -11,7 +11,7 @@ use Rattle.meaning.specs.Views.{value_of}
 use Rattle.checker_names.specs.declared.binding.Binding.{Binding}
 use Rattle.checker_names.specs.Names.{name_of}
 use Rattle.checker_names.specs.Breaches.{at}
-use Rattle.checker_names.specs.Scope.{look_in, number_at, seen_in}
+use Rattle.checker_names.specs.Scope.{look_in, seen_in}
 use Rattle.checker_names.proofs.Noted.{noted_none, noted_two}
 use Rattle.checker_names.proofs.Each.{each_next, each_end, value_next, value_end}
 use Rattle.checker_values.specs.Expressions.{breaches, tested_breaches}
@@ -85,12 +85,8 @@ expression-returns-in-Constant t c =
 
 pub expression-returns-in-Word : goal.expression-returns-in-Word
 expression-returns-in-Word t c =
-    rw (is_word c.args.e.now _ c.in-Word.is, made_number c.number.result)
-    (record {
-      value = ap values.number
-          (c.number.ensures ∙ ap (number_at c.args.scope.now.file.now.numbers) c.key_of_word.ensures);
-      breaches = sym (noted_none c.args.least.now);
-    })
+    rw (is_word c.args.e.now _ c.in-Word.is)
+    (record { value = c.word.ensures; breaches = sym (noted_none c.args.least.now) })
 
 pub expression-returns-in-Named : goal.expression-returns-in-Named
 expression-returns-in-Named t c = rw (is_named c.args.e.now _ c.in-Named.is) c.named_value.ensures
