@@ -1,6 +1,11 @@
 -- What is left of a list behind its first ones.
 use Rattle.std.proofs.Common.{◌≡◌, ℕ, zero, suc, ◌+◌, ◌<◌, ◌≤◌, List, [], ◌∷◌, length, drop, slice_index_or, refl, sym}
 use Rattle.std.proofs.Common.{ap, ◌∙◌, arith}
+use Rattle.std.specs.Prelude.{map}
+use Rattle.syntax_directives.specs.declared.tree.Directive.{Directive}
+use Rattle.syntax_directives.specs.Views.{directive_tree}
+use Rattle.checker_names.specs.declared.counts.Counts.{Counts}
+use Rattle.checker_names.specs.Names.{Table, counts_after, table_from, with_directive}
 
 -- what is left of a list, before one of it and at the end
 pub drop_cons : {A : Type 0} (xs : List A) (i : ℕ) (x : A) → i < length xs
@@ -19,3 +24,10 @@ drop_end [] zero h = refl
 drop_end [] (suc i) h = refl
 drop_end (x ∷ xs) zero h = absurd (omega arith)
 drop_end (x ∷ xs) (suc i) h = drop_end xs i (omega arith)
+
+-- the names of what is left, before one directive and after it
+pub named_more : (whole t u : Table) (a b : Counts) (ds : List Directive) (i : ℕ) (x : Directive) → i < length ds
+    → x ≡ slice_index_or ds i x → u ≡ with_directive whole t a (directive_tree x)
+    → b ≡ counts_after a (directive_tree x)
+    → table_from whole u b (map directive_tree (drop (i + 1) ds)) ≡ table_from whole t a (map directive_tree (drop i ds))
+named_more whole t u a b ds i x lt is hu hb = rw (drop_here ds i x lt is, hu, hb) refl

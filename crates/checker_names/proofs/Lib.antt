@@ -6,6 +6,7 @@ pub mod SmallKeys
 pub mod Ranks
 pub mod Each
 pub mod Tables
+pub mod Constants
 pub mod Counting
 pub mod Dropped
 pub mod Kept

@@ -1,5 +1,5 @@
 -- Look-ups in tables.
-use Rattle.std.proofs.Common.{◌≡◌, ℕ, Bool, true, false, List, [], ◌∷◌, ◌++◌, Option, Some, cond, is_some, not, refl}
+use Rattle.std.proofs.Common.{◌≡◌, ℕ, Bool, true, false, List, [], ◌∷◌, ◌++◌, Option, Some, None, cond, is_some, refl}
 use Rattle.std.proofs.Common.{sym, ap, ◌∙◌}
 use Rattle.std.specs.Map.{lookup}
 use Rattle.std.proofs.lemmas.Cmp.{nat_list_eq_equiv}
@@ -35,10 +35,43 @@ insert_new (e ∷ es) k b h = new_entry es e k b (same_key k e.0) refl
     (sym (some_of (same_key k e.0) e.1 (in_table es k))
     ∙ ap (λ t. is_some (cond t (Some e.1) (in_table es k))) (same_key_back k e.0) ∙ h) (insert_new es k b)
 
+abbrev value_or : Binding → Option Binding → Binding
+value_or d (Some b) = b
+value_or d None = d
+
+entry_back : (x : List ℕ × Binding) (xs : Table) (k : List ℕ) (b e : Binding) (t : Bool) → same_key k x.0 ≡ t
+    → cond t (Some x.1) (lookup (same_key k) xs) ≡ Some e
+    → (lookup (same_key k) xs ≡ Some e → insert_entry same_key (insert_entry same_key xs k b) k e ≡ xs)
+    → insert_entry same_key (insert_entry same_key (x ∷ xs) k b) k e ≡ x ∷ xs
+entry_back x xs k b e true q p r = rw (q, q) (ap (λ y. (x.0, y) ∷ xs) (sym (ap (value_or x.1) p)))
+entry_back x xs k b e false q p r = rw (q, q) (ap (λ y. x ∷ y) (r p))
+
+-- a key that is there gets its earlier meaning back
+put_back : (es : Table) (k : List ℕ) (b e : Binding) → lookup (same_key k) es ≡ Some e
+    → insert_entry same_key (insert_entry same_key es k b) k e ≡ es
+put_back [] k b e h = absurd cc
+put_back (x ∷ xs) k b e h = entry_back x xs k b e (same_key k x.0) refl h (put_back xs k b e)
+
+-- whether a name has a meaning, by what was found for its key
+had_meaning : (t : Table) (n : NameTree) (k : List ℕ) (found what : Option Binding) → k ≡ key_of n.text
+    → found ≡ lookup (same_key k) t → found ≡ what → is_some what ≡ is_some (in_table t (key_of n.text))
+had_meaning t n k found what key f is =
+    ap is_some (sym is ∙ f ∙ lookup_table t k ∙ ap (in_table t) key)
+
 -- a name that has no meaning gets one
-pub define_new : (t after : Table) (n : NameTree) (k : List ℕ) (b : Binding) (found : Option Binding) (none : Bool)
-    → found ≡ in_table t (key_of n.text) → is_some found ≡ not none → none ≡ true → k ≡ key_of n.text
+pub define_new : (t after : Table) (n : NameTree) (k : List ℕ) (b : Binding) (found : Option Binding)
+    → k ≡ key_of n.text → found ≡ lookup (same_key k) t → found ≡ None
     → after ≡ insert_entry same_key t k b → after ≡ with_name t n b
-define_new t after n k b found none f s e key h =
-    let absent : is_some (in_table t (key_of n.text)) ≡ false = ap is_some (sym f) ∙ s ∙ ap not e in
+define_new t after n k b found key f is h =
+    let absent : is_some (in_table t (key_of n.text)) ≡ false = sym (had_meaning t n k found None key f is) in
     rw absent (h ∙ ap (λ x. insert_entry same_key t x b) key ∙ insert_new t (key_of n.text) b absent)
+
+-- one that has a meaning keeps it
+pub define_again : (t between after : Table) (n : NameTree) (k l : List ℕ) (b e : Binding) (found : Option Binding)
+    → k ≡ key_of n.text → l ≡ key_of n.text → found ≡ lookup (same_key k) t → found ≡ Some e
+    → between ≡ insert_entry same_key t k b → after ≡ insert_entry same_key between l e → after ≡ with_name t n b
+define_again t between after n k l b e found key same f is put back =
+    let there : is_some (in_table t (key_of n.text)) ≡ true = sym (had_meaning t n k found (Some e) key f is) in
+    rw there (back ∙ ap (λ x. insert_entry same_key x l e) put
+    ∙ ap (λ x. insert_entry same_key (insert_entry same_key t k b) x e) (same ∙ sym key)
+    ∙ put_back t k b e (sym f ∙ is))

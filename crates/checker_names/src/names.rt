@@ -3,7 +3,9 @@
 ghost use Rattle.std.specs.Prelude.{◌≡◌, ◌^◌, IfOk, OnOk, map};
 ghost use Rattle.syntax_trees.specs.Views.{name_tree};
 ghost use Rattle.syntax_statement_parts.specs.Views.{literal_tree};
+ghost use Rattle.syntax_directives.specs.Tree.{constant};
 ghost use Rattle.syntax_directives.specs.Views.{directive_tree};
+ghost use Rattle.checker_names.specs.ByName.{is_by_name, has_by_name};
 ghost use Rattle.checker_names.specs.Keys as keys;
 ghost use Rattle.checker_names.specs.Names as spec;
 
@@ -31,15 +33,9 @@ pub fn constant_known(found: Option<Binding>) -> Option<Known>
     ensures { result ≡ spec.constant_known found }
 {
     match found {
-        None => None,
         Some(Binding::Constant(known)) => known,
-        Some(Binding::Global(_)) => None,
-        Some(Binding::Array(_, _)) => None,
-        Some(Binding::Routine(_, _)) => None,
-        Some(Binding::Attribute(_)) => None,
-        Some(Binding::Property(_)) => None,
         Some(Binding::Object(object)) => Some(Known::Number((object % 65_536) as u16)),
-        Some(Binding::Local(_)) => None,
+        _ => None,
     }
 }
 
@@ -61,7 +57,14 @@ fn object_first(before: Option<Binding>, anywhere: Option<Binding>) -> Option<Bi
 {
     match anywhere {
         Some(Binding::Object(object)) => Some(Binding::Object(object)),
-        _ => before,
+        None => before,
+        Some(Binding::Constant(_)) => before,
+        Some(Binding::Global(_)) => before,
+        Some(Binding::Array(_, _)) => before,
+        Some(Binding::Routine(_, _)) => before,
+        Some(Binding::Attribute(_)) => before,
+        Some(Binding::Property(_)) => before,
+        Some(Binding::Local(_)) => before,
     }
 }
 
@@ -115,7 +118,19 @@ impl Names {
         ensures table { IfOk result (λ n. n.table.entries ≡ spec.first_table) }
         ensures counts { IfOk result (λ n. n.counts ≡ spec.no_counts) }
     {
-        let mut table = IndexMap::new(alloc);
+        Names::with_room(alloc, 1)
+    }
+
+    /// The same, with room for the names that so many directives define.
+    ///
+    /// # Errors
+    ///
+    /// `AllocError` where memory is refused.
+    pub fn with_room(alloc: Global, directives: usize) -> Result<Names, AllocError>
+        ensures table { IfOk result (λ n. n.table.entries ≡ spec.first_table) }
+        ensures counts { IfOk result (λ n. n.counts ≡ spec.no_counts) }
+    {
+        let mut table = IndexMap::with_capacity(alloc, directives.saturating_add(1))?;
         table.insert(key_of(b"name"), Binding::Property(1))?;
         Ok(Names {
             table,
@@ -175,15 +190,52 @@ fn tabulate_with(
         ≡ spec.table_from whole.now.entries spec.first_table spec.no_counts
         (map directive_tree directives.now)) }
 {
-    let mut names = Names::new(alloc)?;
+    let mut names = Names::with_room(alloc, directives.len())?;
     for directive in directives {
         names.add(directive, whole)?;
     }
     Ok(names.table)
 }
 
+// Whether a constant's value is a name.
+fn is_name(value: &Literal<'_>) -> bool
+    ensures { (n : _) → result ≡ is_by_name (constant n (literal_tree value.now)) }
+{
+    match value {
+        Literal::Number(_) => false,
+        Literal::Word(_) => false,
+        Literal::Named(_) => true,
+    }
+}
+
+// Whether a directive defines a constant by a name.
+fn defines_by_name(directive: &Directive<'_>) -> bool
+    ensures { result ≡ is_by_name (directive_tree directive.now) }
+{
+    match directive {
+        Directive::Constant(_, value) => is_name(value),
+        Directive::Global(_, _) => false,
+        Directive::Array(_) => false,
+        Directive::Attribute(_) => false,
+        Directive::Property(_, _) => false,
+        Directive::Object(_) => false,
+        Directive::Routine(_) => false,
+    }
+}
+
+fn define_by_name(directives: &[Directive<'_>]) -> bool
+    ensures { result ≡ has_by_name (map directive_tree directives.now) }
+{
+    for directive in directives {
+        if defines_by_name(directive) {
+            return true;
+        }
+    }
+    false
+}
+
 /// The names of a whole file: first as they stand where no later object is known, and then with its
-/// objects.
+/// objects, if a constant is defined by a name, which may be that of an object.
 ///
 /// # Errors
 ///
@@ -194,5 +246,8 @@ pub fn tabulate(directives: &[Directive<'_>], alloc: Global) -> Result<Table, Al
 {
     let none = IndexMap::new(alloc);
     let whole = tabulate_with(directives, alloc, &none)?;
-    tabulate_with(directives, alloc, &whole)
+    if define_by_name(directives) {
+        return tabulate_with(directives, alloc, &whole);
+    }
+    Ok(whole)
 }

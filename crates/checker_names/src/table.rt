@@ -28,7 +28,7 @@ pub fn find(table: &Table, name: &[u8]) -> Option<Binding>
     find_key(table, &key_of(name))
 }
 
-/// Gives a name its meaning, where it has none.
+/// Gives a name its meaning, where it has none. A name that is new, as most are, is looked up once.
 ///
 /// # Errors
 ///
@@ -38,10 +38,15 @@ pub fn define(name: Name<'_>, table: &mut Table, binding: Binding) -> Result<(),
         ≡ with_name table.old.entries (name_tree name.entry) binding) }
 {
     let key = key_of(name.text);
-    if find_key(table, &key).is_none() {
-        table.insert(key, binding)?;
+    let before = table.insert(key, binding)?;
+    match before {
+        None => Ok(()),
+        Some(earlier) => {
+            let same = key_of(name.text);
+            table.insert(same, earlier)?;
+            Ok(())
+        }
     }
-    Ok(())
 }
 
 /// What a routine sees of its file, and its own names.
