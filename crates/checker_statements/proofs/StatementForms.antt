@@ -8,6 +8,7 @@ use Rattle.syntax_trees.specs.Tree.{ExpressionTree}
 use Rattle.syntax_statement_parts.specs.declared.tree.Range.{Range}
 use Rattle.syntax_statement_parts.specs.Views.{range_tree}
 use Rattle.syntax_statements.specs.declared.tree.Statement.{Statement}
+use Rattle.syntax_statements.specs.declared.tree.Statement.TheVariants as said
 use Rattle.syntax_statements.specs.Tree.{StatementTree}
 use Rattle.syntax_statements.specs.Views.{statement_tree, case_tree, trees_of, cases_of}
 use Rattle.syntax_statements.specs.Tree as written
@@ -15,6 +16,7 @@ use Rattle.meaning.proofs.Mapped.{mapped_twice}
 use Rattle.meaning.specs.declared.around.Around.{Around}
 use Rattle.meaning.specs.Resolved as values
 use Rattle.meaning.specs.declared.resolved.Action as code_action
+use Rattle.meaning.specs.declared.resolved.Action.TheVariants as done
 use Rattle.meaning.specs.declared.resolved.Span.{Span}
 use Rattle.meaning.specs.Resolved.{Value, RangeOf, Action, Actions}
 use Rattle.meaning.specs.Views.{range_of, actions_of, action_of, case_of}
@@ -24,15 +26,22 @@ use Rattle.checker_names.specs.declared.noting.Least.{Least}
 use Rattle.checker_names.specs.Noted.{noted}
 use Rattle.checker_names.specs.Names.{Seen}
 use Rattle.checker_values.specs.Walk.{IsWalked}
-use Rattle.checker_values.proofs.Walks.{two}
+use Rattle.checker_values.proofs.Walks.{leaf, two}
 use Rattle.checker_statements.specs.Statements.{range_breaches, resolve_range, statements_breaches, cases_breaches}
 use Rattle.checker_statements.specs.Statements.{resolve_statement, resolve_statements, resolve_cases}
 use Rattle.checker_statements.specs.Walk.{own_range_breaches, resolved_range, IsWhole, IsAction, AreRanges}
 use Rattle.checker_statements.specs.StatementWalk.{AreActions, own_statement_breaches, resolved_statement, IsCase}
 use Rattle.checker_statements.specs.StatementWalk.{AreCases, IsOther, own_case_breaches, resolved_case, other_breaches}
 use Rattle.checker_statements.specs.StatementWalk.{resolved_other}
+use Rattle.checker_statements.proofs.Shapes.{is_empty_statement}
+use Rattle.checker_statements.proofs.MadeStatements.{made_empty}
 
 module _ (seen : Seen) where
+  -- an empty statement breaks no rule, and is an action that does nothing
+  pub empty_walked : (around : Around) (s : Statement) (m : Least) → s ≡ said.Empty
+      → IsAction seen around (statement_tree s) m m (action_of done.Empty)
+  empty_walked around s m same = rw (is_empty_statement s same, made_empty) (leaf m values.empty)
+
   pub statements_break : (around : Around) (ss : List Statement)
       → statements_breaches seen.look around (trees_of (map statement_tree ss))
       ≡ flat_map (own_statement_breaches seen around) ss

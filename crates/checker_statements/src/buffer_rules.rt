@@ -39,13 +39,7 @@ fn buffer_rules(position: Position, found: Option<Binding>, least: &mut Least)
                 note(least, WRONG_KIND, position);
             }
         }
-        Some(Binding::Constant(_)) => note(least, WRONG_KIND, position),
-        Some(Binding::Global(_)) => note(least, WRONG_KIND, position),
-        Some(Binding::Routine(_, _)) => note(least, WRONG_KIND, position),
-        Some(Binding::Attribute(_)) => note(least, WRONG_KIND, position),
-        Some(Binding::Property(_)) => note(least, WRONG_KIND, position),
-        Some(Binding::Object(_)) => note(least, WRONG_KIND, position),
-        Some(Binding::Local(_)) => note(least, WRONG_KIND, position),
+        Some(_) => note(least, WRONG_KIND, position),
     }
 }
 
@@ -54,14 +48,7 @@ fn is_array(number: usize, found: Option<Binding>) -> bool
 {
     match found {
         Some(Binding::Array(other, _)) => number == other,
-        None => false,
-        Some(Binding::Constant(_)) => false,
-        Some(Binding::Global(_)) => false,
-        Some(Binding::Routine(_, _)) => false,
-        Some(Binding::Attribute(_)) => false,
-        Some(Binding::Property(_)) => false,
-        Some(Binding::Object(_)) => false,
-        Some(Binding::Local(_)) => false,
+        _ => false,
     }
 }
 
@@ -81,14 +68,7 @@ fn same_array(
                 note(least, WRONG_KIND, position);
             }
         }
-        None => {}
-        Some(Binding::Constant(_)) => {}
-        Some(Binding::Global(_)) => {}
-        Some(Binding::Routine(_, _)) => {}
-        Some(Binding::Attribute(_)) => {}
-        Some(Binding::Property(_)) => {}
-        Some(Binding::Object(_)) => {}
-        Some(Binding::Local(_)) => {}
+        _ => {}
     }
 }
 
@@ -98,14 +78,7 @@ fn array_number(found: Option<Binding>) -> usize
 {
     match found {
         Some(Binding::Array(number, _)) => number,
-        None => 0,
-        Some(Binding::Constant(_)) => 0,
-        Some(Binding::Global(_)) => 0,
-        Some(Binding::Routine(_, _)) => 0,
-        Some(Binding::Attribute(_)) => 0,
-        Some(Binding::Property(_)) => 0,
-        Some(Binding::Object(_)) => 0,
-        Some(Binding::Local(_)) => 0,
+        _ => 0,
     }
 }
 

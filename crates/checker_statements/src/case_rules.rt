@@ -69,7 +69,7 @@ pub fn ranges(
     ensures { IfOk result (λ v. AreRanges (seen_in scope.now) given.now
         least.old least.new (map range_of v.items)) }
 {
-    let mut found = Vec::new(alloc);
+    let mut found = Vec::with_capacity(alloc, given.len())?;
     for x in given {
         let resolved = range(x, scope, least);
         found.push(resolved)?;

@@ -35,11 +35,6 @@ pub fn loop_variable(name: Name<'_>, found: Option<Binding>, least: &mut Least) 
         }
         Some(Binding::Global(number)) => Variable::Global(number),
         Some(Binding::Local(number)) => Variable::Local(number),
-        Some(Binding::Constant(_)) => no_variable(name.position, least),
-        Some(Binding::Array(_, _)) => no_variable(name.position, least),
-        Some(Binding::Routine(_, _)) => no_variable(name.position, least),
-        Some(Binding::Attribute(_)) => no_variable(name.position, least),
-        Some(Binding::Property(_)) => no_variable(name.position, least),
-        Some(Binding::Object(_)) => no_variable(name.position, least),
+        Some(_) => no_variable(name.position, least),
     }
 }

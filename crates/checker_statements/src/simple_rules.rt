@@ -113,7 +113,7 @@ fn items<'a>(
     ensures { IfOk result (λ v. AreItems (seen_in scope.now) printed.now
         least.old least.new (map printed_of v.items)) }
 {
-    let mut found = Vec::new(alloc);
+    let mut found = Vec::with_capacity(alloc, printed.len())?;
     for x in printed {
         let Ok(resolved) = item(x, alloc, scope, least) else {
             return Err(AllocError);
@@ -204,7 +204,7 @@ fn flags(
     ensures { IfOk result (λ v. AreFlags (seen_in scope.now) given.now
         least.old least.new v.items) }
 {
-    let mut found = Vec::new(alloc);
+    let mut found = Vec::with_capacity(alloc, given.len())?;
     for x in given {
         let resolved = flag(x, scope, least);
         found.push(resolved)?;

@@ -92,7 +92,7 @@ fn boxed<'a>(
     Ok(Box::new(alloc, found)?)
 }
 
-// Statements in order.
+// Statements in order. An empty one is put there at once, without a result on its way.
 #[cycle(statement)]
 fn sequence<'a>(
     all: &[Statement<'a>],
@@ -106,6 +106,10 @@ fn sequence<'a>(
 {
     let mut found = Vec::with_capacity(alloc, all.len())?;
     for s in all {
+        if let Statement::Empty = s {
+            found.push(Action::Empty)?;
+            continue;
+        }
         let Ok(resolved) = statement(s, alloc, scope, around, least) else {
             return Err(AllocError);
         };
@@ -374,7 +378,7 @@ fn all_cases<'a>(
     ensures { IfOk result (λ v. AreCases (seen_in scope.now) around given.now
         least.old least.new (map case_of v.items)) }
 {
-    let mut found = Vec::new(alloc);
+    let mut found = Vec::with_capacity(alloc, given.len())?;
     for c in given {
         let Ok(resolved) = one_case(c, alloc, scope, around, least) else {
             return Err(AllocError);

@@ -1,15 +1,19 @@
-use Rattle.std.proofs.Common.{◌≡◌, Option, None, sym, ap, ◌∙◌}
+use Rattle.std.proofs.Common.{◌≡◌, ◌+◌, Option, None, sym, ap, ◌∙◌, drop}
 use Rattle.std.specs.Global.{Vec}
 use Rattle.std.specs.Prelude.{map}
+use Rattle.std.specs.List.{flat_map}
 use Rattle.syntax_trees.specs.Views.{name_tree, expression_tree}
 use Rattle.syntax_statement_parts.specs.declared.tree.Range.{Range}
 use Rattle.syntax_statement_parts.specs.Tree.{over_in, over_where}
 use Rattle.syntax_statement_parts.specs.Views.{loop_tree}
 use Rattle.syntax_statements.specs.declared.tree.Statement.{Statement}
 use Rattle.syntax_statements.specs.Views.{other_tree}
+use Rattle.meaning.specs.declared.resolved.Action.TheVariants as done
 use Rattle.meaning.specs.Resolved as values
 use Rattle.meaning.specs.Resolved.{Value, Action}
 use Rattle.meaning.specs.Views.{boxed_value, action_of, case_of, other_of}
+use Rattle.checker_names.specs.declared.noting.Least.{Least}
+use Rattle.checker_names.specs.Noted.{noted}
 use Rattle.checker_names.specs.Scope.{seen_in}
 use Rattle.checker_names.proofs.Each.{each_next, each_end, value_next, value_end}
 use Rattle.checker_values.specs.Expressions.{variable_of_binding}
@@ -20,11 +24,11 @@ use Rattle.checker_statements.specs.StatementWalk.{own_case_breaches}
 use Rattle.checker_statements.proofs.Shapes.{is_simple_statement, is_block_statement, is_if_statement}
 use Rattle.checker_statements.proofs.Shapes.{is_if_else_statement, is_while_statement, is_do_statement}
 use Rattle.checker_statements.proofs.Shapes.{is_for_statement, is_objectloop_statement, is_switch_statement}
-use Rattle.checker_statements.proofs.Shapes.{is_empty_statement}
 use Rattle.checker_statements.proofs.MadeStatements.{made_block, made_if_then, made_if_else, made_while_do, made_do}
-use Rattle.checker_statements.proofs.MadeStatements.{made_for, made_empty, made_switch, made_each_object, made_each_in}
+use Rattle.checker_statements.proofs.MadeStatements.{made_for, made_switch, made_each_object, made_each_in}
 use Rattle.checker_statements.proofs.MadeStatements.{made_each_where}
-use Rattle.checker_statements.proofs.StatementForms.{statements_walked, case_walked, other_walked, switch_walked}
+use Rattle.checker_statements.proofs.StatementForms.{empty_walked, statements_walked, case_walked, other_walked}
+use Rattle.checker_statements.proofs.StatementForms.{switch_walked}
 use Rattle.checker_statements.proofs.statement_rules.+statement.Goals as goal
 
 abbrev pair : Action → Action → Action × Action
@@ -35,12 +39,26 @@ sequence-loop-s-preserved t c =
     let f = λ (x : Statement). own_statement_breaches (seen_in c.args.scope.now) c.args.around x in
     let g = λ (x : Statement). resolved_statement (seen_in c.args.scope.now) x in
     record {
-      value = rw c.in_ok-push.ensures.items
+      value = rw c.in_ok-push-2.ensures.items
           (value_next f g action_of c.loop-s.found.items c.in-Ok.resolved c.args.all.now c.loop-s.s-index
           c.s-item.result c.loop-s-test.true c.s-item.is c.loop-s.invariant.value c.in-Ok.ensures.value);
       least = rw c.in-Ok.ensures.breaches
           (sym (each_next f g action_of c.loop-s.least c.args.all.now c.loop-s.s-index c.s-item.result
           c.loop-s-test.true c.s-item.is) ∙ c.loop-s.invariant.least);
+    }
+
+pub sequence-loop-s-preserved-in-Empty : goal.sequence-loop-s-preserved-in-Empty
+sequence-loop-s-preserved-in-Empty t c =
+    let f = λ (x : Statement). own_statement_breaches (seen_in c.args.scope.now) c.args.around x in
+    let g = λ (x : Statement). resolved_statement (seen_in c.args.scope.now) x in
+    let none = empty_walked (seen_in c.args.scope.now) c.args.around c.s-item.result c.loop-s.least c.in-Empty.is in
+    record {
+      value = rw c.in_ok-push.ensures.items
+          (value_next f g action_of c.loop-s.found.items done.Empty c.args.all.now c.loop-s.s-index
+          c.s-item.result c.loop-s-test.true c.s-item.is c.loop-s.invariant.value none.value);
+      least = ap (λ (m : Least). noted m (flat_map f (drop (c.loop-s.s-index + 1) c.args.all.now))) none.breaches
+          ∙ sym (each_next f g action_of c.loop-s.least c.args.all.now c.loop-s.s-index c.s-item.result
+          c.loop-s-test.true c.s-item.is) ∙ c.loop-s.invariant.least;
     }
 
 pub sequence-returns : goal.sequence-returns
@@ -186,8 +204,8 @@ statement-returns-in-While t c = let v = c.in-While in
     (c.while_do.ensures c.args.around)
 
 pub statement-returns-in-Empty : goal.statement-returns-in-Empty
-statement-returns-in-Empty t c = rw (is_empty_statement c.args.s.now c.in-Empty.is, made_empty)
-    (leaf c.args.least.now values.empty)
+statement-returns-in-Empty t c =
+    empty_walked (seen_in c.args.scope.now) c.args.around c.args.s.now c.args.least.now c.in-Empty.is
 
 pub statement-returns-in-Simple : goal.statement-returns-in-Simple
 statement-returns-in-Simple t c = rw
