@@ -41,21 +41,37 @@ fn count_locals(number: usize, position: Position, least: &mut Least)
     }
 }
 
-// The locals of a routine, by their keys.
-fn locals(names: &[Name<'_>], alloc: Global, least: &mut Least) -> Result<Table, AllocError>
-    ensures table { IfOk result (λ t. (key : List ℕ)
-        → in_table t.entries key ≡ local_binding (local_from 0 (map name_tree names.now) key)) }
+// A table without names. The memory of one that had few, as routines have, is used again.
+fn empty(table: &mut Table, alloc: Global)
+    ensures { table.new.entries ≡ [] }
+{
+    if table.len() > MOST_LOCALS {
+        *table = IndexMap::new(alloc);
+    } else {
+        table.clear();
+    }
+}
+
+// The locals of a routine, by their keys, in place of those of another.
+fn locals(
+    names: &[Name<'_>],
+    alloc: Global,
+    table: &mut Table,
+    least: &mut Least,
+) -> Result<(), AllocError>
+    ensures table { OnOk result ((key : List ℕ)
+        → in_table table.new.entries key ≡ local_binding (local_from 0 (map name_tree names.now) key)) }
     ensures breaches { OnOk result (least.new ≡ noted least.old
         (spec.locals_breaches [] (map name_tree names.now))) }
 {
-    let mut table = IndexMap::new(alloc);
+    empty(table, alloc);
     for number in 0..names.len() {
         let name = names[number];
-        twice(name, &table, least);
+        twice(name, table, least);
         count_locals(number, name.position, least);
-        define(name, &mut table, Binding::Local(number))?;
+        define(name, table, Binding::Local(number))?;
     }
-    Ok(table)
+    Ok(())
 }
 
 fn body_of<'r, 'a>(routine: &'r Routine<'a>) -> &'r [Statement<'a>]
@@ -86,19 +102,21 @@ fn routine_in<'a>(
     })
 }
 
+// A routine, whose locals are put into this table.
 fn routine<'a>(
     routine: &Routine<'a>,
     alloc: Global,
     file: &File,
+    table: &mut Table,
     least: &mut Least,
 ) -> Result<CheckedRoutine<'a>, AllocError>
     ensures { IfOk result (λ r. IsRoutineOf (file_in file.now) (routine_tree routine.now)
         least.old least.new r) }
 {
-    let locals = locals(&routine.locals, alloc, least)?;
+    locals(&routine.locals, alloc, table, least)?;
     let scope = Scope {
         file,
-        locals: &locals,
+        locals: &*table,
     };
     routine_in(routine, alloc, &scope, least)
 }
@@ -200,12 +218,13 @@ fn defined_object<'a>(
     Ok(made)
 }
 
-// A directive that follows those of these names.
+// A directive that follows those of these names. The locals of a routine are put into a table.
 fn directive<'a>(
     directive: &Directive<'a>,
     alloc: Global,
     file: &File,
     names: &Names,
+    locals: &mut Table,
     found: &mut ResolvedFile<'a>,
     least: &mut Least,
 ) -> Result<(), AllocError>
@@ -250,7 +269,9 @@ fn directive<'a>(
         }
         Directive::Routine(written) => {
             twice(written.name, &names.table, least);
-            found.routines.push(routine(written, alloc, file, least)?)?;
+            found
+                .routines
+                .push(routine(written, alloc, file, locals, least)?)?;
             Ok(())
         }
     }
@@ -272,8 +293,9 @@ fn add_all<'a>(
         (spec.directives_breaches file.now.table.entries names.old.table.entries no_counts
         (map directive_tree directives.now))) }
 {
+    let mut locals = IndexMap::new(alloc);
     for one in directives {
-        directive(one, alloc, file, names, found, least)?;
+        directive(one, alloc, file, names, &mut locals, found, least)?;
         names.add(one, &file.table)?;
     }
     Ok(())

@@ -59,14 +59,7 @@ pub fn main_number(
             }
             return number;
         }
-        None => note(least, NO_PROPER_MAIN, end),
-        Some(Binding::Constant(_)) => note(least, NO_PROPER_MAIN, end),
-        Some(Binding::Global(_)) => note(least, NO_PROPER_MAIN, end),
-        Some(Binding::Array(_, _)) => note(least, NO_PROPER_MAIN, end),
-        Some(Binding::Attribute(_)) => note(least, NO_PROPER_MAIN, end),
-        Some(Binding::Property(_)) => note(least, NO_PROPER_MAIN, end),
-        Some(Binding::Object(_)) => note(least, NO_PROPER_MAIN, end),
-        Some(Binding::Local(_)) => note(least, NO_PROPER_MAIN, end),
+        _ => note(least, NO_PROPER_MAIN, end),
     }
     0
 }
