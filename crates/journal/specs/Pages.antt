@@ -102,6 +102,10 @@ KeepsCells pages first count = (k : ℕ) → first ≤ k → k < first + count �
 abbrev pub pages_in_place : ℕ
 pages_in_place = 1728
 
+-- how many numbers of pages a list has in place
+abbrev pub numbers_in_place : ℕ
+numbers_in_place = 6
+
 -- with page p among them
 abbrev pub with_page : List ℕ → ℕ → List ℕ
 with_page pages p = if keeps pages p then pages else pages ++ p ∷ []

@@ -3,8 +3,10 @@
 #![tactic(auto)]
 
 mod cells;
+mod few_numbers;
 mod packing;
 mod page_flags;
+mod page_list;
 mod record;
 mod recorded;
 

@@ -8,8 +8,7 @@ ghost use Rattle.journal.specs.Stores.{FitsIn, GoesBack, GoesForward, swapped};
 
 use crate::cells::Cells;
 use crate::packing::{WORD_PAGES, pack, packed_size, unpack};
-use crate::recorded::PAGES_IN_PLACE;
-use smallvec::SmallVec;
+use crate::page_list::PageList;
 use std::marker::Model;
 
 /// How many cells a whole page has. Page n of a store is its cells 64n to 64n + 63, as far as they
@@ -24,7 +23,7 @@ pub struct Record {
     len: usize,
 
     /// The pages, in the order in which they were first written. No page stands twice.
-    pages: SmallVec<u32, PAGES_IN_PLACE>,
+    pages: PageList,
 
     /// The pages' values, one page behind the other: of a page of bytes a byte for each cell, of
     /// any other two, the low one first.
@@ -37,16 +36,16 @@ impl Model for Record {
 
     ghost Value = { List (ℕ × ℕ) };
 
-    ghost view = { λ r. entries_of r.len r.pages.items r.packed.items };
+    ghost view = { λ r. entries_of r.len r.pages r.packed.items };
 
-    ghost invariant = { λ r. IsPaged r.len r.pages.items r.packed.items };
+    ghost invariant = { λ r. IsPaged r.len r.pages r.packed.items };
 }
 
 impl Record {
     /// A record of these pages of a store of `len` cells, with their values.
-    pub(crate) fn of(len: usize, pages: SmallVec<u32, PAGES_IN_PLACE>, packed: Vec<u8>) -> Record
-        requires { IsPaged len pages.items packed.items }
-        ensures { result ≡ entries_of len pages.items packed.items }
+    pub(crate) fn of(len: usize, pages: PageList, packed: Vec<u8>) -> Record
+        requires { IsPaged len pages packed.items }
+        ensures { result ≡ entries_of len pages packed.items }
     {
         Record { len, pages, packed }
     }

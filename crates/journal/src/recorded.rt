@@ -11,8 +11,8 @@ ghost use Rattle.journal.specs.Stores.{FitsIn, IsPageWithin, Writes, begun, kept
 use crate::cells::Cells;
 use crate::packing::{PAGE_BYTES, WORD_PAGES, read_bytes, read_words};
 use crate::page_flags::PageFlags;
+use crate::page_list::PageList;
 use crate::record::{PAGE, Record, cell_of, go_back, page_size};
-use smallvec::SmallVec;
 use std::alloc::{AllocError, Global};
 use std::marker::Model;
 use std::mem;
@@ -22,10 +22,6 @@ use thiserror::Error;
 #[derive(Clone, Copy, Debug, PartialEq, Eq, Error)]
 #[error("J1")]
 pub struct NoMemory;
-
-/// Of how many pages the numbers stand in place: a turn that reads a line and prints keeps four, and
-/// one that changes a global variable besides five.
-pub(crate) const PAGES_IN_PLACE: usize = 6;
 
 /// For how many bytes there is room when a turn keeps its first page: the values of four pages of
 /// words, or of eight of bytes. Few turns keep less.
@@ -42,7 +38,7 @@ pub struct Recorded<C: Cells> {
     flags: PageFlags,
 
     /// The kept pages, in the order in which they were first written.
-    pages: SmallVec<u32, PAGES_IN_PLACE>,
+    pages: PageList,
 
     /// The kept pages' values, one page behind the other, as a record holds them.
     packed: Vec<u8>,
@@ -64,12 +60,12 @@ impl<C: Cells> Model for Recorded<C> {
     ghost view = { λ r. record {
       store = r.store;
       beginning = (back (C.cells r.store)
-          (entries_of (length (C.cells r.store)) r.pages.items r.packed.items)).cells;
-      kept = r.pages.items;
+          (entries_of (length (C.cells r.store)) r.pages r.packed.items)).cells;
+      kept = r.pages;
     } };
 
     ghost invariant = { λ r. IsHeld (length (C.cells r.store)) (C.bounds r.store)
-        r.flags r.pages.items r.packed.items };
+        r.flags r.pages r.packed.items };
 }
 
 impl<C: Cells> Recorded<C> {
@@ -81,7 +77,7 @@ impl<C: Cells> Recorded<C> {
         Recorded {
             store,
             flags: PageFlags::new(alloc),
-            pages: SmallVec::new(alloc),
+            pages: PageList::new(),
             packed: Vec::new(alloc),
             alloc,
         }
@@ -229,7 +225,7 @@ impl<C: Cells> Recorded<C> {
         self.flags.cover(page, len / PAGE + 1)?;
         let at = self.packed.len();
         copy_page(&self.store, page, page_size(len, page), &mut self.packed)?;
-        if self.pages.push(page as u32).is_err() {
+        if self.pages.push(self.alloc, page as u32).is_err() {
             self.packed.truncate(at);
             return Err(AllocError);
         }
@@ -253,7 +249,7 @@ impl<C: Cells> Recorded<C> {
         let alloc = self.alloc;
         let len = self.store.len();
         unmark(&mut self.flags, self.pages.as_slice());
-        let pages = mem::replace(&mut self.pages, SmallVec::new(alloc));
+        let pages = mem::replace(&mut self.pages, PageList::new());
         let packed = mem::replace(&mut self.packed, Vec::new(alloc));
         Record::of(len, pages, packed)
     }

@@ -9,12 +9,12 @@ pub cell_count-requires-clause-within : goal.cell_count-requires-clause-within
 cell_count-requires-clause-within c =
     let n : ℕ = c.self.inside.len in
     subst (λ (t : List ℕ). length (cells_of n t) ≤ n) (sym c.as_slice.ensures)
-    (length-cells_of-le n c.self.inside.pages.items c.self.invariant.distinct)
+    (length-cells_of-le n c.self.inside.pages c.self.invariant.distinct)
 
 pub returns : goal.returns
 returns c =
     let n : ℕ = c.self.inside.len in
-    let pages : List ℕ = c.self.inside.pages.items in
+    let pages : List ℕ = c.self.inside.pages in
     let values : List ℕ = values_of n pages c.self.inside.packed.items in
     let long : length values ≡ length (cells_of n pages) = length-values_of n pages c.self.inside.packed.items
     c.self.invariant.size in

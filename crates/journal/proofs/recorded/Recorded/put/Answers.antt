@@ -35,6 +35,6 @@ returns-clause-beginning g c =
           (λ s. length (g.C.Cells.cells s)) facts.0,
     ) in
     beginning_put (g.C.Cells.cells c.self-2.inside.store) (g.C.Cells.cells c.put.new.self)
-    c.self-2.inside.pages.items c.self-2.inside.packed.items c.args.i c.args.v c.self-2.invariant.paged.size here
+    c.self-2.inside.pages c.self-2.inside.packed.items c.args.i c.args.v c.self-2.invariant.paged.size here
     (ap (λ r. keeps r.kept page) c.self-2.view_is ∙ facts.2) c.put.ensures.cells
     ∙ ap (λ r. r.beginning) c.self-2.view_is ∙ facts.1
