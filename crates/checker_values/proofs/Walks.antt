@@ -49,12 +49,25 @@ pub made_walked : {E : Type 0} {bs : List Breach} {m n : Least} {x y : Value} (r
 made_walked (Ok v) h w = record { value = h ∙ w.value; breaches = w.breaches }
 made_walked (Err e) h w = tt
 
+-- the same in a box
+pub boxed_walked : {E : Type 0} {bs : List Breach} {m n : Least} {x y : Value}
+    (r : Result (Box code_value.Value) E) → IfOk r (λ v. value_of v.value ≡ x) → IsWalked bs m n x y
+    → IfOk r (λ v. IsWalked bs m n (value_of v.value) y)
+boxed_walked (Ok v) h w = record { value = h ∙ w.value; breaches = w.breaches }
+boxed_walked (Err e) h w = tt
+
 -- a value that was put in a box, where memory was not refused
 pub kept_walked : {E : Type 0} {bs : List Breach} {m n : Least} {y : Value}
     (r : Result (Box code_value.Value) E) (x : code_value.Value) → IfOk r (λ v. v.value ≡ x)
     → IsWalked bs m n (value_of x) y → IfOk r (λ v. IsWalked bs m n (value_of v.value) y)
 kept_walked (Ok v) x h w = record { value = ap value_of h ∙ w.value; breaches = w.breaches }
 kept_walked (Err e) x h w = tt
+
+-- and what it stands for
+pub kept_value : {E : Type 0} {y : Value} (r : Result (Box code_value.Value) E) (x : code_value.Value)
+    → IfOk r (λ v. v.value ≡ x) → value_of x ≡ y → IfOk r (λ v. value_of v.value ≡ y)
+kept_value (Ok v) x h same = ap value_of h ∙ same
+kept_value (Err e) x h same = tt
 
 -- one part
 pub one : {A B : Type 0} (f : A → B) {bs : List Breach} {m n : Least} {x y : A} → IsWalked bs m n x y

@@ -1,8 +1,8 @@
 //! Expressions: the rules that they can break, and what they resolve to.
 //!
-//! What an expression resolves to is put in a box only where its tree has one. What walks one kind of
-//! expression is no part of `expression` in machine code: a walk over a tree then takes little stack
-//! for each kind on its way, and none for others.
+//! What an expression resolves to goes on in a box, and what walks one kind of expression is no part
+//! of `boxed` in machine code: a walk over a tree then takes little stack for each kind on its way,
+//! and none for others.
 
 ghost use Rattle.std.specs.Prelude.{◌≡◌, ◌++◌, [], ◌∷◌, if◌then◌else◌, IfOk, map};
 ghost use Rattle.std.specs.Option.{option_map};
@@ -162,10 +162,10 @@ fn in_box(value: Value, alloc: Global) -> Result<Box<Value>, AllocError>
 
 // One more of several.
 #[inline(never)]
-fn add(found: &mut Vec<Value>, next: Value) -> Result<(), AllocError>
-    ensures { IfOk result (λ _. found.new.items ≡ found.old.items ++ next ∷ []) }
+fn add(found: &mut Vec<Value>, next: Box<Value>) -> Result<(), AllocError>
+    ensures { IfOk result (λ _. found.new.items ≡ found.old.items ++ next.value ∷ []) }
 {
-    found.push(next)?;
+    found.push(Box::into_inner(next))?;
     Ok(())
 }
 
@@ -174,12 +174,12 @@ fn add(found: &mut Vec<Value>, next: Value) -> Result<(), AllocError>
 fn add_link(
     links: &mut Vec<(Binary, Value)>,
     operator: Binary,
-    operand: Value,
+    operand: Box<Value>,
 ) -> Result<(), AllocError>
     ensures { IfOk result (λ _. links.new.items
-        ≡ links.old.items ++ (operator, operand) ∷ []) }
+        ≡ links.old.items ++ (operator, operand.value) ∷ []) }
 {
-    links.push((operator, operand))?;
+    links.push((operator, Box::into_inner(operand)))?;
     Ok(())
 }
 
@@ -203,13 +203,24 @@ fn tested_value(
     }
 }
 
+// A number as an expression.
+#[inline(never)]
+fn constant(number: u16, alloc: Global) -> Result<Box<Value>, AllocError>
+    ensures { IfOk result (λ v. value_of v.value ≡ meant.number number) }
+{
+    in_box(Value::Number(number), alloc)
+}
+
 // A dictionary word as an expression.
 #[inline(never)]
-fn word(text: &[u8], scope: &Scope<'_>) -> Value
-    ensures { value_of result
-        ≡ meant.number (number_at scope.now.file.now.numbers (key_of_word text.now)) }
+fn word(text: &[u8], alloc: Global, scope: &Scope<'_>) -> Result<Box<Value>, AllocError>
+    ensures { IfOk result (λ v. value_of v.value
+        ≡ meant.number (number_at scope.now.file.now.numbers (key_of_word text.now))) }
 {
-    Value::Number(scope.file.numbers.number(key_of_word(text)))
+    in_box(
+        Value::Number(scope.file.numbers.number(key_of_word(text))),
+        alloc,
+    )
 }
 
 // A name as an expression.
@@ -220,6 +231,20 @@ fn named_value(name: &Name<'_>, scope: &Scope<'_>, least: &mut Least) -> Value
 {
     let found = scope.look(name.text);
     value(*name, &scope.file.numbers, found, least)
+}
+
+// The same, in a box.
+#[inline(never)]
+fn boxed_name(
+    name: &Name<'_>,
+    alloc: Global,
+    scope: &Scope<'_>,
+    least: &mut Least,
+) -> Result<Box<Value>, AllocError>
+    ensures { GivesBoxed (seen_in scope.now) result least.old least.new
+        (trees.named (name_tree name.now)) }
+{
+    in_box(named_value(name, scope, least), alloc)
 }
 
 // The number of the routine that a name stands for, which is called with so many arguments.
@@ -266,12 +291,12 @@ fn property_numbers(
     Ok(numbers)
 }
 
-/// Resolves the names of an expression, and notes the rules that it breaks.
+/// Resolves the names of an expression, and notes the rules that it breaks. What most statements and
+/// lists hold, an assignment, a name or a number, is made without a box.
 ///
 /// # Errors
 ///
 /// `AllocError` where memory is refused.
-#[cycle(expression)]
 #[inline(never)]
 pub fn expression(
     e: &Expression<'_>,
@@ -283,11 +308,39 @@ pub fn expression(
 {
     match e {
         Expression::Constant(number) => Ok(Value::Number(*number)),
-        Expression::Word(text) => Ok(word(text, scope)),
+        Expression::Word(text) => Ok(Value::Number(scope.file.numbers.number(key_of_word(text)))),
         Expression::Named(name) => Ok(named_value(name, scope, least)),
+        Expression::Assign(left, at, right) => assign(left, right, alloc, scope, *at, least),
+        _ => {
+            let Ok(found) = boxed(e, alloc, scope, least) else {
+                return Err(AllocError);
+            };
+            Ok(Box::into_inner(found))
+        }
+    }
+}
+
+/// The same, in a box.
+///
+/// # Errors
+///
+/// `AllocError` where memory is refused.
+#[cycle(expression)]
+pub fn boxed(
+    e: &Expression<'_>,
+    alloc: Global,
+    scope: &Scope<'_>,
+    least: &mut Least,
+) -> Result<Box<Value>, AllocError>
+    ensures { GivesBoxed (seen_in scope.now) result least.old least.new (expression_tree e.now) }
+{
+    match e {
+        Expression::Constant(number) => constant(*number, alloc),
+        Expression::Word(text) => word(text, alloc, scope),
+        Expression::Named(name) => boxed_name(name, alloc, scope, least),
         Expression::Call(name, given) => call(given, name, alloc, scope, least),
         Expression::Index(name, width, inside) => index(inside, name, alloc, scope, *width, least),
-        Expression::Parenthesised(inside) => expression(inside, alloc, scope, least),
+        Expression::Parenthesised(inside) => boxed(inside, alloc, scope, least),
         Expression::RelativeOf(which, object) => relative_of(object, alloc, scope, *which, least),
         Expression::Property(object, name, others) => {
             properties(object, name, others, alloc, scope, least)
@@ -316,28 +369,10 @@ pub fn expression(
             contained(left, right, alloc, scope, *containment, least)
         }
         Expression::Tested(object, test, name) => tested(object, name, alloc, scope, *test, least),
-        Expression::Assign(left, at, right) => assign(left, right, alloc, scope, *at, least),
+        Expression::Assign(left, at, right) => {
+            boxed_assignment(left, right, alloc, scope, *at, least)
+        }
     }
-}
-
-/// The same, in a box.
-///
-/// # Errors
-///
-/// `AllocError` where memory is refused.
-#[cycle(expression)]
-pub fn boxed(
-    e: &Expression<'_>,
-    alloc: Global,
-    scope: &Scope<'_>,
-    least: &mut Least,
-) -> Result<Box<Value>, AllocError>
-    ensures { GivesBoxed (seen_in scope.now) result least.old least.new (expression_tree e.now) }
-{
-    let Ok(value) = expression(e, alloc, scope, least) else {
-        return Err(AllocError);
-    };
-    in_box(value, alloc)
 }
 
 #[cycle(expression)]
@@ -351,9 +386,9 @@ fn all_expressions(
     ensures { IfOk result (λ v. AreResolved (seen_in scope.now) given.now
         least.old least.new (map value_of v.items)) }
 {
-    let mut found = Vec::with_capacity(alloc, given.len())?;
+    let mut found = Vec::new(alloc);
     for e in given {
-        let Ok(resolved) = expression(e, alloc, scope, least) else {
+        let Ok(resolved) = boxed(e, alloc, scope, least) else {
             return Err(AllocError);
         };
         add(&mut found, resolved)?;
@@ -373,9 +408,9 @@ fn chain_links(
     ensures { IfOk result (λ v. AreLinks (seen_in scope.now) links.now
         least.old least.new (map value_link v.items)) }
 {
-    let mut found = Vec::with_capacity(alloc, links.len())?;
+    let mut found = Vec::new(alloc);
     for link in links {
-        let Ok(operand) = expression(&link.1, alloc, scope, least) else {
+        let Ok(operand) = boxed(&link.1, alloc, scope, least) else {
             return Err(AllocError);
         };
         add_link(&mut found, link.0, operand)?;
@@ -414,15 +449,15 @@ fn call(
     alloc: Global,
     scope: &Scope<'_>,
     least: &mut Least,
-) -> Result<Value, AllocError>
-    ensures { GivesValue (seen_in scope.now) result least.old least.new
+) -> Result<Box<Value>, AllocError>
+    ensures { GivesBoxed (seen_in scope.now) result least.old least.new
         (trees.call (name_tree name.now) (trees_of (map expression_tree given.now))) }
 {
     let number = routine_of(name, given.len(), scope, least);
     let Ok(given) = all_expressions(given, alloc, scope, least) else {
         return Err(AllocError);
     };
-    Ok(Value::Call(number, given))
+    in_box(Value::Call(number, given), alloc)
 }
 
 #[cycle(expression)]
@@ -434,15 +469,15 @@ fn index(
     scope: &Scope<'_>,
     width: Width,
     least: &mut Least,
-) -> Result<Value, AllocError>
-    ensures { GivesValue (seen_in scope.now) result least.old least.new
+) -> Result<Box<Value>, AllocError>
+    ensures { GivesBoxed (seen_in scope.now) result least.old least.new
         (trees.index (name_tree name.now) width (expression_tree operand.now)) }
 {
     let number = array_of(name, scope, least);
     let Ok(operand) = boxed(operand, alloc, scope, least) else {
         return Err(AllocError);
     };
-    Ok(Value::Entry(width, number, operand))
+    in_box(Value::Entry(width, number, operand), alloc)
 }
 
 #[cycle(expression)]
@@ -453,14 +488,14 @@ fn relative_of(
     scope: &Scope<'_>,
     relative: Relative,
     least: &mut Least,
-) -> Result<Value, AllocError>
-    ensures { GivesValue (seen_in scope.now) result least.old least.new
+) -> Result<Box<Value>, AllocError>
+    ensures { GivesBoxed (seen_in scope.now) result least.old least.new
         (trees.relative_of relative (expression_tree object.now)) }
 {
     let Ok(object) = boxed(object, alloc, scope, least) else {
         return Err(AllocError);
     };
-    Ok(Value::Relative(relative, object))
+    in_box(Value::Relative(relative, object), alloc)
 }
 
 #[cycle(expression)]
@@ -472,8 +507,8 @@ fn properties(
     alloc: Global,
     scope: &Scope<'_>,
     least: &mut Least,
-) -> Result<Value, AllocError>
-    ensures { GivesValue (seen_in scope.now) result least.old least.new
+) -> Result<Box<Value>, AllocError>
+    ensures { GivesBoxed (seen_in scope.now) result least.old least.new
         (propertied (trees.property (expression_tree object.now) (name_tree name.now))
         others.now) }
 {
@@ -484,7 +519,7 @@ fn properties(
     let Ok(others) = property_numbers(others, alloc, scope, least) else {
         return Err(AllocError);
     };
-    Ok(Value::Property(object, number, others))
+    in_box(Value::Property(object, number, others), alloc)
 }
 
 #[cycle(expression)]
@@ -495,15 +530,15 @@ fn length_of(
     alloc: Global,
     scope: &Scope<'_>,
     least: &mut Least,
-) -> Result<Value, AllocError>
-    ensures { GivesValue (seen_in scope.now) result least.old least.new
+) -> Result<Box<Value>, AllocError>
+    ensures { GivesBoxed (seen_in scope.now) result least.old least.new
         (trees.property_length (expression_tree object.now) (name_tree name.now)) }
 {
     let Ok(object) = boxed(object, alloc, scope, least) else {
         return Err(AllocError);
     };
     let number = property_of(name, scope, least);
-    Ok(Value::PropertySize(object, number))
+    in_box(Value::PropertySize(object, number), alloc)
 }
 
 #[cycle(expression)]
@@ -515,8 +550,8 @@ fn property_entry(
     alloc: Global,
     scope: &Scope<'_>,
     least: &mut Least,
-) -> Result<Value, AllocError>
-    ensures { GivesValue (seen_in scope.now) result least.old least.new
+) -> Result<Box<Value>, AllocError>
+    ensures { GivesBoxed (seen_in scope.now) result least.old least.new
         (trees.property_entry (expression_tree object.now) (name_tree name.now)
         (expression_tree index.now)) }
 {
@@ -527,7 +562,7 @@ fn property_entry(
     let Ok(index) = boxed(index, alloc, scope, least) else {
         return Err(AllocError);
     };
-    Ok(Value::PropertyWord(object, number, index))
+    in_box(Value::PropertyWord(object, number, index), alloc)
 }
 
 #[cycle(expression)]
@@ -538,14 +573,14 @@ fn prefixed(
     scope: &Scope<'_>,
     prefix: Prefix,
     least: &mut Least,
-) -> Result<Value, AllocError>
-    ensures { GivesValue (seen_in scope.now) result least.old least.new
+) -> Result<Box<Value>, AllocError>
+    ensures { GivesBoxed (seen_in scope.now) result least.old least.new
         (trees.prefixed prefix (expression_tree operand.now)) }
 {
     let Ok(operand) = boxed(operand, alloc, scope, least) else {
         return Err(AllocError);
     };
-    Ok(Value::Prefixed(prefix, operand))
+    in_box(Value::Prefixed(prefix, operand), alloc)
 }
 
 #[cycle(expression)]
@@ -557,14 +592,14 @@ fn step_before(
     step: Step,
     position: Position,
     least: &mut Least,
-) -> Result<Value, AllocError>
-    ensures { GivesValue (seen_in scope.now) result least.old least.new
+) -> Result<Box<Value>, AllocError>
+    ensures { GivesBoxed (seen_in scope.now) result least.old least.new
         (trees.step_before step position (expression_tree operand.now)) }
 {
     let Ok(variable) = variable(operand, alloc, scope, position, least) else {
         return Err(AllocError);
     };
-    Ok(Value::StepBefore(step, variable))
+    in_box(Value::StepBefore(step, variable), alloc)
 }
 
 #[cycle(expression)]
@@ -576,14 +611,14 @@ fn step_after(
     step: Step,
     position: Position,
     least: &mut Least,
-) -> Result<Value, AllocError>
-    ensures { GivesValue (seen_in scope.now) result least.old least.new
+) -> Result<Box<Value>, AllocError>
+    ensures { GivesBoxed (seen_in scope.now) result least.old least.new
         (trees.step_after (expression_tree operand.now) step position) }
 {
     let Ok(variable) = variable(operand, alloc, scope, position, least) else {
         return Err(AllocError);
     };
-    Ok(Value::StepAfter(variable, step))
+    in_box(Value::StepAfter(variable, step), alloc)
 }
 
 #[cycle(expression)]
@@ -596,8 +631,8 @@ fn chain(
     scope: &Scope<'_>,
     operator: Binary,
     least: &mut Least,
-) -> Result<Value, AllocError>
-    ensures { GivesValue (seen_in scope.now) result least.old least.new
+) -> Result<Box<Value>, AllocError>
+    ensures { GivesBoxed (seen_in scope.now) result least.old least.new
         (chained
         (trees.binary operator (expression_tree first.now) (expression_tree second.now))
         (map link links.now)) }
@@ -611,7 +646,7 @@ fn chain(
     let Ok(links) = chain_links(links, alloc, scope, least) else {
         return Err(AllocError);
     };
-    Ok(Value::Chain(first, operator, second, links))
+    in_box(Value::Chain(first, operator, second, links), alloc)
 }
 
 #[cycle(expression)]
@@ -623,8 +658,8 @@ fn compare(
     scope: &Scope<'_>,
     comparison: Comparison,
     least: &mut Least,
-) -> Result<Value, AllocError>
-    ensures { GivesValue (seen_in scope.now) result least.old least.new
+) -> Result<Box<Value>, AllocError>
+    ensures { GivesBoxed (seen_in scope.now) result least.old least.new
         (trees.compare comparison (expression_tree left.now) (expression_tree right.now)) }
 {
     let Ok(left) = boxed(left, alloc, scope, least) else {
@@ -633,7 +668,7 @@ fn compare(
     let Ok(right) = boxed(right, alloc, scope, least) else {
         return Err(AllocError);
     };
-    Ok(Value::Compare(left, comparison, right))
+    in_box(Value::Compare(left, comparison, right), alloc)
 }
 
 #[cycle(expression)]
@@ -646,8 +681,8 @@ fn equal(
     scope: &Scope<'_>,
     equality: Equality,
     least: &mut Least,
-) -> Result<Value, AllocError>
-    ensures { GivesValue (seen_in scope.now) result least.old least.new
+) -> Result<Box<Value>, AllocError>
+    ensures { GivesBoxed (seen_in scope.now) result least.old least.new
         (trees.equal equality (expression_tree left.now)
         (trees.more (expression_tree right.now) (trees_of (map expression_tree others.now)))) }
 {
@@ -660,7 +695,7 @@ fn equal(
     let Ok(others) = all_expressions(others, alloc, scope, least) else {
         return Err(AllocError);
     };
-    Ok(Value::Equal(left, equality, right, others))
+    in_box(Value::Equal(left, equality, right, others), alloc)
 }
 
 #[cycle(expression)]
@@ -672,8 +707,8 @@ fn contained(
     scope: &Scope<'_>,
     containment: Containment,
     least: &mut Least,
-) -> Result<Value, AllocError>
-    ensures { GivesValue (seen_in scope.now) result least.old least.new
+) -> Result<Box<Value>, AllocError>
+    ensures { GivesBoxed (seen_in scope.now) result least.old least.new
         (trees.contained containment (expression_tree left.now) (expression_tree right.now)) }
 {
     let Ok(left) = boxed(left, alloc, scope, least) else {
@@ -682,7 +717,7 @@ fn contained(
     let Ok(right) = boxed(right, alloc, scope, least) else {
         return Err(AllocError);
     };
-    Ok(Value::Contained(left, containment, right))
+    in_box(Value::Contained(left, containment, right), alloc)
 }
 
 #[cycle(expression)]
@@ -694,15 +729,15 @@ fn tested(
     scope: &Scope<'_>,
     test: ObjectTest,
     least: &mut Least,
-) -> Result<Value, AllocError>
-    ensures { GivesValue (seen_in scope.now) result least.old least.new
+) -> Result<Box<Value>, AllocError>
+    ensures { GivesBoxed (seen_in scope.now) result least.old least.new
         (trees.tested test (expression_tree object.now) (name_tree name.now)) }
 {
     let Ok(object) = boxed(object, alloc, scope, least) else {
         return Err(AllocError);
     };
     let found = scope.look(name.text);
-    Ok(tested_value(*name, object, test, found, least))
+    in_box(tested_value(*name, object, test, found, least), alloc)
 }
 
 // A name as the left side of an assignment, whose operator stands at this position.
@@ -733,11 +768,9 @@ fn left_side(
     match name_of(e) {
         Some(name) => Ok(left_name(name, scope, operator, least)),
         None => {
-            let Ok(left) = expression(e, alloc, scope, least) else {
-                return Err(AllocError);
-            };
+            let left = boxed(e, alloc, scope, least)?;
             not_place(is_place(e), operator, least);
-            Ok(left)
+            Ok(Box::into_inner(left))
         }
     }
 }
@@ -763,4 +796,24 @@ fn assign(
         return Err(AllocError);
     };
     assignment(left, right, alloc)
+}
+
+// The same, in a box.
+#[cycle(expression)]
+#[inline(never)]
+fn boxed_assignment(
+    left: &Expression<'_>,
+    right: &Expression<'_>,
+    alloc: Global,
+    scope: &Scope<'_>,
+    position: Position,
+    least: &mut Least,
+) -> Result<Box<Value>, AllocError>
+    ensures { GivesBoxed (seen_in scope.now) result least.old least.new
+        (trees.assign (expression_tree left.now) position (expression_tree right.now)) }
+{
+    let Ok(value) = assign(left, right, alloc, scope, position, least) else {
+        return Err(AllocError);
+    };
+    in_box(value, alloc)
 }

@@ -12,7 +12,7 @@ use Rattle.checker_names.specs.declared.binding.Binding.{Binding}
 use Rattle.checker_names.specs.Names.{name_of}
 use Rattle.checker_names.specs.Breaches.{at}
 use Rattle.checker_names.specs.Scope.{look_in, seen_in}
-use Rattle.checker_names.proofs.Noted.{noted_none, noted_two}
+use Rattle.checker_names.proofs.Noted.{noted_two}
 use Rattle.checker_names.proofs.Each.{each_next, each_end, value_next, value_end}
 use Rattle.checker_values.specs.Expressions.{breaches, tested_breaches}
 use Rattle.checker_values.specs.Expressions.{tested_for, assigned}
@@ -24,7 +24,7 @@ use Rattle.checker_values.proofs.Shapes.{is_equal, is_contained, is_tested, is_a
 use Rattle.checker_values.proofs.Walks.{leaf, named_part, one, two, three, made_call, made_prefixed}
 use Rattle.checker_values.proofs.Walks.{made_step_before, made_step_after, made_chain, made_compare, made_equal}
 use Rattle.checker_values.proofs.Walks.{made_entry, made_relative, made_contained, made_property, made_property_size}
-use Rattle.checker_values.proofs.Walks.{made_property_word, made_number, made_walked, kept_walked}
+use Rattle.checker_values.proofs.Walks.{made_property_word, made_walked, boxed_walked, kept_walked}
 use Rattle.checker_values.proofs.Forms.{all_walked, chain_walked, properties_walked, call_walked, index_walked}
 use Rattle.checker_values.proofs.Forms.{name_assigned, part_assigned}
 use Rattle.checker_values.proofs.expression_rules.+expression.Goals as goal
@@ -35,7 +35,7 @@ all_expressions-loop-e-preserved t c =
     let g = λ (x : Expression). resolved (seen_in c.args.scope.now) x in
     record {
       value = rw c.in_ok-add.ensures
-          (value_next f g value_of c.loop-e.found.items c.in-Ok.resolved c.args.given.now c.loop-e.e-index
+          (value_next f g value_of c.loop-e.found.items c.in-Ok.resolved.value c.args.given.now c.loop-e.e-index
           c.e-item.result c.loop-e-test.true c.e-item.is c.loop-e.invariant.value c.in-Ok.ensures.value);
       least = rw c.in-Ok.ensures.breaches
           (sym (each_next f g value_of c.loop-e.least c.args.given.now c.loop-e.e-index c.e-item.result
@@ -58,7 +58,7 @@ chain_links-loop-link-preserved t c =
     let g = λ (x : Binary × Expression). resolved_link (seen_in c.args.scope.now) x in
     record {
       value = rw c.in_ok-add_link.ensures
-          (value_next f g value_link c.loop-link.found.items (c.link-item.result.0, c.in-Ok.operand) c.args.links.now
+          (value_next f g value_link c.loop-link.found.items (c.link-item.result.0, c.in-Ok.operand.value) c.args.links.now
           c.loop-link.link-index c.link-item.result c.loop-link-test.true c.link-item.is c.loop-link.invariant.value
           (ap (λ (v : Value). (c.link-item.result.0, v)) c.in-Ok.ensures.value));
       least = rw c.in-Ok.ensures.breaches
@@ -78,28 +78,13 @@ chain_links-returns t c =
           ∙ c.loop-link.invariant.least;
     }
 
-pub expression-returns-in-Constant : goal.expression-returns-in-Constant
-expression-returns-in-Constant t c =
-    rw (is_constant c.args.e.now c.in-Constant.number c.in-Constant.is, made_number c.in-Constant.number)
-    (leaf c.args.least.now (values.number c.in-Constant.number))
+pub boxed-returns-in-Constant : goal.boxed-returns-in-Constant
+boxed-returns-in-Constant t c =
+    rw (is_constant c.args.e.now c.in-Constant.number c.in-Constant.is)
+    (boxed_walked c.constant.result c.constant.ensures (leaf c.args.least.now (values.number c.in-Constant.number)))
 
-pub expression-returns-in-Word : goal.expression-returns-in-Word
-expression-returns-in-Word t c =
-    rw (is_word c.args.e.now _ c.in-Word.is)
-    (record { value = c.word.ensures; breaches = sym (noted_none c.args.least.now) })
-
-pub expression-returns-in-Named : goal.expression-returns-in-Named
-expression-returns-in-Named t c = rw (is_named c.args.e.now _ c.in-Named.is) c.named_value.ensures
-
-pub expression-returns-in-Assign : goal.expression-returns-in-Assign
-expression-returns-in-Assign t c =
-    rw (is_assign _ _ _ _ c.in-Assign.is, ← c.deref-in-Assign.ensures, ← c.deref-in-Assign-2.ensures) c.assign.ensures
-
-pub boxed-returns : goal.boxed-returns
-boxed-returns t c = kept_walked c.in_box.result _ c.in_box.ensures c.in-Ok.ensures
-
-pub expression-returns-in-Chain : goal.expression-returns-in-Chain
-expression-returns-in-Chain t c =
+pub boxed-returns-in-Chain : goal.boxed-returns-in-Chain
+boxed-returns-in-Chain t c =
     rw (
       is_chain _ _ _ _ _ c.in-Chain.is,
       ← c.deref-in-Chain.ensures.value,
@@ -107,61 +92,69 @@ expression-returns-in-Chain t c =
       ← c.deref-in-Chain-3.ensures,
     ) c.chain.ensures
 
-pub expression-returns-in-Call : goal.expression-returns-in-Call
-expression-returns-in-Call t c = rw (is_call _ _ _ c.in-Call.is, ← c.deref.ensures.value) c.call.ensures
+pub boxed-returns-in-Named : goal.boxed-returns-in-Named
+boxed-returns-in-Named t c = rw (is_named c.args.e.now _ c.in-Named.is) c.boxed_name.ensures
 
-pub expression-returns-in-Parenthesised : goal.expression-returns-in-Parenthesised
-expression-returns-in-Parenthesised t c =
-    rw (is_parenthesised _ _ c.in-Parenthesised.is, ← c.deref-in-Parenthesised.ensures) c.expression.ensures
+pub boxed-returns-in-Word : goal.boxed-returns-in-Word
+boxed-returns-in-Word t c =
+    rw (is_word c.args.e.now _ c.in-Word.is)
+    (boxed_walked c.word.result c.word.ensures (leaf c.args.least.now _))
 
-pub expression-returns-in-RelativeOf : goal.expression-returns-in-RelativeOf
-expression-returns-in-RelativeOf t c =
+pub boxed-returns-in-Call : goal.boxed-returns-in-Call
+boxed-returns-in-Call t c = rw (is_call _ _ _ c.in-Call.is, ← c.deref.ensures.value) c.call.ensures
+
+pub boxed-returns-in-Parenthesised : goal.boxed-returns-in-Parenthesised
+boxed-returns-in-Parenthesised t c =
+    rw (is_parenthesised _ _ c.in-Parenthesised.is, ← c.deref-in-Parenthesised.ensures) c.boxed.ensures
+
+pub boxed-returns-in-RelativeOf : goal.boxed-returns-in-RelativeOf
+boxed-returns-in-RelativeOf t c =
     rw (is_relative_of _ _ _ c.in-RelativeOf.is, ← c.deref-in-RelativeOf.ensures) c.relative_of.ensures
 
-pub expression-returns-in-Property : goal.expression-returns-in-Property
-expression-returns-in-Property t c =
+pub boxed-returns-in-Property : goal.boxed-returns-in-Property
+boxed-returns-in-Property t c =
     rw (is_property _ _ _ _ c.in-Property.is, ← c.deref-in-Property.ensures, ← c.deref-in-Property-2.ensures.value)
     c.properties.ensures
 
-pub expression-returns-in-PropertyLength : goal.expression-returns-in-PropertyLength
-expression-returns-in-PropertyLength t c =
+pub boxed-returns-in-PropertyLength : goal.boxed-returns-in-PropertyLength
+boxed-returns-in-PropertyLength t c =
     rw (is_property_length _ _ _ c.in-PropertyLength.is, ← c.deref-in-PropertyLength.ensures) c.length_of.ensures
 
-pub expression-returns-in-PropertyEntry : goal.expression-returns-in-PropertyEntry
-expression-returns-in-PropertyEntry t c =
+pub boxed-returns-in-PropertyEntry : goal.boxed-returns-in-PropertyEntry
+boxed-returns-in-PropertyEntry t c =
     rw (
       is_property_entry _ _ _ _ c.in-PropertyEntry.is,
       ← c.deref-in-PropertyEntry.ensures,
       ← c.deref-in-PropertyEntry-2.ensures,
     ) c.property_entry.ensures
 
-pub expression-returns-in-Contained : goal.expression-returns-in-Contained
-expression-returns-in-Contained t c =
+pub boxed-returns-in-Contained : goal.boxed-returns-in-Contained
+boxed-returns-in-Contained t c =
     rw (is_contained _ _ _ _ c.in-Contained.is, ← c.deref-in-Contained.ensures, ← c.deref-in-Contained-2.ensures)
     c.contained.ensures
 
-pub expression-returns-in-Tested : goal.expression-returns-in-Tested
-expression-returns-in-Tested t c = rw (is_tested _ _ _ _ c.in-Tested.is, ← c.deref-in-Tested.ensures) c.tested.ensures
+pub boxed-returns-in-Tested : goal.boxed-returns-in-Tested
+boxed-returns-in-Tested t c = rw (is_tested _ _ _ _ c.in-Tested.is, ← c.deref-in-Tested.ensures) c.tested.ensures
 
-pub expression-returns-in-Prefixed : goal.expression-returns-in-Prefixed
-expression-returns-in-Prefixed t c =
+pub boxed-returns-in-Prefixed : goal.boxed-returns-in-Prefixed
+boxed-returns-in-Prefixed t c =
     rw (is_prefixed _ _ _ c.in-Prefixed.is, ← c.deref-in-Prefixed.ensures) c.prefixed.ensures
 
-pub expression-returns-in-StepBefore : goal.expression-returns-in-StepBefore
-expression-returns-in-StepBefore t c =
+pub boxed-returns-in-StepBefore : goal.boxed-returns-in-StepBefore
+boxed-returns-in-StepBefore t c =
     rw (is_step_before _ _ _ _ c.in-StepBefore.is, ← c.deref-in-StepBefore.ensures) c.step_before.ensures
 
-pub expression-returns-in-StepAfter : goal.expression-returns-in-StepAfter
-expression-returns-in-StepAfter t c =
+pub boxed-returns-in-StepAfter : goal.boxed-returns-in-StepAfter
+boxed-returns-in-StepAfter t c =
     rw (is_step_after _ _ _ _ c.in-StepAfter.is, ← c.deref-in-StepAfter.ensures) c.step_after.ensures
 
-pub expression-returns-in-Compare : goal.expression-returns-in-Compare
-expression-returns-in-Compare t c =
+pub boxed-returns-in-Compare : goal.boxed-returns-in-Compare
+boxed-returns-in-Compare t c =
     rw (is_compare _ _ _ _ c.in-Compare.is, ← c.deref-in-Compare.ensures, ← c.deref-in-Compare-2.ensures)
     c.compare.ensures
 
-pub expression-returns-in-Equal : goal.expression-returns-in-Equal
-expression-returns-in-Equal t c =
+pub boxed-returns-in-Equal : goal.boxed-returns-in-Equal
+boxed-returns-in-Equal t c =
     rw (
       is_equal _ _ _ _ _ c.in-Equal.is,
       ← c.deref-in-Equal.ensures.value,
@@ -169,56 +162,60 @@ expression-returns-in-Equal t c =
       ← c.deref-in-Equal-3.ensures,
     ) c.equal.ensures
 
+pub boxed-returns-in-Assign : goal.boxed-returns-in-Assign
+boxed-returns-in-Assign t c =
+    rw (is_assign _ _ _ _ c.in-Assign.is, ← c.deref-in-Assign.ensures, ← c.deref-in-Assign-2.ensures) c.boxed_assignment.ensures
+
 pub relative_of-returns : goal.relative_of-returns
-relative_of-returns t c =
-    rw (made_relative c.args.relative c.in-Ok.object)
-    (one (values.relative c.args.relative) c.in-Ok.ensures)
+relative_of-returns t c = kept_walked c.in_box.result _ c.in_box.ensures
+    (rw (made_relative c.args.relative c.in-Ok.object)
+    (one (values.relative c.args.relative) c.in-Ok.ensures))
 
 pub properties-returns : goal.properties-returns
-properties-returns t c =
-    rw (made_property c.in-Ok.object c.property_of-number.result c.in-Ok-property_numbers.others)
+properties-returns t c = kept_walked c.in_box.result _ c.in_box.ensures
+    (rw (made_property c.in-Ok.object c.property_of-number.result c.in-Ok-property_numbers.others)
     (properties_walked (seen_in c.args.scope.now)
     (trees.property (expression_tree c.args.object.now) (name_tree c.args.name.now)) c.args.others.now
     (values.property (value_of c.in-Ok.object.value) c.property_of-number.result)
     c.in-Ok-property_numbers.others.items
-    (two values.property c.in-Ok.ensures c.property_of-number.ensures) c.in-Ok-property_numbers.ensures)
+    (two values.property c.in-Ok.ensures c.property_of-number.ensures) c.in-Ok-property_numbers.ensures))
 
 pub length_of-returns : goal.length_of-returns
-length_of-returns t c =
-    rw (made_property_size c.in-Ok.object c.property_of-number.result)
-    (two values.property_size c.in-Ok.ensures c.property_of-number.ensures)
+length_of-returns t c = kept_walked c.in_box.result _ c.in_box.ensures
+    (rw (made_property_size c.in-Ok.object c.property_of-number.result)
+    (two values.property_size c.in-Ok.ensures c.property_of-number.ensures))
 
 pub property_entry-returns : goal.property_entry-returns
-property_entry-returns t c =
-    rw (made_property_word c.in-Ok.object c.property_of-number.result c.in-Ok-boxed.index)
-    (three values.property_word c.in-Ok.ensures c.property_of-number.ensures c.in-Ok-boxed.ensures)
+property_entry-returns t c = kept_walked c.in_box.result _ c.in_box.ensures
+    (rw (made_property_word c.in-Ok.object c.property_of-number.result c.in-Ok-boxed.index)
+    (three values.property_word c.in-Ok.ensures c.property_of-number.ensures c.in-Ok-boxed.ensures))
 
 pub contained-returns : goal.contained-returns
-contained-returns t c =
-    rw (made_contained c.in-Ok.left c.args.containment c.in-Ok-boxed.right)
-    (two (values.contained c.args.containment) c.in-Ok.ensures c.in-Ok-boxed.ensures)
+contained-returns t c = kept_walked c.in_box.result _ c.in_box.ensures
+    (rw (made_contained c.in-Ok.left c.args.containment c.in-Ok-boxed.right)
+    (two (values.contained c.args.containment) c.in-Ok.ensures c.in-Ok-boxed.ensures))
 
 pub tested-returns : goal.tested-returns
-tested-returns t c =
-    rw c.tested_value.ensures.value
+tested-returns t c = kept_walked c.in_box.result _ c.in_box.ensures
+    (rw c.tested_value.ensures.value
     (two (tested_for c.args.test) c.in-Ok.ensures
     (named_part (λ (found : Option Binding). found) (tested_breaches c.args.test c.args.name.now.position)
-    c.look-found.result _ c.look-found.result c.look-found.ensures refl c.tested_value.ensures.breaches))
+    c.look-found.result _ c.look-found.result c.look-found.ensures refl c.tested_value.ensures.breaches)))
 
 pub prefixed-returns : goal.prefixed-returns
-prefixed-returns t c =
-    rw (made_prefixed c.args.prefix c.in-Ok.operand)
-    (one (values.prefixed c.args.prefix) c.in-Ok.ensures)
+prefixed-returns t c = kept_walked c.in_box.result _ c.in_box.ensures
+    (rw (made_prefixed c.args.prefix c.in-Ok.operand)
+    (one (values.prefixed c.args.prefix) c.in-Ok.ensures))
 
 pub step_before-returns : goal.step_before-returns
-step_before-returns t c =
-    rw (made_step_before c.args.step c.in-Ok.variable)
-    (one (values.step_before c.args.step) c.in-Ok.ensures)
+step_before-returns t c = kept_walked c.in_box.result _ c.in_box.ensures
+    (rw (made_step_before c.args.step c.in-Ok.variable)
+    (one (values.step_before c.args.step) c.in-Ok.ensures))
 
 pub step_after-returns : goal.step_after-returns
-step_after-returns t c =
-    rw (made_step_after c.in-Ok.variable c.args.step)
-    (one (λ x. values.step_after x c.args.step) c.in-Ok.ensures)
+step_after-returns t c = kept_walked c.in_box.result _ c.in_box.ensures
+    (rw (made_step_after c.in-Ok.variable c.args.step)
+    (one (λ x. values.step_after x c.args.step) c.in-Ok.ensures))
 
 pub variable-returns-in_ok-boxed-in-None : goal.variable-returns-in_ok-boxed-in-None
 variable-returns-in_ok-boxed-in-None t c =
@@ -232,44 +229,44 @@ variable-returns-in_ok-boxed-in-None t c =
     })
 
 pub call-returns : goal.call-returns
-call-returns t c =
-    rw (made_call c.routine_of-number.result c.in-Ok.given)
+call-returns t c = kept_walked c.in_box.result _ c.in_box.ensures
+    (rw (made_call c.routine_of-number.result c.in-Ok.given)
     (call_walked (seen_in c.args.scope.now) (name_tree c.args.name.now) c.routine_of-number.result
     (length c.args.given.now) _ c.args.given.now (map value_of c.in-Ok.given.items)
-    refl refl c.routine_of-number.ensures.value c.routine_of-number.ensures.breaches c.in-Ok.ensures)
+    refl refl c.routine_of-number.ensures.value c.routine_of-number.ensures.breaches c.in-Ok.ensures))
 
 pub chain-returns : goal.chain-returns
-chain-returns t c =
-    rw (made_chain c.in-Ok.first c.args.operator c.in-Ok-boxed.second c.in-Ok-chain_links.links)
+chain-returns t c = kept_walked c.in_box.result _ c.in_box.ensures
+    (rw (made_chain c.in-Ok.first c.args.operator c.in-Ok-boxed.second c.in-Ok-chain_links.links)
     (chain_walked (seen_in c.args.scope.now)
     (trees.binary c.args.operator (expression_tree c.args.first.now) (expression_tree c.args.second.now))
     c.args.links.now
     (values.binary c.args.operator (value_of c.in-Ok.first.value) (value_of c.in-Ok-boxed.second.value))
     (map value_link c.in-Ok-chain_links.links.items)
-    (two (values.binary c.args.operator) c.in-Ok.ensures c.in-Ok-boxed.ensures) c.in-Ok-chain_links.ensures)
+    (two (values.binary c.args.operator) c.in-Ok.ensures c.in-Ok-boxed.ensures) c.in-Ok-chain_links.ensures))
 
 pub compare-returns : goal.compare-returns
-compare-returns t c =
-    rw (made_compare c.in-Ok.left c.args.comparison c.in-Ok-boxed.right)
-    (two (values.compare c.args.comparison) c.in-Ok.ensures c.in-Ok-boxed.ensures)
+compare-returns t c = kept_walked c.in_box.result _ c.in_box.ensures
+    (rw (made_compare c.in-Ok.left c.args.comparison c.in-Ok-boxed.right)
+    (two (values.compare c.args.comparison) c.in-Ok.ensures c.in-Ok-boxed.ensures))
 
 pub equal-returns : goal.equal-returns
-equal-returns t c =
-    rw (made_equal c.in-Ok.left c.args.equality c.in-Ok-boxed.right c.in-Ok-all_expressions.others)
+equal-returns t c = kept_walked c.in_box.result _ c.in_box.ensures
+    (rw (made_equal c.in-Ok.left c.args.equality c.in-Ok-boxed.right c.in-Ok-all_expressions.others)
     (two (values.equal c.args.equality) c.in-Ok.ensures
     (two values.more c.in-Ok-boxed.ensures
     (all_walked (seen_in c.args.scope.now) c.args.others.now (map value_of c.in-Ok-all_expressions.others.items)
-    c.in-Ok-all_expressions.ensures)))
+    c.in-Ok-all_expressions.ensures))))
 
-pub expression-returns-in-Index : goal.expression-returns-in-Index
-expression-returns-in-Index t c = rw (is_index _ _ _ _ c.in-Index.is, ← c.deref-in-Index.ensures) c.index.ensures
+pub boxed-returns-in-Index : goal.boxed-returns-in-Index
+boxed-returns-in-Index t c = rw (is_index _ _ _ _ c.in-Index.is, ← c.deref-in-Index.ensures) c.index.ensures
 
 pub index-returns : goal.index-returns
-index-returns t c =
-    rw (made_entry c.args.width c.array_of-number.result c.in-Ok.operand)
+index-returns t c = kept_walked c.in_box.result _ c.in_box.ensures
+    (rw (made_entry c.args.width c.array_of-number.result c.in-Ok.operand)
     (index_walked (seen_in c.args.scope.now) (name_tree c.args.name.now) c.args.width c.array_of-number.result _
     (expression_tree c.args.operand.now) (value_of c.in-Ok.operand.value)
-    refl c.array_of-number.ensures.value c.array_of-number.ensures.breaches c.in-Ok.ensures)
+    refl c.array_of-number.ensures.value c.array_of-number.ensures.breaches c.in-Ok.ensures))
 
 pub left_side-returns-in-Some : goal.left_side-returns-in-Some
 left_side-returns-in-Some t c =
@@ -279,13 +276,17 @@ left_side-returns-in-Some t c =
     (name_tree c.in-Some.name) _ (value_of c.left_name.result) is refl c.left_name.ensures.value
     c.left_name.ensures.breaches
 
-pub left_side-returns-in-Ok : goal.left_side-returns-in-Ok
-left_side-returns-in-Ok t c =
+pub left_side-returns-in_ok-left-in-None : goal.left_side-returns-in_ok-left-in-None
+left_side-returns-in_ok-left-in-None t c =
     let is : name_of (expression_tree c.args.e.now) ≡ None = sym c.name_of.ensures
     ∙ ap (option_map name_tree) c.in-None.is in
-    part_assigned (seen_in c.args.scope.now) c.args.operator (expression_tree c.args.e.now) c.is_place.result
-    (value_of c.in-Ok.left) is c.is_place.ensures c.in-Ok.ensures c.not_place.ensures
+    rw c.into_inner.ensures
+    (part_assigned (seen_in c.args.scope.now) c.args.operator (expression_tree c.args.e.now) c.is_place.result
+    (value_of c.in_ok-left-in-None.left.value) is c.is_place.ensures c.in_ok-left-in-None.ensures c.not_place.ensures)
 
 pub assign-returns : goal.assign-returns
 assign-returns t c = made_walked c.assignment.result c.assignment.ensures
     (two assigned c.in-Ok.ensures c.in-Ok-boxed.ensures)
+
+pub boxed_assignment-returns : goal.boxed_assignment-returns
+boxed_assignment-returns t c = kept_walked c.in_box.result _ c.in_box.ensures c.in-Ok.ensures

@@ -8,11 +8,11 @@ use Rattle.checker_names.specs.Scope.{seen_in}
 use Rattle.checker_values.specs.Walk.{own_breaches, resolved, link_breaches, resolved_link, value_link}
 use Rattle.checker_values.proofs.expression_rules.+expression.Given as goal
 
-abbrev pub decreases-expression : goal.decreases-expression
-decreases-expression l = 4 * goal.size-expression l
-
 abbrev pub decreases-boxed : goal.decreases-boxed
-decreases-boxed l = 4 * goal.size-boxed l + 1
+decreases-boxed l = 4 * goal.size-boxed l
+
+abbrev pub decreases-boxed_assignment : goal.decreases-boxed_assignment
+decreases-boxed_assignment l = 4 * max (size-Expression l.left.now) (size-Expression l.right.now) + 3
 
 abbrev pub decreases-all_expressions : goal.decreases-all_expressions
 decreases-all_expressions l = 4 * goal.size-all_expressions l + 2
@@ -21,7 +21,7 @@ abbrev pub decreases-chain_links : goal.decreases-chain_links
 decreases-chain_links l = 4 * goal.size-chain_links l + 2
 
 abbrev pub decreases-variable : goal.decreases-variable
-decreases-variable l = 4 * goal.size-variable l + 2
+decreases-variable l = 4 * goal.size-variable l + 1
 
 abbrev pub decreases-left_side : goal.decreases-left_side
 decreases-left_side l = 4 * goal.size-left_side l + 1
@@ -54,10 +54,10 @@ abbrev pub decreases-prefixed : goal.decreases-prefixed
 decreases-prefixed l = 4 * goal.size-prefixed l + 2
 
 abbrev pub decreases-step_before : goal.decreases-step_before
-decreases-step_before l = 4 * goal.size-step_before l + 3
+decreases-step_before l = 4 * goal.size-step_before l + 2
 
 abbrev pub decreases-step_after : goal.decreases-step_after
-decreases-step_after l = 4 * goal.size-step_after l + 3
+decreases-step_after l = 4 * goal.size-step_after l + 2
 
 abbrev pub decreases-compare : goal.decreases-compare
 decreases-compare l = 4 * max (size-Expression l.left.now) (size-Expression l.right.now) + 2
