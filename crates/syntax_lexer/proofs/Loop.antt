@@ -1,11 +1,14 @@
 -- One turn of the loop over a source.
-use Rattle.std.proofs.Common.{◌≡◌, ℕ, ◌+◌, ◌<◌, ◌≤◌, true, List, [], ◌∷◌, ◌++◌, length, get_or, take, drop, Result}
-use Rattle.std.proofs.Common.{Ok, Err, refl, sym, ap, subst, ◌∙◌, arith, drop-cons, add-one, inr, map}
+use Rattle.std.proofs.Common.{◌≡◌, ℕ, ◌+◌, ◌<◌, ◌≤◌, ◌⊎◌, true, List, [], ◌∷◌, ◌++◌, length, get_or, take, drop, Result}
+use Rattle.std.proofs.Common.{Ok, Err, refl, sym, ap, subst, ◌∙◌, arith, drop-cons, add-one, inl, inr, map}
 use Rattle.std.specs.Global.{Vec}
 use Rattle.std.specs.Prelude.{IfOk}
 use Rattle.std.proofs.lemmas.List.{drop-drop, length-drop, nil_from_length}
 use Rattle.syntax_lexer.specs.declared.fault.LexicalFault.{LexicalFault}
 use Rattle.syntax_lexer.specs.declared.fault.SourceFault.{SourceFault}
+use Rattle.syntax_lexer.specs.declared.fault.PlacedFault.{PlacedFault}
+use Rattle.syntax_lexer.specs.FaultNumbers.{no_memory}
+use Rattle.syntax_lexer.specs.Placed.{nowhere}
 use Rattle.syntax_lexer.specs.declared.token.Kind.{Kind}
 use Rattle.syntax_lexer.specs.declared.token.Kind.TheVariants as kinds
 use Rattle.syntax_lexer.specs.declared.token.Position.{Position}
@@ -36,10 +39,13 @@ pub puts_err : (ts : List Token) (e : SourceFault) → puts ts (Err e) ≡ Err e
 puts_err [] e = refl
 puts_err (t ∷ ts) e = rw (puts_err ts e) refl
 
-pub meets_fault : (r : Result (Vec Token) SourceFault) (P : TokenOutcome → Type 0) (x e : SourceFault) → r ≡ Err x
-    → x ≡ e
-    → P (Err e) → Meets r P
-meets_fault r P x e er ex h = rw er (inr (subst (λ y. P (Err y)) (sym ex) h))
+pub meets_either : (r : Result (Vec Token) SourceFault) (P : TokenOutcome → Type 0) (x e : SourceFault) → r ≡ Err x
+    → x ≡ e → (e ≡ no_memory) ⊎ P (Err e) → Meets r P
+meets_either r P x e er ex h = rw er (subst (λ y. (y ≡ no_memory) ⊎ P (Err y)) (sym ex) h)
+
+pub either_whole : {A B : Type 0} (e : PlacedFault) → (e ≡ nowhere no_memory) ⊎ A → (A → B) → (e.fault ≡ no_memory) ⊎ B
+either_whole e (inl q) f = inl (ap (λ (x : PlacedFault). x.fault) q)
+either_whole e (inr a) f = inr (f a)
 
 here : (bs : List ℕ) (at : ℕ) → at < length bs → drop at bs ≡ get_or bs at 0 ∷ drop (at + 1) bs
 here bs at lt = rw (add-one at) (drop-cons bs at 0 lt)

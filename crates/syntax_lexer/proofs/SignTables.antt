@@ -1,10 +1,11 @@
 -- What holds of each sign.
-use Rattle.std.proofs.Common.{◌≡◌, ℕ, ◌<◌, cond, List, [], ◌∷◌, length, get_or, Option, Some, None, refl, sym, ◌⊎◌}
+use Rattle.std.proofs.Common.{◌≡◌, ℕ, ◌<◌, true, cond, List, [], ◌∷◌, length, get_or, Option, Some, None, refl, sym, ◌⊎◌}
 use Rattle.std.proofs.Common.{inl, inr, ap, ◌∙◌, arith}
 use Rattle.std.specs.Str.{bytes_eq}
 use Rattle.syntax_lexer.specs.declared.token.Sign.{Sign}
 use Rattle.syntax_lexer.specs.declared.token.Sign.TheVariants as s
 use Rattle.syntax_lexer.specs.Spelling.{sign_spelling}
+use Rattle.syntax_lexer.specs.Fronts.{begins_longer}
 
 abbrev find_sign : List Sign → List ℕ → Option Sign
 find_sign [] bs = None
@@ -216,3 +217,20 @@ sign_size s.LongArrow = omega arith
 sign_size s.Star = omega arith
 sign_size s.Slash = omega arith
 sign_size s.Percent = omega arith
+
+-- the first byte of a sign of several bytes
+pub longer_first : (x : Sign) → 1 < length (sign_spelling x) → begins_longer (get_or (sign_spelling x) 0 0) ≡ true
+longer_first s.DotAmpersand e = refl
+longer_first s.DotHash e = refl
+longer_first s.Equal e = refl
+longer_first s.NotEqual e = refl
+longer_first s.Not e = refl
+longer_first s.GreaterOrEqual e = refl
+longer_first s.LessOrEqual e = refl
+longer_first s.AndAlso e = refl
+longer_first s.OrElse e = refl
+longer_first s.Increment e = refl
+longer_first s.Decrement e = refl
+longer_first s.Arrow e = refl
+longer_first s.LongArrow e = refl
+longer_first x e = absurd (omega arith)

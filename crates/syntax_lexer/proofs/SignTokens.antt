@@ -1,5 +1,5 @@
 -- The longest sign at the front.
-use Rattle.std.proofs.Common.{◌≡◌, ℕ, zero, suc, ◌<◌, ◌≤◌, ◌⊎◌, false, eqb, ◌||◌, List, [], ◌∷◌, length, get_or, take}
+use Rattle.std.proofs.Common.{◌≡◌, ℕ, zero, suc, ◌<◌, ◌≤◌, ◌⊎◌, Bool, true, false, eqb, ◌||◌, List, [], ◌∷◌, length, get_or, take}
 use Rattle.std.proofs.Common.{Option, Some, None, Result, Ok, Err, refl, sym, ap, subst, ◌∙◌, arith, inl, inr}
 use Rattle.std.specs.Prelude.{IfOk, MatchOption}
 use Rattle.std.proofs.lemmas.Bool.Decides.{nat_tests}
@@ -14,8 +14,8 @@ use Rattle.syntax_lexer.specs.declared.token.Position.{Position}
 use Rattle.syntax_lexer.specs.Token.{Lexeme, sign, lexeme_of}
 use Rattle.syntax_lexer.specs.Spelling.{sign_spelling, Spells}
 use Rattle.syntax_lexer.specs.Tokens.{IsLongest, Breaks}
-use Rattle.syntax_lexer.specs.Fronts.{HasNoSign, IsLongestSign, Scanned}
-use Rattle.syntax_lexer.proofs.SignTables.{sign_facts, first_alone, first_alone_is}
+use Rattle.syntax_lexer.specs.Fronts.{begins_longer, HasNoSign, IsLone, IsLongestSign, Scanned}
+use Rattle.syntax_lexer.proofs.SignTables.{sign_facts, first_alone, first_alone_is, longer_first}
 use Rattle.syntax_lexer.proofs.Beginnings.{class_of, class_at, begins, takes, sign_class}
 use Rattle.syntax_lexer.proofs.Longest.{front_class}
 
@@ -166,6 +166,18 @@ module _ (bs : List ℕ) where
       → ((y : Sign) → sign_spelling y ≡ get_or bs 0 0 ∷ [] → ⊥) → HasNoSign bs
   none not_three not_two not_one other n t = elim (found bs other n t).sizes
       [ inl q ↦ not_one other q.1 | inr q ↦ elim q [ inl q ↦ not_two other q.1 | inr q ↦ not_three q.1 ] ]
+
+-- the first byte begins no longer sign
+
+clash : (t : Bool) → t ≡ true → t ≡ false → ⊥
+clash t p q = cc
+
+pub lone_found : (bs : List ℕ) (x : Sign) → IsLone (get_or bs 0 0) x → IsLongestSign x bs
+lone_found bs x lone = one bs x
+    (λ h. clash (begins_longer (get_or bs 0 0)) (ap (λ xs. begins_longer (get_or xs 0 0)) h) lone.1)
+    (λ y e. clash (begins_longer (get_or bs 0 0))
+    (ap (λ xs. begins_longer (get_or xs 0 0)) (sym e) ∙ longer_first y (omega (arith, ap length e))) lone.1)
+    lone.0
 
 -- the same, at three bytes that the code has read
 module _ (bs : List ℕ) (a b c : ℕ) (ea : a ≡ get_or bs 0 0) (eb : b ≡ get_or bs 1 0) (ec : c ≡ get_or bs 2 0) where

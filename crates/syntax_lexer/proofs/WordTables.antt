@@ -1,6 +1,8 @@
 -- What holds of each reserved word.
 use Rattle.std.proofs.Common.{◌≡◌, ℕ, ◌≤◌, Bool, true, false, cond, List, [], ◌∷◌, length, get_or, Option, Some, None}
 use Rattle.std.proofs.Common.{refl, sym, ap, ◌∙◌, arith}
+use Rattle.std.specs.Prelude.{if◌then◌else◌, ◌==◌}
+use Rattle.std.specs.List.{Contains}
 use Rattle.std.specs.Char.{to_ascii_lowercase}
 use Rattle.std.specs.Str.{str_to_ascii_lowercase, str_eq_ignore_ascii_case, bytes_eq}
 use Rattle.std.proofs.lemmas.Bool.Decides.{nat_tests}
@@ -122,6 +124,78 @@ word_facts w.While =
     record { small = refl; first = refl; each = refl; sizes = (omega arith, omega arith); back = refl }
 word_facts w.With =
     record { small = refl; first = refl; each = refl; sizes = (omega arith, omega arith); back = refl }
+
+-- the words that begin with a small letter
+abbrev pub words_with : ℕ → List Word
+words_with b =
+    if b == 97 then w.Abbreviate ∷ w.Array ∷ w.Attribute ∷ []
+    else (if b == 98 then w.Break ∷ []
+    else (if b == 99 then w.Char ∷ w.Child ∷ w.Constant ∷ w.Continue ∷ []
+    else (if b == 100 then w.Default ∷ w.Do ∷ []
+    else (if b == 101 then w.Else ∷ []
+    else (if b == 102 then w.False ∷ w.For ∷ []
+    else (if b == 103 then w.Give ∷ w.Global ∷ []
+    else (if b == 104 then w.Has ∷ w.Hasnt ∷ []
+    else (if b == 105 then w.If ∷ w.In ∷ []
+    else (if b == 109 then w.Move ∷ []
+    else (if b == 110 then w.NewLine ∷ w.Nothing ∷ w.Notin ∷ []
+    else (if b == 111 then w.Object ∷ w.Objectloop ∷ w.Or ∷ []
+    else (if b == 112 then w.Parent ∷ w.Print ∷ w.PrintRet ∷ w.Property ∷ w.Provides ∷ []
+    else (if b == 113 then w.Quit ∷ []
+    else (if b == 114 then w.Read ∷ w.Remove ∷ w.Return ∷ w.Rfalse ∷ w.Rtrue ∷ []
+    else (if b == 115 then w.Sibling ∷ w.String ∷ w.Switch ∷ []
+    else (if b == 116 then w.Table ∷ w.To ∷ w.True ∷ []
+    else (if b == 117 then w.Until ∷ []
+    else (if b == 119 then w.While ∷ w.With ∷ []
+    else []))))))))))))))))))
+
+pub begun : (x : Word) → Contains (words_with (get_or (word_spelling x) 0 0)) x
+begun w.Abbreviate = (0, omega arith, refl)
+begun w.Array = (1, omega arith, refl)
+begun w.Attribute = (2, omega arith, refl)
+begun w.Break = (0, omega arith, refl)
+begun w.Char = (0, omega arith, refl)
+begun w.Child = (1, omega arith, refl)
+begun w.Constant = (2, omega arith, refl)
+begun w.Continue = (3, omega arith, refl)
+begun w.Default = (0, omega arith, refl)
+begun w.Do = (1, omega arith, refl)
+begun w.Else = (0, omega arith, refl)
+begun w.False = (0, omega arith, refl)
+begun w.For = (1, omega arith, refl)
+begun w.Give = (0, omega arith, refl)
+begun w.Global = (1, omega arith, refl)
+begun w.Has = (0, omega arith, refl)
+begun w.Hasnt = (1, omega arith, refl)
+begun w.If = (0, omega arith, refl)
+begun w.In = (1, omega arith, refl)
+begun w.Move = (0, omega arith, refl)
+begun w.NewLine = (0, omega arith, refl)
+begun w.Nothing = (1, omega arith, refl)
+begun w.Notin = (2, omega arith, refl)
+begun w.Object = (0, omega arith, refl)
+begun w.Objectloop = (1, omega arith, refl)
+begun w.Or = (2, omega arith, refl)
+begun w.Parent = (0, omega arith, refl)
+begun w.Print = (1, omega arith, refl)
+begun w.PrintRet = (2, omega arith, refl)
+begun w.Property = (3, omega arith, refl)
+begun w.Provides = (4, omega arith, refl)
+begun w.Quit = (0, omega arith, refl)
+begun w.Read = (0, omega arith, refl)
+begun w.Remove = (1, omega arith, refl)
+begun w.Return = (2, omega arith, refl)
+begun w.Rfalse = (3, omega arith, refl)
+begun w.Rtrue = (4, omega arith, refl)
+begun w.Sibling = (0, omega arith, refl)
+begun w.String = (1, omega arith, refl)
+begun w.Switch = (2, omega arith, refl)
+begun w.Table = (0, omega arith, refl)
+begun w.To = (1, omega arith, refl)
+begun w.True = (2, omega arith, refl)
+begun w.Until = (0, omega arith, refl)
+begun w.While = (0, omega arith, refl)
+begun w.With = (1, omega arith, refl)
 
 abbrev some_word : Word → Option Word
 some_word x = Some x

@@ -1,6 +1,6 @@
 //! Names and reserved words.
 
-ghost use Rattle.std.specs.Prelude.{◌≡◌, ◌<◌, ◌≤◌, length, slice_index, true, false};
+ghost use Rattle.std.specs.Prelude.{◌≡◌, slice_index, true};
 ghost use Rattle.std.specs.List.{Contains, All};
 ghost use Rattle.std.specs.Str.{str_eq_ignore_ascii_case};
 ghost use Rattle.syntax_lexer.specs.Bytes as classes;
@@ -8,7 +8,7 @@ ghost use Rattle.syntax_lexer.specs.declared.token.Word.{Word};
 ghost use Rattle.syntax_lexer.specs.Spelling.{IsReserved, word_spelling};
 ghost use Rattle.syntax_lexer.specs.Fronts.{FindsOne, Scanned, is_statement_word};
 
-use crate::bytes::{Class, front, run_length};
+use crate::bytes::{Class, byte_at, front, run_length};
 use crate::fault::LexicalFault;
 use crate::token::{Kind, Word};
 
@@ -79,66 +79,42 @@ fn spelling(word: Word) -> &'static [u8]
     }
 }
 
-// Words of at most five bytes, by their length.
-fn short_words(size: usize) -> &'static [Word]
-    requires { size < 6 }
-    ensures { (w : Word) → length (word_spelling w) ≡ size → Contains result.now w }
+// The words that begin with a small letter.
+fn words_from(first: u8) -> &'static [Word]
+    ensures { (w : Word) → slice_index (word_spelling w) 0 ≡ first → Contains result.now w }
 {
-    match size {
-        2 => &[Word::Do, Word::If, Word::In, Word::Or, Word::To],
-        3 => &[Word::For, Word::Has],
-        4 => &[
-            Word::Char,
-            Word::Else,
-            Word::Give,
-            Word::Move,
-            Word::Quit,
-            Word::Read,
-            Word::True,
-            Word::With,
-        ],
-        5 => &[
-            Word::Array,
-            Word::Break,
-            Word::Child,
-            Word::False,
-            Word::Hasnt,
-            Word::Notin,
-            Word::Print,
-            Word::Rtrue,
-            Word::Table,
-            Word::Until,
-            Word::While,
-        ],
-        _ => &[],
-    }
-}
-
-fn words_of_length(size: usize) -> &'static [Word]
-    ensures { (w : Word) → length (word_spelling w) ≡ size → Contains result.now w }
-{
-    match size {
-        0..=5 => short_words(size),
-        6 => &[
-            Word::Global,
-            Word::Object,
+    match first {
+        b'a' => &[Word::Abbreviate, Word::Array, Word::Attribute],
+        b'b' => &[Word::Break],
+        b'c' => &[Word::Char, Word::Child, Word::Constant, Word::Continue],
+        b'd' => &[Word::Default, Word::Do],
+        b'e' => &[Word::Else],
+        b'f' => &[Word::False, Word::For],
+        b'g' => &[Word::Give, Word::Global],
+        b'h' => &[Word::Has, Word::Hasnt],
+        b'i' => &[Word::If, Word::In],
+        b'm' => &[Word::Move],
+        b'n' => &[Word::NewLine, Word::Nothing, Word::Notin],
+        b'o' => &[Word::Object, Word::Objectloop, Word::Or],
+        b'p' => &[
             Word::Parent,
-            Word::Remove,
-            Word::Return,
-            Word::Rfalse,
-            Word::String,
-            Word::Switch,
-        ],
-        7 => &[Word::Default, Word::Nothing, Word::Sibling],
-        8 => &[
-            Word::Constant,
-            Word::Continue,
-            Word::NewLine,
+            Word::Print,
+            Word::PrintRet,
             Word::Property,
             Word::Provides,
         ],
-        9 => &[Word::Attribute, Word::PrintRet],
-        10 => &[Word::Abbreviate, Word::Objectloop],
+        b'q' => &[Word::Quit],
+        b'r' => &[
+            Word::Read,
+            Word::Remove,
+            Word::Return,
+            Word::Rfalse,
+            Word::Rtrue,
+        ],
+        b's' => &[Word::Sibling, Word::String, Word::Switch],
+        b't' => &[Word::Table, Word::To, Word::True],
+        b'u' => &[Word::Until],
+        b'w' => &[Word::While, Word::With],
         _ => &[],
     }
 }
@@ -152,7 +128,8 @@ fn is_spelled(text: &[u8], word: Word) -> bool
 fn reserved_word(text: &[u8]) -> Option<Word>
     ensures { FindsOne (λ w. IsReserved w text.now) result }
 {
-    for word in words_of_length(text.len()) {
+    let first = byte_at(text, 0);
+    for word in words_from(first.to_ascii_lowercase()) {
         if is_spelled(text, *word) {
             return Some(*word);
         }

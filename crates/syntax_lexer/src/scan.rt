@@ -9,8 +9,32 @@ use crate::fault::LexicalFault;
 use crate::names::name_token;
 use crate::numbers::number_token;
 use crate::quoted::{quoted_token, text_token};
-use crate::signs::{sign_at, sign_length};
+use crate::signs::{lone_sign, sign_at, sign_length};
 use crate::token::Kind;
+
+// The token at the front, where no name stands either, and its length.
+fn other_token<'a>(bytes: &'a [u8]) -> Result<(Kind<'a>, usize), LexicalFault>
+    requires nonempty { 0 < length bytes.now }
+    requires no_divider { classes.is_divider (slice_index bytes.now 0) ≡ false }
+    requires no_comment { (slice_index bytes.now 0 == 33) ≡ false }
+    requires no_letter { classes.is_letter (slice_index bytes.now 0) ≡ false }
+    ensures scanned { Scanned bytes.now result }
+    ensures room { IfOk result (λ x. (0 < x.1) × (x.1 ≤ length bytes.now)) }
+{
+    let first = bytes[0];
+    if begins_number(first) {
+        number_token(bytes)
+    } else if first == b'"' {
+        text_token(bytes)
+    } else if first == b'\'' {
+        quoted_token(bytes)
+    } else {
+        match sign_at(bytes) {
+            Some(sign) => Ok((Kind::Sign(sign), sign_length(sign))),
+            None => Err(LexicalFault::StrayByte),
+        }
+    }
+}
 
 /// The token at the front, where no divider and no comment stands, and its length.
 ///
@@ -27,17 +51,10 @@ pub fn scan<'a>(bytes: &'a [u8]) -> Result<(Kind<'a>, usize), LexicalFault>
 {
     let first = bytes[0];
     if is_letter(first) {
-        name_token(bytes)
-    } else if begins_number(first) {
-        number_token(bytes)
-    } else if first == b'"' {
-        text_token(bytes)
-    } else if first == b'\'' {
-        quoted_token(bytes)
-    } else {
-        match sign_at(bytes) {
-            Some(sign) => Ok((Kind::Sign(sign), sign_length(sign))),
-            None => Err(LexicalFault::StrayByte),
-        }
+        return name_token(bytes);
+    }
+    match lone_sign(first) {
+        Some(sign) => Ok((Kind::Sign(sign), 1)),
+        None => other_token(bytes),
     }
 }

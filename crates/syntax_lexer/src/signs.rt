@@ -1,10 +1,10 @@
 //! Signs.
 
-ghost use Rattle.std.specs.Prelude.{◌≡◌, ◌<◌, ◌≤◌, ◌∷◌, [], length, take, slice_index, MatchOption};
+ghost use Rattle.std.specs.Prelude.{◌≡◌, ◌<◌, ◌≤◌, ◌∷◌, [], length, take, slice_index, IfSome, MatchOption};
 ghost use Rattle.std.specs.Bool.{Decides};
 ghost use Rattle.syntax_lexer.specs.declared.token.Sign.{Sign};
 ghost use Rattle.syntax_lexer.specs.Spelling.{sign_spelling};
-ghost use Rattle.syntax_lexer.specs.Fronts.{FindsOne, IsLongestSign, HasNoSign};
+ghost use Rattle.syntax_lexer.specs.Fronts.{FindsOne, IsLone, IsLongestSign, HasNoSign};
 
 use crate::bytes::byte_at;
 use crate::token::Sign;
@@ -58,6 +58,28 @@ fn sign_of_one(first: u8) -> Option<Sign>
         b'|' => Some(Sign::Bar),
         b'+' => Some(Sign::Plus),
         b'-' => Some(Sign::Minus),
+        b'*' => Some(Sign::Star),
+        b'/' => Some(Sign::Slash),
+        b'%' => Some(Sign::Percent),
+        _ => None,
+    }
+}
+
+/// The sign that a byte spells, if no longer one begins with it. Most signs are of this kind, and
+/// no more bytes are looked at for them.
+pub fn lone_sign(first: u8) -> Option<Sign>
+    ensures { IfSome result (λ s. IsLone first s) }
+{
+    match first {
+        b'(' => Some(Sign::OpenParenthesis),
+        b')' => Some(Sign::CloseParenthesis),
+        b'{' => Some(Sign::OpenBrace),
+        b'}' => Some(Sign::CloseBrace),
+        b'[' => Some(Sign::OpenBracket),
+        b']' => Some(Sign::CloseBracket),
+        b';' => Some(Sign::Semicolon),
+        b',' => Some(Sign::Comma),
+        b':' => Some(Sign::Colon),
         b'*' => Some(Sign::Star),
         b'/' => Some(Sign::Slash),
         b'%' => Some(Sign::Percent),

@@ -1,13 +1,14 @@
 //! The whole source.
 
-ghost use Rattle.std.specs.Prelude.{◌≡◌, ◌≤◌, ◌+◌, ◌-◌, ◌<◌, ◌==◌, ◌⊎◌, length, slice_index, List, ℕ, Err, false};
+ghost use Rattle.std.specs.Prelude.{◌≡◌, ◌≤◌, ◌+◌, ◌-◌, ◌<◌, ◌==◌, ◌⊎◌, length, slice_index, List, [], ℕ, Err, false};
 ghost use Rattle.std.specs.Prelude.{IfOk, IfErr};
 ghost use Rattle.syntax_lexer.specs.FaultNumbers.{no_memory};
 ghost use Rattle.syntax_lexer.specs.Placed.{unplaced, nowhere, line_at, IsFaultIn};
 ghost use Rattle.syntax_lexer.specs.Bytes.{is_divider};
 ghost use Rattle.syntax_lexer.specs.Token.{Lexeme, lexemes};
-ghost use Rattle.syntax_lexer.specs.Tokens.{IsLongest, Lexes, LexesFrom, line_after, put, EndsOnce, TokenOutcome};
-ghost use Rattle.syntax_lexer.specs.Results.{source_token, Meets};
+ghost use Rattle.syntax_lexer.specs.Tokens.{IsLongest, Lexes, LexesFrom, line_after, EndsOnce, TokenOutcome};
+ghost use Rattle.syntax_lexer.specs.Results.{Meets};
+ghost use Rattle.syntax_lexer.specs.Fronts.{PutsToken};
 
 use crate::bytes::{Class, from, front, is_divider, run_length};
 use crate::fault::{PlacedFault, SourceFault};
@@ -23,29 +24,37 @@ fn next_line(line: usize, b: u8) -> usize
     if b == b'\n' { line + 1 } else { line }
 }
 
-// The token at a place where no divider and no comment stands.
-fn token_at<'a>(source: &'a [u8], position: Position) -> Result<Token<'a>, PlacedFault>
+// Puts the token at a place where no divider and no comment stands at the end of the row, where it
+// is made: it is too wide to be passed on. Returns the offset after it.
+fn put_token<'a>(
+    source: &'a [u8],
+    position: Position,
+    tokens: &mut Vec<Token<'a>>,
+) -> Result<usize, PlacedFault>
     requires within { position.offset < length source.now }
     requires no_divider { is_divider (slice_index source.now position.offset) ≡ false }
     requires no_comment { (slice_index source.now position.offset == 33) ≡ false }
     requires in_line { line_at source.now position.offset ≡ position.line }
-    ensures first { IfOk result (λ t. (o : TokenOutcome)
-        → LexesFrom t.end position.line source.now o
-        → LexesFrom position.offset position.line source.now (put (source_token t) o)) }
-    ensures moves { IfOk result (λ t. (position.offset < t.end) × (t.end ≤ length source.now)) }
-    ensures in_line { IfOk result (λ t. line_at source.now t.end ≡ position.line) }
-    ensures broken { IfErr result
-        (λ e. LexesFrom position.offset position.line source.now (Err e.fault)) }
-    ensures stands { IfErr result (λ e. IsFaultIn source.now e) }
+    ensures puts { IfOk result
+        (PutsToken source.now position tokens.old.items tokens.new.items) }
+    ensures moves { IfOk result (λ n. (position.offset < n) × (n ≤ length source.now)) }
+    ensures in_line { IfOk result (λ n. line_at source.now n ≡ position.line) }
+    ensures broken { IfErr result (λ e. (e ≡ nowhere no_memory)
+        ⊎ LexesFrom position.offset position.line source.now (Err e.fault)) }
+    ensures stands { IfErr result (λ e. (e ≡ nowhere no_memory) ⊎ IsFaultIn source.now e) }
 {
     let rest = from(source, position.offset);
     match scan(rest) {
-        Ok((kind, length)) => Ok(Token {
-            kind,
-            text: front(rest, length),
-            position,
-            end: position.offset + length,
-        }),
+        Ok((kind, length)) => {
+            let end = position.offset + length;
+            tokens.push(Token {
+                kind,
+                text: front(rest, length),
+                position,
+                end,
+            })?;
+            Ok(end)
+        }
         Err(fault) => Err(PlacedFault {
             fault: SourceFault {
                 number: fault.number(),
@@ -54,6 +63,22 @@ fn token_at<'a>(source: &'a [u8], position: Position) -> Result<Token<'a>, Place
             offset: Some(position.offset),
         }),
     }
+}
+
+// A token in so many bytes is what most sources have, or more of them.
+const BYTES_OF_A_TOKEN: usize = 4;
+
+// Room is asked for so many tokens at once, and not for more.
+const MOST_AT_ONCE: usize = 65_536;
+
+// No tokens yet, but room for those that so many bytes are likely to have, since a row that grows is
+// moved each time. If that room is refused, the row grows as its tokens come.
+fn no_tokens<'a>(alloc: Global, bytes: usize) -> Vec<Token<'a>>
+    ensures { result.items ≡ [] }
+{
+    let mut tokens = Vec::new(alloc);
+    let _room = tokens.reserve((bytes / BYTES_OF_A_TOKEN).min(MOST_AT_ONCE));
+    tokens
 }
 
 /// The tokens of a source, of which the last is its end.
@@ -84,7 +109,7 @@ pub fn lex_placed<'a>(alloc: Global, source: &'a [u8]) -> Result<Vec<Token<'a>>,
     ensures ends_once { IfOk result (λ v. EndsOnce (lexemes v.items)) }
     ensures stands { IfErr result (λ e. (e ≡ nowhere no_memory) ⊎ IsFaultIn source.now e) }
 {
-    let mut tokens = Vec::new(alloc);
+    let mut tokens = no_tokens(alloc, source.len());
     let mut offset = 0;
     let mut line = 1;
     while offset < source.len() {
@@ -95,9 +120,8 @@ pub fn lex_placed<'a>(alloc: Global, source: &'a [u8]) -> Result<Vec<Token<'a>>,
         } else if first == b'!' {
             offset += 1 + run_length(Class::Comment, from(source, offset + 1));
         } else {
-            let token = token_at(source, Position { offset, line })?;
-            tokens.push(token)?;
-            offset = token.end;
+            let next = put_token(source, Position { offset, line }, &mut tokens)?;
+            offset = next;
         }
     }
     tokens.push(Token {

@@ -1,4 +1,4 @@
-use Rattle.std.proofs.Common.{◌+◌, ◌∷◌, get_or, length, drop, [], Ok, Err, inr, sym, ap, subst, ◌∙◌, arith}
+use Rattle.std.proofs.Common.{◌≡◌, ◌+◌, ◌⊎◌, ◌∷◌, get_or, length, drop, [], Ok, Err, sym, ap, subst, ◌∙◌, arith}
 use Rattle.std.proofs.lemmas.List.{length-drop}
 use Rattle.std.proofs.lemmas.Result.{err_from_is_err_and}
 use Rattle.syntax_lexer.specs.Bytes.{run, is_comment_byte}
@@ -6,9 +6,10 @@ use Rattle.syntax_lexer.specs.Token.{end}
 use Rattle.syntax_lexer.specs.Tokens.{Lexes, put, EndsOnce, line_after}
 use Rattle.syntax_lexer.specs.Results.{source_token, source_tokens}
 use Rattle.syntax_lexer.specs.declared.fault.PlacedFault.{PlacedFault}
-use Rattle.syntax_lexer.specs.Placed.{unplaced, IsFaultIn}
-use Rattle.syntax_lexer.proofs.Loop.{puts, puts_push, puts_last, puts_err, meets_fault, at_divider, at_comment}
-use Rattle.syntax_lexer.proofs.Loop.{at_the_end, ends_once, lexemes_are}
+use Rattle.syntax_lexer.specs.FaultNumbers.{no_memory}
+use Rattle.syntax_lexer.specs.Placed.{unplaced, nowhere, IsFaultIn}
+use Rattle.syntax_lexer.proofs.Loop.{puts, puts_push, puts_last, puts_err, meets_either, at_divider}
+use Rattle.syntax_lexer.proofs.Loop.{either_whole, at_comment, at_the_end, ends_once, lexemes_are}
 use Rattle.syntax_lexer.proofs.Lines.{line_next, line_behind_comment}
 use Rattle.syntax_lexer.proofs.source.lex_placed.Goals as goal
 
@@ -45,36 +46,40 @@ loop-offset-preserved-then-first-eq33 c = record {
       (c.run_length.ensures.value ∙ ap (run is_comment_byte) c.from.ensures) h);
 }
 
-pub returns-in_err-token-clause-meets : goal.returns-in_err-token-clause-meets
-returns-in_err-token-clause-meets c =
+pub returns-in_err-next-clause-meets : goal.returns-in_err-next-clause-meets
+returns-in_err-next-clause-meets c =
     let p = err_from_is_err_and c.from_residual.result c.from_residual.ensures.1 in
-    let e = c.in_err-token.field-0.0 in
-    let whole = subst (Lexes 0 1 c.args.source.now) (puts_err c.loop-offset.tokens.items e.fault)
-    (c.loop-offset.invariant.rest (Err e.fault) c.in_err-token.ensures.broken) in
-    meets_fault (unplaced c.from_residual.result) (λ o. Lexes 0 1 c.args.source.now o) p.0.fault e.fault
-    (ap unplaced p.1) (ap (λ (x : PlacedFault). x.fault) p.2) whole
+    let e = c.in_err-next.field-0.0 in
+    meets_either (unplaced c.from_residual.result) (λ o. Lexes 0 1 c.args.source.now o) p.0.fault e.fault
+    (ap unplaced p.1) (ap (λ (x : PlacedFault). x.fault) p.2)
+    (either_whole e c.in_err-next.ensures.broken
+    (λ h. subst (Lexes 0 1 c.args.source.now) (puts_err c.loop-offset.tokens.items e.fault)
+    (c.loop-offset.invariant.rest (Err e.fault) h)))
 
-pub returns-in_err-token-clause-stands : goal.returns-in_err-token-clause-stands
-returns-in_err-token-clause-stands c =
+pub returns-in_err-next-clause-stands : goal.returns-in_err-next-clause-stands
+returns-in_err-next-clause-stands c =
     let p = err_from_is_err_and c.from_residual.result c.from_residual.ensures.1 in
-    rw p.1 (inr (subst (IsFaultIn c.args.source.now) (sym p.2) c.in_err-token.ensures.stands))
+    rw p.1
+    (subst (λ y. (y ≡ nowhere no_memory) ⊎ IsFaultIn c.args.source.now y) (sym p.2) c.in_err-next.ensures.stands)
 
 pub loop-offset-preserved : goal.loop-offset-preserved
-loop-offset-preserved c = record {
-  within = c.in_ok-token.ensures.moves.1;
-  lines = omega (arith, c.in_ok-token.ensures.moves);
-  in_line = c.in_ok-token.ensures.in_line;
-  rest = λ o h. subst (λ ts. Lexes 0 1 c.args.source.now (puts ts o)) (sym c.in_ok-push.ensures.items)
-      (subst (Lexes 0 1 c.args.source.now) (sym (puts_push c.loop-offset.tokens.items c.in_ok-token.token o))
-      (c.loop-offset.invariant.rest (put (source_token c.in_ok-token.token) o) (c.in_ok-token.ensures.first o h)));
-}
+loop-offset-preserved c =
+    let q = c.in_ok-next.ensures.puts in
+    record {
+      within = c.in_ok-next.ensures.moves.1;
+      lines = omega (arith, c.in_ok-next.ensures.moves);
+      in_line = c.in_ok-next.ensures.in_line;
+      rest = λ o h. subst (λ ts. Lexes 0 1 c.args.source.now (puts ts o)) (sym q.1)
+          (subst (Lexes 0 1 c.args.source.now) (sym (puts_push c.loop-offset.tokens.items q.0 o))
+          (c.loop-offset.invariant.rest (put (source_token q.0) o) (q.2 o h)));
+    }
 
 pub returns-clause-meets : goal.returns-clause-meets
 returns-clause-meets c =
     let bs = c.args.source.now in
     let at = c.loop-offset.offset in
     let line = c.loop-offset.line in
-    subst (λ ts. Lexes 0 1 bs (Ok (source_tokens ts))) (sym c.in_ok-push-2.ensures.items)
+    subst (λ ts. Lexes 0 1 bs (Ok (source_tokens ts))) (sym c.in_ok-push.ensures.items)
     (subst (Lexes 0 1 bs) (puts_last c.loop-offset.tokens.items _)
     (c.loop-offset.invariant.rest _
     (subst (λ xs. Lexes at line (drop at bs)
@@ -82,4 +87,4 @@ returns-clause-meets c =
     (sym c.from-2.ensures) (at_the_end bs at line c.loop-offset-test.false))))
 
 pub returns-clause-ends_once : goal.returns-clause-ends_once
-returns-clause-ends_once c = subst EndsOnce (lexemes_are c.push-2.new.self.items) (ends_once (returns-clause-meets c))
+returns-clause-ends_once c = subst EndsOnce (lexemes_are c.push.new.self.items) (ends_once (returns-clause-meets c))
