@@ -21,13 +21,8 @@ pub fn constant_name(position: Position, found: Option<Binding>, least: &mut Lea
     match found {
         None => note(least, UNKNOWN_NAME, position),
         Some(Binding::Constant(_)) => {}
-        Some(Binding::Global(_)) => note(least, WRONG_KIND, position),
-        Some(Binding::Array(_, _)) => note(least, WRONG_KIND, position),
-        Some(Binding::Routine(_, _)) => note(least, WRONG_KIND, position),
-        Some(Binding::Attribute(_)) => note(least, WRONG_KIND, position),
-        Some(Binding::Property(_)) => note(least, WRONG_KIND, position),
         Some(Binding::Object(_)) => {}
-        Some(Binding::Local(_)) => note(least, WRONG_KIND, position),
+        Some(_) => note(least, WRONG_KIND, position),
     }
 }
 
@@ -74,13 +69,8 @@ fn later_name(position: Position, anywhere: Option<Binding>, least: &mut Least)
     match anywhere {
         None => note(least, UNKNOWN_NAME, position),
         Some(Binding::Constant(_)) => note(least, UNKNOWN_NAME, position),
-        Some(Binding::Global(_)) => note(least, WRONG_KIND, position),
-        Some(Binding::Array(_, _)) => note(least, WRONG_KIND, position),
-        Some(Binding::Routine(_, _)) => note(least, WRONG_KIND, position),
-        Some(Binding::Attribute(_)) => note(least, WRONG_KIND, position),
-        Some(Binding::Property(_)) => note(least, WRONG_KIND, position),
         Some(Binding::Object(_)) => {}
-        Some(Binding::Local(_)) => note(least, WRONG_KIND, position),
+        Some(_) => note(least, WRONG_KIND, position),
     }
 }
 
@@ -95,15 +85,9 @@ fn earlier_name(
     ensures { least.new ≡ noted least.old (spec.earlier_breaches position before anywhere) }
 {
     match before {
-        None => later_name(position, anywhere, least),
         Some(Binding::Constant(_)) => {}
-        Some(Binding::Global(_)) => later_name(position, anywhere, least),
-        Some(Binding::Array(_, _)) => later_name(position, anywhere, least),
-        Some(Binding::Routine(_, _)) => later_name(position, anywhere, least),
-        Some(Binding::Attribute(_)) => later_name(position, anywhere, least),
-        Some(Binding::Property(_)) => later_name(position, anywhere, least),
         Some(Binding::Object(_)) => {}
-        Some(Binding::Local(_)) => later_name(position, anywhere, least),
+        _ => later_name(position, anywhere, least),
     }
 }
 

@@ -26,15 +26,11 @@ pub fn named(numbers: &Numbers, found: Option<Binding>) -> Value
     ensures { value_of result ≡ value_of_binding (number_at numbers.now) found }
 {
     match found {
-        None => Value::Number(0),
         Some(Binding::Constant(known)) => Value::Number(numbers.value(or_zero(known))),
         Some(Binding::Global(number)) => Value::Read(Variable::Global(number)),
-        Some(Binding::Array(_, _)) => Value::Number(0),
-        Some(Binding::Routine(_, _)) => Value::Number(0),
-        Some(Binding::Attribute(_)) => Value::Number(0),
-        Some(Binding::Property(_)) => Value::Number(0),
         Some(Binding::Object(number)) => Value::Number((number % 65_536) as u16),
         Some(Binding::Local(number)) => Value::Read(Variable::Local(number)),
+        _ => Value::Number(0),
     }
 }
 
@@ -46,12 +42,9 @@ fn value_rules(position: Position, found: Option<Binding>, least: &mut Least)
         None => note(least, UNKNOWN_NAME, position),
         Some(Binding::Constant(_)) => {}
         Some(Binding::Global(_)) => {}
-        Some(Binding::Array(_, _)) => note(least, WRONG_KIND, position),
-        Some(Binding::Routine(_, _)) => note(least, WRONG_KIND, position),
-        Some(Binding::Attribute(_)) => note(least, WRONG_KIND, position),
-        Some(Binding::Property(_)) => note(least, WRONG_KIND, position),
         Some(Binding::Object(_)) => {}
         Some(Binding::Local(_)) => {}
+        Some(_) => note(least, WRONG_KIND, position),
     }
 }
 
@@ -101,13 +94,7 @@ pub fn routine(name: Name<'_>, given: usize, found: Option<Binding>, least: &mut
             arguments(name.position, given, locals, least);
             number
         }
-        Some(Binding::Constant(_)) => wrong_kind(name.position, least),
-        Some(Binding::Global(_)) => wrong_kind(name.position, least),
-        Some(Binding::Array(_, _)) => wrong_kind(name.position, least),
-        Some(Binding::Attribute(_)) => wrong_kind(name.position, least),
-        Some(Binding::Property(_)) => wrong_kind(name.position, least),
-        Some(Binding::Object(_)) => wrong_kind(name.position, least),
-        Some(Binding::Local(_)) => wrong_kind(name.position, least),
+        Some(_) => wrong_kind(name.position, least),
     }
 }
 
@@ -123,13 +110,7 @@ pub fn array(name: Name<'_>, found: Option<Binding>, least: &mut Least) -> usize
             0
         }
         Some(Binding::Array(number, _)) => number,
-        Some(Binding::Constant(_)) => wrong_kind(name.position, least),
-        Some(Binding::Global(_)) => wrong_kind(name.position, least),
-        Some(Binding::Routine(_, _)) => wrong_kind(name.position, least),
-        Some(Binding::Attribute(_)) => wrong_kind(name.position, least),
-        Some(Binding::Property(_)) => wrong_kind(name.position, least),
-        Some(Binding::Object(_)) => wrong_kind(name.position, least),
-        Some(Binding::Local(_)) => wrong_kind(name.position, least),
+        Some(_) => wrong_kind(name.position, least),
     }
 }
 
@@ -155,14 +136,11 @@ pub fn target_of(
 {
     match found {
         None => note(least, UNKNOWN_NAME, name.position),
-        Some(Binding::Constant(_)) => note(least, NOT_ASSIGNABLE, operator),
-        Some(Binding::Array(_, _)) => no_target(name.position, operator, least),
-        Some(Binding::Routine(_, _)) => no_target(name.position, operator, least),
-        Some(Binding::Attribute(_)) => no_target(name.position, operator, least),
-        Some(Binding::Property(_)) => no_target(name.position, operator, least),
-        Some(Binding::Object(_)) => note(least, NOT_ASSIGNABLE, operator),
         Some(Binding::Global(number)) => return Variable::Global(number),
         Some(Binding::Local(number)) => return Variable::Local(number),
+        Some(Binding::Constant(_)) => note(least, NOT_ASSIGNABLE, operator),
+        Some(Binding::Object(_)) => note(least, NOT_ASSIGNABLE, operator),
+        Some(_) => no_target(name.position, operator, least),
     }
     Variable::Local(0)
 }
@@ -179,13 +157,7 @@ pub fn attribute(name: Name<'_>, found: Option<Binding>, least: &mut Least) -> u
             0
         }
         Some(Binding::Attribute(number)) => number,
-        Some(Binding::Constant(_)) => wrong_kind(name.position, least),
-        Some(Binding::Global(_)) => wrong_kind(name.position, least),
-        Some(Binding::Array(_, _)) => wrong_kind(name.position, least),
-        Some(Binding::Routine(_, _)) => wrong_kind(name.position, least),
-        Some(Binding::Property(_)) => wrong_kind(name.position, least),
-        Some(Binding::Object(_)) => wrong_kind(name.position, least),
-        Some(Binding::Local(_)) => wrong_kind(name.position, least),
+        Some(_) => wrong_kind(name.position, least),
     }
 }
 
@@ -201,12 +173,6 @@ pub fn property(name: Name<'_>, found: Option<Binding>, least: &mut Least) -> us
             0
         }
         Some(Binding::Property(number)) => number,
-        Some(Binding::Constant(_)) => wrong_kind(name.position, least),
-        Some(Binding::Global(_)) => wrong_kind(name.position, least),
-        Some(Binding::Array(_, _)) => wrong_kind(name.position, least),
-        Some(Binding::Routine(_, _)) => wrong_kind(name.position, least),
-        Some(Binding::Attribute(_)) => wrong_kind(name.position, least),
-        Some(Binding::Object(_)) => wrong_kind(name.position, least),
-        Some(Binding::Local(_)) => wrong_kind(name.position, least),
+        Some(_) => wrong_kind(name.position, least),
     }
 }
