@@ -80,6 +80,7 @@ pub mod ReturnSteps
 pub mod Resuming
 pub mod Returning
 pub mod Samples
+pub mod Copies
 pub mod Sim
 pub mod Shortened
 pub mod SingleSteps

@@ -51,7 +51,7 @@ split k (y ∷ ps) (suc n) x e =
           s.at j ∙ ap (slice_index (lefts k (y ∷ ps))) number;
     }
 
-falls : (k : ℕ) (ps : List Part) (m n : ℕ) → m ≤ n → slice_index (lefts k ps) n ≤ slice_index (lefts k ps) m
+pub falls : (k : ℕ) (ps : List Part) (m n : ℕ) → m ≤ n → slice_index (lefts k ps) n ≤ slice_index (lefts k ps) m
 falls k [] zero zero h = omega arith
 falls k [] zero (suc n) h = omega arith
 falls k [] (suc m) n h = omega (arith, empty m n h)
@@ -152,6 +152,15 @@ module _ (sizes : Sizes) where
           let same : t ≡ target = cc in
           branch_offset is rest n t at ∙ ap (λ (x : ℕ). offset_over (x - (n + 1)) rest) same
       leads i target e rest at = absurd (cc)
+
+  -- how many bytes an item has
+  pub item_size : (a : Addresses) (is : List Item) (n : ℕ) (i : Item) → slice_get is n ≡ Some i
+      → slice_index (lefts_of sizes is) n - slice_index (lefts_of sizes is) (n + 1)
+      ≡ length (item_bytes sizes a (offset_of (place_of sizes is) n i) i)
+  item_size a is n i e =
+      let low = falls 0 (parts_of sizes is) 0 n (omega arith) in
+      let less = falls 0 (parts_of sizes is) n (n + 1) (omega arith) in
+      omega (arith, next_place a is n i e, low, less, first_is (lefts_of sizes is))
 
   -- Bytes
 

@@ -1,8 +1,12 @@
 -- Where the items of a routine stand, and their bytes.
-use Rattle.std.specs.Prelude.{◌+◌, ◌-◌, ℕ, List, [], ◌∷◌, ◌++◌, length, map, slice_index}
+use Rattle.std.specs.Prelude.{◌+◌, ◌-◌, ℕ, Bool, true, false, not, if◌then◌else◌, List, [], ◌∷◌, ◌++◌, length, map}
+use Rattle.std.specs.Prelude.{slice_index}
+use Rattle.syntax_trees.specs.declared.tree.Binary.{Binary}
+use Rattle.syntax_trees.specs.declared.tree.Binary.TheVariants as binaries
 use Rattle.code_branch_forms.specs.declared.layout.Part.{Part}
 use Rattle.code_branch_forms.specs.Layout.{first, lefts}
 use Rattle.code_drafts.specs.Items.{Item}
+use Rattle.code_drafts.specs.Items as items
 use Rattle.code_encoding.specs.Addresses.{Addresses, Sizes}
 use Rattle.code_selection.specs.ItemBytes.{item_bytes}
 use Rattle.code_instructions.specs.Places.{target_of, label_size, offset_of}
@@ -12,6 +16,30 @@ use Rattle.code_instructions.specs.Places.{target_of, label_size, offset_of}
 -- wherever all else stands
 abbrev pub no_addresses : Addresses
 no_addresses = record { routines = []; arrays = []; faults = [] }
+
+-- whether the divisor of an operation is tested
+abbrev pub tests_divisor : Binary → Bool
+tests_divisor binaries.Divide = true
+tests_divisor binaries.Remainder = true
+tests_divisor _ = false
+
+-- an item that names no address and leads nowhere: its bytes are the same wherever all else stands
+abbrev pub is_settled : Item → Bool
+is_settled (items.move o d) = true
+is_settled (items.apply_prefix op o d) = true
+is_settled (items.operate op x y d) = not (tests_divisor op)
+is_settled (items.operate_aside op x d) = not (tests_divisor op)
+is_settled (items.step op x d) = true
+is_settled (items.keep x) = true
+is_settled items.first_equal = true
+is_settled items.also_equal = true
+is_settled items.drop_below = true
+is_settled (items.print_text bytes) = true
+is_settled (items.print_number o) = true
+is_settled items.new_line = true
+is_settled items.quit = true
+is_settled (items.return o) = true
+is_settled _ = false
 
 -- of a program of these sizes
 module _ (sizes : Sizes) where
@@ -38,6 +66,14 @@ module _ (sizes : Sizes) where
   place_of is n = code_size is - slice_index (lefts_of is) n
 
   -- Bytes
+
+  -- what is kept of an item that is written before it is known where all stands: its bytes, if it is settled
+  abbrev pub kept_of : Item → List ℕ
+  kept_of i = if is_settled i then item_bytes sizes no_addresses 2 i else []
+
+  abbrev pub kept_bytes : List Item → List ℕ
+  kept_bytes [] = []
+  kept_bytes (i ∷ is) = kept_of i ++ kept_bytes is
 
   -- items of which the first has this number
   abbrev pub items_bytes : Addresses → (ℕ → ℕ) → ℕ → List Item → List ℕ

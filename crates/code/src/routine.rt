@@ -8,12 +8,13 @@ ghost use Rattle.code_drafts.specs.Code.{items_of};
 ghost use Rattle.code_items.specs.Statements as definitions;
 ghost use Rattle.code_encoding.specs.Bytes.{Adds};
 ghost use Rattle.code_encoding.specs.Written.{addresses_of, sizes_in};
-ghost use Rattle.code.specs.Bytes.{lefts_of, place_of, items_bytes};
+ghost use Rattle.code.specs.Bytes.{lefts_of, place_of, items_bytes, kept_bytes};
 ghost use Rattle.code.specs.Bytes as spec;
 ghost use Rattle.code.specs.HeldProgram.{sizes_of};
 ghost use Rattle.code.specs.Written.{AreSizesOf};
 
 use crate::fault::CodeFault;
+use crate::settled::{behind, between, front, is_settled, size_between};
 use code_branch_forms::{BranchUse, Part, branches, lay_out};
 use code_encoding::{Addresses, Sizes};
 use code_instructions::{label_size, offset_of, place, target_of};
@@ -22,9 +23,25 @@ use code_selection::put_item;
 use meaning::Checked;
 use std::alloc::{AllocError, Global};
 use std::marker::Model;
+use std::mem::forget;
 
-/// Most items have no more bytes: so much memory is asked for at once, and more where it is needed.
-const BYTES_OF_ITEM: usize = 8;
+/// Memory that is needed while the code of a routine is made, for one routine after another.
+#[derive(Drop)]
+pub struct Scratch {
+    /// The items, written with no addresses and the shortest branches.
+    bytes: Vec<u8>,
+
+    parts: Vec<Part>,
+}
+
+impl Scratch {
+    /// No memory as yet.
+    pub fn new(alloc: Global) -> Self {
+        let bytes = Vec::new(alloc);
+        let parts = Vec::new(alloc);
+        Scratch { bytes, parts }
+    }
+}
 
 /// The code of a routine, ready to be written where the routine stands.
 #[derive(Drop)]
@@ -36,6 +53,10 @@ pub struct Code<'a, 'b> {
     sizes: Sizes<'b>,
 
     items: Vec<Item<'a>>,
+
+    /// The bytes of those items that are the same wherever all else stands, one after another: to copy
+    /// them takes less than to write them again, most of all a text.
+    kept: Vec<u8>,
 
     /// How many bytes there are from each item on to the end, the end's first.
     left: Vec<usize>,
@@ -52,7 +73,7 @@ impl<'a, 'b> Model for Code<'a, 'b> {
     ghost use Rattle.code_branch_forms.specs.Layout.{bytes_limit, uses};
     ghost use Rattle.code_drafts.specs.Code.{items_of};
     ghost use Rattle.code_encoding.specs.Written.{sizes_in};
-    ghost use Rattle.code.specs.Bytes.{parts_of, lefts_of, code_size};
+    ghost use Rattle.code.specs.Bytes.{parts_of, lefts_of, code_size, kept_bytes};
     ghost use Rattle.code.specs.Written.{CodeOf};
 
     ghost Value = { CodeOf };
@@ -62,36 +83,53 @@ impl<'a, 'b> Model for Code<'a, 'b> {
     ghost invariant = { λ c. (c.left.items ≡ reverse (lefts_of (sizes_in c.sizes) (items_of c.items.items)))
         × (c.branches.items ≡ uses 0 (parts_of (sizes_in c.sizes) (items_of c.items.items)))
         × (c.length ≡ 1 + code_size (sizes_in c.sizes) (items_of c.items.items))
-        × (code_size (sizes_in c.sizes) (items_of c.items.items) < bytes_limit) };
+        × (code_size (sizes_in c.sizes) (items_of c.items.items) < bytes_limit)
+        × (c.kept.items ≡ kept_bytes (sizes_in c.sizes) (items_of c.items.items)) };
 }
 
-/// The items as parts that are laid out. They are written once, with no addresses and the shortest
-/// branches, and their bytes are thrown away: an item has as many bytes wherever all stands, but
-/// for the form of its branch.
-fn parts_of(alloc: Global, sizes: &Sizes<'_>, items: &[Item<'_>]) -> Result<Vec<Part>, AllocError>
-    ensures parts { IfOk result (λ v.
-        v.items ≡ spec.parts_of (sizes_in sizes.now) (items_of items.now)) }
-    ensures fits { IfOk result (λ v.
-        spec.code_size (sizes_in sizes.now) (items_of items.now) < bytes_limit) }
+/// The items as parts that are laid out, and what is kept of them. They are written once, with no
+/// addresses and the shortest branches: an item has as many bytes wherever all stands, but for the
+/// form of its branch.
+fn put_parts(
+    scratch: &mut Scratch,
+    kept: &mut Vec<u8>,
+    alloc: Global,
+    sizes: &Sizes<'_>,
+    items: &[Item<'_>],
+) -> Result<(), AllocError>
+    ensures parts { OnOk result (scratch.new.parts.items
+        ≡ spec.parts_of (sizes_in sizes.now) (items_of items.now)) }
+    ensures kept { OnOk result (Adds kept.old kept.new
+        (kept_bytes (sizes_in sizes.now) (items_of items.now))) }
+    ensures fits { OnOk result
+        (spec.code_size (sizes_in sizes.now) (items_of items.now) < bytes_limit) }
 {
     let addresses = Addresses {
         routines: &[],
         arrays: &[],
         faults: &[],
     };
-    let mut bytes = Vec::with_capacity(alloc, items.len().saturating_mul(BYTES_OF_ITEM))?;
-    let mut parts = Vec::with_capacity(alloc, items.len())?;
+    scratch.bytes.clear();
+    scratch.parts.clear();
+    let mut start = 0;
     for item in items {
-        let before = bytes.len();
-        put_item(&mut bytes, alloc, sizes, &addresses, 2, item)?;
+        let before = scratch.bytes.len();
+        put_item(&mut scratch.bytes, alloc, sizes, &addresses, 2, item)?;
         let target = target_of(item);
-        let size = (bytes.len() - before).saturating_sub(label_size(target));
-        parts.push(Part { size, target })?;
+        let size = (scratch.bytes.len() - before).saturating_sub(label_size(target));
+        scratch.parts.push(Part { size, target })?;
+        if is_settled(item) {
+            continue;
+        }
+        kept.extend_from_slice(between(&scratch.bytes, start, before))?;
+        start = scratch.bytes.len();
     }
-    Ok(parts)
+    kept.extend_from_slice(behind(&scratch.bytes, start))?;
+    Ok(())
 }
 
-/// The bytes of items, one after another, of which the first begins the code.
+/// The bytes of items, one after another, of which the first begins the code. What was kept of them is
+/// copied, run by run.
 fn put_items(
     bytes: &mut Vec<u8>,
     alloc: Global,
@@ -99,23 +137,36 @@ fn put_items(
     addresses: &Addresses<'_>,
     items: &[Item<'_>],
     left: &[usize],
+    kept: &[u8],
 ) -> Result<(), AllocError>
     requires left { left.now ≡ reverse (lefts_of (sizes_in sizes.now) (items_of items.now)) }
     requires small { spec.code_size (sizes_in sizes.now) (items_of items.now) < bytes_limit }
+    requires kept { kept.now ≡ kept_bytes (sizes_in sizes.now) (items_of items.now) }
     ensures { OnOk result (Adds bytes.old bytes.new
         (items_bytes (sizes_in sizes.now) (addresses_of addresses.now)
         (place_of (sizes_in sizes.now) (items_of items.now)) 0 (items_of items.now))) }
 {
+    let mut rest = kept;
+    let mut start = 0;
     for number in 0..items.len() {
         let item = &items[number];
+        if is_settled(item) {
+            continue;
+        }
+        let run = size_between(left, start, number);
+        bytes.extend_from_slice(front(rest, run))?;
         let offset = offset_of(left, number, item);
         put_item(bytes, alloc, sizes, addresses, offset, item)?;
+        rest = behind(rest, run);
+        start = number + 1;
     }
+    bytes.extend_from_slice(rest)?;
     Ok(())
 }
 
 /// The code of items of a routine with so many locals, of a program of these sizes.
 fn code_of<'a, 'b>(
+    scratch: &mut Scratch,
     alloc: Global,
     locals: usize,
     sizes: Sizes<'b>,
@@ -127,22 +178,50 @@ fn code_of<'a, 'b>(
       items = items_of items.entry.items;
     }) }
 {
-    let parts = parts_of(alloc, &sizes, &items)?;
-    let left = lay_out(alloc, &parts)?;
-    let branches = branches(alloc, &parts, &left)?;
+    let mut kept = Vec::new(alloc);
+    put_parts(scratch, &mut kept, alloc, &sizes, &items)?;
+    let left = lay_out(alloc, &scratch.parts)?;
+    let branches = branches(alloc, &scratch.parts, &left)?;
     let length = 1 + place(&left, items.len());
     Ok(Code {
         alloc,
         locals,
         sizes,
         items,
+        kept,
         left,
         branches,
         length,
     })
 }
 
-/// The code of the routine of a number, ready to be written, of a program of these sizes.
+/// The code of the routine of a number, ready to be written, of a program of these sizes. The code of
+/// other routines may be made with the same scratch memory.
+///
+/// # Errors
+///
+/// `Memory` where a growth of memory was refused.
+pub fn routine_code_with<'a, 'b>(
+    scratch: &mut Scratch,
+    alloc: Global,
+    checked: &'b Checked<'a>,
+    sizes: &Sizes<'b>,
+    routine: usize,
+) -> Result<Code<'a, 'b>, CodeFault>
+    requires routine { routine < length checked.now.routines }
+    requires sizes { AreSizesOf sizes.now (program_of checked.now) }
+    ensures locals { IfOk result (λ c. c.locals
+        ≡ (routine_at (program_of checked.now).routines routine).locals) }
+    ensures sizes { IfOk result (λ c. c.sizes ≡ sizes_of (program_of checked.now)) }
+    ensures items { IfOk result (λ c. c.items
+        ≡ definitions.routine_items (routine_at (program_of checked.now).routines routine)) }
+{
+    let source = checked.routine(routine);
+    let items = routine_items(alloc, source)?;
+    Ok(code_of(scratch, alloc, source.locals, *sizes, items)?)
+}
+
+/// The code of the routine of a number, as [`routine_code_with`] makes it.
 ///
 /// # Errors
 ///
@@ -161,15 +240,32 @@ pub fn routine_code<'a, 'b>(
     ensures items { IfOk result (λ c. c.items
         ≡ definitions.routine_items (routine_at (program_of checked.now).routines routine)) }
 {
-    let source = checked.routine(routine);
-    let items = routine_items(alloc, source)?;
-    Ok(code_of(alloc, source.locals, *sizes, items)?)
+    let mut scratch = Scratch::new(alloc);
+    routine_code_with(&mut scratch, alloc, checked, sizes, routine)
 }
 
 /// Gives back the memory of items that are not needed any more. A crate that drops items in a function of
 /// its own proves anew what becomes of each kind: hand them over here instead.
 pub fn discard(items: Vec<Item<'_>>) {
     drop(items);
+}
+
+/// What becomes of the memory of a compilation.
+#[derive(Clone, Copy)]
+pub enum Disposal {
+    /// It is given back, part by part.
+    GivenBack,
+
+    /// It is left to the system, which takes it back when the process ends.
+    Left,
+}
+
+/// Gives back the memory of code that is not needed any more, or leaves it.
+pub fn dispose(codes: Vec<Code<'_, '_>>, disposal: Disposal) {
+    match disposal {
+        Disposal::GivenBack => drop(codes),
+        Disposal::Left => forget(codes),
+    }
 }
 
 impl Code<'_, '_> {
@@ -231,6 +327,7 @@ impl Code<'_, '_> {
             addresses,
             &self.items,
             &self.left,
+            &self.kept,
         )?;
         story.extend_from_slice(&bytes)?;
         Ok(())

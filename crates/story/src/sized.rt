@@ -13,6 +13,7 @@ ghost use Rattle.story_file.specs.Written.{FitsTables};
 ghost use Rattle.story.specs.Large.{IsStoryWithin};
 ghost use Rattle.story.specs.declared.sized.Limit.TheVariants.{Length};
 
+use code::Disposal;
 use meaning::limits::GREATEST_ROUTINE_WEIGHT;
 use meaning::{Checked, test_sizes_placed};
 use std::alloc::{AllocError, Global};
@@ -64,6 +65,7 @@ fn heavy_story(
     checked: &Checked<'_>,
     version: Version,
     by_weight: PlacedFault,
+    disposal: Disposal,
 ) -> Result<Result<Vec<u8>, PlacedFault>, AllocError>
     requires tables { FitsTables (program_of checked.now) }
     requires weight { by_weight ≡ nowhere (fault story_too_large 0) }
@@ -72,9 +74,38 @@ fn heavy_story(
     if let Some(name) = first_heavy(checked) {
         return Ok(Err(heavy_routine(name)));
     }
-    match write_story_within(alloc, checked, version)? {
+    match write_story_within(alloc, checked, version, disposal)? {
         Some(story) => Ok(Ok(story)),
         None => Ok(Err(by_weight)),
+    }
+}
+
+/// The story of a program, as [`story_within`] makes it. The memory of the code of its routines is given
+/// back, or left.
+pub(crate) fn story_by(
+    alloc: Global,
+    checked: &Checked<'_>,
+    version: Version,
+    limit: Limit,
+    disposal: Disposal,
+) -> Result<Result<Vec<u8>, PlacedFault>, AllocError>
+    requires accepted { IsAccepted (program_of checked.now) }
+    requires printable { HasPrintableTexts (program_of checked.now) }
+    requires light { checked_size_fault checked.now version ≡ None
+        → length (story_of version (program_of checked.now)) ≤ greatest_length version }
+    ensures { IfOk result (IsStoryWithin limit version checked.now) }
+{
+    match test_sizes_placed(checked, version) {
+        Ok(()) => {
+            let story = write_story(alloc, checked, version, disposal)?;
+            Ok(Ok(story))
+        }
+        Err(placed) => match limit {
+            Limit::Length if placed.fault.number == STORY_TOO_LARGE => {
+                heavy_story(alloc, checked, version, placed, disposal)
+            }
+            Limit::Weight | Limit::Length => Ok(Err(placed)),
+        },
     }
 }
 
@@ -95,16 +126,5 @@ pub fn story_within(
         → length (story_of version (program_of checked.now)) ≤ greatest_length version }
     ensures { IfOk result (IsStoryWithin limit version checked.now) }
 {
-    match test_sizes_placed(checked, version) {
-        Ok(()) => {
-            let story = write_story(alloc, checked, version)?;
-            Ok(Ok(story))
-        }
-        Err(placed) => match limit {
-            Limit::Length if placed.fault.number == STORY_TOO_LARGE => {
-                heavy_story(alloc, checked, version, placed)
-            }
-            Limit::Weight | Limit::Length => Ok(Err(placed)),
-        },
-    }
+    story_by(alloc, checked, version, limit, Disposal::GivenBack)
 }

@@ -8,9 +8,9 @@ ghost use Rattle.story.specs.FaultPlaces.{Stands};
 ghost use Rattle.story.specs.Large.{limits_by};
 
 use crate::laws::{stories_are_short, stories_hold};
-use crate::sized::{Limit, story_within};
+use crate::sized::{Limit, story_by};
 use checker::{accepted_programs, check_placed, printable_programs};
-use code::code_plays;
+use code::{Disposal, code_plays};
 use meaning::Checked;
 use std::alloc::Global;
 use std::marker::Model;
@@ -90,24 +90,14 @@ pub fn compile_for(alloc: Global, source: &[u8], version: Version) -> Result<Sto
     }
 }
 
-/// What becomes of the memory in which the trees of a source stand.
-#[derive(Clone, Copy)]
-enum Trees {
-    /// It is given back, part by part.
-    GivenBack,
-
-    /// It is left to the system, which takes it back when the program ends.
-    Left,
-}
-
 // The trees are not needed any more.
-fn leave(checked: Checked<'_>, program: Program<'_>, trees: Trees) {
-    match trees {
-        Trees::GivenBack => {
+fn leave(checked: Checked<'_>, program: Program<'_>, disposal: Disposal) {
+    match disposal {
+        Disposal::GivenBack => {
             checker::discard(checked);
             syntax::discard(program);
         }
-        Trees::Left => {
+        Disposal::Left => {
             checker::leave(checked);
             syntax::leave(program);
         }
@@ -120,7 +110,7 @@ fn compile_in(
     source: &[u8],
     version: Version,
     limit: Limit,
-    trees: Trees,
+    disposal: Disposal,
 ) -> Result<Story, PlacedFault>
     ensures compiles { CompilesBy (limits_by limit) version source.now (unplaced result) }
     ensures stands { IfErr result (Stands source.now) }
@@ -144,8 +134,8 @@ fn compile_in(
             return Err(placed);
         }
     };
-    let found = story_within(alloc, &checked, version, limit);
-    leave(checked, program, trees);
+    let found = story_by(alloc, &checked, version, limit, disposal);
+    leave(checked, program, disposal);
     let sized = found?;
     match sized {
         Ok(bytes) => Ok(Story::of_bytes(bytes)),
@@ -171,11 +161,11 @@ pub fn compile_placed(
     // The place of a fault is that of the byte, the token or the name at fault.
     ensures stands { IfErr result (Stands source.now) }
 {
-    compile_in(alloc, source, version, limit, Trees::GivenBack)
+    compile_in(alloc, source, version, limit, Disposal::GivenBack)
 }
 
 /// As [`compile_placed`], for a program that compiles one source and ends: the memory of the trees
-/// of a source that has a story is left to the system. To give it back takes about a seventh of
+/// and of the code of a source that has a story is left to the system. To give it back takes about a seventh of
 /// the whole.
 ///
 /// # Errors
@@ -190,5 +180,5 @@ pub fn compile_once(
     ensures compiles { CompilesBy (limits_by limit) version source.now (unplaced result) }
     ensures stands { IfErr result (Stands source.now) }
 {
-    compile_in(alloc, source, version, limit, Trees::Left)
+    compile_in(alloc, source, version, limit, Disposal::Left)
 }

@@ -19,7 +19,9 @@ use crate::high::{add_text, put_routines, put_texts};
 use crate::packed::{
     add_text_sizes, array_addresses, code_sizes, end_after, packed_addresses, reach_end,
 };
-use code::{Addresses, Code, CodeFault, Sizes, program_sizes, routine_code};
+use code::{
+    Addresses, Code, CodeFault, Disposal, Scratch, Sizes, dispose, program_sizes, routine_code_with,
+};
 use meaning::{Checked, Places, part_places};
 use std::alloc::{AllocError, Global};
 use zcore::Version;
@@ -75,6 +77,7 @@ fn addresses_in<'a>(packed: &'a [u16], routines: usize, arrays: &'a [u16]) -> Ad
 
 /// The code of the routine of a number.
 fn code_at<'a, 'b>(
+    scratch: &mut Scratch,
     alloc: Global,
     checked: &'b Checked<'a>,
     sizes: &Sizes<'b>,
@@ -85,7 +88,7 @@ fn code_at<'a, 'b>(
     ensures { IfOk result (λ c. c ≡ code_of (sizes_of (program_of checked.now))
         (routine_at (program_of checked.now).routines routine)) }
 {
-    match routine_code(alloc, checked, sizes, routine) {
+    match routine_code_with(scratch, alloc, checked, sizes, routine) {
         Ok(code) => Ok(code),
         Err(CodeFault::Memory) => Err(AllocError),
     }
@@ -99,9 +102,10 @@ fn codes_of<'a, 'b>(
     ensures { IfOk result (λ v. v.items ≡ codes_in (program_of checked.now)) }
 {
     let sizes = program_sizes(checked);
+    let mut scratch = Scratch::new(alloc);
     let mut codes = Vec::new(alloc);
     for routine in 0..checked.routines() {
-        codes.push(code_at(alloc, checked, &sizes, routine)?)?;
+        codes.push(code_at(&mut scratch, alloc, checked, &sizes, routine)?)?;
     }
     Ok(codes)
 }
@@ -119,10 +123,11 @@ fn codes_within<'a, 'b>(
     ensures { IfOk result (AnswersCodes version (program_of checked.now)) }
 {
     let sizes = program_sizes(checked);
+    let mut scratch = Scratch::new(alloc);
     let mut codes = Vec::new(alloc);
     let mut at = place;
     for routine in 0..checked.routines() {
-        let code = code_at(alloc, checked, &sizes, routine)?;
+        let code = code_at(&mut scratch, alloc, checked, &sizes, routine)?;
         let Some(end) = end_after(version, at, code.length()) else {
             return Ok(None);
         };
@@ -163,17 +168,17 @@ fn body_of(
     version: Version,
     checked: &Checked<'_>,
     at: Places,
-    codes: Vec<Code<'_, '_>>,
+    codes: &[Code<'_, '_>],
 ) -> Result<Vec<u8>, AllocError>
     requires at { at ≡ places_of (program_of checked.now) }
-    requires codes { codes.items ≡ codes_in (program_of checked.now) }
+    requires codes { codes.now ≡ codes_in (program_of checked.now) }
     requires fits { FitsStory version (program_of checked.now) }
     ensures { IfOk result (λ v. v.items ≡ layout.body_of version (program_of checked.now)) }
 {
     let Ok(texts) = fault_texts(alloc) else {
         return Err(AllocError);
     };
-    let Ok(mut sizes) = code_sizes(alloc, &codes) else {
+    let Ok(mut sizes) = code_sizes(alloc, codes) else {
         return Err(AllocError);
     };
     let Ok(()) = add_text_sizes(&mut sizes, &texts) else {
@@ -190,7 +195,7 @@ fn body_of(
     let Ok(()) = put_low(alloc, &mut body, checked, at, packed[checked.main()]) else {
         return Err(AllocError);
     };
-    let Ok(()) = put_routines(&mut body, version, &codes, &addresses) else {
+    let Ok(()) = put_routines(&mut body, version, codes, &addresses) else {
         return Err(AllocError);
     };
     let Ok(()) = put_texts(&mut body, version, &texts) else {
@@ -204,9 +209,9 @@ fn story_with(
     alloc: Global,
     checked: &Checked<'_>,
     version: Version,
-    codes: Vec<Code<'_, '_>>,
+    codes: &[Code<'_, '_>],
 ) -> Result<Vec<u8>, AllocError>
-    requires codes { codes.items ≡ codes_in (program_of checked.now) }
+    requires codes { codes.now ≡ codes_in (program_of checked.now) }
     requires fits { FitsStory version (program_of checked.now) }
     ensures { IfOk result (λ v. v.items ≡ layout.story_of version (program_of checked.now)) }
 {
@@ -224,7 +229,8 @@ fn story_with(
     Ok(story)
 }
 
-/// The story file of a checked program, in a version.
+/// The story file of a checked program, in a version. The memory of the code of its routines is given
+/// back, or left.
 ///
 /// # Errors
 ///
@@ -233,12 +239,15 @@ pub fn write_story(
     alloc: Global,
     checked: &Checked<'_>,
     version: Version,
+    disposal: Disposal,
 ) -> Result<Vec<u8>, AllocError>
     requires { FitsStory version (program_of checked.now) }
     ensures { IfOk result (λ v. v.items ≡ layout.story_of version (program_of checked.now)) }
 {
     let codes = codes_of(alloc, checked)?;
-    story_with(alloc, checked, version, codes)
+    let story = story_with(alloc, checked, version, &codes);
+    dispose(codes, disposal);
+    story
 }
 
 /// The story file of a checked program, in a version, whose routines have this code; `None` where
@@ -247,14 +256,14 @@ fn story_reached(
     alloc: Global,
     checked: &Checked<'_>,
     version: Version,
-    codes: Vec<Code<'_, '_>>,
+    codes: &[Code<'_, '_>],
 ) -> Result<Option<Vec<u8>>, AllocError>
-    requires codes { codes.items ≡ codes_in (program_of checked.now) }
+    requires codes { codes.now ≡ codes_in (program_of checked.now) }
     requires tables { FitsTables (program_of checked.now) }
     ensures { IfOk result (AnswersStory version (program_of checked.now)) }
 {
     let at = part_places(checked);
-    let fits = is_within(alloc, version, at.routines, &codes)?;
+    let fits = is_within(alloc, version, at.routines, codes)?;
     if fits {
         let story = story_with(alloc, checked, version, codes)?;
         Ok(Some(story))
@@ -273,6 +282,7 @@ pub fn write_story_within(
     alloc: Global,
     checked: &Checked<'_>,
     version: Version,
+    disposal: Disposal,
 ) -> Result<Option<Vec<u8>>, AllocError>
     requires { FitsTables (program_of checked.now) }
     ensures { IfOk result (AnswersStory version (program_of checked.now)) }
@@ -280,7 +290,11 @@ pub fn write_story_within(
     let at = part_places(checked);
     let within = codes_within(alloc, checked, version, at.routines)?;
     match within {
-        Some(codes) => story_reached(alloc, checked, version, codes),
+        Some(codes) => {
+            let story = story_reached(alloc, checked, version, &codes);
+            dispose(codes, disposal);
+            story
+        }
         None => Ok(None),
     }
 }

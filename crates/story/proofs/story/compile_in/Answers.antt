@@ -55,8 +55,8 @@ returns-in-Err-sized-clause-compiles c =
     too_large c.args.limit c.args.version c.args.source.now p c.in-Ok.checked c.in-Err-sized.placed.fault
     (is_tree c.args.source.now c.deref.result.now lexed p found.0 found.1) checked.0 checked.1 large.0
 
-pub story_within-found-requires : goal.story_within-found-requires
-story_within-found-requires c =
+pub story_by-found-requires : goal.story_by-found-requires
+story_by-found-requires c =
     let lexed : Lexes 0 1 c.args.source.now (Ok (source_tokens c.deref.result.now)) =
     subst (λ ts. Lexes 0 1 c.args.source.now (Ok (source_tokens ts))) (sym c.deref.ensures.value)
     c.in_ok-tokens.ensures.meets in

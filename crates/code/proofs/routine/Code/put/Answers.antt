@@ -15,8 +15,8 @@ returns-clause-written c =
     c.in_ok-push.ensures.items ∙ ap (λ z. z ++ (x.locals % 256) ∷ []) c.in_ok-bytes.ensures.items in
     let same = ap items_of c.deref.ensures.value in
     code_written sizes a c.args.self.now (items_of x.items.items) x.locals c.args.story.now.items
-    c.extend_from_slice.new.self.items c.push.new.self.items c.put_items.new.bytes.items c.deref-3.result.now
+    c.extend_from_slice.new.self.items c.push.new.self.items c.put_items.new.bytes.items c.deref-4.result.now
     c.self.view_is first (c.in_ok-put_items.ensures
     ∙ ap (λ (is : List Item). c.push.new.self.items
-    ++ items_bytes sizes a (place_of sizes is) 0 is) same) c.deref-3.ensures.value
+    ++ items_bytes sizes a (place_of sizes is) 0 is) same) c.deref-4.ensures.value
     c.in_ok-extend_from_slice.ensures.items
