@@ -3,12 +3,12 @@ use Rattle.std.proofs.Common.{◌≡◌, ℕ, ◌+◌, ◌-◌, ◌*◌, ◌<◌
 use Rattle.std.proofs.Common.{◌∙◌, arith}
 use Rattle.std.specs.List.{All, zip}
 use Rattle.std.proofs.lemmas.List.{drop_at, length-append, length-drop, length-take-le, take-append-drop, take_at}
-use Rattle.journal.specs.Swap.{back, forward, Fits}
-use Rattle.journal.specs.Pages.{cells_of, packed_len, packed_size, page_entries, page_len, page_unpacked, values_of}
-use Rattle.journal.proofs.Packed.{length-unpacked, length-values_of, packed_at, packed_within, values_with}
-use Rattle.journal.proofs.PageEntries.{HasPage, fits_page, has_page, length-row, page_in_store, some_cells}
-use Rattle.journal.proofs.PageSwaps.{page_gone_back, page_gone_forward}
-use Rattle.journal.proofs.Steps.{GoneBack, GoneForward, back_ends, forward_ends_pages, page_at}
+use Rattle.journal_pages.specs.Swap.{back, forward, Fits}
+use Rattle.journal_pages.specs.Pages.{cells_of, packed_len, packed_size, page_entries, page_len, page_unpacked, values_of}
+use Rattle.journal_pages.proofs.Packed.{length-unpacked, length-values_of, packed_at, packed_within, values_with}
+use Rattle.journal_pages.proofs.PageEntries.{HasPage, fits_page, has_page, length-row, page_in_store, some_cells}
+use Rattle.journal_pages.proofs.PageSwaps.{page_gone_back, page_gone_forward}
+use Rattle.journal_pages.proofs.Steps.{GoneBack, GoneForward, back_ends, forward_ends_pages, page_at}
 
 -- where the values of page s stand among all values
 abbrev pub start_of : ℕ → List ℕ → ℕ → ℕ

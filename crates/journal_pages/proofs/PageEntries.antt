@@ -8,10 +8,10 @@ use Rattle.std.proofs.lemmas.List.Elements.{All-append, All-take, All-drop, All-
 use Rattle.std.proofs.lemmas.List.FromFn.{length-range_with_len, get_or-range_with_len}
 use Rattle.std.proofs.lemmas.Grind.{flat_map-append}
 use Rattle.std.proofs.lemmas.Slice.Zip.{get_or-zip, length-zip}
-use Rattle.journal.specs.Swap.{Fits, FitsCell}
-use Rattle.journal.specs.Pages.{cells_of, page_cells, page_entries, page_len}
-use Rattle.journal.proofs.Pages.{length-page_cells, page_len_is, zip-append}
-use Rattle.journal.proofs.Steps.{page_within}
+use Rattle.journal_pages.specs.Swap.{Fits, FitsCell}
+use Rattle.journal_pages.specs.Pages.{cells_of, page_cells, page_entries, page_len}
+use Rattle.journal_pages.proofs.Pages.{length-page_cells, page_len_is, zip-append}
+use Rattle.journal_pages.proofs.Steps.{page_within}
 
 zip_of_none : (cs : List ℕ) → zip {K = ℕ} {X = ℕ} cs [] ≡ []
 zip_of_none [] = refl

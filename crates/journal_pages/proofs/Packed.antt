@@ -11,9 +11,9 @@ use Rattle.std.proofs.lemmas.List.{get_or-drop, get_or-set_other, get_or-set_sam
 use Rattle.std.proofs.lemmas.List.{length-append, length-drop, length-set, length-take-le, take-append-drop}
 use Rattle.std.proofs.lemmas.List.{take-append-le, take_at, take_more}
 use Rattle.std.proofs.lemmas.List.FromFn.{get_or-map-range_with_len, length-map-range_with_len}
-use Rattle.journal.specs.Pages.{IsAdded, IsPaged, cells_of, packed_len, packed_size, page_cells, page_len}
-use Rattle.journal.specs.Pages.{page_unpacked, values_of, word_at, words_of}
-use Rattle.journal.proofs.Pages.{HasValues, length-page_cells}
+use Rattle.journal_pages.specs.Pages.{IsAdded, IsPaged, cells_of, packed_len, packed_size, page_cells, page_len}
+use Rattle.journal_pages.specs.Pages.{page_unpacked, values_of, word_at, words_of}
+use Rattle.journal_pages.proofs.Pages.{HasValues, length-page_cells}
 
 -- pages of words, and pages of bytes
 

@@ -1,6 +1,6 @@
 use Rattle.std.proofs.Common.{◌*◌, ℕ, arith, refl, slice_index}
-use Rattle.journal.proofs.Packed.{words_more}
-use Rattle.journal.proofs.packing.pack.Goals as goal
+use Rattle.journal_pages.proofs.Packed.{words_more}
+use Rattle.journal_pages.proofs.packing.pack.Goals as goal
 
 pub offsets-preserved : goal.offsets-preserved
 offsets-preserved c =

@@ -1,7 +1,7 @@
 //! A few numbers in place.
 
 ghost use Rattle.std.specs.Prelude.{◌≡◌, ◌<◌, ◌≤◌, ◌++◌, ◌∷◌, [], length};
-ghost use Rattle.journal.specs.Pages.{numbers_in_place};
+ghost use Rattle.journal_pages.specs.Pages.{numbers_in_place};
 
 use std::marker::Model;
 
@@ -20,7 +20,7 @@ pub(crate) struct FewNumbers {
 
 impl Model for FewNumbers {
     ghost use Rattle.std.specs.Prelude.{◌≡◌, ◌≤◌, ℕ, List, length, take};
-    ghost use Rattle.journal.specs.Pages.{numbers_in_place};
+    ghost use Rattle.journal_pages.specs.Pages.{numbers_in_place};
 
     ghost Value = { List ℕ };
 

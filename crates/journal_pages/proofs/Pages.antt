@@ -13,8 +13,8 @@ use Rattle.std.proofs.lemmas.Grind.{flat_map-append}
 use Rattle.std.proofs.lemmas.Map.Keys.{IsDistinct-head, IsDistinct-tail, IsDistinct-cons, IsDistinct-push}
 use Rattle.std.proofs.lemmas.Map.Steps.{length-le_from_distinct_below}
 use Rattle.std.proofs.lemmas.List.Elements.{All-append, All-cons, All-nil}
-use Rattle.journal.specs.Swap.{back, Fits, FitsCell}
-use Rattle.journal.specs.Pages.{cells_of, keeps, page_cells, page_len}
+use Rattle.journal_pages.specs.Swap.{back, Fits, FitsCell}
+use Rattle.journal_pages.specs.Pages.{cells_of, keeps, page_cells, page_len}
 
 -- numbers
 

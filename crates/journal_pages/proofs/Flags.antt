@@ -8,8 +8,8 @@ use Rattle.std.proofs.lemmas.Bool.Decides.{eqb_tells}
 use Rattle.std.proofs.lemmas.List.{drop_more, get_or-set_same, get_or-set_other, get_or_append_left}
 use Rattle.std.proofs.lemmas.List.{get_or-append_right, get_or-replicate, length-replicate}
 use Rattle.std.proofs.lemmas.List.Folds.{list_any-append, list_any_at}
-use Rattle.journal.specs.Pages.{IsMarked, keeps}
-use Rattle.journal.proofs.Pages.{false_if, not_both, or_false, or_true}
+use Rattle.journal_pages.specs.Pages.{IsMarked, keeps}
+use Rattle.journal_pages.proofs.Pages.{false_if, not_both, or_false, or_true}
 
 flag_in : (flags : List Bool) (p : ℕ) → get_or flags p false ≡ true → p < length flags
 flag_in [] p h = absurd (cc)

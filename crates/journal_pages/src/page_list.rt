@@ -18,7 +18,7 @@ enum Numbers {
 
 /// Numbers of pages, in order.
 #[derive(Drop)]
-pub(crate) struct PageList {
+pub struct PageList {
     numbers: Numbers,
 }
 
@@ -27,7 +27,7 @@ impl Model for PageList {
 
     ghost Value = { List ℕ };
 
-    ghost use Rattle.journal.specs.PageNumbers.{numbers_of};
+    ghost use Rattle.journal_pages.specs.PageNumbers.{numbers_of};
 
     ghost view = { λ l. numbers_of l.numbers };
 }
@@ -35,7 +35,7 @@ impl Model for PageList {
 impl PageList {
     /// No number. It takes no memory.
     #[inline]
-    pub(crate) fn new() -> PageList
+    pub fn new() -> PageList
         ensures { result ≡ [] }
     {
         PageList {
@@ -44,7 +44,8 @@ impl PageList {
     }
 
     #[inline]
-    pub(crate) fn as_slice(&self) -> &[u32]
+    /// The numbers.
+    pub fn as_slice(&self) -> &[u32]
         ensures { result.now ≡ self.now }
     {
         match &self.numbers {
@@ -59,7 +60,7 @@ impl PageList {
     ///
     /// Memory was refused: nothing has changed.
     #[inline]
-    pub(crate) fn push(&mut self, alloc: Global, number: u32) -> Result<(), AllocError>
+    pub fn push(&mut self, alloc: Global, number: u32) -> Result<(), AllocError>
         ensures ok { OnOk result (self.new ≡ self.old ++ number ∷ []) }
         ensures err { OnErr result (self.new ≡ self.old) }
     {
@@ -82,7 +83,7 @@ impl PageList {
 
     /// Leaves no number. What memory they have is kept for others.
     #[inline]
-    pub(crate) fn clear(&mut self)
+    pub fn clear(&mut self)
         ensures { self.new ≡ [] }
     {
         match &mut self.numbers {

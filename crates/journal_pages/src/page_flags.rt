@@ -1,7 +1,7 @@
 //! Which pages a turn keeps, a flag for each.
 
 ghost use Rattle.std.specs.Prelude.{◌≡◌, ℕ, ◌<◌, false, length, slice_set, slice_index_or, OnOk};
-ghost use Rattle.journal.specs.Pages.{IsMarkedAs};
+ghost use Rattle.journal_pages.specs.Pages.{IsMarkedAs};
 
 use std::alloc::{AllocError, Global};
 use std::marker::Model;
@@ -13,7 +13,7 @@ const IN_PLACE: usize = 1_728;
 
 /// Of each page, whether it is kept. Pages behind the last flag are not kept.
 #[derive(Drop)]
-pub(crate) struct PageFlags {
+pub struct PageFlags {
     /// The flags of the first pages.
     first: [bool; IN_PLACE],
 
@@ -23,7 +23,7 @@ pub(crate) struct PageFlags {
 
 impl Model for PageFlags {
     ghost use Rattle.std.specs.Prelude.{◌≡◌, ◌++◌, Bool, List, length};
-    ghost use Rattle.journal.specs.Pages.{pages_in_place};
+    ghost use Rattle.journal_pages.specs.Pages.{pages_in_place};
 
     ghost Value = { List Bool };
 

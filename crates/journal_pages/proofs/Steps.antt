@@ -8,9 +8,9 @@ use Rattle.std.proofs.lemmas.List.Elements.{All-get_or}
 use Rattle.std.proofs.lemmas.List.Folds.{length-flat_map-take}
 use Rattle.std.proofs.lemmas.Grind.{get_or_default_zero}
 use Rattle.std.proofs.lemmas.Slice.Zip.{get_or-zip, length-zip}
-use Rattle.journal.specs.Swap.{back, forward, Fits, FitsCell}
-use Rattle.journal.specs.Pages.{cells_of, page_cells, page_len}
-use Rattle.journal.proofs.Pages.{cells_of-push, length-page_cells}
+use Rattle.journal_pages.specs.Swap.{back, forward, Fits, FitsCell}
+use Rattle.journal_pages.specs.Pages.{cells_of, page_cells, page_len}
+use Rattle.journal_pages.proofs.Pages.{cells_of-push, length-page_cells}
 
 -- the entries from k on have gone back; was: the values before
 pub record GoneBack (n : ℕ) (b : ℕ → ℕ) (cs was c : List ℕ) (k : ℕ) (x vs : List ℕ) : Type 0 where

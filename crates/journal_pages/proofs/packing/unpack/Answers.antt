@@ -1,7 +1,7 @@
 use Rattle.std.proofs.Common.{◌+◌, ◌-◌, ◌*◌, ◌∙◌, ℕ, arith}
-use Rattle.journal.specs.Pages.{word_at}
-use Rattle.journal.proofs.Packed.{pair_of, set_more}
-use Rattle.journal.proofs.packing.unpack.Goals as goal
+use Rattle.journal_pages.specs.Pages.{word_at}
+use Rattle.journal_pages.proofs.Packed.{pair_of, set_more}
+use Rattle.journal_pages.proofs.packing.unpack.Goals as goal
 
 pub offsets-preserved : goal.offsets-preserved
 offsets-preserved c =

@@ -1,7 +1,7 @@
 use Rattle.std.proofs.Common.{◌∙◌, ap, sym, arith, set}
 use Rattle.std.proofs.lemmas.List.{set-append_left, set-append_right}
-use Rattle.journal.specs.Pages.{pages_in_place}
-use Rattle.journal.proofs.page_flags.PageFlags.set.Goals as goal
+use Rattle.journal_pages.specs.Pages.{pages_in_place}
+use Rattle.journal_pages.proofs.page_flags.PageFlags.set.Goals as goal
 
 pub returns-then-page-lt-IN_PLACE : goal.returns-then-page-lt-IN_PLACE
 returns-then-page-lt-IN_PLACE c =

@@ -9,12 +9,12 @@ use Rattle.std.proofs.lemmas.List.{get_or-set_same, get_or-set_other}
 use Rattle.std.proofs.lemmas.Map.Keys.{IsDistinct-head, IsDistinct-tail}
 use Rattle.std.proofs.lemmas.Map.Made.{AllPairs-from_IsDistinct}
 use Rattle.std.proofs.lemmas.Slice.Zip.{firsts-zip, seconds-zip}
-use Rattle.journal.specs.Swap.{back, entry_cells, entry_values}
-use Rattle.journal.specs.Pages.{IsPaged, cells_of, values_of}
-use Rattle.journal.proofs.Packed.{has_values}
-use Rattle.journal.proofs.Pages.{HasValues, all_by_none, cell_kept, distinct_cells, length-cells_of-le, not_both, or_true}
-use Rattle.journal.proofs.Steps.{length-entries}
-use Rattle.journal.proofs.Swaps.{length-back}
+use Rattle.journal_pages.specs.Swap.{back, entry_cells, entry_values}
+use Rattle.journal_pages.specs.Pages.{IsPaged, cells_of, values_of}
+use Rattle.journal_pages.proofs.Packed.{has_values}
+use Rattle.journal_pages.proofs.Pages.{HasValues, all_by_none, cell_kept, distinct_cells, length-cells_of-le, not_both, or_true}
+use Rattle.journal_pages.proofs.Steps.{length-entries}
+use Rattle.journal_pages.proofs.Swaps.{length-back}
 
 -- a write to a cell that is not among them leaves the values of cells as they were
 map_off : (x : List ℕ) (a v : ℕ) (cs : List ℕ) → list_any (eqb a) cs ≡ false

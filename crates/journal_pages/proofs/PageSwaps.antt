@@ -6,11 +6,11 @@ use Rattle.std.proofs.lemmas.List.{take-append-drop, take_at, drop_at, drop-drop
 use Rattle.std.proofs.lemmas.List.{length-append, length-take-le, length-drop, take-take, drop-take}
 use Rattle.std.proofs.lemmas.List.FromFn.{length-range_with_len}
 use Rattle.std.proofs.lemmas.Slice.Zip.{length-zip}
-use Rattle.journal.specs.Swap.{back, forward, Fits}
-use Rattle.journal.specs.Pages.{cells_of, page_entries, page_len}
-use Rattle.journal.proofs.PageEntries.{HasPage, fits_row, has_page, length-put_row, length-row, page_part, put_row}
-use Rattle.journal.proofs.Pages.{back-append}
-use Rattle.journal.proofs.Steps.{GoneBack, GoneForward, length-entries, page_start}
+use Rattle.journal_pages.specs.Swap.{back, forward, Fits}
+use Rattle.journal_pages.specs.Pages.{cells_of, page_entries, page_len}
+use Rattle.journal_pages.proofs.PageEntries.{HasPage, fits_row, has_page, length-put_row, length-row, page_part, put_row}
+use Rattle.journal_pages.proofs.Pages.{back-append}
+use Rattle.journal_pages.proofs.Steps.{GoneBack, GoneForward, length-entries, page_start}
 
 -- swaps of entries one behind the other
 
