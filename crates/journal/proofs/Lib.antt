@@ -1,11 +1,2 @@
-pub mod Swaps
-pub mod Pages
-pub mod Steps
-pub mod Flags
 pub mod Held
-pub mod HandedOut
-pub mod PageEntries
-pub mod PageSwaps
-pub mod Packed
-pub mod PackedSwaps
 pub mod Runs

@@ -3,14 +3,12 @@
 #![tactic(auto)]
 
 mod cells;
-mod few_numbers;
 mod packing;
-mod page_flags;
-mod page_list;
 mod record;
 mod recorded;
 
 pub use cells::Cells;
+pub use journal_pages::PAGE;
 pub use packing::WORD_PAGES;
-pub use record::{PAGE, Record, swap_back, swap_forward};
+pub use record::{Record, swap_back, swap_forward};
 pub use recorded::{NoMemory, Recorded};

@@ -12,7 +12,7 @@ use Rattle.zcore.proofs.WaitingParts.{waits_store_result, waits_goes_on}
 use Rattle.zcore_standard.specs.Loaded.{Loaded}
 use Rattle.zcore_standard.specs.Machine.{standard, standard_ended, begins}
 use Rattle.zcore_standard.specs.Reading.{result_given, standard_given}
-use Rattle.zcore_standard.proofs.Awaiting.{waits_right}
+use Rattle.zcore_standard_laws.proofs.Awaiting.{waits_right}
 use Rattle.machine_frames.specs.Contents.{Contents}
 use Rattle.machine_frames.specs.Playing.{FollowsBy}
 use Rattle.machine_frames.specs.States.{state_of, pending_of, program_counter_of, beside_of}

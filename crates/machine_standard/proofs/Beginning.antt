@@ -7,11 +7,12 @@ use Rattle.zcore.specs.Header.{static_base_of}
 use Rattle.zcore.specs.Layout.{longest_story}
 use Rattle.zcore.specs.State.{State}
 use Rattle.zcore.specs.Turn.{first_state}
-use Rattle.zcore_standard.specs.declared.loading.LoadedStory.{LoadedStory}
-use Rattle.zcore_standard.specs.Loading.{IsPlayable, ReadsFile, characters_of, own_alphabets_of, loaded_of}
-use Rattle.zcore_standard.specs.Loading.{memory_for, seeded}
-use Rattle.zcore_standard.specs.Loading.{story_in, story_length}
-use Rattle.zcore_standard.proofs.Headers.{length_stays}
+use Rattle.zcore_standard_loading.specs.declared.loading.LoadedStory.{LoadedStory}
+use Rattle.zcore_standard_loading.specs.Loading.{IsPlayable, ReadsFile, characters_of, own_alphabets_of, loaded_of}
+use Rattle.zcore_standard_loading.specs.Loading.{memory_for}
+use Rattle.zcore_standard.specs.Loaded.{seeded}
+use Rattle.zcore_standard_loading.specs.Loading.{story_in, story_length}
+use Rattle.zcore_standard_loading.proofs.Headers.{length_stays}
 use Rattle.zcore_standard.specs.Loaded.{Loaded}
 use Rattle.machine_frames.specs.Contents.{Contents, memory_of}
 use Rattle.machine_frames.specs.States.{state_of, IsSound, IsHeadedBy}

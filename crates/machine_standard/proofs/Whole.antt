@@ -11,16 +11,16 @@ use Rattle.zcore.specs.declared.place.Place.TheVariants as places
 use Rattle.zcore.specs.State.{State, Out, done, halt}
 use Rattle.zcore.specs.Execution.{step}
 use Rattle.zcore.specs.Turn.{Reaches, ReachesBy, TurnsBy, Whole, ended, first_next, first_state, notice}
-use Rattle.zcore_standard.specs.Laws.{ends_in_fault, is_plain, closes_none}
+use Rattle.zcore_standard_laws.specs.Laws.{ends_in_fault, is_plain, closes_none}
 use Rattle.zcore_standard.specs.Place.{Here, plain, within}
 use Rattle.zcore_standard.specs.Loaded.{Loaded}
 use Rattle.zcore_standard.specs.Machine.{standard, standard_step, standard_ended, shown, with_beside, begins}
 use Rattle.zcore_standard.specs.Reading.{can_take}
 use Rattle.zcore_standard.specs.Windows.{begun_at, lower}
 use Rattle.zcore_standard.specs.Streams.{heard_of}
-use Rattle.zcore_standard.proofs.Turning.{standard_steps}
-use Rattle.zcore_standard.proofs.Awaiting.{WaitsRight}
-use Rattle.zcore_standard.proofs.Waiting.{standard_step_waits}
+use Rattle.zcore_standard_laws.proofs.Turning.{standard_steps}
+use Rattle.zcore_standard_laws.proofs.Awaiting.{WaitsRight}
+use Rattle.zcore_standard_laws.proofs.Waiting.{standard_step_waits}
 use Rattle.machine_frames.specs.Contents.{Contents, memory_of}
 use Rattle.machine_frames.specs.Playing.{StopsBy, IsOpening, IsWaiting, whole_of}
 use Rattle.machine_frames.specs.States.{state_of, IsSound, program_counter_of, beside_of}

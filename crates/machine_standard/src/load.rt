@@ -2,7 +2,8 @@
 
 ghost use Rattle.std.specs.Prelude.{◌≡◌, ◌≤◌, length, take, IfOk};
 ghost use Rattle.zcore.specs.Layout.{longest_story};
-ghost use Rattle.zcore_standard.specs.Loading.{IsPlayable, seeded};
+ghost use Rattle.zcore_standard.specs.Loaded.{seeded};
+ghost use Rattle.zcore_standard_loading.specs.Loading.{IsPlayable};
 ghost use Rattle.machine_standard.specs.Loads.{Begins, Loads};
 
 use crate::turn::StandardMachine;
@@ -10,7 +11,8 @@ use machine_frames::Store;
 use std::alloc::{AllocError, Global};
 use thiserror::Error;
 use zcore::{Beside, Header, HeaderFault};
-use zcore_standard::{Loaded, LoadedStory, characters_of, load, own_alphabets_of};
+use zcore_standard::Loaded;
+use zcore_standard_loading::{LoadedStory, characters_of, load, own_alphabets_of};
 
 /// Why a file is not played. `Display` writes the number of the refusal alone.
 #[derive(Clone, Copy, Debug, PartialEq, Eq, Error)]
@@ -30,7 +32,7 @@ impl StandardMachine {
     ///
     /// # Errors
     ///
-    /// What [`zcore_standard::load`] answers, or want of memory, where the file can be played.
+    /// What [`zcore_standard_loading::load`] answers, or want of memory, where the file can be played.
     pub fn load(
         alloc: Global,
         file: Vec<u8>,

@@ -18,7 +18,7 @@ use Rattle.zcore_standard.specs.Further.{perform_further, execute_further}
 use Rattle.zcore_standard.specs.Machine.{chosen, standard_step}
 use Rattle.zcore_standard.specs.Nothing.{step_known}
 use Rattle.zcore_standard.specs.Operations.{further_at}
-use Rattle.zcore_standard.proofs.Stepping.{standard_step_falls}
+use Rattle.zcore_standard_laws.proofs.Stepping.{standard_step_falls}
 use Rattle.machine_frames.specs.Contents.{Contents, memory_of}
 use Rattle.machine_frames.specs.States.{state_of, IsSound}
 use Rattle.machine_frames.specs.Went.{Went, Told}

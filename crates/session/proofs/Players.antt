@@ -23,7 +23,7 @@ use Rattle.zcore_standard.specs.Loaded.{Loaded}
 use Rattle.zcore_standard.specs.Machine.{standard, standard_turn, standard_pending, standard_opening, standard_turn_on}
 use Rattle.zcore_standard.specs.Machine.{standard_ended, begins}
 use Rattle.zcore_standard.specs.Reading.{standard_given}
-use Rattle.zcore_standard.proofs.Turning.{standard_turn_is}
+use Rattle.zcore_standard_laws.proofs.Turning.{standard_turn_is}
 use Rattle.machine_standard.specs.Loads.{IsLoaded as IsStandardLoaded, IsStoreFor}
 use Rattle.machine_standard.specs.Playing.{OpensStandard, AnswersStandard, OpensOrAnswersStandard}
 use Rattle.machine_standard.specs.Playing.{IsReadyForStandard}

@@ -2,8 +2,8 @@
 use Rattle.std.specs.Prelude.{List, ℕ, Ok, Err}
 use Rattle.zcore.specs.declared.header.Header.{Header}
 use Rattle.zcore.specs.Header.{Reads}
-use Rattle.zcore_standard.specs.declared.loading.LoadedStory.{LoadedStory}
-use Rattle.zcore_standard.specs.Loading.{ReadsFile}
+use Rattle.zcore_standard_loading.specs.declared.loading.LoadedStory.{LoadedStory}
+use Rattle.zcore_standard_loading.specs.Loading.{ReadsFile}
 use Rattle.machine.specs.Loaded as profile
 use Rattle.machine_standard.specs.Loads as standard
 use Rattle.session.specs.declared.fault.OpenFault.{OpenFault}

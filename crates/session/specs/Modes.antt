@@ -4,7 +4,7 @@ use Rattle.zcore.specs.declared.header.Header.{Header}
 use Rattle.zcore.specs.Turn.{StateOfPlay, Whole, Play, opening, turn_on}
 use Rattle.zcore_standard.specs.Input.{can_be_typed}
 use Rattle.zcore_standard.specs.Loaded.{Loaded}
-use Rattle.zcore_standard.specs.Loading.{loaded_of, memory_for}
+use Rattle.zcore_standard_loading.specs.Loading.{loaded_of, memory_for}
 use Rattle.zcore_standard.specs.Machine.{standard_opening, standard_turn_on}
 use Rattle.machine_frames.specs.Contents.{Contents}
 use Rattle.machine_frames.specs.Playing.{IsWaiting}

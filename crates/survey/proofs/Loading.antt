@@ -3,9 +3,9 @@ use Rattle.std.proofs.Common.{◌≤◌, ℕ, List, length, arith}
 use Rattle.std.proofs.lemmas.List.{length-take-le}
 use Rattle.std.specs.Prelude.{Ok}
 use Rattle.zcore.specs.Layout.{longest_story}
-use Rattle.zcore_standard.specs.declared.loading.LoadedStory.{LoadedStory}
-use Rattle.zcore_standard.specs.Loading.{ReadsFile, memory_for, story_in, story_length}
-use Rattle.zcore_standard.proofs.Headers.{length_stays}
+use Rattle.zcore_standard_loading.specs.declared.loading.LoadedStory.{LoadedStory}
+use Rattle.zcore_standard_loading.specs.Loading.{ReadsFile, memory_for, story_in, story_length}
+use Rattle.zcore_standard_loading.proofs.Headers.{length_stays}
 
 -- it is no longer than a story can be
 pub short_memory : (file : List ℕ) (story : LoadedStory) → ReadsFile file (Ok story)

@@ -3,8 +3,8 @@ use Rattle.std.specs.Prelude.{◌≡◌, ℕ, List, Result, Ok, Err}
 use Rattle.zcore.specs.declared.header.Header.{Header}
 use Rattle.zcore.specs.declared.header.HeaderFault.{HeaderFault}
 use Rattle.zcore.specs.Header.{Reads, dictionary_of, entry_count}
-use Rattle.zcore_standard.specs.declared.loading.LoadedStory.{LoadedStory}
-use Rattle.zcore_standard.specs.Loading.{ReadsFile, memory_for}
+use Rattle.zcore_standard_loading.specs.declared.loading.LoadedStory.{LoadedStory}
+use Rattle.zcore_standard_loading.specs.Loading.{ReadsFile, memory_for}
 use Rattle.survey.specs.declared.contents.Contents.{Contents}
 use Rattle.survey.specs.declared.mode.Mode.{Mode}
 use Rattle.survey.specs.declared.mode.Mode.TheVariants.{Profile, Standard}

@@ -16,7 +16,7 @@ use std::alloc::{AllocError, Global};
 use std::fmt;
 use zcore::layout::{HEADER_LENGTH, LONGEST_STORY};
 use zcore::{Header, HeaderFault};
-use zcore_standard::load;
+use zcore_standard_loading::load;
 
 /// So many bytes no story has with the filling behind it.
 const TOO_LONG: usize = LONGEST_STORY + 512;

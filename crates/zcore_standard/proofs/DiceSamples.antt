@@ -8,7 +8,7 @@ use Rattle.zcore.specs.Parts.{test_result, store_result, write_variable, push}
 use Rattle.zcore.specs.State.{done, halt}
 use Rattle.zcore.specs.Turn.{first_environment, first_state}
 use Rattle.zcore_standard.specs.Dice.{rolled, random}
-use Rattle.zcore_standard.specs.Loading.{seeded}
+use Rattle.zcore_standard.specs.Loaded.{seeded}
 use Rattle.zcore_standard.specs.Place.{Here, plain}
 
 -- two numbers in a range of 100 from the default seed, and the 32 bits after each (computed in another language)

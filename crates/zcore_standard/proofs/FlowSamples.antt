@@ -13,9 +13,8 @@ use Rattle.zcore.specs.Turn.{first_environment, first_state}
 use Rattle.zcore_standard.specs.declared.operations.Further.TheVariants.{Piracy, Save, Restore, SaveUndo, RestoreUndo}
 use Rattle.zcore_standard.specs.Flow.{restart, catch, leave_frame, throw, verify}
 use Rattle.zcore_standard.specs.Further.{perform_keeping}
-use Rattle.zcore_standard.specs.Loading.{seeded}
 use Rattle.zcore_standard.specs.Place.{Here, plain}
-use Rattle.zcore_standard.specs.Loaded.{Loaded}
+use Rattle.zcore_standard.specs.Loaded.{Loaded, seeded}
 
 abbrev here : Next
 here = record { program_counter = 100; fuel = 5 }

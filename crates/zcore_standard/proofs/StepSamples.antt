@@ -12,11 +12,10 @@ use Rattle.zcore.specs.Turn.{first_environment, first_state}
 use Rattle.zcore_standard.specs.Dice.{random}
 use Rattle.zcore_standard.specs.Further.{perform_keeping, perform_further}
 use Rattle.zcore_standard.specs.Instruction.{types_at, result_at, branch_after, decode_further}
-use Rattle.zcore_standard.specs.Loading.{seeded}
 use Rattle.zcore_standard.specs.Machine.{begins, standard_step}
 use Rattle.zcore_standard.specs.Nothing.{perform_on_nothing, step_known}
 use Rattle.zcore_standard.specs.Place.{Here}
-use Rattle.zcore_standard.specs.Loaded.{Loaded}
+use Rattle.zcore_standard.specs.Loaded.{Loaded, seeded}
 use Rattle.zcore_standard.specs.Shifts.{log_shift}
 use Rattle.zcore_standard.specs.Reading.{test_room, test_slots_or_none, wait_for_line, wait_for_key, read_line, read_key}
 use Rattle.zcore_standard.specs.Windows.{show_upper}

@@ -7,7 +7,7 @@ use Rattle.zcore.specs.Parts.{test_result, wait}
 use Rattle.zcore.specs.State.{State, done, halt}
 use Rattle.zcore.specs.Turn.{first_state}
 use Rattle.zcore_standard.specs.declared.streams.Stream.{Stream}
-use Rattle.zcore_standard.specs.Loading.{seeded}
+use Rattle.zcore_standard.specs.Loaded.{seeded}
 use Rattle.zcore_standard.specs.Place.{Here, plain}
 use Rattle.zcore_standard.specs.Reading.{test_room, test_slots_or_none, wait_for_line, read_line}
 use Rattle.zcore_standard.specs.Streams.{characters_in, code_among, zscii_in, open_stream, close, close_all, heard}

@@ -7,7 +7,7 @@ use Rattle.zcore.specs.State.{State, done, halt}
 use Rattle.zcore.specs.Turn.{first_state}
 use Rattle.zcore_standard.specs.declared.streams.Stream.{Stream}
 use Rattle.zcore_standard.specs.declared.windows.Upper.{Upper}
-use Rattle.zcore_standard.specs.Loading.{seeded}
+use Rattle.zcore_standard.specs.Loaded.{seeded}
 use Rattle.zcore_standard.specs.Machine.{begins, shown}
 use Rattle.zcore_standard.specs.Place.{Here}
 use Rattle.zcore_standard.specs.Streams.{close_all, begin_read}

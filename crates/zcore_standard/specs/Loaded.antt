@@ -19,3 +19,7 @@ pub record Loaded : Type 0 where
 -- the story's own alphabets, or the default ones
 abbrev pub alphabets_of : Loaded → List ℕ
 alphabets_of loaded = unwrap_or loaded.own_alphabets default_alphabets
+
+-- window 0, and the dice of a seed
+abbrev pub seeded : ℕ → Beside
+seeded seed = record { window = 0; random = seed; interval = 0; counter = 0 }

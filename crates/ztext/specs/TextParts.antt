@@ -2,7 +2,6 @@
 use Rattle.std.specs.Prelude.{◌≡◌, ◌+◌, ◌*◌, ◌/◌, ◌%◌, ◌<◌, ◌≤◌, ℕ, zero, suc, min, true, false, List, [], ◌∷◌, ◌++◌}
 use Rattle.std.specs.Prelude.{length, take, replicate, slice_index, if◌then◌else◌, Option, Some, None, Result, Ok, Err}
 use Rattle.std.specs.Prelude.{MatchResult}
-use Rattle.ztext.specs.declared.abbreviations.Found as declared_found
 use Rattle.ztext.specs.declared.fault.TextFault.{TextFault}
 use Rattle.ztext.specs.declared.fault.TextFault.TheVariants as faults
 use Rattle.ztext.specs.declared.reading.State.TheVariants as code
@@ -75,11 +74,6 @@ filled zs = take 9 (zs ++ replicate 9 5)
 pub record IsFilledKey (zs : List ℕ) (count : ℕ) (key : List ℕ) : Type 0 where
   pub characters : key ≡ filled zs
   pub many : count ≡ min 9 (length zs)
-
--- the abbreviation of the definitions that one of the code is
-abbrev pub found_of : Option declared_found.Found → Option Found
-found_of None = None
-found_of (Some x) = Some (record { number = x.number; length = x.length })
 
 -- the abbreviation of a number, where it stands at the beginning of a text
 abbrev pub at_front : ℕ → List ℕ → List ℕ → Option Found

@@ -1,7 +1,6 @@
 //! Characters, and how they are spelled in Z-characters.
 
 ghost use Rattle.std.specs.Prelude.{◌≡◌, ◌<◌, ◌≤◌, ◌++◌, length, take, IfOk, OnOk, MatchOption, ⊤};
-ghost use Rattle.std.specs.List.{list_all};
 ghost use Rattle.ztext.specs.Alphabets as spec;
 
 use std::alloc::{AllocError, Global};
@@ -17,14 +16,15 @@ pub(crate) static PUNCTUATION: [u8; 24] = *b"0123456789.,!?_#'\"/\\-:()";
 
 /// The Z-characters of a character: the first `length` of `characters`.
 #[derive(Clone, Copy)]
-pub(crate) struct ZCharacters {
+pub struct ZCharacters {
     characters: [u8; 4],
     length: usize,
     ghost length_fits: { length ≤ 4 },
 }
 
 impl ZCharacters {
-    pub(crate) fn as_slice(&self) -> &[u8]
+    /// The Z-characters.
+    pub fn as_slice(&self) -> &[u8]
         ensures { result.now ≡ take self.now.length self.now.characters }
     {
         &self.characters[..self.length]
@@ -32,16 +32,10 @@ impl ZCharacters {
 }
 
 /// Whether a character can be printed, as the code of an escape too.
-pub(crate) fn is_printable(c: u16) -> bool
+pub fn is_printable(c: u16) -> bool
     ensures { result ≡ spec.is_printable c }
 {
     c == 13 || (32 <= c && c <= 126)
-}
-
-pub(crate) fn are_printable(text: &[u8]) -> bool
-    ensures { result ≡ list_all spec.is_printable text.now }
-{
-    text.iter().all(|c| is_printable(u16::from(*c)))
 }
 
 fn place_in(letters: &[u8], c: u8) -> Option<usize>
@@ -70,7 +64,7 @@ fn sign_spelling(c: u8) -> ZCharacters
 
 /// How a character is spelled, which is in the first alphabet that has it, or else as an escape.
 #[tactic(auto, using(crate::proofs::Spelling::space_spelling, crate::proofs::Spelling::lower_spelling, crate::proofs::Spelling::upper_spelling, crate::proofs::Spelling::line_spelling, crate::proofs::Spelling::sign_spelling))]
-pub(crate) fn spelling(c: u8) -> ZCharacters
+pub fn spelling_of(c: u8) -> ZCharacters
     ensures { take result.length result.characters ≡ spec.spelling_of c }
 {
     if c >= b'a' && c <= b'z' {
@@ -105,21 +99,29 @@ pub fn spelling_length(c: u8) -> usize
     ensures length { result ≡ length (spec.spelling_of c) }
     ensures few { result ≤ 4 }
 {
-    spelling(c).length
+    spelling_of(c).length
 }
 
 /// Adds the Z-characters of a character.
-pub(crate) fn put_spelled(characters: &mut Vec<u8>, c: u8) -> Result<(), AllocError>
+///
+/// # Errors
+///
+/// `AllocError` where a growth of memory was refused.
+pub fn put_spelled(characters: &mut Vec<u8>, c: u8) -> Result<(), AllocError>
     ensures { OnOk result (characters.new.items ≡ characters.old.items ++ spec.spelling_of c) }
 {
-    for z in spelling(c).as_slice() {
+    for z in spelling_of(c).as_slice() {
         characters.push(*z)?;
     }
     Ok(())
 }
 
 /// The Z-characters of a text.
-pub(crate) fn spelled(alloc: Global, text: &[u8]) -> Result<Vec<u8>, AllocError>
+///
+/// # Errors
+///
+/// `AllocError` where a growth of memory was refused.
+pub fn spelled(alloc: Global, text: &[u8]) -> Result<Vec<u8>, AllocError>
     ensures { IfOk result (λ v. v.items ≡ spec.spelled text.now) }
 {
     let mut characters = Vec::with_capacity(alloc, text.len() + text.len() / 2)?;

@@ -4,18 +4,20 @@ ghost use Rattle.std.specs.Prelude.{◌≡◌, ◌==◌, ◌<◌, ℕ, Some, Non
 ghost use Rattle.ztext.specs.Expansions.{place_of};
 ghost use Rattle.ztext.specs.Bytes.{most_abbreviations};
 
-use crate::abbreviations::MOST_ABBREVIATIONS;
+use crate::bytes::MOST_ABBREVIATIONS;
 
 /// Where a text has the characters of an abbreviation, as far as it had room for them.
 #[derive(Clone, Copy)]
-pub(crate) struct Expansion {
-    pub(crate) start: usize,
-    pub(crate) length: usize,
+pub struct Expansion {
+    /// The place of the first in the text.
+    pub start: usize,
+    /// How many the text has.
+    pub length: usize,
 }
 
 /// Of each abbreviation, where a text has its characters, if it was named so far.
 #[derive(Drop)]
-pub(crate) struct Expansions {
+pub struct Expansions {
     // apart from the places, since options of them would be half as long again, and are set up for
     // each text that names an abbreviation
     known: [bool; MOST_ABBREVIATIONS],
@@ -24,7 +26,7 @@ pub(crate) struct Expansions {
 
 impl Expansions {
     /// No abbreviation was named.
-    pub(crate) fn none() -> Expansions
+    pub fn none() -> Expansions
         ensures { (number : ℕ) → place_of result number ≡ None }
     {
         Expansions {
@@ -36,7 +38,8 @@ impl Expansions {
         }
     }
 
-    pub(crate) fn find(&self, number: usize) -> Option<Expansion>
+    /// Where the text has the characters of an abbreviation, if it was named so far.
+    pub fn find(&self, number: usize) -> Option<Expansion>
         requires { number < most_abbreviations }
         ensures { result ≡ place_of self.now number }
     {
@@ -47,7 +50,8 @@ impl Expansions {
         }
     }
 
-    pub(crate) fn note(&mut self, number: usize, place: Expansion)
+    /// Notes where the text has the characters of an abbreviation.
+    pub fn note(&mut self, number: usize, place: Expansion)
         requires { number < most_abbreviations }
         ensures { (other : ℕ) → place_of self.new other
             ≡ (if other == number then Some place else place_of self.old other) }

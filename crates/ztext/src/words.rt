@@ -13,7 +13,7 @@ use crate::fault::TextFault;
 use std::alloc::{AllocError, Global};
 
 /// The two bytes of a word. `mark` is 128 in the last word of a text, or else 0.
-pub(crate) fn word_bytes(mark: u8, a: u8, b: u8, c: u8) -> [u8; 2]
+fn word_bytes(mark: u8, a: u8, b: u8, c: u8) -> [u8; 2]
     requires top { mark ≤ 128 }
     requires first { a < 32 }
     requires second { b < 32 }
@@ -47,9 +47,13 @@ fn take_three(characters: &[u8]) -> Option<(u8, u8, u8, &[u8])>
     }
 }
 
-/// The words of whole threes of Z-characters.
+/// The words of whole threes of Z-characters, the last of them marked.
+///
+/// # Errors
+///
+/// `AllocError` where a growth of memory was refused.
 #[tactic(auto, using(crate::proofs::Packing::packed_step, crate::proofs::Packing::packed_short, crate::proofs::Packing::small_three))]
-pub(crate) fn packed(alloc: Global, characters: &[u8]) -> Result<Vec<u8>, AllocError>
+pub fn packed(alloc: Global, characters: &[u8]) -> Result<Vec<u8>, AllocError>
     requires { AreSmall characters.now }
     ensures { IfOk result (λ v. v.items ≡ spec.packed characters.now) }
 {
@@ -62,8 +66,23 @@ pub(crate) fn packed(alloc: Global, characters: &[u8]) -> Result<Vec<u8>, AllocE
     Ok(bytes)
 }
 
+/// The three words of a key's nine Z-characters, the last of them marked.
+pub fn key_bytes(key: &[u8; 9]) -> [u8; 6]
+    requires { AreSmall key.now }
+    ensures { result ≡ spec.packed key.now }
+{
+    let [a, b] = word_bytes(0, key[0], key[1], key[2]);
+    let [c, d] = word_bytes(0, key[3], key[4], key[5]);
+    let [e, f] = word_bytes(128, key[6], key[7], key[8]);
+    [a, b, c, d, e, f]
+}
+
 /// Adds the fives that fill the last word: a text has at least one.
-pub(crate) fn pad(characters: &mut Vec<u8>) -> Result<(), AllocError>
+///
+/// # Errors
+///
+/// `AllocError` where a growth of memory was refused.
+pub fn pad(characters: &mut Vec<u8>) -> Result<(), AllocError>
     ensures { OnOk result (characters.new.items ≡ spec.padded characters.old.items) }
 {
     let missing = if characters.is_empty() {
@@ -92,7 +111,7 @@ pub fn words_for(characters: u128) -> u128
 }
 
 /// The bytes of a story from an address on: none from its end on.
-pub(crate) fn bytes_from(story: &[u8], at: usize) -> &[u8]
+pub fn bytes_from(story: &[u8], at: usize) -> &[u8]
     ensures { result.now ≡ drop at story.now }
 {
     if at < story.len() { &story[at..] } else { &[] }
@@ -100,8 +119,13 @@ pub(crate) fn bytes_from(story: &[u8], at: usize) -> &[u8]
 
 /// How many words the text at the front of the bytes has, which stand at an address of the story.
 /// The address after the text has 32 bits.
+///
+/// # Errors
+///
+/// `Z2` where no word up to the end of the bytes has its top bit set, or the address after it has
+/// more than 32 bits.
 #[tactic(auto, using(crate::proofs::Packing::words_none, crate::proofs::Packing::words_more, crate::proofs::Packing::words_last, crate::proofs::Packing::words_beyond, crate::proofs::Packing::words_short))]
-pub(crate) fn word_count(bytes: &[u8], at: u32) -> Result<usize, TextFault>
+pub fn word_count(bytes: &[u8], at: u32) -> Result<usize, TextFault>
     ensures words { GivesText (λ n. (words_of n bytes.now, at + 2 * n)) result
         (spec.unpacked_text at bytes.now) }
     ensures room { IfOk result (λ n. 2 * n ≤ length bytes.now) }

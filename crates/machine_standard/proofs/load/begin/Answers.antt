@@ -1,6 +1,6 @@
 use Rattle.std.proofs.Common.{◌≡◌, ◌∙◌, List, ℕ, ap, sym, subst, take, refl}
 use Rattle.zcore.specs.Header.{static_base_of}
-use Rattle.zcore_standard.specs.Loading.{IsPlaced, characters_of, own_alphabets_of}
+use Rattle.zcore_standard_loading.specs.Loading.{IsPlaced, characters_of, own_alphabets_of}
 use Rattle.machine_standard.proofs.Beginning.{begins_with, loaded_as}
 use Rattle.machine_standard.proofs.load.begin.Goals as goal
 

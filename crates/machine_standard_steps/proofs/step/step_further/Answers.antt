@@ -1,7 +1,7 @@
 use Rattle.std.proofs.Common.{◌<◌, ◌∙◌, ap, sym, subst, length, ℕ, List, arith}
 use Rattle.std.proofs.lemmas.List.{length-take-le}
 use Rattle.zcore_standard.specs.Instruction.{decode_further}
-use Rattle.zcore_standard.proofs.Refusing.{stands}
+use Rattle.zcore_standard_laws.proofs.Refusing.{stands}
 use Rattle.machine_frames.specs.Contents.{memory_of}
 use Rattle.machine_frames.proofs.Steps.{went_store}
 use Rattle.machine_lines.proofs.Lines.{base_kept}

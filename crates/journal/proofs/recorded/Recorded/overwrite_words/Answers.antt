@@ -1,6 +1,6 @@
 use Rattle.std.proofs.Common.{◌+◌, ◌/◌, ◌≤◌, ◌∙◌, ap, arith, length}
-use Rattle.journal.specs.Pages.{keeps}
-use Rattle.journal.proofs.Held.{beginning_run}
+use Rattle.journal_pages.specs.Pages.{keeps}
+use Rattle.journal_pages.proofs.Held.{beginning_run}
 use Rattle.journal.proofs.recorded.Recorded.overwrite_words.Goals as goal
 
 pub returns-clause-beginning : goal.returns-clause-beginning

@@ -1,8 +1,0 @@
-use Rattle.std.proofs.Common.{◌≡◌, ◌+◌, ◌-◌, ◌*◌, ◌++◌}
-use Rattle.zcore_standard.specs.Loading.{words_from}
-use Rattle.zcore_standard.proofs.zscii.words_from.Given as goal
-
--- the words that were read, and those that are left
-abbrev pub invariant-loop-i : goal.invariant-loop-i
-invariant-loop-i l =
-    l.words.items ++ words_from l.memory (l.at + 2 * l.i) (l.count - l.i) ≡ words_from l.memory l.at l.count

@@ -1,0 +1,213 @@
+-- A step of the Standard's machine makes the profile's weight fall.
+use Rattle.std.proofs.Common.{◌≡◌, ℕ, ◌+◌, ◌<◌, ◌≤◌, ◌/◌, ◌%◌, List, [], length, drop, refl, ap, sym, ◌∙◌, arith}
+use Rattle.std.proofs.Common.{slice_index, slice_index_or, Bool, false, Option, Some, None, Result, Ok, Err}
+use Rattle.std.specs.Prelude.{◌==◌, nat_lt}
+use Rattle.zcore.specs.declared.instruction.Branch.{Branch}
+use Rattle.zcore.specs.declared.place.Fault.{Fault}
+use Rattle.zcore.specs.declared.place.Fault.TheVariants as faults
+use Rattle.zcore.specs.declared.next.Next.{Next}
+use Rattle.zcore.specs.Instruction.{byte, operands, variable_types, given_types, branch_at}
+use Rattle.zcore.specs.State.{State, Out, done, halt}
+use Rattle.zcore.specs.Layout.{header_size}
+use Rattle.zcore.specs.Parts.{operand_values, spend}
+use Rattle.zcore.proofs.Ahead as ahead
+use Rattle.zcore.proofs.Keeping.{spend_less, keeps_spend}
+use Rattle.zcore.proofs.KeepingReads.{done_state, done_value, never, both, keeps_operand_values}
+use Rattle.zcore.proofs.FallsOfParts as parts
+use Rattle.zcore.proofs.FallsOfParts.{Falls, falls_alike}
+use Rattle.zcore.proofs.FallsOfEffects.{give_result_falls}
+use Rattle.zcore_standard.specs.declared.operations.Further.{Further}
+use Rattle.zcore_standard.specs.declared.operations.Further.TheVariants as operations
+use Rattle.zcore_standard.specs.Place.{Here, on, within}
+use Rattle.zcore_standard.specs.Loaded.{Loaded}
+use Rattle.zcore_standard.specs.Operations.{row_of, further_at}
+use Rattle.zcore_standard.specs.Instruction.{Instruction, typed, types_at, counted, result_at, branch_after}
+use Rattle.zcore_standard.specs.Instruction.{decode_further}
+use Rattle.zcore_standard.specs.Dice.{rolled, random}
+use Rattle.zcore_standard.specs.Flow.{restart}
+use Rattle.zcore_standard.specs.Further.{perform_keeping, perform_further, execute_further}
+use Rattle.zcore_standard.specs.Nothing.{step_known}
+use Rattle.zcore_standard.specs.Machine.{chosen, standard_step}
+use Rattle.zcore_standard_laws.proofs.Falling.{perform_keeping_falls}
+use Rattle.zcore_standard_laws.proofs.Known.{step_known_falls}
+use Rattle.zcore_standard_laws.proofs.Awaiting.{read_line_falls, read_key_falls}
+use Rattle.zcore_standard_laws.proofs.StreamFacts.{output_stream_falls}
+use Rattle.zcore_standard_laws.proofs.WordFacts.{length-with_bytes}
+use Rattle.zcore_standard_laws.proofs.WindowFacts.{FallsFrom, set_window_falls, set_cursor_falls, erase_window_falls}
+use Rattle.zcore_standard_laws.proofs.WindowFacts.{split_window_falls}
+use Rattle.zcore_standard_laws.proofs.Refusing.{stands}
+
+-- a part of the profile's machine that went on
+within_done : (here next : Here) (o : Out Next) (t : State) → within here o ≡ done next t → o ≡ done next.next t
+within_done here next (done n u) t h =
+    let v : next ≡ on here n = done_value (on here n) next u t h in
+    let w : t ≡ u = done_state (on here n) next u t h in
+    ap (λ x. done n x) (sym w) ∙ ap (λ (x : Here). done x.next t) (sym v)
+within_done here next (halt place u) t h = absurd (never place next u t h)
+
+within_falls : (here there : Here) (f : State → Out Next) → parts.FallsFrom here.next f
+    → FallsFrom here (λ s. within there (f s))
+within_falls here there f falls s t next inside h =
+    falls s t next.next inside (within_done there next (f s) t h)
+
+random_falls : (here : Here) (after : ℕ) (result : Option ℕ) (range : ℕ)
+    → here.next.program_counter < after → FallsFrom here (random here after result range)
+unfolding random
+random_falls here after result range past =
+    within_falls here (record here { beside = (rolled range here.beside).1 }) _
+    (give_result_falls here.next after result (rolled range here.beside).0 past)
+
+-- restart: a unit is spent, and one frame is left
+restart_falls : (loaded : Loaded) (here : Here) → FallsFrom here (restart loaded here)
+unfolding restart
+restart_falls loaded here s t next inside h =
+    let p = both (spend here.next.fuel s) _ next t h in
+    let less = spend_less here.next.fuel s p.between p.value p.first in
+    let one = keeps_spend here.next.fuel s p.between p.value p.first in
+    let v = done_value _ next _ t p.second in
+    let w = done_state _ next _ t p.second in
+    let memory : length t.memory ≡ length s.memory =
+    ap (λ (x : State). length x.memory) w
+    ∙ length-with_bytes p.between.memory header_size (drop header_size loaded.dynamic) ∙ one.memory in
+    let frames : length t.frames ≡ 1 = ap (λ (x : State). length x.frames) w in
+    let fuel : next.next.fuel ≡ p.value = ap (λ (x : Here). x.next.fuel) v in
+    parts.spent here.next next.next s t memory (omega (arith, frames)) (rw fuel less) (λ _. omega (arith, frames))
+
+keeping_falls : (loaded : Loaded) (operation : Further) (here : Here) (after : ℕ) (result : Option ℕ)
+    (branch : Option Branch) (values : List ℕ) → here.next.program_counter < after
+    → FallsFrom here (λ s. within here (perform_keeping loaded operation here.next after result branch values s))
+keeping_falls loaded operation here after result branch values past =
+    within_falls here here _ (perform_keeping_falls loaded operation here.next after result branch values past)
+
+perform_further_falls : (loaded : Loaded) (operation : Further) (here : Here) (after : ℕ) (result : Option ℕ)
+    (branch : Option Branch) (values : List ℕ) → here.next.program_counter < after
+    → FallsFrom here (perform_further loaded operation here after result branch values)
+unfolding perform_further
+perform_further_falls loaded operations.Restart here after result branch values past = restart_falls loaded here
+perform_further_falls loaded operations.Random here after result branch values past = random_falls here after result
+    (slice_index values 0) past
+perform_further_falls loaded operations.Read here after result branch values past = read_line_falls loaded.characters
+    here after result (slice_index values 0) (slice_index_or values 1 0)
+perform_further_falls loaded operations.ReadChar here after result branch values past = read_key_falls
+    loaded.characters here after result
+perform_further_falls loaded operations.OutputStream here after result branch values past = output_stream_falls
+    loaded.characters here after values past
+perform_further_falls loaded operations.SetWindow here after result branch values past = set_window_falls here after
+    (slice_index values 0) past
+perform_further_falls loaded operations.SetCursor here after result branch values past = set_cursor_falls here after
+    (slice_index values 0) (slice_index values 1) past
+perform_further_falls loaded operations.EraseWindow here after result branch values past = erase_window_falls here
+    after (slice_index values 0) past
+perform_further_falls loaded operations.SplitWindow here after result branch values past = split_window_falls here
+    after (slice_index values 0) past
+perform_further_falls loaded operation here after result branch values past = keeping_falls loaded operation here after
+    result branch values past
+
+-- The address after an instruction lies behind its own
+
+typed_ahead : (memory : List ℕ) (at : ℕ) (x : List ℕ × ℕ) → typed memory at ≡ Ok x → at ≤ x.1
+typed_ahead memory at x h =
+    let p = ahead.read (variable_types memory false at) _ x h in
+    let q = ahead.read (given_types p.value.0) _ x p.second in
+    let one = ahead.variable_types_ahead memory false at p.value p.first in
+    let e = ahead.ok_after _ x.0 p.value.1 x.1 q.second in
+    omega arith
+
+types_ahead : (memory : List ℕ) (first at : ℕ) (x : List ℕ × ℕ) → types_at memory first at ≡ Ok x → at < x.1
+unfolding types_at
+types_ahead memory first at x h =
+    ahead.chosen (at < x.1) (first == 190) _ _ x
+    (λ _ e. let one = typed_ahead memory (at + 2) x e in omega arith)
+    (λ _ e. ahead.chosen (at < x.1) (nat_lt first 128) _ _ x
+    (λ _ f. let one = ahead.ok_after _ x.0 (at + 1) x.1 f in omega arith)
+    (λ _ f. ahead.chosen (at < x.1) (nat_lt first 192) _ _ x
+    (λ _ g. let one = ahead.ok_after [] x.0 (at + 1) x.1 g in omega arith)
+    (λ _ g. let one = typed_ahead memory (at + 1) x g in omega arith) f) e) h
+
+counted_same : (operation : Further) (types x : List ℕ × ℕ) → counted operation types ≡ Ok x → x.1 ≡ types.1
+counted_same operation types x h =
+    ahead.chosen (x.1 ≡ types.1) _ (Ok types) (Err faults.Opcode) x
+    (λ _ e. ahead.ok_after types.0 x.0 types.1 x.1 e)
+    (λ _ e. absurd (ahead.refused _ x e)) h
+
+result_ahead : (memory : List ℕ) (stores : Bool) (at : ℕ) (x : Option ℕ × ℕ) → result_at memory stores at ≡ Ok x
+    → at ≤ x.1
+unfolding result_at
+result_ahead memory stores at x h =
+    ahead.chosen (at ≤ x.1) stores _ _ x
+    (λ _ e.
+    let p = ahead.read (byte memory at) (λ v. Ok (Some v.0, v.1)) x e in
+    let one = (ahead.byte_next memory at p.value p.first).0 in
+    let two = ahead.ok_after _ x.0 p.value.1 x.1 p.second in
+    omega arith)
+    (λ _ e. let f = ahead.ok_after None x.0 at x.1 e in omega arith) h
+
+branch_at_ahead : (memory : List ℕ) (at : ℕ) (x : Branch × ℕ) → branch_at memory at ≡ Ok x → at ≤ x.1
+branch_at_ahead memory at x h =
+    let p = ahead.read (byte memory at) _ x h in
+    let one = (ahead.byte_next memory at p.value p.first).0 in
+    ahead.chosen (at ≤ x.1) (p.value.0 / 64 % 2 == 1) _ _ x
+    (λ _ e. let f = ahead.ok_after _ x.0 p.value.1 x.1 e in omega arith)
+    (λ _ e.
+    let q = ahead.read (byte memory p.value.1) _ x e in
+    let two = (ahead.byte_next memory p.value.1 q.value q.first).0 in
+    let f = ahead.ok_after _ x.0 q.value.1 x.1 q.second in
+    omega arith) p.second
+
+branch_ahead : (memory : List ℕ) (branches : Bool) (at : ℕ) (x : Option Branch × ℕ)
+    → branch_after memory branches at ≡ Ok x → at ≤ x.1
+unfolding branch_after
+branch_ahead memory branches at x h =
+    ahead.chosen (at ≤ x.1) branches _ _ x
+    (λ _ e.
+    let p = ahead.read (branch_at memory at) (λ v. Ok (Some v.0, v.1)) x e in
+    let one = branch_at_ahead memory at p.value p.first in
+    let two = ahead.ok_after _ x.0 p.value.1 x.1 p.second in
+    omega arith)
+    (λ _ e. let f = ahead.ok_after None x.0 at x.1 e in omega arith) h
+
+decode_further_ahead : (memory : List ℕ) (at : ℕ) (operation : Further) (x : Instruction × ℕ)
+    → decode_further memory at operation ≡ Ok x → at < x.1
+unfolding decode_further
+decode_further_ahead memory at operation x h =
+    let p = ahead.read (types_at memory (slice_index memory at) at) _ x h in
+    let c = ahead.read (counted operation p.value) _ x p.second in
+    let q = ahead.read (operands memory c.value.0 c.value.1) _ x c.second in
+    let r = ahead.read (result_at memory (row_of operation).has_result q.value.1) _ x q.second in
+    let b = ahead.read (branch_after memory (row_of operation).has_branch r.value.1) _ x r.second in
+    let one = types_ahead memory (slice_index memory at) at p.value p.first in
+    let two = counted_same operation p.value c.value c.first in
+    let three = ahead.operands_ahead memory c.value.0 c.value.1 q.value q.first in
+    let four = result_ahead memory (row_of operation).has_result q.value.1 r.value r.first in
+    let five = branch_ahead memory (row_of operation).has_branch r.value.1 b.value b.first in
+    let e = ahead.ok_after _ x.0 b.value.1 x.1 b.second in
+    omega arith
+
+execute_further_falls : (loaded : Loaded) (operation : Further) (here : Here) (r : Result (Instruction × ℕ) Fault)
+    → ((x : Instruction × ℕ) → r ≡ Ok x → here.next.program_counter < x.1)
+    → FallsFrom here (execute_further loaded operation here r)
+execute_further_falls loaded operation here (Err cause) past s t next inside h = absurd (never _ next s t h)
+execute_further_falls loaded operation here (Ok x) past s t next inside h =
+    let p = both (operand_values x.0.operands s)
+    (λ values. perform_further loaded operation here x.1 x.0.result x.0.branch values) next t h in
+    let alike = keeps_operand_values x.0.operands s p.between p.value p.first in
+    falls_alike here.next next.next s p.between t alike
+    (perform_further_falls loaded operation here x.1 x.0.result x.0.branch p.value (past x refl) p.between t next
+    (omega (arith, alike.memory)) p.second)
+
+chosen_falls : (loaded : Loaded) (here : Here) (s t : State) (next : Here) (o : Option Further)
+    → further_at s.memory here.next.program_counter ≡ o → chosen loaded o here s ≡ done next t
+    → Falls here.next s next.next t
+chosen_falls loaded here s t next None e h =
+    step_known_falls loaded here.next next.next s t (within_done here next (step_known loaded here.next s) t h)
+chosen_falls loaded here s t next (Some operation) e h =
+    let memory = s.memory in
+    let at = here.next.program_counter in
+    execute_further_falls loaded operation here (decode_further memory at operation)
+    (λ x f. decode_further_ahead memory at operation x f) s t next (stands memory at operation e).within h
+
+pub standard_step_falls : (loaded : Loaded) (here next : Here) (s t : State)
+    → standard_step loaded here s ≡ done next t → Falls here.next s next.next t
+unfolding standard_step
+standard_step_falls loaded here next s t h =
+    chosen_falls loaded here s t next (further_at s.memory here.next.program_counter) refl h

@@ -1,0 +1,202 @@
+-- Turns of the Standard's machine: each has one end, and reaches it within its weight. A turn of the profile that meets
+-- no fault is one of them.
+use Rattle.std.proofs.Common.{◌≡◌, ℕ, zero, suc, ◌⊎◌, inl, inr, List, refl, ap, ◌∙◌, arith}
+use Rattle.std.proofs.Common.{Bool, true, false, cond, Option, Some, None, slice_index}
+use Rattle.std.specs.Prelude.{◌==◌, if◌then◌else◌, IfSome}
+use Rattle.std.specs.List.{list_all}
+use Rattle.zcore.specs.declared.beside.Beside.{Beside}
+use Rattle.zcore.specs.declared.next.Next.{Next}
+use Rattle.zcore.specs.declared.place.Fault.TheVariants as faults
+use Rattle.zcore.specs.declared.place.Place.{Place}
+use Rattle.zcore.specs.declared.place.Place.TheVariants as places
+use Rattle.zcore.specs.State.{Pending, State, Out, done, halt}
+use Rattle.zcore.specs.Execution.{step}
+use Rattle.zcore.specs.Parts.{is_text_buffer}
+use Rattle.zcore.specs.Turn.{StateOfPlay, Whole, TurnsBy, after_step, turn_by, turn_in, turn_from, weight}
+use Rattle.zcore.specs.Turn.{ended, is_waiting, given, resumed, turn_pending, turn_on}
+use Rattle.zcore.proofs.Turning.{IsWeight, weight_some, turn_by_ends, turns_by_same}
+use Rattle.zcore_standard.specs.declared.operations.Further.{Further}
+use Rattle.zcore_standard.specs.declared.operations.Further.TheVariants.{Read}
+use Rattle.zcore_standard.specs.Place.{Here, plain, within}
+use Rattle.zcore_standard.specs.Loaded.{Loaded}
+use Rattle.zcore_standard.specs.Operations.{further_at}
+use Rattle.zcore_standard.specs.Unicode.{is_ascii}
+use Rattle.zcore_standard.specs.Windows.{begun_at}
+use Rattle.zcore_standard.specs.Machine.{chosen, standard, standard_step, standard_turn, standard_pending}
+use Rattle.zcore_standard.specs.Machine.{standard_turn_on, standard_ended, with_beside, begins}
+use Rattle.zcore_standard_laws.specs.Laws.{EndsOneWay, WaitsAsTheProfile, is_fault, ends_in_fault, closes_none}
+use Rattle.zcore_standard_laws.proofs.GivenAlike.{given_alike}
+use Rattle.zcore_standard_laws.proofs.Known.{known_keeps}
+use Rattle.zcore_standard_laws.proofs.Reading.{read_keeps}
+use Rattle.zcore_standard_laws.proofs.Refusing.{IsReadByte, Stands, stands, step_refused}
+use Rattle.zcore_standard_laws.proofs.Stepping.{standard_step_falls}
+
+abbrev pub weighs : Here → State → ℕ
+weighs here s = weight here.next s
+
+pub standard_weight : (loaded : Loaded) → IsWeight (standard loaded) weighs
+standard_weight loaded = record {
+  some = λ here s. weight_some here.next s;
+  falls = λ here next s t e. (standard_step_falls loaded here next s t e).falls;
+}
+
+pub standard_ends : (loaded : Loaded) (here : Here) (s : State)
+    → (whole : Whole) × (standard_turn loaded here s ≡ Some whole)
+unfolding standard_turn
+standard_ends loaded here s =
+    turn_by_ends (standard loaded) weighs (standard_weight loaded) (weighs here s) here s (omega arith)
+
+pub is_standard_turn : (loaded : Loaded) (here : Here) (s : State) (whole : Whole)
+    → standard_turn loaded here s ≡ Some whole → TurnsBy (standard loaded) here s whole
+unfolding standard_turn
+is_standard_turn loaded here s whole e = record { count = weighs here s; ends = e }
+
+-- the turn is what the function gives
+pub standard_turn_is : (loaded : Loaded) (here : Here) (s : State) (whole : Whole)
+    → TurnsBy (standard loaded) here s whole → standard_turn loaded here s ≡ Some whole
+standard_turn_is loaded here s whole turn =
+    let e = standard_ends loaded here s in
+    let same = turns_by_same (standard loaded) here s e.0 whole (is_standard_turn loaded here s e.0 e.1) turn in
+    e.1 ∙ ap (λ w. Some w) same
+
+pub standard_ends_once : (loaded : Loaded) (here : Here) (s : State) → EndsOneWay loaded here s
+standard_ends_once loaded here s =
+    let e = standard_ends loaded here s in
+    let turn = is_standard_turn loaded here s e.0 e.1 in
+    record {
+      whole = e.0;
+      ends = turn;
+      found = e.1;
+      only = λ other u. turns_by_same (standard loaded) here s other e.0 u turn;
+    }
+
+-- Steps that the profile plays
+
+neither : (b : Bool) → b ≡ false → b ≡ true → ⊥
+neither true e f = cc
+neither false e f = cc
+
+-- at a further operation the profile faults, or both read `aread`
+further_keeps : (loaded : Loaded) (here : Here) (s : State) (operation : Further)
+    → Stands s.memory here.next.program_counter operation → ends_in_fault (step here.next s) ≡ false
+    → closes_none here (step here.next s) ≡ true
+    → (step here.next s ≡ halt (places.Fault faults.Opcode) s)
+    ⊎ ((operation ≡ Read) × IsReadByte (slice_index s.memory here.next.program_counter))
+    → chosen loaded (Some operation) here s ≡ within here (step here.next s)
+further_keeps loaded here s operation a plays quiet (inl e) = absurd (neither _ plays (ap ends_in_fault e))
+further_keeps loaded here s operation a plays quiet (inr r) =
+    ap (λ o. chosen loaded (Some o) here s) r.0 ∙ read_keeps loaded here s a.code a.within r.1 plays quiet
+
+chosen_keeps : (loaded : Loaded) (here : Here) (s : State) (o : Option Further) → loaded.own_alphabets ≡ None
+    → further_at s.memory here.next.program_counter ≡ o → ends_in_fault (step here.next s) ≡ false
+    → closes_none here (step here.next s) ≡ true → chosen loaded o here s ≡ within here (step here.next s)
+chosen_keeps loaded here s None own e plays quiet = ap (within here) (known_keeps loaded here.next s own plays)
+chosen_keeps loaded here s (Some operation) own e plays quiet =
+    further_keeps loaded here s operation (stands s.memory here.next.program_counter operation e) plays quiet
+    (step_refused here.next s operation e)
+
+pub standard_steps : (loaded : Loaded) (here : Here) (s : State) → loaded.own_alphabets ≡ None
+    → ends_in_fault (step here.next s) ≡ false → closes_none here (step here.next s) ≡ true
+    → standard_step loaded here s ≡ within here (step here.next s)
+unfolding standard_step
+standard_steps loaded here s own plays quiet =
+    chosen_keeps loaded here s (further_at s.memory here.next.program_counter) own refl plays quiet
+
+-- Turns that the profile plays
+
+some_is : (a b : Whole) → (let o : Option Whole = Some a in o) ≡ Some b → a ≡ b
+some_is a b h = cc
+
+-- where the lower window is selected, a turn begins with no upper one
+begins_plain : (beside : Beside) (next : Next) → beside.window ≡ 0 → begins beside next ≡ plain beside next
+begins_plain beside next e =
+    ap (λ (w : ℕ). let h : Here = record (plain beside next) { upper = if w == 0 then None else Some (begun_at 0) } in h)
+    e
+
+both_same : {A : Type 0} (b : Bool) (a : A) → cond b a a ≡ a
+both_same true a = refl
+both_same false a = refl
+
+-- and ends as in the profile
+ended_plain : (beside : Beside) (here : Next) (place : Place) (s : State)
+    → standard_ended (plain beside here) place s ≡ with_beside beside (ended here place s)
+ended_plain beside here place s =
+    ap (λ text. with_beside beside (ended here place (record s { text = text }))) (both_same (is_waiting place) s.text)
+
+-- a step of the profile, and what follows it
+after_keeps : (loaded : Loaded) (beside : Beside) (here : Next) (s : State) (count : ℕ) (whole : Whole) (o : Out Next)
+    → ((next : Next) (t : State) → turn_in count next t ≡ Some whole
+    → turn_by (standard loaded) count (plain beside next) t ≡ Some (with_beside beside whole))
+    → is_fault whole.place ≡ false
+    → (ends_in_fault o ≡ false → standard_step loaded (plain beside here) s ≡ within (plain beside here) o)
+    → after_step o (turn_in count) (λ place t. Some (ended here place t)) ≡ Some whole
+    → turn_by (standard loaded) (suc count) (plain beside here) s ≡ Some (with_beside beside whole)
+after_keeps loaded beside here s count whole (done next t) rest plays same e =
+    ap (λ o. after_step o (turn_by (standard loaded) count)
+    (λ place u. Some ((standard loaded).ended (plain beside here) place u))) (same refl)
+    ∙ rest next t e
+after_keeps loaded beside here s count whole (halt place t) rest plays same e =
+    let w : ended here place t ≡ whole = some_is _ whole e in
+    ap (λ o. after_step o (turn_by (standard loaded) count)
+    (λ place u. Some ((standard loaded).ended (plain beside here) place u)))
+    (same (ap (λ (x : Whole). is_fault x.place) w ∙ plays))
+    ∙ ap (λ x. Some x) (ended_plain beside here place t)
+    ∙ ap (λ x. Some (with_beside beside x)) w
+
+turn_in_keeps : (loaded : Loaded) (beside : Beside) (count : ℕ) (here : Next) (s : State) (whole : Whole)
+    → loaded.own_alphabets ≡ None → turn_in count here s ≡ Some whole → is_fault whole.place ≡ false
+    → turn_by (standard loaded) count (plain beside here) s ≡ Some (with_beside beside whole)
+turn_in_keeps loaded beside zero here s whole own e plays = absurd (cc)
+turn_in_keeps loaded beside (suc count) here s whole own e plays =
+    after_keeps loaded beside here s count whole (step here s)
+    (λ next t h. turn_in_keeps loaded beside count next t whole own h plays) plays
+    (λ h. standard_steps loaded (plain beside here) s own h refl) e
+
+pub standard_turn_keeps : (loaded : Loaded) (beside : Beside) (here : Next) (s : State) (whole : Whole)
+    → loaded.own_alphabets ≡ None → beside.window ≡ 0
+    → turn_from here s ≡ Some whole → is_fault whole.place ≡ false
+    → standard_turn loaded (begins beside here) s ≡ Some (with_beside beside whole)
+unfolding turn_from standard_turn
+standard_turn_keeps loaded beside here s whole own lower e plays =
+    ap (λ first. turn_by (standard loaded) (weight here s) first s) (begins_plain beside here lower)
+    ∙ turn_in_keeps loaded beside (weight here s) here s whole own e plays
+
+-- The turn of a line
+
+line_keeps : (loaded : Loaded) (fuel : ℕ) (play : StateOfPlay) (whole : Whole) (o : Out Next)
+    → loaded.own_alphabets ≡ None → play.beside.window ≡ 0 → is_fault whole.place ≡ false
+    → after_step o turn_from
+    (λ place s. Some (ended (record { program_counter = play.program_counter; fuel = fuel }) place s)) ≡ Some whole
+    → after_step o (λ next s. standard_turn loaded (begins play.beside next) s)
+    (λ place s. Some (standard_ended
+    (begins play.beside (record { program_counter = play.program_counter; fuel = fuel })) place s))
+    ≡ Some (with_beside play.beside whole)
+line_keeps loaded fuel play whole (done next t) own lower plays e =
+    standard_turn_keeps loaded play.beside next t whole own lower e plays
+line_keeps loaded fuel play whole (halt place t) own lower plays e =
+    let here : Next = record { program_counter = play.program_counter; fuel = fuel } in
+    ap (λ first. Some (standard_ended first place t)) (begins_plain play.beside here lower)
+    ∙ ap (λ x. Some x) (ended_plain play.beside here place t)
+    ∙ ap (λ x. Some (with_beside play.beside x)) (some_is _ whole e)
+
+pending_keeps : (loaded : Loaded) (line : List ℕ) (fuel : ℕ) (play : StateOfPlay) (whole : Whole) (p : Option Pending)
+    → loaded.own_alphabets ≡ None → list_all is_ascii line ≡ true → play.beside.window ≡ 0
+    → IfSome p (λ pending. is_text_buffer play.memory pending.text_buffer ≡ true)
+    → turn_pending p line fuel play ≡ Some whole → is_fault whole.place ≡ false
+    → standard_pending loaded p line fuel play ≡ Some (with_beside play.beside whole)
+pending_keeps loaded line fuel play whole None own plain lower waits e plays = absurd (cc)
+pending_keeps loaded line fuel play whole (Some pending) own plain lower waits e plays =
+    ap (λ o. after_step o (λ next s. standard_turn loaded (begins play.beside next) s)
+    (λ place s. Some (standard_ended
+    (begins play.beside (record { program_counter = play.program_counter; fuel = fuel })) place s)))
+    (given_alike loaded pending line fuel (resumed play) own plain waits)
+    ∙ line_keeps loaded fuel play whole (given pending line fuel (resumed play)) own lower plays e
+
+pub standard_turn_on_keeps : (loaded : Loaded) (line : List ℕ) (fuel : ℕ) (play : StateOfPlay) (whole : Whole)
+    → loaded.own_alphabets ≡ None → list_all is_ascii line ≡ true → play.beside.window ≡ 0 → WaitsAsTheProfile play
+    → turn_on line fuel play ≡ Some whole
+    → is_fault whole.place ≡ false
+    → standard_turn_on loaded line fuel play ≡ Some (with_beside play.beside whole)
+unfolding turn_on standard_turn_on
+standard_turn_on_keeps loaded line fuel play whole own plain lower waits e plays =
+    pending_keeps loaded line fuel play whole play.pending own plain lower waits e plays

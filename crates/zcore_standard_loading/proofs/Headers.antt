@@ -1,0 +1,94 @@
+-- What the player writes into a header leaves memory as long, and the version as it is.
+use Rattle.std.proofs.Common.{◌≡◌, ℕ, ◌+◌, ◌<◌, ◌≤◌, ◌/◌, ◌%◌, List, [], ◌∷◌, length, set, refl, ◌∙◌, arith}
+use Rattle.std.proofs.Common.{slice_index, Bool, true, false, cond}
+use Rattle.std.proofs.lemmas.List.{length-set}
+use Rattle.zcore.specs.Layout.{header_size}
+use Rattle.zcore.specs.Parts.{with_word}
+use Rattle.zcore.specs.Turn.{with_bytes}
+use Rattle.zcore_standard_loading.specs.Loading.{with_extension_word, with_header}
+use Rattle.std.specs.Prelude.{◌&&◌, nat_le, min}
+use Rattle.std.proofs.lemmas.Bool.{and_parts, leb-true}
+use Rattle.std.proofs.lemmas.List.{get_or-set_other}
+use Rattle.zcore.specs.Header.{static_base_of}
+use Rattle.ztext.specs.Bytes.{word_at}
+use Rattle.zcore_standard_loading.specs.Loading.{has_dynamic_word, extension_of, extension_place, with_extension, flags_1, flags_2}
+use Rattle.zcore_standard_loading.specs.Loading.{screen, colours, revision}
+
+-- bytes that are written leave the memory as long
+length-with_bytes : (memory : List ℕ) (at : ℕ) (bytes : List ℕ) → length (with_bytes memory at bytes) ≡ length memory
+length-with_bytes memory at [] = refl
+length-with_bytes memory at (b ∷ bs) = length-with_bytes (set memory at b) (at + 1) bs ∙ length-set memory at b
+
+-- what comes before them stays
+bytes_before : (memory : List ℕ) (at : ℕ) (bytes : List ℕ) (j : ℕ) → j < at
+    → slice_index (with_bytes memory at bytes) j ≡ slice_index memory j
+bytes_before memory at [] j below = refl
+bytes_before memory at (b ∷ bs) j below =
+    bytes_before (set memory at b) (at + 1) bs j (omega arith)
+    ∙ get_or-set_other memory at j b 0 (λ e. absurd (omega (arith, e, below)))
+
+word_before : (memory : List ℕ) (at word j : ℕ) → j < at
+    → slice_index (with_word memory at word) j ≡ slice_index memory j
+word_before memory at word j below =
+    get_or-set_other (set memory at (word / 256)) (at + 1) j (word % 256) 0 (λ e. absurd (omega (arith, e, below)))
+    ∙ get_or-set_other memory at j (word / 256) 0 (λ e. absurd (omega (arith, e, below)))
+
+-- the header's first byte, and the length
+
+pub record Stays (before after : List ℕ) : Type 0 where
+  pub first : slice_index after 0 ≡ slice_index before 0
+  pub long : length after ≡ length before
+
+stays_then : (a b c : List ℕ) → Stays a b → Stays b c → Stays a c
+stays_then a b c p q = record { first = q.first ∙ p.first; long = q.long ∙ p.long }
+
+bytes_stay : (memory : List ℕ) (at : ℕ) (bytes : List ℕ) → 0 < at → Stays memory (with_bytes memory at bytes)
+bytes_stay memory at bytes some =
+    record { first = bytes_before memory at bytes 0 some; long = length-with_bytes memory at bytes }
+
+if_word_stays : (holds : Bool) (memory : List ℕ) (at word : ℕ) → (holds ≡ true → 0 < at)
+    → Stays memory (cond holds (with_word memory at word) memory)
+if_word_stays true memory at word some = record {
+  first = word_before memory at word 0 (some refl);
+  long = length-set (set memory at (word / 256)) (at + 1) (word % 256) ∙ length-set memory at (word / 256);
+}
+if_word_stays false memory at word some = record { first = refl; long = refl }
+
+extension_word_stays : (number word : ℕ) (memory : List ℕ) → Stays memory (with_extension_word number word memory)
+extension_word_stays number word memory =
+    if_word_stays (has_dynamic_word memory number) memory (extension_place memory number) word (λ h.
+    let parts = and_parts (nat_le header_size (extension_of memory)
+    && nat_le (extension_place memory number + 2) (min (length memory) (static_base_of memory)))
+    (nat_le number (word_at memory (extension_of memory))) h in
+    let most = and_parts (nat_le header_size (extension_of memory))
+    (nat_le (extension_place memory number + 2) (min (length memory) (static_base_of memory))) parts.0 in
+    let after : header_size ≤ extension_of memory = leb-true header_size (extension_of memory) most.0 in
+    omega (arith, after))
+
+extension_stays : (memory : List ℕ) → Stays memory (with_extension memory)
+extension_stays memory =
+    let four = with_extension_word 4 0 memory in
+    let five = with_extension_word 5 0x7FFF four in
+    stays_then memory five _ (stays_then memory four five (extension_word_stays 4 0 memory)
+    (extension_word_stays 5 0x7FFF four)) (extension_word_stays 6 0 five)
+
+pub header_stays : (story : List ℕ) → Stays story (with_header story)
+unfolding with_header
+header_stays story =
+    let one = with_bytes story 0x01 (flags_1 ∷ []) in
+    let two = with_bytes one 0x10 (flags_2 story) in
+    let three = with_bytes two 0x1E screen in
+    let four = with_bytes three 0x2C colours in
+    let five = with_bytes four 0x32 revision in
+    stays_then story one _ (bytes_stay story 0x01 (flags_1 ∷ []) (omega arith))
+    (stays_then one two _ (bytes_stay one 0x10 (flags_2 story) (omega arith))
+    (stays_then two three _ (bytes_stay two 0x1E screen (omega arith))
+    (stays_then three four _ (bytes_stay three 0x2C colours (omega arith))
+    (stays_then four five _ (bytes_stay four 0x32 revision (omega arith)) (extension_stays five)))))
+
+-- the same with the names that callers want
+pub first_stays : (story : List ℕ) → slice_index (with_header story) 0 ≡ slice_index story 0
+first_stays story = (header_stays story).first
+
+pub length_stays : (story : List ℕ) → length (with_header story) ≡ length story
+length_stays story = (header_stays story).long

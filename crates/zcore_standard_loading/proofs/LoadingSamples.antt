@@ -1,0 +1,81 @@
+-- Loading, computed.
+use Rattle.std.proofs.Common.{◌≡◌, ℕ, List, [], ◌∷◌, ◌++◌, length, replicate, true, false, refl, Some, None}
+use Rattle.std.specs.Prelude.{slice_range}
+use Rattle.zcore_standard_loading.specs.Loading.{story_length, story_in, with_header, is_sum_right, characters_of}
+use Rattle.zcore_standard_loading.specs.Loading.{own_alphabets_of}
+use Rattle.zcore_standard.specs.Texts.{default_alphabets}
+use Rattle.zcore_standard.specs.Unicode.{default_characters}
+
+-- a story of version 5: static base 74, stated length 4 * 21 bytes, the sum of 20 bytes of 9, an extension at an address
+abbrev story : ℕ → List ℕ → List ℕ
+story extension bytes =
+    (5 ∷ 3 ∷ []) ++ replicate 13 0 ++ (74 ∷ []) ++ (255 ∷ 255 ∷ []) ++ replicate 8 7
+    ++ (0 ∷ 21 ∷ 0 ∷ 180 ∷ []) ++ replicate 24 7 ++ (0 ∷ extension ∷ []) ++ replicate 8 7 ++ bytes
+
+abbrev bytes : List ℕ
+bytes = replicate 20 9
+
+length_is : length (story 0 bytes) ≡ 84
+length_is = refl
+
+stated : story_length (story 0 bytes ++ replicate 100 1) ≡ 84
+stated = refl
+
+-- what follows the story in its file is dropped
+cut : story_in (story 0 bytes ++ replicate 100 1) ≡ story 0 bytes
+cut = refl
+
+-- a stated length of 0 is all of the file
+unstated : story_length (5 ∷ replicate 99 0) ≡ 100
+unstated = refl
+
+-- version 8 counts by eight bytes
+of_version_8 : story_length ((8 ∷ []) ++ replicate 26 0 ++ (20 ∷ []) ++ replicate 172 0) ≡ 160
+of_version_8 = refl
+
+sum_right : is_sum_right (story 0 bytes) ≡ true
+sum_right = refl
+
+sum_wrong : is_sum_right (story 0 (replicate 20 8)) ≡ false
+sum_wrong = refl
+
+-- the header's bytes: Flags 2 keep their bits 0 to 2 and 9 to 15
+header : with_header (story 0 bytes)
+    ≡ (5 ∷ 16 ∷ []) ++ replicate 13 0 ++ (74 ∷ []) ++ (254 ∷ 7 ∷ []) ++ replicate 8 7 ++ (0 ∷ 21 ∷ 0 ∷ 180 ∷ [])
+    ++ (1 ∷ 70 ∷ 255 ∷ 80 ∷ 0 ∷ 80 ∷ 0 ∷ 255 ∷ 1 ∷ 1 ∷ []) ++ replicate 4 7 ++ (2 ∷ 9 ∷ []) ++ replicate 4 7
+    ++ (1 ∷ 1 ∷ 7 ∷ 7 ∷ 0 ∷ 0 ∷ []) ++ replicate 8 7 ++ bytes
+unfolding with_header
+header = refl
+
+-- an extension of so many words at 64, of which the fourth lies in dynamic memory, and a Unicode table at 78
+abbrev extended : ℕ → ℕ → ℕ → List ℕ
+extended count high low =
+    (0 ∷ count ∷ 1 ∷ 1 ∷ 2 ∷ 2 ∷ 0 ∷ 78 ∷ high ∷ low ∷ 9 ∷ 9 ∷ 9 ∷ 9 ∷ 2 ∷ 0x20 ∷ 0xAC ∷ 0 ∷ 0xE4 ∷ 9 ∷ [])
+
+-- word 4 is set to 0; words 5 and 6 lie in static memory
+word_4 : slice_range (with_header (story 64 (extended 6 8 8))) 64 84 ≡ extended 6 0 0
+unfolding with_header
+word_4 = refl
+
+-- an extension of three words has no word 4
+no_word_4 : slice_range (with_header (story 64 (extended 3 8 8))) 64 84 ≡ extended 3 8 8
+unfolding with_header
+no_word_4 = refl
+
+own_characters : characters_of (story 64 (extended 3 8 8)) ≡ 0x20AC ∷ 0xE4 ∷ []
+own_characters = refl
+
+-- an extension of two words names no table
+no_table : characters_of (story 64 (extended 2 8 8)) ≡ default_characters
+no_table = refl
+
+no_extension : characters_of (story 0 bytes) ≡ default_characters
+no_extension = refl
+
+-- the word at $34 is the address of the alphabets
+own_alphabets : own_alphabets_of (replicate 52 0 ++ (0 ∷ 65 ∷ []) ++ replicate 11 0 ++ default_alphabets ++ (9 ∷ []))
+    ≡ Some default_alphabets
+own_alphabets = refl
+
+no_alphabets : own_alphabets_of (replicate 200 0) ≡ None
+no_alphabets = refl

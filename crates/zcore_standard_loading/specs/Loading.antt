@@ -1,0 +1,217 @@
+-- How a file is loaded: which files are refused, what memory holds then, and what loading fixes (Z-Machine Standards
+-- Document 1.1, sections 1.1, 3.8.5, 11.1 and 15, `verify`).
+use Rattle.std.specs.Prelude.{◌≡◌, ◌==◌, ◌&&◌, ◌+◌, ◌*◌, ◌/◌, ◌%◌, ◌≤◌, ◌⊎◌, ℕ, zero, suc, nat_le, min, sum, Bool}
+use Rattle.std.specs.Prelude.{if◌then◌else◌, List, [], ◌∷◌, length, slice_index, slice_range, take, drop}
+use Rattle.std.specs.Prelude.{Option, Some, None, Result, Ok, Err}
+use Rattle.ztext.specs.Bytes.{word_at, most_abbreviations}
+use Rattle.zcore.specs.declared.header.Header.{Header}
+use Rattle.zcore.specs.declared.header.HeaderFault.{HeaderFault}
+use Rattle.zcore.specs.declared.header.HeaderFault.TheVariants as causes
+use Rattle.zcore.specs.Header.{HasHeader, IsKnownVersion, IsWithin, HasDictionaryHead, IsHeaderOf, static_end}
+use Rattle.zcore.specs.Header.{static_base_of, globals_of, defaults_of, abbreviations_of, dictionary_of, first_instruction_of}
+use Rattle.zcore.specs.Layout.{header_size, globals_size, defaults_size, longest_story}
+use Rattle.zcore.specs.Parts.{scale_in, with_word}
+use Rattle.zcore.specs.Turn.{Play, with_bytes}
+use Rattle.zcore_standard_loading.specs.declared.loading.LoadedStory.{LoadedStory}
+use Rattle.zcore_standard.specs.Loaded.{Loaded, seeded}
+use Rattle.zcore_standard.specs.Machine.{by_standard}
+use Rattle.zcore_standard.specs.Unicode.{default_characters}
+
+-- The story in its file (11.1.6)
+
+-- how many bytes of a file are the story: as many as its header states, or all where it states 0
+abbrev pub story_length : List ℕ → ℕ
+story_length file = if word_at file 0x1A == 0 then length file else word_at file 0x1A * scale_in file
+
+-- the story, without the bytes that follow it
+abbrev pub story_in : List ℕ → List ℕ
+story_in file = take (story_length file) file
+
+-- the file has them all, and they are neither fewer than a header nor more than a story can have
+pub record HasStory (file : List ℕ) : Type 0 where
+  pub least : header_size ≤ story_length file
+  pub there : story_length file ≤ length file
+  pub most : story_length file ≤ longest_story
+
+-- Addresses
+
+-- a table at address 0, or one that lies after the header in memory which instructions can read
+abbrev pub IsTable : List ℕ → ℕ → ℕ → Type 0
+IsTable story table bytes = (table ≡ 0) ⊎ IsWithin header_size (static_end story) table bytes
+
+-- the extension of the header (11.1.7), or 0
+abbrev pub extension_of : List ℕ → ℕ
+extension_of story = word_at story 0x36
+
+-- the extension has a word of a number; its word 0 tells how many follow
+abbrev pub has_extension_word : List ℕ → ℕ → Bool
+has_extension_word story number =
+    nat_le 1 (extension_of story) && nat_le number (word_at story (extension_of story))
+
+abbrev pub extension_place : List ℕ → ℕ → ℕ
+extension_place story number = extension_of story + 2 * number
+
+-- the Unicode table of the story (3.8.5.2), or 0
+abbrev pub unicode_table_of : List ℕ → ℕ
+unicode_table_of story = if has_extension_word story 3 then word_at story (extension_place story 3) else 0
+
+-- the table of the story's own alphabets (3.5.5), or 0
+abbrev pub alphabet_table_of : List ℕ → ℕ
+alphabet_table_of story = word_at story 0x34
+
+-- how many bytes it has
+abbrev pub alphabet_table_size : ℕ
+alphabet_table_size = 78
+
+-- the extension is whole: the word that counts, and the words
+pub record IsExtension (story : List ℕ) : Type 0 where
+  pub count : IsTable story (extension_of story) 2
+  pub words : IsTable story (extension_of story) (2 + 2 * word_at story (extension_of story))
+
+-- and so is the Unicode table: the byte that counts, and a word for each character
+pub record IsUnicode (story : List ℕ) : Type 0 where
+  pub count : IsTable story (unicode_table_of story) 1
+  pub words : IsTable story (unicode_table_of story) (1 + 2 * slice_index story (unicode_table_of story))
+
+-- the tables of characters: the Unicode table, and the story's own alphabets
+pub record HasCharacters (story : List ℕ) : Type 0 where
+  pub unicode : IsUnicode story
+  pub alphabets : IsTable story (alphabet_table_of story) alphabet_table_size
+
+-- Each address lies where it has to (1.1). High memory may begin anywhere.
+pub record IsPlaced (story : List ℕ) : Type 0 where
+  pub static_base : IsWithin header_size (length story) (static_base_of story) 0
+  pub globals : IsWithin header_size (static_base_of story) (globals_of story) globals_size
+  pub defaults : IsWithin header_size (static_base_of story) (defaults_of story) defaults_size
+  pub abbreviations : IsTable story (abbreviations_of story) (2 * most_abbreviations)
+  pub first_instruction : IsWithin header_size (length story) (first_instruction_of story) 1
+  pub dictionary : static_base_of story ≤ dictionary_of story
+  pub extension : IsExtension story
+  pub characters : HasCharacters story
+
+-- What the player writes into the header (11.1)
+
+-- Flags 1: a fixed-space style is there, and nothing else
+abbrev pub flags_1 : ℕ
+flags_1 = 0x10
+
+-- Flags 2: bits 3 to 8 are cleared, which ask for pictures, undo, a mouse, colours, sounds and menus
+abbrev pub flags_2 : List ℕ → List ℕ
+flags_2 story = (slice_index story 0x10 / 2 * 2) ∷ (slice_index story 0x11 % 8) ∷ []
+
+-- From $1E on: interpreter number 1 and version F; 255 lines, which means no end, and 80 columns; the same size in units,
+-- first the width; a font is one unit wide and one high (8.4, 11.1.3)
+abbrev pub screen : List ℕ
+screen = 1 ∷ 70 ∷ 255 ∷ 80 ∷ 0 ∷ 80 ∷ 0 ∷ 255 ∷ 1 ∷ 1 ∷ []
+
+-- from $2C on: a black background, a white foreground (8.3.1)
+abbrev pub colours : List ℕ
+colours = 2 ∷ 9 ∷ []
+
+-- from $32 on: Standard 1.1 (11.1.5)
+abbrev pub revision : List ℕ
+revision = 1 ∷ 1 ∷ []
+
+-- the extension has a word of a number, and this lies in dynamic memory after the header
+abbrev pub has_dynamic_word : List ℕ → ℕ → Bool
+has_dynamic_word story number =
+    nat_le header_size (extension_of story)
+    && nat_le (extension_place story number + 2) (min (length story) (static_base_of story))
+    && nat_le number (word_at story (extension_of story))
+
+abbrev pub with_extension_word : ℕ → ℕ → List ℕ → List ℕ
+with_extension_word number word story =
+    if has_dynamic_word story number then with_word story (extension_place story number) word else story
+
+-- Flags 3, the default foreground and the default background (11.1.7.3)
+abbrev pub with_extension : List ℕ → List ℕ
+with_extension story = with_extension_word 6 0 (with_extension_word 5 0x7FFF (with_extension_word 4 0 story))
+
+-- the story with its header set
+unfoldable pub with_header : List ℕ → List ℕ
+with_header story =
+    with_extension
+    (with_bytes (with_bytes (with_bytes (with_bytes (with_bytes story 0x01 (flags_1 ∷ [])) 0x10 (flags_2 story)) 0x1E
+    screen) 0x2C colours) 0x32 revision)
+
+-- memory when the opening begins
+abbrev pub memory_for : List ℕ → List ℕ
+memory_for file = with_header (story_in file)
+
+-- What is read
+
+-- the sum of the bytes after the header is the one that the header states (15, `verify`)
+abbrev pub is_sum_right : List ℕ → Bool
+is_sum_right story = word_at story 0x1C == sum (drop header_size story) % 65536
+
+-- The memory of a story whose header is this, and which can be played. The order and the number of the dictionary's
+-- entries refuse nothing.
+pub record IsPlayable (memory : List ℕ) (header : Header) : Type 0 where
+  pub read : IsHeaderOf memory header
+  pub placed : IsPlaced memory
+  pub dictionary : HasDictionaryHead memory (dictionary_of memory)
+
+-- the story of a file is whole, and of a version that is played
+pub record IsWhole (file : List ℕ) : Type 0 where
+  pub header : HasHeader file
+  pub version : IsKnownVersion file
+  pub story : HasStory file
+
+-- the first fact that does not hold of a file
+abbrev pub IsNotWhole : List ℕ → HeaderFault → Type 0
+IsNotWhole file causes.TooShort = ¬ HasHeader file
+IsNotWhole file causes.UnknownVersion = HasHeader file × ¬ IsKnownVersion file
+IsNotWhole file causes.WrongLength = HasHeader file × IsKnownVersion file × ¬ HasStory file
+IsNotWhole file _ = ⊥
+
+-- the header of a memory, or that an address is wrong
+abbrev pub ReadsMemory : List ℕ → Result Header HeaderFault → Type 0
+ReadsMemory memory (Ok header) = IsPlayable memory header
+ReadsMemory memory (Err causes.WrongAddress) =
+    ¬ (IsPlaced memory × HasDictionaryHead memory (dictionary_of memory))
+ReadsMemory memory (Err _) = ⊥
+
+-- what a file is read as
+abbrev pub ReadsFile : List ℕ → Result LoadedStory HeaderFault → Type 0
+ReadsFile file (Ok story) =
+    IsWhole file × ReadsMemory (memory_for file) (Ok story.header)
+    × (story.is_sum_right ≡ is_sum_right (story_in file))
+ReadsFile file (Err causes.WrongAddress) = IsWhole file × ReadsMemory (memory_for file) (Err causes.WrongAddress)
+ReadsFile file (Err cause) = IsNotWhole file cause
+
+-- What loading fixes
+
+-- so many words from an address on
+abbrev pub words_from : List ℕ → ℕ → ℕ → List ℕ
+words_from story at zero = []
+words_from story at (suc count) = word_at story at ∷ words_from story (at + 2) count
+
+-- the ZSCII codes from 155 on for which a table gives characters are at most 97 (3.8.5.1)
+abbrev pub most_characters : ℕ
+most_characters = 97
+
+-- the characters of the ZSCII codes from 155 on (3.8.5)
+abbrev pub characters_of : List ℕ → List ℕ
+characters_of story =
+    if unicode_table_of story == 0 then default_characters
+    else words_from story (unicode_table_of story + 1)
+    (min (slice_index story (unicode_table_of story)) most_characters)
+
+-- the three alphabets of the story's own, if it has them (3.5.5)
+abbrev pub own_alphabets_of : List ℕ → Option (List ℕ)
+own_alphabets_of story =
+    if alphabet_table_of story == 0 then None
+    else Some (slice_range story (alphabet_table_of story) (alphabet_table_of story + alphabet_table_size))
+
+abbrev pub loaded_of : List ℕ → ℕ → Loaded
+loaded_of file seed = record {
+  dynamic = take (static_base_of (memory_for file)) (memory_for file);
+  dice = seeded seed;
+  is_sum_right = is_sum_right (story_in file);
+  characters = characters_of (memory_for file);
+  own_alphabets = own_alphabets_of (memory_for file);
+}
+
+-- a file as it is played with a seed, with so much fuel for each turn
+abbrev pub plays_file : List ℕ → ℕ → ℕ → Play
+plays_file file seed fuel = by_standard (loaded_of file seed) (memory_for file) fuel

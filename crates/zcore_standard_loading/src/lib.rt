@@ -1,0 +1,10 @@
+//! Loading a file to play it by the whole Standard: its header, the characters of its ZSCII codes and
+//! its own alphabets.
+#![tactic(auto)]
+
+mod loading;
+mod placing;
+mod zscii;
+
+pub use loading::{LoadedStory, load};
+pub use zscii::{characters_of, own_alphabets_of};

@@ -1,0 +1,234 @@
+//! Loading a file to play it by the whole Standard: which files are refused, what is read of the
+//! others, and what the player writes into their headers.
+
+ghost use Rattle.std.specs.Prelude.{◌≡◌, ◌+◌, ◌%◌, ◌≤◌, length, drop, sum, slice_index, IfOk, IfErr, MatchOption};
+ghost use Rattle.zcore.specs.Header.{HasHeader, IsKnownVersion, IsOfVersion, IsHeaderOf, IsDictionaryOf, dictionary_of};
+ghost use Rattle.zcore.specs.Turn.{with_bytes};
+ghost use Rattle.zcore_standard_loading.specs.Loading as definitions;
+ghost use Rattle.zcore_standard_loading.specs.Loading.{IsNotWhole, IsWhole, ReadsFile, ReadsMemory};
+
+use crate::placing::{EXTENSION_WORD, is_placed, read_dictionary};
+use zcore::layout::{
+    ABBREVIATIONS_WORD, DEFAULTS_WORD, DICTIONARY_WORD, FIRST_INSTRUCTION_WORD, GLOBALS_WORD,
+    HEADER_LENGTH, HIGH_MEMORY_WORD, LENGTH_WORD, LONGEST_STORY, STATIC_BASE_WORD, SUM_WORD,
+};
+use zcore::{Dictionary, Header, HeaderFault, Version};
+use ztext::read_word;
+
+/// What loading tells of a file, besides its memory.
+#[derive(Clone, Copy, Debug, PartialEq, Eq)]
+pub struct LoadedStory {
+    /// What the header says.
+    pub header: Header,
+
+    /// Whether the file has the sum that its header states (section 15, `verify`).
+    pub is_sum_right: bool,
+}
+
+/// The places of the header's bytes that the player writes (section 11.1): Flags 1.
+const FLAGS_1: usize = 0x01;
+
+/// Flags 2, two bytes.
+const FLAGS_2: usize = 0x10;
+
+/// The interpreter, and the screen in characters and in units.
+const SCREEN: usize = 0x1E;
+
+/// The default colours: the background, and the foreground.
+const COLOURS: usize = 0x2C;
+
+/// The revision of the Standard.
+const REVISION: usize = 0x32;
+
+/// A fixed-space style is there, and nothing else that Flags 1 tells of.
+const FIXED_SPACE: [u8; 1] = [0x10];
+
+/// Interpreter number 1 and version F; 255 lines, which means no end, and 80 columns; the same size
+/// in units, first the width; a font that is one unit wide and one high.
+const PLAIN_TERMINAL: [u8; 10] = [1, b'F', 255, 80, 0, 80, 0, 255, 1, 1];
+
+/// Black, and white.
+const BLACK_AND_WHITE: [u8; 2] = [2, 9];
+
+/// Standard 1.1.
+const STANDARD_1_1: [u8; 2] = [1, 1];
+
+/// The words of the extension that the player writes (section 11.1.7.3): Flags 3.
+const FLAGS_3: u16 = 4;
+
+/// The true colour of the default foreground.
+const FOREGROUND: u16 = 5;
+
+/// That of the default background.
+const BACKGROUND: u16 = 6;
+
+/// White as a true colour (section 8.3.7). Black is 0.
+const WHITE: u16 = 0x7FFF;
+
+/// Writes bytes into memory, the first at an address.
+fn write_bytes(memory: &mut [u8], at: usize, bytes: &[u8])
+    requires { at + length bytes.now ≤ length memory.old }
+    ensures { memory.new ≡ with_bytes memory.old at bytes.now }
+{
+    for i in 0..bytes.len() {
+        memory[at + i] = bytes[i];
+    }
+}
+
+/// Writes a word of the header's extension, if the story has it in dynamic memory.
+fn write_extension_word(memory: &mut [u8], number: u16, word: u16)
+    requires { HasHeader memory.old }
+    ensures { memory.new ≡ definitions.with_extension_word number word memory.old }
+{
+    let extension = usize::from(read_word(memory, EXTENSION_WORD));
+    let at = extension + 2 * usize::from(number);
+    let end = memory
+        .len()
+        .min(usize::from(read_word(memory, STATIC_BASE_WORD)));
+    if HEADER_LENGTH <= extension && at + 2 <= end && number <= read_word(memory, extension) {
+        memory[at] = (word / 256) as u8;
+        memory[at + 1] = (word % 256) as u8;
+    }
+}
+
+/// Writes into the header what the player tells the story.
+#[tactic(auto, using(crate::proofs::Headers::first_stays, crate::proofs::Headers::length_stays), unfolding(crate::specs::Loading::with_header))]
+fn set_header(memory: &mut [u8])
+    requires { HasHeader memory.old }
+    ensures memory { memory.new ≡ definitions.with_header memory.old }
+    ensures header { HasHeader memory.new }
+    ensures version { slice_index memory.new 0 ≡ slice_index memory.old 0 }
+{
+    // bits 3 to 8 are cleared
+    let flags_2 = [memory[FLAGS_2] / 2 * 2, memory[FLAGS_2 + 1] % 8];
+    write_bytes(memory, FLAGS_1, &FIXED_SPACE);
+    write_bytes(memory, FLAGS_2, &flags_2);
+    write_bytes(memory, SCREEN, &PLAIN_TERMINAL);
+    write_bytes(memory, COLOURS, &BLACK_AND_WHITE);
+    write_bytes(memory, REVISION, &STANDARD_1_1);
+    write_extension_word(memory, FLAGS_3, 0);
+    write_extension_word(memory, FOREGROUND, WHITE);
+    write_extension_word(memory, BACKGROUND, 0);
+}
+
+/// The version of a story, by its first byte.
+fn version(file: &[u8]) -> Option<Version>
+    requires { HasHeader file.now }
+    ensures { MatchOption result (¬ IsKnownVersion file.now) (IsOfVersion file.now) }
+{
+    match file[0] {
+        5 => Some(Version::V5),
+        8 => Some(Version::V8),
+        _ => None,
+    }
+}
+
+/// How many bytes of a file of a version are its story.
+fn story_length(file: &[u8], version: Version) -> usize
+    requires header { HasHeader file.now }
+    requires version { IsOfVersion file.now version }
+    ensures { result ≡ definitions.story_length file.now }
+{
+    let stated = usize::from(read_word(file, LENGTH_WORD));
+    if stated == 0 {
+        file.len()
+    } else {
+        stated * version.scale() as usize
+    }
+}
+
+/// The sum of the bytes from an address on, modulo 65,536.
+fn sum_from(story: &[u8], from: usize) -> u16
+    requires { from ≤ length story.now }
+    ensures { result ≡ sum (drop from story.now) % 65536 }
+{
+    let mut total: u16 = 0;
+    for byte in &story[from..] {
+        total = total.wrapping_add(u16::from(*byte));
+    }
+    total
+}
+
+/// Whether the bytes after the header have the sum that the header states.
+fn is_sum_right(story: &[u8]) -> bool
+    requires { HasHeader story.now }
+    ensures { result ≡ definitions.is_sum_right story.now }
+{
+    read_word(story, SUM_WORD) == sum_from(story, HEADER_LENGTH)
+}
+
+/// What a header says.
+fn header_of(memory: &[u8], version: Version, dictionary: Dictionary) -> Header
+    requires header { HasHeader memory.now }
+    requires version { IsOfVersion memory.now version }
+    requires dictionary { IsDictionaryOf memory.now (dictionary_of memory.now) dictionary }
+    ensures { IsHeaderOf memory.now result }
+{
+    Header {
+        version,
+        static_base: read_word(memory, STATIC_BASE_WORD),
+        globals: read_word(memory, GLOBALS_WORD),
+        defaults: read_word(memory, DEFAULTS_WORD),
+        abbreviations: read_word(memory, ABBREVIATIONS_WORD),
+        high_memory: read_word(memory, HIGH_MEMORY_WORD),
+        first_instruction: read_word(memory, FIRST_INSTRUCTION_WORD),
+        dictionary,
+    }
+}
+
+/// The header of a memory that can be played.
+fn read_header(memory: &[u8], version: Version) -> Result<Header, HeaderFault>
+    requires header { HasHeader memory.now }
+    requires version { IsOfVersion memory.now version }
+    ensures { ReadsMemory memory.now result }
+{
+    if !is_placed(memory) {
+        return Err(HeaderFault::WrongAddress);
+    }
+    let Some(dictionary) = read_dictionary(memory, read_word(memory, DICTIONARY_WORD)) else {
+        return Err(HeaderFault::WrongAddress);
+    };
+    Ok(header_of(memory, version, dictionary))
+}
+
+/// Cuts a file to its story, and tells its version.
+fn cut(file: &mut Vec<u8>) -> Result<Version, HeaderFault>
+    ensures whole { IfOk result (λ _. IsWhole file.old.items) }
+    ensures story { IfOk result (λ _. file.new.items ≡ definitions.story_in file.old.items) }
+    ensures header { IfOk result (λ _. HasHeader file.new.items) }
+    ensures version { IfOk result (λ version. IsOfVersion file.new.items version) }
+    ensures refused { IfErr result (λ cause. IsNotWhole file.old.items cause) }
+{
+    if file.len() < HEADER_LENGTH {
+        return Err(HeaderFault::TooShort);
+    }
+    let Some(version) = version(file) else {
+        return Err(HeaderFault::UnknownVersion);
+    };
+    let length = story_length(file, version);
+    if length < HEADER_LENGTH || file.len() < length || LONGEST_STORY < length {
+        return Err(HeaderFault::WrongLength);
+    }
+    file.truncate(length);
+    Ok(version)
+}
+
+/// Loads a file: cuts it to its story, and sets the header.
+///
+/// # Errors
+///
+/// The first fact that does not hold: the size, the version, the length or an address. The sum
+/// refuses none. A part of the header may be set then.
+pub fn load(file: &mut Vec<u8>) -> Result<LoadedStory, HeaderFault>
+    ensures read { ReadsFile file.old.items result }
+    ensures memory { IfOk result (λ _. file.new.items ≡ definitions.memory_for file.old.items) }
+{
+    let version = cut(file)?;
+    let is_sum_right = is_sum_right(file);
+    set_header(file);
+    let header = read_header(file, version)?;
+    Ok(LoadedStory {
+        header,
+        is_sum_right,
+    })
+}
