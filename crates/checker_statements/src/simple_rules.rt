@@ -118,7 +118,7 @@ fn items<'a>(
         let Ok(resolved) = item(x, alloc, scope, least) else {
             return Err(AllocError);
         };
-        found.push(resolved)?;
+        found.push_reserved(resolved);
     }
     Ok(found)
 }
@@ -207,7 +207,7 @@ fn flags(
     let mut found = Vec::with_capacity(alloc, given.len())?;
     for x in given {
         let resolved = flag(x, scope, least);
-        found.push(resolved)?;
+        found.push_reserved(resolved);
     }
     Ok(found)
 }
@@ -264,6 +264,7 @@ fn move_to<'a>(
         return Err(AllocError);
     };
     let Ok(parent) = boxed(parent, alloc, scope, least) else {
+        drop(object);
         return Err(AllocError);
     };
     Ok(Action::Move(object, parent))
