@@ -123,6 +123,8 @@ fn items<'a>(
     Ok(found)
 }
 
+// In this function and in those below, the lifetime of the action is that of the first argument, as
+// in `simple`: else the prover compares the types of actions part by part.
 fn print<'a>(
     printed: &[PrintItem<'a>],
     alloc: Global,
@@ -154,7 +156,7 @@ fn print_return<'a>(
 }
 
 fn return_value<'a>(
-    e: &Expression<'_>,
+    e: &Expression<'a>,
     alloc: Global,
     scope: &Scope<'_>,
     position: Position,
@@ -170,7 +172,7 @@ fn return_value<'a>(
 }
 
 fn effect<'a>(
-    e: &Expression<'_>,
+    e: &Expression<'a>,
     alloc: Global,
     scope: &Scope<'_>,
     position: Position,
@@ -213,7 +215,7 @@ fn flags(
 }
 
 fn give<'a>(
-    e: &Expression<'_>,
+    e: &Expression<'a>,
     given: &[(bool, Name<'_>)],
     alloc: Global,
     scope: &Scope<'_>,
@@ -249,7 +251,7 @@ fn move_temporaries(
 }
 
 fn move_to<'a>(
-    object: &Expression<'_>,
+    object: &Expression<'a>,
     parent: &Expression<'_>,
     alloc: Global,
     scope: &Scope<'_>,
@@ -271,7 +273,7 @@ fn move_to<'a>(
 }
 
 fn remove<'a>(
-    e: &Expression<'_>,
+    e: &Expression<'a>,
     alloc: Global,
     scope: &Scope<'_>,
     position: Position,

@@ -207,7 +207,6 @@ fn if_else<'a>(
     };
     let Ok(otherwise) = boxed(otherwise, alloc, scope, around, least) else {
         drop(condition);
-        drop(first);
         return Err(AllocError);
     };
     Ok(Action::IfElse(condition, first, otherwise))
@@ -251,7 +250,6 @@ fn do_until<'a>(
         return Err(AllocError);
     };
     let Ok(condition) = whole(condition, alloc, scope, position, least) else {
-        drop(body);
         return Err(AllocError);
     };
     Ok(Action::Do(body, condition))
