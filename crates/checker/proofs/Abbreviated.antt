@@ -1,6 +1,6 @@
 -- Abbreviations: which of them stand earlier, and the rules that each breaks.
 use Rattle.std.proofs.Common.{◌≡◌, ℕ, zero, suc, ◌+◌, ◌<◌, ◌≤◌, nat_lt, nat_le, Bool, true, false, ◌&&◌, ◌||◌, ◌==◌}
-use Rattle.std.proofs.Common.{List, [], ◌∷◌, ◌++◌, length, take, drop, slice_index_or, Option, cond, refl, sym, ap, ◌∙◌}
+use Rattle.std.proofs.Common.{List, [], ◌∷◌, ◌++◌, length, take, drop, slice_index_or, cond, refl, sym, ap, ◌∙◌}
 use Rattle.std.proofs.Common.{arith}
 use Rattle.std.specs.Prelude.{map}
 use Rattle.std.specs.Str.{bytes_eq}

@@ -24,8 +24,8 @@ use Rattle.checker_names.proofs.Gathered.{keys_ascend}
 use Rattle.checker_names.proofs.SmallKeys.{keys_small}
 use Rattle.checker_names.proofs.Kept.{left_empty, right_empty, kept, below}
 use Rattle.checker_statements.specs.Statements.{statements_breaches}
-use Rattle.checker_arrays.specs.Arrays.{array_breaches, array_bytes, arrays_of}
-use Rattle.checker_arrays.proofs.ArraySizes.{array_short}
+use Rattle.checker_objects.specs.Arrays.{array_breaches, array_bytes, arrays_of}
+use Rattle.checker_objects.proofs.ArraySizes.{array_short}
 use Rattle.checker_objects.specs.Objects.{object_breaches, standing_breaches, parents_of, object_in, placed}
 use Rattle.checker_objects.specs.Objects.{all_defaults, objects_of, objects_in, object_trees}
 use Rattle.checker_names.specs.Names.{twice}

@@ -11,7 +11,7 @@ use Rattle.checker_names.specs.declared.counts.Counts.{Counts}
 use Rattle.checker_names.specs.Names.{Table, File, key_of, same_key, in_table, first_table, earlier_known, with_name}
 use Rattle.checker_names.specs.Names.{no_counts, counts_after, with_directive, table_from, table_of, local_from}
 use Rattle.checker_names.specs.Names.{local_first, look_up}
-use Rattle.checker_arrays.specs.Arrays.{arrays_of}
+use Rattle.checker_objects.specs.Arrays.{arrays_of}
 use Rattle.checker.specs.Programs.{globals_of, defaults_in, resolve_routine, routines_of}
 use Rattle.checker.proofs.MeantNames.{IsMeant}
 

@@ -24,9 +24,9 @@ use Rattle.checker_names.proofs.Dropped.{drop_here, drop_end}
 use Rattle.checker_names.proofs.Noted.{noted_append}
 use Rattle.checker_names.proofs.Mapped.{nothing_more, map_push}
 use Rattle.checker_values.specs.Literals.{initial_value}
-use Rattle.checker_arrays.specs.Arrays.{array_bytes, arrays_of}
-use Rattle.checker_arrays.specs.Entries.{IsArrayAdded}
-use Rattle.checker_arrays.proofs.ArrayLists.{bytes_more, list_step, sizes_more}
+use Rattle.checker_objects.specs.Arrays.{array_bytes, arrays_of}
+use Rattle.checker_objects.specs.Entries.{IsArrayAdded}
+use Rattle.checker_objects.proofs.ArrayLists.{bytes_more, list_step, sizes_more}
 use Rattle.checker_objects.specs.Objects.{object_in}
 use Rattle.checker_objects.specs.FirstListed.{first_listed, first_objects_in}
 use Rattle.checker.specs.declared.directive_rules.ResolvedFile.{ResolvedFile}

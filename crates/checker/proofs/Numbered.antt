@@ -16,7 +16,7 @@ use Rattle.meaning.specs.Places.{dictionary_place, folded, table_size, objects_s
 use Rattle.meaning.proofs.Folding.{fold_small, fold_great, fold_part}
 use Rattle.checker_names.specs.Keys.{keys_of}
 use Rattle.checker_names.specs.Names.{Table, File, table_of}
-use Rattle.checker_arrays.specs.Arrays.{arrays_of}
+use Rattle.checker_objects.specs.Arrays.{arrays_of}
 use Rattle.checker_objects.specs.Objects.{placed, parents_of, object_trees, objects_in}
 use Rattle.checker_objects.specs.Sizes.{listed_objects_size}
 use Rattle.checker_objects.proofs.Chains.{placed_many}

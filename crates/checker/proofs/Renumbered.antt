@@ -8,8 +8,8 @@ use Rattle.syntax_directives.specs.Tree.{ValueTree, PropertyTree, ObjectTree}
 use Rattle.meaning.specs.Places.{dictionary_place, name_words, property_size, table_size, objects_size, total}
 use Rattle.checker_names.specs.Keys.{keys_of}
 use Rattle.checker_names.specs.Names.{Table, File, table_of}
-use Rattle.checker_arrays.specs.Arrays.{array_bytes, arrays_of}
-use Rattle.checker_arrays.proofs.ArraySizes.{array_alike}
+use Rattle.checker_objects.specs.Arrays.{array_bytes, arrays_of}
+use Rattle.checker_objects.proofs.ArraySizes.{array_alike}
 use Rattle.checker_objects.specs.Objects.{word_of, with_property, with_properties, provided_of}
 use Rattle.checker_objects.specs.Objects.{short_name, object_in, objects_in}
 use Rattle.checker.specs.Programs.{resolve_with, no_numbers, file_of, resolve_program}

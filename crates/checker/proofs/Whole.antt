@@ -1,5 +1,5 @@
 -- A whole program.
-use Rattle.std.proofs.Common.{◌≡◌, ℕ, List, [], ◌++◌, Option, refl, subst, ap, ◌∙◌}
+use Rattle.std.proofs.Common.{◌≡◌, ℕ, List, [], ◌++◌, refl, subst, ap, ◌∙◌}
 use Rattle.std.specs.Prelude.{map}
 use Rattle.syntax_directives.specs.declared.tree.Directive.{Directive}
 use Rattle.syntax_directives.specs.declared.tree.Text.{Text}
@@ -20,7 +20,7 @@ use Rattle.checker_names.specs.Keys.{keys_of}
 use Rattle.checker_names.specs.Names.{Table, File, in_table, first_table, no_counts, table_of}
 use Rattle.checker_names.specs.Noted.{noted}
 use Rattle.checker_names.proofs.Noted.{noted_two}
-use Rattle.checker_arrays.specs.Arrays.{arrays_of}
+use Rattle.checker_objects.specs.Arrays.{arrays_of}
 use Rattle.checker_objects.specs.Objects.{all_defaults, standing_breaches, parents_of, placed, object_trees, objects_of}
 use Rattle.checker.specs.declared.directive_rules.ResolvedFile.{ResolvedFile}
 use Rattle.checker.specs.Resolving.{IsFound}

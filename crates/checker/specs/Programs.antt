@@ -24,7 +24,7 @@ use Rattle.checker_names.specs.Names.{counts_after, table_of, look_up, Seen, see
 use Rattle.checker_names.specs.Names.{twice, has_name}
 use Rattle.checker_values.specs.Literals.{initial_breaches, named_breaches, initial_value}
 use Rattle.checker_statements.specs.Statements.{statements_breaches, resolve_statements}
-use Rattle.checker_arrays.specs.Arrays.{array_breaches, arrays_of}
+use Rattle.checker_objects.specs.Arrays.{array_breaches, arrays_of}
 use Rattle.checker_objects.specs.Objects.{object_breaches, standing_breaches, all_defaults, object_trees, objects_of}
 use Rattle.zcore.specs.Layout.{attribute_count, most_locals}
 

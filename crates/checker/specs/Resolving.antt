@@ -1,5 +1,5 @@
 -- Words of proofs: what walks over directives find, and what they note.
-use Rattle.std.specs.Prelude.{◌≡◌, ℕ, List, ◌++◌, length, Option, map}
+use Rattle.std.specs.Prelude.{◌≡◌, ℕ, List, ◌++◌, length, map}
 use Rattle.std.specs.List.{concat}
 use Rattle.syntax_trees.specs.Tree.{NameTree}
 use Rattle.syntax_directives.specs.Tree.{RoutineTree, DirectiveTree}
@@ -11,7 +11,7 @@ use Rattle.checker_names.specs.declared.noting.Least.{Least}
 use Rattle.checker_names.specs.Names.{File, Seen}
 use Rattle.checker_values.specs.Walk.{IsWalked}
 use Rattle.checker_statements.specs.Statements.{statements_breaches}
-use Rattle.checker_arrays.specs.Arrays.{arrays_of}
+use Rattle.checker_objects.specs.Arrays.{arrays_of}
 use Rattle.checker_objects.specs.FirstListed.{first_objects_in}
 use Rattle.checker.specs.declared.directive_rules.ResolvedFile.{ResolvedFile}
 use Rattle.checker.specs.Programs.{routine_breaches, resolve_body, resolve_routine, routine_trees, globals_of}

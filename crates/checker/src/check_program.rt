@@ -16,9 +16,8 @@ ghost use Rattle.checker.specs.Next.{AnswersNext};
 use crate::abbreviation_rules::{abbreviation_rules, all_abbreviations};
 use crate::directive_rules::all_directives;
 use crate::main_rules::main_number;
-use checker_arrays::bytes_of_arrays;
 use checker_names::{Breach, File, Least, Numbers, gather, tabulate};
-use checker_objects::{all_defaults, listed_objects_size, parents, place};
+use checker_objects::{all_defaults, bytes_of_arrays, listed_objects_size, parents, place};
 use meaning::{Checked, dictionary_behind};
 use std::alloc::{AllocError, Global};
 use std::mem::forget;
@@ -82,10 +81,16 @@ fn numbered(program: &Program<'_>, alloc: Global) -> Result<File, AllocError>
         ≡ keys_of (program_tree program.now).words) }
     ensures few { IfOk result (λ f. length f.numbers.keys.items ≤ 2 ^ 59) }
 {
-    let first = unnumbered(program, alloc)?;
-    let bytes = bytes_of_arrays(&program.directives, alloc, &first)?;
+    let Ok(first) = unnumbered(program, alloc) else {
+        return Err(AllocError);
+    };
+    let Ok(bytes) = bytes_of_arrays(&program.directives, alloc, &first) else {
+        return Err(AllocError);
+    };
     let objects = listed_objects_size(&program.directives);
-    let keys = gather(alloc, &program.words)?;
+    let Ok(keys) = gather(alloc, &program.words) else {
+        return Err(AllocError);
+    };
     let File { table, numbers } = first;
     drop(numbers);
     Ok(File {

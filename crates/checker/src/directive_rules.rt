@@ -1,6 +1,6 @@
 //! Directives: the rules that they can break, and what they resolve to.
 
-ghost use Rattle.std.specs.Prelude.{◌≡◌, ◌%◌, ◌∷◌, ◌++◌, [], ℕ, List, IfOk, OnOk, map, nat_le};
+ghost use Rattle.std.specs.Prelude.{◌≡◌, ◌%◌, ◌∷◌, [], ℕ, List, IfOk, OnOk, map, nat_le};
 ghost use Rattle.std.specs.Prelude.{if◌then◌else◌};
 ghost use Rattle.syntax_trees.specs.Views.{name_tree};
 ghost use Rattle.syntax_directives.specs.Views.{optional_tree, object_tree, routine_tree, directive_tree};
@@ -17,9 +17,8 @@ ghost use Rattle.checker.specs.Programs as spec;
 ghost use Rattle.zcore.specs.Layout.{most_locals};
 ghost use Rattle.syntax_lexer.specs.FaultNumbers.{too_many};
 
-use checker_arrays::array;
 use checker_names::{Binding, File, Least, Names, Scope, Table, define, note};
-use checker_objects::{object, twice};
+use checker_objects::{array, object, twice};
 use checker_statements::all_statements;
 use checker_values::{constant_value, initial};
 use indexmap::IndexMap;
@@ -295,8 +294,12 @@ fn add_all<'a>(
 {
     let mut locals = IndexMap::new(alloc);
     for one in directives {
-        directive(one, alloc, file, names, &mut locals, found, least)?;
-        names.add(one, &file.table)?;
+        let Ok(()) = directive(one, alloc, file, names, &mut locals, found, least) else {
+            return Err(AllocError);
+        };
+        let Ok(()) = names.add(one, &file.table) else {
+            return Err(AllocError);
+        };
     }
     Ok(())
 }
@@ -327,6 +330,8 @@ pub fn all_directives<'a>(
         objects: Vec::new(alloc),
         routines: Vec::new(alloc),
     };
-    add_all(directives, alloc, file, &mut names, &mut found, least)?;
+    let Ok(()) = add_all(directives, alloc, file, &mut names, &mut found, least) else {
+        return Err(AllocError);
+    };
     Ok(found)
 }

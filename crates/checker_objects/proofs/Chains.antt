@@ -1,6 +1,6 @@
 -- Objects that are open, and the parents of objects.
 use Rattle.std.proofs.Common.{◌≡◌, ◌==◌, ◌<◌, ◌≤◌, ◌+◌, ◌-◌, ℕ, zero, suc, nat_lt, Bool, true, false, cond, List, []}
-use Rattle.std.proofs.Common.{◌∷◌, ◌++◌, length, take, drop, slice_index_or, slice_set, append_assoc, nat_le, Option}
+use Rattle.std.proofs.Common.{◌∷◌, ◌++◌, length, take, drop, slice_index_or, slice_set, append_assoc, nat_le}
 use Rattle.std.proofs.Common.{refl, sym, ap, ◌∙◌, arith}
 use Rattle.std.specs.Prelude.{◌&&◌, ◌%◌, map}
 use Rattle.std.proofs.lemmas.Bool.Decides.{nat_tests}

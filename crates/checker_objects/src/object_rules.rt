@@ -1,6 +1,6 @@
 //! Definitions of objects: the rules that they can break, and what they are.
 
-ghost use Rattle.std.specs.Prelude.{◌≡◌, ◌≤◌, ◌++◌, [], IfOk, OnOk, length, map, take};
+ghost use Rattle.std.specs.Prelude.{◌≡◌, ◌≤◌, [], IfOk, OnOk, length, map, take};
 ghost use Rattle.std.specs.List.{flat_map};
 ghost use Rattle.std.specs.Option.{option_map};
 ghost use Rattle.syntax_trees.specs.Views.{name_tree};
@@ -71,9 +71,9 @@ fn words(
     ensures breaches { OnOk result (least.new ≡ noted least.old
         (flat_map (spec.value_breaches file.now.table.entries) (map value_tree values.now))) }
 {
-    let mut found = Vec::new(alloc);
+    let mut found = Vec::with_capacity(alloc, values.len())?;
     for value in values {
-        found.push(word(value, file, least))?;
+        found.push_reserved(word(value, file, least));
     }
     Ok(found)
 }
@@ -135,8 +135,12 @@ fn properties(
 {
     let mut found = Vec::new(alloc);
     for one in written {
-        let added = provided(one, alloc, file, least)?;
-        add_property(added, &mut found)?;
+        let Ok(added) = provided(one, alloc, file, least) else {
+            return Err(AllocError);
+        };
+        let Ok(()) = add_property(added, &mut found) else {
+            return Err(AllocError);
+        };
     }
     Ok(found)
 }
@@ -177,7 +181,9 @@ fn provided_of_listed(
 {
     let count = DEFAULT_COUNT.min(written.len());
     let found = properties(&written[..count], alloc, file, least)?;
-    note_provided(&written[count..], alloc, file, least)?;
+    let Ok(()) = note_provided(&written[count..], alloc, file, least) else {
+        return Err(AllocError);
+    };
     Ok(found)
 }
 
@@ -200,9 +206,9 @@ fn attributes(
     ensures breaches { OnOk result (least.new ≡ noted least.old
         (flat_map (spec.given_breaches file.now.table.entries) (map name_tree names.now))) }
 {
-    let mut found = Vec::new(alloc);
+    let mut found = Vec::with_capacity(alloc, names.len())?;
     for name in names {
-        found.push(given(*name, file, least))?;
+        found.push_reserved(given(*name, file, least));
     }
     Ok(found)
 }
@@ -211,9 +217,9 @@ fn names_of<'a>(written: &[Property<'a>], alloc: Global) -> Result<Vec<Name<'a>>
     ensures { IfOk result (λ v. map name_tree v.items
         ≡ map spec.property_name (map property_tree written.now)) }
 {
-    let mut names = Vec::new(alloc);
+    let mut names = Vec::with_capacity(alloc, written.len())?;
     for one in written {
-        names.push(one.name)?;
+        names.push_reserved(one.name);
     }
     Ok(names)
 }
@@ -260,7 +266,9 @@ fn repeated_many(names: &[Name<'_>], alloc: Global, least: &mut Least) -> Result
     for number in 0..names.len() {
         let name = names[number];
         twice(name, &table, least);
-        define(name, &mut table, Binding::Local(number))?;
+        let Ok(()) = define(name, &mut table, Binding::Local(number)) else {
+            return Err(AllocError);
+        };
     }
     Ok(())
 }
@@ -306,9 +314,15 @@ pub fn object<'a>(
 {
     short_rule(&written.short, least);
     let names = names_of(&written.properties, alloc)?;
-    repeated(&names, alloc, least)?;
-    let properties = provided_of_listed(&written.properties, alloc, file, least)?;
-    let attributes = attributes(&written.attributes, alloc, file, least)?;
+    let Ok(()) = repeated(&names, alloc, least) else {
+        return Err(AllocError);
+    };
+    let Ok(properties) = provided_of_listed(&written.properties, alloc, file, least) else {
+        return Err(AllocError);
+    };
+    let Ok(attributes) = attributes(&written.attributes, alloc, file, least) else {
+        return Err(AllocError);
+    };
     Ok(CheckedObject {
         parent: 0,
         name: short_name(&written.short),

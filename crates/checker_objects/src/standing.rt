@@ -165,7 +165,10 @@ pub fn parents(
             continue;
         };
         let before = parents.len();
-        parents.push(stand(object, whole, before, &mut chain, least)?)?;
+        let Ok(parent) = stand(object, whole, before, &mut chain, least) else {
+            return Err(AllocError);
+        };
+        parents.push(parent)?;
     }
     Ok(parents)
 }

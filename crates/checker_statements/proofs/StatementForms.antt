@@ -1,8 +1,9 @@
 -- Lists of statements, cases and their parts: what they break and what they resolve to, part by part.
 use Rattle.std.proofs.Common.{◌≡◌, List, [], ◌∷◌, ◌++◌, append_assoc, Option, Some, None, refl, sym, ap, ◌∙◌, subst}
-use Rattle.std.specs.Prelude.{map}
-use Rattle.std.specs.Global.{Vec}
+use Rattle.std.specs.Prelude.{map, Result, Ok, Err, IfOk}
+use Rattle.std.specs.Global.{Vec, Box}
 use Rattle.std.specs.List.{flat_map}
+use Rattle.std.specs.Result.{result_ok}
 use Rattle.syntax_lexer.specs.declared.token.Position.{Position}
 use Rattle.syntax_trees.specs.Tree.{ExpressionTree}
 use Rattle.syntax_statement_parts.specs.declared.tree.Range.{Range}
@@ -22,6 +23,7 @@ use Rattle.meaning.specs.Resolved.{Value, RangeOf, Action, Actions}
 use Rattle.meaning.specs.Views.{range_of, actions_of, action_of, case_of}
 use Rattle.meaning.specs.Views as views
 use Rattle.meaning.specs.Around.{in_switch}
+use Rattle.checker_names.specs.declared.breach.Breach.{Breach}
 use Rattle.checker_names.specs.declared.noting.Least.{Least}
 use Rattle.checker_names.specs.Noted.{noted}
 use Rattle.checker_names.specs.Names.{Seen}
@@ -35,6 +37,21 @@ use Rattle.checker_statements.specs.StatementWalk.{AreCases, IsOther, own_case_b
 use Rattle.checker_statements.specs.StatementWalk.{resolved_other}
 use Rattle.checker_statements.proofs.Shapes.{is_empty_statement}
 use Rattle.checker_statements.proofs.MadeStatements.{made_empty}
+
+-- an action that was put in a box, where memory was not refused
+pub kept_action : {E F : Type 0} {bs : List Breach} {m n : Least} {y : Action}
+    (r : Result (Box code_action.Action) E) (o : Option (Box code_action.Action))
+    (s : Result (Box code_action.Action) F) (x : code_action.Action) → IfOk r (λ b. b.value ≡ x)
+    → o ≡ result_ok r → o ≡ result_ok s → IsWalked bs m n (action_of x) y
+    → IfOk s (λ b. IsWalked bs m n (action_of b.value) y)
+kept_action (Ok a) o (Ok b) x h p q w =
+    let same : a ≡ b = cc in
+    record {
+      value = ap action_of (ap (λ (z : Box code_action.Action). z.value) (sym same) ∙ h) ∙ w.value;
+      breaches = w.breaches;
+    }
+kept_action (Err e) o (Ok b) x h p q w = absurd cc
+kept_action r o (Err f) x h p q w = tt
 
 module _ (seen : Seen) where
   -- an empty statement breaks no rule, and is an action that does nothing

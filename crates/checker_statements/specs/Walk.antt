@@ -1,5 +1,5 @@
 -- Words of proofs: what a walk over a statement or a part of one finds, and what it notes.
-use Rattle.std.specs.Prelude.{ℕ, Bool, List, ◌++◌, Option, Some, None, map, Result, IfOk, true, ◌-◌, nat_le}
+use Rattle.std.specs.Prelude.{ℕ, Bool, List, Option, Some, None, map, Result, IfOk, true, ◌-◌, nat_le}
 use Rattle.std.specs.Global.{Box}
 use Rattle.std.specs.List.{flat_map}
 use Rattle.std.specs.Option.{option_map}
@@ -81,13 +81,6 @@ module _ (seen : Seen) where
     option_map (resolve seen) h.test,
     option_map (resolve seen) h.behind,
   )
-
-  abbrev pub AreParts : HeadingTree → Least → Least
-      → Option Value × Option Value × Option Value → Type 0
-  AreParts h before after x =
-      IsWalked (part_breaches seen.look h.before
-      ++ (part_breaches seen.look h.test ++ part_breaches seen.look h.behind)) before after
-      x (resolve_heading h)
 
   abbrev pub IsHeading : Position → HeadingTree → Least → Least
       → Option Value × Option Value × Option Value → Type 0

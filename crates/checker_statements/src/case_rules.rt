@@ -72,7 +72,7 @@ pub fn ranges(
     let mut found = Vec::with_capacity(alloc, given.len())?;
     for x in given {
         let resolved = range(x, scope, least);
-        found.push(resolved)?;
+        found.push_reserved(resolved);
     }
     Ok(found)
 }

@@ -9,7 +9,7 @@ ghost use Rattle.checker_names.specs.Noted.{noted};
 ghost use Rattle.checker_names.specs.Scope.{seen_in};
 ghost use Rattle.checker_statements.specs.Statements as spec;
 ghost use Rattle.checker_statements.specs.Walk.{need_of_heading};
-ghost use Rattle.checker_statements.specs.Walk.{part_fits, room_behind, IsPart, AreParts, IsHeading};
+ghost use Rattle.checker_statements.specs.Walk.{part_fits, room_behind, IsPart, IsHeading};
 ghost use Rattle.checker_statements.specs.Walk.{parts_of};
 
 use checker_names::{Least, Scope, note};
@@ -91,30 +91,6 @@ fn part(
     }
 }
 
-fn parts(
-    given: &Heading<'_>,
-    alloc: Global,
-    scope: &Scope<'_>,
-    least: &mut Least,
-) -> Result<(Option<Box<Value>>, Option<Box<Value>>, Option<Box<Value>>), AllocError>
-    ensures { IfOk result (λ x. AreParts (seen_in scope.now) (heading_tree given.now)
-        least.old least.new (parts_of x)) }
-{
-    let Ok(before) = part(&given.before, alloc, scope, least) else {
-        return Err(AllocError);
-    };
-    let Ok(test) = part(&given.test, alloc, scope, least) else {
-        drop(before);
-        return Err(AllocError);
-    };
-    let Ok(behind) = part(&given.behind, alloc, scope, least) else {
-        drop(before);
-        drop(test);
-        return Err(AllocError);
-    };
-    Ok((before, test, behind))
-}
-
 /// The parts of a `for` that begins at this position.
 ///
 /// # Errors
@@ -131,5 +107,17 @@ pub fn resolved_heading(
         least.old least.new (parts_of x)) }
 {
     temporaries(given, position, least);
-    parts(given, alloc, scope, least)
+    let Ok(before) = part(&given.before, alloc, scope, least) else {
+        return Err(AllocError);
+    };
+    let Ok(test) = part(&given.test, alloc, scope, least) else {
+        drop(before);
+        return Err(AllocError);
+    };
+    let Ok(behind) = part(&given.behind, alloc, scope, least) else {
+        drop(before);
+        drop(test);
+        return Err(AllocError);
+    };
+    Ok((before, test, behind))
 }

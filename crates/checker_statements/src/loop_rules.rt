@@ -1,28 +1,16 @@
 //! The variable of an `objectloop`: the rules that its name can break.
 
 ghost use Rattle.std.specs.Prelude.{◌≡◌};
-ghost use Rattle.checker_names.specs.Breaches.{at};
 ghost use Rattle.checker_names.specs.Noted.{noted};
 ghost use Rattle.checker_values.specs.Expressions.{variable_of_binding};
 ghost use Rattle.checker_statements.specs.Statements.{loop_breaches};
-ghost use Rattle.syntax_lexer.specs.FaultNumbers.{wrong_kind};
 
 use checker_names::{Binding, Least, note};
 use meaning::Variable;
-use syntax_lexer::{Position, UNKNOWN_NAME, WRONG_KIND};
+use syntax_lexer::{UNKNOWN_NAME, WRONG_KIND};
 use syntax_trees::Name;
 
-// A name of another kind than a variable; any will do for it.
-#[tactic(auto, using(checker_names::proofs::Noted::noted_none))]
-fn no_variable(position: Position, least: &mut Least) -> Variable
-    ensures value { result ≡ Variable.Local 0 }
-    ensures breaches { least.new ≡ noted least.old (at position wrong_kind) }
-{
-    note(least, WRONG_KIND, position);
-    Variable::Local(0)
-}
-
-/// The variable of an `objectloop`.
+/// The variable of an `objectloop`; any will do for a name that stands for none.
 #[tactic(auto, using(checker_names::proofs::Noted::noted_none))]
 pub fn loop_variable(name: Name<'_>, found: Option<Binding>, least: &mut Least) -> Variable
     ensures value { result ≡ variable_of_binding found }
@@ -35,6 +23,9 @@ pub fn loop_variable(name: Name<'_>, found: Option<Binding>, least: &mut Least) 
         }
         Some(Binding::Global(number)) => Variable::Global(number),
         Some(Binding::Local(number)) => Variable::Local(number),
-        Some(_) => no_variable(name.position, least),
+        Some(_) => {
+            note(least, WRONG_KIND, name.position);
+            Variable::Local(0)
+        }
     }
 }

@@ -118,11 +118,13 @@ fn items<'a>(
         let Ok(resolved) = item(x, alloc, scope, least) else {
             return Err(AllocError);
         };
-        found.push(resolved)?;
+        found.push_reserved(resolved);
     }
     Ok(found)
 }
 
+// In this function and in those below, the lifetime of the action is that of the first argument, as
+// in `simple`: else the prover compares the types of actions part by part.
 fn print<'a>(
     printed: &[PrintItem<'a>],
     alloc: Global,
@@ -154,7 +156,7 @@ fn print_return<'a>(
 }
 
 fn return_value<'a>(
-    e: &Expression<'_>,
+    e: &Expression<'a>,
     alloc: Global,
     scope: &Scope<'_>,
     position: Position,
@@ -170,7 +172,7 @@ fn return_value<'a>(
 }
 
 fn effect<'a>(
-    e: &Expression<'_>,
+    e: &Expression<'a>,
     alloc: Global,
     scope: &Scope<'_>,
     position: Position,
@@ -207,13 +209,13 @@ fn flags(
     let mut found = Vec::with_capacity(alloc, given.len())?;
     for x in given {
         let resolved = flag(x, scope, least);
-        found.push(resolved)?;
+        found.push_reserved(resolved);
     }
     Ok(found)
 }
 
 fn give<'a>(
-    e: &Expression<'_>,
+    e: &Expression<'a>,
     given: &[(bool, Name<'_>)],
     alloc: Global,
     scope: &Scope<'_>,
@@ -249,7 +251,7 @@ fn move_temporaries(
 }
 
 fn move_to<'a>(
-    object: &Expression<'_>,
+    object: &Expression<'a>,
     parent: &Expression<'_>,
     alloc: Global,
     scope: &Scope<'_>,
@@ -264,13 +266,14 @@ fn move_to<'a>(
         return Err(AllocError);
     };
     let Ok(parent) = boxed(parent, alloc, scope, least) else {
+        drop(object);
         return Err(AllocError);
     };
     Ok(Action::Move(object, parent))
 }
 
 fn remove<'a>(
-    e: &Expression<'_>,
+    e: &Expression<'a>,
     alloc: Global,
     scope: &Scope<'_>,
     position: Position,

@@ -1,6 +1,6 @@
 //! Statements, and those inside them: the rules that they can break, and what they resolve to.
 
-ghost use Rattle.std.specs.Prelude.{◌≡◌, IfOk, map};
+ghost use Rattle.std.specs.Prelude.{◌≡◌, IfOk, map, true};
 ghost use Rattle.syntax_trees.specs.Views.{expression_tree, name_tree};
 ghost use Rattle.syntax_statement_parts.specs.Views.{heading_tree, loop_tree};
 ghost use Rattle.syntax_statements.specs.Tree as trees;
@@ -9,7 +9,7 @@ ghost use Rattle.meaning.specs.Around.{in_switch};
 ghost use Rattle.meaning.specs.Views.{action_of, case_of, other_of};
 ghost use Rattle.checker_names.specs.Scope.{seen_in};
 ghost use Rattle.checker_statements.specs.Walk.{IsAction, GivesAction};
-ghost use Rattle.checker_statements.specs.StatementWalk.{AreActions, IsCase, AreCases, IsOther};
+ghost use Rattle.checker_statements.specs.StatementWalk.{AreActions, AreCases, IsOther};
 
 use crate::case_rules::ranges;
 use crate::heading_rules::resolved_heading;
@@ -22,6 +22,26 @@ use syntax_lexer::Position;
 use syntax_statement_parts::{Heading, Loop, Range};
 use syntax_statements::Statement;
 use syntax_trees::{Expression, Name};
+
+fn is_empty(s: &Statement<'_>) -> bool
+    ensures { result ≡ true → s.now ≡ Statement.Empty }
+{
+    matches!(s, Statement::Empty)
+}
+
+// The ranges of a case of a `switch`.
+fn ranges_of<'r, 'a>(given: &'r (Vec<Range<'a>>, Vec<Statement<'a>>)) -> &'r [Range<'a>]
+    ensures { result.now ≡ given.now.0.items }
+{
+    &given.0
+}
+
+// The statements of a case of a `switch`.
+fn body_of<'r, 'a>(given: &'r (Vec<Range<'a>>, Vec<Statement<'a>>)) -> &'r [Statement<'a>]
+    ensures { result.now ≡ given.now.1.items }
+{
+    &given.1
+}
 
 // A statement. The tree is the first argument of all these functions: there its lifetime has the
 // place that it has where a box or a vector lends it, else the prover compares the types of trees
@@ -89,12 +109,17 @@ fn boxed<'a>(
     let Ok(found) = statement(s, alloc, scope, around, least) else {
         return Err(AllocError);
     };
-    Ok(Box::new(alloc, found)?)
+    Box::new(alloc, found).ok().ok_or(AllocError)
 }
 
-// Statements in order. An empty one is put there at once, without a result on its way.
+/// Resolves the names of statements in order, and notes the rules that they break. An empty one is
+/// put there at once, without a result on its way.
+///
+/// # Errors
+///
+/// `AllocError` where memory is refused.
 #[cycle(statement)]
-fn sequence<'a>(
+pub fn all_statements<'a>(
     all: &[Statement<'a>],
     alloc: Global,
     scope: &Scope<'_>,
@@ -106,14 +131,14 @@ fn sequence<'a>(
 {
     let mut found = Vec::with_capacity(alloc, all.len())?;
     for s in all {
-        if let Statement::Empty = s {
-            found.push(Action::Empty)?;
+        if is_empty(s) {
+            found.push_reserved(Action::Empty);
             continue;
         }
         let Ok(resolved) = statement(s, alloc, scope, around, least) else {
             return Err(AllocError);
         };
-        found.push(resolved)?;
+        found.push_reserved(resolved);
     }
     Ok(found)
 }
@@ -129,7 +154,7 @@ fn block<'a>(
     ensures { GivesAction (seen_in scope.now) around result least.old least.new
         (trees.block (trees_of (map statement_tree all.now))) }
 {
-    let Ok(found) = sequence(all, alloc, scope, around, least) else {
+    let Ok(found) = all_statements(all, alloc, scope, around, least) else {
         return Err(AllocError);
     };
     Ok(Action::Block(found))
@@ -225,7 +250,6 @@ fn do_until<'a>(
         return Err(AllocError);
     };
     let Ok(condition) = whole(condition, alloc, scope, position, least) else {
-        drop(body);
         return Err(AllocError);
     };
     Ok(Action::Do(body, condition))
@@ -346,27 +370,7 @@ fn traversal<'a>(
     }
 }
 
-// A case of a `switch`.
-#[cycle(statement)]
-fn one_case<'a>(
-    given: &(Vec<Range<'a>>, Vec<Statement<'a>>),
-    alloc: Global,
-    scope: &Scope<'_>,
-    around: Around,
-    least: &mut Least,
-) -> Result<(Vec<Span>, Vec<Action<'a>>), AllocError>
-    ensures { IfOk result (λ x. IsCase (seen_in scope.now) around given.now
-        least.old least.new (case_of x)) }
-{
-    let Ok(spans) = ranges(&given.0, alloc, scope, least) else {
-        return Err(AllocError);
-    };
-    let Ok(body) = sequence(&given.1, alloc, scope, around, least) else {
-        return Err(AllocError);
-    };
-    Ok((spans, body))
-}
-
+// The cases of a `switch`.
 #[cycle(statement)]
 fn all_cases<'a>(
     given: &[(Vec<Range<'a>>, Vec<Statement<'a>>)],
@@ -380,10 +384,13 @@ fn all_cases<'a>(
 {
     let mut found = Vec::with_capacity(alloc, given.len())?;
     for c in given {
-        let Ok(resolved) = one_case(c, alloc, scope, around, least) else {
+        let Ok(spans) = ranges(ranges_of(c), alloc, scope, least) else {
             return Err(AllocError);
         };
-        found.push(resolved)?;
+        let Ok(body) = all_statements(body_of(c), alloc, scope, around, least) else {
+            return Err(AllocError);
+        };
+        found.push_reserved((spans, body));
     }
     Ok(found)
 }
@@ -403,7 +410,7 @@ fn otherwise<'a>(
     match other {
         None => Ok(None),
         Some(all) => {
-            let Ok(found) = sequence(all, alloc, scope, around, least) else {
+            let Ok(found) = all_statements(all, alloc, scope, around, least) else {
                 return Err(AllocError);
             };
             Ok(Some(found))
@@ -440,22 +447,4 @@ fn switch_on<'a>(
         return Err(AllocError);
     };
     Ok(Action::Switch(value, cases, other))
-}
-
-/// Resolves the names of statements in order, and notes the rules that they break.
-///
-/// # Errors
-///
-/// `AllocError` where memory is refused.
-pub fn all_statements<'a>(
-    all: &[Statement<'a>],
-    alloc: Global,
-    scope: &Scope<'_>,
-    around: Around,
-    least: &mut Least,
-) -> Result<Vec<Action<'a>>, AllocError>
-    ensures { IfOk result (λ v. AreActions (seen_in scope.now) around all.now
-        least.old least.new (map action_of v.items)) }
-{
-    sequence(all, alloc, scope, around, least)
 }

@@ -15,8 +15,8 @@ use Rattle.checker_names.specs.declared.known.Known.{Known}
 use Rattle.checker_names.specs.declared.known.Known.TheVariants as knowns
 use Rattle.checker_names.specs.Keys.{or_zero}
 use Rattle.checker_names.specs.Names.{Table, key_of, in_table, literal_known}
-use Rattle.checker_arrays.specs.Arrays as arrays
-use Rattle.checker_arrays.specs.Arrays.{is_size, size_breaches, wide_breaches, width_of, entry_breaches, values_breaches}
+use Rattle.checker_objects.specs.Arrays as arrays
+use Rattle.checker_objects.specs.Arrays.{is_size, size_breaches, wide_breaches, width_of, entry_breaches, values_breaches}
 use Rattle.checker_objects.specs.Objects as objects
 use Rattle.checker_objects.specs.Objects.{Open, excess_breaches, value_breaches, provided_breaches, property_name}
 use Rattle.checker_objects.specs.Objects.{given_breaches, short_breaches, object_breaches, above_of, opened, is_next}

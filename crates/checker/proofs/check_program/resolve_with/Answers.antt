@@ -9,7 +9,7 @@ use Rattle.meaning.specs.Views.{object_of}
 use Rattle.checker_names.specs.Names.{File, first_table, no_counts, in_table}
 use Rattle.checker_names.specs.Noted.{noted}
 use Rattle.checker_names.specs.Scope.{file_in}
-use Rattle.checker_arrays.specs.Arrays.{arrays_of}
+use Rattle.checker_objects.specs.Arrays.{arrays_of}
 use Rattle.checker_objects.specs.Objects.{all_defaults, standing_breaches, placed, object_trees}
 use Rattle.checker_objects.proofs.Chains.{take_exact}
 use Rattle.checker.specs.Programs.{directives_breaches, main_breaches, main_key, first_routine, abbreviations_breaches}

@@ -13,17 +13,17 @@ use Rattle.checker.proofs.directive_rules.add_all.Goals as goal
 
 pub loop-one-preserved : goal.loop-one-preserved
 loop-one-preserved c = record {
-  few = rw c.in_ok-add.ensures.counts
+  few = rw c.in-Ok-add.ensures.counts
       (counts_fit (directive_tree c.one-item.result) c.loop-one.names.counts c.loop-one.one-index
       c.loop-one.invariant.few);
   adding = adding_more (file_in c.args.file.now) c.args.directives.now c.loop-one.one-index c.one-item.result
       c.args.found.now c.loop-one.found c.directive.new.found c.loop-one-test.true c.one-item.is
-      c.in_ok-directive.ensures.added c.loop-one.invariant.adding;
+      c.in-Ok.ensures.added c.loop-one.invariant.adding;
   least = breaches_step c.args.file.now.table.entries c.loop-one.names.table.entries c.add.new.self.table.entries
       c.loop-one.names.counts c.add.new.self.counts c.loop-one.least c.directive.new.least c.args.directives.now
       c.loop-one.one-index c.one-item.result
       c.loop-one-test.true c.one-item.is
-      c.in_ok-directive.ensures.breaches c.in_ok-add.ensures.table c.in_ok-add.ensures.counts
+      c.in-Ok.ensures.breaches c.in-Ok-add.ensures.table c.in-Ok-add.ensures.counts
       ∙ c.loop-one.invariant.least;
 }
 

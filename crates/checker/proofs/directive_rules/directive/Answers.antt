@@ -7,7 +7,7 @@ use Rattle.checker_names.specs.Noted.{noted}
 use Rattle.checker_names.specs.Scope.{file_in}
 use Rattle.checker_names.proofs.Noted.{noted_two}
 use Rattle.checker_values.specs.Literals.{named_breaches}
-use Rattle.checker_arrays.specs.Arrays.{array_breaches}
+use Rattle.checker_objects.specs.Arrays.{array_breaches}
 use Rattle.checker_names.specs.Names.{twice}
 use Rattle.checker.specs.Programs.{routine_breaches, directive_breaches}
 use Rattle.checker.proofs.Directives.{added_global, added_constant, added_array, added_attribute, added_property}

@@ -1,3 +1,4 @@
+use Rattle.std.proofs.Common.{arith}
 use Rattle.syntax_trees.specs.Views.{name_tree}
 use Rattle.checker_names.specs.Scope.{file_in}
 use Rattle.checker_names.proofs.Mapped.{list_there, list_end, note_there, note_end}
@@ -8,10 +9,12 @@ pub loop-name-preserved : goal.loop-name-preserved
 loop-name-preserved c = record {
   found = list_there name_tree (given_of (file_in c.args.file.now)) c.loop-name.found.items _ _ c.given.result
       c.args.names.now c.loop-name.name-index _ c.loop-name-test.true
-      c.in_ok-push.ensures.items c.given.ensures.value c.loop-name.invariant.found;
+      c.push_reserved.ensures.items c.given.ensures.value c.loop-name.invariant.found;
   least = note_there name_tree (given_breaches c.args.file.now.table.entries) c.loop-name.least c.given.new.least _
       c.args.names.now c.loop-name.name-index _ c.loop-name-test.true
       c.given.ensures.breaches c.loop-name.invariant.least;
+  count = omega (arith, c.push_reserved.ensures.len, c.loop-name.invariant.count);
+  room = omega (arith, c.push_reserved.ensures.capacity, c.loop-name.invariant.room);
 }
 
 pub returns-clause-value : goal.returns-clause-value

@@ -1,5 +1,5 @@
-use Rattle.std.proofs.Common.{◌≡◌, ◌++◌, drop}
-use Rattle.std.specs.Prelude.{map}
+use Rattle.std.proofs.Common.{◌≡◌, ◌≤◌, ◌++◌, length, drop}
+use Rattle.std.specs.Prelude.{map, vec_len, vec_capacity}
 use Rattle.std.specs.List.{flat_map}
 use Rattle.syntax_trees.specs.Views.{name_tree}
 use Rattle.checker_names.specs.Noted.{noted}
@@ -13,4 +13,6 @@ invariant-loop-name l = record {
       ≡ map (given_of (file_in l.file)) (map name_tree l.names);
   least : noted l.least (flat_map (given_breaches l.file.table.entries) (map name_tree (drop l.name-index l.names)))
       ≡ noted l.fn.least (flat_map (given_breaches l.file.table.entries) (map name_tree l.names));
+  count : vec_len l.found ≡ l.name-index;
+  room : length l.names ≤ vec_capacity l.found;
 }

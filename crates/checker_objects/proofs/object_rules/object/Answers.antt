@@ -24,16 +24,16 @@ returns-clause-breaches c =
     noted_two c.args.least.now c.short_rule.new.least c.attributes.new.least short (twice ++ (provided ++ given))
     c.short_rule.ensures
     (noted_two c.short_rule.new.least c.repeated.new.least c.attributes.new.least twice (provided ++ given)
-    (c.in_ok-repeated.ensures
+    (c.in-Ok.ensures
     ∙ ap (λ (ns : List Name). noted c.short_rule.new.least (repeated_breaches [] (map name_tree ns)))
     c.deref-2.ensures.value
     ∙ ap (λ (ns : List NameTree). noted c.short_rule.new.least (repeated_breaches [] ns)) c.in_ok-names.ensures
     ∙ ap (λ (xs : List Property). noted c.short_rule.new.least
     (repeated_breaches [] (map property_name (map property_tree xs)))) c.deref.ensures.value)
     (noted_two c.repeated.new.least c.provided_of_listed.new.least c.attributes.new.least provided given
-    (c.in_ok-properties.ensures.breaches
+    (c.in-Ok-provided_of_listed.ensures.breaches
     ∙ ap (λ (xs : List Property). noted c.repeated.new.least
     (flat_map (provided_breaches whole) (map property_tree xs))) c.deref-3.ensures.value)
-    (c.in_ok-attributes.ensures.breaches
+    (c.in-Ok-attributes.ensures.breaches
     ∙ ap (λ (ns : List Name). noted c.provided_of_listed.new.least (flat_map (given_breaches whole) (map name_tree ns)))
     c.deref-4.ensures.value)))

@@ -13,11 +13,11 @@ use Rattle.checker_objects.proofs.object_rules.properties.Goals as goal
 pub loop-one-preserved : goal.loop-one-preserved
 loop-one-preserved c = record {
   found = properties_next (file_in c.args.file.now) (map property_of c.loop-one.found.items) _ _
-      (property_of c.in_ok-added.added) c.args.written.now c.loop-one.one-index c.one-item.result c.loop-one-test.true
-      c.one-item.is c.in_ok-added.ensures.value c.in_ok-add_property.ensures c.loop-one.invariant.found;
+      (property_of c.in-Ok.added) c.args.written.now c.loop-one.one-index c.one-item.result c.loop-one-test.true
+      c.one-item.is c.in-Ok.ensures.value c.in-Ok-add_property.ensures c.loop-one.invariant.found;
   least = note_next property_tree (provided_breaches c.args.file.now.table.entries) c.loop-one.least
       c.provided.new.least _ c.args.written.now c.loop-one.one-index c.one-item.result c.loop-one-test.true
-      c.one-item.is c.in_ok-added.ensures.breaches c.loop-one.invariant.least;
+      c.one-item.is c.in-Ok.ensures.breaches c.loop-one.invariant.least;
 }
 
 pub returns-clause-value : goal.returns-clause-value

@@ -1,4 +1,4 @@
-use Rattle.std.proofs.Common.{ℕ, List, [], Option, take, drop, ap, ◌∙◌}
+use Rattle.std.proofs.Common.{ℕ, List, [], take, drop, ap, ◌∙◌}
 use Rattle.std.specs.Prelude.{map}
 use Rattle.std.specs.List.{flat_map}
 use Rattle.std.proofs.lemmas.List.{take_rest}
@@ -25,7 +25,7 @@ returns-clause-breaches c =
     let rules = provided_breaches c.args.file.now.table.entries in
     let count = c.min-count.result in
     let rest = take_rest c.args.written.now count in
-    c.in_ok-note_provided.ensures
+    c.in-Ok.ensures
     ∙ ap (λ (ps : List Property). noted c.properties.new.least (flat_map rules (map property_tree ps))) rest
     ∙ ap (λ (m : Least). noted m (flat_map rules (map property_tree (drop count c.args.written.now))))
     c.in_ok-found.ensures.breaches

@@ -7,7 +7,7 @@ use Rattle.checker_objects.proofs.object_rules.repeated_many.Goals as goal
 pub loop-number-preserved : goal.loop-number-preserved
 loop-number-preserved c = record {
   table = table_next c.loop-number.table.entries c.define.new.table.entries c.args.names.now c.loop-number.number _
-      c.loop-number-test.true c.loop-number.invariant.table c.in_ok-define.ensures;
+      c.loop-number-test.true c.loop-number.invariant.table c.in-Ok.ensures;
   least = repeated_next c.loop-number.least c.twice.new.least c.loop-number.table.entries
       c.args.names.now c.loop-number.number _ c.loop-number-test.true c.loop-number.invariant.table c.twice.ensures
       ∙ c.loop-number.invariant.least;

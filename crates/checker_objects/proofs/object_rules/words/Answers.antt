@@ -1,3 +1,4 @@
+use Rattle.std.proofs.Common.{arith}
 use Rattle.syntax_directives.specs.Views.{value_tree}
 use Rattle.checker_names.specs.Scope.{file_in}
 use Rattle.checker_objects.specs.Objects.{word_of, value_breaches}
@@ -8,10 +9,12 @@ pub loop-value-preserved : goal.loop-value-preserved
 loop-value-preserved c = record {
   found = list_there value_tree (word_of (file_in c.args.file.now)) c.loop-value.found.items _ _ c.word.result
       c.args.values.now c.loop-value.value-index _ c.loop-value-test.true
-      c.in_ok-push.ensures.items c.word.ensures.value c.loop-value.invariant.found;
+      c.push_reserved.ensures.items c.word.ensures.value c.loop-value.invariant.found;
   least = note_there value_tree (value_breaches c.args.file.now.table.entries) c.loop-value.least c.word.new.least _
       c.args.values.now c.loop-value.value-index _ c.loop-value-test.true
       c.word.ensures.breaches c.loop-value.invariant.least;
+  count = omega (arith, c.push_reserved.ensures.len, c.loop-value.invariant.count);
+  room = omega (arith, c.push_reserved.ensures.capacity, c.loop-value.invariant.room);
 }
 
 pub returns-clause-words : goal.returns-clause-words

@@ -1,5 +1,5 @@
-use Rattle.std.proofs.Common.{◌≡◌, ◌++◌, drop}
-use Rattle.std.specs.Prelude.{map}
+use Rattle.std.proofs.Common.{◌≡◌, ◌≤◌, ◌++◌, length, drop}
+use Rattle.std.specs.Prelude.{map, vec_len, vec_capacity}
 use Rattle.std.specs.List.{flat_map}
 use Rattle.syntax_directives.specs.Views.{value_tree}
 use Rattle.checker_names.specs.Noted.{noted}
@@ -13,4 +13,6 @@ invariant-loop-value l = record {
       ≡ map (word_of (file_in l.file)) (map value_tree l.values);
   least : noted l.least (flat_map (value_breaches l.file.table.entries) (map value_tree (drop l.value-index l.values)))
       ≡ noted l.fn.least (flat_map (value_breaches l.file.table.entries) (map value_tree l.values));
+  count : vec_len l.found ≡ l.value-index;
+  room : length l.values ≤ vec_capacity l.found;
 }

@@ -11,13 +11,13 @@ loop-directive-preserved c =
     c.in-Object.object c.loop-directive-test.true c.directive-item.is c.in-Object.is in
     record {
       value = parents_next c.args.whole.now.entries c.loop-directive.chain.items c.stand.new.chain.items
-          c.loop-directive.parents.items c.push.new.self.items _ c.in_ok-stand.field-0 c.len-before.result
-          (object_tree c.in-Object.object) _ _ trees count c.in_ok-push.ensures.items c.in_ok-stand.ensures.value
-          c.in_ok-stand.ensures.chain c.loop-directive.invariant.value;
+          c.loop-directive.parents.items c.push.new.self.items _ c.in-Ok.parent c.len-before.result
+          (object_tree c.in-Object.object) _ _ trees count c.in_ok-push.ensures.items c.in-Ok.ensures.value
+          c.in-Ok.ensures.chain c.loop-directive.invariant.value;
       least = standing_next c.args.whole.now.entries c.loop-directive.chain.items c.stand.new.chain.items
-          c.loop-directive.parents.items c.push.new.self.items c.in_ok-stand.field-0 c.len-before.result
+          c.loop-directive.parents.items c.push.new.self.items c.in-Ok.parent c.len-before.result
           c.loop-directive.least c.stand.new.least _ (object_tree c.in-Object.object) _ _ trees count
-          c.in_ok-push.ensures.items c.in_ok-stand.ensures.chain c.in_ok-stand.ensures.breaches
+          c.in_ok-push.ensures.items c.in-Ok.ensures.chain c.in-Ok.ensures.breaches
           c.loop-directive.invariant.least;
     }
 

@@ -1,4 +1,4 @@
-use Rattle.std.proofs.Common.{sym, ◌∙◌}
+use Rattle.std.proofs.Common.{sym, ◌∙◌, arith}
 use Rattle.syntax_statement_parts.specs.declared.tree.Range.{Range}
 use Rattle.meaning.specs.Views.{range_of}
 use Rattle.checker_names.specs.Scope.{seen_in}
@@ -11,11 +11,13 @@ loop-x-preserved c =
     let f = λ (x : Range). own_range_breaches (seen_in c.args.scope.now) x in
     let g = λ (x : Range). resolved_range (seen_in c.args.scope.now) x in
     record {
-      value = rw c.in_ok-push.ensures.items
+      value = rw c.push_reserved.ensures.items
           (value_there f g range_of c.loop-x.found.items c.range-resolved.result c.args.given.now c.loop-x.x-index _
           c.loop-x-test.true c.loop-x.invariant.value c.range-resolved.ensures.value);
       least = each_there f g range_of c.loop-x.least _ c.args.given.now c.loop-x.x-index _ c.loop-x-test.true
           c.range-resolved.ensures.breaches ∙ c.loop-x.invariant.least;
+      count = omega (arith, c.push_reserved.ensures.len, c.loop-x.invariant.count);
+      room = omega (arith, c.push_reserved.ensures.capacity, c.loop-x.invariant.room);
     }
 
 pub returns : goal.returns

@@ -1,4 +1,4 @@
-use Rattle.std.proofs.Common.{Bool, ℕ, sym, ◌∙◌}
+use Rattle.std.proofs.Common.{Bool, ℕ, sym, ◌∙◌, arith}
 use Rattle.syntax_trees.specs.declared.tree.Name.{Name}
 use Rattle.checker_names.specs.Scope.{seen_in}
 use Rattle.checker_names.proofs.Each.{each_there, each_end, value_end}
@@ -11,11 +11,13 @@ loop-x-preserved c =
     let f = λ (x : Bool × Name). own_flag_breaches (seen_in c.args.scope.now) x in
     let g = λ (x : Bool × Name). resolved_flag (seen_in c.args.scope.now) x in
     record {
-      value = rw c.in_ok-push.ensures.items
+      value = rw c.push_reserved.ensures.items
           (more_there g c.loop-x.found.items c.flag-resolved.result c.args.given.now c.loop-x.x-index _
           c.loop-x-test.true c.loop-x.invariant.value c.flag-resolved.ensures.value);
       least = each_there f g (λ (x : Bool × ℕ). x) c.loop-x.least _ c.args.given.now c.loop-x.x-index _
           c.loop-x-test.true c.flag-resolved.ensures.breaches ∙ c.loop-x.invariant.least;
+      count = omega (arith, c.push_reserved.ensures.len, c.loop-x.invariant.count);
+      room = omega (arith, c.push_reserved.ensures.capacity, c.loop-x.invariant.room);
     }
 
 pub returns : goal.returns

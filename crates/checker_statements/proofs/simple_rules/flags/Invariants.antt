@@ -1,5 +1,5 @@
-use Rattle.std.proofs.Common.{◌≡◌, take, drop}
-use Rattle.std.specs.Prelude.{map}
+use Rattle.std.proofs.Common.{◌≡◌, ◌≤◌, length, take, drop}
+use Rattle.std.specs.Prelude.{map, vec_len, vec_capacity}
 use Rattle.std.specs.List.{flat_map}
 use Rattle.checker_names.specs.Noted.{noted}
 use Rattle.checker_names.specs.Scope.{seen_in}
@@ -11,4 +11,6 @@ invariant-loop-x l = record {
   value : l.found.items ≡ map (resolved_flag (seen_in l.scope)) (take l.x-index l.given);
   least : noted l.least (flat_map (own_flag_breaches (seen_in l.scope)) (drop l.x-index l.given))
       ≡ noted l.fn.least (flat_map (own_flag_breaches (seen_in l.scope)) l.given);
+  count : vec_len l.found ≡ l.x-index;
+  room : length l.given ≤ vec_capacity l.found;
 }

@@ -1,4 +1,4 @@
-use Rattle.std.proofs.Common.{sym, ◌∙◌}
+use Rattle.std.proofs.Common.{sym, ◌∙◌, arith}
 use Rattle.syntax_statement_parts.specs.declared.tree.PrintItem.{PrintItem}
 use Rattle.meaning.specs.Views.{printed_of}
 use Rattle.checker_names.specs.Scope.{seen_in}
@@ -11,12 +11,14 @@ loop-x-preserved c =
     let f = λ (x : PrintItem). own_item_breaches (seen_in c.args.scope.now) x in
     let g = λ (x : PrintItem). resolved_item (seen_in c.args.scope.now) x in
     record {
-      value = rw c.in_ok-push.ensures.items
+      value = rw c.push_reserved.ensures.items
           (value_next f g printed_of c.loop-x.found.items c.in-Ok.resolved c.args.printed.now c.loop-x.x-index
           c.x-item.result c.loop-x-test.true c.x-item.is c.loop-x.invariant.value c.in-Ok.ensures.value);
       least = rw c.in-Ok.ensures.breaches
           (sym (each_next f g printed_of c.loop-x.least c.args.printed.now c.loop-x.x-index c.x-item.result
           c.loop-x-test.true c.x-item.is) ∙ c.loop-x.invariant.least);
+      count = omega (arith, c.push_reserved.ensures.len, c.loop-x.invariant.count);
+      room = omega (arith, c.push_reserved.ensures.capacity, c.loop-x.invariant.room);
     }
 
 pub returns : goal.returns

@@ -1,4 +1,4 @@
-use Rattle.std.proofs.Common.{◌≡◌, ◌+◌, Option, None, sym, ap, ◌∙◌, drop}
+use Rattle.std.proofs.Common.{◌≡◌, ◌+◌, Option, None, sym, ap, ◌∙◌, drop, arith}
 use Rattle.std.specs.Global.{Vec}
 use Rattle.std.specs.Prelude.{map}
 use Rattle.std.specs.List.{flat_map}
@@ -27,42 +27,52 @@ use Rattle.checker_statements.proofs.Shapes.{is_for_statement, is_objectloop_sta
 use Rattle.checker_statements.proofs.MadeStatements.{made_block, made_if_then, made_if_else, made_while_do, made_do}
 use Rattle.checker_statements.proofs.MadeStatements.{made_for, made_switch, made_each_object, made_each_in}
 use Rattle.checker_statements.proofs.MadeStatements.{made_each_where}
-use Rattle.checker_statements.proofs.StatementForms.{empty_walked, statements_walked, case_walked, other_walked}
-use Rattle.checker_statements.proofs.StatementForms.{switch_walked}
+use Rattle.checker_statements.proofs.StatementForms.{kept_action, empty_walked, statements_walked, case_walked}
+use Rattle.checker_statements.proofs.StatementForms.{other_walked, switch_walked}
 use Rattle.checker_statements.proofs.statement_rules.+statement.Goals as goal
 
 abbrev pair : Action → Action → Action × Action
 pair a b = (a, b)
 
-pub sequence-loop-s-preserved : goal.sequence-loop-s-preserved
-sequence-loop-s-preserved t c =
+pub boxed-returns : goal.boxed-returns
+boxed-returns t c = rw (← c.deref.ensures)
+    (kept_action c.new.result c.ok.result c.ok_or.result c.in-Ok.found c.new.ensures.ok c.ok.ensures.value
+    c.ok_or.ensures.ok_part c.in-Ok.ensures)
+
+pub all_statements-loop-s-preserved : goal.all_statements-loop-s-preserved
+all_statements-loop-s-preserved t c =
     let f = λ (x : Statement). own_statement_breaches (seen_in c.args.scope.now) c.args.around x in
     let g = λ (x : Statement). resolved_statement (seen_in c.args.scope.now) x in
     record {
-      value = rw c.in_ok-push-2.ensures.items
+      value = rw c.push_reserved-in-loop-s.ensures.items
           (value_next f g action_of c.loop-s.found.items c.in-Ok.resolved c.args.all.now c.loop-s.s-index
           c.s-item.result c.loop-s-test.true c.s-item.is c.loop-s.invariant.value c.in-Ok.ensures.value);
       least = rw c.in-Ok.ensures.breaches
           (sym (each_next f g action_of c.loop-s.least c.args.all.now c.loop-s.s-index c.s-item.result
           c.loop-s-test.true c.s-item.is) ∙ c.loop-s.invariant.least);
+      count = omega (arith, c.push_reserved-in-loop-s.ensures.len, c.loop-s.invariant.count);
+      room = omega (arith, c.push_reserved-in-loop-s.ensures.capacity, c.loop-s.invariant.room);
     }
 
-pub sequence-loop-s-preserved-in-Empty : goal.sequence-loop-s-preserved-in-Empty
-sequence-loop-s-preserved-in-Empty t c =
+pub all_statements-loop-s-preserved-then-is_empty : goal.all_statements-loop-s-preserved-then-is_empty
+all_statements-loop-s-preserved-then-is_empty t c =
     let f = λ (x : Statement). own_statement_breaches (seen_in c.args.scope.now) c.args.around x in
     let g = λ (x : Statement). resolved_statement (seen_in c.args.scope.now) x in
-    let none = empty_walked (seen_in c.args.scope.now) c.args.around c.s-item.result c.loop-s.least c.in-Empty.is in
+    let none = empty_walked (seen_in c.args.scope.now) c.args.around c.s-item.result c.loop-s.least
+    (c.is_empty.ensures c.if-is_empty.true) in
     record {
-      value = rw c.in_ok-push.ensures.items
+      value = rw c.push_reserved.ensures.items
           (value_next f g action_of c.loop-s.found.items done.Empty c.args.all.now c.loop-s.s-index
           c.s-item.result c.loop-s-test.true c.s-item.is c.loop-s.invariant.value none.value);
       least = ap (λ (m : Least). noted m (flat_map f (drop (c.loop-s.s-index + 1) c.args.all.now))) none.breaches
           ∙ sym (each_next f g action_of c.loop-s.least c.args.all.now c.loop-s.s-index c.s-item.result
           c.loop-s-test.true c.s-item.is) ∙ c.loop-s.invariant.least;
+      count = omega (arith, c.push_reserved.ensures.len, c.loop-s.invariant.count);
+      room = omega (arith, c.push_reserved.ensures.capacity, c.loop-s.invariant.room);
     }
 
-pub sequence-returns : goal.sequence-returns
-sequence-returns t c =
+pub all_statements-returns : goal.all_statements-returns
+all_statements-returns t c =
     let f = λ (x : Statement). own_statement_breaches (seen_in c.args.scope.now) c.args.around x in
     let g = λ (x : Statement). resolved_statement (seen_in c.args.scope.now) x in
     record {
@@ -101,22 +111,22 @@ for_loop-returns t c around = rw (made_for c.in-Ok.before c.in-Ok.test c.in-Ok.b
     (two (λ (h : Option Value × Option Value × Option Value) (x : Action). values.for_loop h.0 h.1 h.2 x)
     c.in-Ok.ensures c.in-Ok-boxed.ensures)
 
-pub one_case-returns : goal.one_case-returns
-one_case-returns t c = case_walked (seen_in c.args.scope.now) c.args.around c.args.given.now c.in-Ok.spans
-    c.in-Ok-sequence.body c.deref.result.now c.deref-2.result.now c.deref.ensures.value c.deref-2.ensures.value
-    c.in-Ok.ensures c.in-Ok-sequence.ensures
-
 pub all_cases-loop-c-preserved : goal.all_cases-loop-c-preserved
 all_cases-loop-c-preserved t c =
     let f = λ (x : Vec Range × Vec Statement). own_case_breaches (seen_in c.args.scope.now) c.args.around x in
     let g = λ (x : Vec Range × Vec Statement). resolved_case (seen_in c.args.scope.now) x in
+    let one_more = case_walked (seen_in c.args.scope.now) c.args.around c.c-item.result c.in-Ok.spans
+    c.in-Ok-all_statements.body c.ranges_of.result.now c.body_of.result.now c.ranges_of.ensures c.body_of.ensures
+    c.in-Ok.ensures c.in-Ok-all_statements.ensures in
     record {
-      value = rw c.in_ok-push.ensures.items
-          (value_next f g case_of c.loop-c.found.items c.in-Ok.resolved c.args.given.now c.loop-c.c-index
-          c.c-item.result c.loop-c-test.true c.c-item.is c.loop-c.invariant.value c.in-Ok.ensures.value);
-      least = rw c.in-Ok.ensures.breaches
+      value = rw c.push_reserved.ensures.items
+          (value_next f g case_of c.loop-c.found.items (c.in-Ok.spans, c.in-Ok-all_statements.body) c.args.given.now
+          c.loop-c.c-index c.c-item.result c.loop-c-test.true c.c-item.is c.loop-c.invariant.value one_more.value);
+      least = rw one_more.breaches
           (sym (each_next f g case_of c.loop-c.least c.args.given.now c.loop-c.c-index c.c-item.result
           c.loop-c-test.true c.c-item.is) ∙ c.loop-c.invariant.least);
+      count = omega (arith, c.push_reserved.ensures.len, c.loop-c.invariant.count);
+      room = omega (arith, c.push_reserved.ensures.capacity, c.loop-c.invariant.room);
     }
 
 pub all_cases-returns : goal.all_cases-returns

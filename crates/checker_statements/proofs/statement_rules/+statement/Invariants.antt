@@ -1,5 +1,5 @@
-use Rattle.std.proofs.Common.{◌≡◌, ◌+◌, ◌*◌, max, take, drop}
-use Rattle.std.specs.Prelude.{map}
+use Rattle.std.proofs.Common.{◌≡◌, ◌≤◌, ◌+◌, ◌*◌, max, length, take, drop}
+use Rattle.std.specs.Prelude.{map, vec_len, vec_capacity}
 use Rattle.std.specs.List.{flat_map}
 use Rattle.syntax_statements.specs.declared.tree.Statement.{size-Statement}
 use Rattle.syntax_statements.specs.declared.tree.Statement.TheViews.{weight-Statement-Switch-3}
@@ -16,8 +16,8 @@ decreases-statement l = 8 * goal.size-statement l
 abbrev pub decreases-boxed : goal.decreases-boxed
 decreases-boxed l = 8 * goal.size-boxed l + 1
 
-abbrev pub decreases-sequence : goal.decreases-sequence
-decreases-sequence l = 8 * goal.size-sequence l + 1
+abbrev pub decreases-all_statements : goal.decreases-all_statements
+decreases-all_statements l = 8 * goal.size-all_statements l + 1
 
 abbrev pub decreases-block : goal.decreases-block
 decreases-block l = 8 * goal.size-block l + 2
@@ -49,9 +49,6 @@ decreases-each_where l = 8 * goal.size-each_where l + 2
 abbrev pub decreases-traversal : goal.decreases-traversal
 decreases-traversal l = 8 * goal.size-traversal l + 3
 
-abbrev pub decreases-one_case : goal.decreases-one_case
-decreases-one_case l = 8 * goal.size-one_case l + 2
-
 abbrev pub decreases-all_cases : goal.decreases-all_cases
 decreases-all_cases l = 8 * goal.size-all_cases l + 3
 
@@ -66,11 +63,15 @@ invariant-all_cases-loop-c l = record {
   value : map case_of l.found.items ≡ map (resolved_case (seen_in l.scope)) (take l.c-index l.given);
   least : noted l.least (flat_map (own_case_breaches (seen_in l.scope) l.around) (drop l.c-index l.given))
       ≡ noted l.fn.least (flat_map (own_case_breaches (seen_in l.scope) l.around) l.given);
+  count : vec_len l.found ≡ l.c-index;
+  room : length l.given ≤ vec_capacity l.found;
 }
 
-abbrev pub invariant-sequence-loop-s : goal.invariant-sequence-loop-s
-invariant-sequence-loop-s l = record {
+abbrev pub invariant-all_statements-loop-s : goal.invariant-all_statements-loop-s
+invariant-all_statements-loop-s l = record {
   value : map action_of l.found.items ≡ map (resolved_statement (seen_in l.scope)) (take l.s-index l.all);
   least : noted l.least (flat_map (own_statement_breaches (seen_in l.scope) l.around) (drop l.s-index l.all))
       ≡ noted l.fn.least (flat_map (own_statement_breaches (seen_in l.scope) l.around) l.all);
+  count : vec_len l.found ≡ l.s-index;
+  room : length l.all ≤ vec_capacity l.found;
 }

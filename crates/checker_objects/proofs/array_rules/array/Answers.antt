@@ -2,10 +2,10 @@ use Rattle.std.proofs.Common.{◌≡◌, List, ◌-◌, ◌++◌, refl, ap, ◌�
 use Rattle.std.specs.Prelude.{map}
 use Rattle.syntax_directives.specs.declared.tree.ArrayValue.{ArrayValue}
 use Rattle.syntax_directives.specs.Views.{value_tree, array_tree}
-use Rattle.checker_arrays.specs.Arrays.{bytes_of, entries_of, array_bytes}
+use Rattle.checker_objects.specs.Arrays.{bytes_of, entries_of, array_bytes}
 use Rattle.checker_names.specs.Scope.{file_in}
-use Rattle.checker_arrays.proofs.ArrayBytes.{array_added}
-use Rattle.checker_arrays.proofs.array_rules.array.Goals as goal
+use Rattle.checker_objects.proofs.ArrayBytes.{array_added}
+use Rattle.checker_objects.proofs.array_rules.array.Goals as goal
 
 pub returns-clause-added : goal.returns-clause-added
 returns-clause-added c =

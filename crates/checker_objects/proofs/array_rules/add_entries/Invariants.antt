@@ -1,9 +1,9 @@
 use Rattle.std.proofs.Common.{◌≡◌, ◌++◌, drop}
 use Rattle.std.specs.List.{flat_map}
 use Rattle.checker_names.specs.Noted.{noted}
-use Rattle.checker_arrays.specs.Entries.{own_entry_bytes, own_entry_breaches}
+use Rattle.checker_objects.specs.Entries.{own_entry_bytes, own_entry_breaches}
 use Rattle.checker_names.specs.Scope.{file_in}
-use Rattle.checker_arrays.proofs.array_rules.add_entries.Given as goal
+use Rattle.checker_objects.proofs.array_rules.add_entries.Given as goal
 
 abbrev pub invariant-loop-value : goal.invariant-loop-value
 invariant-loop-value l = record {

@@ -21,10 +21,10 @@ use Rattle.checker_names.proofs.Noted.{noted_none, noted_append, noted_two}
 use Rattle.checker_names.proofs.Dropped.{drop_cons, drop_end}
 use Rattle.checker_names.proofs.Mapped.{nothing_more}
 use Rattle.checker_values.specs.Literals.{literal_breaches}
-use Rattle.checker_arrays.specs.Arrays.{width_of, count_breaches, size_breaches, entry_breaches, values_breaches}
-use Rattle.checker_arrays.specs.Arrays.{entry_value, zeros, entries_of, entry_bytes, bytes_of}
-use Rattle.checker_arrays.specs.Entries.{number_bytes, own_entry_bytes, own_entry_breaches, IsArrayAdded}
-use Rattle.checker_arrays.proofs.ArraySizes.{number_first, map_length}
+use Rattle.checker_objects.specs.Arrays.{width_of, count_breaches, size_breaches, entry_breaches, values_breaches}
+use Rattle.checker_objects.specs.Arrays.{entry_value, zeros, entries_of, entry_bytes, bytes_of}
+use Rattle.checker_objects.specs.Entries.{number_bytes, own_entry_bytes, own_entry_breaches, IsArrayAdded}
+use Rattle.checker_objects.proofs.ArraySizes.{number_first, map_length}
 
 -- Parts that are added
 

@@ -4,7 +4,7 @@ ghost use Rattle.std.specs.Prelude.{◌≡◌, ◌<◌, ◌^◌, ◌∷◌, ◌+
 ghost use Rattle.std.specs.List.{concat};
 ghost use Rattle.syntax_directives.specs.Views.{directive_tree};
 ghost use Rattle.checker_names.specs.Scope.{file_in};
-ghost use Rattle.checker_arrays.specs.Arrays as spec;
+ghost use Rattle.checker_objects.specs.Arrays as spec;
 
 use crate::array_rules::array;
 use checker_names::{File, Least};

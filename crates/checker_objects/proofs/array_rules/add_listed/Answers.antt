@@ -1,7 +1,7 @@
 use Rattle.std.proofs.Common.{length, refl}
 use Rattle.checker_names.specs.Scope.{file_in}
-use Rattle.checker_arrays.proofs.ArrayBytes.{listed_breaks, listed_adds}
-use Rattle.checker_arrays.proofs.array_rules.add_listed.Goals as goal
+use Rattle.checker_objects.proofs.ArrayBytes.{listed_breaks, listed_adds}
+use Rattle.checker_objects.proofs.array_rules.add_listed.Goals as goal
 
 pub returns-clause-bytes : goal.returns-clause-bytes
 returns-clause-bytes c =

@@ -3,9 +3,9 @@ use Rattle.std.specs.Prelude.{replicate}
 use Rattle.std.specs.List.{flat_map}
 use Rattle.syntax_trees.specs.declared.tree.Width.{Width}
 use Rattle.checker_names.specs.Scope.{file_in}
-use Rattle.checker_arrays.specs.Arrays.{entry_bytes}
-use Rattle.checker_arrays.proofs.ArrayBytes.{sized_breaks, sized_adds}
-use Rattle.checker_arrays.proofs.array_rules.add_sized.Goals as goal
+use Rattle.checker_objects.specs.Arrays.{entry_bytes}
+use Rattle.checker_objects.proofs.ArrayBytes.{sized_breaks, sized_adds}
+use Rattle.checker_objects.proofs.array_rules.add_sized.Goals as goal
 
 pub returns-clause-bytes : goal.returns-clause-bytes
 returns-clause-bytes c =

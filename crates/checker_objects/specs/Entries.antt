@@ -10,7 +10,7 @@ use Rattle.meaning.specs.Limits.{most_array_bytes}
 use Rattle.meaning.specs.declared.arrays.Arrays.{Arrays}
 use Rattle.checker_names.specs.declared.breach.Breach.{Breach}
 use Rattle.checker_names.specs.Names.{Table, File}
-use Rattle.checker_arrays.specs.Arrays.{entry_bytes, entry_value, entry_breaches}
+use Rattle.checker_objects.specs.Arrays.{entry_bytes, entry_value, entry_breaches}
 
 -- the most entries that an array may have
 abbrev pub most : ArrayKind → ℕ

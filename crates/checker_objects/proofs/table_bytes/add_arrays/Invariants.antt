@@ -3,8 +3,8 @@ use Rattle.std.specs.Prelude.{map}
 use Rattle.std.specs.List.{concat}
 use Rattle.syntax_directives.specs.Views.{directive_tree}
 use Rattle.checker_names.specs.Scope.{file_in}
-use Rattle.checker_arrays.specs.Arrays.{arrays_of}
-use Rattle.checker_arrays.proofs.table_bytes.add_arrays.Given as goal
+use Rattle.checker_objects.specs.Arrays.{arrays_of}
+use Rattle.checker_objects.proofs.table_bytes.add_arrays.Given as goal
 
 abbrev pub invariant-loop-one : goal.invariant-loop-one
 invariant-loop-one l =

@@ -6,8 +6,8 @@ use Rattle.checker_names.specs.Names.{literal_known}
 use Rattle.checker_names.specs.Noted.{noted}
 use Rattle.checker_names.proofs.Noted.{noted_two}
 use Rattle.checker_values.specs.Literals.{literal_breaches}
-use Rattle.checker_arrays.specs.Arrays.{wide_breaches}
-use Rattle.checker_arrays.proofs.array_rules.entry.Goals as goal
+use Rattle.checker_objects.specs.Arrays.{wide_breaches}
+use Rattle.checker_objects.proofs.array_rules.entry.Goals as goal
 
 pub returns-clause-breaches : goal.returns-clause-breaches
 returns-clause-breaches c =

@@ -1,5 +1,5 @@
-use Rattle.checker_arrays.proofs.ArrayBytes.{zero_added, zeros_added}
-use Rattle.checker_arrays.proofs.array_rules.add_zeros.Goals as goal
+use Rattle.checker_objects.proofs.ArrayBytes.{zero_added, zeros_added}
+use Rattle.checker_objects.proofs.array_rules.add_zeros.Goals as goal
 
 pub loop-turn-preserved : goal.loop-turn-preserved
 loop-turn-preserved c = zero_added c.args.width c.args.count c.loop-turn._turn c.loop-turn.bytes.items

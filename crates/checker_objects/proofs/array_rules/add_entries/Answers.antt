@@ -1,7 +1,7 @@
 use Rattle.checker_names.specs.Scope.{file_in}
-use Rattle.checker_arrays.proofs.ArrayBytes.{all_added, entry_added, entry_noted, all_noted}
-use Rattle.checker_arrays.specs.Entries.{own_entry_bytes}
-use Rattle.checker_arrays.proofs.array_rules.add_entries.Goals as goal
+use Rattle.checker_objects.proofs.ArrayBytes.{all_added, entry_added, entry_noted, all_noted}
+use Rattle.checker_objects.specs.Entries.{own_entry_bytes}
+use Rattle.checker_objects.proofs.array_rules.add_entries.Goals as goal
 
 pub loop-value-preserved : goal.loop-value-preserved
 loop-value-preserved c = record {

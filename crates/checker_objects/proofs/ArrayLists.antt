@@ -9,7 +9,7 @@ use Rattle.syntax_directives.specs.Views.{directive_tree}
 use Rattle.checker_names.specs.Names.{File}
 use Rattle.checker_names.proofs.Dropped.{drop_here}
 use Rattle.checker_names.proofs.Mapped.{nothing_more}
-use Rattle.checker_arrays.specs.Arrays.{array_bytes, arrays_of}
+use Rattle.checker_objects.specs.Arrays.{array_bytes, arrays_of}
 
 pub bytes_more : (file : File) (d : DirectiveTree) (ds : List DirectiveTree)
     → concat (arrays_of file (d ∷ ds)) ≡ concat (arrays_of file (d ∷ [])) ++ concat (arrays_of file ds)

@@ -6,9 +6,9 @@ ghost use Rattle.syntax_trees.specs.declared.tree.Width.TheVariants as widths;
 ghost use Rattle.syntax_directives.specs.Views.{value_tree, array_tree};
 ghost use Rattle.checker_names.specs.Noted.{noted};
 ghost use Rattle.checker_names.specs.Scope.{file_in};
-ghost use Rattle.checker_arrays.specs.Arrays as spec;
-ghost use Rattle.checker_arrays.specs.Entries.{most, number_bytes, own_entry_bytes};
-ghost use Rattle.checker_arrays.specs.Entries.{own_entry_breaches, IsArrayAdded};
+ghost use Rattle.checker_objects.specs.Arrays as spec;
+ghost use Rattle.checker_objects.specs.Entries.{most, number_bytes, own_entry_bytes};
+ghost use Rattle.checker_objects.specs.Entries.{own_entry_breaches, IsArrayAdded};
 
 use checker_names::{File, Known, Least, note, or_zero};
 use checker_values::literal;

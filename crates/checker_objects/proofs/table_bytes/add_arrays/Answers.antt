@@ -5,11 +5,11 @@ use Rattle.syntax_directives.specs.declared.tree.Directive.{Directive}
 use Rattle.syntax_directives.specs.Tree.{DirectiveTree}
 use Rattle.syntax_directives.specs.Views.{directive_tree}
 use Rattle.checker_names.specs.Scope.{file_in}
-use Rattle.checker_arrays.specs.Arrays.{arrays_of}
+use Rattle.checker_objects.specs.Arrays.{arrays_of}
 use Rattle.checker_names.proofs.Dropped.{drop_end}
 use Rattle.checker_names.proofs.Mapped.{nothing_more}
-use Rattle.checker_arrays.proofs.ArrayLists.{bytes_more, list_step}
-use Rattle.checker_arrays.proofs.table_bytes.add_arrays.Goals as goal
+use Rattle.checker_objects.proofs.ArrayLists.{bytes_more, list_step}
+use Rattle.checker_objects.proofs.table_bytes.add_arrays.Goals as goal
 
 pub loop-one-preserved : goal.loop-one-preserved
 loop-one-preserved c =

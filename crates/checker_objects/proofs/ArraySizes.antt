@@ -18,10 +18,10 @@ use Rattle.checker_names.specs.declared.known.Known.{Known}
 use Rattle.checker_names.specs.declared.known.Known.TheVariants as knowns
 use Rattle.checker_names.specs.Names.{Table, File, literal_known}
 use Rattle.checker_names.proofs.Kept.{left_empty}
-use Rattle.checker_arrays.specs.Arrays.{width_of, array_size, is_told, is_size, count_breaches, entry_breaches}
-use Rattle.checker_arrays.specs.Arrays.{values_breaches, entry_value, zeros, entries_of, entry_bytes, bytes_of}
-use Rattle.checker_arrays.specs.Arrays.{array_breaches, array_bytes}
-use Rattle.checker_arrays.specs.Entries.{most, number_bytes}
+use Rattle.checker_objects.specs.Arrays.{width_of, array_size, is_told, is_size, count_breaches, entry_breaches}
+use Rattle.checker_objects.specs.Arrays.{values_breaches, entry_value, zeros, entries_of, entry_bytes, bytes_of}
+use Rattle.checker_objects.specs.Arrays.{array_breaches, array_bytes}
+use Rattle.checker_objects.specs.Entries.{most, number_bytes}
 
 -- Sizes
 

@@ -1,3 +1,0 @@
-pub mod ArraySizes
-pub mod ArrayBytes
-pub mod ArrayLists
