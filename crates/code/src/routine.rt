@@ -14,7 +14,7 @@ ghost use Rattle.code.specs.HeldProgram.{sizes_of};
 ghost use Rattle.code.specs.Written.{AreSizesOf};
 
 use crate::fault::CodeFault;
-use crate::settled::{behind, between, front, is_settled, size_between};
+use crate::settled::{after, between, front, is_settled, size_between};
 use code_branch_forms::{BranchUse, Part, branches, lay_out};
 use code_encoding::{Addresses, Sizes};
 use code_instructions::{label_size, offset_of, place, target_of};
@@ -35,7 +35,8 @@ pub struct Scratch {
 }
 
 impl Scratch {
-    /// No memory as yet.
+    /// No memory as yet. There is no clause here: what such memory holds changes no result, so no
+    /// caller needs to know it.
     pub fn new(alloc: Global) -> Self {
         let bytes = Vec::new(alloc);
         let parts = Vec::new(alloc);
@@ -43,7 +44,7 @@ impl Scratch {
     }
 }
 
-/// The code of a routine, ready to be written where the routine stands.
+/// The code of a routine, ready to be written wherever the routine is in a story.
 #[derive(Drop)]
 pub struct Code<'a, 'b> {
     alloc: Global,
@@ -54,8 +55,8 @@ pub struct Code<'a, 'b> {
 
     items: Vec<Item<'a>>,
 
-    /// The bytes of those items that are the same wherever all else stands, one after another: to copy
-    /// them takes less than to write them again, most of all a text.
+    /// The bytes of those items that are the same wherever everything else is, one after another:
+    /// to copy them takes less than to write them again, most of all a text.
     kept: Vec<u8>,
 
     /// How many bytes there are from each item on to the end, the end's first.
@@ -88,8 +89,8 @@ impl<'a, 'b> Model for Code<'a, 'b> {
 }
 
 /// The items as parts that are laid out, and what is kept of them. They are written once, with no
-/// addresses and the shortest branches: an item has as many bytes wherever all stands, but for the
-/// form of its branch.
+/// addresses and the shortest branches: an item has as many bytes wherever everything is, but for
+/// the form of its branch.
 fn put_parts(
     scratch: &mut Scratch,
     kept: &mut Vec<u8>,
@@ -124,12 +125,12 @@ fn put_parts(
         kept.extend_from_slice(between(&scratch.bytes, start, before))?;
         start = scratch.bytes.len();
     }
-    kept.extend_from_slice(behind(&scratch.bytes, start))?;
+    kept.extend_from_slice(after(&scratch.bytes, start))?;
     Ok(())
 }
 
-/// The bytes of items, one after another, of which the first begins the code. What was kept of them is
-/// copied, run by run.
+/// The bytes of items, one after another, of which the first begins the code. What was kept of them
+/// is copied, run by run.
 fn put_items(
     bytes: &mut Vec<u8>,
     alloc: Global,
@@ -157,7 +158,7 @@ fn put_items(
         bytes.extend_from_slice(front(rest, run))?;
         let offset = offset_of(left, number, item);
         put_item(bytes, alloc, sizes, addresses, offset, item)?;
-        rest = behind(rest, run);
+        rest = after(rest, run);
         start = number + 1;
     }
     bytes.extend_from_slice(rest)?;
@@ -195,8 +196,8 @@ fn code_of<'a, 'b>(
     })
 }
 
-/// The code of the routine of a number, ready to be written, of a program of these sizes. The code of
-/// other routines may be made with the same scratch memory.
+/// The code of the routine of a number, ready to be written, of a program of these sizes. The code
+/// of other routines may be made with the same scratch memory.
 ///
 /// # Errors
 ///
@@ -244,8 +245,8 @@ pub fn routine_code<'a, 'b>(
     routine_code_with(&mut scratch, alloc, checked, sizes, routine)
 }
 
-/// Gives back the memory of items that are not needed any more. A crate that drops items in a function of
-/// its own proves anew what becomes of each kind: hand them over here instead.
+/// Gives back the memory of items that are not needed any more. A crate that drops items in a
+/// function of its own proves anew what becomes of each kind: hand them over here instead.
 pub fn discard(items: Vec<Item<'_>>) {
     drop(items);
 }
@@ -260,7 +261,8 @@ pub enum Disposal {
     Left,
 }
 
-/// Gives back the memory of code that is not needed any more, or leaves it.
+/// Gives back the memory of code that is not needed any more, or leaves it. There is no clause
+/// here: it takes the code and answers nothing, and no contract speaks of memory that is left.
 pub fn dispose(codes: Vec<Code<'_, '_>>, disposal: Disposal) {
     match disposal {
         Disposal::GivenBack => drop(codes),
@@ -298,15 +300,15 @@ impl Code<'_, '_> {
         &self.branches
     }
 
-    /// How many bytes there are from each item on to the end, the end's first. The memory of all else is
-    /// given back.
+    /// How many bytes there are from each item on to the end, the end's first. The memory of all
+    /// else is given back.
     pub fn into_left(self) -> Vec<usize>
         ensures { result.items ≡ reverse (lefts_of self.entry.sizes self.entry.items) }
     {
         self.left
     }
 
-    /// Writes the routine behind what is written of a story: how many locals it has, and its code
+    /// Appends the routine to what is written of a story: how many locals it has, and its code
     /// (Z-Machine Standards Document 1.1, section 5.2), in as many bytes as its length.
     ///
     /// # Errors

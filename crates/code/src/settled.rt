@@ -1,4 +1,5 @@
-//! Items whose bytes are the same wherever all else stands, and what is kept of them.
+//! Items whose bytes are the same wherever everything else is in the story, and what is kept of
+//! them.
 
 ghost use Rattle.std.specs.Prelude.{◌≡◌, ◌<◌, ◌-◌, length, reverse, take, drop, slice_index};
 ghost use Rattle.code_drafts.specs.Code.{item_of};
@@ -37,29 +38,29 @@ pub fn is_settled(item: &Item<'_>) -> bool
     }
 }
 
-/// So many bytes of the front, or all.
+/// The first `count` bytes, or all where there are no more.
 pub fn front(bytes: &[u8], count: usize) -> &[u8]
     ensures { result.now ≡ take count bytes.now }
 {
     bytes.split_at(count.min(bytes.len())).0
 }
 
-/// The bytes behind so many, none where there are no more.
-pub fn behind(bytes: &[u8], count: usize) -> &[u8]
+/// The bytes after the first `count`, none where there are no more.
+pub fn after(bytes: &[u8], count: usize) -> &[u8]
     ensures { result.now ≡ drop count bytes.now }
 {
     bytes.split_at(count.min(bytes.len())).1
 }
 
-/// The bytes from a place to another.
+/// The bytes from `start` to `end`.
 pub fn between(bytes: &[u8], start: usize, end: usize) -> &[u8]
     ensures { result.now ≡ take (end - start) (drop start bytes.now) }
 {
-    front(behind(bytes, start), end.saturating_sub(start))
+    front(after(bytes, start), end.saturating_sub(start))
 }
 
-/// How many bytes there are from the item of a number on to the end, where `left` tells it of each, the
-/// end's first.
+/// How many bytes there are from the item of a number on to the end, where `left` tells it of each,
+/// the end's first.
 #[tactic(auto, using(code_branch_forms::proofs::Offsets::turned))]
 fn left_from(left: &[usize], number: usize) -> usize
     requires { number < length left.now }
@@ -68,8 +69,8 @@ fn left_from(left: &[usize], number: usize) -> usize
     left[left.len() - 1 - number]
 }
 
-/// How many bytes the items from a number to another have, where `left` tells how many there are from
-/// each on to the end, the end's first.
+/// How many bytes the items from a number to another have, where `left` tells how many there are
+/// from each on to the end, the end's first.
 pub fn size_between(left: &[usize], first: usize, end: usize) -> usize
     requires first { first < length left.now }
     requires end { end < length left.now }

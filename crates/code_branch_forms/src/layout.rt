@@ -150,7 +150,7 @@ pub fn branches(alloc: Global, parts: &[Part], left: &[usize]) -> Result<Vec<Bra
     ensures uses { IfOk result (λ found. found.items ≡ uses 0 parts.now) }
     ensures shortest { IfOk result (λ found. All IsShortest found.items) }
 {
-    let mut found = Vec::with_capacity(alloc, parts.len())?;
+    let mut found = Vec::new(alloc);
     for number in 0..parts.len() {
         if let Some(target) = parts[number].target {
             let behind = &left[..parts.len() - number];

@@ -1,9 +1,10 @@
 //! The items that are written so far.
 
-ghost use Rattle.std.specs.Prelude.{◌≡◌, ◌<◌, length, IfOk, OnOk};
+ghost use Rattle.std.specs.Prelude.{◌≡◌, ◌<◌, ◌-◌, length, OnOk};
 ghost use Rattle.code_drafts.specs.Items.{branch_true};
 ghost use Rattle.code_drafts.specs.Code.{as_operand, item_of, items_of};
 ghost use Rattle.code_drafts.specs.Writing.{written_in, numbered, ordered, LeadsBack, PutsItem};
+ghost use Rattle.code_drafts.specs.Writing as spec;
 
 use crate::item::{Item, Operand, Test};
 use std::alloc::{AllocError, Global};
@@ -63,46 +64,48 @@ pub fn lead_back(draft: &mut Draft<'_>, number: usize)
 }
 
 /// The items from the first to the last, with the numbers of their targets.
-pub fn in_order(draft: Draft<'_>) -> Result<Vec<Item<'_>>, AllocError>
-    ensures { IfOk result (λ code. items_of code.items ≡ ordered draft.entry) }
+pub fn in_order(draft: Draft<'_>) -> Vec<Item<'_>>
+    ensures { items_of result.items ≡ ordered draft.entry }
 {
     let mut items = draft.items;
-    let count = items.len();
-    let mut code = Vec::new(draft.alloc);
-    while let Some(item) = items.pop() {
-        code.push(numbered(item, count))?;
-    }
-    Ok(code)
+    put_in_order(&mut items);
+    items
 }
 
-/// An item of so many, with the number of its target.
-fn numbered(item: Item<'_>, count: usize) -> Item<'_>
-    ensures { item_of result ≡ numbered count (item_of item.entry) }
+/// Puts the items of a draft in order, from the first to the last, and numbers their targets.
+fn put_in_order(items: &mut [Item<'_>])
+    ensures { items_of items.new
+        ≡ spec.in_order (length (items_of items.old)) (items_of items.old) }
+{
+    let count = items.len();
+    items.reverse();
+    for number in 0..count {
+        number_target(&mut items[number], count);
+    }
+}
+
+/// Gives an item the number of its target, where there are `count` items in all.
+fn number_target(item: &mut Item<'_>, count: usize)
+    ensures { item_of item.new ≡ numbered count (item_of item.old) }
 {
     match item {
-        Item::Branch(test, operands, when, left) => {
-            Item::Branch(test, operands, when, count.saturating_sub(left))
-        }
-        Item::Case(test, numbers, when, left) => {
-            Item::Case(test, numbers, when, count.saturating_sub(left))
-        }
-        Item::IsIn(object, parent, when, left) => {
-            Item::IsIn(object, parent, when, count.saturating_sub(left))
-        }
-        Item::Has(object, attribute, when, left) => {
-            Item::Has(object, attribute, when, count.saturating_sub(left))
-        }
-        Item::Provides(object, property, when, left) => {
-            Item::Provides(object, property, when, count.saturating_sub(left))
-        }
-        Item::FirstObject(variable, left) => {
-            Item::FirstObject(variable, count.saturating_sub(left))
-        }
-        Item::NextObject(variable, left) => {
-            Item::NextObject(variable, count.saturating_sub(left))
-        }
-        Item::Jump(left) => Item::Jump(count.saturating_sub(left)),
-        Item::Back(left) => Item::Back(count.saturating_sub(left)),
-        other => other,
+        Item::Branch(_, _, _, target) => count_from_first(target, count),
+        Item::Case(_, _, _, target) => count_from_first(target, count),
+        Item::IsIn(_, _, _, target) => count_from_first(target, count),
+        Item::Has(_, _, _, target) => count_from_first(target, count),
+        Item::Provides(_, _, _, target) => count_from_first(target, count),
+        Item::FirstObject(_, target) => count_from_first(target, count),
+        Item::NextObject(_, target) => count_from_first(target, count),
+        Item::Jump(target) => count_from_first(target, count),
+        Item::Back(target) => count_from_first(target, count),
+        _ => (),
     }
+}
+
+/// A target that was told by how many of `count` items there are from there on to the end becomes
+/// the number of its item.
+fn count_from_first(target: &mut usize, count: usize)
+    ensures { target.new ≡ count - target.old }
+{
+    *target = count.saturating_sub(*target);
 }

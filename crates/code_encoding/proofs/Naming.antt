@@ -3,10 +3,11 @@ use Rattle.std.proofs.Common.{◌≡◌, ℕ, zero, suc, ◌+◌, ◌<◌, List,
 use Rattle.std.proofs.Common.{ap, ◌∙◌, arith, append_assoc}
 use Rattle.std.proofs.Math.Seq.{drop-cons}
 use Rattle.zcore.specs.declared.instruction.Operand.{Operand}
+use Rattle.zcore.specs.declared.instruction.Operand.TheVariants.{Variable}
 use Rattle.code_drafts.specs.Items as items
 use Rattle.code_drafts.specs.declared.item.Operand as code_operand
 use Rattle.code_drafts.specs.Code.{as_operand, as_operands}
-use Rattle.code_encoding.specs.Instructions.{pushed_count}
+use Rattle.code_encoding.specs.Instructions.{number_of, top, constant, in_place, pushed_count, operands}
 use Rattle.code_encoding.specs.Written.{named_when}
 
 -- the first of some operands, and then the others
@@ -56,3 +57,16 @@ named_on xs i x n one b b1 total o h e m is count =
     ∙ ap (λ l. b ++ (l ++ named_when (n + one) rest)) is
     ∙ ap (λ k. b ++ (named_when n (y ∷ []) ++ named_when (n + k) rest)) count
     ∙ ap (λ l. b ++ l) (sym (named_next y rest n)) ∙ ap (λ l. b ++ named_when n l) (sym (from_operand xs i x h)) ∙ e
+
+-- one operand, and two
+pub one_named : (o : items.Operand) → in_place o ∷ [] ≡ operands (o ∷ [])
+one_named items.pushed = refl
+one_named (items.number k) = refl
+one_named (items.variable x) = refl
+
+pub two_named : (o q : items.Operand) (n : ℕ) (name : Operand) → n ≡ pushed_count (o ∷ [])
+    → name ∷ [] ≡ named_when n (q ∷ []) → in_place o ∷ name ∷ [] ≡ operands (o ∷ q ∷ [])
+two_named items.pushed q n name e is = ap (λ l. top ∷ l) (is ∙ ap (λ k. named_when k (q ∷ [])) e)
+two_named (items.number k) q n name e is = ap (λ l. constant k ∷ l) (is ∙ ap (λ i. named_when i (q ∷ [])) e)
+two_named (items.variable x) q n name e is =
+    ap (λ l. Variable (number_of x) ∷ l) (is ∙ ap (λ i. named_when i (q ∷ [])) e)

@@ -14,4 +14,6 @@ pub use instruction::{
     ASIDE, FIRST, FOURTH, Instruction, Operands, SECOND, ShortBranch, THIRD, branching, copy,
     giving, plain, print_fault, pull, push, put_all, put_instruction, quit, store,
 };
-pub use operands::{constant, in_place, put_named, put_takes, result_in, variable_number};
+pub use operands::{
+    constant, in_place, named_second, put_named, put_takes, result_in, variable_number,
+};

@@ -124,6 +124,14 @@ fn named(operand: code_drafts::Operand, pushed: u8) -> Operand
     }
 }
 
+/// The second of two operands, whose first is named in place.
+pub fn named_second(first: code_drafts::Operand, second: code_drafts::Operand) -> Operand
+    ensures { spec.in_place (as_operand first) ∷ result ∷ []
+        ≡ spec.operands (as_operand first ∷ as_operand second ∷ []) }
+{
+    named(second, pushed_one(first))
+}
+
 /// Operands are named in an instruction whose pushed ones, but the first, were taken.
 pub fn put_named(
     named_before: &mut Vec<Operand>,

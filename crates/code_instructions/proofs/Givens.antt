@@ -1,6 +1,6 @@
 -- The first of some operands, as a slice.
 use Rattle.std.proofs.Common.{◌≡◌, ℕ, zero, suc, min, List, [], ◌∷◌, ◌++◌, length, take, refl, sym, ap, ◌∙◌, arith}
-use Rattle.std.specs.Prelude.{nat_eq, Bool, false, if◌then◌else◌, Option, None, Result, Ok, Err, OnOk}
+use Rattle.std.specs.Prelude.{nat_eq, Bool, false, if◌then◌else◌, Option, None, Some, Result, Ok, Err, OnOk}
 use Rattle.std.proofs.lemmas.Bool.{ne_eqb}
 use Rattle.zcore.specs.declared.instruction.Operand.{Operand}
 use Rattle.zcore.specs.declared.instruction.Operand.TheVariants.{Large}
@@ -10,11 +10,13 @@ use Rattle.code_drafts.specs.Items.{Destination, Test}
 use Rattle.code_drafts.specs.Items as items
 use Rattle.code_drafts.specs.declared.item.Operand as code_operand
 use Rattle.code_drafts.specs.Code.{as_operand, as_operands}
-use Rattle.code_encoding.specs.Instructions.{takes, operands}
+use Rattle.code_encoding.specs.Instructions.{takes, operands, in_place, giving, result_in}
 use Rattle.code_instructions.specs.Instructions.{calling, call_code, call_operation, call_result, asks_none, labelled}
 use Rattle.code_instructions.specs.Instructions.{test_operation, least_word, ordered_code, tested_code, branch_code}
+use Rattle.code_instructions.specs.Instructions.{arithmetic}
 use Rattle.code_encoding.specs.Bytes.{bytes_of_all}
 use Rattle.code_encoding.proofs.Chains.{one_joined, all_joined}
+use Rattle.code_encoding.proofs.Naming.{one_named}
 
 as_taken : (xs : List code_operand.Operand) (n : ℕ) → as_operands (take n xs) ≡ take n (as_operands xs)
 as_taken xs zero = refl
@@ -68,17 +70,58 @@ asks_one [] = refl
 asks_one (x ∷ []) = refl
 asks_one (x ∷ y ∷ xs) = ne_eqb _ _ (λ e. omega (arith, e))
 
--- the bytes of a branch
-pub tested_joined : (test : Test) (os : List items.Operand) (op : Operation) (when : Bool) (offset : ℕ)
-    (b b1 b2 : List ℕ) (n1 n2 n3 : List Operand) → n1 ≡ [] → n2 ≡ n1 ++ operands os → n3 ≡ n2
-    → op ≡ test_operation test
-    → b1 ≡ b ++ bytes_of_all (takes os) → b2 ≡ b1 ++ bytes_of_all (labelled op n3 when offset)
+-- the bytes of an operation on two words
+pub arithmetic_joined : (o q : items.Operand) (d : Destination) (op : Operation) (result : ℕ) (name other : Operand)
+    (b b1 b2 : List ℕ) → name ≡ in_place o → in_place o ∷ other ∷ [] ≡ operands (o ∷ q ∷ [])
+    → result ≡ result_in d → b1 ≡ b ++ bytes_of_all (takes (o ∷ q ∷ []))
+    → b2 ≡ b1 ++ bytes_of
+    (record { operation = op; operands = name ∷ other ∷ []; result = Some result; branch = None })
+    → b2 ≡ b ++ bytes_of_all (arithmetic op o q d)
+arithmetic_joined o q d op result name other b b1 b2 is both r f1 f2 =
+    let named : name ∷ other ∷ [] ≡ operands (o ∷ q ∷ []) = ap (λ (x : Operand). x ∷ other ∷ []) is ∙ both in
+    one_joined (takes (o ∷ q ∷ [])) (giving op (operands (o ∷ q ∷ [])) (result_in d)) b b1 b2 f1
+    (f2 ∙ ap (λ (x : List Operand). b1 ++ bytes_of
+    (record { operation = op; operands = x; result = Some result; branch = None })) named
+    ∙ ap (λ (x : ℕ). b1 ++ bytes_of
+    (record { operation = op; operands = operands (o ∷ q ∷ []); result = Some x; branch = None })) r)
+
+-- the bytes of a branch by one operand, by two, and by any
+labelled_as : (op : Operation) (when : Bool) (offset : ℕ) (b b1 : List ℕ) (names others : List Operand)
+    → names ≡ others → b1 ≡ b ++ bytes_of_all (labelled op names when offset)
+    → b1 ≡ b ++ bytes_of_all (labelled op others when offset)
+labelled_as op when offset b b1 names others same e =
+    e ∙ ap (λ (x : List Operand). b ++ bytes_of_all (labelled op x when offset)) same
+
+pub one_labelled : (op : Operation) (when : Bool) (offset : ℕ) (o : items.Operand) (name : Operand) (b b1 : List ℕ)
+    → name ≡ in_place o → b1 ≡ b ++ bytes_of_all (labelled op (name ∷ []) when offset)
+    → b1 ≡ b ++ bytes_of_all (labelled op (operands (o ∷ [])) when offset)
+one_labelled op when offset o name b b1 is e =
+    labelled_as op when offset b b1 (name ∷ []) (operands (o ∷ []))
+    (ap (λ (x : Operand). x ∷ []) is ∙ one_named o) e
+
+pub two_labelled : (op : Operation) (when : Bool) (offset : ℕ) (o q : items.Operand) (name other : Operand)
+    (b b1 : List ℕ) → name ≡ in_place o → in_place o ∷ other ∷ [] ≡ operands (o ∷ q ∷ [])
+    → b1 ≡ b ++ bytes_of_all (labelled op (name ∷ other ∷ []) when offset)
+    → b1 ≡ b ++ bytes_of_all (labelled op (operands (o ∷ q ∷ [])) when offset)
+two_labelled op when offset o q name other b b1 is both e =
+    labelled_as op when offset b b1 (name ∷ other ∷ []) (operands (o ∷ q ∷ []))
+    (ap (λ (x : Operand). x ∷ other ∷ []) is ∙ both) e
+
+pub all_labelled : (op : Operation) (when : Bool) (offset : ℕ) (os : List items.Operand) (b b1 : List ℕ)
+    (n1 n2 n3 : List Operand) → n1 ≡ [] → n2 ≡ n1 ++ operands os → n3 ≡ n2
+    → b1 ≡ b ++ bytes_of_all (labelled op n3 when offset)
+    → b1 ≡ b ++ bytes_of_all (labelled op (operands os) when offset)
+all_labelled op when offset os b b1 n1 n2 n3 e1 e2 e3 e =
+    labelled_as op when offset b b1 n3 (operands os) (e3 ∙ e2 ∙ ap (λ n. n ++ operands os) e1) e
+
+-- the bytes of a branch by a test, after those that take its operands
+pub ordered_joined : (test : Test) (os : List items.Operand) (op : Operation) (when : Bool) (offset : ℕ)
+    (b b1 b2 : List ℕ) → op ≡ test_operation test → b1 ≡ b ++ bytes_of_all (takes os)
+    → b2 ≡ b1 ++ bytes_of_all (labelled op (operands os) when offset)
     → b2 ≡ b ++ bytes_of_all (ordered_code test os when offset)
-tested_joined test os op when offset b b1 b2 n1 n2 n3 e1 e2 e3 o f1 f2 =
-    let named : n3 ≡ operands os = e3 ∙ e2 ∙ ap (λ n. n ++ operands os) e1 in
+ordered_joined test os op when offset b b1 b2 o f1 f2 =
     all_joined (takes os) (labelled (test_operation test) (operands os) when offset) b b1 b2 f1
-    (f2 ∙ ap (λ (x : Operation). b1 ++ bytes_of_all (labelled x n3 when offset)) o
-    ∙ ap (λ (x : List Operand). b1 ++ bytes_of_all (labelled (test_operation test) x when offset)) named)
+    (f2 ∙ ap (λ (x : Operation). b1 ++ bytes_of_all (labelled x (operands os) when offset)) o)
 
 -- a branch that is asked as it is
 pub branch_otherwise : (test : Test) (os given : List items.Operand) (asks when : Bool) (offset : ℕ) (b b1 : List ℕ)

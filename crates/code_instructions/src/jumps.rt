@@ -4,7 +4,7 @@ ghost use Rattle.std.specs.Prelude.{◌≡◌, ◌≤◌, ◌+◌, ◌++◌, [],
 ghost use Rattle.zcore.specs.declared.instruction.Operation.TheVariants.{Jump};
 ghost use Rattle.zcore.specs.declared.instruction.Operand.TheVariants.{Large};
 ghost use Rattle.code_drafts.specs.Items as source_items;
-ghost use Rattle.code_drafts.specs.Code.{as_operands, as_test};
+ghost use Rattle.code_drafts.specs.Code.{as_operand, as_operands, as_test};
 ghost use Rattle.code_encoding.specs.Instructions.{plain};
 ghost use Rattle.code_instructions.specs.Instructions.{labelled, ordered_code, tested_code, branch_code};
 ghost use Rattle.code_instructions.specs.Instructions.{test_operation};
@@ -16,7 +16,8 @@ ghost use Rattle.meaning.specs.Limits.{most_arguments};
 use code_branch_forms::TWO_BYTE_LIMIT;
 use code_drafts::{MOST_COMPARED, Test};
 use code_encoding::{
-    ASIDE, Operands, constant, in_place, plain, put_all, put_instruction, put_named, put_takes,
+    ASIDE, Operands, constant, in_place, named_second, plain, put_all, put_instruction, put_named,
+    put_takes,
 };
 use std::alloc::{AllocError, Global};
 use zcore::{Branch, Operand, Operation};
@@ -121,8 +122,80 @@ fn are_both_pushed(operands: &[code_drafts::Operand]) -> bool
     )
 }
 
+/// A branch by a label, with one operand.
+fn put_labelled_one(
+    bytes: &mut Vec<u8>,
+    operation: Operation,
+    operand: code_drafts::Operand,
+    when: bool,
+    offset: usize,
+) -> Result<(), AllocError>
+    ensures { OnOk result (AddsCode bytes.old bytes.new
+        (labelled operation (basic.operands (as_operand operand ∷ [])) when offset)) }
+{
+    put_labelled(bytes, operation, &[in_place(operand)], when, offset)?;
+    Ok(())
+}
+
+/// A branch by a label, with two operands. If both are pushed, the second was taken before.
+fn put_labelled_two(
+    bytes: &mut Vec<u8>,
+    operation: Operation,
+    left: code_drafts::Operand,
+    right: code_drafts::Operand,
+    when: bool,
+    offset: usize,
+) -> Result<(), AllocError>
+    ensures { OnOk result (AddsCode bytes.old bytes.new
+        (labelled operation (basic.operands (as_operand left ∷ as_operand right ∷ [])) when
+        offset)) }
+{
+    let operands = [in_place(left), named_second(left, right)];
+    put_labelled(bytes, operation, &operands, when, offset)?;
+    Ok(())
+}
+
+/// A branch by a label. Of the operands that are pushed, all but the first were taken before.
+fn put_labelled_any(
+    bytes: &mut Vec<u8>,
+    alloc: Global,
+    operation: Operation,
+    operands: &[code_drafts::Operand],
+    when: bool,
+    offset: usize,
+) -> Result<(), AllocError>
+    requires { length operands.now ≤ most_arguments }
+    ensures { OnOk result (AddsCode bytes.old bytes.new
+        (labelled operation (basic.operands (as_operands operands.now)) when offset)) }
+{
+    let mut named = Vec::new(alloc);
+    put_named(&mut named, operands)?;
+    put_labelled(bytes, operation, &named, when, offset)?;
+    Ok(())
+}
+
+/// The same. Most branches have one operand or two, for which no memory is asked for.
+fn put_labelled_named(
+    bytes: &mut Vec<u8>,
+    alloc: Global,
+    operation: Operation,
+    operands: &[code_drafts::Operand],
+    when: bool,
+    offset: usize,
+) -> Result<(), AllocError>
+    requires { length operands.now ≤ most_arguments }
+    ensures { OnOk result (AddsCode bytes.old bytes.new
+        (labelled operation (basic.operands (as_operands operands.now)) when offset)) }
+{
+    match operands {
+        [operand] => put_labelled_one(bytes, operation, *operand, when, offset)?,
+        [left, right] => put_labelled_two(bytes, operation, *left, *right, when, offset)?,
+        _ => put_labelled_any(bytes, alloc, operation, operands, when, offset)?,
+    }
+    Ok(())
+}
+
 /// A branch by a test of its operands, of which all but the first are taken from the stack before.
-#[tactic(auto, using(crate::proofs::Givens::tested_joined))]
 fn put_ordered(
     bytes: &mut Vec<u8>,
     alloc: Global,
@@ -136,9 +209,7 @@ fn put_ordered(
         (ordered_code (as_test test) (as_operands operands.now) when offset)) }
 {
     put_takes(bytes, operands)?;
-    let mut named = Vec::new(alloc);
-    put_named(&mut named, operands)?;
-    put_labelled(bytes, operation_of(test), &named, when, offset)?;
+    put_labelled_named(bytes, alloc, operation_of(test), operands, when, offset)?;
     Ok(())
 }
 
@@ -216,7 +287,8 @@ fn compared(alloc: Global, numbers: &[u16]) -> Result<Vec<Operand>, AllocError>
     Ok(operands)
 }
 
-/// A branch by a test of the word of a `switch`.
+/// A branch by a test of the word of a `switch`. Most compare it with one number, for which no
+/// memory is asked for.
 pub fn put_case(
     bytes: &mut Vec<u8>,
     alloc: Global,
@@ -228,6 +300,11 @@ pub fn put_case(
     ensures { OnOk result (AddsCode bytes.old bytes.new
         (spec.case_code (as_test test) numbers.now when offset)) }
 {
+    if let [number] = numbers {
+        let operands = [Operand::Variable(ASIDE), constant(*number)];
+        put_labelled(bytes, operation_of(test), &operands, when, offset)?;
+        return Ok(());
+    }
     let operands = compared(alloc, numbers)?;
     put_labelled(bytes, operation_of(test), &operands, when, offset)?;
     Ok(())

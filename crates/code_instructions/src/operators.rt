@@ -14,11 +14,11 @@ ghost use Rattle.code_instructions.specs.Instructions.{flag};
 use code_drafts::Destination;
 use code_encoding::{
     ASIDE, Addresses, FIRST, Instruction, Operands, SECOND, THIRD, branching, constant, copy,
-    fault_address, giving, in_place, plain, print_fault, pull, push, put_all, put_instruction,
-    put_named, put_takes, quit, result_in, variable_number,
+    fault_address, giving, in_place, named_second, plain, print_fault, pull, push, put_all,
+    put_instruction, put_takes, quit, result_in, variable_number,
 };
 use meaning::Cause;
-use std::alloc::{AllocError, Global};
+use std::alloc::AllocError;
 use syntax_trees::{Binary, Prefix};
 use zcore::{Operand, Operation};
 
@@ -50,10 +50,8 @@ pub fn put_prefix(
 }
 
 /// An operation on two words that has no test.
-#[tactic(auto, using(code_encoding::proofs::Chains::one_joined))]
 fn put_arithmetic(
     bytes: &mut Vec<u8>,
-    alloc: Global,
     operation: Operation,
     left: code_drafts::Operand,
     right: code_drafts::Operand,
@@ -62,11 +60,15 @@ fn put_arithmetic(
     ensures { OnOk result (AddsCode bytes.old bytes.new
         (arithmetic operation (as_operand left) (as_operand right) (as_destination destination))) }
 {
-    let operands = [left, right];
-    put_takes(bytes, &operands)?;
-    let mut named = Vec::new(alloc);
-    put_named(&mut named, &operands)?;
-    put_instruction(bytes, operation, &named, Some(result_in(destination)), None)?;
+    put_takes(bytes, &[left, right])?;
+    let operands = [in_place(left), named_second(left, right)];
+    put_instruction(
+        bytes,
+        operation,
+        &operands,
+        Some(result_in(destination)),
+        None,
+    )?;
     Ok(())
 }
 
@@ -74,7 +76,6 @@ fn put_arithmetic(
 /// they are taken as they stand.
 fn put_commuting(
     bytes: &mut Vec<u8>,
-    alloc: Global,
     operation: Operation,
     left: code_drafts::Operand,
     right: code_drafts::Operand,
@@ -93,11 +94,11 @@ fn put_commuting(
                 )
             }
             code_drafts::Operand::Number(_) | code_drafts::Operand::Variable(_) => {
-                put_arithmetic(bytes, alloc, operation, left, right, destination)
+                put_arithmetic(bytes, operation, left, right, destination)
             }
         },
         code_drafts::Operand::Number(_) | code_drafts::Operand::Variable(_) => {
-            put_arithmetic(bytes, alloc, operation, left, right, destination)
+            put_arithmetic(bytes, operation, left, right, destination)
         }
     }
 }
@@ -185,7 +186,6 @@ fn put_division(
 /// An operator between two words; `&&` and `||`, which are branches, are none.
 pub fn put_binary(
     bytes: &mut Vec<u8>,
-    alloc: Global,
     addresses: &Addresses<'_>,
     operator: Binary,
     words: (code_drafts::Operand, code_drafts::Operand),
@@ -205,14 +205,14 @@ pub fn put_binary(
             return put_division(bytes, addresses, Operation::Mod, left, right, destination);
         }
         Binary::Subtract => {
-            return put_arithmetic(bytes, alloc, Operation::Sub, left, right, destination);
+            return put_arithmetic(bytes, Operation::Sub, left, right, destination);
         }
         Binary::Add => Operation::Add,
         Binary::Multiply => Operation::Mul,
         Binary::And => Operation::And,
         Binary::Or => Operation::Or,
     };
-    put_commuting(bytes, alloc, operation, left, right, destination)
+    put_commuting(bytes, operation, left, right, destination)
 }
 
 /// An operation that has no test, with the word that was put aside as its right operand.

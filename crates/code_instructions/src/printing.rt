@@ -9,7 +9,7 @@ ghost use Rattle.ztext.specs.Text.{encoded};
 ghost use Rattle.meaning.specs.Meaning as meaning;
 ghost use Rattle.code_drafts.specs.Items as source_items;
 ghost use Rattle.code_drafts.specs.Code.{as_operand};
-ghost use Rattle.code_instructions.specs.Instructions.{character_code, tested_character};
+ghost use Rattle.code_instructions.specs.Instructions.{character_code, prints_itself, tested_character};
 ghost use Rattle.code_encoding.specs.Instructions as spec;
 ghost use Rattle.code_encoding.specs.Bytes.{Adds, AddsCode, bytes_of_all};
 ghost use Rattle.code_encoding.specs.Bytes as definitions;
@@ -22,6 +22,9 @@ use code_encoding::{
 use meaning::Cause;
 use std::alloc::{AllocError, Global};
 use zcore::{Abbreviations, Operand, Operation, TextFault, encode_text};
+
+/// The opcode `print` (Z-Machine Standards Document 1.1, section 14). Its text follows it.
+const PRINT: u8 = 0xB2;
 
 /// A character between the quotes of a text: `^` is a new line, `~` a double quote.
 fn character_of(byte: u8) -> u8
@@ -38,6 +41,20 @@ fn is_printable(character: u8) -> bool
     ensures { result ≡ is_printable character }
 {
     character == 13 || (character >= 32 && character <= 126)
+}
+
+/// Whether a byte between quotes is printed as it is.
+fn prints_itself(byte: u8) -> bool
+    ensures { result ≡ prints_itself byte }
+{
+    is_printable(byte) && character_of(byte) == byte
+}
+
+/// Whether each byte between quotes is printed as it is.
+fn print_themselves(text: &[u8]) -> bool
+    ensures { result ≡ list_all prints_itself text.now }
+{
+    text.iter().all(|byte| prints_itself(*byte))
 }
 
 /// The characters of what stands between the quotes of a text; what cannot be printed is left out.
@@ -87,6 +104,36 @@ fn z_text(
     }
 }
 
+/// The Z-text of the bytes between quotes, with these abbreviations, by way of their characters.
+fn text_by_characters(
+    alloc: Global,
+    abbreviations: &Abbreviations,
+    text: &[u8],
+) -> Result<Vec<u8>, AllocError>
+    ensures { IfOk result (λ v. v.items ≡ encoded_with abbreviations.now
+        (filter is_printable (map definitions.character_of text.now))) }
+{
+    let characters = characters(alloc, text)?;
+    z_text(alloc, abbreviations, &characters)
+}
+
+/// The Z-text of the bytes between quotes, with these abbreviations. They are copied only if some
+/// are not printed as they are.
+fn quoted_text(
+    alloc: Global,
+    abbreviations: &Abbreviations,
+    text: &[u8],
+) -> Result<Vec<u8>, AllocError>
+    ensures { IfOk result (λ v. v.items ≡ encoded_with abbreviations.now
+        (filter is_printable (map definitions.character_of text.now))) }
+{
+    if print_themselves(text) {
+        z_text(alloc, abbreviations, text)
+    } else {
+        text_by_characters(alloc, abbreviations, text)
+    }
+}
+
 /// The text between quotes is printed, with these abbreviations.
 pub fn put_text(
     bytes: &mut Vec<u8>,
@@ -99,9 +146,8 @@ pub fn put_text(
         ++ encoded_with abbreviations.now
         (filter is_printable (map definitions.character_of text.now)))) }
 {
-    put_all(bytes, &[plain(Operation::Print, Operands::Zero)])?;
-    let characters = characters(alloc, text)?;
-    let text = z_text(alloc, abbreviations, &characters)?;
+    bytes.push(PRINT)?;
+    let text = quoted_text(alloc, abbreviations, text)?;
     bytes.extend_from_slice(&text)?;
     Ok(())
 }

@@ -36,8 +36,5 @@ pub fn routine_items<'a>(
     let Ok(()) = put_statements(&mut draft, outside, &routine.body) else {
         return Err(AllocError);
     };
-    let Ok(code) = in_order(draft) else {
-        return Err(AllocError);
-    };
-    Ok(code)
+    Ok(in_order(draft))
 }

@@ -113,7 +113,6 @@ fn put_printed(
 #[tactic(auto, using(crate::proofs::ItemParts::no_text))]
 fn put_words(
     bytes: &mut Vec<u8>,
-    alloc: Global,
     sizes: &Sizes<'_>,
     addresses: &Addresses<'_>,
     offset: usize,
@@ -130,7 +129,7 @@ fn put_words(
         }
         Item::Operate(operator, left, right, destination) => {
             let words = (*left, *right);
-            put_binary(bytes, alloc, addresses, *operator, words, *destination)?
+            put_binary(bytes, addresses, *operator, words, *destination)?
         }
         Item::OperateAside(operator, left, destination) => {
             put_with_aside(bytes, addresses, *operator, *left, *destination)?
@@ -316,7 +315,7 @@ pub fn put_item(
         (item_bytes (sizes_in sizes.now) (addresses_of addresses.now) offset (item_of item.now))) }
 {
     match kind_of(item) {
-        Kind::Words => put_words(bytes, alloc, sizes, addresses, offset, item),
+        Kind::Words => put_words(bytes, sizes, addresses, offset, item),
         Kind::Printing => put_printed(bytes, alloc, sizes, addresses, offset, item),
         Kind::Tree => put_on_tree(bytes, sizes, addresses, offset, item),
         Kind::Properties => put_on_property(bytes, sizes, addresses, offset, item),

@@ -148,9 +148,9 @@ fn compile_in(
 ///
 /// # Errors
 ///
-/// Those of [`compile_for`], but by [`Limit::Length`] E31 only where the story is longer than packed
-/// addresses reach and no routine is too large by itself (E32). The offset is that of the byte, the
-/// token or the first token of what is at fault; E30, E31 and E99 have none.
+/// Those of [`compile_for`], but by [`Limit::Length`] E31 only where the story is longer than
+/// packed addresses reach and no routine is too large by itself (E32). The offset is that of the
+/// byte, the token or the first token of what is at fault; E30, E31 and E99 have none.
 pub fn compile_placed(
     alloc: Global,
     source: &[u8],
@@ -165,8 +165,8 @@ pub fn compile_placed(
 }
 
 /// As [`compile_placed`], for a program that compiles one source and ends: the memory of the trees
-/// and of the code of a source that has a story is left to the system. To give it back takes about a seventh of
-/// the whole.
+/// and of the code of a source that has a story is left to the system. To give it back takes about
+/// a seventh of the whole.
 ///
 /// # Errors
 ///

@@ -2,7 +2,7 @@ use Rattle.std.proofs.Common.{◌≡◌, ◌∙◌, ◌-◌, ◌++◌, List, ℕ
 use Rattle.code_drafts.specs.Code.{item_of, items_of}
 use Rattle.code_encoding.specs.Written.{sizes_in}
 use Rattle.code.proofs.Codes.{least_sum, lefts_low, part_next, items_length, parts_count, all_sum}
-use Rattle.code.proofs.Copies.{none_kept, settled_kept, other_kept, all_kept}
+use Rattle.code.proofs.Copies.{settled_kept, other_kept, all_kept}
 use Rattle.code.proofs.routine.put_parts.Goals as goal
 
 pub returns-clause-fits : goal.returns-clause-fits
@@ -35,7 +35,7 @@ returns-clause-kept c =
     c.loop-item-test.false
     (c.in_ok-extend_from_slice-2.ensures.items
     ∙ ap (λ (l : List ℕ). c.loop-item.kept.items ++ l)
-    (c.behind.ensures ∙ ap (drop c.loop-item.start) c.deref-2.ensures.value))
+    (c.after.ensures ∙ ap (drop c.loop-item.start) c.deref-2.ensures.value))
 
 -- the part and the sum, in both cases, are those of `part_next`; what is kept is by `settled_kept` or `other_kept`
 pub loop-item-preserved : goal.loop-item-preserved

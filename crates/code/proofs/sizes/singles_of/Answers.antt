@@ -1,4 +1,4 @@
-use Rattle.std.proofs.Common.{ℕ, List, Bool, true, map, replicate, ap, subst}
+use Rattle.std.proofs.Common.{ℕ, Bool, true, map, replicate, subst}
 use Rattle.std.specs.List.{list_all}
 use Rattle.meaning.specs.Objects.{ObjectOf}
 use Rattle.meaning.specs.Views.{object_of, property_of}

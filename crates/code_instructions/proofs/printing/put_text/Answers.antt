@@ -1,12 +1,8 @@
-use Rattle.std.proofs.Common.{List, ℕ, ap, ◌∙◌}
-use Rattle.std.specs.Prelude.{map}
-use Rattle.std.specs.List.{list_all}
-use Rattle.ztext.specs.Alphabets.{is_printable}
-use Rattle.code_encoding.specs.Bytes.{character_of}
-use Rattle.code_instructions.proofs.Printable.{only_printable}
+use Rattle.code_instructions.proofs.Printable.{text_joined}
 use Rattle.code_instructions.proofs.printing.put_text.Goals as goal
 
-pub z_text-requires : goal.z_text-requires
-z_text-requires c =
-    ap (λ (cs : List ℕ). list_all is_printable cs) (c.deref.ensures.value ∙ c.in_ok-characters.ensures)
-    ∙ only_printable (map character_of c.args.text.now)
+pub returns : goal.returns
+returns c =
+    text_joined c.args.bytes.now.items c.push.new.self.items c.extend_from_slice.new.self.items
+    c.in_ok-text.text.items c.deref.result.now _ c.in_ok-push.ensures.items c.deref.ensures.value c.in_ok-text.ensures
+    c.in_ok-extend_from_slice.ensures.items

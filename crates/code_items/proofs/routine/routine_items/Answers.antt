@@ -19,4 +19,4 @@ returns c =
     (actions_of (map action_of c.args.routine.now.body.items))
     (c.in-Ok.ensures ∙ ap (λ xs. items_of xs ++ return_true ∷ []) c.new-items.ensures.items)
     (subst Q c.deref.ensures.value c.in-Ok-put_statements.ensures) c.written-end.ensures c.written-end.ensures
-    c.in-Ok-in_order.ensures
+    c.in_order.ensures
