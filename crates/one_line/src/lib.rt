@@ -15,15 +15,20 @@ pub struct OneLine<'a>(pub &'a str);
 impl Display for OneLine<'_> {
     fn fmt<W: fmt::Write>(&self, f: &mut Formatter<W>) -> fmt::Result {
         for sign in self.0.chars() {
-            match sign {
-                '\n' => f.write_str("\\n")?,
-                '\t' => f.write_str("\\t")?,
-                '\r' => f.write_str("\\r")?,
-                _ if is_escaped(sign) => write!(f, "\\x{:02x}", sign as u32)?,
-                _ => f.write_char(sign)?,
-            }
+            write_sign(f, sign)?;
         }
         Ok(())
+    }
+}
+
+/// Writes a character as a message shows it.
+fn write_sign<W: fmt::Write>(f: &mut Formatter<W>, sign: char) -> fmt::Result {
+    match sign {
+        '\n' => f.write_str("\\n"),
+        '\t' => f.write_str("\\t"),
+        '\r' => f.write_str("\\r"),
+        _ if is_escaped(sign) => write!(f, "\\x{:02x}", sign as u32),
+        _ => f.write_char(sign),
     }
 }
 

@@ -82,17 +82,30 @@ fn check_in_line(rt: &HostRuntime, file: &str, mode: Mode, format: Format) -> io
         Ok(contents) => status_of(contents),
         Err(_) => REFUSED,
     };
+    match print_in_line(rt, name, format, status, &survey) {
+        Ok(()) => Ok(status),
+        Err(error) => Err(error),
+    }
+}
+
+/// Says in a line what was found in a file.
+fn print_in_line(
+    rt: &HostRuntime,
+    name: OneLine<'_>,
+    format: Format,
+    status: u8,
+    survey: &Survey,
+) -> io::Result<()> {
     match format {
         Format::Words => {
-            let brief = Brief(&survey);
-            println!(rt; "{name}: {brief}")?;
+            let brief = Brief(survey);
+            println!(rt; "{name}: {brief}")
         }
         Format::Columns => {
-            let columns = Columns(&survey);
-            println!(rt; "{name}\t{status}\t{columns}")?;
+            let columns = Columns(survey);
+            println!(rt; "{name}\t{status}\t{columns}")
         }
     }
-    Ok(status)
 }
 
 /// Says in a line why nothing is known of a file, and returns the status. The columns after the
@@ -103,11 +116,14 @@ fn unknown<W: Display + Drop>(
     format: Format,
     why: W,
 ) -> io::Result<u8> {
-    match format {
-        Format::Words => println!(rt; "{name}: {why}")?,
-        Format::Columns => println!(rt; "{name}\t{REFUSED}\t{why}\t\t\t\t\t")?,
+    let printed = match format {
+        Format::Words => println!(rt; "{name}: {why}"),
+        Format::Columns => println!(rt; "{name}\t{REFUSED}\t{why}\t\t\t\t\t"),
+    };
+    match printed {
+        Ok(()) => Ok(REFUSED),
+        Err(error) => Err(error),
     }
-    Ok(REFUSED)
 }
 
 /// The status of a story that loads.

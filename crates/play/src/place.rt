@@ -116,8 +116,9 @@ fn fault_words(alloc: Global, session: &Session) -> Option<Vec<u8>> {
 /// Whether the text at an address begins with these Z-characters.
 fn begins_with(memory: &[u8], address: usize, wanted: &[u8]) -> bool {
     for number in 0..wanted.len() {
-        if z_character(memory, address, number) != Some(wanted[number]) {
-            return false;
+        match z_character(memory, address, number) {
+            Some(found) if found == wanted[number] => {}
+            _ => return false,
         }
     }
     true

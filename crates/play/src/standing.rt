@@ -38,8 +38,11 @@ impl Standing {
     /// What the story waits for: the instruction is that which reads it.
     fn awaited(&self) -> &'static str {
         match self.opcode {
-            Some(opcode) if opcode.name() == Some("read_char") => "waits for a key",
-            _ => "waits for a line",
+            Some(opcode) => match opcode.name() {
+                Some(name) if name == "read_char" => "waits for a key",
+                _ => "waits for a line",
+            },
+            None => "waits for a line",
         }
     }
 }

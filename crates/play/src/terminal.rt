@@ -39,7 +39,7 @@ pub struct Transcript<'a, W> {
 }
 
 /// What was written last.
-#[derive(Clone, Copy, PartialEq, Eq)]
+#[derive(Clone, Copy)]
 enum Latest {
     /// What the story wrote.
     Story,
@@ -54,12 +54,14 @@ enum Latest {
 /// What a text is that is written.
 fn latest_of(text: &[u8]) -> Latest {
     if text == OVER {
-        Latest::Over
-    } else if NOTICES.iter().any(|notice| text == *notice) {
-        Latest::Notice
-    } else {
-        Latest::Story
+        return Latest::Over;
     }
+    for notice in &NOTICES {
+        if text == *notice {
+            return Latest::Notice;
+        }
+    }
+    Latest::Story
 }
 
 impl<'a, W: Write> Transcript<'a, W> {
@@ -82,7 +84,7 @@ impl<'a, W: Write> Transcript<'a, W> {
         ensures { self.new.writer ≡ self.old.writer }
     {
         self.latest = latest_of(text);
-        if self.is_shown && self.latest == Latest::Story {
+        if self.is_shown && matches!(self.latest, Latest::Story) {
             self.prompt.clear();
             let _ = self.prompt.extend_from_slice(last_line(text));
         }
@@ -107,10 +109,13 @@ impl<'a, W: Write> Transcript<'a, W> {
 
 /// What of a text is behind its last new line.
 fn last_line(text: &[u8]) -> &[u8] {
-    match text.iter().rposition(|byte| *byte == b'\n') {
-        Some(place) => &text[place + 1..],
-        None => text,
+    for after in 0..text.len() {
+        let place = text.len() - after;
+        if text[place - 1] == b'\n' {
+            return &text[place..];
+        }
     }
+    text
 }
 
 impl<W: Write> Write for Transcript<'_, W> {

@@ -242,7 +242,7 @@ kept_line before text bytes line n is size all front =
 pub played : (known : Known) (old ran mid new : Recording Contents) (line : List ℕ) (units : ℕ) (t : Turn)
     (before text : List ℕ) → IsStoreOf known.header old.store
     → TurnEndsBy (CanTake known.loaded) (LineTurn known line old.store units) old before ran text (Ok t.place) → mid ≡ ran → before ≡ line
-    → t.written.line ≡ length line → t.written.bytes.items ≡ text → old.beginning ≡ old.store.cells
+    → t.written.line ≡ length line → t.written.bytes ≡ text → old.beginning ≡ old.store.cells
     → (back mid.store.cells t.overwritten).cells ≡ mid.beginning
     → Fits (length mid.store.cells) bound_of t.overwritten
     → length t.overwritten ≤ length mid.store.cells
@@ -253,9 +253,9 @@ played known old ran mid new line units t before text o ended same first long al
     subst (λ (r : Recording Contents). TurnEndsBy (CanTake known.loaded) (LineTurn known line old.store units) old before r text (Ok t.place))
     (sym same) ended in
     let words : drop (length before) text ≡ text_of t.written =
-    kept_text before text t.written.bytes.items line t.written.line first long all in
+    kept_text before text t.written.bytes line t.written.line first long all in
     let is : line_of t.written ≡ line =
-    kept_line before text t.written.bytes.items line t.written.line first long all ends.front in
+    kept_line before text t.written.bytes line t.written.line first long all ends.front in
     let store : IsStoreOf known.header mid.store = store_after o ends.goes_on in
     let size : length mid.store.cells ≡ largest_record known.header.static_base = store_size known.header mid.store store in
     let result : IsPlayed known old (record { store = mid.store; beginning = mid.store.cells; kept = [] }) line

@@ -5,11 +5,13 @@
 mod answering;
 mod fault;
 mod hearing;
+mod kept_bytes;
 mod mode;
 mod player;
 mod reply;
 mod running;
 mod session;
+mod short_bytes;
 mod turns;
 mod written;
 

@@ -131,7 +131,7 @@ impl Session {
                     done: 0,
                     fuel,
                     keep,
-                    given_up: Written::none(alloc),
+                    given_up: Written::none(),
                     gathered: Vec::new(alloc),
                     alloc,
                 })

@@ -8,10 +8,10 @@ ghost use Rattle.machine_frames.specs.Contents.{bound_of};
 ghost use Rattle.machine_frames.specs.Went.{GivenUp};
 ghost use Rattle.session.specs.Inside.{Swaps};
 
+use crate::kept_bytes::KeptBytes;
 use crate::written::Written;
 use journal::{NoMemory, Record, Recorded, swap_back, swap_forward};
 use machine::Store;
-use smallvec::SmallVec;
 use std::alloc::Global;
 use std::collections::VecDeque;
 use zcore::Place;
@@ -89,11 +89,11 @@ pub(crate) fn keep_written(
     line: usize,
 ) -> Result<Written, NoMemory>
     ensures line { IfOk result (λ written. written.line ≡ line) }
-    ensures bytes { IfOk result (λ written. written.bytes.items ≡ gathered.now) }
+    ensures bytes { IfOk result (λ written. written.bytes ≡ gathered.now) }
     ensures same { OnOk result (store.new ≡ store.old) }
     ensures given_up { OnErr result (GivenUp store.old store.new) }
 {
-    match SmallVec::from_slice(alloc, gathered) {
+    match KeptBytes::of(alloc, gathered) {
         Ok(bytes) => Ok(Written { bytes, line }),
         Err(_) => {
             store.abandon();

@@ -3,18 +3,13 @@
 ghost use Rattle.std.specs.Prelude.{◌≡◌, []};
 ghost use Rattle.session.specs.Written.{text_of};
 
-use smallvec::SmallVec;
-use std::alloc::Global;
-
-/// How many bytes of a line and a text stand in place: a turn that prints a few words asks for no
-/// memory.
-pub(crate) const SHORT: usize = 16;
+use crate::kept_bytes::KeptBytes;
 
 /// A line, and behind it what the turn of that line printed.
 #[derive(Drop)]
 pub(crate) struct Written {
     /// The line, and then the text.
-    pub(crate) bytes: SmallVec<u8, SHORT>,
+    pub(crate) bytes: KeptBytes,
 
     /// How many bytes the line has.
     pub(crate) line: usize,
@@ -22,11 +17,11 @@ pub(crate) struct Written {
 
 impl Written {
     /// An empty line, whose turn printed nothing. It takes no memory.
-    pub(crate) fn none(alloc: Global) -> Written
+    pub(crate) fn none() -> Written
         ensures { text_of result ≡ [] }
     {
         Written {
-            bytes: SmallVec::new(alloc),
+            bytes: KeptBytes::none(),
             line: 0,
         }
     }

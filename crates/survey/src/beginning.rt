@@ -57,8 +57,8 @@ impl Beginning {
 
 /// Whether the first bytes are those of a text, of ASCII or UTF-8.
 fn begins_with_text(file: &[u8]) -> bool {
-    for byte in file.iter().take(LOOKED_AT) {
-        if !matches!(byte, b'\t' | b'\n' | b'\r' | b' '..=b'~' | 0x80..=0xFF) {
+    for place in 0..file.len().min(LOOKED_AT) {
+        if !matches!(file[place], b'\t' | b'\n' | b'\r' | b' '..=b'~' | 0x80..=0xFF) {
             return false;
         }
     }

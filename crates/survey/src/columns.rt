@@ -20,8 +20,8 @@ impl fmt::Display for Columns<'_> {
             Err(fault) => write!(f, "{fault}\t")?,
         }
         let size = self.0.size;
-        match self.0.facts {
-            Some(facts) => write_header(f, &facts, size),
+        match &self.0.facts {
+            Some(facts) => write_header(f, facts, size),
             None => write!(f, "\t\t{size}\t\t"),
         }
     }

@@ -51,25 +51,33 @@ pub struct Contents {
 
 impl fmt::Display for Contents {
     fn fmt<W: fmt::Write>(&self, f: &mut fmt::Formatter<W>) -> fmt::Result {
-        let objects = self.objects;
-        let words = self.words;
-        let abbreviations = self.abbreviations;
-        let routines = self.routines;
-        let instructions = self.instructions;
-        writeln!(f, "objects {objects}")?;
-        writeln!(f, "dictionary words {words}")?;
-        writeln!(f, "abbreviations {abbreviations}")?;
-        writeln!(f, "routines reached {routines}")?;
-        writeln!(f, "instructions reached {instructions}")?;
+        write_counts(f, self)?;
         let refusal = self.mode.refusal();
         for outside in &self.outside {
             writeln!(f, "{refusal}: {outside}")?;
         }
         if self.computed {
-            f.write_str("computed calls are not followed\n")?;
+            f.write_str("computed calls are not followed\n")
+        } else {
+            Ok(())
         }
-        Ok(())
     }
+}
+
+/// Writes a line for each count.
+fn write_counts<W: fmt::Write>(f: &mut fmt::Formatter<W>, contents: &Contents) -> fmt::Result {
+    let counts = [
+        ("objects", contents.objects),
+        ("dictionary words", usize::from(contents.words)),
+        ("abbreviations", contents.abbreviations),
+        ("routines reached", contents.routines),
+        ("instructions reached", contents.instructions),
+    ];
+    for row in &counts {
+        let (what, count) = *row;
+        writeln!(f, "{what} {count}")?;
+    }
+    Ok(())
 }
 
 impl Contents {
@@ -140,13 +148,15 @@ fn count_abbreviations(story: &[u8], table: u16) -> usize {
     if story.len() < last + 2 {
         return 0;
     }
-    for place in (0..MOST_ABBREVIATIONS - 1).rev() {
+    let mut count = 0;
+    for place in 0..MOST_ABBREVIATIONS - 1 {
         if read_word(story, table + 2 * place) != read_word(story, last) {
-            if place + 2 == MOST_ABBREVIATIONS {
-                return MOST_ABBREVIATIONS;
-            }
-            return place + 1;
+            count = place + 1;
         }
     }
-    0
+    if count == MOST_ABBREVIATIONS - 1 {
+        MOST_ABBREVIATIONS
+    } else {
+        count
+    }
 }

@@ -82,30 +82,42 @@ impl fmt::Display for Serial {
 
 impl fmt::Display for Facts {
     fn fmt<W: fmt::Write>(&self, f: &mut fmt::Formatter<W>) -> fmt::Result {
-        let version = match self.version {
-            Version::V5 => 5,
-            Version::V8 => 8,
-        };
-        let release = self.release;
-        let serial = Serial(self.serial);
+        write_edition(f, self)?;
         let sum = self.sum;
         let stated = self.stated_sum;
-        writeln!(f, "version {version}")?;
-        writeln!(f, "release {release}, serial number {serial}")?;
         writeln!(f, "sum {sum:04X}, stated {stated:04X}")?;
-        write_place(f, "high memory", self.high_memory)?;
-        write_place(f, "first instruction", self.first_instruction)?;
-        write_place(f, "dictionary", self.dictionary)?;
-        write_place(f, "object table", self.objects)?;
-        write_place(f, "globals", self.globals)?;
-        write_place(f, "static base", self.static_base)?;
-        write_place(f, "abbreviations", self.abbreviations)
+        write_places(f, self)
     }
 }
 
-/// Writes a line with an address of the header.
-fn write_place<W: fmt::Write>(f: &mut fmt::Formatter<W>, name: &str, address: u16) -> fmt::Result {
-    writeln!(f, "{name} at {address:04X}")
+/// Writes the lines of the version, and of the release with the serial number.
+fn write_edition<W: fmt::Write>(f: &mut fmt::Formatter<W>, facts: &Facts) -> fmt::Result {
+    let version = match facts.version {
+        Version::V5 => 5,
+        Version::V8 => 8,
+    };
+    let release = facts.release;
+    let serial = Serial(facts.serial);
+    writeln!(f, "version {version}")?;
+    writeln!(f, "release {release}, serial number {serial}")
+}
+
+/// Writes a line for each address of the header.
+fn write_places<W: fmt::Write>(f: &mut fmt::Formatter<W>, facts: &Facts) -> fmt::Result {
+    let places = [
+        ("high memory", facts.high_memory),
+        ("first instruction", facts.first_instruction),
+        ("dictionary", facts.dictionary),
+        ("object table", facts.objects),
+        ("globals", facts.globals),
+        ("static base", facts.static_base),
+        ("abbreviations", facts.abbreviations),
+    ];
+    for place in &places {
+        let (what, address) = *place;
+        writeln!(f, "{what} at {address:04X}")?;
+    }
+    Ok(())
 }
 
 impl Facts {

@@ -1,7 +1,7 @@
 //! How a file is to be played.
 
 /// The machine for which a file is surveyed.
-#[derive(Clone, Copy, PartialEq, Eq)]
+#[derive(Clone, Copy)]
 pub enum Mode {
     /// That of the profile.
     Profile,

@@ -34,16 +34,17 @@ impl fmt::Display for Outside {
         let opcode = self.opcode;
         let lack = self.lack;
         let first = self.first;
+        let found = if self.is_swept {
+            ", where no direct call leads"
+        } else {
+            ""
+        };
         write!(f, "{opcode}{lack} at {first:04X}, ")?;
         match self.times {
-            1 => f.write_str("once")?,
-            2 => f.write_str("twice")?,
-            times => write!(f, "{times} times")?,
+            1 => write!(f, "once{found}"),
+            2 => write!(f, "twice{found}"),
+            times => write!(f, "{times} times{found}"),
         }
-        if self.is_swept {
-            f.write_str(", where no direct call leads")?;
-        }
-        Ok(())
     }
 }
 

@@ -9,8 +9,10 @@ ghost use Rattle.survey.specs.declared.mode.Mode.TheVariants.{Profile};
 use crate::mode::Mode;
 use crate::outside::{Outside, note};
 use std::alloc::{AllocError, Global};
-use survey_opcodes::{Lack, Lead, Opcode, lack_at, standard_lack_at};
-use survey_routines::{Onward, Sweep, branch_target, constant, jump_target, way_on};
+use survey_opcodes::{
+    Lack, Lead, Onward, Opcode, Sweep, branch_target, constant, jump_target, lack_at,
+    standard_lack_at, way_on,
+};
 use zcore::layout::{HEADER_LENGTH, MOST_LOCALS};
 use zcore::{Header, Operand, Version};
 
@@ -85,12 +87,10 @@ pub(crate) fn reach(
     requires { length story.now ≤ longest_story }
 {
     let mut walk = Walk::new(alloc, story, header.version, mode)?;
-    walk.start(usize::from(header.first_instruction))?;
-    walk.look_at_all(story)?;
-    walk.is_swept = true;
-    let mut sweep = Sweep::new(alloc, story)?;
-    walk.sweep(story, &mut sweep)?;
-    Ok(walk.found)
+    match walk.look_everywhere(alloc, story, usize::from(header.first_instruction)) {
+        Ok(()) => Ok(walk.found),
+        Err(refused) => Err(refused),
+    }
 }
 
 impl Walk {
@@ -115,6 +115,23 @@ impl Walk {
         })
     }
 
+    /// Looks at all that is reached from the first instruction, and then at the routines to which no
+    /// direct call leads.
+    fn look_everywhere(
+        &mut self,
+        alloc: Global,
+        story: &[u8],
+        first: usize,
+    ) -> Result<(), AllocError>
+        requires { length story.now ≤ longest_story }
+    {
+        self.start(first)?;
+        self.look_at_all(story)?;
+        self.is_swept = true;
+        let mut sweep = Sweep::new(alloc, story)?;
+        self.sweep(story, &mut sweep)
+    }
+
     /// Looks at all instructions that were reached and those to which they lead.
     fn look_at_all(&mut self, story: &[u8]) -> Result<(), AllocError>
         requires { length story.now ≤ longest_story }
@@ -134,15 +151,14 @@ impl Walk {
     fn sweep(&mut self, story: &[u8], sweep: &mut Sweep) -> Result<(), AllocError>
         requires { length story.now ≤ longest_story }
     {
-        let first = self.covered.iter().position(|is_covered| *is_covered);
         let scale = self.version.scale() as usize;
-        let from = first.unwrap_or(story.len()) / scale;
+        let from = first_covered(&self.covered) / scale;
         for packed in from..story.len() {
             let at = packed * scale;
             if story.len() <= at {
                 break;
             }
-            if self.covered.get(at) != Some(&false) {
+            if self.covered.len() <= at || self.covered[at] {
                 continue;
             }
             if sweep.finds_routine(story, &self.covered, at) {
@@ -300,6 +316,16 @@ fn refused_at(mode: Mode, story: &[u8], at: usize, lack: Option<Lack>) -> Option
         Mode::Profile => lack,
         Mode::Standard => standard_lack_at(story, at),
     }
+}
+
+/// The address of the first byte that was passed; where none was, that after the last one.
+fn first_covered(covered: &[bool]) -> usize {
+    for at in 0..covered.len() {
+        if covered[at] {
+            return at;
+        }
+    }
+    covered.len()
 }
 
 /// Marks an address, where there is one that was not marked.

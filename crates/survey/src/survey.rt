@@ -155,22 +155,24 @@ impl fmt::Display for Parted {
 
 impl fmt::Display for Survey {
     fn fmt<W: fmt::Write>(&self, f: &mut fmt::Formatter<W>) -> fmt::Result {
-        let size = self.size;
-        write!(f, "size {size} bytes")?;
-        if TOO_LONG <= size {
-            f.write_str(" or more")?;
-        }
-        match self.facts {
-            Some(facts) => {
-                let stated = facts.stated_length;
-                write!(f, ", stated {stated}\n{facts}")?;
-            }
-            None => f.write_str("\n")?,
-        }
+        write_header(f, self)?;
         match &self.found {
             Ok(contents) => write!(f, "loads\n{contents}"),
             Err(fault) => write_cause(f, self, *fault),
         }
+    }
+}
+
+/// Writes the size of a file, and what its header says.
+fn write_header<W: fmt::Write>(f: &mut fmt::Formatter<W>, survey: &Survey) -> fmt::Result {
+    let size = survey.size;
+    let more = if TOO_LONG <= size { " or more" } else { "" };
+    match &survey.facts {
+        Some(facts) => {
+            let stated = facts.stated_length;
+            write!(f, "size {size} bytes{more}, stated {stated}\n{facts}")
+        }
+        None => writeln!(f, "size {size} bytes{more}"),
     }
 }
 
@@ -180,23 +182,41 @@ fn write_cause<W: fmt::Write>(
     survey: &Survey,
     fault: HeaderFault,
 ) -> fmt::Result {
-    let size = Parted(survey.size);
-    match (fault, survey.facts) {
-        (HeaderFault::TooShort, _) => {
+    match fault {
+        HeaderFault::TooShort => {
+            let size = Parted(survey.size);
             writeln!(f, "{fault}: the file has {size} bytes, a header has 64")
         }
-        (HeaderFault::UnknownVersion, _) => {
+        HeaderFault::UnknownVersion => {
             let beginning = survey.beginning;
             writeln!(f, "{fault}: {beginning}")
         }
-        (HeaderFault::WrongLength, Some(facts)) => {
+        HeaderFault::WrongLength | HeaderFault::WrongSum | HeaderFault::WrongAddress => {
+            match &survey.facts {
+                Some(facts) => write_wrong(f, survey, facts, fault),
+                None => writeln!(f, "{fault}"),
+            }
+        }
+    }
+}
+
+/// Writes what is wrong in a header.
+fn write_wrong<W: fmt::Write>(
+    f: &mut fmt::Formatter<W>,
+    survey: &Survey,
+    facts: &Facts,
+    fault: HeaderFault,
+) -> fmt::Result {
+    match fault {
+        HeaderFault::WrongLength => {
             let stated = Parted(facts.stated_length);
+            let size = Parted(survey.size);
             writeln!(
                 f,
                 "{fault}: the header states {stated} bytes, the file has {size}"
             )
         }
-        (HeaderFault::WrongSum, Some(facts)) => {
+        HeaderFault::WrongSum => {
             let stated = facts.stated_sum;
             let sum = facts.sum;
             writeln!(
@@ -204,20 +224,27 @@ fn write_cause<W: fmt::Write>(
                 "{fault}: the header states the sum {stated:04X}, the bytes have {sum:04X}"
             )
         }
-        (HeaderFault::WrongAddress, Some(_)) if survey.mode == Mode::Standard => {
-            writeln!(f, "{fault}: a table lies where none can be")
+        _ => write_wrong_address(f, survey, facts, fault),
+    }
+}
+
+/// Writes which address of a header is wrong.
+fn write_wrong_address<W: fmt::Write>(
+    f: &mut fmt::Formatter<W>,
+    survey: &Survey,
+    facts: &Facts,
+    fault: HeaderFault,
+) -> fmt::Result {
+    match (survey.mode, survey.misplaced) {
+        (Mode::Standard, _) => writeln!(f, "{fault}: a table lies where none can be"),
+        (Mode::Profile, Some(misplaced)) => writeln!(f, "{fault}: {misplaced}"),
+        (Mode::Profile, None) => {
+            let dictionary = facts.dictionary;
+            writeln!(
+                f,
+                "{fault}: dictionary at {dictionary:04X}: none that can be searched"
+            )
         }
-        (HeaderFault::WrongAddress, Some(facts)) => match survey.misplaced {
-            Some(misplaced) => writeln!(f, "{fault}: {misplaced}"),
-            None => {
-                let dictionary = facts.dictionary;
-                writeln!(
-                    f,
-                    "{fault}: dictionary at {dictionary:04X}: none that can be searched"
-                )
-            }
-        },
-        (_, None) => writeln!(f, "{fault}"),
     }
 }
 
@@ -250,26 +277,36 @@ pub(crate) fn write_outside<W: fmt::Write>(
             continue;
         }
         f.write_str(before)?;
-        match outside.opcode.name() {
-            Some(name) => f.write_str(name)?,
-            None => {
-                let number = outside.opcode.number_alone();
-                write!(f, "{number}")?;
-            }
-        }
-        let lack = outside.lack;
-        write!(f, "{lack}")?;
-        if outside.is_swept {
-            f.write_str(" (no direct call)")?;
-        }
+        write_opcode(f, outside)?;
         before = ", ";
     }
     Ok(())
 }
 
+/// Writes an opcode that the machine does not play, without its address.
+fn write_opcode<W: fmt::Write>(f: &mut fmt::Formatter<W>, outside: &Outside) -> fmt::Result {
+    let lack = outside.lack;
+    let found = if outside.is_swept {
+        " (no direct call)"
+    } else {
+        ""
+    };
+    match outside.opcode.name() {
+        Some(name) => write!(f, "{name}{lack}{found}"),
+        None => {
+            let number = outside.opcode.number_alone();
+            write!(f, "{number}{lack}{found}")
+        }
+    }
+}
+
 /// Whether the same is also met where direct calls lead.
 fn is_reached(contents: &Contents, swept: &Outside) -> bool {
-    contents.outside.iter().any(|outside| {
-        !outside.is_swept && outside.opcode == swept.opcode && outside.lack == swept.lack
-    })
+    for outside in &contents.outside {
+        let is_same = outside.opcode == swept.opcode && outside.lack == swept.lack;
+        if is_same && !outside.is_swept {
+            return true;
+        }
+    }
+    false
 }

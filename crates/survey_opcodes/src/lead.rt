@@ -42,7 +42,7 @@ pub struct Lead {
 /// Where the instruction at an address leads, behind whose opcode these things stand, whatever the
 /// number of its operands. `None` where it leaves the story, or where an operand stands after an
 /// omitted one.
-pub fn lead_at(story: &[u8], at: usize, shape: Shape) -> Option<Lead>
+pub(crate) fn lead_at(story: &[u8], at: usize, shape: Shape) -> Option<Lead>
     requires { length story.now ≤ longest_story }
     ensures { IfSome result (λ lead. lead.after ≤ length story.now) }
 {

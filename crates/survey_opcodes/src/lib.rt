@@ -1,4 +1,5 @@
-//! Opcodes and instructions of a story, whether the machine knows them or not.
+//! Opcodes and instructions of a story, whether the machine knows them or not, how they go on, and
+//! where a routine may begin.
 #![tactic(auto)]
 
 mod forms;
@@ -9,10 +10,13 @@ mod lead;
 mod names;
 mod opcode;
 mod shape;
+mod sweep;
 mod unplayed;
+mod ways;
 
 pub use lack::{Lack, lack_at};
-pub use lead::{Lead, lead_at};
+pub use lead::Lead;
 pub use opcode::{Numbering, Opcode};
-pub use shape::Shape;
+pub use sweep::Sweep;
 pub use unplayed::standard_lack_at;
+pub use ways::{Onward, branch_target, constant, jump_target, way_on};

@@ -13,7 +13,7 @@ const MOST_OPERANDS: usize = 8;
 
 /// What stands behind an opcode (section 14).
 #[derive(Clone, Copy)]
-pub struct Shape {
+pub(crate) struct Shape {
     /// The least number of operands that it takes.
     pub least_operands: usize,
 
@@ -32,7 +32,7 @@ pub struct Shape {
 
 impl Shape {
     /// What stands behind an opcode of the profile.
-    pub fn known(operation: Operation) -> Shape
+    pub(crate) fn known(operation: Operation) -> Shape
         ensures least { result.least_operands ≡ table.least_operands operation }
         ensures most { result.most_operands ≡ table.most_operands operation }
         ensures more { result.has_more_types ≡ table.has_more_types operation }
@@ -49,7 +49,7 @@ impl Shape {
     }
 
     /// Whether the opcode takes so many operands.
-    pub fn takes(self, count: usize) -> bool
+    pub(crate) fn takes(self, count: usize) -> bool
         ensures { result ≡ (nat_le self.least_operands count && nat_le count self.most_operands) }
     {
         self.least_operands <= count && count <= self.most_operands
@@ -57,7 +57,7 @@ impl Shape {
 
     /// What stands behind an opcode outside the profile. `None` where no instruction after it is
     /// reached: it goes elsewhere, as `throw` and `restart` do, or the standard does not name it.
-    pub fn outside(opcode: Opcode) -> Option<Shape> {
+    pub(crate) fn outside(opcode: Opcode) -> Option<Shape> {
         let number = opcode.number;
         match opcode.numbering {
             Numbering::Two => match number {
@@ -86,7 +86,7 @@ impl Shape {
 }
 
 /// With nothing behind the operands.
-fn plain() -> Shape {
+pub(crate) fn plain() -> Shape {
     Shape {
         least_operands: 0,
         most_operands: MOST_OPERANDS,

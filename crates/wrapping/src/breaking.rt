@@ -40,13 +40,25 @@ pub fn break_lines(text: &mut [u8], columns: usize, begun: usize) -> usize
 fn word_width(text: &[u8], from: usize) -> usize
     requires { from ≤ length text.now }
 {
-    let rest = &text[from..];
-    let end = rest.iter().position(|byte| is_between(*byte));
-    let word = &rest[..end.unwrap_or(rest.len())];
+    let word = &text[from..word_end(text, from)];
     match str::from_utf8(word) {
         Ok(word) => word.width(),
         Err(_) => word.len(),
     }
+}
+
+/// Where the word ends that begins at a place.
+fn word_end(text: &[u8], from: usize) -> usize
+    requires { from ≤ length text.now }
+    ensures least { from ≤ result }
+    ensures most { result ≤ length text.now }
+{
+    for at in from..text.len() {
+        if is_between(text[at]) {
+            return at;
+        }
+    }
+    text.len()
 }
 
 /// Whether a byte stands between two words.

@@ -4,7 +4,9 @@ ghost use Rattle.std.specs.Prelude.{◌≡◌, ◌≤◌, IfSome, length};
 ghost use Rattle.zcore.specs.Layout.{longest_story};
 ghost use Rattle.zcore.specs.Parts.{jump_target, branch_target};
 
-use survey_opcodes::{Lead, Opcode, Shape, lead_at};
+use crate::lead::{Lead, lead_at};
+use crate::opcode::Opcode;
+use crate::shape::{Shape, plain};
 use zcore::{Operand, Operation};
 
 /// How an operation goes on.
@@ -49,24 +51,15 @@ pub fn way_on(story: &[u8], opcode: Opcode, at: usize) -> Option<(Onward, Lead)>
     Some((onward, lead_at(story, at, shape)?))
 }
 
-/// How an opcode outside the profile goes on, and what stands behind it. `None` where the Standard
-/// does not name it.
+/// How an opcode outside the profile goes on, and what stands behind it: nothing behind the operands
+/// of `throw` and `restart`. `None` where the Standard does not name it.
 fn outside(opcode: Opcode) -> Option<(Onward, Shape)> {
     opcode.name()?;
     match Shape::outside(opcode) {
         Some(shape) => Some((Onward::Next, shape)),
-        None => Some((Onward::Nowhere, OPERANDS_ALONE)),
+        None => Some((Onward::Nowhere, plain())),
     }
 }
-
-/// With nothing behind the operands, as `throw` and `restart` have it.
-const OPERANDS_ALONE: Shape = Shape {
-    least_operands: 0,
-    most_operands: 8,
-    has_more_types: false,
-    has_result: false,
-    has_branch: false,
-};
 
 /// The value of an operand that is a constant.
 pub fn constant(operand: Option<Operand>) -> Option<u16> {

@@ -3,9 +3,10 @@
 ghost use Rattle.std.specs.Prelude.{◌≤◌, ◌<◌, IfSome, length};
 ghost use Rattle.zcore.specs.Layout.{longest_story};
 
+use crate::lead::Lead;
+use crate::opcode::Opcode;
 use crate::ways::{Onward, branch_target, constant, jump_target, way_on};
 use std::alloc::{AllocError, Global};
-use survey_opcodes::{Lead, Opcode};
 use zcore::layout::MOST_LOCALS;
 
 /// A sweep over a story. Each address is looked at once as an instruction, so that the sweep takes
@@ -54,7 +55,7 @@ impl Sweep {
         let mut next = at + 1;
         let mut furthest = next;
         for _ in 0..story.len() {
-            if covered.get(next) != Some(&false) || !self.tries(next) {
+            if covered.len() <= next || covered[next] || !self.tries(next) {
                 return false;
             }
             let Some(step) = step_at(story, next) else {
@@ -78,13 +79,11 @@ impl Sweep {
 
     /// An address is looked at, unless it was before.
     fn tries(&mut self, at: usize) -> bool {
-        match self.tried.get_mut(at) {
-            Some(tried) if !*tried => {
-                *tried = true;
-                true
-            }
-            _ => false,
+        if self.tried.len() <= at || self.tried[at] {
+            return false;
         }
+        self.tried[at] = true;
+        true
     }
 
     /// The address after a text, which ends with the first word whose top bit is set (Z-Machine
