@@ -3,11 +3,19 @@ use Rattle.zcore.specs.Instruction.{variable_form}
 use Rattle.machine_frames.specs.Contents.{memory_of}
 use Rattle.machine_frames.proofs.Steps.{told_err, told_went, told_then, went_store, went_no_further}
 use Rattle.machine_steps.specs.Decoded.{completed}
+use Rattle.machine_standard_objects.proofs.Characters.{small_character_told}
 use Rattle.machine_standard_objects.proofs.Stepping.{told_halts, told_executes}
 use Rattle.machine_standard_objects.proofs.step.step_several.Goals as goal
 
 pub several-requires-clause-store : goal.several-requires-clause-store
 several-requires-clause-store c = went_store c.requires.store c.in_ok-operand_values.ensures.went
+
+pub returns-in-Some-clause-told : goal.returns-in-Some-clause-told
+returns-in-Some-clause-told c =
+    told_executes c.args.loaded.now _ c.args.here _
+    (λ l. completed l (variable_form l c.args.first (c.args.here.program_counter + 1))) _ _
+    (c.memory-memory.ensures ∙ ap memory_of c.store.ensures) c.in-Some.ensures.read
+    (small_character_told c.args.loaded.now _ c.args.here _ _ c.requires.store.sound c.print_character.ensures.told)
 
 pub returns-in-Err-clause-told : goal.returns-in-Err-clause-told
 returns-in-Err-clause-told c = told_halts c.args.loaded.now _ _ c.args.here _
