@@ -1,39 +1,17 @@
 //! Stories of which a byte is changed.
 
-use crate::names::{RowError, Session, Setting, Shown, run, status};
-use crate::sessions::open;
+use crate::names::{RowError, Setting, Shown};
+use crate::sessions::put_session;
 use crate::stories::{mend_sum, put_at};
-
-/// The player's status where a story is not opened.
-const REFUSED: u8 = 1;
-
-/// The player's status where reading or writing failed.
-const BROKEN: u8 = 5;
-
-/// How a story is changed.
-#[derive(Clone, Copy)]
-struct Change {
-    /// Where its byte is, and what it becomes.
-    place: usize,
-    value: u8,
-
-    /// Whether the sum is mended.
-    mends: bool,
-}
 
 /// Plays a story with each byte made 0, 255 and one greater, with its sum as it is and mended. Adds
 /// how many stories these were, and each that ended with another status than 0, 1, 3 and 4.
 pub fn put_damaged(shown: &mut Shown, setting: &Setting, story: &[u8]) -> Result<(), RowError> {
     let mut count = 0u64;
-    for (place, byte) in story.iter().enumerate() {
-        for value in [0, 255, byte.wrapping_add(1)] {
+    for place in 0..story.len() {
+        for value in [0, 255, story[place].wrapping_add(1)] {
             for mends in [false, true] {
-                let change = Change {
-                    place,
-                    value,
-                    mends,
-                };
-                put_changed(shown, setting, story, change)?;
+                put_changed(shown, setting, story, place, value, mends)?;
                 count = count.wrapping_add(1);
             }
         }
@@ -43,46 +21,31 @@ pub fn put_damaged(shown: &mut Shown, setting: &Setting, story: &[u8]) -> Result
     Ok(())
 }
 
-/// Plays a changed story, and adds its status where that is none of the player's for a story.
+/// Plays a story with a byte changed and, where that is asked, its sum mended. Adds its status where
+/// that is none of the player's for a story.
 fn put_changed(
     shown: &mut Shown,
     setting: &Setting,
     story: &[u8],
-    change: Change,
+    place: usize,
+    value: u8,
+    mends: bool,
 ) -> Result<(), RowError> {
     let mut changed = story.to_vec(setting.alloc)?;
-    put_at(&mut changed, change.place, &[change.value])?;
-    if change.mends {
+    put_at(&mut changed, place, &[value])?;
+    if mends {
         mend_sum(&mut changed)?;
     }
-    let end = ended(setting, changed);
+    let mut unseen = Shown::new(setting.alloc);
+    let mut number = 0u64;
+    let end = put_session(&mut unseen, setting, &changed, &[], &mut number)?;
     if !matches!(end, 0 | 1 | 3 | 4) {
         shown.text("byte ");
-        shown.display(&change.place);
+        shown.display(&place);
         shown.text(", value ");
-        shown.display(&change.value);
+        shown.display(&value);
         shown.text(": status ");
         shown.display_line(&end);
     }
     Ok(())
-}
-
-/// The status with which a player of the story ends.
-fn ended(setting: &Setting, story: Vec<u8>) -> u8 {
-    match open(setting, story) {
-        Ok(mut session) => {
-            let end = played(setting, &mut session);
-            session.close();
-            end
-        }
-        Err(_) => REFUSED,
-    }
-}
-
-/// The status with which a session ends.
-fn played(setting: &Setting, session: &mut Session) -> u8 {
-    match run(&mut setting.reader(), &mut setting.writer(), session) {
-        Ok(place) => status(&place),
-        Err(_) => BROKEN,
-    }
 }

@@ -3,8 +3,8 @@
 ghost use Rattle.std.specs.Prelude.{◌≡◌, ◌≤◌, ℕ, List, [], length, nat_lt, if◌then◌else◌};
 
 use crate::names::{
-    Cells, PAGE, Recorded, RowError, Shown, WORD_PAGES, number_in, parted, swap_back, swap_forward,
-    written_bytes,
+    Call, Cells, PAGE, Recorded, RowError, Shown, WORD_PAGES, number_in, parted, swap_back,
+    swap_forward, written_bytes,
 };
 use std::alloc::{AllocError, Global};
 use std::marker::Model;
@@ -74,25 +74,29 @@ impl Cells for Words {
     }
 }
 
-/// Records what lines do with the words that a text writes, and adds what comes of it.
+/// Records what steps do with the words of a text, and adds what comes of it. `number` becomes that
+/// of the latest step.
 pub fn put_recorded(
     shown: &mut Shown,
     alloc: Global,
     text: &str,
-    steps: &[String],
+    steps: &[Call],
+    number: &mut u64,
 ) -> Result<(), RowError> {
     let mut turn = Recorded::new(alloc, words_in(alloc, text)?);
-    put_steps(shown, &mut turn, steps)
+    put_steps(shown, &mut turn, steps, number)
 }
 
-/// Does what lines say with words, and adds what comes of it.
+/// Takes steps with words, and adds what comes of it. `number` becomes that of the latest.
 fn put_steps(
     shown: &mut Shown,
     turn: &mut Recorded<Words>,
-    steps: &[String],
+    steps: &[Call],
+    number: &mut u64,
 ) -> Result<(), RowError> {
     for step in steps {
-        let (word, text) = parted(step.as_str());
+        *number = step.number;
+        let (word, text) = parted(step.line.as_str());
         match word {
             "write" => write(turn, text)?,
             "close" => put_closed(shown, turn),
@@ -150,8 +154,7 @@ fn write(turn: &mut Recorded<Words>, text: &str) -> Result<(), RowError> {
     }
 }
 
-/// Ends the turn, and adds how many cells its record holds and what the cells hold; then with the
-/// turn taken back, and with it done again.
+/// Ends the turn, and adds its record's size and the cells; then with it taken back and done again.
 fn put_closed(shown: &mut Shown, turn: &mut Recorded<Words>) {
     let mut record = turn.close();
     shown.display(&record.cells());

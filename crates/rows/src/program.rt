@@ -43,14 +43,15 @@ impl Program {
         if line.is_empty() {
             return self.end(number, output);
         }
-        let answer = self.row.take(&mut self.definitions, line);
+        let answer = self.row.take(&mut self.definitions, line, number);
         answer.context(format_args!("line {number}"))
     }
 
     /// Writes what the row shows, whose lines end at that number, and begins another.
     fn end<W: Write>(&mut self, number: u64, output: &mut W) -> Result<()> {
-        let shown = self.row.outcome().context(format_args!("line {number}"))?;
-        output.write_all(shown)?;
+        let mut number = number;
+        let outcome = self.row.outcome(&mut number);
+        output.write_all(outcome.context(format_args!("line {number}"))?)?;
         self.row = Row::new(self.alloc);
         Ok(())
     }

@@ -2,12 +2,12 @@
 
 use crate::damage::put_damaged;
 use crate::journals::put_recorded;
-use crate::names::{RowError, Setting, Shown, number_in, parted};
-use crate::sessions::{put_called, put_run};
+use crate::names::{Call, RowError, Setting, Shown, number_in, parted};
+use crate::sessions::put_session;
 use crate::sources::put_compiled;
 use crate::stories::{Definition, bytes_in, mend, put_at, put_text_at};
 use crate::texts::{put_decoded, put_encoded, put_key, put_shortened};
-use crate::turns::{put_by_hand, put_counted};
+use crate::turns::put_by_hand;
 use std::alloc::Global;
 
 /// A row whose lines are being read.
@@ -18,8 +18,8 @@ pub struct Row {
     /// The story, as far as it is made byte by byte.
     story: Vec<u8>,
 
-    /// The lines that call a session, or that write words and do something with them.
-    calls: Vec<String>,
+    /// The calls of a session, or the words and the steps with them.
+    calls: Vec<Call>,
 
     /// What is shown of the row: its title, and what came of it.
     shown: Shown,
@@ -40,8 +40,13 @@ impl Row {
         }
     }
 
-    /// Takes a line: its first word says what the text after it is.
-    pub fn take(&mut self, definitions: &mut Vec<Definition>, line: &str) -> Result<(), RowError> {
+    /// Takes the line with a number: its first word says what the text after it is.
+    pub fn take(
+        &mut self,
+        definitions: &mut Vec<Definition>,
+        line: &str,
+        number: u64,
+    ) -> Result<(), RowError> {
         let (word, text) = parted(line);
         match word {
             "#" => Ok(()),
@@ -66,7 +71,7 @@ impl Row {
                     }
                 }
                 self.has_outcome = true;
-                self.act(line, word, text)
+                self.act(line, number, word, text)
             }
         }
     }
@@ -92,7 +97,7 @@ impl Row {
     }
 
     /// Does what a line says. Calls of a session, and steps with words, wait for the row's end.
-    fn act(&mut self, line: &str, word: &str, text: &str) -> Result<(), RowError> {
+    fn act(&mut self, line: &str, number: u64, word: &str, text: &str) -> Result<(), RowError> {
         let shown = &mut self.shown;
         let alloc = self.setting.alloc;
         match word {
@@ -103,41 +108,57 @@ impl Row {
             "memory" => put_by_hand(shown, &self.setting, &self.story, word, text),
             "record" => {
                 put_by_hand(shown, &self.setting, &self.story, word, text)?;
-                put_counted(shown, &self.setting, &self.story, text)
-            }
-            "damage" => put_damaged(shown, &self.setting, &self.story),
-            _ => {
-                self.calls.push(String::from_str(alloc, line)?)?;
+                let line = String::from_str(alloc, line)?;
+                let calls = vec![in alloc; Call { number, line }]?;
+                let mut latest = number;
+                put_session(shown, &self.setting, &self.story, &calls, &mut latest)?;
                 Ok(())
             }
+            "damage" => put_damaged(shown, &self.setting, &self.story),
+            _ if is_call(word) => {
+                let line = String::from_str(alloc, line)?;
+                self.calls.push(Call { number, line })?;
+                Ok(())
+            }
+            _ => Err(RowError::Word),
         }
     }
 
-    /// What is shown of the row, once all its lines are read.
-    pub fn outcome(&mut self) -> Result<&[u8], RowError> {
-        self.play()?;
+    /// What the row shows, once all its lines are read. `number` becomes that of the latest call.
+    pub fn outcome(&mut self, number: &mut u64) -> Result<&[u8], RowError> {
+        self.play(number)?;
         if !self.shown.is_empty() {
             self.shown.text("\n");
         }
         self.shown.taken()
     }
 
-    /// Makes the calls of a session, or does with words what the row says. A row of which nothing came
-    /// is played: its story; where it has a title and no story, that of its source.
-    fn play(&mut self) -> Result<(), RowError> {
+    /// Makes the calls of a session, or takes the steps with words. A row of which nothing came is
+    /// played: its story; where it has a title and no story, that of its source.
+    fn play(&mut self, number: &mut u64) -> Result<(), RowError> {
         let shown = &mut self.shown;
+        let setting = &self.setting;
+        let is_played = !self.has_outcome && !self.story.is_empty();
         if let Some((first, steps)) = self.calls.as_slice().split_first() {
-            return match parted(first.as_str()) {
-                ("words", text) => put_recorded(shown, self.setting.alloc, text, steps),
-                _ => put_called(shown, &self.setting, &self.story, &self.calls),
-            };
+            *number = first.number;
+            let (word, text) = parted(first.line.as_str());
+            if word == "words" {
+                return put_recorded(shown, setting.alloc, text, steps, number);
+            }
         }
-        if !self.has_outcome && !self.story.is_empty() {
-            return put_run(shown, &self.setting, &self.story);
-        }
-        if !self.has_outcome && !shown.is_empty() {
-            put_compiled(shown, &self.setting);
+        if is_played || !self.calls.is_empty() {
+            put_session(shown, setting, &self.story, &self.calls, number)?;
+        } else if !self.has_outcome && !shown.is_empty() {
+            put_compiled(shown, setting);
         }
         Ok(())
     }
+}
+
+/// Whether a word calls a session, or begins with words or takes a step with them.
+fn is_call(word: &str) -> bool {
+    matches!(
+        word,
+        "reply" | "undo" | "redo" | "cells" | "words" | "write" | "close" | "abandon"
+    )
 }

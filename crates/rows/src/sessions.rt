@@ -1,59 +1,71 @@
 //! Stories that are played, by a run over an input or call by call.
 
 use crate::names::{
-    OpenFault, Place, Reply, RowError, Session, Setting, Shown, number_in, parted, run, status,
+    Call, Place, Reply, RowError, Session, Setting, Shown, number_in, parted, run, status,
     written_bytes,
 };
 
-/// Opens a story under the row's conditions.
-pub fn open(setting: &Setting, story: Vec<u8>) -> Result<Session, OpenFault> {
-    Session::open_with(
-        setting.alloc,
-        story,
-        setting.mode,
-        setting.fuel,
-        setting.keep,
-    )
-}
+/// The player's status where a story is not opened.
+const REFUSED: u8 = 1;
 
-/// Opens a story, runs it on the row's input, and adds the transcript and how it ended; or adds why
-/// it is not opened.
-pub fn put_run(shown: &mut Shown, setting: &Setting, story: &[u8]) -> Result<(), RowError> {
-    match open(setting, story.to_vec(setting.alloc)?) {
+/// The player's status where reading or writing failed.
+const BROKEN: u8 = 5;
+
+/// Opens a story under the row's conditions, and makes calls or, without any, runs it on the row's
+/// input. Adds what came of it, and answers the player's status. `number` becomes that of the call
+/// that was made last. No other function opens a session: its proof goes through all that it holds.
+pub fn put_session(
+    shown: &mut Shown,
+    setting: &Setting,
+    story: &[u8],
+    calls: &[Call],
+    number: &mut u64,
+) -> Result<u8, RowError> {
+    let story = story.to_vec(setting.alloc)?;
+    let (mode, fuel, keep) = (setting.mode, setting.fuel, setting.keep);
+    match Session::open_with(setting.alloc, story, mode, fuel, keep) {
         Ok(mut session) => {
-            put_played(shown, setting, &mut session);
+            let answer = put_calls(shown, setting, &mut session, calls, number);
             session.close();
+            answer
         }
-        Err(fault) => shown.display_line(&fault),
+        Err(fault) if calls.is_empty() => {
+            shown.display_line(&fault);
+            Ok(REFUSED)
+        }
+        Err(_) => Err(RowError::Story),
     }
-    Ok(())
 }
 
-/// Runs a session on the row's input, and adds the transcript and how it ended.
-fn put_played(shown: &mut Shown, setting: &Setting, session: &mut Session) {
+/// Runs a session on the row's input, adds the transcript and how it ended, and answers the status
+/// of the player.
+fn put_run(shown: &mut Shown, setting: &Setting, session: &mut Session) -> u8 {
     let mut writer = setting.writer();
+    let mut end = BROKEN;
     let answer = run(&mut setting.reader(), &mut writer, session);
     shown.lines(&writer.bytes);
     match answer {
         Ok(place) => {
+            end = status(&place);
             shown.text("status ");
-            shown.display(&status(&place));
+            shown.display(&end);
         }
         Err(fault) => shown.display(&fault),
     }
     shown.text(", ");
-    put_state(shown, session);
+    put_state(shown, session.place(), session.counts());
+    end
 }
 
-/// Adds where the story stands, and how many turns are kept and undone where there are any.
-fn put_state(shown: &mut Shown, session: &Session) {
-    match session.place() {
+/// Adds where the story is, and how many turns are kept and undone where there are any.
+fn put_state(shown: &mut Shown, place: Place, counts: (usize, usize)) {
+    match place {
         Place::Waiting => shown.text("waiting"),
         Place::Quit => shown.text("quit"),
         Place::Limit(limit) => shown.display(&limit),
         Place::Fault(fault) => shown.display(&fault),
     }
-    let (kept, undone) = session.counts();
+    let (kept, undone) = counts;
     if kept > 0 || undone > 0 {
         shown.text(", ");
         shown.display(&kept);
@@ -64,71 +76,86 @@ fn put_state(shown: &mut Shown, session: &Session) {
     shown.text("\n");
 }
 
-/// Opens a story, makes the calls of lines, and adds what comes of them.
-pub fn put_called(
-    shown: &mut Shown,
-    setting: &Setting,
-    story: &[u8],
-    calls: &[String],
-) -> Result<(), RowError> {
-    match open(setting, story.to_vec(setting.alloc)?) {
-        Ok(mut session) => {
-            let answer = put_calls(shown, setting, &mut session, calls);
-            session.close();
-            answer
-        }
-        Err(_) => Err(RowError::Story),
-    }
-}
-
-/// Makes the calls of lines, and adds what comes of them.
+/// Makes calls of a session, or runs it where there are none, as `put_session` says.
 fn put_calls(
     shown: &mut Shown,
     setting: &Setting,
     session: &mut Session,
-    calls: &[String],
-) -> Result<(), RowError> {
+    calls: &[Call],
+    number: &mut u64,
+) -> Result<u8, RowError> {
+    if calls.is_empty() {
+        return Ok(put_run(shown, setting, session));
+    }
     for call in calls {
-        let (word, text) = parted(call.as_str());
+        *number = call.number;
+        let (word, text) = parted(call.line.as_str());
         match word {
             "reply" => put_reply(shown, session, text, &written_bytes(setting.alloc, text)?),
-            "undo" => put_undo(shown, session),
-            "redo" => put_redo(shown, session),
-            "cells" => put_cells(shown, session, number_in(text)?),
+            "undo" => put_undone(shown, session.undo()),
+            "redo" => put_redone(shown, session.redo()),
+            "cells" => {
+                put_cells(shown, session.last_cells(), number_in(text)?);
+                continue;
+            }
+            "record" => {
+                put_counted(shown, session, &written_bytes(setting.alloc, text)?)?;
+                continue;
+            }
             _ => return Err(RowError::Word),
         }
+        put_state(shown, session.place(), session.counts());
     }
+    Ok(status(&session.place()))
+}
+
+/// Replies with a line, and adds how many cells the record of its turn holds.
+fn put_counted(shown: &mut Shown, session: &mut Session, line: &[u8]) -> Result<(), RowError> {
+    if let Reply::NoMemory = session.reply(line) {
+        return Err(RowError::Memory);
+    }
+    shown.text("by the session: ");
+    shown.display(&session.last_cells());
+    shown.text(" cells\n");
     Ok(())
 }
 
-/// Replies to a line, which a text writes, and adds what came of it. Where memory is refused, nothing
-/// may have changed, and the line is given once more.
+/// Adds whether a record holds cells, and at most so many.
+fn put_cells(shown: &mut Shown, cells: usize, most: usize) {
+    if cells == 0 {
+        return shown.text("no cells\n");
+    }
+    shown.text(if cells <= most {
+        "at most "
+    } else {
+        "more than "
+    });
+    shown.display(&most);
+    shown.text(" cells\n");
+}
+
+/// Replies to a line, which a text writes, and adds what came of it. Where memory is refused, that
+/// may change nothing, and the line is given once more.
 fn put_reply(shown: &mut Shown, session: &mut Session, text: &str, line: &[u8]) {
     shown.text("reply ");
     shown.text(text);
     shown.text(": ");
-    put_replies(shown, session, line);
-    put_state(shown, session);
-}
-
-/// Replies to a line, once more where memory is refused, and adds what came of it.
-fn put_replies(shown: &mut Shown, session: &mut Session, line: &[u8]) {
     let counts = session.counts();
     let cells = session.last_cells();
-    if has_replied(shown, session, line) {
+    if has_replied(shown, session.reply(line)) {
         return;
     }
     if counts != session.counts() || cells != session.last_cells() {
         shown.text("changed without memory; ");
     }
-    if !has_replied(shown, session, line) {
+    if !has_replied(shown, session.reply(line)) {
         shown.text("no memory\n");
     }
 }
 
-/// Replies to a line, and adds what came of it, unless memory was refused.
-fn has_replied(shown: &mut Shown, session: &mut Session, line: &[u8]) -> bool {
-    match session.reply(line) {
+/// Adds what came of a line, unless memory was refused.
+fn has_replied(shown: &mut Shown, reply: Reply<'_>) -> bool {
+    match reply {
         Reply::Taken(told) => {
             shown.text("taken\n");
             shown.lines(told);
@@ -140,36 +167,19 @@ fn has_replied(shown: &mut Shown, session: &mut Session, line: &[u8]) -> bool {
     true
 }
 
-/// Takes a turn back, and adds what came of it.
-fn put_undo(shown: &mut Shown, session: &mut Session) {
+/// Adds whether a turn was taken back.
+fn put_undone(shown: &mut Shown, is_undone: bool) {
     shown.text("undo: ");
-    shown.display_line(&session.undo());
-    put_state(shown, session);
+    shown.display_line(&is_undone);
 }
 
-/// Does a turn again, and adds what came of it.
-fn put_redo(shown: &mut Shown, session: &mut Session) {
-    match session.redo() {
+/// Adds whether a turn was done again, and its text.
+fn put_redone(shown: &mut Shown, told: Option<&[u8]>) {
+    match told {
         Some(told) => {
             shown.text("redo: true\n");
             shown.lines(told);
         }
         None => shown.text("redo: false\n"),
     }
-    put_state(shown, session);
-}
-
-/// Adds whether the record of the latest kept turn holds cells, and at most so many.
-fn put_cells(shown: &mut Shown, session: &Session, most: usize) {
-    let cells = session.last_cells();
-    if cells == 0 {
-        return shown.text("no cells\n");
-    }
-    shown.text(if cells <= most {
-        "at most "
-    } else {
-        "more than "
-    });
-    shown.display(&most);
-    shown.text(" cells\n");
 }

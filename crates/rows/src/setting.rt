@@ -63,8 +63,7 @@ impl Setting {
         }
     }
 
-    /// Takes a line of a row, its first word and the text after it, and says whether the word is one
-    /// of these.
+    /// Takes a line's first word and the text after it, and says whether the word is one of these.
     pub fn takes(&mut self, word: &str, text: &str) -> Result<bool, RowError> {
         match word {
             "source" => self.add_source(text)?,
@@ -119,7 +118,7 @@ impl Setting {
 }
 
 /// The number that a text is, of 32 bits.
-fn small(text: &str) -> Result<u32, RowError> {
+pub fn small(text: &str) -> Result<u32, RowError> {
     match u32::try_from(number_in(text)?) {
         Ok(number) => Ok(number),
         Err(_) => Err(RowError::Number),

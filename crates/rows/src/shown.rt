@@ -1,7 +1,5 @@
 //! What a row shows.
 
-ghost use Rattle.std.specs.Prelude.{◌<◌};
-
 use crate::error::RowError;
 use std::alloc::Global;
 use std::fmt::Display;
@@ -160,16 +158,16 @@ impl Shown {
 }
 
 /// How often the first so many bytes come, one behind the other.
-fn repetitions(bytes: &[u8], size: usize) -> usize
-    requires { 0 < size }
-{
-    let Some((part, _)) = bytes.split_at_checked(size) else {
+fn repetitions(bytes: &[u8], size: usize) -> usize {
+    let Some((part, after)) = bytes.split_at_checked(size) else {
         return 0;
     };
-    let mut count = 0usize;
-    for other in bytes.chunks(size) {
-        if other != part {
-            break;
+    let mut rest = after;
+    let mut count = 1usize;
+    for _ in 0..after.len() {
+        match rest.split_at_checked(size) {
+            Some((other, more)) if other == part => rest = more,
+            _ => break,
         }
         count = count.wrapping_add(1);
     }

@@ -1,6 +1,6 @@
 //! Stories that are made byte by byte.
 
-use crate::names::{RowError, number_in};
+use crate::names::{RowError, number_in, number_to, parted};
 use std::alloc::Global;
 use zcore::layout::{HEADER_LENGTH, LENGTH_WORD, SUM_WORD};
 
@@ -24,14 +24,20 @@ pub fn put_at(story: &mut Vec<u8>, place: usize, bytes: &[u8]) -> Result<(), Row
     Ok(())
 }
 
-/// The bytes that a text names, two digits each, with spaces between them.
+/// The bytes that a text names in hexadecimal, with spaces between them.
 pub fn bytes_in(alloc: Global, text: &str) -> Result<Vec<u8>, RowError> {
     let mut bytes = Vec::new(alloc);
-    for digits in text.split_whitespace() {
-        match u8::from_str_radix(digits, 16) {
-            Ok(byte) => bytes.push(byte)?,
-            Err(_) => return Err(RowError::Number),
+    let mut rest = text;
+    for _ in 0..text.len() {
+        let (digits, after) = parted(rest);
+        if !digits.is_empty() {
+            let number = number_to(16, digits).ok_or(RowError::Number)?;
+            let Ok(byte) = u8::try_from(number) else {
+                return Err(RowError::Number);
+            };
+            bytes.push(byte)?;
         }
+        rest = after;
     }
     Ok(bytes)
 }

@@ -1,7 +1,7 @@
 //! Texts in Z-characters.
 
 use crate::names::{
-    RowError, Shown, decode_text, encode_text, encode_with, number_in, word_key, written_bytes,
+    RowError, Shown, decode_text, encode_text, encode_with, small, word_key, written_bytes,
 };
 use std::alloc::Global;
 
@@ -15,8 +15,7 @@ pub fn put_encoded(shown: &mut Shown, alloc: Global, text: &str) -> Result<(), R
     Ok(())
 }
 
-/// Adds the Z-text of a written text that uses an abbreviation, which stands before it and a `/`,
-/// or the fault.
+/// Adds the Z-text of a written text that uses the abbreviation before it and a `/`, or the fault.
 pub fn put_shortened(shown: &mut Shown, alloc: Global, text: &str) -> Result<(), RowError> {
     let (abbreviation, text) = text.split_once('/').ok_or(RowError::Word)?;
     let abbreviation = written_bytes(alloc, abbreviation)?;
@@ -38,10 +37,7 @@ pub fn put_decoded(
     story: &[u8],
     address: &str,
 ) -> Result<(), RowError> {
-    let Ok(address) = u32::try_from(number_in(address)?) else {
-        return Err(RowError::Number);
-    };
-    match decode_text(alloc, story, address) {
+    match decode_text(alloc, story, small(address)?) {
         Ok((text, after)) => {
             shown.lines(&text);
             shown.text("up to ");

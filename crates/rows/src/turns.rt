@@ -6,10 +6,8 @@ ghost use Rattle.machine_frames.specs.Playing.{IsWaiting};
 ghost use Rattle.machine_frames.specs.States.{IsStoreOf};
 
 use crate::names::{
-    Machine, Place, Recorded, Reply, RowError, Session, Setting, Shown, Store, number_in,
-    swap_back, written_bytes,
+    Machine, Place, Recorded, RowError, Setting, Shown, Store, number_in, swap_back, written_bytes,
 };
-use crate::sessions::open;
 
 /// Plays a story's opening by the machine's own calls, and adds what `memory` or `record` asks with a
 /// text. No other function holds the machine's store, so that its end is proved once.
@@ -34,8 +32,7 @@ pub fn put_by_hand(
     }
 }
 
-/// Adds the bytes of the memory from one place to another, which a text names, and whether the memory
-/// is the story when the turn is taken back.
+/// Adds the bytes that a text names, and whether memory is the story when the turn is taken back.
 fn put_memory(
     shown: &mut Shown,
     store: &mut Recorded<Store>,
@@ -44,7 +41,10 @@ fn put_memory(
 ) -> Result<(), RowError> {
     let (first, count) = text.split_once(' ').ok_or(RowError::Number)?;
     let (first, count) = (number_in(first)?, number_in(count)?);
-    put_part(shown, store.store().memory(), first, count)?;
+    let memory = store.store().memory();
+    let (_, rest) = memory.split_at_checked(first).ok_or(RowError::Number)?;
+    let (part, _) = rest.split_at_checked(count).ok_or(RowError::Number)?;
+    shown.hexadecimal_line(part);
     let mut record = store.close();
     swap_back(store.store_mut(), &mut record);
     shown.text(if store.store().memory() == story {
@@ -55,20 +55,7 @@ fn put_memory(
     Ok(())
 }
 
-/// Adds so many bytes from a place on.
-fn put_part(shown: &mut Shown, memory: &[u8], first: usize, count: usize) -> Result<(), RowError> {
-    let Some((_, rest)) = memory.split_at_checked(first) else {
-        return Err(RowError::Number);
-    };
-    let Some((part, _)) = rest.split_at_checked(count) else {
-        return Err(RowError::Number);
-    };
-    shown.hexadecimal_line(part);
-    Ok(())
-}
-
-/// Plays the turn of a written line, where the opening ended at a place, and adds how many cells its
-/// record holds.
+/// Plays the turn of a written line after the opening, and adds how many cells its record holds.
 fn put_record(
     shown: &mut Shown,
     setting: &Setting,
@@ -95,33 +82,4 @@ fn put_record(
         }
         Err(_) => Err(RowError::Memory),
     }
-}
-
-/// Replies with a written line in a session, and adds how many cells the record of its turn holds.
-pub fn put_counted(
-    shown: &mut Shown,
-    setting: &Setting,
-    story: &[u8],
-    text: &str,
-) -> Result<(), RowError> {
-    let line = written_bytes(setting.alloc, text)?;
-    match open(setting, story.to_vec(setting.alloc)?) {
-        Ok(mut session) => {
-            let answer = put_cells_after(shown, &mut session, &line);
-            session.close();
-            answer
-        }
-        Err(_) => Err(RowError::Story),
-    }
-}
-
-/// Replies with a line, and adds how many cells the record of its turn holds.
-fn put_cells_after(shown: &mut Shown, session: &mut Session, line: &[u8]) -> Result<(), RowError> {
-    if let Reply::NoMemory = session.reply(line) {
-        return Err(RowError::Memory);
-    }
-    shown.text("by the session: ");
-    shown.display(&session.last_cells());
-    shown.text(" cells\n");
-    Ok(())
 }

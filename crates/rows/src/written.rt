@@ -3,6 +3,14 @@
 use crate::error::RowError;
 use std::alloc::Global;
 
+/// A line that calls a session, or that writes words or takes a step with them.
+#[derive(Drop)]
+pub struct Call {
+    /// Its number in the input, from 1.
+    pub number: u64,
+    pub line: String,
+}
+
 /// The first word of a line, and the text after it.
 pub fn parted(line: &str) -> (&str, &str) {
     line.split_once(' ').unwrap_or((line, ""))
@@ -10,7 +18,25 @@ pub fn parted(line: &str) -> (&str, &str) {
 
 /// The number that a text is, in decimal, of 64 bits.
 pub fn number_in(text: &str) -> Result<usize, RowError> {
-    text.parse::<usize>().ok().ok_or(RowError::Number)
+    number_to(10, text).ok_or(RowError::Number)
+}
+
+/// The number that a text is, to a base of at most 16, of 64 bits. It may begin with `+`.
+pub fn number_to(base: u8, text: &str) -> Option<usize> {
+    let digits = text.strip_prefix('+').unwrap_or(text);
+    if digits.is_empty() {
+        return None;
+    }
+    let mut number = 0usize;
+    for digit in digits.as_bytes() {
+        let value = hexadecimal(*digit)?;
+        if value >= base {
+            return None;
+        }
+        let higher = number.checked_mul(usize::from(base))?;
+        number = higher.checked_add(usize::from(value))?;
+    }
+    Some(number)
 }
 
 /// The bytes of a written text.
@@ -74,23 +100,29 @@ fn put_escape<'a>(
     escape: &'a str,
     number: usize,
 ) -> Result<&'a str, RowError> {
-    let mut letters = escape.chars();
-    match letters.next() {
-        Some('n') => bytes.push(b'\n')?,
-        Some('\\') => bytes.push(b'\\')?,
-        Some('#') => bytes.extend_from_slice(number.to_string(alloc)?.as_bytes())?,
-        Some('x') => {
-            let high = hexadecimal(letters.next())?;
-            let low = hexadecimal(letters.next())?;
+    let mut length = 1usize;
+    match escape.as_bytes() {
+        [b'n', ..] => bytes.push(b'\n')?,
+        [b'\\', ..] => bytes.push(b'\\')?,
+        [b'#', ..] => bytes.extend_from_slice(number.to_string(alloc)?.as_bytes())?,
+        [b'x', high, low, ..] => {
+            let high = hexadecimal(*high).ok_or(RowError::Escape)?;
+            let low = hexadecimal(*low).ok_or(RowError::Escape)?;
             bytes.push(high.wrapping_mul(16) | low)?;
+            length = 3;
         }
         _ => return Err(RowError::Escape),
     }
-    Ok(letters.as_str())
+    let (_, rest) = escape.split_at_checked(length).ok_or(RowError::Escape)?;
+    Ok(rest)
 }
 
 /// The value of a hexadecimal digit.
-fn hexadecimal(digit: Option<char>) -> Result<u8, RowError> {
-    let value = digit.unwrap_or(' ').to_digit(16).ok_or(RowError::Escape)?;
-    Ok(u8::try_from(value).unwrap_or(0))
+fn hexadecimal(digit: u8) -> Option<u8> {
+    match digit {
+        b'0'..=b'9' => Some(digit.wrapping_sub(b'0')),
+        b'A'..=b'F' => Some(digit.wrapping_sub(b'A').wrapping_add(10)),
+        b'a'..=b'f' => Some(digit.wrapping_sub(b'a').wrapping_add(10)),
+        _ => None,
+    }
 }
