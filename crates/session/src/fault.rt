@@ -8,7 +8,7 @@ use session_lines::WriteFailed;
 use thiserror::Error;
 
 /// Why a session is not opened. `Display` writes the number alone.
-#[derive(Clone, Copy, Debug, Error)]
+#[derive(Clone, Copy, Debug, PartialEq, Eq, Error)]
 pub enum OpenFault {
     /// The story is not loaded.
     #[error("{0}")]
@@ -24,7 +24,7 @@ pub enum OpenFault {
 }
 
 /// What stopped a run. `Display` writes the number alone.
-#[derive(Clone, Copy, Debug, Error)]
+#[derive(Clone, Copy, Debug, PartialEq, Eq, Error)]
 pub enum RunFault {
     /// A read failed, or the input had no end after 2^64 - 1 reads.
     #[error("S1")]

@@ -13,7 +13,7 @@ use thiserror::Error;
 use zcore::Version;
 
 /// Why a source was not compiled, its story not opened, or its lines not played to the end.
-#[derive(Clone, Copy, Debug, Error)]
+#[derive(Clone, Copy, Debug, PartialEq, Eq, Error)]
 pub enum PairFault {
     /// The source is refused; nothing was read or written.
     #[error("{0}")]
