@@ -14,8 +14,9 @@ use crate::tree::{Directive, Routine};
 use crate::weight::weight_before;
 use syntax_expression_parts::expect_name;
 use syntax_lexer::Sign;
+use syntax_nested_statements::statements;
 use syntax_parsing::{ParseError, Parser, expect, pass};
-use syntax_statements::{Statement, statements};
+use syntax_statements::Statement;
 use syntax_trees::Name;
 
 // What a routine begins with, behind its bracket: its name, its locals, and their `;`.

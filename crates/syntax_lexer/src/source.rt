@@ -68,16 +68,17 @@ fn put_token<'a>(
 // A token in so many bytes is what most sources have, or more of them.
 const BYTES_OF_A_TOKEN: usize = 4;
 
-// Room is asked for so many tokens at once, and not for more.
-const MOST_AT_ONCE: usize = 65_536;
+// Room is asked for so many tokens at most before one is read: 128 KiB. The system moves a row of
+// this size without copying it, so it doubles from there as its tokens come.
+const MOST_AT_FIRST: usize = 2_048;
 
-// No tokens yet, but room for those that so many bytes are likely to have, since a row that grows is
-// moved each time. If that room is refused, the row grows as its tokens come.
+// No tokens yet, but room for those with which so many bytes are likely to begin, since a smaller row
+// is copied where it grows. If that room is refused, the row grows as its tokens come.
 fn no_tokens<'a>(alloc: Global, bytes: usize) -> Vec<Token<'a>>
     ensures { result.items ≡ [] }
 {
     let mut tokens = Vec::new(alloc);
-    let _room = tokens.reserve((bytes / BYTES_OF_A_TOKEN).min(MOST_AT_ONCE));
+    let _room = tokens.reserve((bytes / BYTES_OF_A_TOKEN).min(MOST_AT_FIRST));
     tokens
 }
 
@@ -130,6 +131,8 @@ pub fn lex_placed<'a>(alloc: Global, source: &'a [u8]) -> Result<Vec<Token<'a>>,
         position: Position { offset, line },
         end: offset,
     })?;
+    // The room in which no token is goes back before a tree is made of them.
+    tokens.shrink_to_fit();
     Ok(tokens)
 }
 

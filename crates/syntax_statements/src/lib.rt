@@ -1,11 +1,9 @@
-//! Statements: their trees, and the parser that reads them.
+//! Statements: their trees, and what reads those that contain no others and makes the others.
 #![tactic(auto)]
 
 mod memory;
-mod nested;
-mod parts;
+pub mod parts;
 mod simple;
 mod tree;
 
-pub use nested::statements;
 pub use tree::{SimpleStatement, Statement};

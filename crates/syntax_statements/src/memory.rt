@@ -1,11 +1,11 @@
-//! Values put into boxes and rows. What is here knows nothing of their types, so its proof has no
-//! part of a tree in it.
+//! Boxes of values, and room for them in rows. What is here knows nothing of their types, so its
+//! proof has no part of a tree in it.
 //!
 //! # Errors
 //!
 //! `Memory`: a growth is refused. The value is dropped.
 
-ghost use Rattle.std.specs.Prelude.{◌≡◌, ◌<◌, IfErr, IfOk, [], ◌∷◌, ◌++◌, vec_capacity, vec_len};
+ghost use Rattle.std.specs.Prelude.{◌≡◌, ◌<◌, IfErr, IfOk, vec_capacity, vec_len};
 
 use std::alloc::Global;
 use syntax_parsing::ParseError;
@@ -21,20 +21,11 @@ pub fn boxed<T: Drop>(alloc: Global, value: T) -> Result<Box<T>, ParseError>
     }
 }
 
-/// The value at the end of the row.
-pub fn push<T: Drop>(row: &mut Vec<T>, next: T) -> Result<(), ParseError>
-    ensures ok { IfOk result (λ _. row.new.items ≡ row.old.items ++ next ∷ []) }
-    ensures err { IfErr result (λ e. e ≡ ParseError.Memory) }
-{
-    row.push(next)?;
-    Ok(())
-}
-
 /// Room for one more value in a row. Most rows are of one: such a row has no more room than that
 /// takes, and a first `push` would ask for several places.
 ///
 /// The value is made after this, in its place: a value that is there before is copied on its way.
-pub fn make_room<T: Drop>(row: &mut Vec<T>) -> Result<(), ParseError>
+pub fn make_room<T>(row: &mut Vec<T>) -> Result<(), ParseError>
     ensures items { row.new.items ≡ row.old.items }
     ensures ok { IfOk result (λ _. vec_len row.new < vec_capacity row.new) }
     ensures err { IfErr result (λ e. e ≡ ParseError.Memory) }
@@ -44,14 +35,4 @@ pub fn make_room<T: Drop>(row: &mut Vec<T>) -> Result<(), ParseError>
     }
     row.reserve(1)?;
     Ok(())
-}
-
-/// The row without the room in which it grew, so one of some dozens takes no more than what is in
-/// it.
-pub fn as_kept<T: Drop>(row: Vec<T>) -> Vec<T>
-    ensures { result.items ≡ row.items }
-{
-    let mut found = row;
-    found.shrink_to_fit();
-    found
 }

@@ -79,7 +79,8 @@ returns-clause-meets c =
     let bs = c.args.source.now in
     let at = c.loop-offset.offset in
     let line = c.loop-offset.line in
-    subst (λ ts. Lexes 0 1 bs (Ok (source_tokens ts))) (sym c.in_ok-push.ensures.items)
+    subst (λ ts. Lexes 0 1 bs (Ok (source_tokens ts)))
+    (sym (c.shrink_to_fit.ensures.items ∙ c.in_ok-push.ensures.items))
     (subst (Lexes 0 1 bs) (puts_last c.loop-offset.tokens.items _)
     (c.loop-offset.invariant.rest _
     (subst (λ xs. Lexes at line (drop at bs)
@@ -87,4 +88,4 @@ returns-clause-meets c =
     (sym c.from-2.ensures) (at_the_end bs at line c.loop-offset-test.false))))
 
 pub returns-clause-ends_once : goal.returns-clause-ends_once
-returns-clause-ends_once c = subst EndsOnce (lexemes_are c.push.new.self.items) (ends_once (returns-clause-meets c))
+returns-clause-ends_once c = subst EndsOnce (lexemes_are c.shrink_to_fit.new.self.items) (ends_once (returns-clause-meets c))

@@ -6,7 +6,7 @@ use Rattle.syntax_statement_parts.specs.Parse as parts
 use Rattle.syntax_statements.specs.Nesting.{begins_statement, begins_in_case}
 use Rattle.syntax_statements.specs.Views.{statement_tree, case_tree}
 use Rattle.syntax_statements.specs.Parse as spec
-use Rattle.syntax_statements.proofs.nested.+statement.Given as goal
+use Rattle.syntax_nested_statements.proofs.nested.+statement.Given as goal
 
 abbrev pub decreases-statements : goal.decreases-statements
 decreases-statements l = 8 * l.depth + 8

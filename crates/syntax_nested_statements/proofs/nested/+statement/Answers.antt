@@ -14,13 +14,13 @@ use Rattle.syntax_statements.proofs.Cases.{otherwise_default, otherwise_made, ot
 use Rattle.syntax_statements.proofs.Inside.{bodies_begun, inside_more}
 use Rattle.syntax_statements.proofs.Rows.{as_long_adds, as_long_stops, repeated_adds, repeated_stops, after_fails}
 use Rattle.syntax_statements.proofs.Rows.{inside_none, statement_flat}
-use Rattle.syntax_statements.proofs.nested.+statement.Goals as goal
-use Rattle.syntax_statements.proofs.nested.+statement.Goals.{statements-else-loop-turn-test}
-use Rattle.syntax_statements.proofs.nested.+statement.Goals.{statements-then-loop-turn-test+then-not-begins_statement}
-use Rattle.syntax_statements.proofs.nested.+statement.Goals.{bodies-else-loop-turn-test}
-use Rattle.syntax_statements.proofs.nested.+statement.Goals.{bodies-then-loop-turn-test+then-not-begins_in_case}
-use Rattle.syntax_statements.proofs.nested.+statement.Goals.{cases-else-loop-turn-test}
-use Rattle.syntax_statements.proofs.nested.+statement.Goals.{cases-then-loop-turn-test+then-not-begins_value}
+use Rattle.syntax_nested_statements.proofs.nested.+statement.Goals as goal
+use Rattle.syntax_nested_statements.proofs.nested.+statement.Goals.{statements-else-loop-turn-test}
+use Rattle.syntax_nested_statements.proofs.nested.+statement.Goals.{statements-then-loop-turn-test+then-not-begins_statement}
+use Rattle.syntax_nested_statements.proofs.nested.+statement.Goals.{bodies-else-loop-turn-test}
+use Rattle.syntax_nested_statements.proofs.nested.+statement.Goals.{bodies-then-loop-turn-test+then-not-begins_in_case}
+use Rattle.syntax_nested_statements.proofs.nested.+statement.Goals.{cases-else-loop-turn-test}
+use Rattle.syntax_nested_statements.proofs.nested.+statement.Goals.{cases-then-loop-turn-test+then-not-begins_value}
 
 pub block-returns-in-Ok : goal.block-returns-in-Ok
 block-returns-in-Ok t c = rw (block_read (braces c.args.depth) _ _ _ _ c.in-Ok.ensures) c.block.ensures

@@ -13,9 +13,6 @@ ghost use Rattle.syntax_statements.specs.Rows as rows;
 ghost use Rattle.syntax_statements.specs.Rows.{AddsStatement};
 
 use crate::memory::{as_kept, push};
-use crate::parts;
-use crate::parts::plain;
-use crate::tree::Statement;
 use syntax_expression_parts::begins_expression;
 use syntax_lexer::{Kind, Position, Sign, Token, Word};
 use syntax_parsing::{
@@ -24,6 +21,8 @@ use syntax_parsing::{
 use syntax_statement_parts::{
     Range, begins_case, begins_value, enclosed_condition, enclosed_heading, enclosed_loop, ranges,
 };
+use syntax_statements::parts::plain;
+use syntax_statements::{Statement, parts};
 
 // Whether the word begins a statement.
 fn word_opens(word: Word) -> bool
@@ -87,7 +86,7 @@ fn contains_statements(token: Token<'_>) -> bool
 }
 
 // Whether a statement can begin with the token.
-#[tactic(auto, unfolding(crate::specs::Nesting::begins_statement))]
+#[tactic(auto, unfolding(syntax_statements::specs::Nesting::begins_statement))]
 fn begins_statement(token: Token<'_>) -> bool
     ensures { result ≡ nesting.begins_statement (lexeme token.entry) }
 {
@@ -139,7 +138,7 @@ fn else_follows(tokens: &[Token<'_>]) -> bool
 /// - `Fault::Deep` at the token for which no nesting is left.
 /// - `Memory`: a growth is refused.
 #[cycle(statement)]
-#[tactic(auto, unfolding(crate::specs::Parse::statements), using(syntax_parsing::proofs::Loops::joined_none))]
+#[tactic(auto, unfolding(syntax_statements::specs::Parse::statements), using(syntax_parsing::proofs::Loops::joined_none))]
 pub fn statements<'t, 'a>(
     parser: &mut Parser<'t, 'a>,
     depth: usize,
@@ -199,7 +198,7 @@ fn add_inside<'t, 'a>(
 // The statements of a block or of `default`, from its brace or its colon on. Its brace is a
 // nesting, and so is each statement inside.
 #[cycle(statement)]
-#[tactic(auto, using(crate::proofs::Inside::braces_zero, crate::proofs::Inside::braces_last, crate::proofs::Inside::braces_empty, crate::proofs::Inside::braces_below))]
+#[tactic(auto, using(syntax_statements::proofs::Inside::braces_zero, syntax_statements::proofs::Inside::braces_last, syntax_statements::proofs::Inside::braces_empty, syntax_statements::proofs::Inside::braces_below))]
 fn braces<'t, 'a>(
     parser: &mut Parser<'t, 'a>,
     depth: usize,
@@ -233,7 +232,7 @@ fn block<'t, 'a>(
 
 // A statement one nesting further in than where `depth` may be opened.
 #[cycle(statement)]
-#[tactic(auto, using(crate::proofs::Inside::inside_zero, crate::proofs::Inside::inside_more))]
+#[tactic(auto, using(syntax_statements::proofs::Inside::inside_zero, syntax_statements::proofs::Inside::inside_more))]
 fn further_in<'t, 'a>(
     parser: &mut Parser<'t, 'a>,
     depth: usize,
@@ -247,7 +246,7 @@ fn further_in<'t, 'a>(
 
 // What follows `if`, which stands at `position`.
 #[cycle(statement)]
-#[tactic(auto, unfolding(crate::specs::Parse::choice))]
+#[tactic(auto, unfolding(syntax_statements::specs::Parse::choice))]
 fn choice<'t, 'a>(
     parser: &mut Parser<'t, 'a>,
     depth: usize,
@@ -274,7 +273,7 @@ fn choice<'t, 'a>(
 
 // What follows `while`, which stands at `position`.
 #[cycle(statement)]
-#[tactic(auto, unfolding(crate::specs::Parse::repetition))]
+#[tactic(auto, unfolding(syntax_statements::specs::Parse::repetition))]
 fn repetition<'t, 'a>(
     parser: &mut Parser<'t, 'a>,
     depth: usize,
@@ -292,7 +291,7 @@ fn repetition<'t, 'a>(
 
 // The statement behind `do`.
 #[cycle(statement)]
-#[tactic(auto, unfolding(crate::specs::Parse::entered))]
+#[tactic(auto, unfolding(syntax_statements::specs::Parse::entered))]
 fn entered<'t, 'a>(
     parser: &mut Parser<'t, 'a>,
     depth: usize,
@@ -308,7 +307,7 @@ fn entered<'t, 'a>(
 
 // What follows `do`, which stands at `position`.
 #[cycle(statement)]
-#[tactic(auto, unfolding(crate::specs::Parse::until))]
+#[tactic(auto, unfolding(syntax_statements::specs::Parse::until))]
 fn until<'t, 'a>(
     parser: &mut Parser<'t, 'a>,
     depth: usize,
@@ -329,7 +328,7 @@ fn until<'t, 'a>(
 
 // What follows `for`, which stands at `position`.
 #[cycle(statement)]
-#[tactic(auto, unfolding(crate::specs::Parse::iteration))]
+#[tactic(auto, unfolding(syntax_statements::specs::Parse::iteration))]
 fn iteration<'t, 'a>(
     parser: &mut Parser<'t, 'a>,
     depth: usize,
@@ -347,7 +346,7 @@ fn iteration<'t, 'a>(
 
 // What follows `objectloop`, which stands at `position`.
 #[cycle(statement)]
-#[tactic(auto, unfolding(crate::specs::Parse::traversal))]
+#[tactic(auto, unfolding(syntax_statements::specs::Parse::traversal))]
 fn traversal<'t, 'a>(
     parser: &mut Parser<'t, 'a>,
     depth: usize,
@@ -366,7 +365,7 @@ fn traversal<'t, 'a>(
 // The statements of a case, up to the next case. The brace of its `switch` is a nesting, and so is
 // each statement.
 #[cycle(statement)]
-#[tactic(auto, using(crate::proofs::Inside::bodies_zero))]
+#[tactic(auto, using(syntax_statements::proofs::Inside::bodies_zero))]
 fn bodies<'t, 'a>(
     parser: &mut Parser<'t, 'a>,
     depth: usize,
@@ -390,7 +389,7 @@ fn bodies<'t, 'a>(
 
 // A case: its ranges, and its statements behind a colon.
 #[cycle(statement)]
-#[tactic(auto, unfolding(crate::specs::Parse::one_case, crate::specs::Views::case_tree))]
+#[tactic(auto, unfolding(syntax_statements::specs::Parse::one_case, syntax_statements::specs::Views::case_tree))]
 fn one_case<'t, 'a>(
     parser: &mut Parser<'t, 'a>,
     depth: usize,
@@ -408,7 +407,7 @@ fn one_case<'t, 'a>(
 
 // Cases, up to `default` or a brace.
 #[cycle(statement)]
-#[tactic(auto, unfolding(crate::specs::Parse::cases), using(syntax_parsing::proofs::Loops::joined_none))]
+#[tactic(auto, unfolding(syntax_statements::specs::Parse::cases), using(syntax_parsing::proofs::Loops::joined_none))]
 fn cases<'t, 'a>(
     parser: &mut Parser<'t, 'a>,
     depth: usize,
@@ -431,7 +430,7 @@ fn cases<'t, 'a>(
 
 // The statements of `default`, where it comes next.
 #[cycle(statement)]
-#[tactic(auto, unfolding(crate::specs::Parse::otherwise))]
+#[tactic(auto, unfolding(syntax_statements::specs::Parse::otherwise))]
 fn otherwise<'t, 'a>(
     parser: &mut Parser<'t, 'a>,
     depth: usize,
@@ -455,7 +454,7 @@ fn otherwise<'t, 'a>(
 
 // What follows `switch`, which stands at `position`.
 #[cycle(statement)]
-#[tactic(auto, unfolding(crate::specs::Parse::selection))]
+#[tactic(auto, unfolding(syntax_statements::specs::Parse::selection))]
 fn selection<'t, 'a>(
     parser: &mut Parser<'t, 'a>,
     depth: usize,
@@ -478,7 +477,7 @@ fn selection<'t, 'a>(
 
 // A statement in which `depth` nestings more may be opened.
 #[cycle(statement)]
-#[tactic(auto, unfolding(crate::specs::Parse::statement, crate::specs::Parse::statement_over))]
+#[tactic(auto, unfolding(syntax_statements::specs::Parse::statement, syntax_statements::specs::Parse::statement_over))]
 fn statement<'t, 'a>(
     parser: &mut Parser<'t, 'a>,
     depth: usize,
