@@ -5,7 +5,7 @@ use Rattle.std.specs.List.Sorted.{IsStrictlyIncreasing}
 use Rattle.std.proofs.lemmas.Bool.{cases_lt, ne_eqb}
 use Rattle.tables.specs.KeyNumbers.{key_number, place_in}
 use Rattle.tables.proofs.Halving.{rising}
-use Rattle.tables.proofs.Written.{numbers_by_rank}
+use Rattle.tables.proofs.Ranks.{numbers_by_rank}
 
 pub never_falls : (keys : List ℕ) → IsStrictlyIncreasing keys → (i j : ℕ) → i ≤ j → j < length keys
     → get_or keys i 0 ≤ get_or keys j 0

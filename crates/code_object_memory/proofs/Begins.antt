@@ -12,8 +12,8 @@ use Rattle.ztext.proofs.Holding.{holds_append}
 use Rattle.zcore.specs.Entries.{object_entry, is_set}
 use Rattle.zcore.specs.Header.{defaults_of, static_base_of}
 use Rattle.tables.specs.Rows.{word}
-use Rattle.tables.proofs.Listed.{length_words}
-use Rattle.tables.proofs.Written.{byte_of}
+use Rattle.tables_writing.proofs.Listed.{length_words}
+use Rattle.tables_writing.proofs.Written.{byte_of}
 use Rattle.syntax_lexer.specs.Printable.{IsPrintable}
 use Rattle.meaning.specs.Accepted.{IsObject}
 use Rattle.meaning.specs.Forests.{IsObjectNumber}

@@ -12,7 +12,7 @@ use Rattle.zcore.specs.Header.{defaults_of, static_base_of}
 use Rattle.ztext.specs.Text.{Holds}
 use Rattle.ztext.proofs.Holding.{holds_byte, holds_append}
 use Rattle.tables.specs.Rows.{name_bytes, name_words}
-use Rattle.tables.proofs.Names.{name_even}
+use Rattle.tables_writing.proofs.Names.{name_even}
 use Rattle.meaning.specs.Forests.{IsObjectNumber}
 use Rattle.meaning.specs.Objects.{Objects, ObjectOf}
 use Rattle.code_object_memory.specs.Region.{HasObjects, HasTables, tables_base}

@@ -11,7 +11,7 @@ use Rattle.ztext.proofs.Holding.{holds_byte, holds_append}
 use Rattle.zcore.specs.ObjectProperties.{size_before}
 use Rattle.zcore.specs.Properties.{Property, Standing, Terminator, Listed, long_size, standing, found_at, found_in}
 use Rattle.tables.specs.Rows.{word}
-use Rattle.tables.proofs.Listed.{length_words}
+use Rattle.tables_writing.proofs.Listed.{length_words}
 use Rattle.meaning.specs.Objects.{words_in}
 use Rattle.meaning.proofs.ObjectLists.{if_same, if_other}
 use Rattle.code_object_memory.specs.Tables.{size_bytes, property_bytes, list_bytes, IsListed, data_place}

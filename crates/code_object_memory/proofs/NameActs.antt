@@ -16,7 +16,7 @@ use Rattle.zcore.specs.Objects.{print_name, print_object}
 use Rattle.zcore.specs.Parts.{goes_on, print}
 use Rattle.zcore.specs.State.{State, done, halt, bound}
 use Rattle.tables.specs.Rows.{name_bytes, name_words}
-use Rattle.tables.proofs.Names.{name_read, name_even}
+use Rattle.tables_writing.proofs.Names.{name_read, name_even}
 use Rattle.meaning.specs.Forests.{IsObjectNumber}
 use Rattle.meaning.specs.Objects.{Objects, ObjectOf, object_at}
 use Rattle.meaning.specs.Places.{machine_character}

@@ -8,7 +8,7 @@ use Rattle.ztext.specs.Bytes.{word_at}
 use Rattle.ztext.specs.Text.{Holds}
 use Rattle.ztext.proofs.Holding.{holds_append}
 use Rattle.tables.specs.Rows.{word}
-use Rattle.tables.proofs.Listed.{word_held}
+use Rattle.tables_writing.proofs.Listed.{word_held}
 use Rattle.meaning.specs.Objects.{ObjectOf, no_object}
 use Rattle.meaning.specs.Places.{machine_character}
 use Rattle.code_object_memory.specs.Rows.{RowOf, row_of, rows_from, table_of, entry_bytes, entries_bytes}

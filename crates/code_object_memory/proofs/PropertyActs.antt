@@ -20,7 +20,7 @@ use Rattle.zcore.specs.Parts.{test, read_byte, read_word}
 use Rattle.zcore.specs.Properties.{Property, list_start}
 use Rattle.zcore.specs.State.{State, done, ◌>>=◌}
 use Rattle.tables.specs.Rows.{word}
-use Rattle.tables.proofs.Listed.{word_held}
+use Rattle.tables_writing.proofs.Listed.{word_held}
 use Rattle.meaning.specs.Forests.{IsObjectNumber}
 use Rattle.meaning.specs.Objects.{Objects, ObjectOf}
 use Rattle.code_object_memory.specs.Region.{HasObjects, tables_base}

@@ -15,7 +15,7 @@ use Rattle.zcore.specs.Header.{defaults_of, static_base_of}
 use Rattle.zcore.specs.Parts.{write_word, with_word}
 use Rattle.zcore.specs.State.{State}
 use Rattle.tables.specs.Rows.{name_bytes}
-use Rattle.tables.proofs.Names.{name_even}
+use Rattle.tables_writing.proofs.Names.{name_even}
 use Rattle.meaning.specs.Forests.{IsObjectNumber}
 use Rattle.meaning.specs.Objects.{Objects, ObjectOf, object_at, words_in, with_words}
 use Rattle.code_object_memory.specs.Laws.{Changes, on}

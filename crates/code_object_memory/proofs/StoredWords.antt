@@ -8,7 +8,7 @@ use Rattle.std.proofs.lemmas.List.{length-append, length-set}
 use Rattle.std.proofs.lemmas.List.Elements.{All-head, All-tail, All-cons}
 use Rattle.zcore.specs.Parts.{with_word}
 use Rattle.tables.specs.Rows.{word, sizes, name_bytes, name_words}
-use Rattle.tables.proofs.Listed.{length_words}
+use Rattle.tables_writing.proofs.Listed.{length_words}
 use Rattle.meaning.specs.Objects.{words_in}
 use Rattle.meaning.proofs.ObjectLists.{if_same, if_other}
 use Rattle.code_object_memory.specs.Tables.{no_table, size_bytes, property_bytes, list_bytes, table_bytes}

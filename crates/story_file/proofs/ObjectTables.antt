@@ -7,8 +7,8 @@ use Rattle.std.proofs.lemmas.List.{length-append, length-map, get_or-map}
 use Rattle.tables.specs.declared.row.ObjectRow.{ObjectRow}
 use Rattle.tables.specs.Rows.{word, sizes, name_bytes, IsRow, HasShortName}
 use Rattle.tables.specs.Rows as written
-use Rattle.tables.proofs.Listed.{length_words}
-use Rattle.tables.proofs.Names.{name_even}
+use Rattle.tables_writing.proofs.Listed.{length_words}
+use Rattle.tables_writing.proofs.Names.{name_even}
 use Rattle.syntax_lexer.specs.Printable.{IsPrintable}
 use Rattle.meaning.specs.Accepted.{IsObject}
 use Rattle.meaning.specs.Objects.{ObjectOf, no_object, object_at}

@@ -16,7 +16,8 @@ ghost use Rattle.code_encoding.specs.Bytes.{Adds};
 use crate::links::{Links, links_of};
 use meaning::{Checked, CheckedObject, Places, machine_character};
 use std::alloc::{AllocError, Global};
-use tables::{ObjectRow, TableFault, write_objects};
+use tables::{ObjectRow, TableFault};
+use tables_writing::write_objects;
 use zcore::layout::DEFAULT_COUNT;
 
 /// The characters of a short name.

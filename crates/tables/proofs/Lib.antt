@@ -1,12 +1,8 @@
 pub mod Runs
 pub mod Cut
 pub mod Halving
+pub mod Ranks
 pub mod FirstEntries
-pub mod Written
 pub mod Walking
-pub mod Sizes
-pub mod Names
-pub mod Listed
-pub mod ReadBack
 pub mod Causes
 pub mod Samples

@@ -10,7 +10,8 @@ use Rattle.zcore.specs.Entries.{Child, place_of, is_set, named_from}
 use Rattle.zcore.specs.Properties.{Terminator, Listed, Beyond, found_in, property_in}
 use Rattle.tables.specs.Dictionary.{dictionary_bytes}
 use Rattle.tables.specs.KeyNumbers.{key_number}
-use Rattle.tables.specs.Rows.{sizes, name_bytes, name_words, objects_bytes}
+use Rattle.tables.specs.declared.row.ObjectRow.{ObjectRow}
+use Rattle.tables.specs.Rows.{word, sizes, name_bytes, name_words, entry_bytes, objects_bytes}
 
 -- The dictionary
 
@@ -59,6 +60,11 @@ space_named = refl
 
 no_rows : objects_bytes [] (replicate 63 0) 64 ≡ replicate 126 0
 no_rows = refl
+
+-- an entry ends with the address of its property table
+entry_ends : (row : ObjectRow) → entry_bytes row 300
+    ≡ row.attributes ++ word row.parent ++ word row.sibling ++ word row.child ++ 1 ∷ 44 ∷ []
+entry_ends row = refl
 
 -- one word, two words, and 32 words, whose 64 bytes are told by 0
 one_word : sizes 2 1 ≡ 0x42 ∷ []

@@ -1,4 +1,4 @@
-//! The tables of a story: its dictionary and its objects, written and read, and lines cut into
+//! The tables of a story: its dictionary and its objects, as they are read, and lines cut into
 //! words.
 #![tactic(auto)]
 
@@ -9,14 +9,13 @@ mod fault;
 mod laws;
 pub mod layout;
 mod link;
-mod objects;
 mod properties;
 mod row;
 mod unordered;
 mod words;
 
 pub use cutting::cut_line;
-pub use dictionary::{lookup, write_dictionary};
+pub use dictionary::lookup;
 pub use entries::{
     attribute_place, child, has_attribute, has_entry, is_set, link_place, parent, properties_place,
     sibling,
@@ -24,7 +23,6 @@ pub use entries::{
 pub use fault::{TableFault, TableRead};
 pub use laws::{keys_are_numbered_by_rank, lines_are_cut_one_way, properties_are_read};
 pub use link::Link;
-pub use objects::write_objects;
 pub use properties::{
     ListedProperty, Standing, long_size, property, property_count, search_list, stands_at,
 };

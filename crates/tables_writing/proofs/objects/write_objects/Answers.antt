@@ -6,10 +6,10 @@ use Rattle.std.proofs.lemmas.Option.{slice_get_read}
 use Rattle.std.proofs.lemmas.Result.{err_from_is_err_and}
 use Rattle.ztext.specs.Text.{Holds}
 use Rattle.tables.specs.Rows.{word, table_bytes, entry_bytes, entries_bytes, objects_bytes, objects_length}
-use Rattle.tables.proofs.Names.{row_refuses}
-use Rattle.tables.proofs.ReadBack.{rows_back}
-use Rattle.tables.proofs.Sizes.{IsWhole, tables_step, entries_step, tables_end, entries_end}
-use Rattle.tables.proofs.objects.write_objects.Goals as goal
+use Rattle.tables_writing.proofs.Names.{row_refuses}
+use Rattle.tables_writing.proofs.ReadBack.{rows_back}
+use Rattle.tables_writing.proofs.Sizes.{IsWhole, tables_step, entries_step, tables_end, entries_end}
+use Rattle.tables_writing.proofs.objects.write_objects.Goals as goal
 
 pub returns-in_err-put_table-clause-refused : goal.returns-in_err-put_table-clause-refused
 returns-in_err-put_table-clause-refused c =

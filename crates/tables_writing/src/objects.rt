@@ -7,9 +7,8 @@ ghost use Rattle.ztext.specs.Text.{Holds};
 ghost use Rattle.tables.specs.Rows as written;
 ghost use Rattle.tables.specs.Rows.{IsProperty, IsRow, RefusesName, RefusesRows, HasShortName, ReadsRows, objects_length};
 
-use crate::fault::TableFault;
-use crate::row::ObjectRow;
 use std::alloc::{AllocError, Global};
+use tables::{ObjectRow, TableFault};
 use zcore::encode_text;
 use zcore::layout::{DEFAULTS_LENGTH, LONGEST_SHORT_NAME, OBJECT_ENTRY_LENGTH, READABLE};
 

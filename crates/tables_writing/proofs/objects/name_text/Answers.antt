@@ -1,6 +1,6 @@
 use Rattle.std.proofs.Common.{sym, ◌∙◌, arith}
-use Rattle.tables.proofs.Names.{name_long}
-use Rattle.tables.proofs.objects.name_text.Goals as goal
+use Rattle.tables_writing.proofs.Names.{name_long}
+use Rattle.tables_writing.proofs.objects.name_text.Goals as goal
 
 pub returns-then-len-gt-NAME_LENGTH-clause-refused : goal.returns-then-len-gt-NAME_LENGTH-clause-refused
 returns-then-len-gt-NAME_LENGTH-clause-refused c =

@@ -16,10 +16,10 @@ use Rattle.tables.specs.declared.row.ObjectRow.{ObjectRow}
 use Rattle.tables.specs.Objects.{property_from, count_from, start_at, start_of}
 use Rattle.tables.specs.Rows.{word, list_bytes, name_bytes, name_words, table_bytes, entry_bytes, entries_bytes}
 use Rattle.tables.specs.Rows.{objects_bytes, objects_length, IsRow, ReadsName, ReadsRow, ReadsRows}
-use Rattle.tables.proofs.Written.{byte_of}
-use Rattle.tables.proofs.Listed.{word_held, length_words, found_back, counted_back}
-use Rattle.tables.proofs.Names.{name_even, name_read}
-use Rattle.tables.proofs.Sizes.{IsWhole}
+use Rattle.tables_writing.proofs.Written.{byte_of}
+use Rattle.tables_writing.proofs.Listed.{word_held, length_words, found_back, counted_back}
+use Rattle.tables_writing.proofs.Names.{name_even, name_read}
+use Rattle.tables_writing.proofs.Sizes.{IsWhole}
 
 -- Entries
 

@@ -1,8 +1,8 @@
 use Rattle.std.proofs.Common.{◌≡◌, ◌+◌, ◌++◌, drop, take, length}
 use Rattle.std.specs.List.{All, flat_map}
 use Rattle.tables.specs.Rows as written
-use Rattle.tables.proofs.Sizes.{IsWhole}
-use Rattle.tables.proofs.objects.write_objects.Given as goal
+use Rattle.tables_writing.proofs.Sizes.{IsWhole}
+use Rattle.tables_writing.proofs.objects.write_objects.Given as goal
 
 -- the entries and the property tables so far are those of the rows so far, each of which fits
 abbrev pub invariant-loop-row : goal.invariant-loop-row

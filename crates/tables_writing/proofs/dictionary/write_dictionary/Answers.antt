@@ -6,8 +6,8 @@ use Rattle.zcore.specs.Header.{static_end}
 use Rattle.ztext.specs.Text.{Holds}
 use Rattle.zcore.specs.Dictionary.{number_of_key}
 use Rattle.tables.specs.Dictionary.{head_bytes, entry_bytes, dictionary_bytes, ReadsKeys}
-use Rattle.tables.proofs.Written.{keys_each, length_dictionary, reads_back}
-use Rattle.tables.proofs.dictionary.write_dictionary.Goals as goal
+use Rattle.tables_writing.proofs.Written.{keys_each, length_dictionary, reads_back}
+use Rattle.tables_writing.proofs.dictionary.write_dictionary.Goals as goal
 
 pub returns-clause-read : goal.returns-clause-read
 returns-clause-read c = λ story at.

@@ -1,10 +1,9 @@
 -- What a story reads where a dictionary was written.
-use Rattle.std.proofs.Common.{◌≡◌, ◌==◌, ℕ, zero, suc, ◌+◌, ◌-◌, ◌*◌, ◌/◌, ◌%◌, ◌^◌, ◌<◌, ◌≤◌, false, if◌then◌else◌}
+use Rattle.std.proofs.Common.{◌≡◌, ◌==◌, ℕ, zero, suc, ◌+◌, ◌-◌, ◌*◌, ◌/◌, ◌%◌, ◌^◌, ◌<◌, ◌≤◌, if◌then◌else◌}
 use Rattle.std.proofs.Common.{List, [], ◌∷◌, length, take, drop, get_or, slice_index, refl, ap, sym, ◌∙◌, subst, arith}
 use Rattle.std.specs.Prelude.{map, slice_range}
 use Rattle.std.specs.List.{AllByRecursion, flat_map}
 use Rattle.std.specs.List.Sorted.{IsStrictlyIncreasing}
-use Rattle.std.proofs.lemmas.Bool.{eq-eqb, ne_eqb}
 use Rattle.std.proofs.lemmas.List.{get_or-take, get_or-drop, length-map, get_or_append_left, length-append}
 use Rattle.byteorder.specs.Endian.{big_from}
 use Rattle.ztext.specs.Bytes.{word_at}
@@ -16,8 +15,6 @@ use Rattle.zcore.specs.Dictionary.{number_of_key, entry_in}
 use Rattle.zcore.proofs.Searching.{entry_listed}
 use Rattle.tables.specs.Dictionary.{head_bytes, entry_bytes, dictionary_bytes, ReadsKeys}
 use Rattle.tables.specs.KeyNumbers.{place_in}
-use Rattle.tables.specs.Laws.{NumbersAreByRank}
-use Rattle.tables.proofs.Halving.{rising}
 
 -- a byte of those that stand at an address
 pub byte_of : (story : List ℕ) (at : ℕ) (bytes : List ℕ) (k : ℕ) → Holds story at bytes → k < length bytes
@@ -138,24 +135,3 @@ reads_back story at keys six ascending few h within =
           ∙ ap (λ b. entry_in story (at + 7) b (entry_count story at) x) bytes
           ∙ ap (λ c. entry_in story (at + 7) 9 c x) count ∙ numbers_read story keys (at + 7) x six p.1;
     }
-
--- Ranks
-
-place_behind : (at key : ℕ) (keys : List ℕ) (rank : ℕ) → ((k : ℕ) → k < rank → (slice_index keys k == key) ≡ false)
-    → rank < length keys → slice_index keys rank ≡ key → place_in at keys key ≡ at + 9 * rank
-place_behind at key [] rank other lt e = absurd (omega (arith, lt))
-place_behind at key (k ∷ ks) zero other lt e =
-    let z : at ≡ at + 9 * 0 = omega arith in
-    rw (eq-eqb k key e) z
-place_behind at key (k ∷ ks) (suc rank) other lt e =
-    let z : at + 9 + 9 * rank ≡ at + 9 * suc rank = omega arith in
-    rw (other 0 (omega arith))
-    (place_behind (at + 9) key ks rank (λ i l. other (suc i) (omega (arith, l))) (omega (arith, lt)) e ∙ z)
-
-pub numbers_by_rank : NumbersAreByRank
-numbers_by_rank dictionary keys rank ascending within =
-    place_behind (dictionary + 7) (slice_index keys rank) keys rank
-    (λ k lt. ne_eqb _ _ (λ e.
-    let r = rising (slice_index keys) (length keys) k rank ascending lt within in
-    omega (arith, r, e)))
-    within refl

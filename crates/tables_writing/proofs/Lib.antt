@@ -1,0 +1,5 @@
+pub mod Written
+pub mod Sizes
+pub mod Names
+pub mod Listed
+pub mod ReadBack
