@@ -2,8 +2,7 @@
 
 use command_lines::inform::Words;
 use messages_diagnosis::{Diagnosis, Limit, Shown};
-use messages_further::further_rules;
-use messages_sentences::message_of;
+use messages_sentences::{further_rules, message_of};
 use one_line::OneLine;
 use std::alloc::AllocError;
 use std::process::ExitCode;

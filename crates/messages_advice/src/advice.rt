@@ -5,19 +5,21 @@ use crate::loops::{in_loop, late_in_for, misplaced_until};
 use crate::statements::{in_statement, no_statement};
 use crate::switches::{between_signs, in_switch_or_if};
 use messages_contexts::{is_in_routine, is_named, start_of};
-use messages_definitions::{Advice, habit_at, in_definition, written_as_comment};
+use messages_definitions::{Advice, first_of, habit_at, in_definition, written_as_comment};
 use messages_expected::Grouped;
 use messages_expressions::{absent_form, in_expression, in_print, items_beside};
-use syntax::Token;
+use syntax_lexer::Token;
 
 /// What is told of a token in a routine.
 fn in_routine(tokens: &[Token<'_>], at: usize, wanted: Option<&Grouped>) -> Option<Advice> {
-    between_signs(tokens, at)
-        .or(in_loop(tokens, at, wanted))
-        .or(in_switch_or_if(tokens, at))
-        .or(in_print(tokens, at))
-        .or(in_expression(tokens, at))
-        .or(in_statement(tokens, at))
+    first_of(&[
+        between_signs(tokens, at),
+        in_loop(tokens, at, wanted),
+        in_switch_or_if(tokens, at),
+        in_print(tokens, at),
+        in_expression(tokens, at),
+        in_statement(tokens, at),
+    ])
 }
 
 /// What is told of words of Inform 6 and of other languages in a routine. `endif` is one of both.
@@ -62,8 +64,10 @@ pub fn advice_at(
 
 /// What is wrong at a token that does not fit, and for which no small change would do.
 pub fn late_advice_at(tokens: &[Token<'_>], at: usize, wanted: Option<&Grouped>) -> Option<Advice> {
-    misplaced_until(tokens, at)
-        .or(late_in_for(tokens, at))
-        .or(items_beside(tokens, at))
-        .or(no_statement(tokens, at, wanted))
+    first_of(&[
+        misplaced_until(tokens, at),
+        late_in_for(tokens, at),
+        items_beside(tokens, at),
+        no_statement(tokens, at, wanted),
+    ])
 }

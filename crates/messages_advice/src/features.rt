@@ -5,16 +5,19 @@ use messages_contexts::{
     is_text, is_unknown, kind_at,
 };
 use messages_definitions::{Advice, joins_equals, pair_at};
-use messages_expected::{Group, Grouped};
+use messages_expected::Grouped;
 use messages_features::{CONSTANT_EXPRESSIONS, INEQUALITY, LABELS, NEGATION, OTHER_VALUES, named};
-use syntax::{Kind, Sign, Token, Word};
+use syntax_lexer::{Kind, Sign, Token, Word};
 
 /// The feature that the token of a number names, if it begins a statement or a directive and no
 /// definition gives the name.
 fn named_at(tokens: &[Token<'_>], number: usize) -> Option<Advice> {
     let token = tokens.get(number)?;
     if is_unknown(tokens, number) && begins_statement(tokens, number) {
-        named(token.text).map(|feature| Advice::Word(number, feature))
+        match named(token.text) {
+            Some(feature) => Some(Advice::Word(number, feature)),
+            None => None,
+        }
     } else {
         None
     }
@@ -26,11 +29,11 @@ pub fn named_feature(tokens: &[Token<'_>], number: usize) -> Option<Advice> {
 }
 
 /// Whether an expression is expected, but no text.
-fn wants_expression(wanted: &Grouped) -> bool {
-    wanted.groups.iter().any(|group| matches!(
-        group,
-        Group::Expression | Group::Operand | Group::Value
-    )) && !wanted.has_text()
+fn wants_expression(wanted: Option<&Grouped>) -> bool {
+    match wanted {
+        Some(grouped) => grouped.has_value() && !grouped.has_text(),
+        None => false,
+    }
 }
 
 /// Whether the token of a number is in the value of a Constant or a Global.
@@ -45,25 +48,26 @@ fn is_in_constant(tokens: &[Token<'_>], number: usize) -> bool {
     }
 }
 
-/// The bytes from the end of the token of a number on, without blanks; none if a line ends before.
+/// The bytes from the end of the token of a number on, without the blanks before them in its line.
 fn bytes_after<'s>(source: &'s [u8], tokens: &[Token<'_>], number: usize) -> &'s [u8] {
     let end = match tokens.get(number) {
         Some(token) => token.end,
         None => source.len(),
     };
     let rest = source.split_at(end.min(source.len())).1;
-    let bytes = rest.trim_ascii_start();
-    let blanks = rest.len().saturating_sub(bytes.len());
-    if has_line_end(rest, blanks) {
-        b""
-    } else {
-        bytes
-    }
+    rest.split_at(blank_count(rest).min(rest.len())).1
 }
 
-/// Whether a line ends among so many of the first bytes.
-fn has_line_end(bytes: &[u8], count: usize) -> bool {
-    bytes.split_at(count.min(bytes.len())).0.contains(&b'\n')
+/// How many blanks of one line are at the front of some bytes.
+fn blank_count(bytes: &[u8]) -> usize {
+    let mut count: usize = 0;
+    for byte in bytes {
+        if !matches!(*byte, b' ' | b'\t' | b'\r') {
+            break;
+        }
+        count = count.saturating_add(1);
+    }
+    count
 }
 
 /// The operator that may be meant by the `!` of a comment right after the token before that of a
@@ -128,7 +132,7 @@ pub fn meant_at(tokens: &[Token<'_>], number: usize, wanted: Option<&Grouped>) -
     if let Some(meant) = pair_at(tokens, number) {
         return Some(meant);
     }
-    if is_text(tokens, number) && wanted.is_some_and(wants_expression) {
+    if is_text(tokens, number) && wants_expression(wanted) {
         return Some(Advice::Absent("a text as a value", OTHER_VALUES));
     }
     let is_label = is_name(tokens, number.saturating_add(1)) && begins_statement(tokens, number);

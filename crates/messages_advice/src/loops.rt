@@ -1,13 +1,13 @@
 //! What is told within loops.
 
 use messages_contexts::{
-    before, behind, closes_after, has_word_within, is_in_parentheses_of, is_name, is_named,
-    is_sign, is_word, last_word, open_parenthesis, start_of,
+    before, behind, closes_after, closes_after_any, has_word_before, has_word_within, is_any_sign,
+    is_in_parentheses_of, is_name, is_named, is_sign, is_word, open_parenthesis, start_of,
 };
 use messages_definitions::Advice;
 use messages_expected::Grouped;
 use messages_features::{COMMAS, OBJECT_LOOPS};
-use syntax::{Sign, Token, Word};
+use syntax_lexer::{Sign, Token, Word};
 
 const FOR: &str = "write 'for (i = 0 : i < 9 : i++)'";
 
@@ -15,9 +15,11 @@ const EACH: &str = "write 'objectloop (x in y)'";
 
 /// How many `:` are before the token of a number in the parentheses that are open there.
 fn colons_before(tokens: &[Token<'_>], at: usize) -> usize {
-    let from = open_parenthesis(tokens, at).unwrap_or(at);
+    let Some(open) = open_parenthesis(tokens, at) else {
+        return 0;
+    };
     let mut count: usize = 0;
-    for number in from..at {
+    for number in open..at {
         if is_sign(tokens, number, Sign::Colon) {
             count = count.saturating_add(1);
         }
@@ -34,9 +36,7 @@ fn has_colon(tokens: &[Token<'_>], at: usize) -> bool {
 fn commas_from(tokens: &[Token<'_>], at: usize) -> usize {
     let mut count: usize = 0;
     for number in at..tokens.len() {
-        if is_sign(tokens, number, Sign::CloseParenthesis)
-            || is_sign(tokens, number, Sign::Semicolon)
-        {
+        if is_any_sign(tokens, number, &[Sign::CloseParenthesis, Sign::Semicolon]) {
             break;
         }
         if is_sign(tokens, number, Sign::Colon) {
@@ -84,8 +84,7 @@ fn in_objectloop(tokens: &[Token<'_>], at: usize) -> Option<Advice> {
         Some(Advice::Absent("this form of objectloop", OBJECT_LOOPS))
     } else if is_sign(tokens, before(at, 1), Sign::OpenParenthesis)
         || is_second && is_name(tokens, at)
-        || is_sign(tokens, at, Sign::Comma)
-        || is_sign(tokens, at, Sign::Colon)
+        || is_any_sign(tokens, at, &[Sign::Comma, Sign::Colon])
     {
         Some(Advice::Do(EACH))
     } else {
@@ -95,7 +94,10 @@ fn in_objectloop(tokens: &[Token<'_>], at: usize) -> Option<Advice> {
 
 /// Whether only `until` is expected.
 fn wants_until(wanted: Option<&Grouped>) -> bool {
-    wanted.is_some_and(|grouped| grouped.is_only_word(Word::Until))
+    match wanted {
+        Some(grouped) => grouped.is_only_word(Word::Until),
+        None => false,
+    }
 }
 
 /// The number of the last `do` before the token of a number, in the same routine.
@@ -115,9 +117,11 @@ fn last_do(tokens: &[Token<'_>], at: usize) -> Option<usize> {
 /// Whether the `do` that is the token of a number is beside the condition of a `while`.
 fn is_beside_while(tokens: &[Token<'_>], number: usize) -> bool {
     is_word(tokens, behind(number, 1), Word::While)
-        || closes_after(tokens, before(number, 1), Word::While)
-        || closes_after(tokens, before(number, 1), Word::For)
-        || closes_after(tokens, before(number, 1), Word::Objectloop)
+        || closes_after_any(
+            tokens,
+            before(number, 1),
+            &[Word::While, Word::For, Word::Objectloop],
+        )
 }
 
 /// What is told where `until` is missing.
@@ -132,9 +136,7 @@ fn without_until(tokens: &[Token<'_>], at: usize) -> Option<Advice> {
         ))
     } else if !is_block && is_sign(tokens, before(at, 1), Sign::Semicolon) {
         Some(Advice::Do("write '{' after 'do' and '}' before 'until'"))
-    } else if is_sign(tokens, before(at, 1), Sign::Semicolon)
-        || is_sign(tokens, before(at, 1), Sign::CloseBrace)
-    {
+    } else if is_any_sign(tokens, before(at, 1), &[Sign::Semicolon, Sign::CloseBrace]) {
         Some(Advice::Do("end the 'do' with 'until (a);', or leave 'do' out"))
     } else {
         None
@@ -192,10 +194,9 @@ pub fn in_loop(tokens: &[Token<'_>], at: usize, wanted: Option<&Grouped>) -> Opt
     if is_in_parentheses_of(tokens, at, Word::Objectloop) {
         return in_objectloop(tokens, at);
     }
-    if last_word(tokens, at, Word::For).is_some()
-        || last_word(tokens, at, Word::Objectloop).is_some()
-    {
-        return without_parenthesis(tokens, at);
+    if has_word_before(tokens, at, &[Word::For, Word::Objectloop]) {
+        without_parenthesis(tokens, at)
+    } else {
+        None
     }
-    None
 }

@@ -2,14 +2,15 @@
 
 use messages_contexts::{
     Definition, Known, before, begins_line, begins_statement, begun_at, behind, closes_after,
-    definition_of, ends_operand, has_word_within, is_attribute, is_name, is_named, is_routine,
-    is_sign, is_step, is_unknown, is_word, kind_at, known_as, last_open, last_word, start_of,
+    definition_of, ends_operand, has_word_before, has_word_within, is_any_sign, is_any_word,
+    is_attribute, is_name, is_named, is_routine, is_sign, is_step, is_unknown, is_word, kind_at,
+    known_as, last_open, last_word, start_of,
 };
-use messages_definitions::{Advice, is_article};
-use messages_expected::{Group, Grouped};
+use messages_definitions::{Advice, first_of, is_article};
+use messages_expected::Grouped;
 use messages_expressions::{closes_condition, is_enclosed, word_after_dot};
 use messages_features::{LIBRARY, SETTINGS};
-use syntax::{Kind, Sign, Token, Word};
+use syntax_lexer::{Kind, Sign, Token, Word};
 
 const GIVE: &str = "write 'give lamp lit;', or 'give lamp ~lit;' to take it away";
 
@@ -90,7 +91,7 @@ fn in_return(tokens: &[Token<'_>], at: usize) -> Option<Advice> {
     };
     if is_sign(tokens, at, Sign::Comma) {
         Some(Advice::Do("a routine returns one value: leave the others out"))
-    } else if is_word(tokens, at, Word::Rtrue) || is_word(tokens, at, Word::Rfalse) {
+    } else if is_any_word(tokens, at, &[Word::Rtrue, Word::Rfalse]) {
         Some(Advice::Do("write 'return true;' or 'return false;'"))
     } else if is_statement
         && is_word(tokens, before(at, 1), Word::Return)
@@ -152,7 +153,7 @@ fn after_lone_word(tokens: &[Token<'_>], at: usize) -> Option<Advice> {
 
 /// What is told of a word that is meant as the type of a variable, and of the end of a condition.
 fn declared(tokens: &[Token<'_>], at: usize) -> Option<Advice> {
-    let is_type = is_word(tokens, at, Word::String) || is_word(tokens, at, Word::Char);
+    let is_type = is_any_word(tokens, at, &[Word::String, Word::Char]);
     if is_type && is_name(tokens, behind(at, 1)) {
         Some(Advice::Do(
             "write 'Global n;' for a variable, or list it as a local in the head of its routine",
@@ -181,9 +182,7 @@ fn declared(tokens: &[Token<'_>], at: usize) -> Option<Advice> {
 
 /// Whether the token of a number is an operator after the parentheses of a condition.
 fn is_after_parentheses_of(tokens: &[Token<'_>], at: usize) -> bool {
-    let is_operator = is_sign(tokens, at, Sign::AndAlso)
-        || is_sign(tokens, at, Sign::OrElse)
-        || is_sign(tokens, at, Sign::Equal)
+    let is_operator = is_any_sign(tokens, at, &[Sign::AndAlso, Sign::OrElse, Sign::Equal])
         || is_word(tokens, at, Word::Or);
     is_operator && closes_condition(tokens, before(at, 1))
 }
@@ -191,11 +190,12 @@ fn is_after_parentheses_of(tokens: &[Token<'_>], at: usize) -> bool {
 /// What is told of a reserved word after the first words of a statement, which are meant after it.
 fn after_first(tokens: &[Token<'_>], at: usize) -> Option<Advice> {
     let last = before(at, 1);
+    let is_late = is_word(tokens, at, Word::If) && ends_operand(tokens, last);
+    if is_late && is_assigned(tokens, at) {
+        return Some(Advice::Do("write 'if' and its condition before the statement"));
+    }
     let is_object = is_name(tokens, last) && begins_statement(tokens, last);
     match kind_at(tokens, at) {
-        Kind::Reserved(Word::If) if ends_operand(tokens, last) && is_assigned(tokens, at) => {
-            Some(Advice::Do("write 'if' and its condition before the statement"))
-        }
         Kind::Reserved(word) if is_object && begins_statement_with(word) => word_after_dot(word),
         _ => None,
     }
@@ -245,7 +245,7 @@ fn after_routine(tokens: &[Token<'_>], at: usize) -> Option<Advice> {
 fn begins_argument(tokens: &[Token<'_>], at: usize) -> bool {
     match kind_at(tokens, at) {
         Kind::Name(_) | Kind::Number(_) | Kind::DictionaryWord(_) | Kind::Character(_) => true,
-        _ => is_sign(tokens, at, Sign::OpenBrace) || is_sign(tokens, at, Sign::OpenBracket),
+        _ => is_any_sign(tokens, at, &[Sign::OpenBrace, Sign::OpenBracket]),
     }
 }
 
@@ -257,10 +257,12 @@ pub fn in_statement(tokens: &[Token<'_>], at: usize) -> Option<Advice> {
     if is_sign(tokens, at, Sign::Comma) && last_word(tokens, at, Word::Move).is_some() {
         return in_move(tokens, at);
     }
-    let told = block_in_parentheses(tokens, at)
-        .or(after_lone_word(tokens, at))
-        .or(after_routine(tokens, at))
-        .or(declared(tokens, at));
+    let told = first_of(&[
+        block_in_parentheses(tokens, at),
+        after_lone_word(tokens, at),
+        after_routine(tokens, at),
+        declared(tokens, at),
+    ]);
     if told.is_some() || is_enclosed(tokens, at) {
         return told;
     }
@@ -313,29 +315,24 @@ fn value_alone(tokens: &[Token<'_>], at: usize) -> Advice {
 /// Whether an arrow or `<-` is after the token of a number.
 fn has_arrow(tokens: &[Token<'_>], at: usize) -> bool {
     let next = behind(at, 1);
-    is_sign(tokens, next, Sign::Arrow)
-        || is_sign(tokens, next, Sign::LongArrow)
+    is_any_sign(tokens, next, &[Sign::Arrow, Sign::LongArrow])
         || is_sign(tokens, next, Sign::Less) && is_sign(tokens, behind(at, 2), Sign::Minus)
 }
 
 /// Whether an operator is expected and no end of a statement.
 fn wants_operator(wanted: Option<&Grouped>) -> bool {
-    wanted.is_some_and(|grouped| {
-        !grouped.has_alone(Sign::Semicolon)
-            && (grouped.has_alone(Sign::AndAlso)
-                || grouped.groups.iter().any(|group| matches!(
-                    group,
-                    Group::Operator | Group::BinaryOperator
-                )))
-    })
+    match wanted {
+        Some(grouped) => grouped.has_operator() && !grouped.has_alone(Sign::Semicolon),
+        None => false,
+    }
 }
 
 /// Whether a directive is expected.
 fn wants_directive(wanted: Option<&Grouped>) -> bool {
-    wanted.is_some_and(|grouped| grouped
-        .groups
-        .iter()
-        .any(|group| matches!(group, Group::Directive)))
+    match wanted {
+        Some(grouped) => grouped.has_directive(),
+        None => false,
+    }
 }
 
 /// What is told of a token that begins no directive.
@@ -464,16 +461,15 @@ pub fn no_statement(tokens: &[Token<'_>], at: usize, wanted: Option<&Grouped>) -
         return Some(told);
     }
     let last = before(at, 1);
-    let wants_condition = is_word(tokens, last, Word::If)
-        || is_word(tokens, last, Word::While)
-        || is_word(tokens, last, Word::Until)
-        || is_word(tokens, last, Word::Switch);
+    let wants_condition = is_any_word(
+        tokens,
+        last,
+        &[Word::If, Word::While, Word::Until, Word::Switch],
+    );
     if wants_condition {
         return Some(Advice::Do("write '(' before the condition and ')' after it"));
     }
-    let wants_object = is_word(tokens, last, Word::Parent)
-        || is_word(tokens, last, Word::Child)
-        || is_word(tokens, last, Word::Sibling);
+    let wants_object = is_any_word(tokens, last, &[Word::Parent, Word::Child, Word::Sibling]);
     if wants_object {
         return Some(Advice::Do("write '(' before the object and ')' after it"));
     }
@@ -487,10 +483,12 @@ pub fn no_statement(tokens: &[Token<'_>], at: usize, wanted: Option<&Grouped>) -
     if closes_after(tokens, last, Word::Switch) {
         return Some(Advice::Do("write '{' before the first case and '}' after the last"));
     }
-    operands_beside(tokens, at)
-        .or(in_condition(tokens, at))
-        .or(value_missing(tokens, at, wanted))
-        .or(second_value(tokens, at))
+    first_of(&[
+        operands_beside(tokens, at),
+        in_condition(tokens, at),
+        value_missing(tokens, at, wanted),
+        second_value(tokens, at),
+    ])
 }
 
 /// What is told of `,` after a value, where neither a list nor another statement is.
@@ -505,32 +503,24 @@ fn second_value(tokens: &[Token<'_>], at: usize) -> Option<Advice> {
 
 /// What is told of `,` in a condition.
 fn in_condition(tokens: &[Token<'_>], at: usize) -> Option<Advice> {
-    let is_in = last_word(tokens, at, Word::If).is_some()
-        || last_word(tokens, at, Word::While).is_some()
-        || last_word(tokens, at, Word::Until).is_some();
+    let is_in = has_word_before(tokens, at, &[Word::If, Word::While, Word::Until]);
     if !is_in || !is_enclosed(tokens, at) {
-        return None;
-    }
-    match kind_at(tokens, at) {
-        Kind::Sign(Sign::Comma) => {
-            Some(Advice::Do("write 'or' between values, and '&&' or '||' between conditions"))
-        }
-        Kind::Sign(Sign::Ampersand | Sign::Bar) => {
-            Some(Advice::Do("write '&&' or '||' between conditions"))
-        }
-        Kind::Reserved(Word::To) => {
-            Some(Advice::Do("write two comparisons with '&&' between, as in 'a >= 1 && a <= 9'"))
-        }
-        _ => None,
+        None
+    } else if is_sign(tokens, at, Sign::Comma) {
+        Some(Advice::Do("write 'or' between values, and '&&' or '||' between conditions"))
+    } else if is_any_sign(tokens, at, &[Sign::Ampersand, Sign::Bar]) {
+        Some(Advice::Do("write '&&' or '||' between conditions"))
+    } else if is_word(tokens, at, Word::To) {
+        Some(Advice::Do("write two comparisons with '&&' between, as in 'a >= 1 && a <= 9'"))
+    } else {
+        None
     }
 }
 
 /// Whether the token of a number is the `(` of a block that is in parentheses.
 fn opens_block(tokens: &[Token<'_>], at: usize) -> bool {
     let last = before(at, 1);
-    is_word(tokens, last, Word::Do)
-        || is_word(tokens, last, Word::Else)
-        || closes_condition(tokens, last)
+    is_any_word(tokens, last, &[Word::Do, Word::Else]) || closes_condition(tokens, last)
 }
 
 /// What is told of a statement in parentheses.
@@ -562,14 +552,14 @@ fn value_missing(tokens: &[Token<'_>], at: usize, wanted: Option<&Grouped>) -> O
         ),
         _ => false,
     };
-    if is_end && wanted.is_some_and(|grouped| grouped.is_only_name()) {
-        return Some(Advice::Do("a name is missing before it"));
-    }
-    let wants_value = wanted.is_some_and(|grouped| grouped.groups.iter().any(|group| matches!(
-        group,
-        Group::Expression | Group::Operand | Group::Value
-    )));
-    if is_end && wants_value && !is_word(tokens, before(at, 1), Word::Return) {
+    let Some(grouped) = wanted else {
+        return None;
+    };
+    if !is_end {
+        None
+    } else if grouped.is_only_name() {
+        Some(Advice::Do("a name is missing before it"))
+    } else if grouped.has_value() && !is_word(tokens, before(at, 1), Word::Return) {
         Some(Advice::Do("a value is missing before it"))
     } else {
         None
@@ -580,11 +570,7 @@ fn value_missing(tokens: &[Token<'_>], at: usize, wanted: Option<&Grouped>) -> O
 fn operands_beside(tokens: &[Token<'_>], at: usize) -> Option<Advice> {
     let is_operand = match kind_at(tokens, at) {
         Kind::Name(_) | Kind::Number(_) | Kind::Character(_) | Kind::DictionaryWord(_) => true,
-        _ => {
-            is_word(tokens, at, Word::True)
-                || is_word(tokens, at, Word::False)
-                || is_word(tokens, at, Word::Nothing)
-        }
+        _ => { is_any_word(tokens, at, &[Word::True, Word::False, Word::Nothing]) }
     };
     if !is_operand || !ends_operand(tokens, before(at, 1)) || begins_line(tokens, at) {
         None

@@ -2,13 +2,13 @@
 
 use crate::statements::begins_statement_with;
 use messages_contexts::{
-    before, behind, is_joined, is_name, is_routine, is_sign, is_text, is_unknown, is_word, kind_at,
-    known_as, last_open, start_of, switch_around,
+    before, behind, is_any_sign, is_joined, is_name, is_routine, is_sign, is_text, is_unknown,
+    is_word, kind_at, known_as, last_open, start_of, switch_around,
 };
 use messages_definitions::{Advice, pair_at};
 use messages_expressions::closes_condition;
 use messages_features::LABELS;
-use syntax::{Kind, Sign, Token, Word};
+use syntax_lexer::{Kind, Sign, Token, Word};
 
 const CONDITION_IN_CASE: &str =
     "a case lists values, or a range as '1 to 9': write other conditions with 'if'";
@@ -38,8 +38,7 @@ fn is_after_default(tokens: &[Token<'_>], open: usize, at: usize) -> bool {
 
 /// Whether the token of a number is after values of a case within a block of the case before it.
 fn is_in_block_of_case(tokens: &[Token<'_>], at: usize) -> bool {
-    let may_be_case = is_sign(tokens, at, Sign::Colon)
-        || is_sign(tokens, at, Sign::Comma)
+    let may_be_case = is_any_sign(tokens, at, &[Sign::Colon, Sign::Comma])
         || is_word(tokens, at, Word::To);
     match last_open(tokens, at, Sign::OpenBrace, Sign::CloseBrace) {
         Some(open) => {
@@ -147,8 +146,10 @@ fn sign_in_case(tokens: &[Token<'_>], at: usize, sign: Sign) -> Option<Advice> {
 
 /// What is told among the values of a case.
 fn in_case(tokens: &[Token<'_>], at: usize) -> Option<Advice> {
+    if is_word(tokens, at, Word::Or) {
+        return Some(Advice::Do("write ',' between the values of a case"));
+    }
     match kind_at(tokens, at) {
-        Kind::Reserved(Word::Or) => Some(Advice::Do("write ',' between the values of a case")),
         Kind::Sign(sign) => sign_in_case(tokens, at, sign),
         Kind::DictionaryWord(_) | Kind::Character(_) | Kind::Number(_) => {
             Some(Advice::Do("write ',' between the values of a case"))
@@ -161,7 +162,7 @@ fn in_case(tokens: &[Token<'_>], at: usize) -> Option<Advice> {
 /// Whether the token of a number is the `:` or `,` after a text that is meant as a value of a case.
 fn is_text_case(tokens: &[Token<'_>], at: usize) -> bool {
     let last = before(at, 1);
-    let is_after = is_sign(tokens, at, Sign::Colon) || is_sign(tokens, at, Sign::Comma);
+    let is_after = is_any_sign(tokens, at, &[Sign::Colon, Sign::Comma]);
     is_after && is_text(tokens, last) && start_of(tokens, last) == last
 }
 
@@ -199,8 +200,7 @@ fn at_case(tokens: &[Token<'_>], open: usize, at: usize) -> Option<Advice> {
     if is_text_case(tokens, at) || is_text_case(tokens, behind(at, 1)) {
         return Some(Advice::Do("write the words of a case in single quotes"));
     }
-    let is_late = is_sign(tokens, at, Sign::Comma)
-        || is_sign(tokens, at, Sign::Colon)
+    let is_late = is_any_sign(tokens, at, &[Sign::Comma, Sign::Colon])
         || is_word(tokens, at, Word::To);
     if is_late && is_after_default(tokens, open, at) && is_in_case(tokens, at) {
         return Some(Advice::Do("write 'default:' after all other cases"));
@@ -213,10 +213,16 @@ fn at_case(tokens: &[Token<'_>], open: usize, at: usize) -> Option<Advice> {
     {
         return Some(Advice::Do("write the values of a case without parentheses"));
     }
-    let begins = is_sign(tokens, at, Sign::Less)
-        || is_sign(tokens, at, Sign::LessOrEqual)
-        || is_sign(tokens, at, Sign::Greater)
-        || is_sign(tokens, at, Sign::GreaterOrEqual);
+    let begins = is_any_sign(
+        tokens,
+        at,
+        &[
+            Sign::Less,
+            Sign::LessOrEqual,
+            Sign::Greater,
+            Sign::GreaterOrEqual,
+        ],
+    );
     if begins && start_of(tokens, at) == at {
         return Some(Advice::Do(CONDITION_IN_CASE));
     }
@@ -260,8 +266,7 @@ fn is_after_else(tokens: &[Token<'_>], at: usize) -> bool {
 fn misplaced_else(tokens: &[Token<'_>], at: usize) -> Option<Advice> {
     let last = before(at, 1);
     let is_after_block = is_sign(tokens, last, Sign::Semicolon)
-        && (is_sign(tokens, before(at, 2), Sign::CloseBrace)
-            || is_sign(tokens, before(at, 2), Sign::Semicolon));
+        && is_any_sign(tokens, before(at, 2), &[Sign::CloseBrace, Sign::Semicolon]);
     if start_of(tokens, at) != at {
         None
     } else if is_sign(tokens, behind(at, 1), Sign::Colon) && switch_around(tokens, at).is_some() {

@@ -1,8 +1,7 @@
 //! Where names are defined. The tokens are those of a program.
 
 use crate::tokens::{before, is_name, is_named, is_sign, kind_at, text_at};
-use checker_names::{Binding, Table, find};
-use syntax::{Kind, Sign, Token, Word};
+use syntax_lexer::{Kind, Sign, Token, Word};
 
 /// What a definition is of.
 #[derive(Clone, Copy)]
@@ -104,27 +103,13 @@ pub fn first_local(tokens: &[Token<'_>], routine: usize, text: &[u8]) -> Option<
 }
 
 /// Whether a name is a local of the routine in which it stands.
-fn is_local(tokens: &[Token<'_>], around: Option<Defined>, text: &[u8]) -> bool {
+pub fn is_local(tokens: &[Token<'_>], around: Option<Defined>, text: &[u8]) -> bool {
     match around {
         Some(found) => match found.what {
             Definition::Routine => first_local(tokens, found.name, text).is_some(),
             _ => false,
         },
         None => false,
-    }
-}
-
-/// What a name stands for in a definition.
-pub fn binding_in(
-    tokens: &[Token<'_>],
-    around: Option<Defined>,
-    table: &Table,
-    text: &[u8],
-) -> Option<Binding> {
-    if is_local(tokens, around, text) {
-        Some(Binding::Local(0))
-    } else {
-        find(table, text)
     }
 }
 
@@ -139,7 +124,10 @@ pub fn known_as(tokens: &[Token<'_>], at: usize) -> Option<Known> {
         return Some(Known::Local);
     }
     let defined = first_definition(tokens, text)?;
-    defined_at(tokens, defined).map(|what| Known::File(what))
+    match defined_at(tokens, defined) {
+        Some(what) => Some(Known::File(what)),
+        None => None,
+    }
 }
 
 /// What a name is defined as.

@@ -10,8 +10,8 @@ mod statements;
 mod tokens;
 
 pub use definitions::{
-    Defined, Definition, Known, around, begun_at, binding_in, defined_at, first_definition,
-    first_local, is_attribute, is_routine, is_unknown, known_as,
+    Defined, Definition, Known, around, begun_at, defined_at, first_definition, first_local,
+    is_attribute, is_local, is_routine, is_unknown, known_as,
 };
 pub use objects::{
     first_given, is_behind_has, is_parent, is_property, may_lack_comma, may_lack_has,
@@ -19,10 +19,12 @@ pub use objects::{
 pub use operands::{begins_expression, ends_operand, is_step, owns_parentheses};
 pub use spelling::{MOST_EDITS, in_small_letters, is_near};
 pub use statements::{
-    begins_line, closes_after, definition_of, has_word_within, is_in_parentheses_of, is_in_routine,
-    is_joined, last_open, last_word, open_parenthesis, start_of, switch_around,
+    begins_line, closes_after, closes_after_any, definition_of, has_word_before, has_word_within,
+    is_in_parentheses_of, is_in_routine, is_joined, last_open, last_word, open_parenthesis,
+    start_of, switch_around,
 };
 pub use tokens::{
-    before, begins_statement, behind, divides_at, ends_within, is_after_word, is_name, is_named,
-    is_sign, is_text, is_word, kind_at, line_of, text_at,
+    before, begins_statement, behind, divides_at, ends_within, is_after_word, is_any_named,
+    is_any_sign, is_any_word, is_name, is_named, is_sign, is_text, is_word, kind_at, line_of,
+    text_at,
 };

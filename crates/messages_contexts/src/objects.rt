@@ -1,7 +1,7 @@
 //! The names within an object. The tokens are those of a program.
 
 use crate::tokens::{before, behind, is_name, is_named, is_sign, is_text, is_word};
-use syntax::{Sign, Token, Word};
+use syntax_lexer::{Sign, Token, Word};
 
 /// Whether the token of a number is the name of a property that an object gives.
 pub fn is_property(tokens: &[Token<'_>], at: usize) -> bool {

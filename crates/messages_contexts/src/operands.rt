@@ -1,11 +1,11 @@
 //! What begins and what ends an operand.
 
-use crate::tokens::{before, is_sign, kind_at};
-use syntax::{Kind, Sign, Token, Word};
+use crate::tokens::{before, is_any_sign, is_sign, kind_at};
+use syntax_lexer::{Kind, Sign, Token, Word};
 
 /// Whether the token of a number is `++` or `--`.
 pub fn is_step(tokens: &[Token<'_>], at: usize) -> bool {
-    is_sign(tokens, at, Sign::Increment) || is_sign(tokens, at, Sign::Decrement)
+    is_any_sign(tokens, at, &[Sign::Increment, Sign::Decrement])
 }
 
 /// Whether a reserved word is a value.

@@ -2,8 +2,8 @@
 //! place begin a program.
 
 use crate::definitions::{Definition, begun_at};
-use crate::tokens::{before, behind, divides_at, is_sign, is_word, line_of};
-use syntax::{Sign, Token, Word};
+use crate::tokens::{before, behind, divides_at, is_any_word, is_sign, is_word, line_of};
+use syntax_lexer::{Sign, Token, Word};
 
 /// The number of the first token of the statement or definition in which the token of a number is:
 /// the one after the nearest `;`, `{` or `}` before it.
@@ -83,11 +83,16 @@ pub fn is_in_parentheses_of(tokens: &[Token<'_>], at: usize, word: Word) -> bool
 
 /// Whether the token of a number is a `)` whose `(` is after a reserved word.
 pub fn closes_after(tokens: &[Token<'_>], at: usize, word: Word) -> bool {
+    closes_after_any(tokens, at, &[word])
+}
+
+/// Whether the token of a number is a `)` whose `(` is after one of some reserved words.
+pub fn closes_after_any(tokens: &[Token<'_>], at: usize, words: &[Word]) -> bool {
     if !is_sign(tokens, at, Sign::CloseParenthesis) {
         return false;
     }
     match last_open(tokens, at, Sign::OpenParenthesis, Sign::CloseParenthesis) {
-        Some(open) => is_word(tokens, before(open, 1), word),
+        Some(open) => is_any_word(tokens, before(open, 1), words),
         None => false,
     }
 }
@@ -115,6 +120,20 @@ pub fn last_word(tokens: &[Token<'_>], at: usize, word: Word) -> Option<usize> {
         }
     }
     None
+}
+
+/// Whether one of some reserved words is before the token of a number in its statement.
+pub fn has_word_before(tokens: &[Token<'_>], at: usize, words: &[Word]) -> bool {
+    for count in 0..at {
+        let number = before(at, count.saturating_add(1));
+        if is_any_word(tokens, number, words) {
+            return true;
+        }
+        if divides_at(tokens, number) {
+            return false;
+        }
+    }
+    false
 }
 
 /// Whether a reserved word is among the tokens from one number to another.

@@ -2,15 +2,15 @@
 
 use crate::advice::Advice;
 use crate::signs::joins_equals;
-use messages_contexts::{before, is_name, is_named, is_sign, is_text, kind_at};
+use messages_contexts::{before, is_any_sign, is_name, is_named, is_text, kind_at};
 use messages_features::{ARRAY_VALUES, BUFFERS, CONSTANT_EXPRESSIONS};
-use syntax::{Kind, Sign, Token};
+use syntax_lexer::{Kind, Sign, Token};
 
 const KIND: &str = "write '->' for bytes or '-->' for words after the name, as in 'Array a -> 10;'";
 
 /// Whether the token of a number is `->` or `-->`.
 fn is_arrow(tokens: &[Token<'_>], at: usize) -> bool {
-    is_sign(tokens, at, Sign::Arrow) || is_sign(tokens, at, Sign::LongArrow)
+    is_any_sign(tokens, at, &[Sign::Arrow, Sign::LongArrow])
 }
 
 /// What is told of a token in the place of an array's kind.

@@ -5,11 +5,11 @@ use crate::arrays::in_array;
 use crate::objects::in_object;
 use crate::signs::joins_equals;
 use messages_contexts::{
-    Definition, before, begins_line, begun_at, behind, definition_of, is_joined, is_name, is_named,
-    is_sign, is_text, is_word, kind_at, start_of, text_at,
+    Definition, before, begins_line, begun_at, behind, definition_of, is_any_sign, is_joined,
+    is_name, is_named, is_sign, is_text, is_word, kind_at, start_of, text_at,
 };
 use messages_features::{CONSTANT_EXPRESSIONS, OTHER_VALUES, habit_at_beginning};
-use syntax::{Kind, Sign, Token, Word};
+use syntax_lexer::{Kind, Sign, Token, Word};
 
 /// What is told of a sign in the head of a routine.
 fn sign_in_head(sign: Sign) -> Option<Advice> {
@@ -208,7 +208,7 @@ fn in_value(tokens: &[Token<'_>], start: usize, at: usize, what: Definition) -> 
 /// Whether the token of a number is a sign that is meant as a part of a name, as in `my-name`.
 fn is_in_name(tokens: &[Token<'_>], at: usize) -> bool {
     let next = at.saturating_add(1);
-    let is_sign_of_name = is_sign(tokens, at, Sign::Minus) || is_sign(tokens, at, Sign::Dot);
+    let is_sign_of_name = is_any_sign(tokens, at, &[Sign::Minus, Sign::Dot]);
     is_sign_of_name
         && is_name(tokens, before(at, 1))
         && is_joined(tokens, at)
@@ -228,7 +228,7 @@ fn begins_another(tokens: &[Token<'_>], at: usize) -> bool {
 fn is_after_name(tokens: &[Token<'_>], at: usize) -> bool {
     match kind_at(tokens, at) {
         Kind::Number(_) => true,
-        _ => is_sign(tokens, at, Sign::Semicolon) || is_sign(tokens, at, Sign::Assign),
+        _ => is_any_sign(tokens, at, &[Sign::Semicolon, Sign::Assign]),
     }
 }
 

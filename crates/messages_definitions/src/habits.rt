@@ -1,19 +1,17 @@
 //! Words of other languages at a token that does not fit.
 
-use crate::advice::Advice;
+use crate::advice::{Advice, first_of};
 use messages_contexts::{
-    before, behind, is_in_routine, is_name, is_named, is_sign, is_unknown, is_word, kind_at,
-    last_open, start_of, text_at,
+    before, behind, is_any_named, is_any_sign, is_any_word, is_in_routine, is_name, is_named,
+    is_sign, is_unknown, is_word, kind_at, last_open, start_of, text_at,
 };
 use messages_features::{Feature, habit_as_operand, habit_at_beginning, habit_between};
-use syntax::{Kind, Sign, Token, Word};
+use syntax_lexer::{Kind, Sign, Token, Word};
 
 /// Whether the token of a number is an article, and no name that is defined.
 pub fn is_article(tokens: &[Token<'_>], at: usize) -> bool {
-    let is_written = is_named(tokens, at, b"the")
-        || is_named(tokens, at, b"a")
-        || is_named(tokens, at, b"an");
-    is_written && is_unknown(tokens, at)
+    const ARTICLES: [&[u8]; 3] = [b"the", b"a", b"an"];
+    is_any_named(tokens, at, &ARTICLES) && is_unknown(tokens, at)
 }
 
 /// The word of another language that the token of a number is, if no definition gives its name.
@@ -47,12 +45,11 @@ fn beginning(tokens: &[Token<'_>], at: usize) -> Option<Advice> {
 /// `else` or a `(`.
 fn after_condition(tokens: &[Token<'_>], at: usize) -> Option<Advice> {
     let last = before(at, 1);
-    let is_first = is_sign(tokens, last, Sign::CloseParenthesis)
-        || is_sign(tokens, last, Sign::OpenParenthesis)
-        || is_sign(tokens, last, Sign::Colon)
-        || is_word(tokens, last, Word::Else)
-        || is_word(tokens, last, Word::Do)
-        || is_word(tokens, last, Word::For);
+    let is_first = is_any_sign(
+        tokens,
+        last,
+        &[Sign::CloseParenthesis, Sign::OpenParenthesis, Sign::Colon],
+    ) || is_any_word(tokens, last, &[Word::Else, Word::Do, Word::For]);
     if is_first {
         beginning(tokens, at)
     } else {
@@ -62,11 +59,23 @@ fn after_condition(tokens: &[Token<'_>], at: usize) -> Option<Advice> {
 
 /// Words of other languages that begin a `not in` or a `not has`.
 fn negated(tokens: &[Token<'_>], at: usize) -> Option<Advice> {
-    let is_negated = text_at(tokens, before(at, 1)).eq_ignore_ascii_case(b"not")
-        && is_unknown(tokens, before(at, 1));
-    if is_negated && is_word(tokens, at, Word::In) {
+    if is_not(tokens, before(at, 1)) {
+        negated_word(tokens, at)
+    } else {
+        None
+    }
+}
+
+/// Whether the token of a number is `not`, and no name that is defined.
+fn is_not(tokens: &[Token<'_>], at: usize) -> bool {
+    is_named(tokens, at, b"not") && is_unknown(tokens, at)
+}
+
+/// What is told of a word that is negated, the token of a number.
+fn negated_word(tokens: &[Token<'_>], at: usize) -> Option<Advice> {
+    if is_word(tokens, at, Word::In) {
         Some(Advice::Do("write 'notin'"))
-    } else if is_negated && is_word(tokens, at, Word::Has) {
+    } else if is_word(tokens, at, Word::Has) {
         Some(Advice::Do("write 'hasnt'"))
     } else {
         None
@@ -75,19 +84,15 @@ fn negated(tokens: &[Token<'_>], at: usize) -> Option<Advice> {
 
 /// What is told of `~has` and `~in`, and of `is` where a value is assigned.
 fn assigned(tokens: &[Token<'_>], at: usize) -> Option<Advice> {
-    if is_sign(tokens, at, Sign::Tilde) || is_sign(tokens, at, Sign::Not) {
-        if is_word(tokens, behind(at, 1), Word::Has) {
-            return Some(Advice::Do("write 'hasnt'"));
-        }
-        if is_word(tokens, behind(at, 1), Word::In) {
-            return Some(Advice::Do("write 'notin'"));
+    const EQUALS: [&[u8]; 3] = [b"is", b"equals", b"becomes"];
+    if is_any_sign(tokens, at, &[Sign::Tilde, Sign::Not]) {
+        let told = negated_word(tokens, behind(at, 1));
+        if told.is_some() {
+            return told;
         }
     }
     let is_second = before(at, 1) == start_of(tokens, at);
-    let is_equal = is_named(tokens, at, b"is")
-        || is_named(tokens, at, b"equals")
-        || is_named(tokens, at, b"becomes");
-    if is_second && is_equal && is_unknown(tokens, at) {
+    if is_second && is_any_named(tokens, at, &EQUALS) && is_unknown(tokens, at) {
         Some(Advice::Do("write '=' to assign"))
     } else {
         None
@@ -110,11 +115,10 @@ fn told_of_test(word: Word, is_negated: bool) -> Option<Advice> {
 
 /// What is told of `is` in a condition before another word that tests or compares.
 fn before_test(tokens: &[Token<'_>], at: usize) -> Option<Advice> {
+    const TESTS: [&[u8]; 2] = [b"is", b"are"];
     let next = behind(at, 1);
     let is_negated = is_named(tokens, next, b"not");
-    let is_before = (is_named(tokens, at, b"is") || is_named(tokens, at, b"are"))
-        && is_unknown(tokens, at);
-    if !is_before {
+    if !is_any_named(tokens, at, &TESTS) || !is_unknown(tokens, at) {
         return None;
     }
     match kind_at(tokens, if is_negated { behind(at, 2) } else { next }) {
@@ -165,15 +169,14 @@ fn parted_word(tokens: &[Token<'_>], at: usize) -> Option<Advice> {
 
 /// What is told of `has not` and of `not in`.
 fn negation(tokens: &[Token<'_>], at: usize) -> Option<Advice> {
-    let is_negation = text_at(tokens, at).eq_ignore_ascii_case(b"not") && is_unknown(tokens, at);
-    if is_negation && is_word(tokens, behind(at, 1), Word::In) {
-        Some(Advice::Do("write 'notin'"))
-    } else if is_negation && is_word(tokens, before(at, 1), Word::Has) {
-        Some(Advice::Do("write 'hasnt'"))
-    } else if is_negation && is_word(tokens, behind(at, 1), Word::Has) {
+    if !is_not(tokens, at) {
+        return None;
+    }
+    let told = negated_word(tokens, behind(at, 1));
+    if told.is_none() && is_word(tokens, before(at, 1), Word::Has) {
         Some(Advice::Do("write 'hasnt'"))
     } else {
-        None
+        told
     }
 }
 
@@ -182,23 +185,25 @@ fn negation(tokens: &[Token<'_>], at: usize) -> Option<Advice> {
 pub fn habit_at(tokens: &[Token<'_>], at: usize) -> Option<Advice> {
     let last = before(at, 1);
     let start = start_of(tokens, at);
-    called(tokens, at)
-        .or(before_test(tokens, at))
-        .or(negated(tokens, at))
-        .or(assigned(tokens, at))
-        .or(parted_word(tokens, at))
-        .or(negation(tokens, at))
-        .or(negation(tokens, last))
-        .or(between(tokens, at))
-        .or(between(tokens, last))
-        .or(between_parentheses(tokens, at))
-        .or(after_condition(tokens, at))
-        .or(after_condition(tokens, last))
-        .or(after_condition(tokens, before(at, 2)))
-        .or(beginning(tokens, start))
-        .or(operand(tokens, at))
-        .or(operand(tokens, last))
-        .or(heading(tokens, at))
+    first_of(&[
+        called(tokens, at),
+        before_test(tokens, at),
+        negated(tokens, at),
+        assigned(tokens, at),
+        parted_word(tokens, at),
+        negation(tokens, at),
+        negation(tokens, last),
+        between(tokens, at),
+        between(tokens, last),
+        between_parentheses(tokens, at),
+        after_condition(tokens, at),
+        after_condition(tokens, last),
+        after_condition(tokens, before(at, 2)),
+        beginning(tokens, start),
+        operand(tokens, at),
+        operand(tokens, last),
+        heading(tokens, at),
+    ])
 }
 
 /// A word of another language in the place of a type or a routine's word after `[`, or after a

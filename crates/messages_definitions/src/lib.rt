@@ -9,7 +9,7 @@ mod habits;
 mod objects;
 mod signs;
 
-pub use advice::Advice;
+pub use advice::{Advice, first_of};
 pub use definitions::in_definition;
 pub use habits::{habit_at, is_article};
 pub use signs::{joins_equals, pair_at, written_as_comment};

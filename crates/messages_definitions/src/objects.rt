@@ -3,11 +3,11 @@
 use crate::advice::Advice;
 use crate::signs::joins_equals;
 use messages_contexts::{
-    Definition, Known, before, begins_line, behind, has_word_within, is_attribute, is_name,
-    is_named, is_property, is_sign, is_text, is_unknown, is_word, kind_at, known_as,
+    Definition, Known, before, begins_line, behind, has_word_within, is_any_sign, is_attribute,
+    is_name, is_named, is_property, is_sign, is_text, is_unknown, is_word, kind_at, known_as,
 };
 use messages_features::{CLASSES, CONSTANT_EXPRESSIONS, MESSAGES, OTHER_VALUES};
-use syntax::{Kind, Sign, Token, Word};
+use syntax_lexer::{Kind, Sign, Token, Word};
 
 const WITH: &str = "write 'with' before the properties";
 
@@ -54,12 +54,17 @@ fn in_place_of_name(tokens: &[Token<'_>], at: usize) -> Option<Advice> {
         Kind::DictionaryWord(_) | Kind::Character(_) => Some(Advice::Do(
             "write a name for the source, and then the short name in double quotes",
         )),
-        Kind::Reserved(Word::With | Word::Has) => {
+        Kind::Reserved(word) if begins_part(word) => {
             Some(Advice::Do("write the name of the object before it"))
         }
         Kind::Sign(sign) => sign_in_place_of_name(sign),
         _ => None,
     }
+}
+
+/// Whether a reserved word begins a part of an object.
+fn begins_part(word: Word) -> bool {
+    matches!(word, Word::With | Word::Has)
 }
 
 /// What is told of a sign in the place of an object's name.
@@ -80,7 +85,7 @@ fn sign_in_place_of_name(sign: Sign) -> Option<Advice> {
 /// What is told of a text in the head of an object.
 fn text_in_head(tokens: &[Token<'_>], at: usize) -> Option<Advice> {
     let last = before(at, 1);
-    if is_sign(tokens, last, Sign::Comma) || is_sign(tokens, last, Sign::Assign) {
+    if is_any_sign(tokens, last, &[Sign::Comma, Sign::Assign]) {
         Some(Advice::Do("write the short name right after the name, with nothing between"))
     } else if is_text(tokens, before(at, 2)) {
         Some(Advice::Do(WITH))

@@ -1,12 +1,12 @@
 //! Signs of other languages, which are written with two or three signs of this one.
 
-use crate::advice::Advice;
+use crate::advice::{Advice, first_of};
 use messages_contexts::{
-    before, begins_line, behind, divides_at, is_in_parentheses_of, is_joined, is_sign, is_unknown,
-    kind_at, open_parenthesis, start_of,
+    before, begins_line, behind, divides_at, is_any_sign, is_in_parentheses_of, is_joined, is_sign,
+    is_unknown, kind_at, open_parenthesis, start_of,
 };
 use messages_features::{ASSIGNING_OPERATORS, SUPERCLASSES};
-use syntax::{Kind, Sign, Token, Word};
+use syntax_lexer::{Kind, Sign, Token, Word};
 
 const COMMENTS: &str = "a comment begins with '!'";
 
@@ -33,7 +33,7 @@ fn begins_comment(tokens: &[Token<'_>], at: usize) -> bool {
     let last = before(at, 1);
     is_joined(tokens, at)
         && (is_sign(tokens, last, Sign::Slash)
-            && (is_sign(tokens, at, Sign::Slash) || is_sign(tokens, at, Sign::Star))
+            && is_any_sign(tokens, at, &[Sign::Slash, Sign::Star])
             || is_sign(tokens, last, Sign::OpenParenthesis)
                 && is_sign(tokens, at, Sign::Star)
                 && start_of(tokens, at) == last)
@@ -88,42 +88,83 @@ fn assigning(first: Sign) -> Option<Advice> {
     }
 }
 
+/// Two signs, and what is told of them.
+type Pair = (Sign, Sign, &'static str);
+
 /// What is told of two signs that are side by side.
-fn told_of_pair(first: Sign, second: Sign) -> Option<Advice> {
-    match (first, second) {
-        (Sign::Dot, Sign::Dot) => Some(Advice::Absent("'..'", SUPERCLASSES)),
-        (Sign::Colon, Sign::Colon) => Some(Advice::Absent("'::'", SUPERCLASSES)),
-        (Sign::Equal, Sign::Assign) => Some(Advice::Do("write '=='")),
-        (Sign::NotEqual, Sign::Assign) => Some(Advice::Do("write '~='")),
-        (Sign::Less, Sign::Greater) => Some(Advice::Do("write '~='")),
-        (Sign::Assign, Sign::Tilde) => Some(Advice::Do("write '~='")),
-        (Sign::Assign, Sign::Slash) => Some(Advice::Do("write '~='")),
-        (Sign::Assign, Sign::Greater) => Some(Advice::Do("write '>='")),
-        (Sign::Assign, Sign::Less) => Some(Advice::Do("write '<='")),
-        (Sign::Less, Sign::Minus) => Some(Advice::Do("write '='")),
-        (Sign::Colon, Sign::Assign) => Some(Advice::Do("write '='")),
-        (Sign::Less, Sign::Less) => Some(Advice::Do("there are no shifts: write '*'")),
-        (Sign::Greater, Sign::Greater) => Some(Advice::Do("there are no shifts: write '/'")),
-        (Sign::Star, Sign::Star) => Some(Advice::Do("there are no powers: multiply in a loop")),
-        (Sign::Assign, Sign::Plus) => assigning(second),
+const TOGETHER: [Pair; 12] = [
+    (Sign::Equal, Sign::Assign, "write '=='"),
+    (Sign::NotEqual, Sign::Assign, "write '~='"),
+    (Sign::Less, Sign::Greater, "write '~='"),
+    (Sign::Assign, Sign::Tilde, "write '~='"),
+    (Sign::Assign, Sign::Slash, "write '~='"),
+    (Sign::Assign, Sign::Greater, "write '>='"),
+    (Sign::Assign, Sign::Less, "write '<='"),
+    (Sign::Less, Sign::Minus, "write '='"),
+    (Sign::Colon, Sign::Assign, "write '='"),
+    (Sign::Less, Sign::Less, "there are no shifts: write '*'"),
+    (
+        Sign::Greater,
+        Sign::Greater,
+        "there are no shifts: write '/'",
+    ),
+    (
+        Sign::Star,
+        Sign::Star,
+        "there are no powers: multiply in a loop",
+    ),
+];
+
+/// What is told of two signs, with a blank between them or none, that are one without it.
+const PARTED: [Pair; 9] = [
+    (Sign::Assign, Sign::Assign, "write '==' without a blank"),
+    (Sign::Less, Sign::Assign, "write '<=' without a blank"),
+    (Sign::Greater, Sign::Assign, "write '>=' without a blank"),
+    (Sign::Tilde, Sign::Assign, "write '~=' without a blank"),
+    (
+        Sign::Ampersand,
+        Sign::Ampersand,
+        "write '&&' without a blank",
+    ),
+    (Sign::Bar, Sign::Bar, "write '||' without a blank"),
+    (Sign::Minus, Sign::Greater, "write '->' without a blank"),
+    (Sign::Minus, Sign::Arrow, "write '-->' without a blank"),
+    (
+        Sign::Decrement,
+        Sign::Greater,
+        "write '-->' without a blank",
+    ),
+];
+
+/// What rows tell of two signs.
+fn told_by(rows: &[Pair], first: Sign, second: Sign) -> Option<Advice> {
+    for row in rows {
+        if row.0 as u8 == first as u8 && row.1 as u8 == second as u8 {
+            return Some(Advice::Do(row.2));
+        }
+    }
+    None
+}
+
+/// What is told of two signs that are side by side, and in no row.
+fn told_of_others(first: Sign, second: Sign) -> Option<Advice> {
+    match first {
+        Sign::Dot if matches!(second, Sign::Dot) => Some(Advice::Absent("'..'", SUPERCLASSES)),
+        Sign::Colon if matches!(second, Sign::Colon) => {
+            Some(Advice::Absent("'::'", SUPERCLASSES))
+        }
+        Sign::Assign if matches!(second, Sign::Plus) => assigning(second),
         _ => None,
     }
 }
 
-/// What is told of two signs, with a blank between them or none, that are one without it.
+/// What is told of two signs, with a blank between them or none.
 fn told_of_parted(first: Sign, second: Sign) -> Option<Advice> {
-    match (first, second) {
-        (Sign::Assign, Sign::Assign) => Some(Advice::Do("write '==' without a blank")),
-        (Sign::Less, Sign::Assign) => Some(Advice::Do("write '<=' without a blank")),
-        (Sign::Greater, Sign::Assign) => Some(Advice::Do("write '>=' without a blank")),
-        (Sign::Tilde, Sign::Assign) => Some(Advice::Do("write '~=' without a blank")),
-        (Sign::Ampersand, Sign::Ampersand) => Some(Advice::Do("write '&&' without a blank")),
-        (Sign::Bar, Sign::Bar) => Some(Advice::Do("write '||' without a blank")),
-        (Sign::Minus, Sign::Greater) => Some(Advice::Do("write '->' without a blank")),
-        (Sign::Minus, Sign::Arrow) => Some(Advice::Do("write '-->' without a blank")),
-        (Sign::Decrement, Sign::Greater) => Some(Advice::Do("write '-->' without a blank")),
-        (_, Sign::Assign) => assigning(first),
-        _ => None,
+    let told = told_by(&PARTED, first, second);
+    if told.is_none() && matches!(second, Sign::Assign) {
+        assigning(first)
+    } else {
+        told
     }
 }
 
@@ -152,7 +193,11 @@ fn told_of_signs(tokens: &[Token<'_>], at: usize, first: Sign, second: Sign) -> 
     } else if compares_by_slash(tokens, at, first, second) {
         Some(Advice::Do("write '~='"))
     } else if is_joined(tokens, at) {
-        told_of_pair(first, second).or(told_of_parted(first, second))
+        first_of(&[
+            told_by(&TOGETHER, first, second),
+            told_of_others(first, second),
+            told_of_parted(first, second),
+        ])
     } else {
         told_of_parted(first, second)
     }
@@ -160,8 +205,11 @@ fn told_of_signs(tokens: &[Token<'_>], at: usize, first: Sign, second: Sign) -> 
 
 /// What is told of the token of a number and the one before it, if both are signs.
 pub fn pair_at(tokens: &[Token<'_>], at: usize) -> Option<Advice> {
-    match (kind_at(tokens, before(at, 1)), kind_at(tokens, at)) {
-        (Kind::Sign(first), Kind::Sign(second)) => told_of_signs(tokens, at, first, second),
+    let Kind::Sign(first) = kind_at(tokens, before(at, 1)) else {
+        return None;
+    };
+    match kind_at(tokens, at) {
+        Kind::Sign(second) => told_of_signs(tokens, at, first, second),
         _ => None,
     }
 }

@@ -29,6 +29,36 @@ impl Grouped {
         self.kinds.contains(&TokenKind::Text) || is_in_any(&self.groups, TokenKind::Text)
     }
 
+    /// Whether a value is in the list, as a whole group.
+    pub fn has_value(&self) -> bool {
+        for group in &self.groups {
+            if matches!(*group, Group::Expression | Group::Operand | Group::Value) {
+                return true;
+            }
+        }
+        false
+    }
+
+    /// Whether an operator between two operands is in the list: `&&` alone, or a whole group.
+    pub fn has_operator(&self) -> bool {
+        for group in &self.groups {
+            if matches!(*group, Group::Operator | Group::BinaryOperator) {
+                return true;
+            }
+        }
+        self.has_alone(Sign::AndAlso)
+    }
+
+    /// Whether the beginnings of all directives are in the list.
+    pub fn has_directive(&self) -> bool {
+        for group in &self.groups {
+            if matches!(*group, Group::Directive) {
+                return true;
+            }
+        }
+        false
+    }
+
     /// Whether a sign is in the list and in no group.
     pub fn has_alone(&self, sign: Sign) -> bool {
         self.kinds.contains(&TokenKind::Sign(sign))
@@ -277,10 +307,29 @@ fn whole_groups(alloc: Global, kinds: &[TokenKind]) -> Result<Vec<Group>, AllocE
     let mut groups = Vec::new(alloc);
     for group in &GROUPS {
         if has_all(kinds, members(*group)) && !is_covered(&groups, *group) {
-            groups.push(*group)?;
+            let Ok(()) = groups.push(*group) else {
+                return Err(AllocError);
+            };
         }
     }
     Ok(groups)
+}
+
+/// The kinds that are in none of these groups.
+fn alone(
+    alloc: Global,
+    kinds: &[TokenKind],
+    groups: &[Group],
+) -> Result<Vec<TokenKind>, AllocError> {
+    let mut alone = Vec::new(alloc);
+    for kind in kinds {
+        if !is_in_any(groups, *kind) {
+            let Ok(()) = alone.push(*kind) else {
+                return Err(AllocError);
+            };
+        }
+    }
+    Ok(alone)
 }
 
 /// Kinds in groups. A group is named only if all its kinds are in the list.
@@ -289,15 +338,11 @@ fn whole_groups(alloc: Global, kinds: &[TokenKind]) -> Result<Vec<Group>, AllocE
 ///
 /// `AllocError` if memory is refused.
 pub fn in_groups(alloc: Global, kinds: &[TokenKind]) -> Result<Grouped, AllocError> {
-    let groups = whole_groups(alloc, kinds)?;
-    let mut alone = Vec::new(alloc);
-    for kind in kinds {
-        if !is_in_any(&groups, *kind) {
-            alone.push(*kind)?;
-        }
+    let Ok(groups) = whole_groups(alloc, kinds) else {
+        return Err(AllocError);
+    };
+    match alone(alloc, kinds, &groups) {
+        Ok(kinds) => Ok(Grouped { kinds, groups }),
+        Err(refused) => Err(refused),
     }
-    Ok(Grouped {
-        kinds: alone,
-        groups,
-    })
 }

@@ -11,4 +11,4 @@ pub use fitting::expected;
 pub use groups::{Group, Grouped, in_groups};
 pub use kinds::TokenKind;
 pub use laws::one_place;
-pub use words::Expected;
+pub use words::{Expected, RESERVED_WORDS};

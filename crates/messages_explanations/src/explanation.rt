@@ -31,20 +31,26 @@ pub struct Example {
     pub mended: &'static str,
 }
 
-/// A source of several lines, four columns to the right.
+/// A source of several lines of ASCII, four columns to the right.
 #[derive(Clone, Copy)]
 struct Shifted(&'static str);
 
 impl fmt::Display for Shifted {
     fn fmt<W: fmt::Write>(&self, f: &mut fmt::Formatter<W>) -> fmt::Result {
-        for line in self.0.lines() {
-            if line.is_empty() {
-                f.write_str("\n")?;
-            } else {
-                writeln!(f, "    {line}")?;
+        let mut begins_line = true;
+        for byte in self.0.as_bytes() {
+            let ends_line = *byte == b'\n';
+            if begins_line && !ends_line {
+                f.write_str("    ")?;
             }
+            f.write_char(char::from(*byte))?;
+            begins_line = ends_line;
         }
-        Ok(())
+        if begins_line {
+            Ok(())
+        } else {
+            f.write_str("\n")
+        }
     }
 }
 

@@ -1,12 +1,13 @@
 //! What is told within expressions.
 
 use messages_contexts::{
-    Definition, Known, before, begins_line, behind, closes_after, ends_operand, is_joined, is_name,
-    is_named, is_routine, is_sign, is_text, is_word, kind_at, known_as, open_parenthesis, start_of,
+    Definition, Known, before, begins_line, behind, closes_after_any, ends_operand, is_any_sign,
+    is_any_word, is_joined, is_name, is_named, is_routine, is_sign, is_text, is_word, kind_at,
+    known_as, open_parenthesis, start_of,
 };
-use messages_definitions::{Advice, joins_equals};
+use messages_definitions::{Advice, first_of, joins_equals};
 use messages_features::{ADDRESSES, ALTERNATIVES, MESSAGES, NESTED_NEGATIONS};
-use syntax::{Kind, Sign, Token, Word};
+use syntax_lexer::{Kind, Sign, Token, Word};
 
 const WHOLE: &str = "numbers are whole: write no point";
 
@@ -84,7 +85,7 @@ fn closed_before(tokens: &[Token<'_>], at: usize, closed: usize) -> usize {
 
 /// Whether the token of a number is `true` or `false`.
 fn is_truth(tokens: &[Token<'_>], at: usize) -> bool {
-    is_word(tokens, at, Word::True) || is_word(tokens, at, Word::False)
+    is_any_word(tokens, at, &[Word::True, Word::False])
 }
 
 /// What is told of a second comparison, after an `or` or not, with `true` or not.
@@ -100,11 +101,17 @@ fn second_comparison(is_after_or: bool, is_truth: bool) -> Advice {
 
 /// Whether the token of a number is the `)` of a condition or of a loop.
 pub fn closes_condition(tokens: &[Token<'_>], at: usize) -> bool {
-    closes_after(tokens, at, Word::If)
-        || closes_after(tokens, at, Word::While)
-        || closes_after(tokens, at, Word::For)
-        || closes_after(tokens, at, Word::Objectloop)
-        || closes_after(tokens, at, Word::Switch)
+    closes_after_any(
+        tokens,
+        at,
+        &[
+            Word::If,
+            Word::While,
+            Word::For,
+            Word::Objectloop,
+            Word::Switch,
+        ],
+    )
 }
 
 /// Whether the token of a number is `{` with no blank after a name.
@@ -124,17 +131,17 @@ fn index(tokens: &[Token<'_>], at: usize) -> Option<Advice> {
 
 /// Whether a value that is used begins after the token of a number.
 fn begins_value(tokens: &[Token<'_>], at: usize) -> bool {
-    is_sign(tokens, at, Sign::Assign)
-        || is_sign(tokens, at, Sign::Comma)
-        || is_sign(tokens, at, Sign::OpenParenthesis)
-        || is_word(tokens, at, Word::Return)
+    is_any_sign(
+        tokens,
+        at,
+        &[Sign::Assign, Sign::Comma, Sign::OpenParenthesis],
+    ) || is_word(tokens, at, Word::Return)
 }
 
 /// What is told of the token of a number, which is `[`.
 fn bracket(tokens: &[Token<'_>], at: usize) -> Option<Advice> {
     let last = before(at, 1);
-    let is_after_arrow = is_sign(tokens, last, Sign::Arrow)
-        || is_sign(tokens, last, Sign::LongArrow);
+    let is_after_arrow = is_any_sign(tokens, last, &[Sign::Arrow, Sign::LongArrow]);
     if is_after_arrow {
         Some(Advice::Do("write the index right after the arrow, as in 'a->0'"))
     } else if is_sign(tokens, before(at, 2), Sign::Dot) {
@@ -159,7 +166,7 @@ fn bracket(tokens: &[Token<'_>], at: usize) -> Option<Advice> {
 
 /// Whether an arrow is before the token of a number in its operand.
 fn is_after_entry(tokens: &[Token<'_>], at: usize) -> bool {
-    is_sign(tokens, before(at, 2), Sign::Arrow) || is_sign(tokens, before(at, 2), Sign::LongArrow)
+    is_any_sign(tokens, before(at, 2), &[Sign::Arrow, Sign::LongArrow])
 }
 
 /// What is told of an arrow.
@@ -202,17 +209,17 @@ fn is_number(tokens: &[Token<'_>], at: usize) -> bool {
 
 /// What is told of `,` within a number.
 fn comma_in_number(tokens: &[Token<'_>], at: usize) -> Option<Advice> {
-    let is_within = is_joined(tokens, at)
-        && is_joined(tokens, behind(at, 1))
-        && is_sign(tokens, at, Sign::Comma);
-    match (
-        kind_at(tokens, before(at, 1)),
-        kind_at(tokens, behind(at, 1)),
-    ) {
-        (Kind::Number(_), Kind::Number(_)) if is_within => {
-            Some(Advice::Do("write the number without ','"))
-        }
-        _ => None,
+    let last = before(at, 1);
+    let next = behind(at, 1);
+    let is_within = is_sign(tokens, at, Sign::Comma)
+        && is_joined(tokens, at)
+        && is_joined(tokens, next)
+        && is_number(tokens, last)
+        && is_number(tokens, next);
+    if is_within {
+        Some(Advice::Do("write the number without ','"))
+    } else {
+        None
     }
 }
 
@@ -241,9 +248,7 @@ fn after_dot(tokens: &[Token<'_>], at: usize) -> Option<Advice> {
     let last = before(at, 1);
     let is_after_dot = is_sign(tokens, last, Sign::Dot);
     let is_before_name = is_after_dot
-        || is_word(tokens, last, Word::Has)
-        || is_word(tokens, last, Word::Hasnt)
-        || is_word(tokens, last, Word::Provides);
+        || is_any_word(tokens, last, &[Word::Has, Word::Hasnt, Word::Provides]);
     match kind_at(tokens, at) {
         Kind::Reserved(_) if is_after_dot && begins_line(tokens, at) => {
             Some(Advice::Do("write ';' in the place of the '.' before it"))
@@ -252,10 +257,18 @@ fn after_dot(tokens: &[Token<'_>], at: usize) -> Option<Advice> {
         Kind::Text(_) | Kind::DictionaryWord(_) | Kind::Character(_) if is_before_name => {
             Some(Advice::Do("write the name without quotes"))
         }
-        Kind::Sign(Sign::OpenParenthesis) if is_before_name => {
-            Some(Advice::Do("write the name without parentheses"))
+        Kind::Sign(sign) if is_before_name => {
+            sign_in_place_of_name(sign, is_word(tokens, last, Word::Has))
         }
-        Kind::Sign(Sign::Tilde | Sign::Not) if is_word(tokens, last, Word::Has) => {
+        _ => None,
+    }
+}
+
+/// What is told of a sign in the place of a name, after `has` or not.
+fn sign_in_place_of_name(sign: Sign, is_after_has: bool) -> Option<Advice> {
+    match sign {
+        Sign::OpenParenthesis => Some(Advice::Do("write the name without parentheses")),
+        Sign::Tilde | Sign::Not if is_after_has => {
             Some(Advice::Do("write 'hasnt' in the place of 'has'"))
         }
         _ => None,
@@ -292,10 +305,11 @@ fn address(tokens: &[Token<'_>], at: usize) -> Option<Advice> {
 
 /// Whether a condition begins after the token of a number, and no value in a list.
 fn begins_condition(tokens: &[Token<'_>], at: usize) -> bool {
-    is_sign(tokens, at, Sign::OpenParenthesis)
-        || is_sign(tokens, at, Sign::AndAlso)
-        || is_sign(tokens, at, Sign::OrElse)
-        || is_sign(tokens, at, Sign::Colon) && is_enclosed(tokens, at)
+    is_any_sign(
+        tokens,
+        at,
+        &[Sign::OpenParenthesis, Sign::AndAlso, Sign::OrElse],
+    ) || is_sign(tokens, at, Sign::Colon) && is_enclosed(tokens, at)
 }
 
 /// What is told of a sign before an operand.
@@ -335,8 +349,7 @@ fn sign_before_operand(sign: Sign, is_after_operator: bool) -> Option<Advice> {
 /// What is told of a text in an expression.
 fn text(tokens: &[Token<'_>], at: usize) -> Option<Advice> {
     let last = before(at, 1);
-    let is_compared = is_sign(tokens, last, Sign::Equal)
-        || is_sign(tokens, last, Sign::NotEqual)
+    let is_compared = is_any_sign(tokens, last, &[Sign::Equal, Sign::NotEqual])
         || is_word(tokens, last, Word::Or);
     let is_of_read = is_word(tokens, last, Word::Read);
     if is_text(tokens, at) && is_compared && !is_of_read {
@@ -348,17 +361,19 @@ fn text(tokens: &[Token<'_>], at: usize) -> Option<Advice> {
 
 /// What is told of a token that does not fit in an expression.
 pub fn in_expression(tokens: &[Token<'_>], at: usize) -> Option<Advice> {
-    let told = index(tokens, at)
-        .or(after_dot(tokens, at))
-        .or(part_of_number(tokens, at))
-        .or(comma_in_number(tokens, at))
-        .or(message(tokens, at))
-        .or(address(tokens, at))
-        .or(text(tokens, at));
+    let told = first_of(&[
+        index(tokens, at),
+        after_dot(tokens, at),
+        part_of_number(tokens, at),
+        comma_in_number(tokens, at),
+        message(tokens, at),
+        address(tokens, at),
+        text(tokens, at),
+    ]);
     if told.is_some() {
         return told;
     }
-    if is_sign(tokens, at, Sign::Arrow) || is_sign(tokens, at, Sign::LongArrow) {
+    if is_any_sign(tokens, at, &[Sign::Arrow, Sign::LongArrow]) {
         arrow(tokens, at)
     } else if is_word(tokens, at, Word::Or) {
         Some(Advice::Absent("'or' except after '==' and '~='", ALTERNATIVES))

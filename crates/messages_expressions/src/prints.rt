@@ -1,12 +1,13 @@
 //! What is told within a `print`.
 
 use messages_contexts::{
-    before, begins_line, begins_statement, behind, ends_operand, is_joined, is_name, is_named,
-    is_routine, is_sign, is_text, is_unknown, is_word, kind_at, last_word, open_parenthesis,
+    before, begins_line, begins_statement, behind, ends_operand, has_word_before, is_any_named,
+    is_any_sign, is_any_word, is_joined, is_name, is_named, is_routine, is_sign, is_text,
+    is_unknown, is_word, kind_at, open_parenthesis,
 };
-use messages_definitions::{Advice, is_article, joins_equals};
+use messages_definitions::{Advice, first_of, is_article, joins_equals};
 use messages_features::PRINT_FORMS;
-use syntax::{Kind, Sign, Token, Word};
+use syntax_lexer::{Kind, Sign, Token, Word};
 
 /// The words of forms of `print` of Inform 6 that there are not.
 const FORMS: [&[u8]; 8] = [
@@ -30,25 +31,18 @@ fn is_reserved(tokens: &[Token<'_>], number: usize) -> bool {
 
 /// Whether the token of a number is in a `print` or a `print_ret`.
 fn is_in_print(tokens: &[Token<'_>], at: usize) -> bool {
-    last_word(tokens, at, Word::Print).is_some() || last_word(tokens, at, Word::PrintRet).is_some()
+    has_word_before(tokens, at, &[Word::Print, Word::PrintRet])
 }
 
 /// Whether an item of a `print` begins with the token of a number.
 fn begins_item(tokens: &[Token<'_>], at: usize) -> bool {
     let last = before(at, 1);
-    is_word(tokens, last, Word::Print)
-        || is_word(tokens, last, Word::PrintRet)
-        || is_sign(tokens, last, Sign::Comma)
+    is_any_word(tokens, last, &[Word::Print, Word::PrintRet]) || is_sign(tokens, last, Sign::Comma)
 }
 
 /// Whether the token of a number is a word of a form of `print` that there is not.
 fn is_form(tokens: &[Token<'_>], number: usize) -> bool {
-    for form in &FORMS {
-        if is_named(tokens, number, form) {
-            return true;
-        }
-    }
-    false
+    is_any_named(tokens, number, &FORMS)
 }
 
 /// Whether the token of a number is a word of a form of `print` that there is not, in parentheses.
@@ -111,14 +105,13 @@ fn text(tokens: &[Token<'_>], at: usize) -> Option<Advice> {
 
 /// What is told of a text after a form of `print`.
 fn after_form(tokens: &[Token<'_>], at: usize) -> Option<Advice> {
-    match kind_at(tokens, before(at, 2)) {
-        Kind::Reserved(Word::Char) => {
-            Some(Advice::Do("write a character in single quotes, as in '(char) 'a''"))
-        }
-        Kind::Reserved(Word::Object) => {
-            Some(Advice::Do("write the name of the object, or the text without '(object)'"))
-        }
-        _ => after_name(tokens, at),
+    let form = before(at, 2);
+    if is_word(tokens, form, Word::Char) {
+        Some(Advice::Do("write a character in single quotes, as in '(char) 'a''"))
+    } else if is_word(tokens, form, Word::Object) {
+        Some(Advice::Do("write the name of the object, or the text without '(object)'"))
+    } else {
+        after_name(tokens, at)
     }
 }
 
@@ -158,14 +151,14 @@ fn form(tokens: &[Token<'_>], at: usize) -> Option<Advice> {
 
 /// Whether the token of a number is `object` or `char` after an operand and `(`.
 fn is_form_after_operand(tokens: &[Token<'_>], at: usize) -> bool {
-    (is_word(tokens, at, Word::Object) || is_word(tokens, at, Word::Char))
+    is_any_word(tokens, at, &[Word::Object, Word::Char])
         && is_sign(tokens, before(at, 1), Sign::OpenParenthesis)
         && ends_operand(tokens, before(at, 2))
 }
 
 /// Whether the token of a number is another bracket than `(` before a form.
 fn opens_form(tokens: &[Token<'_>], at: usize) -> bool {
-    is_sign(tokens, at, Sign::OpenBrace) || is_sign(tokens, at, Sign::OpenBracket)
+    is_any_sign(tokens, at, &[Sign::OpenBrace, Sign::OpenBracket])
 }
 
 /// Whether the token of a number is in parentheses that are the first item of a `print`.
@@ -187,11 +180,7 @@ fn after_name(tokens: &[Token<'_>], at: usize) -> Option<Advice> {
     let is_value = match kind_at(tokens, at) {
         Kind::Name(_) | Kind::Number(_) | Kind::DictionaryWord(_) | Kind::Character(_) => true,
         Kind::Text(_) => is_unknown(tokens, name),
-        _ => {
-            is_word(tokens, at, Word::Parent)
-                || is_word(tokens, at, Word::Child)
-                || is_word(tokens, at, Word::Sibling)
-        }
+        _ => { is_any_word(tokens, at, &[Word::Parent, Word::Child, Word::Sibling]) }
     };
     if is_form && is_value {
         Some(Advice::Absent("this form of print", PRINT_FORMS))
@@ -207,7 +196,7 @@ fn without_item(tokens: &[Token<'_>], at: usize) -> Option<Advice> {
         None
     } else if is_sign(tokens, last, Sign::Comma) {
         Some(Advice::Do("remove the ',' before it"))
-    } else if is_word(tokens, last, Word::Print) || is_word(tokens, last, Word::PrintRet) {
+    } else if is_any_word(tokens, last, &[Word::Print, Word::PrintRet]) {
         Some(Advice::Do("write what to print, or 'new_line;'"))
     } else {
         None
@@ -231,7 +220,7 @@ fn after_text(tokens: &[Token<'_>], at: usize) -> Option<Advice> {
 
 /// What is told of a form of `print` where no `print` is.
 fn form_alone(tokens: &[Token<'_>], at: usize) -> Option<Advice> {
-    let is_form = is_word(tokens, at, Word::Object) || is_word(tokens, at, Word::Char);
+    let is_form = is_any_word(tokens, at, &[Word::Object, Word::Char]);
     let last = before(at, 1);
     if is_form && is_sign(tokens, last, Sign::OpenParenthesis) && begins_statement(tokens, last) {
         Some(Advice::Do("write 'print' before the form"))
@@ -309,16 +298,19 @@ pub fn in_print(tokens: &[Token<'_>], at: usize) -> Option<Advice> {
     if is_text(tokens, before(at, 1)) && joins_texts(tokens, at) && !is_last(tokens, at) {
         return Some(Advice::Do("write ',' between the items of a 'print'"));
     }
-    without_item(tokens, at)
-        .or(form(tokens, at))
-        .or(after_name(tokens, at))
+    first_of(&[
+        without_item(tokens, at),
+        form(tokens, at),
+        after_name(tokens, at),
+    ])
 }
 
 /// Whether a statement may end with the token of a number: a block ends after it, or a line.
 fn is_last(tokens: &[Token<'_>], at: usize) -> bool {
     let next = behind(at, 1);
-    is_sign(tokens, next, Sign::Semicolon)
-        || is_sign(tokens, next, Sign::CloseBrace)
-        || is_sign(tokens, next, Sign::CloseBracket)
-        || begins_line(tokens, next) && !is_text(tokens, next)
+    is_any_sign(
+        tokens,
+        next,
+        &[Sign::Semicolon, Sign::CloseBrace, Sign::CloseBracket],
+    ) || begins_line(tokens, next) && !is_text(tokens, next)
 }

@@ -30,14 +30,19 @@ pub struct Absent<N>(pub N, pub &'static Feature);
 #[derive(Clone, Copy)]
 pub struct Instead(pub &'static Feature);
 
-/// A text with quotes in the place of backquotes.
+/// A text of ASCII with quotes in the place of backquotes.
 #[derive(Clone, Copy)]
 struct Plain(&'static str);
 
+/// A sign, or a quote in the place of a backquote.
+fn quoted(byte: u8) -> char {
+    if byte == b'`' { '\'' } else { char::from(byte) }
+}
+
 impl Display for Plain {
     fn fmt<W: fmt::Write>(&self, f: &mut Formatter<W>) -> fmt::Result {
-        for sign in self.0.chars() {
-            f.write_char(if sign == '`' { '\'' } else { sign })?;
+        for byte in self.0.as_bytes() {
+            f.write_char(quoted(*byte))?;
         }
         Ok(())
     }

@@ -24,8 +24,8 @@ use Rattle.checker_statements.specs.Statements.{room_breaches, heading_need, mov
 use Rattle.checker_statements.specs.Statements.{range_breaches, item_breaches, flag_breaches, loop_breaches}
 use Rattle.checker_statements.specs.Statements.{statement_breaches, statements_breaches, cases_breaches}
 use Rattle.checker.specs.Programs.{program_breaches, directives_breaches, directive_breaches, locals_breaches}
-use Rattle.messages_temporaries.specs.Needs.{PlacedNeed, HasFew, item_needs, statement_needs, statements_needs}
-use Rattle.messages_temporaries.specs.Needs.{cases_needs, directive_needs, program_needs}
+use Rattle.messages_figures.specs.Needs.{PlacedNeed, HasFew, item_needs, statement_needs, statements_needs}
+use Rattle.messages_figures.specs.Needs.{cases_needs, directive_needs, program_needs}
 
 few : (p : Position) (n : ℕ) (rest : List Breach) → room_breaches p n ++ rest ≡ [] → n ≤ 48
 few p n rest h =

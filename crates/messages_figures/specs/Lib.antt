@@ -1,2 +1,4 @@
+pub mod Needs
+pub mod Walk
 pub mod Figures
 pub mod Measured

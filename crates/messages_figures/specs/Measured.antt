@@ -11,7 +11,7 @@ use Rattle.story.specs.declared.sized.Limit.{Limit}
 use Rattle.story.specs.Large.{limits_by}
 use Rattle.story.specs.Refused.{IsTreeOf, Limits, RefusesBy}
 use Rattle.story.specs.Refused.{too_large}
-use Rattle.messages_temporaries.specs.Needs.{IsFirstGreatest, program_needs}
+use Rattle.messages_figures.specs.Needs.{IsFirstGreatest, program_needs}
 use Rattle.messages_figures.specs.declared.measuring.Figures.{Figures}
 use Rattle.messages_figures.specs.Figures.{AreFiguresOfChecked, attributes_in, properties_in, counts_in}
 

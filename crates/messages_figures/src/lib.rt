@@ -3,12 +3,17 @@
 
 mod definitions;
 mod measuring;
+mod needs;
 mod routine_figures;
+mod sought;
+mod statements;
 mod table;
 mod table_bytes;
 
 pub use measuring::{Counts, Figures, measure};
 pub use routine_figures::RoutineFigures;
+pub use sought::Temporaries;
+pub use statements::temporaries_at;
 pub use story::Limit;
 pub use story_file::greatest_length;
 pub use table_bytes::{MOST_TABLE_BYTES, TableBytes};

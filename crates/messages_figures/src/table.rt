@@ -2,12 +2,12 @@
 
 use crate::measuring::{Counts, Figures};
 use crate::routine_figures::RoutineFigures;
+use crate::sought::Temporaries;
 use crate::table_bytes::{FIXED_LENGTH, MOST_TABLE_BYTES, TableBytes};
 use meaning::greatest_weight;
 use meaning::limits::{
     GREATEST_ROUTINE_WEIGHT, MOST_GLOBALS, MOST_OBJECTS, MOST_PROPERTIES, MOST_TEMPORARIES,
 };
-use messages_temporaries::Temporaries;
 use std::fmt::{self, Display, Formatter};
 use story::Limit;
 use story_file::greatest_length;

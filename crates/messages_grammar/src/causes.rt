@@ -2,12 +2,12 @@
 
 use crate::mending::mended;
 use crate::misspelt::misspelt;
-use crate::repairs::Trial;
+use crate::repairs::{Change, Trial};
 use messages_advice::{advice_at, late_advice_at};
 use messages_contexts::{
     Definition, around, before, begins_line, begun_at, behind, definition_of, divides_at,
-    ends_within, is_after_word, is_behind_has, is_sign, is_text, is_unknown, is_word, kind_at,
-    last_open, last_word, open_parenthesis, owns_parentheses, start_of, switch_around,
+    ends_within, is_after_word, is_any_word, is_behind_has, is_sign, is_text, is_unknown, is_word,
+    kind_at, last_open, last_word, open_parenthesis, owns_parentheses, start_of, switch_around,
 };
 use messages_definitions::Advice;
 use messages_expected::Grouped;
@@ -195,7 +195,7 @@ fn is_reserved(tokens: &[Token<'_>], number: usize) -> bool {
 /// Whether the token of a number is `(char` or `(object`, as a form of `print` begins.
 fn begins_form(tokens: &[Token<'_>], number: usize) -> bool {
     is_sign(tokens, before(number, 1), Sign::OpenParenthesis)
-        && (is_word(tokens, number, Word::Char) || is_word(tokens, number, Word::Object))
+        && is_any_word(tokens, number, &[Word::Char, Word::Object])
 }
 
 /// Whether the token of a number is a reserved word that may have been meant as a name: it has no
@@ -214,15 +214,20 @@ fn is_in_place_of_name(tokens: &[Token<'_>], number: usize) -> bool {
         && start_of(tokens, number) == before(number, 1)
 }
 
+/// A name in the place of the token of a number.
+fn as_name<'a>(number: usize) -> Change<'a> {
+    Change::Instead(number, Kind::Name(b"name"))
+}
+
 /// The number of the reserved word for which a name would do: the token of a number itself, or the
 /// one before it.
-fn reserved_name(trial: &mut Trial<'_>, number: usize) -> Option<usize> {
+fn reserved_name(trial: &mut Trial<'_, '_>, number: usize) -> Option<usize> {
     let last = before(number, 1);
-    if is_in_place_of_name(&trial.tokens, number)
-        || is_bare_word(&trial.tokens, number) && trial.name_helps(number, number)
+    if is_in_place_of_name(trial.tokens, number)
+        || is_bare_word(trial.tokens, number) && trial.helps(number, as_name(number))
     {
         Some(number)
-    } else if may_be_meant(&trial.tokens, last) && trial.name_helps(number, last) {
+    } else if may_be_meant(trial.tokens, last) && trial.helps(number, as_name(last)) {
         Some(last)
     } else {
         None
@@ -265,10 +270,10 @@ pub fn is_likely(tokens: &[Token<'_>], number: usize, sign: Sign) -> bool {
 }
 
 /// The sign that may be missing before the token of a number.
-fn missing_before(trial: &mut Trial<'_>, number: usize) -> Option<Missing> {
+fn missing_before(trial: &mut Trial<'_, '_>, number: usize) -> Option<Missing> {
     for missing in &SIGNS {
-        if is_likely(&trial.tokens, number, missing.sign)
-            && trial.sign_helps(number, number, missing.sign)
+        if is_likely(trial.tokens, number, missing.sign)
+            && trial.helps(number, Change::Before(number, missing.sign))
         {
             return Some(*missing);
         }
@@ -278,11 +283,13 @@ fn missing_before(trial: &mut Trial<'_>, number: usize) -> Option<Missing> {
 
 /// Where a `;` may be missing at the end of a line: before the token of a number, or before the
 /// one that is before it.
-fn unended_line(trial: &mut Trial<'_>, number: usize) -> Option<usize> {
+fn unended_line(trial: &mut Trial<'_, '_>, number: usize) -> Option<usize> {
     let last = before(number, 1);
-    if begins_line(&trial.tokens, last) && trial.sign_helps(number, last, Sign::Semicolon) {
+    if begins_line(trial.tokens, last)
+        && trial.helps(number, Change::Before(last, Sign::Semicolon))
+    {
         Some(last)
-    } else if begins_line(&trial.tokens, number) && trial.fits_after_semicolon(number) {
+    } else if begins_line(trial.tokens, number) && trial.fits_after_semicolon(number) {
         Some(number)
     } else {
         None
@@ -305,7 +312,7 @@ fn is_value(word: Word) -> bool {
 
 /// Which sign may be missing, if one may, or else whether the token of a number is one too many.
 /// Each sign costs a parse, so none is tried in a source of very many tokens.
-fn missing_sign(trial: &mut Trial<'_>, number: usize) -> Cause {
+fn missing_sign(trial: &mut Trial<'_, '_>, number: usize) -> Cause {
     if trial.tokens.len() > MOST_TOKENS {
         return Cause::Unknown;
     }
@@ -315,9 +322,9 @@ fn missing_sign(trial: &mut Trial<'_>, number: usize) -> Cause {
     if let Some(place) = unended_line(trial, number) {
         return Cause::Missing(SEMICOLON, place);
     }
-    if trial.end_of_routine_helps(number) {
+    if trial.helps(number, Change::EndOfRoutine(number)) {
         Cause::Missing(END_OF_ROUTINE, number)
-    } else if may_be_extra(&trial.tokens, number) && trial.absence_helps(number) {
+    } else if may_be_extra(trial.tokens, number) && trial.absence_helps(number) {
         Cause::Extra
     } else {
         Cause::Unknown
@@ -347,28 +354,29 @@ fn is_word_in_head(tokens: &[Token<'_>], number: usize) -> bool {
 
 /// Whether a `;` may be missing before the token of a number, which begins a line or is a reserved
 /// word in the head of a routine: a reserved word would fit after it, or what any other token begins.
-fn lacks_semicolon(trial: &mut Trial<'_>, number: usize) -> bool {
-    if !begins_line(&trial.tokens, number) && !is_word_in_head(&trial.tokens, number) {
+fn lacks_semicolon(trial: &mut Trial<'_, '_>, number: usize) -> bool {
+    if !begins_line(trial.tokens, number) && !is_word_in_head(trial.tokens, number) {
         false
-    } else if is_reserved(&trial.tokens, number) {
+    } else if is_reserved(trial.tokens, number) {
         trial.fits_after_semicolon(number)
     } else {
-        trial.sign_helps(number, number, Sign::Semicolon)
+        trial.helps(number, Change::Before(number, Sign::Semicolon))
     }
 }
 
 /// Whether the token of a number is `=`, and `==` in its place would do.
-fn assigns(trial: &mut Trial<'_>, number: usize) -> bool {
-    is_sign(&trial.tokens, number, Sign::Assign) && trial.equality_helps(number)
+fn assigns(trial: &mut Trial<'_, '_>, number: usize) -> bool {
+    is_sign(trial.tokens, number, Sign::Assign)
+        && trial.helps(number, Change::Instead(number, Kind::Sign(Sign::Equal)))
 }
 
 /// What may be the cause of a token that does not fit, and has a number, by the tokens beside it.
-fn beside(trial: &mut Trial<'_>, number: usize) -> Option<Cause> {
-    if is_late_with(&trial.tokens, number) {
+fn beside(trial: &mut Trial<'_, '_>, number: usize) -> Option<Cause> {
+    if is_late_with(trial.tokens, number) {
         Some(Cause::LateWith)
     } else if lacks_semicolon(trial, number) {
         Some(Cause::Missing(SEMICOLON, number))
-    } else if is_repeated(&trial.tokens, number) {
+    } else if is_repeated(trial.tokens, number) {
         Some(Cause::Repeated)
     } else if let Some(place) = reserved_name(trial, number) {
         Some(Cause::Reserved(place))
@@ -381,7 +389,7 @@ fn beside(trial: &mut Trial<'_>, number: usize) -> Option<Cause> {
 
 /// What may be the cause of a token that does not fit, and has a number, if the parser tells by a
 /// small change.
-fn tried(trial: &mut Trial<'_>, number: usize) -> Option<Cause> {
+fn tried(trial: &mut Trial<'_, '_>, number: usize) -> Option<Cause> {
     let cause = beside(trial, number);
     if cause.is_some() {
         return cause;
@@ -396,7 +404,7 @@ fn tried(trial: &mut Trial<'_>, number: usize) -> Option<Cause> {
 /// What may be the cause of a token that does not fit, and has a number. In its place these kinds
 /// are expected.
 pub fn likely_cause(
-    trial: &mut Trial<'_>,
+    trial: &mut Trial<'_, '_>,
     source: &[u8],
     number: usize,
     wanted: Option<&Grouped>,
@@ -406,16 +414,16 @@ pub fn likely_cause(
     {
         return Cause::Misspelt(place, word);
     }
-    if let Some(advice) = advice_at(source, &trial.tokens, number, wanted) {
+    if let Some(advice) = advice_at(source, trial.tokens, number, wanted) {
         return Cause::Told(advice);
     }
     if let Some(cause) = tried(trial, number) {
         return cause;
     }
-    if let Some(missing) = open_at_end(&trial.tokens, number) {
+    if let Some(missing) = open_at_end(trial.tokens, number) {
         return Cause::Missing(missing, number);
     }
-    match late_advice_at(&trial.tokens, number, wanted) {
+    match late_advice_at(trial.tokens, number, wanted) {
         Some(advice) => Cause::Told(advice),
         None => missing_sign(trial, number),
     }

@@ -38,6 +38,14 @@ struct Found<'a, 't> {
     token: Token<'a>,
 }
 
+/// Kinds of tokens in groups.
+fn grouped(alloc: Global, kinds: &[TokenKind]) -> Result<Option<Grouped>, AllocError> {
+    match in_groups(alloc, kinds) {
+        Ok(grouped) => Ok(Some(grouped)),
+        Err(refused) => Err(refused),
+    }
+}
+
 /// The kinds of tokens with which a program begins in the place of the first that does not fit.
 /// `None` in a source of very many tokens.
 fn wanted(alloc: Global, tokens: &[Token<'_>]) -> Result<Option<Grouped>, AllocError>
@@ -46,9 +54,10 @@ fn wanted(alloc: Global, tokens: &[Token<'_>]) -> Result<Option<Grouped>, AllocE
     if tokens.len() > MOST_LISTED {
         return Ok(None);
     }
-    match expected(alloc, tokens)? {
-        None => Ok(None),
-        Some(kinds) => Ok(Some(in_groups(alloc, &kinds)?)),
+    match expected(alloc, tokens) {
+        Ok(None) => Ok(None),
+        Ok(Some(kinds)) => grouped(alloc, &kinds),
+        Err(refused) => Err(refused),
     }
 }
 
@@ -123,12 +132,18 @@ impl Display for Lack {
 
 /// Whether a sign is all that is expected.
 fn is_only(wanted: Expected<'_>, sign: Sign) -> bool {
-    wanted.0.is_some_and(|grouped| grouped.is_only(sign))
+    match wanted.0 {
+        Some(grouped) => grouped.is_only(sign),
+        None => false,
+    }
 }
 
 /// Whether a sign is expected, and not only as the beginning of a group.
 fn is_wanted(wanted: Expected<'_>, sign: Sign) -> bool {
-    wanted.0.is_some_and(|grouped| grouped.has_alone(sign))
+    match wanted.0 {
+        Some(grouped) => grouped.has_alone(sign),
+        None => false,
+    }
 }
 
 /// Whether a token begins a line, and `;` is expected or may be missing before it. Then the place to
@@ -191,14 +206,16 @@ fn missing_before(
 
 /// Whether a token is `}`.
 fn is_brace(token: Token<'_>) -> bool {
-    matches!(token.kind, Kind::Sign(Sign::CloseBrace))
+    match token.kind {
+        Kind::Sign(sign) => matches!(sign, Sign::CloseBrace),
+        _ => false,
+    }
 }
 
 /// What to do about a token that does not fit, by its likely cause, if the sentence ends with that.
 fn remedy_of<'a>(tokens: &[Token<'a>], found: Found<'_, '_>, cause: Cause) -> Option<Remedy<'a>> {
     let last = before(found.number, 1);
     match cause {
-        Cause::Told(Advice::Do(what)) => Some(Remedy::Do(what)),
         Cause::Assigns => Some(Remedy::Do("write '==' to compare")),
         Cause::Inside => Some(Remedy::Do("a definition is not within a routine: move it out")),
         Cause::Extra if is_brace(found.token) => {
@@ -225,8 +242,24 @@ fn remedied(alloc: Global, found: Found<'_, '_>, remedy: Remedy<'_>) -> Result<S
     format!(in alloc; "{wanted} expected, not {met}: {remedy}")
 }
 
-/// What is wrong with a token that is of another language, or is a misspelt or a reserved word, the
-/// token of a number.
+/// What is wrong with a token that is a form of another language, or a slip of a known kind.
+fn told(
+    alloc: Global,
+    tokens: &[Token<'_>],
+    found: Found<'_, '_>,
+    advice: Advice,
+) -> Result<String, AllocError> {
+    match advice {
+        Advice::Do(what) => remedied(alloc, found, Remedy::Do(what)),
+        Advice::Absent(what, feature) => format!(in alloc; "{}", Absent(what, feature)),
+        Advice::Word(number, feature) => {
+            format!(in alloc; "{}", Absent(Quoted(text_at(tokens, number)), feature))
+        }
+    }
+}
+
+/// What is wrong with a token that is a misspelt or a reserved word, the token of a number, or any
+/// other.
 fn by_word(
     alloc: Global,
     tokens: &[Token<'_>],
@@ -235,9 +268,6 @@ fn by_word(
 ) -> Result<String, AllocError> {
     let wanted = found.wanted;
     match cause {
-        Cause::Told(Advice::Word(number, feature)) => {
-            format!(in alloc; "{}", Absent(Quoted(text_at(tokens, number)), feature))
-        }
         Cause::Misspelt(place, word) => {
             let name = Quoted(text_at(tokens, place));
             let meant = TokenKind::Reserved(word);
@@ -263,9 +293,7 @@ fn at_token(
     }
     match cause {
         Cause::LateWith => String::from_str(alloc, "'with' must be before 'has'"),
-        Cause::Told(Advice::Absent(what, feature)) => {
-            format!(in alloc; "{}", Absent(what, feature))
-        }
+        Cause::Told(advice) => told(alloc, tokens, found, advice),
         Cause::Repeated => {
             let wanted = found.wanted;
             format!(in alloc; "{wanted} expected: {} is there twice", Met(found.token))
@@ -306,24 +334,40 @@ fn by_cause(
 pub fn misfit_at<'a>(
     alloc: Global,
     source: &[u8],
-    tokens: Vec<Token<'a>>,
+    tokens: &[Token<'a>],
     number: usize,
     token: Token<'a>,
 ) -> Result<Misfit, AllocError>
-    requires { EndsOnce (lexemes tokens.items) }
+    requires { EndsOnce (lexemes tokens.now) }
 {
-    let grouped = wanted(alloc, &tokens)?;
-    let mut trial = Trial::of(alloc, tokens);
-    let cause = likely_cause(&mut trial, source, number, grouped.as_ref());
-    if trial.is_refused {
-        return Err(AllocError);
+    match wanted(alloc, tokens) {
+        Ok(grouped) => {
+            let wanted = Expected(grouped.as_ref());
+            let found = Found {
+                wanted,
+                number,
+                token,
+            };
+            explained(alloc, source, tokens, found)
+        }
+        Err(refused) => Err(refused),
     }
-    let found = Found {
-        wanted: Expected(grouped.as_ref()),
-        number,
-        token,
-    };
-    by_cause(alloc, &trial.tokens, found, cause)
+}
+
+/// What is wrong with the first token that does not fit.
+fn explained(
+    alloc: Global,
+    source: &[u8],
+    tokens: &[Token<'_>],
+    found: Found<'_, '_>,
+) -> Result<Misfit, AllocError> {
+    let mut trial = Trial::of(alloc, tokens);
+    let cause = likely_cause(&mut trial, source, found.number, found.wanted.0);
+    if trial.is_refused {
+        Err(AllocError)
+    } else {
+        by_cause(alloc, tokens, found, cause)
+    }
 }
 
 /// What is wrong with a token that is nested too deep.

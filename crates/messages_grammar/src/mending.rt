@@ -3,8 +3,8 @@
 use crate::causes::{Cause, END_OF_ROUTINE, SEMICOLON, SIGNS, is_likely, may_be_extra};
 use crate::repairs::{Change, Trial};
 use messages_contexts::{
-    Definition, before, begins_line, begun_at, behind, definition_of, is_in_routine, is_sign,
-    is_word, kind_at, start_of,
+    Definition, before, begins_line, begun_at, behind, definition_of, is_any_word, is_in_routine,
+    is_sign, kind_at, start_of,
 };
 use syntax::{Kind, Sign, Token, Word};
 
@@ -28,10 +28,10 @@ fn is_empty_call(tokens: &[Token<'_>], number: usize, sign: Sign) -> bool {
 }
 
 /// A sign with which the tokens are a program before the token of a number.
-fn with_sign(trial: &mut Trial<'_>, number: usize) -> Option<Cause> {
+fn with_sign(trial: &mut Trial<'_, '_>, number: usize) -> Option<Cause> {
     for missing in &SIGNS {
-        if is_likely(&trial.tokens, number, missing.sign)
-            && !is_empty_call(&trial.tokens, number, missing.sign)
+        if is_likely(trial.tokens, number, missing.sign)
+            && !is_empty_call(trial.tokens, number, missing.sign)
             && trial.mends(Change::Before(number, missing.sign))
         {
             return Some(Cause::Missing(*missing, number));
@@ -45,13 +45,13 @@ fn with_sign(trial: &mut Trial<'_>, number: usize) -> Option<Cause> {
 }
 
 /// A sign with which the tokens are a program in the place of that of a number.
-fn other_sign(trial: &mut Trial<'_>, number: usize) -> Option<Sign> {
-    match kind_at(&trial.tokens, number) {
+fn other_sign(trial: &mut Trial<'_, '_>, number: usize) -> Option<Sign> {
+    match kind_at(trial.tokens, number) {
         Kind::Sign(_) => {}
         _ => return None,
     }
     for sign in &OTHERS {
-        let may_be = !matches!(sign, Sign::Equal) || is_sign(&trial.tokens, number, Sign::Assign);
+        let may_be = !matches!(sign, Sign::Equal) || is_sign(trial.tokens, number, Sign::Assign);
         if may_be && trial.mends(Change::Instead(number, Kind::Sign(*sign))) {
             return Some(*sign);
         }
@@ -61,10 +61,10 @@ fn other_sign(trial: &mut Trial<'_>, number: usize) -> Option<Sign> {
 
 /// Whether the tokens are a program with `,` in the place of a `;` before the token of a number,
 /// which is `,`.
-fn needs_comma_before(trial: &mut Trial<'_>, number: usize) -> bool {
-    let last = before(start_of(&trial.tokens, number), 1);
-    is_sign(&trial.tokens, number, Sign::Comma)
-        && is_sign(&trial.tokens, last, Sign::Semicolon)
+fn needs_comma_before(trial: &mut Trial<'_, '_>, number: usize) -> bool {
+    let last = before(start_of(trial.tokens, number), 1);
+    is_sign(trial.tokens, number, Sign::Comma)
+        && is_sign(trial.tokens, last, Sign::Semicolon)
         && trial.mends(Change::Instead(last, Kind::Sign(Sign::Comma)))
 }
 
@@ -82,18 +82,18 @@ fn end_of_definition(tokens: &[Token<'_>], number: usize) -> usize {
 
 /// Whether the tokens are a program without the definition that begins with the token of a number,
 /// in a routine.
-fn is_inside(trial: &mut Trial<'_>, number: usize) -> bool {
-    let end = end_of_definition(&trial.tokens, number);
-    is_in_routine(&trial.tokens, number)
-        && begun_at(&trial.tokens, number).is_some()
+fn is_inside(trial: &mut Trial<'_, '_>, number: usize) -> bool {
+    let end = end_of_definition(trial.tokens, number);
+    is_in_routine(trial.tokens, number)
+        && begun_at(trial.tokens, number).is_some()
         && trial.mends(Change::WithoutAll(number, end))
 }
 
 /// Whether the tokens are a program without the `];` before the token of a number.
-fn is_ended_early(trial: &mut Trial<'_>, number: usize) -> bool {
+fn is_ended_early(trial: &mut Trial<'_, '_>, number: usize) -> bool {
     let from = before(number, 2);
-    is_sign(&trial.tokens, before(number, 1), Sign::Semicolon)
-        && is_sign(&trial.tokens, from, Sign::CloseBracket)
+    is_sign(trial.tokens, before(number, 1), Sign::Semicolon)
+        && is_sign(trial.tokens, from, Sign::CloseBracket)
         && trial.mends(Change::WithoutAll(from, number))
 }
 
@@ -106,10 +106,11 @@ fn ends_line(tokens: &[Token<'_>], number: usize) -> bool {
 /// Whether the token of a number is after a word that parentheses follow.
 fn is_after_condition(tokens: &[Token<'_>], number: usize) -> bool {
     let last = before(number, 1);
-    is_word(tokens, last, Word::If)
-        || is_word(tokens, last, Word::While)
-        || is_word(tokens, last, Word::Until)
-        || is_word(tokens, last, Word::Switch)
+    is_any_word(
+        tokens,
+        last,
+        &[Word::If, Word::While, Word::Until, Word::Switch],
+    )
 }
 
 /// Whether the token of a number is a `[` that begins a line: it is hardly too many.
@@ -118,11 +119,11 @@ fn begins_routine(tokens: &[Token<'_>], number: usize) -> bool {
 }
 
 /// Whether the tokens are a program without the token of a number, a sign or a reserved word.
-fn is_extra(trial: &mut Trial<'_>, number: usize) -> bool {
-    may_be_extra(&trial.tokens, number)
-        && !ends_line(&trial.tokens, number)
-        && !is_after_condition(&trial.tokens, number)
-        && !begins_routine(&trial.tokens, number)
+fn is_extra(trial: &mut Trial<'_, '_>, number: usize) -> bool {
+    may_be_extra(trial.tokens, number)
+        && !ends_line(trial.tokens, number)
+        && !is_after_condition(trial.tokens, number)
+        && !begins_routine(trial.tokens, number)
         && trial.mends(Change::Without(number))
 }
 
@@ -151,16 +152,16 @@ fn may_be_left_out(tokens: &[Token<'_>], number: usize) -> bool {
 
 /// The cause of a token that does not fit, and has a number, by another way to write what is before
 /// it.
-fn earlier(trial: &mut Trial<'_>, number: usize) -> Option<Cause> {
+fn earlier(trial: &mut Trial<'_, '_>, number: usize) -> Option<Cause> {
     let last = before(number, 1);
-    if begins_line(&trial.tokens, last) && trial.mends(Change::Before(last, Sign::Semicolon)) {
+    if begins_line(trial.tokens, last) && trial.mends(Change::Before(last, Sign::Semicolon)) {
         Some(Cause::Missing(SEMICOLON, last))
     } else if is_ended_early(trial, number) {
         Some(Cause::EndedEarly)
     } else if is_inside(trial, number) {
         Some(Cause::Inside)
     } else if needs_comma_before(trial, number) {
-        let place = before(start_of(&trial.tokens, number), 1);
+        let place = before(start_of(trial.tokens, number), 1);
         Some(Cause::InsteadOf(place, Sign::Comma))
     } else {
         None
@@ -169,7 +170,7 @@ fn earlier(trial: &mut Trial<'_>, number: usize) -> Option<Cause> {
 
 /// The cause of a token that does not fit, and has a number, by a change of that token, or without
 /// it or the one before it.
-fn changed(trial: &mut Trial<'_>, number: usize) -> Option<Cause> {
+fn changed(trial: &mut Trial<'_, '_>, number: usize) -> Option<Cause> {
     let last = before(number, 1);
     if is_extra(trial, number) {
         return Some(Cause::Extra);
@@ -177,7 +178,7 @@ fn changed(trial: &mut Trial<'_>, number: usize) -> Option<Cause> {
     if let Some(sign) = other_sign(trial, number) {
         return Some(Cause::Instead(sign));
     }
-    if may_be_left_out(&trial.tokens, last) && is_extra(trial, last) {
+    if may_be_left_out(trial.tokens, last) && is_extra(trial, last) {
         Some(Cause::ExtraBefore)
     } else {
         None
@@ -186,7 +187,7 @@ fn changed(trial: &mut Trial<'_>, number: usize) -> Option<Cause> {
 
 /// The cause of a token that does not fit, and has a number, by a change after which the tokens are
 /// a program.
-pub fn mended(trial: &mut Trial<'_>, number: usize) -> Option<Cause> {
+pub fn mended(trial: &mut Trial<'_, '_>, number: usize) -> Option<Cause> {
     let missing = with_sign(trial, number);
     if missing.is_some() {
         return missing;

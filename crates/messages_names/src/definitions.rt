@@ -1,11 +1,9 @@
 //! How a name that is not known is defined.
 
-use crate::wanted::{
-    ARRAY, ATTRIBUTE, CONSTANT, OBJECT, PROPERTY, ROUTINE, VALUE, VARIABLE, is_in_case, wanted,
-};
+use crate::wanted::{Wanted, is_in_case, wanted_in};
 use messages_contexts::{
-    Definition, around, before, behind, is_after_word, is_joined, is_name, is_named, is_property,
-    is_sign, is_unknown, is_word, text_at,
+    Definition, around, before, behind, is_after_word, is_any_named, is_any_sign, is_any_word,
+    is_joined, is_name, is_named, is_property, is_sign, is_unknown, is_word, text_at,
 };
 use messages_tokens::{Cut, Quoted};
 use std::alloc::{AllocError, Global};
@@ -28,9 +26,7 @@ fn is_word_of_object(tokens: &[Token<'_>], at: usize) -> bool {
 /// Whether the token of a number is compared with what is before it.
 pub fn is_compared(tokens: &[Token<'_>], at: usize) -> bool {
     let last = before(at, 1);
-    is_sign(tokens, last, Sign::Equal)
-        || is_sign(tokens, last, Sign::NotEqual)
-        || is_word(tokens, last, Word::Or)
+    is_any_sign(tokens, last, &[Sign::Equal, Sign::NotEqual]) || is_word(tokens, last, Word::Or)
 }
 
 /// Whether the token of a number may be meant as a dictionary word: a value of `name` of an object.
@@ -69,10 +65,9 @@ fn may_be_local(tokens: &[Token<'_>], at: usize) -> bool {
 fn is_item(tokens: &[Token<'_>], at: usize) -> bool {
     let last = before(at, 1);
     let next = behind(at, 1);
-    let begins = is_word(tokens, last, Word::Print)
-        || is_word(tokens, last, Word::PrintRet)
+    let begins = is_any_word(tokens, last, &[Word::Print, Word::PrintRet])
         || is_sign(tokens, last, Sign::Comma) && is_after_word(tokens, at, Word::Print);
-    begins && (is_sign(tokens, next, Sign::Comma) || is_sign(tokens, next, Sign::Semicolon))
+    begins && is_any_sign(tokens, next, &[Sign::Comma, Sign::Semicolon])
 }
 
 /// What to write, before and after a name.
@@ -113,22 +108,23 @@ fn form_of_constant(tokens: &[Token<'_>], at: usize) -> Form {
 
 /// How what is wanted in the place of a name may be defined. `None` for a value that may be
 /// anything.
-fn form_of(tokens: &[Token<'_>], at: usize, wanted: &str) -> Option<Form> {
+fn form_of(tokens: &[Token<'_>], at: usize, wanted: Wanted) -> Option<Form> {
     match wanted {
-        ARRAY => Some(Form("define it by 'Array ", " -> 10;'")),
-        ATTRIBUTE => Some(Form("define it by 'Attribute ", ";'")),
-        PROPERTY => Some(Form("define it by 'Property ", ";'")),
-        OBJECT => Some(Form("define it by 'Object ", ";' before this")),
-        ROUTINE => Some(Form("define it by '[ ", "; .. ];'")),
-        CONSTANT => Some(form_of_constant(tokens, at)),
-        VARIABLE if !may_be_local(tokens, at) => Some(Form("define it by 'Global ", ";'")),
+        Wanted::Array => Some(Form("define it by 'Array ", " -> 10;'")),
+        Wanted::Attribute => Some(Form("define it by 'Attribute ", ";'")),
+        Wanted::Property => Some(Form("define it by 'Property ", ";'")),
+        Wanted::Object => Some(Form("define it by 'Object ", ";' before this")),
+        Wanted::Routine => Some(Form("define it by '[ ", "; .. ];'")),
+        Wanted::Constant => Some(form_of_constant(tokens, at)),
+        Wanted::Variable if !may_be_local(tokens, at) => Some(Form("define it by 'Global ", ";'")),
         _ => form_of_value(tokens, at),
     }
 }
 
 /// Whether the token of a number is a word that Inform 6 has before the name of a property.
 fn is_of_property(tokens: &[Token<'_>], at: usize) -> bool {
-    is_named(tokens, at, b"long") || is_named(tokens, at, b"additive")
+    const WORDS: [&[u8]; 2] = [b"long", b"additive"];
+    is_any_named(tokens, at, &WORDS)
 }
 
 /// What is wrong with a name that has `-` within it, the token of a number.
@@ -156,14 +152,18 @@ pub fn undefined_name(
 ) -> Result<String, AllocError> {
     let name = Cut(text);
     let wanted = match around(tokens, at) {
-        Some(around) => wanted(tokens, at, around, false),
-        None => VALUE,
+        Some(around) => wanted_in(tokens, at, around, false),
+        None => Wanted::Value,
     };
-    let is_value = wanted == VALUE || wanted == VARIABLE && may_be_local(tokens, at);
+    let is_value = match wanted {
+        Wanted::Value => true,
+        Wanted::Variable => may_be_local(tokens, at),
+        _ => false,
+    };
     let last = before(at, 1);
     if is_value && is_hyphened(tokens, at) {
         hyphened(alloc, tokens, at, text)
-    } else if wanted == CONSTANT && is_of_property(tokens, last) {
+    } else if matches!(wanted, Wanted::Constant) && is_of_property(tokens, last) {
         format!(in alloc;
             "unknown name '{name}': leave {} out",
             Quoted(text_at(tokens, last))

@@ -2,15 +2,15 @@
 
 use crate::definitions::is_compared;
 use crate::kinds::is_variable;
-use crate::wanted::{ARRAY, ATTRIBUTE, CONSTANT, PROPERTY, ROUTINE, VALUE, VARIABLE, is_in_case};
+use crate::wanted::{Wanted, is_in_case};
 use checker_names::Binding;
-use messages_contexts::{Definition, before, definition_of, is_word};
+use messages_contexts::{Definition, before, definition_of, is_any_word, is_word};
 use syntax::{Token, Word};
 
 /// What to write where an attribute is wanted.
 fn for_attribute(tokens: &[Token<'_>], at: usize, binding: Binding) -> Option<&'static str> {
     let last = before(at, 1);
-    let is_tested = is_word(tokens, last, Word::Has) || is_word(tokens, last, Word::Hasnt);
+    let is_tested = is_any_word(tokens, last, &[Word::Has, Word::Hasnt]);
     let is_in_object = definition_of(tokens, at).is_some();
     match binding {
         Binding::Property(_) if is_in_object => Some("write it after 'with', with a value"),
@@ -87,17 +87,17 @@ pub fn hint(
     tokens: &[Token<'_>],
     at: usize,
     binding: Binding,
-    wanted: &str,
+    wanted: Wanted,
 ) -> Option<&'static str> {
     match wanted {
-        ATTRIBUTE => for_attribute(tokens, at, binding),
-        PROPERTY => for_property(tokens, at, binding),
-        VALUE => for_value(tokens, at, binding),
-        CONSTANT => for_constant(tokens, at, binding),
-        ROUTINE => for_routine(binding),
-        ARRAY => for_array(binding),
-        VARIABLE => for_variable(binding),
-        _ => None,
+        Wanted::Attribute => for_attribute(tokens, at, binding),
+        Wanted::Property => for_property(tokens, at, binding),
+        Wanted::Value => for_value(tokens, at, binding),
+        Wanted::Constant => for_constant(tokens, at, binding),
+        Wanted::Routine => for_routine(binding),
+        Wanted::Array => for_array(binding),
+        Wanted::Variable => for_variable(binding),
+        Wanted::Object => None,
     }
 }
 

@@ -1,8 +1,23 @@
-//! Kinds of names, in words.
+//! What names stand for, and their kinds in words.
 
-use checker_names::Binding;
+use checker_names::{Binding, Table, find};
 use meaning::limits::MOST_ARRAY_BYTES;
-use syntax::ArrayKind;
+use messages_contexts::{Defined, is_local};
+use syntax::{ArrayKind, Token};
+
+/// What a name stands for in a definition.
+pub fn binding_in(
+    tokens: &[Token<'_>],
+    around: Option<Defined>,
+    table: &Table,
+    text: &[u8],
+) -> Option<Binding> {
+    if is_local(tokens, around, text) {
+        Some(Binding::Local(0))
+    } else {
+        find(table, text)
+    }
+}
 
 /// What a name is.
 pub fn kind_of(binding: Binding) -> &'static str {

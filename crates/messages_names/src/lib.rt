@@ -9,6 +9,6 @@ mod unknown_names;
 mod wanted;
 mod wrong_kinds;
 
-pub use kinds::{array_kind, is_variable, kind_of, most_entries};
+pub use kinds::{array_kind, binding_in, is_variable, kind_of, most_entries};
 pub use unknown_names::{no_main, unknown};
 pub use wrong_kinds::wrong_kind;

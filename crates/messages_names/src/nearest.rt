@@ -1,8 +1,6 @@
 //! The defined name that is nearest to one that is not known.
 
-use crate::wanted::{
-    ARRAY, ATTRIBUTE, CONSTANT, OBJECT, PROPERTY, ROUTINE, VALUE, VARIABLE, wanted,
-};
+use crate::wanted::{Wanted, wanted_in};
 use messages_contexts::{
     Defined, Definition, around, behind, defined_at, in_small_letters, is_attribute, is_name,
     is_near, text_at,
@@ -22,19 +20,21 @@ struct Near {
 #[derive(Clone, Copy)]
 struct Asked<'n> {
     name: &'n [u8],
-    wanted: &'static str,
+    wanted: Wanted,
 }
 
 /// Whether what is wanted may be of that kind.
-fn suits(wanted: &str, what: Definition) -> bool {
+fn suits(wanted: Wanted, what: Definition) -> bool {
     match what {
-        Definition::Global => wanted == VALUE || wanted == VARIABLE,
-        Definition::Constant => wanted == VALUE || wanted == CONSTANT,
-        Definition::Object => wanted == VALUE || wanted == CONSTANT || wanted == OBJECT,
-        Definition::Array => wanted == ARRAY,
-        Definition::Attribute => wanted == ATTRIBUTE,
-        Definition::Property => wanted == PROPERTY,
-        Definition::Routine => wanted == ROUTINE,
+        Definition::Global => matches!(wanted, Wanted::Value | Wanted::Variable),
+        Definition::Constant => matches!(wanted, Wanted::Value | Wanted::Constant),
+        Definition::Object => {
+            matches!(wanted, Wanted::Value | Wanted::Constant | Wanted::Object)
+        }
+        Definition::Array => matches!(wanted, Wanted::Array),
+        Definition::Attribute => matches!(wanted, Wanted::Attribute),
+        Definition::Property => matches!(wanted, Wanted::Property),
+        Definition::Routine => matches!(wanted, Wanted::Routine),
     }
 }
 
@@ -47,16 +47,28 @@ fn nearer(
     asked: Asked<'_>,
     found: Option<Near>,
 ) -> Result<Option<Near>, AllocError> {
-    let defined = in_small_letters(alloc, text_at(tokens, number))?;
-    let edits = generic_levenshtein(alloc, asked.name, defined.as_slice())?;
-    let is_nearer = match found {
-        None => is_near(asked.name, edits, &defined),
-        Some(near) => edits < near.edits && is_near(asked.name, edits, &defined),
+    let Ok(defined) = in_small_letters(alloc, text_at(tokens, number)) else {
+        return Err(AllocError);
     };
-    if is_nearer {
+    let Ok(edits) = generic_levenshtein(alloc, asked.name, defined.as_slice()) else {
+        return Err(AllocError);
+    };
+    let has_fewer = match found {
+        None => true,
+        Some(near) => edits < near.edits,
+    };
+    if has_fewer && is_near(asked.name, edits, &defined) {
         Ok(Some(Near { number, edits }))
     } else {
         Ok(found)
+    }
+}
+
+/// Whether what is wanted may be what is defined at the token of a number.
+fn suits_at(tokens: &[Token<'_>], number: usize, wanted: Wanted) -> bool {
+    match defined_at(tokens, number) {
+        Some(what) => suits(wanted, what),
+        None => false,
     }
 }
 
@@ -68,8 +80,7 @@ fn nearest_definition(
 ) -> Result<Option<Near>, AllocError> {
     let mut found = None;
     for number in 0..tokens.len() {
-        let what = defined_at(tokens, number);
-        if what.is_some_and(|what| suits(asked.wanted, what)) {
+        if suits_at(tokens, number, asked.wanted) {
             found = nearer(alloc, tokens, number, asked, found)?;
         }
     }
@@ -101,7 +112,9 @@ fn nearest_in(
     around: Defined,
     asked: Asked<'_>,
 ) -> Result<Option<Near>, AllocError> {
-    let found = nearest_definition(alloc, tokens, asked)?;
+    let Ok(found) = nearest_definition(alloc, tokens, asked) else {
+        return Err(AllocError);
+    };
     match around.what {
         Definition::Routine if suits(asked.wanted, Definition::Global) => {
             nearest_local(alloc, tokens, around.name, asked, found)
@@ -125,14 +138,17 @@ pub fn nearest<'a>(
     let Some(around) = around(tokens, at) else {
         return Ok(None);
     };
-    let small = in_small_letters(alloc, name)?;
+    let Ok(small) = in_small_letters(alloc, name) else {
+        return Err(AllocError);
+    };
     let asked = Asked {
         name: small.as_slice(),
-        wanted: wanted(tokens, at, around, false),
+        wanted: wanted_in(tokens, at, around, false),
     };
-    match nearest_in(alloc, tokens, around, asked)? {
-        Some(near) => Ok(Some(text_at(tokens, near.number))),
-        None => Ok(None),
+    match nearest_in(alloc, tokens, around, asked) {
+        Ok(Some(near)) => Ok(Some(text_at(tokens, near.number))),
+        Ok(None) => Ok(None),
+        Err(refused) => Err(refused),
     }
 }
 
@@ -158,9 +174,13 @@ fn near_word(
     name: &[u8],
     words: &[&'static str],
 ) -> Result<Option<&'static str>, AllocError> {
-    let small = in_small_letters(alloc, name)?;
+    let Ok(small) = in_small_letters(alloc, name) else {
+        return Err(AllocError);
+    };
     for word in words {
-        let edits = generic_levenshtein(alloc, small.as_slice(), word.as_bytes())?;
+        let Ok(edits) = generic_levenshtein(alloc, small.as_slice(), word.as_bytes()) else {
+            return Err(AllocError);
+        };
         let is_alike = edits == 1 || name.len() == word.len();
         if is_alike && is_near(name, edits, word.as_bytes()) {
             return Ok(Some(*word));
@@ -183,12 +203,14 @@ pub fn nearest_word(
     let Some(around) = around(tokens, at) else {
         return Ok(None);
     };
-    match wanted(tokens, at, around, false) {
-        VALUE => near_word(alloc, name, &VALUES),
-        ROUTINE => near_word(alloc, name, &CALLS),
-        CONSTANT if matches!(around.what, Definition::Routine) => near_word(alloc, name, &CASES),
-        PROPERTY if is_attribute(tokens, behind(at, 1)) => near_word(alloc, name, &PARTS),
-        PROPERTY => near_word(alloc, name, &PROPERTIES),
+    match wanted_in(tokens, at, around, false) {
+        Wanted::Value => near_word(alloc, name, &VALUES),
+        Wanted::Routine => near_word(alloc, name, &CALLS),
+        Wanted::Constant if matches!(around.what, Definition::Routine) => near_word(
+            alloc, name, &CASES,
+        ),
+        Wanted::Property if is_attribute(tokens, behind(at, 1)) => near_word(alloc, name, &PARTS),
+        Wanted::Property => near_word(alloc, name, &PROPERTIES),
         _ => Ok(None),
     }
 }
@@ -201,8 +223,12 @@ pub fn nearest_word(
 pub fn nearest_main(alloc: Global, tokens: &[Token<'_>]) -> Result<Option<usize>, AllocError> {
     for number in 0..tokens.len() {
         let is_routine = matches!(defined_at(tokens, number), Some(Definition::Routine));
-        if is_routine && near_word(alloc, text_at(tokens, number), &["main"])?.is_some() {
-            return Ok(Some(number));
+        if is_routine {
+            match near_word(alloc, text_at(tokens, number), &["main"]) {
+                Ok(None) => {}
+                Ok(Some(_)) => return Ok(Some(number)),
+                Err(refused) => return Err(refused),
+            }
         }
     }
     Ok(None)

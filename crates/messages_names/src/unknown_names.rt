@@ -3,7 +3,7 @@
 use crate::definitions::{may_be_word, undefined_name};
 use crate::kinds::kind_of;
 use crate::nearest::{nearest, nearest_main, nearest_word};
-use crate::wanted::{ATTRIBUTE, PROPERTY, wanted};
+use crate::wanted::{Wanted, wanted_in};
 use checker_names::{Binding, Table, find};
 use messages_contexts::{
     Definition, around, begins_statement, behind, definition_of, first_definition, is_after_word,
@@ -13,7 +13,7 @@ use messages_features::{
     Absent, CLASSES, Feature, habit_as_name, habit_at_beginning, habit_between, named,
     named_in_expression,
 };
-use messages_tokens::{Counted, Figure, Quoted};
+use messages_tokens::{Counted, Figure, Quoted, some};
 use std::alloc::{AllocError, Global};
 use syntax::{Kind, Sign, Token, Word};
 
@@ -30,8 +30,9 @@ fn arrows(tokens: &[Token<'_>], at: usize) -> usize {
 /// What is wrong with so many arrows without an object to stand in.
 fn arrow(alloc: Global, count: usize) -> Result<String, AllocError> {
     if count < 2 {
-        return format!(in alloc;
-            "this arrow has no object to go into: leave it out, or define that object before"
+        return String::from_str(
+            alloc,
+            "this arrow has no object to go into: leave it out, or define that object before",
         );
     }
     let arrows = Figure(count as u128);
@@ -74,8 +75,10 @@ fn is_call(tokens: &[Token<'_>], at: usize) -> bool {
 fn is_of_object(tokens: &[Token<'_>], at: usize) -> bool {
     match around(tokens, at) {
         Some(found) => {
-            let wanted = wanted(tokens, at, found, false);
-            wanted == ATTRIBUTE || wanted == PROPERTY
+            matches!(
+                wanted_in(tokens, at, found, false),
+                Wanted::Attribute | Wanted::Property
+            )
         }
         None => false,
     }
@@ -148,15 +151,28 @@ fn undefined(
     if may_be_word(tokens, at) {
         return undefined_name(alloc, tokens, at, text);
     }
-    if let Some(word) = nearest_word(alloc, tokens, at, text)? {
-        return format!(in alloc; "unknown name {name}; did you mean '{word}'?");
+    match nearest_word(alloc, tokens, at, text) {
+        Ok(Some(word)) => format!(in alloc; "unknown name {name}; did you mean '{word}'?"),
+        Ok(None) => misspelt(alloc, tokens, at, text),
+        Err(refused) => Err(refused),
     }
-    match nearest(alloc, tokens, at, text)? {
-        Some(meant) => {
+}
+
+/// What is wrong with a name that is defined nowhere, and may be another one misspelt.
+fn misspelt(
+    alloc: Global,
+    tokens: &[Token<'_>],
+    at: usize,
+    text: &[u8],
+) -> Result<String, AllocError> {
+    match nearest(alloc, tokens, at, text) {
+        Ok(Some(meant)) => {
+            let name = Quoted(text);
             let meant = Quoted(meant);
             format!(in alloc; "unknown name {name}; did you mean {meant}?")
         }
-        None => undefined_name(alloc, tokens, at, text),
+        Ok(None) => undefined_name(alloc, tokens, at, text),
+        Err(refused) => Err(refused),
     }
 }
 
@@ -198,22 +214,24 @@ fn with_locals(alloc: Global, count: usize) -> Result<Option<String>, AllocError
         return Ok(None);
     }
     let locals = Counted(count as u128, "local");
-    Ok(Some(format!(in alloc;
+    some(format!(in alloc;
         "Main has {locals}; it may have none: write globals, or a routine that Main calls"
-    )?))
+    ))
 }
 
 /// What is wrong with a program that has no Main.
 fn without_main(alloc: Global, tokens: &[Token<'_>]) -> Result<String, AllocError> {
-    match nearest_main(alloc, tokens)? {
-        Some(number) => {
+    match nearest_main(alloc, tokens) {
+        Ok(Some(number)) => {
             let name = Quoted(text_at(tokens, number));
             let line = line_of(tokens, number);
             format!(in alloc; "there is no routine Main; did you mean it by {name} in line {line}?")
         }
-        None => format!(in alloc;
-            "there is no routine Main, with which a story begins: write '[ Main; .. ];'"
+        Ok(None) => String::from_str(
+            alloc,
+            "there is no routine Main, with which a story begins: write '[ Main; .. ];'",
         ),
+        Err(refused) => Err(refused),
     }
 }
 
@@ -228,11 +246,11 @@ pub fn no_main(
     table: &Table,
 ) -> Result<Option<String>, AllocError> {
     match find(table, b"main") {
-        None => Ok(Some(without_main(alloc, tokens)?)),
+        None => some(without_main(alloc, tokens)),
         Some(Binding::Routine(_, count)) => with_locals(alloc, count),
         Some(other) => {
             let kind = kind_of(other);
-            Ok(Some(format!(in alloc; "Main is {kind}; it must be a routine")?))
+            some(format!(in alloc; "Main is {kind}; it must be a routine"))
         }
     }
 }

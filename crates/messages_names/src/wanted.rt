@@ -7,33 +7,48 @@ use messages_contexts::{
 };
 use syntax::{Kind, Sign, Token, Word};
 
-pub const ARRAY: &str = "an array";
+/// What is wanted in the place of a name.
+#[derive(Clone, Copy)]
+pub enum Wanted {
+    Array,
+    Attribute,
 
-pub const ATTRIBUTE: &str = "an attribute";
+    /// A value that is known before a story runs.
+    Constant,
 
-/// What is wanted as a value that is known before a story runs.
-pub const CONSTANT: &str = "a Constant or an object";
+    Object,
+    Property,
+    Routine,
+    Value,
+    Variable,
+}
 
-pub const OBJECT: &str = "an object";
-
-pub const PROPERTY: &str = "a property";
-
-pub const ROUTINE: &str = "a routine";
-
-pub const VALUE: &str = "a value";
-
-pub const VARIABLE: &str = "a variable";
+impl Wanted {
+    /// What is wanted, in words.
+    pub fn words(self) -> &'static str {
+        match self {
+            Wanted::Array => "an array",
+            Wanted::Attribute => "an attribute",
+            Wanted::Constant => "a Constant or an object",
+            Wanted::Object => "an object",
+            Wanted::Property => "a property",
+            Wanted::Routine => "a routine",
+            Wanted::Value => "a value",
+            Wanted::Variable => "a variable",
+        }
+    }
+}
 
 /// What is wanted in the place of the token of a number within the object whose name has a number.
-pub fn wanted_in_object(tokens: &[Token<'_>], object: usize, at: usize) -> &'static str {
+pub fn wanted_in_object(tokens: &[Token<'_>], object: usize, at: usize) -> Wanted {
     if is_parent(tokens, object, at) {
-        OBJECT
+        Wanted::Object
     } else if is_property(tokens, at) {
-        PROPERTY
+        Wanted::Property
     } else if is_behind_has(tokens, object, at) {
-        ATTRIBUTE
+        Wanted::Attribute
     } else {
-        CONSTANT
+        Wanted::Constant
     }
 }
 
@@ -89,11 +104,11 @@ pub fn is_read(tokens: &[Token<'_>], at: usize) -> bool {
 }
 
 /// What is wanted behind a reserved word, if it tells.
-fn wanted_behind_word(word: Word) -> Option<&'static str> {
+fn wanted_behind_word(word: Word) -> Option<Wanted> {
     match word {
-        Word::Provides => Some(PROPERTY),
-        Word::Has => Some(ATTRIBUTE),
-        Word::Hasnt => Some(ATTRIBUTE),
+        Word::Provides => Some(Wanted::Property),
+        Word::Has => Some(Wanted::Attribute),
+        Word::Hasnt => Some(Wanted::Attribute),
         _ => None,
     }
 }
@@ -104,11 +119,11 @@ fn asks_property(sign: Sign) -> bool {
 }
 
 /// What is wanted behind the token of a number, if it tells.
-fn wanted_behind(tokens: &[Token<'_>], at: usize) -> Option<&'static str> {
+fn wanted_behind(tokens: &[Token<'_>], at: usize) -> Option<Wanted> {
     match kind_at(tokens, at) {
         Kind::Sign(sign) => {
             if asks_property(sign) {
-                Some(PROPERTY)
+                Some(Wanted::Property)
             } else {
                 None
             }
@@ -119,17 +134,17 @@ fn wanted_behind(tokens: &[Token<'_>], at: usize) -> Option<&'static str> {
 }
 
 /// What is wanted before a sign, if it tells.
-fn wanted_before(sign: Sign) -> Option<&'static str> {
+fn wanted_before(sign: Sign) -> Option<Wanted> {
     match sign {
-        Sign::OpenParenthesis => Some(ROUTINE),
-        Sign::Arrow => Some(ARRAY),
-        Sign::LongArrow => Some(ARRAY),
+        Sign::OpenParenthesis => Some(Wanted::Routine),
+        Sign::Arrow => Some(Wanted::Array),
+        Sign::LongArrow => Some(Wanted::Array),
         _ => None,
     }
 }
 
 /// What is wanted before the token of a number, if it tells.
-fn wanted_before_token(tokens: &[Token<'_>], at: usize) -> Option<&'static str> {
+fn wanted_before_token(tokens: &[Token<'_>], at: usize) -> Option<Wanted> {
     match kind_at(tokens, at) {
         Kind::Sign(sign) => wanted_before(sign),
         _ => None,
@@ -183,31 +198,31 @@ pub fn is_in_case(tokens: &[Token<'_>], at: usize) -> bool {
 
 /// What is wanted in an expression where a name stands. A variable that cannot stand as a value
 /// stands in a case.
-fn wanted_in_expression(tokens: &[Token<'_>], at: usize, variable: bool) -> &'static str {
+fn wanted_in_expression(tokens: &[Token<'_>], at: usize, variable: bool) -> Wanted {
     match wanted_before_token(tokens, behind(at, 1)) {
         Some(wanted) => wanted,
         None => {
             if is_target(tokens, at) {
-                VARIABLE
+                Wanted::Variable
             } else if variable || is_in_case(tokens, at) {
-                CONSTANT
+                Wanted::Constant
             } else {
-                VALUE
+                Wanted::Value
             }
         }
     }
 }
 
 /// What is wanted in a statement where a name stands, which may be a variable.
-pub fn wanted_in_statement(tokens: &[Token<'_>], at: usize, variable: bool) -> &'static str {
+pub fn wanted_in_statement(tokens: &[Token<'_>], at: usize, variable: bool) -> Wanted {
     if !variable && is_loop_variable(tokens, at) {
-        return VARIABLE;
+        return Wanted::Variable;
     }
     match wanted_behind(tokens, before(at, 1)) {
         Some(wanted) => wanted,
         None => {
             if is_given(tokens, at) {
-                ATTRIBUTE
+                Wanted::Attribute
             } else {
                 wanted_in_expression(tokens, at, variable)
             }
@@ -216,11 +231,11 @@ pub fn wanted_in_statement(tokens: &[Token<'_>], at: usize, variable: bool) -> &
 }
 
 /// What is wanted in a definition where a name stands, which may be a variable.
-pub fn wanted(tokens: &[Token<'_>], at: usize, around: Defined, variable: bool) -> &'static str {
+pub fn wanted_in(tokens: &[Token<'_>], at: usize, around: Defined, variable: bool) -> Wanted {
     match around.what {
         Definition::Object => wanted_in_object(tokens, around.name, at),
-        Definition::Routine if is_read(tokens, at) => ARRAY,
+        Definition::Routine if is_read(tokens, at) => Wanted::Array,
         Definition::Routine => wanted_in_statement(tokens, at, variable),
-        _ => CONSTANT,
+        _ => Wanted::Constant,
     }
 }

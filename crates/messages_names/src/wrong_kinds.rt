@@ -1,12 +1,12 @@
 //! A name of the wrong kind (E23): what it is, and what is wanted where it stands.
 
 use crate::hints::hint;
-use crate::kinds::{array_kind, is_variable, kind_of};
-use crate::wanted::{CONSTANT, VALUE, is_read, wanted};
+use crate::kinds::{array_kind, binding_in, is_variable, kind_of};
+use crate::wanted::{Wanted, is_read, wanted_in};
 use checker_names::{Binding, Table};
-use messages_contexts::{Defined, Definition, binding_in, may_lack_comma, may_lack_has};
+use messages_contexts::{Defined, Definition, may_lack_comma, may_lack_has};
 use messages_features::{Instead, OTHER_VALUES};
-use messages_tokens::Quoted;
+use messages_tokens::{Quoted, some};
 use std::alloc::{AllocError, Global};
 use syntax::{ArrayKind, Token};
 
@@ -33,28 +33,35 @@ fn read(alloc: Global, name: &[u8], binding: Binding) -> Result<String, AllocErr
     }
 }
 
+/// What is told of a call before what else to write, where a routine is no value that is wanted.
+fn call_of(binding: Binding, wanted: Wanted) -> Option<&'static str> {
+    match (binding, wanted) {
+        (Binding::Routine(_, _), Wanted::Value) => Some("call it, or "),
+        (Binding::Routine(_, _), Wanted::Constant) => Some(""),
+        _ => None,
+    }
+}
+
 /// What is wrong with a name, if it is not what is wanted, and what to write.
 fn other(
     alloc: Global,
     name: &[u8],
     binding: Binding,
-    wanted: &str,
+    wanted: Wanted,
     hint: Option<&'static str>,
 ) -> Result<String, AllocError> {
     let name = Quoted(name);
     let kind = kind_of(binding);
-    let instead = Instead(OTHER_VALUES);
+    let expected = wanted.words();
     if let Some(hint) = hint {
-        return format!(in alloc; "{name} is {kind}; {wanted} is expected here: {hint}");
+        return format!(in alloc; "{name} is {kind}; {expected} is expected here: {hint}");
     }
-    match binding {
-        Binding::Routine(_, _) if wanted == VALUE => format!(in alloc;
-            "{name} is {kind}; {wanted} is expected here: call it, or {instead}"
-        ),
-        Binding::Routine(_, _) if wanted == CONSTANT => format!(in alloc;
-            "{name} is {kind}; {wanted} is expected here: {instead}"
-        ),
-        _ => format!(in alloc; "{name} is {kind}; {wanted} is expected here"),
+    match call_of(binding, wanted) {
+        Some(call) => {
+            let instead = Instead(OTHER_VALUES);
+            format!(in alloc; "{name} is {kind}; {expected} is expected here: {call}{instead}")
+        }
+        None => format!(in alloc; "{name} is {kind}; {expected} is expected here"),
     }
 }
 
@@ -112,7 +119,7 @@ fn misnamed(
     if let Some(missing) = lacking_in(tokens, at, around, binding) {
         return after_gap(alloc, name, binding, missing);
     }
-    let wanted = wanted(tokens, at, around, is_variable(binding));
+    let wanted = wanted_in(tokens, at, around, is_variable(binding));
     other(
         alloc,
         name,
@@ -138,7 +145,7 @@ pub fn wrong_kind(
 ) -> Result<Option<String>, AllocError> {
     match (around, binding_in(tokens, around, table, token.text)) {
         (Some(found), Some(binding)) => {
-            Ok(Some(misnamed(alloc, tokens, at, token.text, found, binding)?))
+            some(misnamed(alloc, tokens, at, token.text, found, binding))
         }
         _ => Ok(None),
     }

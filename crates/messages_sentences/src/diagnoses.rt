@@ -1,10 +1,10 @@
 //! The sentence of a diagnosis.
 
+use crate::rules::{Told, at_place, program_sentence};
 use meaning::greatest_weight;
 use messages_figures::{Limit, MOST_TABLE_BYTES, greatest_length, measure};
 use messages_places::{Diagnosis, Place};
-use messages_rules::{Told, program_sentence};
-use messages_tokens::{Figure, source_sentence};
+use messages_tokens::{Figure, some, source_sentence};
 use std::alloc::{AllocError, Global};
 use syntax_directives::weight_of;
 use syntax_lexer::{NAME_TOO_LONG, NO_MEMORY, STORY_TOO_LARGE, SourceFault, TABLES_TOO_LARGE, lex};
@@ -36,8 +36,13 @@ fn figures_of(alloc: Global, source: &[u8], limit: Limit) -> Result<Option<Whole
             tables: figures.table_total,
             is_large_story: figures.story.is_ok(),
         })),
-        Err(fault) if fault.number == NO_MEMORY => Err(AllocError),
-        Err(_) => Ok(None),
+        Err(fault) => {
+            if fault.number == NO_MEMORY {
+                Err(AllocError)
+            } else {
+                Ok(None)
+            }
+        }
     }
 }
 
@@ -45,8 +50,13 @@ fn figures_of(alloc: Global, source: &[u8], limit: Limit) -> Result<Option<Whole
 fn weight_of_source(alloc: Global, source: &[u8]) -> Result<Option<u128>, AllocError> {
     match lex(alloc, source) {
         Ok(tokens) => Ok(Some(weight_of(&tokens))),
-        Err(fault) if fault.number == NO_MEMORY => Err(AllocError),
-        Err(_) => Ok(None),
+        Err(fault) => {
+            if fault.number == NO_MEMORY {
+                Err(AllocError)
+            } else {
+                Ok(None)
+            }
+        }
     }
 }
 
@@ -61,59 +71,87 @@ fn is_large_story(alloc: Global, source: &[u8], weight: u128) -> Result<bool, Al
 
 /// Whether a source is a story of version 8 by a limit.
 fn is_story_by(alloc: Global, source: &[u8], limit: Limit) -> Result<bool, AllocError> {
-    match figures_of(alloc, source, limit)? {
-        Some(whole) => Ok(whole.is_large_story),
-        None => Ok(false),
+    match figures_of(alloc, source, limit) {
+        Ok(Some(whole)) => Ok(whole.is_large_story),
+        Ok(None) => Ok(false),
+        Err(refused) => Err(refused),
+    }
+}
+
+/// What is wrong with a source of that weight, which is too much for a version.
+fn heavy(
+    alloc: Global,
+    source: &[u8],
+    version: Version,
+    found: u128,
+) -> Result<String, AllocError> {
+    let weight = Figure(found);
+    let most = Figure(greatest_weight(version));
+    let room = match version {
+        Version::V5 => is_large_story(alloc, source, found),
+        Version::V8 => Ok(false),
+    };
+    match room {
+        Ok(true) => format!(in alloc;
+            "the source weighs {weight}; the limit of version 5 is {most}, but -v 8 has room for it"
+        ),
+        Ok(false) => {
+            let number = number_of(version);
+            format!(in alloc; "the source weighs {weight}; the limit of version {number} is {most}")
+        }
+        Err(refused) => Err(refused),
+    }
+}
+
+/// The number of a version.
+fn number_of(version: Version) -> u8 {
+    match version {
+        Version::V5 => 5,
+        Version::V8 => 8,
     }
 }
 
 /// What is wrong with a source that weighs too much for a version.
-fn heavy(alloc: Global, source: &[u8], version: Version) -> Result<Option<String>, AllocError> {
-    let Some(found) = weight_of_source(alloc, source)? else {
-        return Ok(None);
-    };
-    let weight = Figure(found);
-    let most = Figure(greatest_weight(version));
-    let sentence = match version {
-        Version::V5 if is_large_story(alloc, source, found)? => format!(in alloc;
-            "the source weighs {weight}; the limit of version 5 is {most}, but -v 8 has room for it"
-        ),
-        Version::V5 => {
-            format!(in alloc; "the source weighs {weight}; the limit of version 5 is {most}")
-        }
-        Version::V8 => {
-            format!(in alloc; "the source weighs {weight}; the limit of version 8 is {most}")
-        }
-    };
-    Ok(Some(sentence?))
+fn too_heavy(alloc: Global, source: &[u8], version: Version) -> Result<Option<String>, AllocError> {
+    match weight_of_source(alloc, source) {
+        Ok(Some(found)) => some(heavy(alloc, source, version, found)),
+        Ok(None) => Ok(None),
+        Err(refused) => Err(refused),
+    }
 }
 
 /// What is wrong with a source whose story is longer than packed addresses of a version reach.
 fn long(alloc: Global, source: &[u8], version: Version) -> Result<String, AllocError> {
     let most = Figure(greatest_length(version) as u128);
-    match version {
-        Version::V5 if is_story_by(alloc, source, Limit::Length)? => format!(in alloc;
+    let room = match version {
+        Version::V5 => is_story_by(alloc, source, Limit::Length),
+        Version::V8 => Ok(false),
+    };
+    match room {
+        Ok(true) => format!(in alloc;
             "the story has more than {most} bytes, the limit of version 5, but -v 8 has room for it"
         ),
-        Version::V5 => {
-            format!(in alloc; "the story has more than {most} bytes, the limit of version 5")
+        Ok(false) => {
+            let number = number_of(version);
+            format!(in alloc; "the story has more than {most} bytes, the limit of version {number}")
         }
-        Version::V8 => {
-            format!(in alloc; "the story has more than {most} bytes, the limit of version 8")
-        }
+        Err(refused) => Err(refused),
     }
 }
 
 /// What is wrong with a source whose tables are too large.
 fn large_tables(alloc: Global, source: &[u8]) -> Result<Option<String>, AllocError> {
-    let Some(whole) = figures_of(alloc, source, Limit::Weight)? else {
-        return Ok(None);
-    };
-    let bytes = Figure(whole.tables);
-    let most = Figure(MOST_TABLE_BYTES);
-    Ok(Some(format!(in alloc;
-        "arrays, objects, words and abbreviations have {bytes} bytes; the limit is {most}"
-    )?))
+    match figures_of(alloc, source, Limit::Weight) {
+        Ok(Some(whole)) => {
+            let bytes = Figure(whole.tables);
+            let most = Figure(MOST_TABLE_BYTES);
+            some(format!(in alloc;
+                "arrays, objects, words and abbreviations have {bytes} bytes; the limit is {most}"
+            ))
+        }
+        Ok(None) => Ok(None),
+        Err(refused) => Err(refused),
+    }
 }
 
 /// What is wrong with a source whose story is too large by a limit.
@@ -124,19 +162,8 @@ fn too_large(
     limit: Limit,
 ) -> Result<Option<String>, AllocError> {
     match limit {
-        Limit::Weight => heavy(alloc, source, version),
-        Limit::Length => Ok(Some(long(alloc, source, version)?)),
-    }
-}
-
-/// A sentence about the place of the fault itself.
-fn at_place(sentence: Option<String>) -> Option<Told> {
-    match sentence {
-        None => None,
-        Some(sentence) => Some(Told {
-            sentence,
-            place: None,
-        }),
+        Limit::Weight => too_heavy(alloc, source, version),
+        Limit::Length => some(long(alloc, source, version)),
     }
 }
 
@@ -149,14 +176,26 @@ fn found(
     diagnosis: &Diagnosis,
 ) -> Result<Option<Told>, AllocError> {
     let rule = diagnosis.fault.number;
-    match (rule, diagnosis.place) {
-        (TABLES_TOO_LARGE, _) => Ok(at_place(large_tables(alloc, source)?)),
-        (STORY_TOO_LARGE, _) => Ok(at_place(too_large(alloc, source, version, limit)?)),
-        (_, None) => Ok(None),
-        (1..=NAME_TOO_LONG, Some(place)) => {
-            Ok(at_place(source_sentence(alloc, source, rule, place.offset)?))
-        }
-        (_, Some(place)) => program_sentence(alloc, source, rule, place.offset),
+    match rule {
+        TABLES_TOO_LARGE => at_place(large_tables(alloc, source)),
+        STORY_TOO_LARGE => at_place(too_large(alloc, source, version, limit)),
+        _ => match diagnosis.place {
+            Some(place) => found_at(alloc, source, rule, place.offset),
+            None => Ok(None),
+        },
+    }
+}
+
+/// What the sentence of a rule says at an offset, if one is found.
+fn found_at(
+    alloc: Global,
+    source: &[u8],
+    rule: u8,
+    offset: usize,
+) -> Result<Option<Told>, AllocError> {
+    match rule {
+        1..=NAME_TOO_LONG => at_place(source_sentence(alloc, source, rule, offset)),
+        _ => program_sentence(alloc, source, rule, offset),
     }
 }
 
@@ -174,6 +213,17 @@ fn shown(source: &[u8], diagnosis: Diagnosis, told: &Told) -> Diagnosis {
     }
 }
 
+/// The broken rule of a diagnosis in words.
+fn in_words(alloc: Global, diagnosis: Diagnosis) -> Result<Message, AllocError> {
+    match String::from_str(alloc, diagnosis.fault.rule()) {
+        Ok(sentence) => Ok(Message {
+            sentence,
+            diagnosis,
+        }),
+        Err(refused) => Err(refused),
+    }
+}
+
 /// What is wrong with a source that a version's compiler refuses by a limit. If no sentence is found, it is the
 /// broken rule in words.
 ///
@@ -187,17 +237,15 @@ pub fn message_of(
     limit: Limit,
     diagnosis: Diagnosis,
 ) -> Result<Message, AllocError> {
-    match found(alloc, source, version, limit, &diagnosis)? {
-        Some(told) => {
+    match found(alloc, source, version, limit, &diagnosis) {
+        Ok(Some(told)) => {
             let diagnosis = shown(source, diagnosis, &told);
             Ok(Message {
                 sentence: told.sentence,
                 diagnosis,
             })
         }
-        None => Ok(Message {
-            sentence: String::from_str(alloc, diagnosis.fault.rule())?,
-            diagnosis,
-        }),
+        Ok(None) => in_words(alloc, diagnosis),
+        Err(refused) => Err(refused),
     }
 }

@@ -5,7 +5,9 @@ mod numbers;
 mod quoted;
 mod runs;
 mod sentence;
+mod told;
 mod written;
 
 pub use sentence::source_sentence;
+pub use told::some;
 pub use written::{Counted, Cut, Figure, Met, Quoted};

@@ -1,6 +1,7 @@
 //! Why no text, no character and no word begins at a quote (E02).
 
 use crate::runs::{Class, byte_of_line, from, front, run_length};
+use crate::told::some;
 use messages_features::ACCENTS;
 use std::alloc::{AllocError, Global};
 
@@ -47,7 +48,7 @@ fn text(alloc: Global, rest: &[u8], quotes: usize) -> Result<Option<String>, All
         Some(b'"') => Ok(None),
         Some(b'\\') => {
             let instead = instead_of_backslash(byte_of_line(rest, length.saturating_add(1)));
-            Ok(Some(format!(in alloc; "'\\' is not allowed in a text: {instead}")?))
+            some(format!(in alloc; "'\\' is not allowed in a text: {instead}"))
         }
         Some(b'@') => said(
             alloc,
@@ -59,7 +60,7 @@ fn text(alloc: Global, rest: &[u8], quotes: usize) -> Result<Option<String>, All
 
 /// A sentence that is the same for each source.
 fn said(alloc: Global, sentence: &str) -> Result<Option<String>, AllocError> {
-    Ok(Some(String::from_str(alloc, sentence)?))
+    some(String::from_str(alloc, sentence))
 }
 
 /// Whether bytes begin with a quote, a dash or a mark that editors put in the place of one of ASCII.
@@ -67,28 +68,35 @@ fn is_typographic(bytes: &[u8]) -> bool {
     matches!(bytes, [0xE2, 0x80 | 0x89, _, ..] | [0x91..=0x97, ..])
 }
 
+/// What to write in the place of a byte with which some bytes begin, and which does not print, in two
+/// parts.
+fn instead_of_byte(bytes: &[u8], byte: u8) -> (&'static str, &'static str) {
+    if is_typographic(bytes) {
+        ("write straight quotes, '-', '..', '<=' or '>='", "")
+    } else if !byte.is_ascii() {
+        ("write ", ACCENTS.instead)
+    } else if byte == b'\t' {
+        ("write spaces", "")
+    } else {
+        ("remove it", "")
+    }
+}
+
 /// That the first of some bytes is not allowed in a place.
+///
+/// # Errors
+///
+/// `AllocError` where memory is refused.
 pub fn misplaced(alloc: Global, bytes: &[u8], place: &str) -> Result<Option<String>, AllocError> {
     let Some(byte) = bytes.first().copied() else {
         return Ok(None);
     };
-    if is_typographic(bytes) {
-        return Ok(Some(format!(in alloc;
-            "byte {byte} is not allowed {place}: write straight quotes, '-', '..', '<=' or '>='"
-        )?));
+    if matches!(byte, b' '..=b'~') {
+        let sign = char::from(byte);
+        return some(format!(in alloc; "'{sign}' is not allowed {place}: leave it out"));
     }
-    if !byte.is_ascii() {
-        let instead = ACCENTS.instead;
-        return Ok(Some(format!(in alloc; "byte {byte} is not allowed {place}: write {instead}")?));
-    }
-    if byte == b'\t' {
-        return Ok(Some(format!(in alloc; "byte 9 is not allowed {place}: write spaces")?));
-    }
-    if !matches!(byte, b' '..=b'~') {
-        return Ok(Some(format!(in alloc; "byte {byte} is not allowed {place}: remove it")?));
-    }
-    let sign = char::from(byte);
-    Ok(Some(format!(in alloc; "'{sign}' is not allowed {place}: leave it out")?))
+    let (what, instead) = instead_of_byte(bytes, byte);
+    some(format!(in alloc; "byte {byte} is not allowed {place}: {what}{instead}"))
 }
 
 /// Whether two slashes stand side by side.

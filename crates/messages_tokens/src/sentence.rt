@@ -3,6 +3,7 @@
 use crate::numbers::number;
 use crate::quoted::{misplaced, quoted};
 use crate::runs::{Class, from, front, run_length};
+use crate::told::some;
 use crate::written::Quoted;
 use messages_features::{
     Absent, CONDITIONS, DIRECTIVE_SIGN, Feature, LIBRARY, OPCODES, habit_at_beginning,
@@ -71,35 +72,34 @@ fn instead_of(sign: u8) -> &'static str {
     }
 }
 
-/// What is wrong with a `#` before a directive of Inform 6 that is not in this language.
-fn absent_directive(alloc: Global, bytes: &[u8]) -> Result<Option<String>, AllocError> {
-    let word = word_after_sign(bytes);
-    match named_as_directive(word) {
-        Some(feature) if bytes.starts_with(b"#") => {
-            let absent = Absent(Quoted(word), feature);
-            Ok(Some(format!(in alloc; "{absent}")?))
-        }
-        _ => Ok(None),
+/// The feature of Inform 6 that is a directive after the `#` with which some bytes begin.
+fn absent_directive(bytes: &[u8]) -> Option<&'static Feature> {
+    if bytes.starts_with(b"#") {
+        named_as_directive(word_after_sign(bytes))
+    } else {
+        None
     }
+}
+
+/// What is wrong with a sign that begins no token.
+fn stray_sign(alloc: Global, byte: u8) -> Result<String, AllocError> {
+    let sign = char::from(byte);
+    let instead = instead_of(byte);
+    format!(in alloc; "no token begins with '{sign}': {instead}")
 }
 
 /// What is wrong with a byte that begins no token.
 fn stray(alloc: Global, bytes: &[u8]) -> Result<Option<String>, AllocError> {
-    let absent = absent_directive(alloc, bytes)?;
-    if absent.is_some() {
-        return Ok(absent);
+    if let Some(feature) = absent_directive(bytes) {
+        let word = Quoted(word_after_sign(bytes));
+        return some(format!(in alloc; "{}", Absent(word, feature)));
     }
     if let Some((what, feature)) = feature_of(bytes) {
-        let absent = Absent(what, feature);
-        return Ok(Some(format!(in alloc; "{absent}")?));
+        return some(format!(in alloc; "{}", Absent(what, feature)));
     }
     match bytes.first().copied() {
         None => Ok(None),
-        Some(byte) if matches!(byte, b' '..=b'~') => {
-            let sign = char::from(byte);
-            let instead = instead_of(byte);
-            Ok(Some(format!(in alloc; "no token begins with '{sign}': {instead}")?))
-        }
+        Some(byte) if matches!(byte, b' '..=b'~') => some(stray_sign(alloc, byte)),
         Some(_) => misplaced(alloc, bytes, "in a source"),
     }
 }
@@ -126,8 +126,8 @@ pub fn source_sentence(
     match rule {
         STRAY_BYTE => stray(alloc, bytes),
         BAD_TEXT => quoted(alloc, source, offset),
-        BAD_NUMBER => Ok(Some(number(alloc, bytes)?)),
-        NAME_TOO_LONG => Ok(Some(long_name(alloc, bytes)?)),
+        BAD_NUMBER => some(number(alloc, bytes)),
+        NAME_TOO_LONG => some(long_name(alloc, bytes)),
         _ => Ok(None),
     }
 }

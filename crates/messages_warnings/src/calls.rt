@@ -46,8 +46,12 @@ fn close(calls: &mut Calls, meant: &[usize], open: Open, end: usize) {
 ///
 /// `AllocError` where memory is refused.
 pub fn calls_of(alloc: Global, tokens: &[Token<'_>], meant: &[usize]) -> Result<Calls, AllocError> {
-    let openings = no_numbers(alloc, tokens.len())?;
-    let most_arguments = vec![in alloc; 0; tokens.len()]?;
+    let Ok(openings) = no_numbers(alloc, tokens.len()) else {
+        return Err(AllocError);
+    };
+    let Ok(most_arguments) = vec![in alloc; 0; tokens.len()] else {
+        return Err(AllocError);
+    };
     let mut calls = Calls {
         openings,
         most_arguments,
@@ -55,7 +59,9 @@ pub fn calls_of(alloc: Global, tokens: &[Token<'_>], meant: &[usize]) -> Result<
     let mut open = Vec::new(alloc);
     for at in 0..tokens.len() {
         if is_sign(tokens, at, Sign::OpenParenthesis) {
-            open.push(Open { at, commas: 0 })?;
+            let Ok(()) = open.push(Open { at, commas: 0 }) else {
+                return Err(AllocError);
+            };
         } else if is_sign(tokens, at, Sign::Comma) {
             if let Some(last) = open.last_mut() {
                 last.commas = last.commas.saturating_add(1);

@@ -4,12 +4,17 @@ use crate::marks::{Concern, Marks};
 use crate::numbers::{NONE, has_flag, number_at, set_flag};
 use crate::routines::Routine;
 use crate::statements::{begins_in_list, is_case};
-use messages_contexts::{before, behind, is_name, is_named, is_sign, is_word, kind_at};
+use messages_contexts::{
+    before, behind, is_any_sign, is_any_word, is_name, is_named, is_sign, is_word, kind_at,
+};
 use std::alloc::{AllocError, Global};
 use syntax_lexer::{Kind, Sign, Token, Word};
 
 /// The property that always exists: its words are those that mean an object.
 const NAME: &[u8] = b"name";
+
+/// The operators after which a value is compared.
+const EQUALITIES: [Sign; 2] = [Sign::Equal, Sign::NotEqual];
 
 /// A letter that is written as a character, and the group of values to which it belongs.
 #[derive(Clone, Copy)]
@@ -117,9 +122,9 @@ fn group_of(
 /// Whether a value is compared with what is before the operator of a number, or is after `or` in
 /// such a list, whose last value so far has a number.
 fn is_compared(tokens: &[Token<'_>], at: usize, last: usize) -> bool {
-    is_sign(tokens, before(at, 1), Sign::Equal)
-        || is_sign(tokens, before(at, 1), Sign::NotEqual)
-        || is_word(tokens, before(at, 1), Word::Or) && before(at, 2) == last
+    let operator = before(at, 1);
+    is_any_sign(tokens, operator, &EQUALITIES)
+        || is_word(tokens, operator, Word::Or) && before(at, 2) == last
 }
 
 /// Takes the values in a routine with which something is compared by `==` and `~=`.
@@ -132,10 +137,12 @@ fn take_compared(
     let mut group = NONE;
     let mut last = NONE;
     for at in routine.body..routine.end {
-        if is_sign(tokens, at, Sign::Equal) || is_sign(tokens, at, Sign::NotEqual) {
+        if is_any_sign(tokens, at, &EQUALITIES) {
             group = group_of(tokens, context, before(at, 1), at, groups);
         } else if is_compared(tokens, at, last) {
-            groups.take(tokens, at, group)?;
+            let Ok(()) = groups.take(tokens, at, group) else {
+                return Err(AllocError);
+            };
             last = at;
         }
     }
@@ -173,12 +180,16 @@ fn take_cases(
             in_case = is_case(tokens, at);
         }
         if is_sign(tokens, at, Sign::OpenBrace) {
-            blocks.push(group_of_block(tokens, context, at, groups))?;
+            let Ok(()) = blocks.push(group_of_block(tokens, context, at, groups)) else {
+                return Err(AllocError);
+            };
         } else if is_sign(tokens, at, Sign::CloseBrace) {
             blocks.pop();
         } else if in_case {
             let group = blocks.last().copied().unwrap_or(NONE);
-            groups.take(tokens, at, group)?;
+            let Ok(()) = groups.take(tokens, at, group) else {
+                return Err(AllocError);
+            };
         }
     }
     Ok(())
@@ -207,15 +218,15 @@ pub fn take_routine(
     groups: &mut Groups,
 ) -> Result<(), AllocError> {
     note_read(tokens, context, routine, groups);
-    take_compared(tokens, context, routine, groups)?;
+    let Ok(()) = take_compared(tokens, context, routine, groups) else {
+        return Err(AllocError);
+    };
     take_cases(alloc, tokens, context, routine, groups)
 }
 
 /// Whether the values of an array or of a property begin after the token of a number.
 fn begins_list(tokens: &[Token<'_>], at: usize) -> bool {
-    is_word(tokens, at, Word::Array)
-        || is_word(tokens, at, Word::With)
-        || is_sign(tokens, at, Sign::Comma)
+    is_any_word(tokens, at, &[Word::Array, Word::With]) || is_sign(tokens, at, Sign::Comma)
 }
 
 /// Takes the values in the definitions from one token to another, which are no routines.
@@ -239,7 +250,9 @@ pub fn take_definitions(
         } else if is_sign(tokens, at, Sign::Semicolon) {
             group = NONE;
         } else {
-            groups.take(tokens, at, group)?;
+            let Ok(()) = groups.take(tokens, at, group) else {
+                return Err(AllocError);
+            };
         }
     }
     Ok(())

@@ -1,7 +1,7 @@
 //! The loops around a place.
 
 use crate::numbers::NONE;
-use messages_contexts::{behind, is_sign, is_word, kind_at};
+use messages_contexts::{behind, is_word, kind_at};
 use std::alloc::{AllocError, Global};
 use syntax_lexer::{Kind, Sign, Token, Word};
 
@@ -112,23 +112,30 @@ impl Around {
         }
     }
 
+    /// Takes a sign, before an `else` or not.
+    fn take_sign(&mut self, sign: Sign, has_else: bool) -> Result<(), AllocError> {
+        match sign {
+            Sign::OpenBrace => self.unended.push(Unended::Block)?,
+            Sign::CloseBrace => {
+                self.leave();
+                self.end(has_else);
+            }
+            Sign::Semicolon => self.end(has_else),
+            _ => {}
+        }
+        Ok(())
+    }
+
     /// Takes the next token of a routine, which has a number.
     ///
     /// # Errors
     ///
     /// `AllocError` where memory is refused.
     pub fn take(&mut self, tokens: &[Token<'_>], at: usize) -> Result<(), AllocError> {
-        if let Kind::Reserved(word) = kind_at(tokens, at) {
-            return self.take_word(word, at);
+        match kind_at(tokens, at) {
+            Kind::Reserved(word) => self.take_word(word, at),
+            Kind::Sign(sign) => self.take_sign(sign, is_word(tokens, behind(at, 1), Word::Else)),
+            _ => Ok(()),
         }
-        if is_sign(tokens, at, Sign::OpenBrace) {
-            self.unended.push(Unended::Block)?;
-        } else if is_sign(tokens, at, Sign::CloseBrace) {
-            self.leave();
-            self.end(is_word(tokens, behind(at, 1), Word::Else));
-        } else if is_sign(tokens, at, Sign::Semicolon) {
-            self.end(is_word(tokens, behind(at, 1), Word::Else));
-        }
-        Ok(())
     }
 }

@@ -1,30 +1,65 @@
 //! What the names of a program mean: where each is defined.
 
-use crate::numbers::{NONE, no_numbers, put_number};
+use crate::numbers::{NONE, no_numbers, number_at, put_number};
 use crate::routines::Routine;
-use checker_names::{Key, key_of};
-use indexmap::IndexMap;
 use messages_contexts::{behind, defined_at, is_name, is_named, text_at};
 use std::alloc::{AllocError, Global};
 use syntax_lexer::Token;
 
-/// The numbers of the tokens where the names of the file are defined, by the keys of the names.
-type Definitions = IndexMap<Key, usize>;
+/// How many hashes of names there are.
+const HASHES: usize = 4_096;
+
+/// By how much the hash of the bytes before another one is multiplied.
+const HASH_FACTOR: usize = 31;
+
+/// Where the names of the file are defined: lists of tokens, one for each hash of a name.
+#[derive(Drop)]
+struct Definitions {
+    /// For each hash the last token that defines a name of it.
+    last: Vec<usize>,
+
+    /// For each such token the one before it in its list.
+    earlier: Vec<usize>,
+}
+
+/// The hash of a name, below [`HASHES`]: capital and small letters are the same.
+fn hash_of(text: &[u8]) -> usize {
+    let mut hash: usize = 0;
+    for byte in text {
+        let letter = byte.to_ascii_lowercase() as usize;
+        hash = hash.wrapping_mul(HASH_FACTOR).wrapping_add(letter);
+    }
+    hash % HASHES
+}
 
 /// The definitions of the file.
 fn definitions_of(alloc: Global, tokens: &[Token<'_>]) -> Result<Definitions, AllocError> {
-    let mut definitions = IndexMap::new(alloc);
+    let Ok(mut last) = no_numbers(alloc, HASHES) else {
+        return Err(AllocError);
+    };
+    let Ok(mut earlier) = no_numbers(alloc, tokens.len()) else {
+        return Err(AllocError);
+    };
     for at in 0..tokens.len() {
         if defined_at(tokens, at).is_some() {
-            definitions.insert(key_of(text_at(tokens, at)), at)?;
+            let hash = hash_of(text_at(tokens, at));
+            put_number(&mut earlier, at, number_at(&last, hash));
+            put_number(&mut last, hash, at);
         }
     }
-    Ok(definitions)
+    Ok(Definitions { last, earlier })
 }
 
 /// The token where a name of the file is defined; [`NONE`] for the property `name`.
-fn definition_of(definitions: &Definitions, text: &[u8]) -> usize {
-    definitions.get(&key_of(text)).copied().unwrap_or(NONE)
+fn definition_of(tokens: &[Token<'_>], definitions: &Definitions, text: &[u8]) -> usize {
+    let mut at = number_at(&definitions.last, hash_of(text));
+    for _ in 0..tokens.len() {
+        if at == NONE || is_named(tokens, at, text) {
+            return at;
+        }
+        at = number_at(&definitions.earlier, at);
+    }
+    NONE
 }
 
 /// The token where a local of a routine is defined; [`NONE`] where the routine has none of this name.
@@ -60,15 +95,16 @@ pub fn meanings_of(
     tokens: &[Token<'_>],
     routines: &[Routine],
 ) -> Result<Vec<usize>, AllocError> {
-    let definitions = definitions_of(alloc, tokens)?;
-    let mut meant = no_numbers(alloc, tokens.len())?;
+    let Ok(definitions) = definitions_of(alloc, tokens) else {
+        return Err(AllocError);
+    };
+    let Ok(mut meant) = no_numbers(alloc, tokens.len()) else {
+        return Err(AllocError);
+    };
     for at in 0..tokens.len() {
         if is_name(tokens, at) {
-            put_number(
-                &mut meant,
-                at,
-                definition_of(&definitions, text_at(tokens, at)),
-            );
+            let definition = definition_of(tokens, &definitions, text_at(tokens, at));
+            put_number(&mut meant, at, definition);
         }
     }
     for routine in routines {

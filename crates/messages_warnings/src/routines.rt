@@ -39,7 +39,9 @@ pub fn routines_of(alloc: Global, tokens: &[Token<'_>]) -> Result<Vec<Routine>, 
             }
         } else if is_sign(tokens, at, Sign::CloseBracket) {
             routine.end = at;
-            routines.push(routine)?;
+            let Ok(()) = routines.push(routine) else {
+                return Err(AllocError);
+            };
         }
     }
     Ok(routines)

@@ -2,7 +2,7 @@
 
 use crate::marks::{Concern, Warning};
 use crate::warnings::warnings_of;
-use messages_contexts::{before, is_name, is_sign, kind_at, line_of, text_at};
+use messages_contexts::{before, is_any_sign, is_name, kind_at, line_of, text_at};
 use messages_tokens::Quoted;
 use std::alloc::{AllocError, Global};
 use std::fmt::{self, Display, Formatter};
@@ -19,9 +19,7 @@ struct Sentence<'t, 'a> {
 /// its left side.
 fn name_set<'a>(tokens: &[Token<'a>], at: usize) -> Option<&'a [u8]> {
     let name = before(at, 1);
-    let front = before(at, 2);
-    let is_alone = is_sign(tokens, front, Sign::OpenParenthesis)
-        || is_sign(tokens, front, Sign::Colon);
+    let is_alone = is_any_sign(tokens, before(at, 2), &[Sign::OpenParenthesis, Sign::Colon]);
     if is_alone && is_name(tokens, name) {
         Some(text_at(tokens, name))
     } else {
@@ -29,17 +27,25 @@ fn name_set<'a>(tokens: &[Token<'a>], at: usize) -> Option<&'a [u8]> {
     }
 }
 
-/// Why nothing runs what follows the statement that begins with the token of a number.
+/// Where a statement goes that begins with a reserved word, and leaves what follows.
+fn where_word_goes(word: Word) -> &'static str {
+    match word {
+        Word::PrintRet => "'print_ret' leaves the routine",
+        Word::Quit => "'quit' ends the story",
+        Word::Break => "'break' leaves the loop or switch",
+        Word::Continue => "'continue' goes to the next round",
+        Word::Rtrue => "'rtrue' leaves the routine",
+        Word::Rfalse => "'rfalse' leaves the routine",
+        _ => "'return' leaves the routine",
+    }
+}
+
+/// Why nothing runs what follows the statement that begins with the token of a number: a text, or a
+/// reserved word.
 fn why_left(tokens: &[Token<'_>], at: usize) -> &'static str {
     match kind_at(tokens, at) {
-        Kind::Text(_) => "a text as a statement leaves the routine",
-        Kind::Reserved(Word::PrintRet) => "'print_ret' leaves the routine",
-        Kind::Reserved(Word::Quit) => "'quit' ends the story",
-        Kind::Reserved(Word::Break) => "'break' leaves the loop or switch",
-        Kind::Reserved(Word::Continue) => "'continue' goes to the next round",
-        Kind::Reserved(Word::Rtrue) => "'rtrue' leaves the routine",
-        Kind::Reserved(Word::Rfalse) => "'rfalse' leaves the routine",
-        _ => "'return' leaves the routine",
+        Kind::Reserved(word) => where_word_goes(word),
+        _ => "a text as a statement leaves the routine",
     }
 }
 
@@ -120,16 +126,28 @@ pub fn warning_lines<N: Display + Drop>(
     source: &[u8],
     name: N,
 ) -> Result<String, AllocError> {
-    let tokens = match lex(alloc, source) {
-        Ok(tokens) => tokens,
-        Err(fault) if fault.number == NO_MEMORY => return Err(AllocError),
-        Err(_) => return Ok(String::new(alloc)),
-    };
-    let warnings = warnings_of(alloc, &tokens)?;
-    let lines = Lines {
-        name,
-        tokens: &tokens,
-        warnings: &warnings,
-    };
-    format!(in alloc; "{lines}")
+    match lex(alloc, source) {
+        Ok(tokens) => lines_of(alloc, &tokens, name),
+        Err(fault) if fault.number == NO_MEMORY => Err(AllocError),
+        Err(_) => Ok(String::new(alloc)),
+    }
+}
+
+/// The warnings about the tokens of a source of a name.
+fn lines_of<N: Display + Drop>(
+    alloc: Global,
+    tokens: &[Token<'_>],
+    name: N,
+) -> Result<String, AllocError> {
+    match warnings_of(alloc, tokens) {
+        Ok(warnings) => {
+            let lines = Lines {
+                name,
+                tokens,
+                warnings: &warnings,
+            };
+            format!(in alloc; "{lines}")
+        }
+        Err(refused) => Err(refused),
+    }
 }

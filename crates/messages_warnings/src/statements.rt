@@ -1,6 +1,6 @@
 //! Where statements begin, as the tokens tell.
 
-use messages_contexts::{before, behind, divides_at, is_sign, is_word, kind_at};
+use messages_contexts::{before, behind, divides_at, is_any_sign, is_sign, is_word, kind_at};
 use syntax_lexer::{Kind, Sign, Token, Word};
 
 /// Whether a statement of a list begins with the token of a number, or a case does.
@@ -23,9 +23,7 @@ fn is_value(tokens: &[Token<'_>], at: usize) -> bool {
 
 /// Whether what follows a value goes on with a case.
 fn goes_on(tokens: &[Token<'_>], at: usize) -> bool {
-    is_sign(tokens, at, Sign::Comma)
-        || is_sign(tokens, at, Sign::Colon)
-        || is_word(tokens, at, Word::To)
+    is_any_sign(tokens, at, &[Sign::Comma, Sign::Colon]) || is_word(tokens, at, Word::To)
 }
 
 /// Whether what begins with the token of a number, where a statement of a list may begin, is a case.

@@ -3,7 +3,7 @@
 use crate::marks::{Concern, Marks};
 use crate::routines::Routine;
 use crate::statements::{begins_in_list, is_case};
-use messages_contexts::{is_sign, is_text, kind_at};
+use messages_contexts::{is_any_sign, is_sign, is_text, kind_at};
 use syntax_lexer::{Kind, Sign, Token, Word};
 
 /// Whether a statement that begins with a reserved word goes elsewhere.
@@ -44,9 +44,7 @@ fn next_of(tokens: &[Token<'_>], first: usize) -> usize {
 
 /// Whether the token of a number ends the statements of a list.
 fn ends_list(tokens: &[Token<'_>], at: usize) -> bool {
-    is_sign(tokens, at, Sign::CloseBrace)
-        || is_sign(tokens, at, Sign::CloseBracket)
-        || is_case(tokens, at)
+    is_any_sign(tokens, at, &[Sign::CloseBrace, Sign::CloseBracket]) || is_case(tokens, at)
 }
 
 /// Marks each statement of a routine that follows one which goes elsewhere.

@@ -3,7 +3,7 @@
 use crate::loops::Around;
 use crate::numbers::{NONE, number_at};
 use crate::routines::Routine;
-use messages_contexts::{before, behind, is_sign, is_word};
+use messages_contexts::{before, behind, is_any_sign, is_sign, is_word};
 use std::alloc::{AllocError, Global};
 use syntax_lexer::{Sign, Token, Word};
 
@@ -23,13 +23,15 @@ pub struct FirstUse {
 /// Whether a value is assigned to an operand from one token to another, or it is stepped. Steps
 /// count as assignments: to count from 0 on is no mistake.
 fn is_changed(tokens: &[Token<'_>], first: usize, last: usize) -> bool {
-    let next = behind(last, 1);
-    let front = before(first, 1);
-    is_sign(tokens, next, Sign::Assign)
-        || is_sign(tokens, next, Sign::Increment)
-        || is_sign(tokens, next, Sign::Decrement)
-        || is_sign(tokens, front, Sign::Increment)
-        || is_sign(tokens, front, Sign::Decrement)
+    is_any_sign(
+        tokens,
+        behind(last, 1),
+        &[Sign::Assign, Sign::Increment, Sign::Decrement],
+    ) || is_any_sign(
+        tokens,
+        before(first, 1),
+        &[Sign::Increment, Sign::Decrement],
+    )
 }
 
 /// Whether a name is the variable of an `objectloop`.
@@ -75,7 +77,9 @@ fn note_body(
 ) -> Result<(), AllocError> {
     let mut around = Around::none(alloc);
     for at in routine.body..routine.end {
-        around.take(tokens, at)?;
+        let Ok(()) = around.take(tokens, at) else {
+            return Err(AllocError);
+        };
         let meaning = number_at(meant, at);
         if meaning < uses.len() && meaning != routine.name {
             note(&mut uses[meaning], at, around.outermost, sets(tokens, at));
@@ -110,11 +114,15 @@ pub fn uses_of(
         outermost: NONE,
         is_unset: false,
     };
-    let mut uses = vec![in alloc; none; tokens.len()]?;
+    let Ok(mut uses) = vec![in alloc; none; tokens.len()] else {
+        return Err(AllocError);
+    };
     let mut end = 0;
     for routine in routines {
         note_definitions(meant, end, routine.name, &mut uses);
-        note_body(alloc, tokens, meant, *routine, &mut uses)?;
+        let Ok(()) = note_body(alloc, tokens, meant, *routine, &mut uses) else {
+            return Err(AllocError);
+        };
         end = routine.end;
     }
     note_definitions(meant, end, tokens.len(), &mut uses);

@@ -15,24 +15,66 @@ use crate::uses::uses_of;
 use std::alloc::{AllocError, Global};
 use syntax_lexer::Token;
 
-/// Marks the characters that are likely to be words.
-fn mark_letters(
+/// The values in groups, among which characters are likely to be words.
+fn groups_of(
     alloc: Global,
     tokens: &[Token<'_>],
     context: Context<'_>,
     routines: &[Routine],
-    marks: &mut Marks,
-) -> Result<(), AllocError> {
-    let mut groups = Groups::none(alloc, tokens.len())?;
+) -> Result<Groups, AllocError> {
+    let Ok(mut groups) = Groups::none(alloc, tokens.len()) else {
+        return Err(AllocError);
+    };
     let mut end = 0;
     for routine in routines {
-        take_definitions(tokens, end, routine.name, &mut groups)?;
-        take_routine(alloc, tokens, context, *routine, &mut groups)?;
+        let Ok(()) = take_definitions(tokens, end, routine.name, &mut groups) else {
+            return Err(AllocError);
+        };
+        let Ok(()) = take_routine(alloc, tokens, context, *routine, &mut groups) else {
+            return Err(AllocError);
+        };
         end = routine.end;
     }
-    take_definitions(tokens, end, tokens.len(), &mut groups)?;
-    groups.mark(marks);
-    Ok(())
+    match take_definitions(tokens, end, tokens.len(), &mut groups) {
+        Ok(()) => Ok(groups),
+        Err(refused) => Err(refused),
+    }
+}
+
+/// All that is said of the tokens of a program.
+fn marks_of(alloc: Global, tokens: &[Token<'_>]) -> Result<Marks, AllocError> {
+    let Ok(routines) = routines_of(alloc, tokens) else {
+        return Err(AllocError);
+    };
+    let Ok(meant) = meanings_of(alloc, tokens, &routines) else {
+        return Err(AllocError);
+    };
+    let Ok(calls) = calls_of(alloc, tokens, &meant) else {
+        return Err(AllocError);
+    };
+    let Ok(uses) = uses_of(alloc, tokens, &meant, &routines) else {
+        return Err(AllocError);
+    };
+    let Ok(mut marks) = Marks::none(alloc, tokens.len()) else {
+        return Err(AllocError);
+    };
+    mark_definitions(tokens, &uses, &mut marks);
+    mark_conditions(tokens, &mut marks);
+    for routine in &routines {
+        mark_unreached(tokens, *routine, &mut marks);
+        mark_locals(*routine, &uses, &calls.most_arguments, &mut marks);
+    }
+    let context = Context {
+        meant: &meant,
+        openings: &calls.openings,
+    };
+    match groups_of(alloc, tokens, context, &routines) {
+        Ok(groups) => {
+            groups.mark(&mut marks);
+            Ok(marks)
+        }
+        Err(refused) => Err(refused),
+    }
 }
 
 /// The warnings about the tokens of a program that is accepted, in their order, and at most one for
@@ -44,21 +86,8 @@ fn mark_letters(
 pub fn warnings_of(alloc: Global, tokens: &[Token<'_>]) -> Result<Vec<Warning>, AllocError>
     ensures { IfOk result (λ v. AreInOrder (length tokens.now) v.items) }
 {
-    let routines = routines_of(alloc, tokens)?;
-    let meant = meanings_of(alloc, tokens, &routines)?;
-    let calls = calls_of(alloc, tokens, &meant)?;
-    let uses = uses_of(alloc, tokens, &meant, &routines)?;
-    let mut marks = Marks::none(alloc, tokens.len())?;
-    mark_definitions(tokens, &uses, &mut marks);
-    mark_conditions(tokens, &mut marks);
-    for routine in &routines {
-        mark_unreached(tokens, *routine, &mut marks);
-        mark_locals(*routine, &uses, &calls.most_arguments, &mut marks);
+    match marks_of(alloc, tokens) {
+        Ok(marks) => all_marks(alloc, &marks, tokens.len()),
+        Err(refused) => Err(refused),
     }
-    let context = Context {
-        meant: &meant,
-        openings: &calls.openings,
-    };
-    mark_letters(alloc, tokens, context, &routines, &mut marks)?;
-    all_marks(alloc, &marks, tokens.len())
 }

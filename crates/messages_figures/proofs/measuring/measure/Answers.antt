@@ -6,7 +6,7 @@ use Rattle.syntax_lexer.specs.Results.{source_tokens}
 use Rattle.syntax.specs.Views.{program_tree}
 use Rattle.story.specs.Large.{limits_by}
 use Rattle.story.proofs.Compiling.{is_tree, light, printable}
-use Rattle.messages_temporaries.specs.Needs.{IsFirstGreatest, program_needs}
+use Rattle.messages_figures.specs.Needs.{IsFirstGreatest, program_needs}
 use Rattle.messages_figures.specs.Figures.{attributes_in, counts_in}
 use Rattle.messages_figures.proofs.Accepting.{few_words, few_objects, accepted_program, story_of_tree, refused}
 use Rattle.messages_figures.proofs.FewTemporaries.{temporaries_few}

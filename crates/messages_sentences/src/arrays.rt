@@ -1,0 +1,144 @@
+//! The entry or the size of an array (E28). The tokens are those of a program.
+
+use checker_names::{Known, Table, constant_known, find};
+use messages_contexts::{Defined, behind, is_sign, is_word, kind_at};
+use messages_names::{array_kind, most_entries};
+use messages_tokens::{Figure, Quoted, some};
+use std::alloc::{AllocError, Global};
+use syntax::{ArrayKind, Kind, Sign, Token, Word};
+
+/// What is known of the value that is the token of a number, but of one with `-` before it.
+fn known_token(tokens: &[Token<'_>], at: usize, table: &Table) -> Option<Known> {
+    match kind_at(tokens, at) {
+        Kind::Number(number) => Some(Known::Number(number)),
+        Kind::Character(character) => Some(Known::Number(character as u16)),
+        Kind::DictionaryWord(_) => Some(Known::Key(0)),
+        Kind::Name(text) => constant_known(find(table, text)),
+        Kind::Reserved(word) => Some(Known::Number((word as u8 == Word::True as u8) as u16)),
+        _ => None,
+    }
+}
+
+/// The value that is a number with `-` before it.
+fn negative(known: Option<Known>) -> Option<Known> {
+    match known {
+        Some(Known::Number(number)) => Some(Known::Number(0_u16.wrapping_sub(number))),
+        other => other,
+    }
+}
+
+/// What is known of the value that begins with the token of a number.
+fn known_at(tokens: &[Token<'_>], at: usize, table: &Table) -> Option<Known> {
+    if is_sign(tokens, at, Sign::Minus) {
+        negative(known_token(tokens, behind(at, 1), table))
+    } else {
+        known_token(tokens, at, table)
+    }
+}
+
+/// The kind of the array of which the token of a number tells it.
+fn kind_told(tokens: &[Token<'_>], at: usize) -> ArrayKind {
+    if is_sign(tokens, at, Sign::Arrow) {
+        ArrayKind::Bytes
+    } else if is_sign(tokens, at, Sign::LongArrow) {
+        ArrayKind::Words
+    } else if is_word(tokens, at, Word::String) {
+        ArrayKind::String
+    } else {
+        ArrayKind::Table
+    }
+}
+
+/// How many values stand from the token of a number to the end of a definition.
+fn values(tokens: &[Token<'_>], first: usize) -> usize {
+    let mut count: usize = 0;
+    for number in first..tokens.len() {
+        if is_sign(tokens, number, Sign::Semicolon) {
+            break;
+        }
+        if !is_sign(tokens, number, Sign::Minus) {
+            count = count.saturating_add(1);
+        }
+    }
+    count
+}
+
+/// What is wrong with an entry that is no byte.
+fn entry(alloc: Global, known: Option<Known>) -> Result<Option<String>, AllocError> {
+    match known {
+        Some(Known::Number(number)) => {
+            let number = Figure(number as u128);
+            some(format!(in alloc;
+                "an entry of {number}; a byte holds at most 255: write '-->' or 'table' for words"
+            ))
+        }
+        Some(Known::Key(_)) => {
+            let sentence =
+                "a dictionary word does not fit into a byte: write '-->' or 'table' for words";
+            some(String::from_str(alloc, sentence))
+        }
+        None => Ok(None),
+    }
+}
+
+/// What is wrong with a number of entries.
+fn size(alloc: Global, name: &[u8], kind: ArrayKind, count: usize) -> Result<String, AllocError> {
+    let name = Quoted(name);
+    let count = Figure(count as u128);
+    let most = Figure(most_entries(kind) as u128);
+    let kind = array_kind(kind);
+    format!(in alloc; "{name} has {count} entries; {kind} has 1 to {most}")
+}
+
+/// What is wrong with the only value of an array.
+fn only(
+    alloc: Global,
+    name: &[u8],
+    kind: ArrayKind,
+    known: Option<Known>,
+) -> Result<Option<String>, AllocError> {
+    match known {
+        Some(Known::Number(count)) => some(size(alloc, name, kind, count as usize)),
+        Some(Known::Key(_)) => {
+            let name = Quoted(name);
+            some(format!(in alloc; "the size of {name} is a dictionary word; a number is expected"))
+        }
+        None => Ok(None),
+    }
+}
+
+/// What is wrong with the number of entries of the array whose name is a token, which has a number.
+fn entries(
+    alloc: Global,
+    tokens: &[Token<'_>],
+    at: usize,
+    name: &[u8],
+    table: &Table,
+) -> Result<Option<String>, AllocError> {
+    let kind = kind_told(tokens, behind(at, 1));
+    let first = behind(at, 2);
+    match values(tokens, first) {
+        1 => only(alloc, name, kind, known_at(tokens, first, table)),
+        count => some(size(alloc, name, kind, count)),
+    }
+}
+
+/// What is wrong with the entry or the size of an array at a token, which has a number.
+///
+/// # Errors
+///
+/// `AllocError` where memory is refused.
+pub fn bad_array(
+    alloc: Global,
+    tokens: &[Token<'_>],
+    at: usize,
+    token: Token<'_>,
+    around: Option<Defined>,
+    table: &Table,
+) -> Result<Option<String>, AllocError> {
+    match around {
+        None => Ok(None),
+        Some(found) if found.name == at => entries(alloc, tokens, at, token.text, table),
+        Some(_) => entry(alloc, known_at(tokens, at, table)),
+    }
+}
