@@ -1,7 +1,11 @@
 //! A feature, how it is found by a name, and how its absence is said.
 
-use crate::habits::{BEGINNINGS, OPERANDS, OPERATORS, STATEMENTS};
-use crate::table::{ALL, DIRECTIVES, IN_EXPRESSIONS};
+use crate::habits::{
+    ACTIONS, CONDITIONS_AND_LOOPS, DEFINITIONS, OPERANDS, OPERATORS, OTHERS, STATEMENTS,
+};
+use crate::table::{
+    DIRECTIVES, IN_EXPRESSIONS, OF_DIRECTIVES, OF_EXPRESSIONS, OF_OBJECTS, OF_STATEMENTS, OF_TEXTS,
+};
 use std::fmt::{self, Display, Formatter};
 
 /// A feature of Inform 6, or one that authors expect there, that is not in this language. In its
@@ -85,9 +89,38 @@ fn find(features: &[&'static Feature], text: &[u8]) -> Option<&'static Feature> 
     None
 }
 
+/// The feature of directives or values that has a name.
+fn of_directives(text: &[u8]) -> Option<&'static Feature> {
+    find(&OF_DIRECTIVES, text)
+}
+
+/// The feature of expressions that has a name.
+fn of_expressions(text: &[u8]) -> Option<&'static Feature> {
+    find(&OF_EXPRESSIONS, text)
+}
+
+/// The feature of texts that has a name.
+fn of_texts(text: &[u8]) -> Option<&'static Feature> {
+    find(&OF_TEXTS, text)
+}
+
+/// The feature of other statements that has a name.
+fn of_statements(text: &[u8]) -> Option<&'static Feature> {
+    find(&OF_STATEMENTS, text)
+}
+
+/// The feature of objects that has a name.
+fn of_objects(text: &[u8]) -> Option<&'static Feature> {
+    find(&OF_OBJECTS, text)
+}
+
 /// The feature that is recognized by a name, in capital or small letters.
 pub fn named(text: &[u8]) -> Option<&'static Feature> {
-    find(&ALL, text)
+    of_directives(text)
+        .or(of_expressions(text))
+        .or(of_texts(text))
+        .or(of_statements(text))
+        .or(of_objects(text))
 }
 
 /// The feature that is recognized by the name of a directive, in capital or small letters.
@@ -100,10 +133,28 @@ pub fn named_in_expression(text: &[u8]) -> Option<&'static Feature> {
     find(&IN_EXPRESSIONS, text)
 }
 
+/// What to write instead of a word at the beginning of a condition, a loop or a block.
+fn habit_before_condition(text: &[u8]) -> Option<&'static Feature> {
+    find(&CONDITIONS_AND_LOOPS, text)
+}
+
+/// What to write instead of a word at the beginning of a definition.
+fn habit_before_definition(text: &[u8]) -> Option<&'static Feature> {
+    find(&DEFINITIONS, text)
+}
+
+/// What to write instead of a word at the beginning of a statement that prints, reads, ends or calls.
+fn habit_before_action(text: &[u8]) -> Option<&'static Feature> {
+    find(&ACTIONS, text)
+}
+
 /// What to write instead of a word of another language at the beginning of a statement or a
 /// definition, in capital or small letters.
 pub fn habit_at_beginning(text: &[u8]) -> Option<&'static Feature> {
-    find(&BEGINNINGS, text)
+    habit_before_condition(text)
+        .or(habit_before_definition(text))
+        .or(habit_before_action(text))
+        .or(find(&OTHERS, text))
 }
 
 /// What to write instead of a word of another language between operands, in capital or small

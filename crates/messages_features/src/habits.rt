@@ -346,8 +346,8 @@ pub(crate) const STATEMENTS: [&Feature; 7] = [
     WHEN, PRINTING, NEW_LINES, INPUT, EXITS, EMPTY, CALLS,
 ];
 
-/// The words that are meant at the beginning of a statement, a definition or a block.
-pub(crate) const BEGINNINGS: [&Feature; 27] = [
+/// The words at the beginning of a condition, a loop or a block.
+pub(crate) const CONDITIONS_AND_LOOPS: [&Feature; 10] = [
     ELSE_IF,
     THEN,
     UNLESS,
@@ -358,21 +358,15 @@ pub(crate) const BEGINNINGS: [&Feature; 27] = [
     ENDLESS_LOOPS,
     EACH,
     JUMPS,
-    VARIABLES,
-    CONSTANTS,
-    ROUTINES,
-    RECORDS,
-    PRINTING,
-    NEW_LINES,
-    INPUT,
-    EXITS,
-    CALLS,
-    EMPTY,
-    SETTING,
-    STEPPING,
-    MOVING,
-    HANDLING,
-    IMPORTS,
-    MEMORY,
-    RANGES,
+];
+
+/// The words at the beginning of a definition.
+pub(crate) const DEFINITIONS: [&Feature; 4] = [VARIABLES, CONSTANTS, ROUTINES, RECORDS];
+
+/// The words at the beginning of a statement that prints, reads, ends or calls.
+pub(crate) const ACTIONS: [&Feature; 6] = [PRINTING, NEW_LINES, INPUT, EXITS, CALLS, EMPTY];
+
+/// The words at the beginning of any other statement or line.
+pub(crate) const OTHERS: [&Feature; 7] = [
+    SETTING, STEPPING, MOVING, HANDLING, IMPORTS, MEMORY, RANGES,
 ];

@@ -319,8 +319,8 @@ pub(crate) const DIRECTIVES: [&Feature; 4] = [LIBRARY, CONDITIONS, SETTINGS, CLA
 /// The features whose names are in expressions.
 pub(crate) const IN_EXPRESSIONS: [&Feature; 2] = [FUNCTIONS, MESSAGES];
 
-/// All features.
-pub(crate) const ALL: [&Feature; 36] = [
+/// The features of directives and values. All features are in this list and the next four.
+pub(crate) const OF_DIRECTIVES: [&Feature; 9] = [
     LIBRARY,
     CONDITIONS,
     SETTINGS,
@@ -330,6 +330,10 @@ pub(crate) const ALL: [&Feature; 36] = [
     BUFFERS,
     ARRAY_VALUES,
     OTHER_VALUES,
+];
+
+/// The features of expressions.
+pub(crate) const OF_EXPRESSIONS: [&Feature; 8] = [
     FUNCTIONS,
     STEPS,
     ASSIGNING_OPERATORS,
@@ -338,11 +342,13 @@ pub(crate) const ALL: [&Feature; 36] = [
     ALTERNATIVES,
     COMMAS,
     NESTED_NEGATIONS,
-    PRINT_FORMS,
-    LONG_TEXTS,
-    AT_SIGNS,
-    ACCENTS,
-    CHARACTERS,
+];
+
+/// The features of texts and of what is printed.
+pub(crate) const OF_TEXTS: [&Feature; 5] = [PRINT_FORMS, LONG_TEXTS, AT_SIGNS, ACCENTS, CHARACTERS];
+
+/// The features of other statements.
+pub(crate) const OF_STATEMENTS: [&Feature; 7] = [
     LABELS,
     OBJECT_LOOPS,
     READING,
@@ -350,6 +356,10 @@ pub(crate) const ALL: [&Feature; 36] = [
     OPCODES,
     STYLES,
     SAVING,
+];
+
+/// The features of objects.
+pub(crate) const OF_OBJECTS: [&Feature; 7] = [
     CLASSES,
     SUPERCLASSES,
     MESSAGES,
