@@ -23,6 +23,10 @@ use meaning::Cause;
 use std::alloc::{AllocError, Global};
 use zcore::{Abbreviations, Operand, Operation, TextFault, encode_text};
 
+/// Texts of at most so many bytes are looked at before they are copied. A longer one mostly has a new
+/// line or a double quote.
+const SHORT_TEXT: usize = 24;
+
 /// The opcode `print` (Z-Machine Standards Document 1.1, section 14). Its text follows it.
 const PRINT: u8 = 0xB2;
 
@@ -117,8 +121,8 @@ fn text_by_characters(
     z_text(alloc, abbreviations, &characters)
 }
 
-/// The Z-text of the bytes between quotes, with these abbreviations. They are copied only if some
-/// are not printed as they are.
+/// The Z-text of the bytes between quotes, with these abbreviations. Those of a short text are copied
+/// only if some are not printed as they are.
 fn quoted_text(
     alloc: Global,
     abbreviations: &Abbreviations,
@@ -127,6 +131,9 @@ fn quoted_text(
     ensures { IfOk result (λ v. v.items ≡ encoded_with abbreviations.now
         (filter is_printable (map definitions.character_of text.now))) }
 {
+    if text.len() > SHORT_TEXT {
+        return text_by_characters(alloc, abbreviations, text);
+    }
     if print_themselves(text) {
         z_text(alloc, abbreviations, text)
     } else {
