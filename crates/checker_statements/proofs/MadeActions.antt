@@ -10,8 +10,8 @@ use Rattle.meaning.specs.Resolved as values
 use Rattle.meaning.specs.Resolved.{Action}
 use Rattle.meaning.specs.Views.{value_of, boxed_value, printed_of, action_of, action_layer}
 
-pub made_give : (v : code_value.Value) (changes : Vec (Bool × ℕ))
-    → action_of (done.Give v changes) ≡ values.give_to (value_of v) changes.items
+pub made_give : (v : Box code_value.Value) (changes : Vec (Bool × ℕ))
+    → action_of (done.Give v changes) ≡ values.give_to (boxed_value v) changes.items
 made_give v changes = ap action_of (sym (done.rolls-Give v changes)) ∙ fold-roll-Action Action action_layer _
 
 pub made_move : (v w : Box code_value.Value) → action_of (done.Move v w)

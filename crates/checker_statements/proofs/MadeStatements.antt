@@ -1,5 +1,5 @@
 -- What the actions of the code in which others stand mean, part by part.
-use Rattle.std.proofs.Common.{◌≡◌, Option, Some, None, refl, sym, ap, ◌∙◌}
+use Rattle.std.proofs.Common.{◌≡◌, Option, refl, sym, ap, ◌∙◌}
 use Rattle.std.specs.Prelude.{map}
 use Rattle.std.specs.Global.{Vec, Box}
 use Rattle.std.specs.Option.{option_map}
@@ -11,8 +11,8 @@ use Rattle.meaning.specs.declared.resolved.Action.TheVariants as done
 use Rattle.meaning.specs.declared.resolved.Action.TheFolds.{fold-roll-Action}
 use Rattle.meaning.specs.Resolved as values
 use Rattle.meaning.specs.Resolved.{Action}
-use Rattle.meaning.specs.Views.{value_of, boxed_value, action_of, action_layer, case_of, other_of, actions_of, cases_of}
-use Rattle.meaning.proofs.Mapped.{mapped_twice}
+use Rattle.meaning.specs.Views.{boxed_value, action_of, action_layer, case_of, other_of, actions_of, cases_of}
+use Rattle.meaning.proofs.Mapped.{cases_mapped}
 
 pub made_empty : action_of done.Empty ≡ values.empty
 made_empty = ap action_of (sym done.rolls-Empty) ∙ fold-roll-Action Action action_layer _
@@ -21,32 +21,32 @@ pub made_each_object : (x : Variable) (a : Box code_action.Action)
     → action_of (done.EachObject x a) ≡ values.each_object x (action_of a.value)
 made_each_object x a = ap action_of (sym (done.rolls-EachObject x a)) ∙ fold-roll-Action Action action_layer _
 
-pub made_each_where : (x : Variable) (v : code_value.Value) (a : Box code_action.Action)
-    → action_of (done.EachWhere x v a) ≡ values.each_where x (value_of v) (action_of a.value)
+pub made_each_where : (x : Variable) (v : Box code_value.Value) (a : Box code_action.Action)
+    → action_of (done.EachWhere x v a) ≡ values.each_where x (boxed_value v) (action_of a.value)
 made_each_where x v a = ap action_of (sym (done.rolls-EachWhere x v a)) ∙ fold-roll-Action Action action_layer _
 
-pub made_each_in : (x : Variable) (v : code_value.Value) (a : Box code_action.Action)
-    → action_of (done.EachIn x v a) ≡ values.each_in x (value_of v) (action_of a.value)
+pub made_each_in : (x : Variable) (v : Box code_value.Value) (a : Box code_action.Action)
+    → action_of (done.EachIn x v a) ≡ values.each_in x (boxed_value v) (action_of a.value)
 made_each_in x v a = ap action_of (sym (done.rolls-EachIn x v a)) ∙ fold-roll-Action Action action_layer _
 
 pub made_block : (all : Vec code_action.Action) → action_of (done.Block all)
     ≡ values.block (actions_of (map action_of all.items))
 made_block all = ap action_of (sym (done.rolls-Block all)) ∙ fold-roll-Action Action action_layer _
 
-pub made_if_then : (v : code_value.Value) (a : Box code_action.Action)
-    → action_of (done.If v a) ≡ values.if_then (value_of v) (action_of a.value)
+pub made_if_then : (v : Box code_value.Value) (a : Box code_action.Action)
+    → action_of (done.If v a) ≡ values.if_then (boxed_value v) (action_of a.value)
 made_if_then v a = ap action_of (sym (done.rolls-If v a)) ∙ fold-roll-Action Action action_layer _
 
-pub made_if_else : (v : code_value.Value) (a b : Box code_action.Action)
-    → action_of (done.IfElse v a b) ≡ values.if_else (value_of v) (action_of a.value) (action_of b.value)
+pub made_if_else : (v : Box code_value.Value) (a b : Box code_action.Action)
+    → action_of (done.IfElse v a b) ≡ values.if_else (boxed_value v) (action_of a.value) (action_of b.value)
 made_if_else v a b = ap action_of (sym (done.rolls-IfElse v a b)) ∙ fold-roll-Action Action action_layer _
 
-pub made_while_do : (v : code_value.Value) (a : Box code_action.Action)
-    → action_of (done.While v a) ≡ values.while_do (value_of v) (action_of a.value)
+pub made_while_do : (v : Box code_value.Value) (a : Box code_action.Action)
+    → action_of (done.While v a) ≡ values.while_do (boxed_value v) (action_of a.value)
 made_while_do v a = ap action_of (sym (done.rolls-While v a)) ∙ fold-roll-Action Action action_layer _
 
-pub made_do : (a : Box code_action.Action) (v : code_value.Value)
-    → action_of (done.Do a v) ≡ values.do_until (action_of a.value) (value_of v)
+pub made_do : (a : Box code_action.Action) (v : Box code_value.Value)
+    → action_of (done.Do a v) ≡ values.do_until (action_of a.value) (boxed_value v)
 made_do a v = ap action_of (sym (done.rolls-Do a v)) ∙ fold-roll-Action Action action_layer _
 
 pub made_for : (x y z : Option (Box code_value.Value)) (a : Box code_action.Action) → action_of (done.For x y z a)
@@ -54,15 +54,13 @@ pub made_for : (x y z : Option (Box code_value.Value)) (a : Box code_action.Acti
     (action_of a.value)
 made_for x y z a = ap action_of (sym (done.rolls-For x y z a)) ∙ fold-roll-Action Action action_layer _
 
-pub made_switch : (v : Box code_value.Value) (cases : Vec (Vec Span × Vec code_action.Action))
-    (other : Option (Vec code_action.Action)) → action_of (done.Switch v cases other)
-    ≡ values.switch_on (boxed_value v) (cases_of (map case_of cases.items) (other_of other))
+pub made_switch : (v : Box code_value.Value)
+    (cases : Box (Vec (Vec Span × Vec code_action.Action) × Option (Vec code_action.Action)))
+    → action_of (done.Switch v cases)
+    ≡ values.switch_on (boxed_value v) (cases_of (map case_of cases.value.0.items) (other_of cases.value.1))
 unfolding case_of
-made_switch v cases None = ap action_of (sym (done.rolls-Switch v cases None))
+made_switch v cases = ap action_of (sym (done.rolls-Switch v cases))
     ∙ fold-roll-Action Action action_layer _
-    ∙ ap (λ cs. values.switch_on (boxed_value v) (cases_of cs None))
-    (mapped_twice _ _ case_of (λ c. refl) cases.items)
-made_switch v cases (Some xs) = ap action_of (sym (done.rolls-Switch v cases (Some xs)))
-    ∙ fold-roll-Action Action action_layer _
-    ∙ ap (λ cs. values.switch_on (boxed_value v) (cases_of cs (Some (map action_of xs.items))))
-    (mapped_twice _ _ case_of (λ c. refl) cases.items)
+    ∙ ap (λ cs. values.switch_on (boxed_value v) cs)
+    (cases_mapped _ _ case_of (λ c. refl) _ _ (λ xs. map action_of xs.items) (λ xs. refl) cases.value.0.items
+    cases.value.1)

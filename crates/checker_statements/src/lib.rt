@@ -5,6 +5,7 @@ mod buffer_rules;
 mod case_rules;
 mod heading_rules;
 mod loop_rules;
+mod memory;
 mod simple_rules;
 mod statement_rules;
 

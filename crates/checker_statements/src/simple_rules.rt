@@ -32,13 +32,9 @@ fn temporaries(e: &Expression<'_>, position: Position, least: &mut Least)
     }
 }
 
-/// Resolves the names of an expression of a statement or an item that begins at this position, and
-/// notes the rules that it breaks.
-///
-/// # Errors
-///
-/// `AllocError` where memory is refused.
-pub fn whole(
+// Resolves the names of an expression of a statement or an item that begins at this position, and
+// notes the rules that it breaks.
+fn whole(
     e: &Expression<'_>,
     alloc: Global,
     scope: &Scope<'_>,
@@ -52,7 +48,8 @@ pub fn whole(
     expression(e, alloc, scope, least)
 }
 
-/// The same, in a box.
+/// Resolves the names of an expression of a statement that begins at this position, and notes the
+/// rules that it breaks.
 ///
 /// # Errors
 ///
@@ -225,7 +222,7 @@ fn give<'a>(
     ensures { (around : _) → GivesAction (seen_in scope.now) around result least.old least.new
         (trees.give position (expression_tree e.now) (map flag_tree given.now)) }
 {
-    let Ok(object) = whole(e, alloc, scope, position, least) else {
+    let Ok(object) = boxed_whole(e, alloc, scope, position, least) else {
         return Err(AllocError);
     };
     let Ok(changes) = flags(given, alloc, scope, least) else {

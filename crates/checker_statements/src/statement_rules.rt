@@ -14,7 +14,8 @@ ghost use Rattle.checker_statements.specs.StatementWalk.{AreActions, AreCases, I
 use crate::case_rules::ranges;
 use crate::heading_rules::resolved_heading;
 use crate::loop_rules::loop_variable;
-use crate::simple_rules::{boxed_whole, simple, whole};
+use crate::memory::in_box;
+use crate::simple_rules::{boxed_whole, simple};
 use checker_names::{Least, Scope};
 use meaning::{Action, Around, IN_LOOP, Span, in_switch};
 use std::alloc::{AllocError, Global};
@@ -173,7 +174,7 @@ fn if_then<'a>(
     ensures { GivesAction (seen_in scope.now) around result least.old least.new
         (trees.if_then position (expression_tree condition.now) (statement_tree body.now.value)) }
 {
-    let Ok(condition) = whole(condition, alloc, scope, position, least) else {
+    let Ok(condition) = boxed_whole(condition, alloc, scope, position, least) else {
         return Err(AllocError);
     };
     let Ok(body) = boxed(body, alloc, scope, around, least) else {
@@ -198,7 +199,7 @@ fn if_else<'a>(
         (trees.if_else position (expression_tree condition.now) (statement_tree first.now.value)
         (statement_tree otherwise.now.value)) }
 {
-    let Ok(condition) = whole(condition, alloc, scope, position, least) else {
+    let Ok(condition) = boxed_whole(condition, alloc, scope, position, least) else {
         return Err(AllocError);
     };
     let Ok(first) = boxed(first, alloc, scope, around, least) else {
@@ -224,7 +225,7 @@ fn while_do<'a>(
     ensures { (around : _) → GivesAction (seen_in scope.now) around result least.old least.new
         (trees.while_do position (expression_tree condition.now) (statement_tree body.now.value)) }
 {
-    let Ok(condition) = whole(condition, alloc, scope, position, least) else {
+    let Ok(condition) = boxed_whole(condition, alloc, scope, position, least) else {
         return Err(AllocError);
     };
     let Ok(body) = boxed(body, alloc, scope, IN_LOOP, least) else {
@@ -249,7 +250,7 @@ fn do_until<'a>(
     let Ok(body) = boxed(body, alloc, scope, IN_LOOP, least) else {
         return Err(AllocError);
     };
-    let Ok(condition) = whole(condition, alloc, scope, position, least) else {
+    let Ok(condition) = boxed_whole(condition, alloc, scope, position, least) else {
         return Err(AllocError);
     };
     Ok(Action::Do(body, condition))
@@ -313,7 +314,7 @@ fn each_in<'a>(
         (statement_tree body.now.value)) }
 {
     let variable = loop_variable(name, scope.look(name.text), least);
-    let Ok(parent) = whole(parent, alloc, scope, position, least) else {
+    let Ok(parent) = boxed_whole(parent, alloc, scope, position, least) else {
         return Err(AllocError);
     };
     let Ok(body) = boxed(body, alloc, scope, IN_LOOP, least) else {
@@ -338,7 +339,7 @@ fn each_where<'a>(
         (statement_tree body.now.value)) }
 {
     let variable = loop_variable(name, scope.look(name.text), least);
-    let Ok(condition) = whole(condition, alloc, scope, position, least) else {
+    let Ok(condition) = boxed_whole(condition, alloc, scope, position, least) else {
         return Err(AllocError);
     };
     let Ok(body) = boxed(body, alloc, scope, IN_LOOP, least) else {
@@ -446,5 +447,9 @@ fn switch_on<'a>(
         drop(cases);
         return Err(AllocError);
     };
-    Ok(Action::Switch(value, cases, other))
+    let Ok(cases) = in_box(alloc, (cases, other)) else {
+        drop(value);
+        return Err(AllocError);
+    };
+    Ok(Action::Switch(value, cases))
 }

@@ -1,5 +1,5 @@
 -- What a statement of the code stands for, a variant at a time.
-use Rattle.std.proofs.Common.{◌≡◌, map, refl, ap, sym, ◌∙◌, Option, Some, None}
+use Rattle.std.proofs.Common.{◌≡◌, map, refl, ap, sym, ◌∙◌, Option}
 use Rattle.std.specs.Option.{option_map}
 use Rattle.std.specs.Global.{Vec, Box}
 use Rattle.meaning.specs.declared.resolved.Span.{Span}
@@ -11,18 +11,18 @@ use Rattle.meaning.specs.declared.resolved.Action.TheFolds.{fold-roll-Action}
 use Rattle.meaning.specs.Resolved.{give_to, move_to, remove_from, each_object, each_where, each_in, Action, text_alone}
 use Rattle.meaning.specs.Resolved.{while_do, do_until, for_loop, switch_on, return_value}
 use Rattle.meaning.specs.Views.{cases_of, value_of, case_of, boxed_value, other_of, action_of, action_layer}
-use Rattle.meaning.proofs.Mapped.{mapped_twice}
+use Rattle.meaning.proofs.Mapped.{cases_mapped}
 
 pub text_is : (t : code_action.Action) (text : _) → t ≡ s.Text text → action_of t ≡ text_alone text.now
 text_is t text is = ap action_of is ∙ ap action_of (sym (s.rolls-Text text)) ∙ fold-roll-Action Action action_layer _
 
-pub while_is : (t : code_action.Action) (e : code_value.Value) (x : Box code_action.Action) → t ≡ s.While e x
+pub while_is : (t : code_action.Action) (e : Box code_value.Value) (x : Box code_action.Action) → t ≡ s.While e x
     → action_of t
-    ≡ while_do (value_of e) (action_of x.value)
+    ≡ while_do (value_of e.value) (action_of x.value)
 while_is t e x is = ap action_of is ∙ ap action_of (sym (s.rolls-While e x)) ∙ fold-roll-Action Action action_layer _
 
-pub do_is : (t : code_action.Action) (x : Box code_action.Action) (e : code_value.Value) → t ≡ s.Do x e → action_of t
-    ≡ do_until (action_of x.value) (value_of e)
+pub do_is : (t : code_action.Action) (x : Box code_action.Action) (e : Box code_value.Value) → t ≡ s.Do x e
+    → action_of t ≡ do_until (action_of x.value) (value_of e.value)
 do_is t x e is = ap action_of is ∙ ap action_of (sym (s.rolls-Do x e)) ∙ fold-roll-Action Action action_layer _
 
 pub for_is : (t : code_action.Action) (a b c : Option (Box code_value.Value)) (x : Box code_action.Action)
@@ -32,30 +32,24 @@ pub for_is : (t : code_action.Action) (a b c : Option (Box code_value.Value)) (x
 for_is t a b c x is =
     ap action_of is ∙ ap action_of (sym (s.rolls-For a b c x)) ∙ fold-roll-Action Action action_layer _
 
-made_switch : (e : Box code_value.Value) (cases : Vec (Vec Span × Vec code_action.Action))
-    (other : Option (Vec code_action.Action))
-    → action_of (s.Switch e cases other)
-    ≡ switch_on (value_of e.value) (cases_of (map case_of cases.items) (other_of other))
+pub switch_is : (t : code_action.Action) (e : Box code_value.Value)
+    (cases : Box (Vec (Vec Span × Vec code_action.Action) × Option (Vec code_action.Action)))
+    → t ≡ s.Switch e cases → action_of t
+    ≡ switch_on (value_of e.value) (cases_of (map case_of cases.value.0.items) (other_of cases.value.1))
 unfolding case_of
-made_switch e cases None = ap action_of (sym (s.rolls-Switch e cases None))
+switch_is t e cases is = ap action_of is
+    ∙ ap action_of (sym (s.rolls-Switch e cases))
     ∙ fold-roll-Action Action action_layer _
-    ∙ ap (λ cs. switch_on (value_of e.value) (cases_of cs None)) (mapped_twice _ _ case_of (λ c. refl) cases.items)
-made_switch e cases (Some xs) = ap action_of (sym (s.rolls-Switch e cases (Some xs)))
-    ∙ fold-roll-Action Action action_layer _
-    ∙ ap (λ cs. switch_on (value_of e.value) (cases_of cs (Some (map action_of xs.items))))
-    (mapped_twice _ _ case_of (λ c. refl) cases.items)
-
-pub switch_is : (t : code_action.Action) (e : Box code_value.Value) (cases : Vec (Vec Span × Vec code_action.Action))
-    (other : Option (Vec code_action.Action)) → t ≡ s.Switch e cases other → action_of t
-    ≡ switch_on (value_of e.value) (cases_of (map case_of cases.items) (other_of other))
-switch_is t e cases other is = rw is (made_switch e cases other)
+    ∙ ap (λ cs. switch_on (value_of e.value) cs)
+    (cases_mapped _ _ case_of (λ c. refl) _ _ (λ xs. map action_of xs.items) (λ xs. refl) cases.value.0.items
+    cases.value.1)
 
 pub return_is : (t : code_action.Action) (e : code_value.Value) → t ≡ s.ReturnValue e
     → action_of t ≡ return_value (value_of e)
 return_is t e is = ap action_of is ∙ ap action_of (sym (s.rolls-ReturnValue e)) ∙ fold-roll-Action Action action_layer _
 
-pub give_is : (t : code_action.Action) (e : code_value.Value) (changes : _) → t ≡ s.Give e changes
-    → action_of t ≡ give_to (value_of e) changes.items
+pub give_is : (t : code_action.Action) (e : Box code_value.Value) (changes : _) → t ≡ s.Give e changes
+    → action_of t ≡ give_to (value_of e.value) changes.items
 give_is t e changes is =
     ap action_of is ∙ ap action_of (sym (s.rolls-Give e changes)) ∙ fold-roll-Action Action action_layer _
 
@@ -72,12 +66,12 @@ pub each_is : (t : code_action.Action) (x : Variable) (a : Box code_action.Actio
 each_is t x a is =
     ap action_of is ∙ ap action_of (sym (s.rolls-EachObject x a)) ∙ fold-roll-Action Action action_layer _
 
-pub each_where_is : (t : code_action.Action) (x : Variable) (e : code_value.Value) (a : Box code_action.Action)
-    → t ≡ s.EachWhere x e a → action_of t ≡ each_where x (value_of e) (action_of a.value)
+pub each_where_is : (t : code_action.Action) (x : Variable) (e : Box code_value.Value) (a : Box code_action.Action)
+    → t ≡ s.EachWhere x e a → action_of t ≡ each_where x (value_of e.value) (action_of a.value)
 each_where_is t x e a is =
     ap action_of is ∙ ap action_of (sym (s.rolls-EachWhere x e a)) ∙ fold-roll-Action Action action_layer _
 
-pub each_in_is : (t : code_action.Action) (x : Variable) (e : code_value.Value) (a : Box code_action.Action)
-    → t ≡ s.EachIn x e a → action_of t ≡ each_in x (value_of e) (action_of a.value)
+pub each_in_is : (t : code_action.Action) (x : Variable) (e : Box code_value.Value) (a : Box code_action.Action)
+    → t ≡ s.EachIn x e a → action_of t ≡ each_in x (value_of e.value) (action_of a.value)
 each_in_is t x e a is =
     ap action_of is ∙ ap action_of (sym (s.rolls-EachIn x e a)) ∙ fold-roll-Action Action action_layer _

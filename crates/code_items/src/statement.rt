@@ -65,7 +65,7 @@ fn put_statement<'a>(
         Action::While(test, body) => put_while(draft, body, test),
         Action::Do(body, test) => put_do(draft, body, test),
         Action::For(before, test, behind, body) => put_for(draft, body, before, test, behind),
-        Action::Switch(value, cases, other) => put_switch(draft, exits, cases, other, value),
+        Action::Switch(value, cases) => put_switch(draft, exits, cases, value),
         Action::Break => put(draft, Item::Jump(exits.breaks)),
         Action::Continue => put(draft, Item::Jump(exits.continues)),
         Action::ReturnValue(value) => put_return(draft, value),
@@ -318,27 +318,26 @@ fn put_each_in<'a>(
     put_operand(draft, parent, operand)
 }
 
-/// `switch`: its word is put aside, and its cases follow.
+/// `switch`: its word is put aside, and its cases follow, and the statements of its `default`.
 #[cycle(statements)]
 fn put_switch<'a>(
     draft: &mut Draft<'a>,
     exits: Exits,
-    cases: &[(Vec<Span>, Vec<Action<'a>>)],
-    other: &Option<Vec<Action<'a>>>,
+    cases: &(Vec<(Vec<Span>, Vec<Action<'a>>)>, Option<Vec<Action<'a>>>),
     value: &Value,
 ) -> Result<(), AllocError>
     ensures { OnOk result (WritesAction draft.old draft.new exits (switch_on (value_of value.now)
-        (cases_of (map case_of cases.now) (other_of other.now)))) }
+        (cases_of (map case_of cases.now.0.items) (other_of cases.now.1)))) }
 {
     let end = written(draft);
     let inside = Exits {
         breaks: end,
         continues: exits.continues,
     };
-    let Ok(()) = put_other(draft, inside, other) else {
+    let Ok(()) = put_other(draft, inside, &cases.1) else {
         return Err(AllocError);
     };
-    let Ok(()) = put_cases(draft, inside, cases, end) else {
+    let Ok(()) = put_cases(draft, inside, &cases.0, end) else {
         return Err(AllocError);
     };
     put_value(draft, value, Wanted::Word(Destination::Aside))

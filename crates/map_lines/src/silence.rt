@@ -47,18 +47,26 @@ fn is_silent(alloc: Global, statement: &Action<'_>) -> Result<bool, AllocError> 
                 Ok(false)
             }
         }
-        Action::Switch(value, cases, other) => {
-            let choice = is_choice_silent(alloc, value, cases)?;
-            if choice {
-                is_other_silent(alloc, other)
-            } else {
-                Ok(false)
-            }
-        }
+        Action::Switch(value, cases) => is_switch_silent(alloc, cases, value),
         Action::Effect(value) => {
             is_value_silent(alloc, value, Wanted::Word(Destination::Nowhere))
         }
         _ => Ok(false),
+    }
+}
+
+/// Whether a `switch` has no items.
+#[cycle(silence)]
+fn is_switch_silent<'a>(
+    alloc: Global,
+    cases: &(Vec<(Vec<Span>, Vec<Action<'a>>)>, Option<Vec<Action<'a>>>),
+    value: &Value,
+) -> Result<bool, AllocError> {
+    let choice = is_choice_silent(alloc, value, &cases.0)?;
+    if choice {
+        is_other_silent(alloc, &cases.1)
+    } else {
+        Ok(false)
     }
 }
 

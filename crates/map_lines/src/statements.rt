@@ -38,7 +38,7 @@ fn pass_statement<'a>(
         Action::While(_, body) => pass_outer(passing, body, statement),
         Action::Do(body, test) => pass_do(passing, body, test),
         Action::For(_, _, _, body) => pass_outer(passing, body, statement),
-        Action::Switch(value, cases, other) => pass_switch(passing, cases, other, value),
+        Action::Switch(value, cases) => pass_switch(passing, cases, value),
         Action::EachObject(_, body) => pass_outer(passing, body, statement),
         Action::EachWhere(_, _, body) => pass_outer(passing, body, statement),
         Action::EachIn(_, _, body) => pass_outer(passing, body, statement),
@@ -100,14 +100,13 @@ fn pass_do<'a>(
 #[cycle(statements)]
 fn pass_switch<'a>(
     passing: &mut Passing<'_, 'a>,
-    cases: &[(Vec<Span>, Vec<Action<'a>>)],
-    other: &Option<Vec<Action<'a>>>,
+    cases: &(Vec<(Vec<Span>, Vec<Action<'a>>)>, Option<Vec<Action<'a>>>),
     value: &Value,
 ) -> Result<(), AllocError> {
     passing.pass_switch(value)?;
-    let is_silent = is_other_silent(passing.alloc(), other)?;
-    pass_cases(passing, cases, is_silent)?;
-    pass_other(passing, other)?;
+    let is_silent = is_other_silent(passing.alloc(), &cases.1)?;
+    pass_cases(passing, &cases.0, is_silent)?;
+    pass_other(passing, &cases.1)?;
     passing.pass_token();
     Ok(())
 }

@@ -97,24 +97,24 @@ action_layer (Action-F.Text s) = text_alone s.now
 action_layer (Action-F.Print is) = print (map printed_of is.items)
 action_layer (Action-F.PrintReturn is) = print_return (map printed_of is.items)
 action_layer Action-F.NewLine = new_line
-action_layer (Action-F.If v x) = if_then (value_of v) x.value
-action_layer (Action-F.IfElse v x y) = if_else (value_of v) x.value y.value
-action_layer (Action-F.While v x) = while_do (value_of v) x.value
-action_layer (Action-F.Do x v) = do_until x.value (value_of v)
+action_layer (Action-F.If v x) = if_then (boxed_value v) x.value
+action_layer (Action-F.IfElse v x y) = if_else (boxed_value v) x.value y.value
+action_layer (Action-F.While v x) = while_do (boxed_value v) x.value
+action_layer (Action-F.Do x v) = do_until x.value (boxed_value v)
 action_layer (Action-F.For a b c x) = for_loop (option_map boxed_value a) (option_map boxed_value b)
     (option_map boxed_value c) x.value
-action_layer (Action-F.Switch v cases other) = switch_on (boxed_value v)
-    (cases_of (map (λ c. (map range_of c.0.items, actions_of c.1.items)) cases.items)
-    (option_map (λ xs. xs.items) other))
+action_layer (Action-F.Switch v cases) = switch_on (boxed_value v)
+    (cases_of (map (λ c. (map range_of c.0.items, actions_of c.1.items)) cases.value.0.items)
+    (option_map (λ xs. xs.items) cases.value.1))
 action_layer Action-F.Break = break_out
 action_layer Action-F.Continue = continue_on
 action_layer (Action-F.Read t p) = read_line t p
-action_layer (Action-F.Give v changes) = give_to (value_of v) changes.items
+action_layer (Action-F.Give v changes) = give_to (boxed_value v) changes.items
 action_layer (Action-F.Move v w) = move_to (boxed_value v) (boxed_value w)
 action_layer (Action-F.Remove v) = remove_from (value_of v)
 action_layer (Action-F.EachObject x a) = each_object x a.value
-action_layer (Action-F.EachWhere x v a) = each_where x (value_of v) a.value
-action_layer (Action-F.EachIn x v a) = each_in x (value_of v) a.value
+action_layer (Action-F.EachWhere x v a) = each_where x (boxed_value v) a.value
+action_layer (Action-F.EachIn x v a) = each_in x (boxed_value v) a.value
 action_layer (Action-F.ReturnValue v) = return_value (value_of v)
 action_layer Action-F.Quit = quit
 action_layer (Action-F.Effect v) = effect (value_of v)

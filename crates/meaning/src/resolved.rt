@@ -86,8 +86,8 @@ pub enum Span {
     Between(u16, u16),
 }
 
-/// A statement. Where a kind holds several values they stand in boxes: a statement is as large as
-/// the largest kind, also `;`.
+/// A statement. A value is held without a box only by kinds that hold nothing else: a statement is
+/// as large as the largest kind, also `;`, and a source may consist of `;` alone.
 #[derive(Drop)]
 pub enum Action<'a> {
     Empty,
@@ -96,17 +96,20 @@ pub enum Action<'a> {
     Print(Vec<Printed<'a>>),
     PrintReturn(Vec<Printed<'a>>),
     NewLine,
-    If(Value, Box<Action<'a>>),
-    IfElse(Value, Box<Action<'a>>, Box<Action<'a>>),
-    While(Value, Box<Action<'a>>),
-    Do(Box<Action<'a>>, Value),
+    If(Box<Value>, Box<Action<'a>>),
+    IfElse(Box<Value>, Box<Action<'a>>, Box<Action<'a>>),
+    While(Box<Value>, Box<Action<'a>>),
+    Do(Box<Action<'a>>, Box<Value>),
 
     /// A `for`: what is done before the first round, the test, what is done behind each round, and
     /// the body.
     For(Option<Box<Value>>, Option<Box<Value>>, Option<Box<Value>>, Box<Action<'a>>),
 
-    /// A `switch`: its value, its cases, and the statements of its `default`.
-    Switch(Box<Value>, Vec<(Vec<Span>, Vec<Action<'a>>)>, Option<Vec<Action<'a>>>),
+    /// A `switch`: its value; its cases, with the statements of its `default`.
+    Switch(
+        Box<Value>,
+        Box<(Vec<(Vec<Span>, Vec<Action<'a>>)>, Option<Vec<Action<'a>>>)>,
+    ),
 
     Break,
     Continue,
@@ -116,7 +119,7 @@ pub enum Action<'a> {
 
     /// `give`: the object, and the numbers of attributes, which are set, or cleared where the truth
     /// value is false.
-    Give(Value, Vec<(bool, usize)>),
+    Give(Box<Value>, Vec<(bool, usize)>),
 
     /// `move` the first object into the second.
     Move(Box<Value>, Box<Value>),
@@ -127,10 +130,10 @@ pub enum Action<'a> {
     EachObject(Variable, Box<Action<'a>>),
 
     /// `objectloop` over the objects for which a condition holds.
-    EachWhere(Variable, Value, Box<Action<'a>>),
+    EachWhere(Variable, Box<Value>, Box<Action<'a>>),
 
     /// `objectloop` over the children of an object.
-    EachIn(Variable, Value, Box<Action<'a>>),
+    EachIn(Variable, Box<Value>, Box<Action<'a>>),
 
     /// `return` alone and `rtrue` return 1, `rfalse` returns 0.
     ReturnValue(Value),

@@ -103,8 +103,8 @@ if_else-returns t c =
     (two pair c.in-Ok-boxed.ensures c.in-Ok-boxed-2.ensures))
 
 pub do_until-returns : goal.do_until-returns
-do_until-returns t c around = rw (made_do c.in-Ok.body c.in-Ok-whole.condition)
-    (two values.do_until c.in-Ok.ensures c.in-Ok-whole.ensures)
+do_until-returns t c around = rw (made_do c.in-Ok.body c.in-Ok-boxed_whole.condition)
+    (two values.do_until c.in-Ok.ensures c.in-Ok-boxed_whole.ensures)
 
 pub for_loop-returns : goal.for_loop-returns
 for_loop-returns t c around = rw (made_for c.in-Ok.before c.in-Ok.test c.in-Ok.behind c.in-Ok-boxed.body)
@@ -148,7 +148,7 @@ otherwise-returns-in-Ok t c = rw c.in-Some.is
     (map action_of c.in-Ok.found.items) c.deref.ensures.value c.in-Ok.ensures)
 
 pub switch_on-returns : goal.switch_on-returns
-switch_on-returns t c around is = rw (made_switch c.in-Ok.value c.in-Ok-all_cases.cases c.in-Ok-otherwise.other)
+switch_on-returns t c around is = rw (made_switch c.in-Ok.value c.in-Ok-in_box.cases, c.in-Ok-in_box.ensures)
     (switch_walked (seen_in c.args.scope.now) around c.args.inside c.args.position (expression_tree c.args.value.now)
     (boxed_value c.in-Ok.value) c.args.cases.now (other_tree c.args.other.now)
     (map case_of c.in-Ok-all_cases.cases.items) (other_of c.in-Ok-otherwise.other) is c.in-Ok.ensures

@@ -1,4 +1,5 @@
-use Rattle.std.proofs.Common.{◌≡◌, ℕ, ◌+◌, ◌-◌, ◌<◌, Bool, List, [], length, map, drop, refl, sym, subst, arith}
+use Rattle.std.proofs.Common.{◌≡◌, ℕ, ◌+◌, ◌-◌, ◌<◌, Bool, List, [], Option, length, map, drop, refl, sym, subst}
+use Rattle.std.proofs.Common.{arith}
 use Rattle.std.specs.Global.{Vec}
 use Rattle.std.specs.Option.{option_map}
 use Rattle.meaning.specs.declared.resolved.Action as code_action
@@ -53,11 +54,12 @@ put_statement-returns-in-While t c = on_ok c.put_while.result (λ w.
     let x = c.in-While in
     let P : Action → Type 0 = λ a. WritesBefore (written_in c.args.draft.now) (written_in c.put_while.new.draft)
     (λ n at. action_items (exits_of n c.args.exits) at a) in
-    let Q : code_action.Action → Type 0 =
-    λ s. WritesBefore (written_in c.args.draft.now) (written_in c.put_while.new.draft)
-    (λ n at. action_items (exits_of n c.args.exits) at (while_do (value_of x.test) (action_of s))) in
-    subst P (sym (while_is _ _ _ x.is)) (subst Q c.deref-in-While.ensures
-    (w c.args.exits))) c.put_while.ensures
+    let Q : code_value.Value → code_action.Action → Type 0 =
+    λ e s. WritesBefore (written_in c.args.draft.now) (written_in c.put_while.new.draft)
+    (λ n at. action_items (exits_of n c.args.exits) at (while_do (value_of e) (action_of s))) in
+    subst P (sym (while_is _ _ _ x.is)) (subst
+    (λ (e : code_value.Value). Q e x.body.value) c.deref-in-While-2.ensures
+    (subst (Q _) c.deref-in-While.ensures (w c.args.exits)))) c.put_while.ensures
 
 pub put_statement-returns-in-ReturnValue : goal.put_statement-returns-in-ReturnValue
 put_statement-returns-in-ReturnValue t c = on_ok c.put_return.result (λ w.
@@ -109,13 +111,16 @@ put_switch-returns t c =
     let old = c.args.draft.now in
     let end = c.written-end.result in
     let inside : Exits = record { breaks = end; continues = c.args.exits.continues } in
-    let cs = map case_of c.args.cases.now in
-    let other = other_of c.args.other.now in
+    let cs = map case_of c.args.cases.now.0.items in
+    let other = other_of c.args.cases.now.1 in
     let P : CasesOf → Type 0 = λ l. WritesBefore (written_in old) (written_in c.put_cases.new.draft)
     (λ n at. cases_items (exits_of n inside) at l (n - end)) in
+    let R : List (Vec Span × Vec code_action.Action) → Type 0 =
+    λ l. LeavesCases c.put_other.new.draft c.put_cases.new.draft inside l end in
     on_ok c.put_value.result
     (switch_more _ _ _ c.args.exits (value_of c.args.value.now) (cases_of cs other) inside c.written-end.ensures refl
-    (subst P (cases_all cs other) (c.in-Ok-put_cases.ensures (written_in old) (cases_of [] other)
+    (subst P (cases_all cs other) (subst R c.deref.ensures.value c.in-Ok-put_cases.ensures (written_in old)
+    (cases_of [] other)
     (sym c.written-end.ensures) (c.in-Ok.ensures end)))) c.put_value.ensures
 
 pub put_statement-returns-in-Do : goal.put_statement-returns-in-Do
@@ -123,10 +128,12 @@ put_statement-returns-in-Do t c = on_ok c.put_do.result (λ w.
     let x = c.in-Do in
     let P : Action → Type 0 = λ a. WritesBefore (written_in c.args.draft.now) (written_in c.put_do.new.draft)
     (λ n at. action_items (exits_of n c.args.exits) at a) in
-    let Q : code_action.Action → Type 0 =
-    λ s. WritesBefore (written_in c.args.draft.now) (written_in c.put_do.new.draft)
-    (λ n at. action_items (exits_of n c.args.exits) at (do_until (action_of s) (value_of x.test))) in
-    subst P (sym (do_is _ _ _ x.is)) (subst Q c.deref-in-Do.ensures (w c.args.exits))) c.put_do.ensures
+    let Q : code_value.Value → code_action.Action → Type 0 =
+    λ e s. WritesBefore (written_in c.args.draft.now) (written_in c.put_do.new.draft)
+    (λ n at. action_items (exits_of n c.args.exits) at (do_until (action_of s) (value_of e))) in
+    subst P (sym (do_is _ _ _ x.is)) (subst
+    (λ (e : code_value.Value). Q e x.body.value) c.deref-in-Do-2.ensures
+    (subst (Q _) c.deref-in-Do.ensures (w c.args.exits)))) c.put_do.ensures
 
 pub put_statement-returns-in-For : goal.put_statement-returns-in-For
 put_statement-returns-in-For t c = on_ok c.put_for.result (λ w.
@@ -145,13 +152,13 @@ put_statement-returns-in-Switch t c = on_ok c.put_switch.result (λ w.
     let x = c.in-Switch in
     let P : Action → Type 0 = λ a. WritesBefore (written_in c.args.draft.now) (written_in c.put_switch.new.draft)
     (λ n at. action_items (exits_of n c.args.exits) at a) in
-    let Q : code_value.Value → List (Vec Span × Vec code_action.Action) → Type 0 =
+    let Q : code_value.Value → Vec (Vec Span × Vec code_action.Action) × Option (Vec code_action.Action) → Type 0 =
     λ e l. WritesBefore (written_in c.args.draft.now) (written_in c.put_switch.new.draft)
     (λ n at. action_items (exits_of n c.args.exits) at (switch_on (value_of e)
-    (cases_of (map case_of l) (other_of x.other)))) in
-    subst P (sym (switch_is _ _ _ _ x.is)) (subst
-    (λ (e : code_value.Value). Q e x.cases.items) c.deref-in-Switch-2.ensures
-    (subst (Q _) c.deref-in-Switch.ensures.value w))) c.put_switch.ensures
+    (cases_of (map case_of l.0.items) (other_of l.1)))) in
+    subst P (sym (switch_is _ _ _ x.is)) (subst
+    (λ (e : code_value.Value). Q e x.cases.value) c.deref-in-Switch-2.ensures
+    (subst (Q _) c.deref-in-Switch.ensures w))) c.put_switch.ensures
 
 -- Objects
 
@@ -184,10 +191,12 @@ put_statement-returns-in-Give t c = on_ok c.put_give.result (λ w.
     let x = c.in-Give in
     let P : Action → Type 0 = λ a. WritesBefore (written_in c.args.draft.now) (written_in c.put_give.new.draft)
     (λ n at. action_items (exits_of n c.args.exits) at a) in
-    let Q : List (Bool × ℕ) → Type 0 = λ l. WritesBefore (written_in c.args.draft.now) (written_in c.put_give.new.draft)
-    (λ n at. action_items (exits_of n c.args.exits) at (give_to (value_of x.object) l)) in
-    subst P (sym (give_is _ _ _ x.is)) (subst Q c.deref-in-Give.ensures.value
-    (w c.args.exits))) c.put_give.ensures
+    let Q : code_value.Value → List (Bool × ℕ) → Type 0 =
+    λ e l. WritesBefore (written_in c.args.draft.now) (written_in c.put_give.new.draft)
+    (λ n at. action_items (exits_of n c.args.exits) at (give_to (value_of e) l)) in
+    subst P (sym (give_is _ _ _ x.is)) (subst
+    (λ (e : code_value.Value). Q e x.changes.items) c.deref-in-Give.ensures
+    (subst (Q _) c.deref-in-Give-2.ensures.value (w c.args.exits)))) c.put_give.ensures
 
 pub put_statement-returns-in-Move : goal.put_statement-returns-in-Move
 put_statement-returns-in-Move t c = on_ok c.put_move.result (λ w.
@@ -222,20 +231,21 @@ put_statement-returns-in-EachWhere t c = on_ok c.put_each_where.result (λ w.
     let x = c.in-EachWhere in
     let P : Action → Type 0 = λ a. WritesBefore (written_in c.args.draft.now) (written_in c.put_each_where.new.draft)
     (λ n at. action_items (exits_of n c.args.exits) at a) in
-    let Q : code_action.Action → Type 0 =
-    λ s. WritesBefore (written_in c.args.draft.now) (written_in c.put_each_where.new.draft)
-    (λ n at. action_items (exits_of n c.args.exits) at (each_where x.variable (value_of x.test) (action_of s))) in
-    subst P (sym (each_where_is _ _ _ _ x.is)) (subst Q c.deref-in-EachWhere.ensures
-    (w c.args.exits))) c.put_each_where.ensures
+    let Q : code_value.Value → code_action.Action → Type 0 =
+    λ e s. WritesBefore (written_in c.args.draft.now) (written_in c.put_each_where.new.draft)
+    (λ n at. action_items (exits_of n c.args.exits) at (each_where x.variable (value_of e) (action_of s))) in
+    subst P (sym (each_where_is _ _ _ _ x.is)) (subst
+    (λ (e : code_value.Value). Q e x.body.value) c.deref-in-EachWhere-2.ensures
+    (subst (Q _) c.deref-in-EachWhere.ensures (w c.args.exits)))) c.put_each_where.ensures
 
 pub put_statement-returns-in-EachIn : goal.put_statement-returns-in-EachIn
 put_statement-returns-in-EachIn t c = on_ok c.put_each_in.result (λ w.
     let x = c.in-EachIn in
     let P : Action → Type 0 = λ a. WritesBefore (written_in c.args.draft.now) (written_in c.put_each_in.new.draft)
     (λ n at. action_items (exits_of n c.args.exits) at a) in
-    let Q : code_action.Action → Type 0 =
-    λ s. WritesBefore (written_in c.args.draft.now) (written_in c.put_each_in.new.draft)
-    (λ n at. action_items (exits_of n c.args.exits) at (each_in x.variable (value_of x.parent) (action_of s))) in
-    subst P (sym (each_in_is _ _ _ _ x.is)) (subst Q c.deref-in-EachIn.ensures
-    (w c.args.exits))
-    ) c.put_each_in.ensures
+    let Q : code_value.Value → code_action.Action → Type 0 =
+    λ e s. WritesBefore (written_in c.args.draft.now) (written_in c.put_each_in.new.draft)
+    (λ n at. action_items (exits_of n c.args.exits) at (each_in x.variable (value_of e) (action_of s))) in
+    subst P (sym (each_in_is _ _ _ _ x.is)) (subst
+    (λ (e : code_value.Value). Q e x.body.value) c.deref-in-EachIn-2.ensures
+    (subst (Q _) c.deref-in-EachIn.ensures (w c.args.exits)))) c.put_each_in.ensures

@@ -62,6 +62,6 @@ decreases-put_other l = 8 * goal.size-put_other l + 2
 abbrev pub decreases-put_switch : goal.decreases-put_switch
 decreases-put_switch l = 8 * max
     (goal.size-put_cases
-    (record { the-lifetimes = ([], ([], ([], tt))); draft = l.draft; exits = l.exits; cases = l.cases; end = 0 }))
+    (record { the-lifetimes = ([], ([], ([], tt))); draft = l.draft; exits = l.exits; cases = l.cases.0.items; end = 0 }))
     (goal.size-put_other
-    (record { the-lifetimes = ([], ([], ([], tt))); draft = l.draft; exits = l.exits; other = l.other })) + 4
+    (record { the-lifetimes = ([], ([], ([], tt))); draft = l.draft; exits = l.exits; other = l.cases.1 })) + 4

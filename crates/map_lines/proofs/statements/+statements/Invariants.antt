@@ -39,6 +39,6 @@ decreases-pass_other l = 8 * goal.size-pass_other l + 2
 abbrev pub decreases-pass_switch : goal.decreases-pass_switch
 decreases-pass_switch l = 8 * max
     (goal.size-pass_cases
-    (record { the-lifetimes = ([], ([], ([], ([], tt)))); passing = l.passing; cases = l.cases; is_silent = true }))
+    (record { the-lifetimes = ([], ([], ([], ([], tt)))); passing = l.passing; cases = l.cases.0.items; is_silent = true }))
     (goal.size-pass_other
-    (record { the-lifetimes = ([], ([], ([], ([], tt)))); passing = l.passing; other = l.other })) + 4
+    (record { the-lifetimes = ([], ([], ([], ([], tt)))); passing = l.passing; other = l.cases.1 })) + 4

@@ -1,0 +1,17 @@
+//! Boxes of values. What is here knows nothing of their types, so its proof has no part of a tree in
+//! it.
+
+ghost use Rattle.std.specs.Prelude.{◌≡◌, IfOk};
+
+use std::alloc::{AllocError, Global};
+
+/// The value in a box.
+///
+/// # Errors
+///
+/// `AllocError` where memory is refused. The value is dropped.
+pub fn in_box<T: Drop>(alloc: Global, value: T) -> Result<Box<T>, AllocError>
+    ensures { IfOk result (λ x. x.value ≡ value) }
+{
+    Ok(Box::new(alloc, value)?)
+}
