@@ -58,10 +58,5 @@ decreases-put_cases l = 8 * goal.size-put_cases l + 3
 abbrev pub decreases-put_other : goal.decreases-put_other
 decreases-put_other l = 8 * goal.size-put_other l + 2
 
--- the measure that is offered goes by the cases alone; `default` is written by this function too
 abbrev pub decreases-put_switch : goal.decreases-put_switch
-decreases-put_switch l = 8 * max
-    (goal.size-put_cases
-    (record { the-lifetimes = ([], ([], ([], tt))); draft = l.draft; exits = l.exits; cases = l.cases.0.items; end = 0 }))
-    (goal.size-put_other
-    (record { the-lifetimes = ([], ([], ([], tt))); draft = l.draft; exits = l.exits; other = l.cases.1 })) + 4
+decreases-put_switch l = 8 * goal.size-put_switch l + 4

@@ -1,4 +1,4 @@
-use Rattle.std.proofs.Common.{◌+◌, ◌*◌, max, [], true}
+use Rattle.std.proofs.Common.{◌+◌, ◌*◌, max, []}
 use Rattle.map_lines.proofs.statements.+statements.Given as goal
 
 abbrev pub decreases-pass_statement : goal.decreases-pass_statement
@@ -35,10 +35,5 @@ decreases-pass_cases l = 8 * goal.size-pass_cases l + 3
 abbrev pub decreases-pass_other : goal.decreases-pass_other
 decreases-pass_other l = 8 * goal.size-pass_other l + 2
 
--- the measure that is offered goes by the cases alone; `default` is passed by this function too
 abbrev pub decreases-pass_switch : goal.decreases-pass_switch
-decreases-pass_switch l = 8 * max
-    (goal.size-pass_cases
-    (record { the-lifetimes = ([], ([], ([], ([], tt)))); passing = l.passing; cases = l.cases.0.items; is_silent = true }))
-    (goal.size-pass_other
-    (record { the-lifetimes = ([], ([], ([], ([], tt)))); passing = l.passing; other = l.cases.1 })) + 4
+decreases-pass_switch l = 8 * goal.size-pass_switch l + 4
