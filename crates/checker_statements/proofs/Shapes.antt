@@ -66,7 +66,7 @@ is_objectloop_statement s p l x same = ap statement_tree (same ∙ sym (said.rol
     ∙ fold-roll-Statement StatementTree layer _
 
 pub is_switch_statement : (s : Statement) (p : Position) (e : Box Expression)
-    (cases : Vec (Vec Range × Vec Statement)) (other : Option (Vec Statement)) → s ≡ said.Switch p e cases other
-    → statement_tree s
-    ≡ written.switch_on p (expression_tree e.value) (cases_of (map case_tree cases.items) (other_tree other))
-is_switch_statement s p e cases other same = ap statement_tree same ∙ is_switch p e cases other
+    (cases : Box (Vec (Vec Range × Vec Statement) × Option (Vec Statement))) → s ≡ said.Switch p e cases
+    → statement_tree s ≡ written.switch_on p (expression_tree e.value)
+    (cases_of (map case_tree cases.value.0.items) (other_tree cases.value.1))
+is_switch_statement s p e cases same = ap statement_tree same ∙ is_switch p e cases

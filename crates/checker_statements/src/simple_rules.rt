@@ -330,7 +330,7 @@ pub fn simple<'a>(
         SimpleStatement::ReturnTrue => Ok(Action::ReturnValue(Value::Number(1))),
         SimpleStatement::ReturnFalse => Ok(Action::ReturnValue(Value::Number(0))),
         SimpleStatement::Quit => Ok(Action::Quit),
-        SimpleStatement::Read(text, words) => Ok(read(*text, *words, scope, least)),
+        SimpleStatement::Read(names) => Ok(read(names, scope, least)),
         SimpleStatement::Give(position, e, given) => {
             give(e, given, alloc, scope, *position, least)
         }

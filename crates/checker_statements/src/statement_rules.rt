@@ -82,9 +82,8 @@ fn statement<'a>(
         Statement::Objectloop(position, over, body) => {
             traversal(body, over, alloc, scope, *position, least)
         }
-        Statement::Switch(position, value, cases, other) => switch_on(
+        Statement::Switch(position, value, cases) => switch_on(
             cases,
-            other,
             value,
             alloc,
             scope,
@@ -421,8 +420,10 @@ fn otherwise<'a>(
 
 #[cycle(statement)]
 fn switch_on<'a>(
-    cases: &[(Vec<Range<'a>>, Vec<Statement<'a>>)],
-    other: &Option<Vec<Statement<'a>>>,
+    cases: &(
+        Vec<(Vec<Range<'a>>, Vec<Statement<'a>>)>,
+        Option<Vec<Statement<'a>>>,
+    ),
     value: &Expression<'_>,
     alloc: Global,
     scope: &Scope<'_>,
@@ -433,21 +434,21 @@ fn switch_on<'a>(
     ensures { (around : _) → inside ≡ in_switch around
         → GivesAction (seen_in scope.now) around result least.old least.new
         (trees.switch_on position (expression_tree value.now)
-        (cases_of (map case_tree cases.now) (other_tree other.now))) }
+        (cases_of (map case_tree cases.now.0.items) (other_tree cases.now.1))) }
 {
     let Ok(value) = boxed_whole(value, alloc, scope, position, least) else {
         return Err(AllocError);
     };
-    let Ok(cases) = all_cases(cases, alloc, scope, inside, least) else {
+    let Ok(found) = all_cases(&cases.0, alloc, scope, inside, least) else {
         drop(value);
         return Err(AllocError);
     };
-    let Ok(other) = otherwise(other, alloc, scope, inside, least) else {
+    let Ok(other) = otherwise(&cases.1, alloc, scope, inside, least) else {
         drop(value);
-        drop(cases);
+        drop(found);
         return Err(AllocError);
     };
-    let Ok(cases) = in_box(alloc, (cases, other)) else {
+    let Ok(cases) = in_box(alloc, (found, other)) else {
         drop(value);
         return Err(AllocError);
     };

@@ -3,12 +3,12 @@
 ghost use Rattle.std.specs.Prelude.{◌≡◌, ◌≤◌, map};
 ghost use Rattle.std.specs.List.{All, flat_map};
 ghost use Rattle.syntax_statement_parts.specs.Views.{item_tree, loop_tree};
-ghost use Rattle.syntax_statements.specs.Views.{statement_tree, simple_tree, other_tree};
+ghost use Rattle.syntax_statements.specs.Views.{statement_tree, simple_tree, case_tree, other_tree, cases_of};
 ghost use Rattle.syntax_directives.specs.Views.{directive_tree};
 ghost use Rattle.syntax.specs.Views.{program_tree};
 ghost use Rattle.messages_figures.specs.Needs.{HasFew, IsFirstGreatest, directive_needs};
 ghost use Rattle.messages_figures.specs.Needs.{first_at, item_needs, program_needs};
-ghost use Rattle.messages_figures.specs.Needs.{statement_needs};
+ghost use Rattle.messages_figures.specs.Needs.{statement_needs, cases_needs};
 ghost use Rattle.messages_figures.specs.Walk.{loop_needs, other_needs, own_case_needs};
 ghost use Rattle.messages_figures.specs.Walk.{own_directive_needs, own_item_needs, own_needs};
 ghost use Rattle.messages_figures.specs.Walk.{raised_all};
@@ -58,7 +58,7 @@ fn simple(s: &SimpleStatement<'_>, sought: &mut Sought)
         SimpleStatement::ReturnTrue => {}
         SimpleStatement::ReturnFalse => {}
         SimpleStatement::Quit => {}
-        SimpleStatement::Read(_, _) => {}
+        SimpleStatement::Read(_) => {}
         SimpleStatement::Give(position, e, _) => whole(e, *position, sought),
         SimpleStatement::Move(position, object, parent) => {
             of_move(object, parent, *position, sought);
@@ -113,10 +113,9 @@ fn statement<'a>(s: &Statement<'a>, sought: &mut Sought)
             of_loop(over, *position, sought);
             statement(body, sought);
         }
-        Statement::Switch(position, value, cases, other) => {
+        Statement::Switch(position, value, cases) => {
             whole(value, *position, sought);
-            all_cases(cases, sought);
-            otherwise_of(other, sought);
+            choices(cases, sought);
         }
     }
 }
@@ -128,6 +127,22 @@ fn sequence<'a>(all: &[Statement<'a>], sought: &mut Sought)
     for s in all {
         statement(s, sought);
     }
+}
+
+// The cases of a `switch`, and the statements of its `default`.
+#[cycle(statement)]
+fn choices<'a>(
+    cases: &(
+        Vec<(Vec<Range<'a>>, Vec<Statement<'a>>)>,
+        Option<Vec<Statement<'a>>>,
+    ),
+    sought: &mut Sought,
+)
+    ensures { sought.new ≡ raised_all sought.old
+        (cases_needs (cases_of (map case_tree cases.now.0.items) (other_tree cases.now.1))) }
+{
+    all_cases(&cases.0, sought);
+    otherwise_of(&cases.1, sought);
 }
 
 #[cycle(statement)]

@@ -32,7 +32,7 @@ simple_tree (simple.ReturnValue p e) = return_value p (expression_tree e.value)
 simple_tree simple.ReturnTrue = return_true
 simple_tree simple.ReturnFalse = return_false
 simple_tree simple.Quit = quit
-simple_tree (simple.Read a b) = read_line (name_tree a) (name_tree b)
+simple_tree (simple.Read names) = read_line (name_tree names.value.0) (name_tree names.value.1)
 simple_tree (simple.Give p e xs) = give p (expression_tree e.value) (map flag_tree xs.items)
 simple_tree (simple.Move p a b) = move p (expression_tree a.value) (expression_tree b.value)
 simple_tree (simple.Remove p e) = remove p (expression_tree e.value)
@@ -59,9 +59,9 @@ layer (Statement-F.Do p x c) = do_until p x.value (expression_tree c.value)
 layer (Statement-F.For p h x) = for_loop p (part_tree h.value.before) (part_tree h.value.test)
     (part_tree h.value.behind) x.value
 layer (Statement-F.Objectloop p l x) = loop_over p (loop_tree l.value) x.value
-layer (Statement-F.Switch p e cases other) = switch_on p (expression_tree e.value)
-    (cases_of (map (λ c. (map range_tree c.0.items, trees_of c.1.items)) cases.items)
-    (option_map (λ xs. xs.items) other))
+layer (Statement-F.Switch p e cases) = switch_on p (expression_tree e.value)
+    (cases_of (map (λ c. (map range_tree c.0.items, trees_of c.1.items)) cases.value.0.items)
+    (option_map (λ xs. xs.items) cases.value.1))
 
 abbrev pub statement_tree : Statement → StatementTree
 statement_tree = fold-Statement StatementTree layer

@@ -296,7 +296,13 @@ pub fn switch_on<'t, 'a>(
         (map case_tree cases.entry.items) (other_tree other.entry) (ahead parser.old)) }
 {
     match expect(parser, Sign::CloseBrace) {
-        Ok(()) => in_box(parser, Statement::Switch(position, value, cases, other)),
+        Ok(()) => match boxed(parser.alloc, (cases, other)) {
+            Ok(cases) => in_box(parser, Statement::Switch(position, value, cases)),
+            Err(e) => {
+                drop(value);
+                Err(e)
+            }
+        },
         Err(e) => {
             drop(value);
             drop(cases);

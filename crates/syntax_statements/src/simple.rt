@@ -113,14 +113,16 @@ fn returned<'t, 'a>(
 ///
 /// # Errors
 ///
-/// `Fault::Grammar` at the first token that is not what is wanted: a name, another, and `;`.
+/// `Fault::Grammar` at the first token that is not what is wanted: a name, another, and `;`;
+/// `Memory`: a growth is refused.
 #[tactic(auto, unfolding(crate::specs::Parse::line_read))]
 fn read<'t, 'a>(parser: &mut Parser<'t, 'a>) -> Result<Box<SimpleStatement<'a>>, ParseError>
     ensures { TakesSimple result parser.new (spec.line_read (ahead parser.old)) }
 {
     let text = expect_name(parser)?;
     let words = expect_name(parser)?;
-    ended(parser, SimpleStatement::Read(text, words))
+    let names = boxed(parser.alloc, (text, words))?;
+    ended(parser, SimpleStatement::Read(names))
 }
 
 /// What follows `give`, which stands at `position`.

@@ -24,8 +24,9 @@ pub enum SimpleStatement<'a> {
     ReturnFalse,
     Quit,
 
-    /// `read`: a line is read into the array of its text and the array of its words.
-    Read(Name<'a>, Name<'a>),
+    /// `read`: a line is read into the array of its text and the array of its words. Two names are
+    /// more than any other statement holds itself.
+    Read(Box<(Name<'a>, Name<'a>)>),
 
     /// `give`: an object, and attributes that it is given (true) or that are taken from it.
     Give(Position, Box<Expression<'a>>, Vec<(bool, Name<'a>)>),
@@ -59,11 +60,14 @@ pub enum Statement<'a> {
     /// `objectloop`: over what it goes, and what is done in each round.
     Objectloop(Position, Box<Loop<'a>>, Box<Statement<'a>>),
 
-    /// A `switch`: its value, its cases, and the statements of its `default`.
+    /// A `switch`: its value; its cases, with the statements of its `default`. They are in a box,
+    /// since a statement is as large as the largest kind, also `;`.
     Switch(
         Position,
         Box<Expression<'a>>,
-        Vec<(Vec<Range<'a>>, Vec<Statement<'a>>)>,
-        Option<Vec<Statement<'a>>>,
+        Box<(
+            Vec<(Vec<Range<'a>>, Vec<Statement<'a>>)>,
+            Option<Vec<Statement<'a>>>,
+        )>,
     ),
 }

@@ -1,6 +1,6 @@
 use Rattle.std.proofs.Common.{◌≡◌, refl, ap}
 use Rattle.std.specs.Prelude.{map}
-use Rattle.syntax_trees.specs.Views.{expression_tree}
+use Rattle.syntax_trees.specs.Views.{name_tree, expression_tree}
 use Rattle.syntax_statement_parts.specs.Views.{flag_tree, item_tree}
 use Rattle.syntax_statements.specs.Tree as written
 use Rattle.syntax_statements.specs.Views.{simple_tree}
@@ -57,7 +57,10 @@ pub returns-in-Quit : goal.returns-in-Quit
 returns-in-Quit c = rw (c.in-Quit.is, made_quit) (leaf c.args.least.now values.quit)
 
 pub returns-in-Read : goal.returns-in-Read
-returns-in-Read c = rw c.in-Read.is (c.read.ensures c.args.around)
+returns-in-Read c = let v = c.in-Read in
+    let is : simple_tree c.args.s.now
+    ≡ written.read_line (name_tree v.names.value.0) (name_tree v.names.value.1) = ap simple_tree v.is in
+    rw (is, ← c.deref-in-Read.ensures) (c.read.ensures c.args.around)
 
 pub returns-in-Give : goal.returns-in-Give
 returns-in-Give c = let v = c.in-Give in

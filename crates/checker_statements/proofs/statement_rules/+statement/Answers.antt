@@ -148,10 +148,13 @@ otherwise-returns-in-Ok t c = rw c.in-Some.is
     (map action_of c.in-Ok.found.items) c.deref.ensures.value c.in-Ok.ensures)
 
 pub switch_on-returns : goal.switch_on-returns
-switch_on-returns t c around is = rw (made_switch c.in-Ok.value c.in-Ok-in_box.cases, c.in-Ok-in_box.ensures)
-    (switch_walked (seen_in c.args.scope.now) around c.args.inside c.args.position (expression_tree c.args.value.now)
-    (boxed_value c.in-Ok.value) c.args.cases.now (other_tree c.args.other.now)
-    (map case_of c.in-Ok-all_cases.cases.items) (other_of c.in-Ok-otherwise.other) is c.in-Ok.ensures
+switch_on-returns t c around is = rw (
+  made_switch c.in-Ok.value c.in-Ok-in_box.cases,
+  c.in-Ok-in_box.ensures,
+  ← c.deref.ensures.value,
+) (switch_walked (seen_in c.args.scope.now) around c.args.inside c.args.position (expression_tree c.args.value.now)
+    (boxed_value c.in-Ok.value) c.deref.result.now (other_tree c.args.cases.now.1)
+    (map case_of c.in-Ok-all_cases.found.items) (other_of c.in-Ok-otherwise.other) is c.in-Ok.ensures
     c.in-Ok-all_cases.ensures c.in-Ok-otherwise.ensures)
 
 pub each-returns : goal.each-returns
@@ -189,8 +192,8 @@ statement-returns-in-For t c = let v = c.in-For in
 pub statement-returns-in-Switch : goal.statement-returns-in-Switch
 statement-returns-in-Switch t c = let v = c.in-Switch in
     rw (
-      is_switch_statement c.args.s.now v.position v.value v.cases v.other v.is,
-      ← c.deref-in-Switch.ensures.value,
+      is_switch_statement c.args.s.now v.position v.value v.cases v.is,
+      ← c.deref-in-Switch.ensures,
       ← c.deref-in-Switch-2.ensures,
     )
     (c.switch_on.ensures c.args.around c.in_switch.ensures)

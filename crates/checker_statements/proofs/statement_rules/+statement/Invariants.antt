@@ -2,7 +2,6 @@ use Rattle.std.proofs.Common.{◌≡◌, ◌≤◌, ◌+◌, ◌*◌, max, lengt
 use Rattle.std.specs.Prelude.{map, vec_len, vec_capacity}
 use Rattle.std.specs.List.{flat_map}
 use Rattle.syntax_statements.specs.declared.tree.Statement.{size-Statement}
-use Rattle.syntax_statements.specs.declared.tree.Statement.TheViews.{weight-Statement-Switch-3}
 use Rattle.checker_names.specs.Noted.{noted}
 use Rattle.checker_names.specs.Scope.{seen_in}
 use Rattle.meaning.specs.Views.{action_of, case_of}
@@ -56,7 +55,7 @@ abbrev pub decreases-otherwise : goal.decreases-otherwise
 decreases-otherwise l = 8 * goal.size-otherwise l + 2
 
 abbrev pub decreases-switch_on : goal.decreases-switch_on
-decreases-switch_on l = 8 * max (goal.size-switch_on l) (weight-Statement-Switch-3 l.other.now) + 4
+decreases-switch_on l = 8 * goal.size-switch_on l + 4
 
 abbrev pub invariant-all_cases-loop-c : goal.invariant-all_cases-loop-c
 invariant-all_cases-loop-c l = record {

@@ -1,15 +1,12 @@
-use Rattle.std.proofs.Common.{List, ◌∷◌, sym, ap, ◌∙◌}
+use Rattle.std.proofs.Common.{List, sym, ap, ◌∙◌}
 use Rattle.std.specs.List.{flat_map}
-use Rattle.syntax_trees.specs.Views.{expression_tree}
 use Rattle.syntax_statement_parts.specs.Views.{loop_tree}
 use Rattle.syntax_statements.specs.declared.tree.Statement.{Statement}
 use Rattle.syntax_statements.specs.Views.{statement_tree, other_tree}
-use Rattle.checker_values.specs.Temporaries.{need}
 use Rattle.checker_statements.proofs.Shapes.{is_block_statement, is_if_statement}
 use Rattle.checker_statements.proofs.Shapes.{is_if_else_statement, is_while_statement, is_do_statement}
 use Rattle.checker_statements.proofs.Shapes.{is_for_statement, is_objectloop_statement, is_switch_statement}
 use Rattle.checker_statements.proofs.Shapes.{is_empty_statement}
-use Rattle.messages_figures.specs.Needs.{PlacedNeed}
 use Rattle.messages_figures.specs.Walk.{raised_all, own_needs, own_case_needs}
 use Rattle.messages_figures.proofs.Raising.{raised_none, raised_two}
 use Rattle.messages_figures.proofs.Each.{each_next, each_end, statements_need, case_need, cases_need, loop_need}
@@ -129,13 +126,15 @@ statement-returns-in-Objectloop t c =
 pub statement-returns-in-Switch : goal.statement-returns-in-Switch
 statement-returns-in-Switch t c =
     let v = c.in-Switch in
-    let value = expression_tree c.deref-in-Switch.result.now in
     rw (
-      is_switch_statement c.args.s.now v.position v.value v.cases v.other v.is,
+      is_switch_statement c.args.s.now v.position v.value v.cases v.is,
       ← c.deref-in-Switch.ensures,
-      ← c.deref-in-Switch-2.ensures.value,
+      ← c.deref-in-Switch-2.ensures,
     )
-    (raised_two _ _ _ _ _ c.whole-in-Switch.ensures
-    (raised_two _ _ _ _ _ c.all_cases.ensures c.otherwise_of.ensures)
-    ∙ ap (λ (xs : List PlacedNeed). raised_all c.args.sought.now ((v.position, need value) ∷ xs))
-    (sym (cases_need c.deref-in-Switch-2.result.now (other_tree v.other))))
+    (raised_two _ _ _ _ _ c.whole-in-Switch.ensures c.choices.ensures)
+
+pub choices-returns : goal.choices-returns
+choices-returns t c =
+    rw (← c.deref.ensures.value)
+    (raised_two _ _ _ _ _ c.all_cases.ensures c.otherwise_of.ensures
+    ∙ ap (raised_all c.args.sought.now) (sym (cases_need c.deref.result.now (other_tree c.args.cases.now.1))))

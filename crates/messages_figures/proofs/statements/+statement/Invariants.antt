@@ -12,6 +12,9 @@ decreases-sequence l = 8 * goal.size-sequence l + 1
 abbrev pub decreases-all_cases : goal.decreases-all_cases
 decreases-all_cases l = 8 * goal.size-all_cases l + 3
 
+abbrev pub decreases-choices : goal.decreases-choices
+decreases-choices l = 8 * goal.size-choices l + 4
+
 abbrev pub decreases-otherwise_of : goal.decreases-otherwise_of
 decreases-otherwise_of l = 8 * goal.size-otherwise_of l + 2
 

@@ -2,13 +2,14 @@ use Rattle.std.specs.Prelude.{map}
 use Rattle.syntax_trees.specs.Views.{expression_tree}
 use Rattle.syntax_parsing.specs.Returned.{ahead}
 use Rattle.syntax_statements.specs.Views.{case_tree, other_tree}
-use Rattle.syntax_statements.proofs.Shapes.{is_switch}
+use Rattle.syntax_statements.proofs.Shapes.{is_switch_with}
 use Rattle.syntax_statements.proofs.Cases.{switch_made}
 use Rattle.syntax_statements.proofs.parts.switch_on.Goals as goal
 
-pub returns-in-Ok : goal.returns-in-Ok
-returns-in-Ok c = rw (
+pub returns-in-Ok-boxed : goal.returns-in-Ok-boxed
+returns-in-Ok-boxed c = rw (
   switch_made c.args.position (expression_tree c.args.value.value) (map case_tree c.args.cases.items)
       (other_tree c.args.other) (ahead c.args.parser.now) _ c.in-Ok.ensures,
-  ← is_switch c.args.position c.args.value c.args.cases c.args.other,
+  ← is_switch_with c.args.position c.args.value c.in-Ok-boxed.cases c.args.cases c.args.other
+      c.in-Ok-boxed.ensures.ok,
 ) c.in_box.ensures
