@@ -22,8 +22,8 @@ pub is_empty_statement : (s : Statement) → s ≡ said.Empty → statement_tree
 is_empty_statement s same = ap statement_tree (same ∙ sym said.rolls-Empty)
     ∙ fold-roll-Statement StatementTree layer _
 
-pub is_simple_statement : (s : Statement) (x : Box SimpleStatement) → s ≡ said.Simple x
-    → statement_tree s ≡ simple_tree x.value
+pub is_simple_statement : (s : Statement) (x : SimpleStatement) → s ≡ said.Simple x
+    → statement_tree s ≡ simple_tree x
 is_simple_statement s x same = ap statement_tree (same ∙ sym (said.rolls-Simple x))
     ∙ fold-roll-Statement StatementTree layer _
 

@@ -213,14 +213,14 @@ fn flags(
 
 fn give<'a>(
     e: &Expression<'a>,
-    given: &[(bool, Name<'_>)],
+    given: &Vec<(bool, Name<'_>)>,
     alloc: Global,
     scope: &Scope<'_>,
     position: Position,
     least: &mut Least,
 ) -> Result<Action<'a>, AllocError>
     ensures { (around : _) → GivesAction (seen_in scope.now) around result least.old least.new
-        (trees.give position (expression_tree e.now) (map flag_tree given.now)) }
+        (trees.give position (expression_tree e.now) (map flag_tree given.now.items)) }
 {
     let Ok(object) = boxed_whole(e, alloc, scope, position, least) else {
         return Err(AllocError);

@@ -33,7 +33,7 @@ simple_tree simple.ReturnTrue = return_true
 simple_tree simple.ReturnFalse = return_false
 simple_tree simple.Quit = quit
 simple_tree (simple.Read names) = read_line (name_tree names.value.0) (name_tree names.value.1)
-simple_tree (simple.Give p e xs) = give p (expression_tree e.value) (map flag_tree xs.items)
+simple_tree (simple.Give p e xs) = give p (expression_tree e.value) (map flag_tree xs.value.items)
 simple_tree (simple.Move p a b) = move p (expression_tree a.value) (expression_tree b.value)
 simple_tree (simple.Remove p e) = remove p (expression_tree e.value)
 simple_tree (simple.Effect p e) = effect p (expression_tree e.value)
@@ -50,7 +50,7 @@ cases_of (c ∷ cs) other = case c.0 c.1 (cases_of cs other)
 
 abbrev pub layer : Statement-F StatementTree → StatementTree
 layer Statement-F.Empty = empty
-layer (Statement-F.Simple s) = simple_tree s.value
+layer (Statement-F.Simple s) = simple_tree s
 layer (Statement-F.Block xs) = block (trees_of xs.items)
 layer (Statement-F.If p c x) = if_then p (expression_tree c.value) x.value
 layer (Statement-F.IfElse p c x y) = if_else p (expression_tree c.value) x.value y.value

@@ -55,7 +55,7 @@ pub fn plain<'t, 'a>(
         (spec.plain_on depth (reading.head (ahead parser.old)) (ahead parser.old)) }
 {
     match simple(parser, depth) {
-        Ok(found) => in_box(parser, Statement::Simple(found)),
+        Ok(found) => in_box(parser, Statement::Simple(Box::into_inner(found))),
         Err(e) => Err(e),
     }
 }
@@ -126,7 +126,7 @@ fn add_simple<'t, 'a>(
 {
     match room(row) {
         Ok(()) => {
-            put(row, Statement::Simple(next));
+            put(row, Statement::Simple(Box::into_inner(next)));
             Ok(())
         }
         Err(e) => {

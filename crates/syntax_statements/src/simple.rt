@@ -140,7 +140,10 @@ fn given<'t, 'a>(
 {
     let object = expression(parser, depth)?;
     match flags(parser) {
-        Ok(found) => ended(parser, SimpleStatement::Give(position, object, found)),
+        Ok(found) => match boxed(parser.alloc, found) {
+            Ok(found) => ended(parser, SimpleStatement::Give(position, object, found)),
+            Err(e) => Err(e),
+        },
         Err(e) => Err(e),
     }
 }

@@ -5,7 +5,8 @@ use syntax_statement_parts::{Heading, Loop, PrintItem, Range};
 use syntax_trees::{Expression, Name};
 
 /// A statement in which no other stands, and which is not `;` alone. Where it has expressions, and
-/// for `break` and `continue`, the position of its first token stands with it.
+/// for `break` and `continue`, the position of its first token stands with it. What is large is in
+/// boxes: it stands in a row of statements itself, and each of these takes as much as the largest.
 #[derive(Drop)]
 pub enum SimpleStatement<'a> {
     /// A text alone: it is printed with a new line, and the routine returns true.
@@ -24,12 +25,11 @@ pub enum SimpleStatement<'a> {
     ReturnFalse,
     Quit,
 
-    /// `read`: a line is read into the array of its text and the array of its words. Two names are
-    /// more than any other statement holds itself.
+    /// `read`: a line is read into the array of its text and the array of its words.
     Read(Box<(Name<'a>, Name<'a>)>),
 
     /// `give`: an object, and attributes that it is given (true) or that are taken from it.
-    Give(Position, Box<Expression<'a>>, Vec<(bool, Name<'a>)>),
+    Give(Position, Box<Expression<'a>>, Box<Vec<(bool, Name<'a>)>>),
 
     /// `move`: an object, and its new parent.
     Move(Position, Box<Expression<'a>>, Box<Expression<'a>>),
@@ -45,11 +45,11 @@ pub enum SimpleStatement<'a> {
 /// proved for each of its kinds.
 #[derive(Drop)]
 pub enum Statement<'a> {
-    /// `;` alone. It has no box: so one byte of a source asks for no memory but its place in a row.
+    /// `;` alone. One byte of a source asks for no memory but its place in a row.
     Empty,
 
-    /// Any other in which no other stands.
-    Simple(Box<SimpleStatement<'a>>),
+    /// Any other in which no other stands. It has no box, since a source may consist of these.
+    Simple(SimpleStatement<'a>),
     Block(Vec<Statement<'a>>),
     If(Position, Box<Expression<'a>>, Box<Statement<'a>>),
     IfElse(Position, Box<Expression<'a>>, Box<Statement<'a>>, Box<Statement<'a>>),

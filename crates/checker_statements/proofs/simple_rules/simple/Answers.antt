@@ -65,8 +65,9 @@ returns-in-Read c = let v = c.in-Read in
 pub returns-in-Give : goal.returns-in-Give
 returns-in-Give c = let v = c.in-Give in
     let is : simple_tree c.args.s.now
-    ≡ written.give v.position (expression_tree v.e.value) (map flag_tree v.given.items) = ap simple_tree v.is in
-    rw (is, ← c.deref-in-Give.ensures, ← c.deref-in-Give-2.ensures.value) (c.give.ensures c.args.around)
+    ≡ written.give v.position (expression_tree v.e.value) (map flag_tree v.given.value.items)
+    = ap simple_tree v.is in
+    rw (is, ← c.deref-in-Give.ensures, ← c.deref-in-Give-2.ensures) (c.give.ensures c.args.around)
 
 pub returns-in-Move : goal.returns-in-Move
 returns-in-Move c = let v = c.in-Move in

@@ -222,7 +222,7 @@ statement-returns-in-Empty t c =
 
 pub statement-returns-in-Simple : goal.statement-returns-in-Simple
 statement-returns-in-Simple t c = rw
-    (is_simple_statement c.args.s.now c.in-Simple.plain c.in-Simple.is, ← c.deref.ensures) c.simple.ensures
+    (is_simple_statement c.args.s.now c.in-Simple.plain c.in-Simple.is) c.simple.ensures
 
 pub statement-returns-in-Objectloop : goal.statement-returns-in-Objectloop
 statement-returns-in-Objectloop t c = let v = c.in-Objectloop in
