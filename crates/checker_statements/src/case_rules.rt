@@ -2,7 +2,7 @@
 
 ghost use Rattle.std.specs.Prelude.{◌≡◌, IfOk, map};
 ghost use Rattle.std.specs.Option.{option_map};
-ghost use Rattle.syntax_statement_parts.specs.Views.{literal_tree, range_tree};
+ghost use Rattle.syntax_statement_parts.specs.Views.{literal_tree, boxed_literal, range_tree};
 ghost use Rattle.meaning.specs.Views.{range_of};
 ghost use Rattle.checker_names.specs.Noted.{noted};
 ghost use Rattle.checker_names.specs.Scope.{look_in, seen_in};
@@ -35,11 +35,11 @@ fn case_value(value: &Literal<'_>, scope: &Scope<'_>, least: &mut Least) -> u16
 
 // What a range holds for, whose first value is known.
 #[tactic(auto, using(checker_names::proofs::Noted::noted_none))]
-fn span(high: &Option<Literal<'_>>, scope: &Scope<'_>, low: u16, least: &mut Least) -> Span
+fn span(high: &Option<Box<Literal<'_>>>, scope: &Scope<'_>, low: u16, least: &mut Least) -> Span
     ensures value { range_of result ≡ spec.range_to (seen_in scope.now) low
-        (option_map literal_tree high.now) }
+        (option_map boxed_literal high.now) }
     ensures breaches { least.new ≡ noted least.old
-        (spec.high_breaches (look_in scope.now) (option_map literal_tree high.now)) }
+        (spec.high_breaches (look_in scope.now) (option_map boxed_literal high.now)) }
 {
     match high {
         None => Span::One(low),

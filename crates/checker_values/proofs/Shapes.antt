@@ -30,8 +30,8 @@ is_word e s same = ap expression_tree (same ∙ sym (from.rolls-Word s)) ∙ fol
 pub is_named : (e : Expression) (n : Name) → e ≡ from.Named n → expression_tree e ≡ trees.named (name_tree n)
 is_named e n same = ap expression_tree (same ∙ sym (from.rolls-Named n)) ∙ fold-roll-Expression ExpressionTree layer _
 
-pub is_call : (e : Expression) (n : Name) (es : Vec Expression) → e ≡ from.Call n es
-    → expression_tree e ≡ trees.call (name_tree n) (trees_of (map expression_tree es.items))
+pub is_call : (e : Expression) (n : Box Name) (es : Vec Expression) → e ≡ from.Call n es
+    → expression_tree e ≡ trees.call (name_tree n.value) (trees_of (map expression_tree es.items))
 is_call e n es same = ap expression_tree (same ∙ sym (from.rolls-Call n es))
     ∙ fold-roll-Expression ExpressionTree layer _
 
@@ -50,8 +50,8 @@ pub is_relative_of : (e : Expression) (r : Relative) (i : Box Expression) → e 
 is_relative_of e r i same = ap expression_tree (same ∙ sym (from.rolls-RelativeOf r i))
     ∙ fold-roll-Expression ExpressionTree layer _
 
-pub is_property : (e : Expression) (o : Box Expression) (n : Name) (ns : Vec Name) → e ≡ from.Property o n ns
-    → expression_tree e ≡ propertied (trees.property (expression_tree o.value) (name_tree n)) ns.items
+pub is_property : (e : Expression) (o : Box Expression) (n : Box Name) (ns : Vec Name) → e ≡ from.Property o n ns
+    → expression_tree e ≡ propertied (trees.property (expression_tree o.value) (name_tree n.value)) ns.items
 is_property e o n ns same = ap expression_tree (same ∙ sym (from.rolls-Property o n ns))
     ∙ fold-roll-Expression ExpressionTree layer _
 

@@ -11,9 +11,9 @@ use Rattle.syntax_trees.specs.Tree as trees
 use Rattle.syntax_trees.specs.Tree.{ExpressionTree, binary}
 use Rattle.syntax_trees.specs.Views.{expression_tree, name_tree, propertied, layer, chained, link}
 
-pub properties_built : (e : Box Expression) (n : Name) (ns : Vec Name)
+pub properties_built : (e : Box Expression) (n : Box Name) (ns : Vec Name)
     → expression_tree (from.Property e n ns)
-    ≡ propertied (trees.property (expression_tree e.value) (name_tree n)) ns.items
+    ≡ propertied (trees.property (expression_tree e.value) (name_tree n.value)) ns.items
 properties_built e n ns = ap expression_tree (sym (from.rolls-Property e n ns))
     ∙ fold-roll-Expression ExpressionTree layer _
 

@@ -44,6 +44,20 @@ fn in_box<'t, 'a>(
     }
 }
 
+// A name in a box.
+fn boxed_name<'t, 'a>(
+    parser: &Parser<'t, 'a>,
+    name: &Name<'a>,
+) -> Result<Box<Name<'a>>, ParseError>
+    ensures ok { IfOk result (λ x. x.value ≡ name.now) }
+    ensures err { IfErr result (λ e. e ≡ ParseError.Memory) }
+{
+    match Box::new(parser.alloc, *name) {
+        Ok(name) => Ok(name),
+        Err(refused) => Err(ParseError::from(refused)),
+    }
+}
+
 /// Drops what was read, where an error follows. It is dropped here, since a function that drops a
 /// tree itself has room for one on its stack, at each nesting.
 #[inline(never)]
@@ -294,7 +308,8 @@ pub fn properties<'t, 'a>(
         let next = expect_name(parser)?;
         others.push(next)?;
     }
-    in_box(parser, Expression::Property(owner, first, others))
+    let name = boxed_name(parser, &first)?;
+    in_box(parser, Expression::Property(owner, name, others))
 }
 
 /// `++` or `--` before its operand.
@@ -516,7 +531,8 @@ pub fn call<'t, 'a>(
         (map expression_tree arguments.entry.items, ahead parser.old)) }
 {
     expect(parser, Sign::CloseParenthesis)?;
-    in_box(parser, Expression::Call(*name, arguments))
+    let name = boxed_name(parser, name)?;
+    in_box(parser, Expression::Call(name, arguments))
 }
 
 /// A call without arguments, from the second of its parentheses on.
@@ -529,5 +545,6 @@ pub fn call_alone<'t, 'a>(
         (Ok (tree.call (name_tree name.now) tree.none, reading.tail (ahead parser.old))) }
 {
     pass(parser);
-    in_box(parser, Expression::Call(*name, Vec::new(parser.alloc)))
+    let name = boxed_name(parser, name)?;
+    in_box(parser, Expression::Call(name, Vec::new(parser.alloc)))
 }

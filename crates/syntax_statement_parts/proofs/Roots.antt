@@ -32,6 +32,6 @@ module _ {A : Type 0} (f : ExpressionTree → A) (x : A) where
       built = ap expression_tree (sym (from.rolls-Chain a op b ls)) ∙ fold-roll-Expression ExpressionTree layer _
 
   pub at_property : ((e : ExpressionTree) (n : NameTree) → x ≡ f (property e n)) → (e : Expression)
-      (o : Box Expression) (n : Name) (ns : Vec Name) → e ≡ from.Property o n ns → x ≡ f (expression_tree e)
+      (o : Box Expression) (n : Box Name) (ns : Vec Name) → e ≡ from.Property o n ns → x ≡ f (expression_tree e)
   at_property same e o n ns is = rw (is, properties_built o n ns)
-      (propertied_root same (expression_tree o.value) (name_tree n) ns.items)
+      (propertied_root same (expression_tree o.value) (name_tree n.value) ns.items)

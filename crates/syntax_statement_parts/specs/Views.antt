@@ -29,8 +29,11 @@ literal_tree (values.Number n) = number_value n
 literal_tree (values.Word s) = word_value s.now
 literal_tree (values.Named n) = named_value (name_tree n)
 
+abbrev pub boxed_literal : Box Literal → LiteralTree
+boxed_literal b = literal_tree b.value
+
 abbrev pub range_tree : Range → RangeTree
-range_tree r = record { low = literal_tree r.low; high = option_map literal_tree r.high }
+range_tree r = record { low = literal_tree r.low; high = option_map boxed_literal r.high }
 
 abbrev pub part_tree : Option (Box Expression) → Option ExpressionTree
 part_tree e = option_map (λ x. expression_tree x.value) e

@@ -16,11 +16,12 @@ pub enum Literal<'a> {
     Named(Name<'a>),
 }
 
-/// The values for which a case of a `switch` is meant: one alone, or those from one to another.
-#[derive(Clone, Copy)]
+/// The values for which a case of a `switch` is meant: one alone, or those from one to another. Most
+/// are one alone, so the other is in a box.
+#[derive(Drop)]
 pub struct Range<'a> {
     pub low: Literal<'a>,
-    pub high: Option<Literal<'a>>,
+    pub high: Option<Box<Literal<'a>>>,
 }
 
 /// What stands in the parentheses of a `for`: what is done before the first round, the test of each

@@ -115,6 +115,7 @@ fn range<'t, 'a>(parser: &mut Parser<'t, 'a>) -> Result<Range<'a>, ParseError>
     }
     pass(parser);
     let high = known_value(parser)?;
+    let high = Box::new(parser.alloc, high)?;
     Ok(Range {
         low,
         high: Some(high),

@@ -2,7 +2,6 @@
 use Rattle.std.proofs.Common.{◌≡◌, ℕ, suc, ◌+◌, ◌-◌, ◌<◌, Bool, true, false, List, [], ◌∷◌, ◌++◌, length, Result, Ok}
 use Rattle.std.proofs.Common.{Err, map, refl, sym, ap, ◌∙◌, arith}
 use Rattle.std.specs.Prelude.{if◌then◌else◌}
-use Rattle.std.specs.Global.{Box}
 use Rattle.std.proofs.lemmas.List.{map_push}
 use Rattle.syntax_lexer.specs.declared.token.Sign.TheVariants as s
 use Rattle.syntax_lexer.specs.declared.token.Word.TheVariants as w
@@ -92,7 +91,7 @@ added before room longer x y left same pushed is = ap (λ ts. Ok (ts, ahead left
 pub is_empty : statement_tree said.Empty ≡ empty
 is_empty = ap statement_tree (sym said.rolls-Empty) ∙ fold-roll-Statement StatementTree layer _
 
-pub is_simple : (x : Box SimpleStatement) → statement_tree (said.Simple x) ≡ simple_tree x.value
+pub is_simple : (x : SimpleStatement) → statement_tree (said.Simple x) ≡ simple_tree x
 is_simple x = ap statement_tree (sym (said.rolls-Simple x)) ∙ fold-roll-Statement StatementTree layer _
 
 pub after_fails : {A : Type 0} (e : ParseError) (front : List A) (one : Result (A × List Lexeme) Stop) → Fails e one

@@ -30,11 +30,11 @@ abbrev pub layer : Expression-F ExpressionTree → ExpressionTree
 layer (Expression-F.Constant n) = constant n
 layer (Expression-F.Word s) = word s.now
 layer (Expression-F.Named n) = named (name_tree n)
-layer (Expression-F.Call n es) = call (name_tree n) (trees_of es.items)
+layer (Expression-F.Call n es) = call (name_tree n.value) (trees_of es.items)
 layer (Expression-F.Index n width e) = index (name_tree n) width e.value
 layer (Expression-F.Parenthesised e) = parenthesised e.value
 layer (Expression-F.RelativeOf r e) = relative_of r e.value
-layer (Expression-F.Property e n ns) = propertied (property e.value (name_tree n)) ns.items
+layer (Expression-F.Property e n ns) = propertied (property e.value (name_tree n.value)) ns.items
 layer (Expression-F.PropertyLength e n) = property_length e.value (name_tree n)
 layer (Expression-F.PropertyEntry e n i) = property_entry e.value (name_tree n) i.value
 layer (Expression-F.Prefixed op e) = prefixed op e.value

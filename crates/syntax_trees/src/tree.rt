@@ -125,8 +125,9 @@ pub enum Expression<'a> {
     /// The value of a name.
     Named(Name<'a>),
 
-    /// A call of a routine, with its arguments.
-    Call(Name<'a>, Vec<Expression<'a>>),
+    /// A call of a routine, with its arguments. The name is in a box, as in `Property`: each
+    /// expression takes as much memory as the largest.
+    Call(Box<Name<'a>>, Vec<Expression<'a>>),
 
     /// An entry of an array: the array's name, the width of its entries, and the index.
     Index(Name<'a>, Width, Box<Expression<'a>>),
@@ -138,7 +139,7 @@ pub enum Expression<'a> {
     RelativeOf(Relative, Box<Expression<'a>>),
 
     /// Properties, one behind another: of an object, and then of each property's value.
-    Property(Box<Expression<'a>>, Name<'a>, Vec<Name<'a>>),
+    Property(Box<Expression<'a>>, Box<Name<'a>>, Vec<Name<'a>>),
 
     /// The length of a property: `.#`
     PropertyLength(Box<Expression<'a>>, Name<'a>),

@@ -1,6 +1,6 @@
 use Rattle.std.proofs.Common.{ℕ, ap, ◌∙◌}
 use Rattle.std.specs.Option.{option_map}
-use Rattle.syntax_statement_parts.specs.Views.{literal_tree}
+use Rattle.syntax_statement_parts.specs.Views.{literal_tree, boxed_literal}
 use Rattle.meaning.specs.Resolved.{RangeOf}
 use Rattle.checker_names.specs.Scope.{seen_in}
 use Rattle.checker_values.proofs.Walks.{two, walked}
@@ -9,7 +9,7 @@ use Rattle.checker_statements.proofs.case_rules.range.Goals as goal
 
 pub returns : goal.returns
 returns c =
-    let high = option_map literal_tree c.args.range.now.high in
+    let high = option_map boxed_literal c.args.range.now.high in
     two (λ (low : ℕ) (found : RangeOf). found)
     (walked c.case_value-low.ensures.value c.case_value-low.ensures.breaches)
     (walked

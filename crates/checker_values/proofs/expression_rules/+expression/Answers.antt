@@ -101,7 +101,8 @@ boxed-returns-in-Word t c =
     (boxed_walked c.word.result c.word.ensures (leaf c.args.least.now _))
 
 pub boxed-returns-in-Call : goal.boxed-returns-in-Call
-boxed-returns-in-Call t c = rw (is_call _ _ _ c.in-Call.is, ← c.deref.ensures.value) c.call.ensures
+boxed-returns-in-Call t c =
+    rw (is_call _ _ _ c.in-Call.is, ← c.deref.ensures.value, ← c.deref-in-Call.ensures) c.call.ensures
 
 pub boxed-returns-in-Parenthesised : goal.boxed-returns-in-Parenthesised
 boxed-returns-in-Parenthesised t c =
@@ -113,8 +114,12 @@ boxed-returns-in-RelativeOf t c =
 
 pub boxed-returns-in-Property : goal.boxed-returns-in-Property
 boxed-returns-in-Property t c =
-    rw (is_property _ _ _ _ c.in-Property.is, ← c.deref-in-Property.ensures, ← c.deref-in-Property-2.ensures.value)
-    c.properties.ensures
+    rw (
+      is_property _ _ _ _ c.in-Property.is,
+      ← c.deref-in-Property.ensures,
+      ← c.deref-in-Property-2.ensures,
+      ← c.deref-in-Property-3.ensures.value,
+    ) c.properties.ensures
 
 pub boxed-returns-in-PropertyLength : goal.boxed-returns-in-PropertyLength
 boxed-returns-in-PropertyLength t c =

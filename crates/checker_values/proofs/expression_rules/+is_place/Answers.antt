@@ -16,4 +16,4 @@ pub returns-in-Property : goal.returns-in-Property
 returns-in-Property t c =
     let v = c.in-Property in
     rw (is_property c.args.e.now v.field-0 v.field-1 v.field-2 v.is)
-    (sym (properties_place (expression_tree v.field-0.value) (name_tree v.field-1) v.field-2.items))
+    (sym (properties_place (expression_tree v.field-0.value) (name_tree v.field-1.value) v.field-2.items))

@@ -104,7 +104,7 @@ fits-returns-in-Property t c =
     (c.fits-in-Property.ensures ∙ ap (λ (y : Expression). nat_le (need (expression_tree y)) c.args.room)
     c.deref-in-Property.ensures
     ∙ ap (λ n. nat_le n c.args.room)
-    (sym (properties_need (trees.property object (name_tree v.field-1)) v.field-2.items ∙ one_need object)))
+    (sym (properties_need (trees.property object (name_tree v.field-1.value)) v.field-2.items ∙ one_need object)))
 
 pub fits-returns-in-PropertyLength : goal.fits-returns-in-PropertyLength
 fits-returns-in-PropertyLength t c =

@@ -16,5 +16,5 @@ pub returns-in-Property : goal.returns-in-Property
 returns-in-Property t c own =
     let v = c.in-Property in
     rw (is_property c.args.e.now v.field-0 v.field-1 v.field-2 v.is)
-    (ap (λ (ns : List ℕ). length ns) (sym (properties_left (expression_tree v.field-0.value) (name_tree v.field-1)
+    (ap (λ (ns : List ℕ). length ns) (sym (properties_left (expression_tree v.field-0.value) (name_tree v.field-1.value)
     v.field-2.items own)))

@@ -52,4 +52,5 @@ returns c = rw
       | else-loop-turn-test q ↦ inl q.loop-turn-test.false
       | then-loop-turn-test+then-not-is_sign-2 q ↦ inr (grind arith)
     ]))
-    (rw (properties_built c.args.owner c.in_ok-first.first c.loop-turn.others) at c.in_box.ensures)
+    (rw (properties_built c.args.owner c.in_ok-name.name c.loop-turn.others, c.in_ok-name.ensures.ok) at
+    c.in_box.ensures)
