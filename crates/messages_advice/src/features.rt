@@ -51,7 +51,7 @@ fn is_in_constant(tokens: &[Token<'_>], number: usize) -> bool {
 /// The bytes from the end of the token of a number on, without the blanks before them in its line.
 fn bytes_after<'s>(source: &'s [u8], tokens: &[Token<'_>], number: usize) -> &'s [u8] {
     let end = match tokens.get(number) {
-        Some(token) => token.end,
+        Some(token) => token.end(),
         None => source.len(),
     };
     let rest = source.split_at(end.min(source.len())).1;

@@ -149,7 +149,7 @@ pub fn has_word_within(tokens: &[Token<'_>], from: usize, to: usize, word: Word)
 /// Whether the token of a number directly follows the one before it.
 pub fn is_joined(tokens: &[Token<'_>], at: usize) -> bool {
     match (tokens.get(before(at, 1)), tokens.get(at)) {
-        (Some(last), Some(token)) => last.end == token.position.offset,
+        (Some(last), Some(token)) => last.end() == token.position.offset,
         _ => false,
     }
 }

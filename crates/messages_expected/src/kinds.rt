@@ -136,6 +136,5 @@ pub fn token_of<'a>(kind: TokenKind) -> Token<'a>
         kind,
         text: b"",
         position: Position { offset: 0, line: 0 },
-        end: 0,
     }
 }

@@ -65,7 +65,7 @@ fn wanted(alloc: Global, tokens: &[Token<'_>]) -> Result<Option<Grouped>, AllocE
 fn end_before(tokens: &[Token<'_>], number: usize) -> Option<Position> {
     let last = tokens.get(before(number, 1))?;
     Some(Position {
-        offset: last.end,
+        offset: last.end(),
         line: last.position.line,
     })
 }

@@ -117,7 +117,6 @@ fn sign_before<'a>(next: Token<'a>, sign: Sign) -> Token<'a> {
         kind: Kind::Sign(sign),
         text: b"",
         position: next.position,
-        end: next.position.offset,
     }
 }
 

@@ -3,7 +3,7 @@ use Rattle.std.proofs.Common.{◌≡◌, ℕ, ◌+◌, ◌<◌, ◌≤◌, ◌�
 use Rattle.std.proofs.Common.{Ok, Err, refl, sym, ap, subst, ◌∙◌, arith, drop-cons, add-one, inl, inr, map}
 use Rattle.std.specs.Global.{Vec}
 use Rattle.std.specs.Prelude.{IfOk}
-use Rattle.std.proofs.lemmas.List.{drop-drop, length-drop, nil_from_length}
+use Rattle.std.proofs.lemmas.List.{drop-drop, length-drop, length-take, nil_from_length}
 use Rattle.syntax_lexer.specs.declared.fault.LexicalFault.{LexicalFault}
 use Rattle.syntax_lexer.specs.declared.fault.SourceFault.{SourceFault}
 use Rattle.syntax_lexer.specs.declared.fault.PlacedFault.{PlacedFault}
@@ -78,12 +78,20 @@ at_token bs at line n lexeme o place long good h =
 
 pub at_the_end : (bs : List ℕ) (at line : ℕ) → length bs ≤ at
     → Lexes at line (drop at bs)
-    (Ok (record { lexeme = end (record { offset = at; line = line }); text = drop at bs; end = at } ∷ []))
+    (Ok (record {
+      lexeme = end (record { offset = at; line = line });
+      text = drop at bs;
+      end = at + length (drop at bs);
+    } ∷ []))
 at_the_end bs at line le =
+    let none : length (drop at bs) ≡ 0 = omega (arith, le, length-drop at bs) in
     let nothing : drop at bs ≡ [] = nil_from_length (drop at bs) (omega (arith, length-drop at bs)) in
-    subst (λ xs. Lexes at line xs
+    let same : at ≡ at + length (drop at bs) = omega (arith, none) in
+    subst (λ (k : ℕ). Lexes at line (drop at bs)
+    (Ok (record { lexeme = end (record { offset = at; line = line }); text = drop at bs; end = k } ∷ []))) same
+    (subst (λ xs. Lexes at line xs
     (Ok (record { lexeme = end (record { offset = at; line = line }); text = xs; end = at } ∷ []))) (sym nothing)
-    at_end
+    at_end)
 
 pub kind_position : (k : Kind) (p : Position) → position_of (lexeme_of k p) ≡ p
 kind_position k p = go k
@@ -103,14 +111,17 @@ pub token_first : (bs rest s : List ℕ) (p : Position) (kind : Kind) (n : ℕ) 
     → ((q : Position) → IsLongest rest (lexeme_of kind q) n × IsAllowed (lexeme_of kind q) (drop n rest))
     → (o : TokenOutcome) → Lexes (p.offset + n) p.line (drop (p.offset + n) bs) o
     → Lexes p.offset p.line (drop p.offset bs)
-    (put (record { lexeme = lexeme_of kind p; text = s; end = p.offset + n }) o)
+    (put (record { lexeme = lexeme_of kind p; text = s; end = p.offset + length s }) o)
 token_first bs rest s p kind n er et scanned o h =
     let long = subst (λ xs. IsLongest xs (lexeme_of kind p) n) er (scanned p).0 in
     let good = subst (λ xs. IsAllowed (lexeme_of kind p) (drop n xs)) er (scanned p).1 in
     let text_is : take n (drop p.offset bs) ≡ s = sym (et ∙ ap (take n) er) in
-    subst (λ xs. Lexes p.offset p.line (drop p.offset bs)
+    let size : n ≡ length s = omega (arith, ap length et, length-take n rest, (scanned p).0.within) in
+    subst (λ (k : ℕ). Lexes p.offset p.line (drop p.offset bs)
+    (put (record { lexeme = lexeme_of kind p; text = s; end = p.offset + k }) o)) size
+    (subst (λ xs. Lexes p.offset p.line (drop p.offset bs)
     (put (record { lexeme = lexeme_of kind p; text = xs; end = p.offset + n }) o)) text_is
-    (at_token bs p.offset p.line n (lexeme_of kind p) o (kind_position kind p) long good h)
+    (at_token bs p.offset p.line n (lexeme_of kind p) o (kind_position kind p) long good h))
 
 pub fault_first : (bs rest : List ℕ) (p : Position) (g : LexicalFault) (n : ℕ) → rest ≡ drop p.offset bs
     → n ≡ number_of g → Breaks g rest → Lexes p.offset p.line (drop p.offset bs)

@@ -1,5 +1,5 @@
 -- What `lex` returns, by the relation.
-use Rattle.std.specs.Prelude.{◌≡◌, List, map, Result, Ok, Err, ◌⊎◌}
+use Rattle.std.specs.Prelude.{◌≡◌, ◌+◌, List, length, map, Result, Ok, Err, ◌⊎◌}
 use Rattle.std.specs.Global.{Vec}
 use Rattle.syntax_lexer.specs.declared.token.Token.{Token}
 use Rattle.syntax_lexer.specs.declared.fault.SourceFault.{SourceFault}
@@ -8,7 +8,11 @@ use Rattle.syntax_lexer.specs.FaultNumbers.{no_memory}
 use Rattle.syntax_lexer.specs.Tokens.{SourceToken, TokenOutcome}
 
 abbrev pub source_token : Token → SourceToken
-source_token t = record { lexeme = lexeme t; text = t.text.now; end = t.end }
+source_token t = record {
+  lexeme = lexeme t;
+  text = t.text.now;
+  end = t.position.offset + length t.text.now;
+}
 
 abbrev pub source_tokens : List Token → List SourceToken
 source_tokens ts = map source_token ts

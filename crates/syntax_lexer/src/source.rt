@@ -46,14 +46,12 @@ fn put_token<'a>(
     let rest = from(source, position.offset);
     match scan(rest) {
         Ok((kind, length)) => {
-            let end = position.offset + length;
             tokens.push(Token {
                 kind,
                 text: front(rest, length),
                 position,
-                end,
             })?;
-            Ok(end)
+            Ok(position.offset + length)
         }
         Err(fault) => Err(PlacedFault {
             fault: SourceFault {
@@ -129,7 +127,6 @@ pub fn lex_placed<'a>(alloc: Global, source: &'a [u8]) -> Result<Vec<Token<'a>>,
         kind: Kind::End,
         text: from(source, offset),
         position: Position { offset, line },
-        end: offset,
     })?;
     // The room in which no token is goes back before a tree is made of them.
     tokens.shrink_to_fit();

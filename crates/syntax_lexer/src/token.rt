@@ -1,5 +1,7 @@
 //! Tokens of the language.
 
+ghost use Rattle.std.specs.Prelude.{◌≡◌, ◌+◌, ◌<◌, ◌^◌, length};
+
 /// A sign.
 #[derive(Clone, Copy, Debug, PartialEq, Eq)]
 pub enum Sign {
@@ -167,7 +169,14 @@ pub struct Token<'a> {
     pub text: &'a [u8],
 
     pub position: Position,
+}
 
+impl Token<'_> {
     /// The offset after its last byte.
-    pub end: usize,
+    pub fn end(&self) -> usize
+        ensures { self.now.position.offset + length self.now.text.now < 2 ^ 64
+            → result ≡ self.now.position.offset + length self.now.text.now }
+    {
+        self.position.offset.saturating_add(self.text.len())
+    }
 }

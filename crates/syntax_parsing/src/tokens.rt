@@ -17,7 +17,6 @@ pub fn peek<'a>(tokens: &[Token<'a>]) -> Token<'a>
             kind: Kind::End,
             text: b"",
             position: Position { offset: 0, line: 0 },
-            end: 0,
         },
         [first, ..] => *first,
     }

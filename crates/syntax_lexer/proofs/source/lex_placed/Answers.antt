@@ -84,7 +84,7 @@ returns-clause-meets c =
     (subst (Lexes 0 1 bs) (puts_last c.loop-offset.tokens.items _)
     (c.loop-offset.invariant.rest _
     (subst (λ xs. Lexes at line (drop at bs)
-    (Ok (record { lexeme = end (record { offset = at; line = line }); text = xs; end = at } ∷ [])))
+    (Ok (record { lexeme = end (record { offset = at; line = line }); text = xs; end = at + length xs } ∷ [])))
     (sym c.from-2.ensures) (at_the_end bs at line c.loop-offset-test.false))))
 
 pub returns-clause-ends_once : goal.returns-clause-ends_once
