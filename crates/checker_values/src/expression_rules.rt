@@ -386,7 +386,7 @@ fn all_expressions(
     ensures { IfOk result (λ v. AreResolved (seen_in scope.now) given.now
         least.old least.new (map value_of v.items)) }
 {
-    let mut found = Vec::new(alloc);
+    let mut found = Vec::with_capacity(alloc, given.len())?;
     for e in given {
         let Ok(resolved) = boxed(e, alloc, scope, least) else {
             return Err(AllocError);
@@ -408,7 +408,7 @@ fn chain_links(
     ensures { IfOk result (λ v. AreLinks (seen_in scope.now) links.now
         least.old least.new (map value_link v.items)) }
 {
-    let mut found = Vec::new(alloc);
+    let mut found = Vec::with_capacity(alloc, links.len())?;
     for link in links {
         let Ok(operand) = boxed(&link.1, alloc, scope, least) else {
             return Err(AllocError);
