@@ -83,11 +83,7 @@ fn array_number(found: Option<Binding>) -> usize
 }
 
 /// Resolves the names of a `read`, and notes the rules that they break.
-pub fn read<'a>(
-    names: &(Name<'_>, Name<'_>),
-    scope: &Scope<'_>,
-    least: &mut Least,
-) -> Action<'a>
+pub fn read<'a>(names: &(Name<'_>, Name<'_>), scope: &Scope<'_>, least: &mut Least) -> Action<'a>
     ensures { (around : _) → IsAction (seen_in scope.now) around
         (trees.read_line (name_tree names.now.0) (name_tree names.now.1))
         least.old least.new (action_of result) }

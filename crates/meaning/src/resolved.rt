@@ -106,10 +106,7 @@ pub enum Action<'a> {
     For(Option<Box<Value>>, Option<Box<Value>>, Option<Box<Value>>, Box<Action<'a>>),
 
     /// A `switch`: its value; its cases, with the statements of its `default`.
-    Switch(
-        Box<Value>,
-        Box<(Vec<(Vec<Span>, Vec<Action<'a>>)>, Option<Vec<Action<'a>>>)>,
-    ),
+    Switch(Box<Value>, Box<(Vec<(Vec<Span>, Vec<Action<'a>>)>, Option<Vec<Action<'a>>>)>),
 
     Break,
     Continue,

@@ -3,7 +3,8 @@
 ghost use Rattle.std.specs.Prelude.{◌≡◌, ◌≤◌, map};
 ghost use Rattle.std.specs.List.{All, flat_map};
 ghost use Rattle.syntax_statement_parts.specs.Views.{item_tree, loop_tree};
-ghost use Rattle.syntax_statements.specs.Views.{statement_tree, simple_tree, case_tree, other_tree, cases_of};
+ghost use Rattle.syntax_statements.specs.Views.{statement_tree, simple_tree, case_tree, other_tree};
+ghost use Rattle.syntax_statements.specs.Views.{cases_of};
 ghost use Rattle.syntax_directives.specs.Views.{directive_tree};
 ghost use Rattle.syntax.specs.Views.{program_tree};
 ghost use Rattle.messages_figures.specs.Needs.{HasFew, IsFirstGreatest, directive_needs};
@@ -132,10 +133,7 @@ fn sequence<'a>(all: &[Statement<'a>], sought: &mut Sought)
 // The cases of a `switch`, and the statements of its `default`.
 #[cycle(statement)]
 fn choices<'a>(
-    cases: &(
-        Vec<(Vec<Range<'a>>, Vec<Statement<'a>>)>,
-        Option<Vec<Statement<'a>>>,
-    ),
+    cases: &(Vec<(Vec<Range<'a>>, Vec<Statement<'a>>)>, Option<Vec<Statement<'a>>>),
     sought: &mut Sought,
 )
     ensures { sought.new ≡ raised_all sought.old
