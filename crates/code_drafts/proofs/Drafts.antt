@@ -2,7 +2,8 @@
 use Rattle.std.proofs.Common.{◌≡◌, ℕ, zero, suc, ◌+◌, ◌<◌, ◌≤◌, List, [], ◌∷◌, ◌++◌, length, map, reverse}
 use Rattle.std.proofs.Common.{slice_index_or, slice_set, refl, sym, ap, ◌∙◌, arith}
 use Rattle.std.proofs.lemmas.List.{map-set, map-append, length-map, reverse-append}
-use Rattle.code_drafts.specs.Items.{Item, back}
+use Rattle.code_drafts.specs.Items.{Item, back, turned_back}
+use Rattle.code_drafts.specs.Items as items
 use Rattle.code_drafts.specs.declared.item.Item as code
 use Rattle.code_drafts.specs.declared.item.Item.TheVariants as variants
 use Rattle.code_drafts.specs.Code.{item_of, items_of}
@@ -12,6 +13,23 @@ pub led_back : (xs : List code.Item) (i n : ℕ) → n ≡ length xs → items_o
     ≡ slice_set (items_of xs) i (back (length (items_of xs)))
 led_back xs i n e = map-set item_of xs i (variants.Back n)
     ∙ ap (λ m. slice_set (items_of xs) i (back m)) (e ∙ sym (length-map xs item_of))
+
+-- the item at an index
+item_at : (xs : List code.Item) (i : ℕ) (d : code.Item) → i < length xs
+    → slice_index_or (items_of xs) i items.quit ≡ item_of (slice_index_or xs i d)
+item_at [] i d h = absurd (omega (arith, h))
+item_at (x ∷ xs) zero d h = refl
+item_at (x ∷ xs) (suc i) d h = item_at xs i d (omega (arith, h))
+
+pub turned_there : (xs : List code.Item) (i n : ℕ) (d x y : code.Item) → i < length xs → n ≡ length xs
+    → x ≡ slice_index_or xs i d → item_of y ≡ turned_back n (item_of x)
+    → items_of (slice_set xs i y)
+    ≡ slice_set (items_of xs) i (turned_back (length (items_of xs)) (slice_index_or (items_of xs) i items.quit))
+turned_there xs i n d x y h e is turned =
+    map-set item_of xs i y
+    ∙ ap (λ (z : Item). slice_set (items_of xs) i z)
+    (turned ∙ ap (λ m. turned_back m (item_of x)) (e ∙ sym (length-map xs item_of))
+    ∙ ap (turned_back (length (items_of xs))) (ap item_of is ∙ sym (item_at xs i d h)))
 
 -- Items of which the first k have the numbers of their targets, and the others get them
 abbrev pub numbering : ℕ → ℕ → List code.Item → List Item

@@ -1,6 +1,6 @@
 -- What a tree of the code stands for, a variant at a time.
-use Rattle.std.proofs.Common.{◌≡◌, ℕ, List, [], ◌∷◌, length, Bool, true, false, map, arith, refl, ap, sym, ◌∙◌}
-use Rattle.std.specs.Prelude.{◌||◌}
+use Rattle.std.proofs.Common.{◌≡◌, ℕ, suc, ◌+◌, List, [], ◌∷◌, length, Bool, true, false, map, arith, refl, ap, sym, ◌∙◌}
+use Rattle.std.specs.Prelude.{◌||◌, nat_le, nat_lt}
 use Rattle.std.specs.Global.{Vec, Box}
 use Rattle.syntax_trees.specs.declared.tree.Binary.{Binary}
 use Rattle.syntax_trees.specs.declared.tree.Comparison.{Comparison}
@@ -20,7 +20,7 @@ use Rattle.meaning.specs.Resolved.{property, property_size, property_word, assig
 use Rattle.meaning.specs.Views.{values_of, chained, propertied, value_of, value_layer}
 use Rattle.meaning.specs.Accepted.{count_of}
 use Rattle.code_drafts.specs.Items as items
-use Rattle.code_drafts.specs.Writing.{link_of, change_links}
+use Rattle.code_drafts.specs.Writing.{link_of, change_links, values_in}
 
 pub number_is : (e : code_value.Value) (n : ℕ) → e ≡ v.Number n → value_of e ≡ number n
 number_is e n is = ap value_of is ∙ ap value_of (sym (v.rolls-Number n)) ∙ fold-roll-Value Value value_layer _
@@ -180,3 +180,30 @@ property_changes z e b p ps is =
     go : (x : Value) (ps : List ℕ) → items.changes z (propertied x ps) ≡ items.changes z x
     go x [] = refl
     go x (q ∷ ps) = go (property x q) ps
+
+-- Tests of one instruction
+
+pub chain_tests : (e : code_value.Value) (a : Box code_value.Value) (op : Binary) (b : Box code_value.Value)
+    (ls : Vec (Binary × code_value.Value)) → e ≡ v.Chain a op b ls → false ≡ items.is_one_test (value_of e)
+chain_tests e a op b ls is = go (value_of a.value) op (value_of b.value) (map link_of ls.items)
+    ∙ ap items.is_one_test (sym (chain_is e a op b ls is))
+  where
+    go : (x : Value) (op : Binary) (y : Value) (ls : List (Binary × Value))
+        → false ≡ items.is_one_test (chained (binary op x y) ls)
+    go x op y [] = refl
+    go x op y (l ∷ ls) = go (binary op x y) l.0 l.1 ls
+
+pub property_tests : (e : code_value.Value) (b : Box code_value.Value) (p : ℕ) (ps : Vec ℕ) → e ≡ v.Property b p ps
+    → false ≡ items.is_one_test (value_of e)
+property_tests e b p ps is = go (value_of b.value) p ps.items ∙ ap items.is_one_test (sym (property_is e b p ps is))
+  where
+    go : (x : Value) (p : ℕ) (ps : List ℕ) → false ≡ items.is_one_test (propertied (property x p) ps)
+    go x p [] = refl
+    go x p (q ∷ ps) = go (property x p) q ps
+
+pub equal_tests : (e : code_value.Value) (a : Box code_value.Value) (op : Equality) (b : Box code_value.Value)
+    (es : Vec code_value.Value) (few : Bool) → e ≡ v.Equal a op b es
+    → few ≡ nat_lt (count_of (values_in es.items)) 3 → few ≡ items.is_one_test (value_of e)
+equal_tests e a op b es few is h =
+    let next : suc (count_of (values_in es.items)) ≡ count_of (values_in es.items) + 1 = omega arith in
+    h ∙ ap (λ n. nat_le n 3) next ∙ ap items.is_one_test (sym (equal_is e a op b es is))

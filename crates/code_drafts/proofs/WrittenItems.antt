@@ -1,8 +1,9 @@
 -- What is written makes up a whole.
-use Rattle.std.proofs.Common.{◌≡◌, ℕ, ◌+◌, ◌-◌, List, [], ◌∷◌, ◌++◌, length, map, reverse, refl, sym, ap, ◌∙◌, arith}
+use Rattle.std.proofs.Common.{◌≡◌, ℕ, suc, ◌+◌, ◌-◌, List, [], ◌∷◌, ◌++◌, length, map, reverse, refl, sym, ap, ◌∙◌, arith}
 use Rattle.std.proofs.Common.{append_assoc, append-nil, length-append}
 use Rattle.std.proofs.lemmas.List.{length-map, length-reverse, map-append, reverse-append}
-use Rattle.code_drafts.specs.Items.{Item}
+use Rattle.code_drafts.specs.Items.{Item, turned_back, last_back}
+use Rattle.code_drafts.specs.Items as items
 use Rattle.code_drafts.specs.Writing.{numbered, in_order, WritesBefore}
 
 pub in_order_append : (n : ℕ) (a b : List Item) → in_order n (a ++ b) ≡ in_order n b ++ in_order n a
@@ -58,3 +59,39 @@ then_one {c1 = c1} {c2 = c2} i w e = both 1 (λ n at. refl) w (one c1 c2 i e)
 pub after_one : {c c1 c2 : List Item} {g : ℕ → ℕ → List Item} (k : ℕ) (i : Item) → ((n at : ℕ) → length (g n at) ≡ k)
     → c1 ≡ c ++ i ∷ [] → WritesBefore c1 c2 g → WritesBefore c c2 (λ n at. g n at ++ numbered n i ∷ [])
 after_one {c = c} {c1 = c1} k i long e w = both k long (one c c1 i e) w
+
+-- Branches that are turned back
+
+pub last_turned : (first : ℕ) (is : List Item) (i : Item) → last_back first (is ++ i ∷ [])
+    ≡ is ++ turned_back first i ∷ []
+last_turned first [] i = refl
+last_turned first (j ∷ []) i = refl
+last_turned first (j ∷ k ∷ is) i = ap (λ l. j ∷ l) (last_turned first (k ∷ is) i)
+
+pub last_length : (first : ℕ) (is : List Item) → length (last_back first is) ≡ length is
+last_length first [] = refl
+last_length first (i ∷ []) = refl
+last_length first (i ∷ j ∷ is) = ap suc (last_length first (j ∷ is))
+
+-- its target is numbered like any other
+numbered_back : (n left : ℕ) (i : Item) → numbered n (turned_back left i) ≡ turned_back (n - left) (numbered n i)
+numbered_back n left (items.branch test os when end) = refl
+numbered_back n left (items.is_in o q when end) = refl
+numbered_back n left (items.has o a when end) = refl
+numbered_back n left (items.provides o p when end) = refl
+numbered_back n left (items.first_object x end) = refl
+numbered_back n left (items.next_object x end) = refl
+numbered_back n left (items.case test ns when end) = refl
+numbered_back n left (items.jump end) = refl
+numbered_back n left (items.back end) = refl
+numbered_back n left (items.branch_back test os when end) = refl
+numbered_back n left i = refl
+
+-- what was written first is the last in order
+pub turned_first : (n left : ℕ) (i : Item) (is : List Item) → in_order n (turned_back left i ∷ is)
+    ≡ last_back (n - left) (in_order n (i ∷ is))
+turned_first n left i is =
+    in_order_append n (turned_back left i ∷ []) is
+    ∙ ap (λ j. in_order n is ++ j ∷ []) (numbered_back n left i)
+    ∙ sym (last_turned (n - left) (in_order n is) (numbered n i))
+    ∙ ap (last_back (n - left)) (sym (in_order_append n (i ∷ []) is))

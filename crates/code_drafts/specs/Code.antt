@@ -81,6 +81,8 @@ item_of (variants.NextObject x target) = items.next_object x target
 item_of (variants.Case test ns when target) = items.case (as_test test) ns.items when target
 item_of (variants.Jump target) = items.jump target
 item_of (variants.Back target) = items.back target
+item_of (variants.BranchBack test os when target) =
+    items.branch_back (as_test test) (as_operands os.items) when target
 item_of (variants.Call r os d) = items.call r (as_operands os.items) (as_destination d)
 item_of (variants.CallAside r os d) = items.call_aside r (as_operands os.items) (as_destination d)
 item_of (variants.Return o) = items.return (as_operand o)

@@ -114,6 +114,8 @@ pub data Item : Type 0 where
   jump : ℕ → Item
   -- back, which costs a unit
   back : ℕ → Item
+  -- back, which costs a unit, where the test holds, or where it does not
+  branch_back : Test → List Operand → Bool → ℕ → Item
   call : ℕ → List Operand → Destination → Item
   -- the same, where the last operand that is pushed was put aside: it counts as the top of the stack
   call_aside : ℕ → List Operand → Destination → Item
@@ -280,6 +282,17 @@ containment_when containments.NotIn when = not when
 abbrev pub branch_true : Operand → Bool → ℕ → Item
 branch_true o when target = branch is_zero (o ∷ []) (not when) target
 
+-- a branch out of a loop as one back to the loop's first item, where the test is the other way round
+abbrev pub turned_back : ℕ → Item → Item
+turned_back first (branch test os when end) = branch_back test os (not when) first
+turned_back first i = i
+
+-- some items, of which the last is turned so
+abbrev pub last_back : ℕ → List Item → List Item
+last_back first [] = []
+last_back first (i ∷ []) = turned_back first i ∷ []
+last_back first (i ∷ j ∷ is) = i ∷ last_back first (j ∷ is)
+
 -- whether a condition that is known leads to the target
 abbrev pub agrees : Bool → Bool → Bool
 agrees true when = when
@@ -288,6 +301,13 @@ agrees false when = not when
 -- one instruction compares with at most three
 abbrev pub is_few : Values → Bool
 is_few vs = nat_le (count_of vs) 3
+
+-- a condition is decided by one instruction, which compares words
+abbrev pub is_one_test : Value → Bool
+is_one_test (source.read x) = true
+is_one_test (source.compare op a b) = true
+is_one_test (source.equal op a bs) = is_few bs
+is_one_test v = false
 
 -- what stands in place whatever is evaluated later, since that stands in place too
 abbrev pub is_in_place : Value → Bool

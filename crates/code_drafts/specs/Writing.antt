@@ -1,6 +1,6 @@
 -- Words of proofs: items that are written from the last to the first.
 use Rattle.std.specs.Prelude.{◌≡◌, ◌||◌, ◌+◌, ◌-◌, ◌≤◌, ℕ, Bool, true, false, if◌then◌else◌, List, [], ◌∷◌, ◌++◌}
-use Rattle.std.specs.Prelude.{length, map, reverse, slice_set}
+use Rattle.std.specs.Prelude.{length, map, reverse, slice_index_or, slice_set}
 use Rattle.syntax_trees.specs.declared.tree.Binary.{Binary}
 use Rattle.syntax_trees.specs.declared.tree.Binary.TheVariants as binaries
 use Rattle.meaning.specs.declared.resolved.Variable.{Variable}
@@ -33,6 +33,7 @@ numbered n (items.next_object x left) = items.next_object x (n - left)
 numbered n (items.case test ns when left) = items.case test ns when (n - left)
 numbered n (items.jump left) = items.jump (n - left)
 numbered n (items.back left) = items.back (n - left)
+numbered n (items.branch_back test os when left) = items.branch_back test os when (n - left)
 numbered n i = i
 
 -- a whole routine of n items, from the first on, with the numbers of its targets
@@ -169,6 +170,13 @@ ordered draft = in_order (length (written_in draft)) (written_in draft)
 abbrev pub LeadsBack : Draft → Draft → ℕ → Type 0
 LeadsBack old new number =
     written_in new ≡ slice_set (written_in old) number (items.back (length (written_in old)))
+
+-- the item of this number, if it is a branch, leads back to the first, where its test is the other way round
+abbrev pub TurnsBack : Draft → Draft → ℕ → Type 0
+TurnsBack old new number =
+    written_in new
+    ≡ slice_set (written_in old) number
+    (items.turned_back (length (written_in old)) (slice_index_or (written_in old) number items.quit))
 
 -- the operand for the left side of `==` or `~=`
 abbrev pub left_side : code_value.Value → code_value.Value → List code_value.Value → Operand

@@ -1,13 +1,15 @@
 //! The items that are written so far.
 
 ghost use Rattle.std.specs.Prelude.{◌≡◌, ◌<◌, ◌-◌, length, OnOk};
-ghost use Rattle.code_drafts.specs.Items.{branch_true};
+ghost use Rattle.code_drafts.specs.Items.{branch_true, turned_back};
 ghost use Rattle.code_drafts.specs.Code.{as_operand, item_of, items_of};
 ghost use Rattle.code_drafts.specs.Writing.{written_in, numbered, ordered, LeadsBack, PutsItem};
+ghost use Rattle.code_drafts.specs.Writing.{TurnsBack};
 ghost use Rattle.code_drafts.specs.Writing as spec;
 
 use crate::item::{Item, Operand, Test};
 use std::alloc::{AllocError, Global};
+use std::mem::replace;
 
 /// The items of a routine, written from the last to the first: branches lead ahead, so what they
 /// lead to is written by then. A target is told by how many items there are from there on to the
@@ -63,6 +65,27 @@ pub fn lead_back(draft: &mut Draft<'_>, number: usize)
     draft.items[number] = Item::Back(draft.items.len());
 }
 
+/// The item that was written after so many, if it is a branch, leads back to the first, where its
+/// test is the other way round.
+pub fn turn_back(draft: &mut Draft<'_>, number: usize)
+    requires { number < length (written_in draft.now) }
+    ensures { TurnsBack draft.old draft.new number }
+{
+    let first = draft.items.len();
+    turn_item_back(&mut draft.items[number], first);
+}
+
+/// A branch becomes one back to where so many items are left, where its test is the other way
+/// round.
+fn turn_item_back(item: &mut Item<'_>, first: usize)
+    ensures { item_of item.new ≡ turned_back first (item_of item.old) }
+{
+    *item = match replace(item, Item::Quit) {
+        Item::Branch(test, operands, when, _) => Item::BranchBack(test, operands, !when, first),
+        other => other,
+    };
+}
+
 /// The items from the first to the last, with the numbers of their targets.
 pub fn in_order(draft: Draft<'_>) -> Vec<Item<'_>>
     ensures { items_of result.items ≡ ordered draft.entry }
@@ -98,6 +121,7 @@ fn number_target(item: &mut Item<'_>, count: usize)
         Item::NextObject(_, target) => count_from_first(target, count),
         Item::Jump(target) => count_from_first(target, count),
         Item::Back(target) => count_from_first(target, count),
+        Item::BranchBack(_, _, _, target) => count_from_first(target, count),
         _ => (),
     }
 }

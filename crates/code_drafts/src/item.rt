@@ -175,6 +175,9 @@ pub enum Item<'a> {
     /// Back, which costs a unit of fuel.
     Back(usize),
 
+    /// Back, which costs a unit of fuel, where the test holds, or where it does not.
+    BranchBack(Test, Vec<Operand>, bool, usize),
+
     /// A routine, its arguments, and where the word goes that it returns.
     Call(usize, Vec<Operand>, Destination),
 

@@ -8,11 +8,11 @@ mod parts;
 mod several;
 mod wanted;
 
-pub use draft::{Draft, in_order, lead_back, put, put_branch, written};
+pub use draft::{Draft, in_order, lead_back, put, put_branch, turn_back, written};
 pub use item::{Destination, Item, Operand, Test};
 pub use operand::{
-    MOST_COMPARED, alone, are_few, are_more_pushed, before, first_of, is_any_pushed, is_pushed,
-    left_of, push_alone, push_operands, side_operands,
+    MOST_COMPARED, alone, are_few, are_more_pushed, before, first_of, is_any_pushed, is_one_test,
+    is_pushed, left_of, push_alone, push_operands, side_operands,
 };
 pub use parts::{
     are_behind, argument_place, called, comparison_test, comparison_when, containment_when,

@@ -328,6 +328,34 @@ pub fn are_few(others: &[Value]) -> bool
     others.len() < MOST_COMPARED
 }
 
+/// Whether a condition is decided by one instruction, which compares words.
+pub fn is_one_test(value: &Value) -> bool
+    ensures { result ≡ items.is_one_test (value_of value.now) }
+{
+    match value {
+        Value::Read(..) | Value::Compare(..) => true,
+        Value::Equal(_, _, _, others) => are_few(others),
+        Value::Chain(..) => false,
+        Value::Property(..) => false,
+        Value::Number(..)
+        | Value::Call(..)
+        | Value::Prefixed(..)
+        | Value::StepBefore(..)
+        | Value::StepAfter(..)
+        | Value::Assign(..)
+        | Value::Entry(..)
+        | Value::AssignEntry(..)
+        | Value::Relative(..)
+        | Value::Contained(..)
+        | Value::Has(..)
+        | Value::Provides(..)
+        | Value::PropertySize(..)
+        | Value::PropertyWord(..)
+        | Value::AssignProperty(..)
+        | Value::AssignPropertyWord(..) => false,
+    }
+}
+
 /// Operands for expressions that are evaluated one after another, behind other operands.
 pub fn push_operands(operands: &mut Vec<Operand>, values: &[Value]) -> Result<(), AllocError>
     ensures { OnOk result (AddsOperands operands.old.items operands.new.items values.now) }
