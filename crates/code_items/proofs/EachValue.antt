@@ -40,7 +40,7 @@ module _ (now : Running) where
     value_ok (source.assign_property_word v k w z) =
         assign_property_word_ok now v k w z (value_ok v) (value_ok w) (value_ok z)
 
-    list_ok : (vs : Values) → ListOk now vs
+    pub list_ok : (vs : Values) → ListOk now vs
     list_ok none = list_none now
     list_ok (more v vs) = list_more now v vs (value_ok v) (list_ok vs)
 

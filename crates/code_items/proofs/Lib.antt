@@ -24,6 +24,7 @@ mod ObjectParts
 mod ObjectValues
 mod ObjectConditions
 mod EachValue
+mod Untils
 mod Statements
 mod Conditionals
 mod Loops

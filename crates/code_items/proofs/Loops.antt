@@ -1,8 +1,8 @@
 -- Loops.
-use Rattle.std.proofs.Common.{◌≡◌, ℕ, zero, suc, ◌+◌, ◌≤◌, [], Option, Some, None, Bool, true, false, refl, sym, ap}
+use Rattle.std.proofs.Common.{◌≡◌, ℕ, zero, suc, ◌+◌, ◌≤◌, [], ◌∷◌, ◌++◌, Option, Some, None, Bool, true, false, refl}
+use Rattle.std.proofs.Common.{sym, ap}
 use Rattle.std.proofs.Common.{◌∙◌, arith}
 use Rattle.std.specs.Prelude.{not, if◌then◌else◌, slice_get}
-use Rattle.std.proofs.lemmas.Bool.{le-leb}
 use Rattle.zcore.specs.declared.place.Place.TheVariants as places
 use Rattle.zcore.specs.declared.place.Limit.TheVariants as limits
 use Rattle.meaning.specs.Resolved.{Value, Action}
@@ -12,18 +12,19 @@ use Rattle.meaning.specs.World.{Situation, Comes, to, Part, bound, ◌>>=◌, gi
 use Rattle.meaning.specs.World as world
 use Rattle.meaning.specs.Meaning.{is_true, evaluate, Ending, goes_on, breaks, continues, returns, behind_body, round}
 use Rattle.meaning.specs.Meaning.{rounds, once, tested, behind_round, until, run}
-use Rattle.code_drafts.specs.Items.{nowhere, agrees, branch_count, branch_items}
+use Rattle.code_drafts.specs.Items.{nowhere, agrees, branch_count, branch_items, is_one_test, last_back}
 use Rattle.code_items.specs.Statements.{once_count, once_items, test_count, test_items, action_count, Exits, exits_to}
-use Rattle.code_items.specs.Statements.{action_items}
+use Rattle.code_items.specs.Statements.{action_items, until_count, until_items}
 use Rattle.code_drafts.specs.Items as items
-use Rattle.code_items.specs.Stack.{stuck, after_part, act}
+use Rattle.code_items.specs.Stack.{Next, after_part}
 use Rattle.code_items.proofs.Acts.{hand, spends}
 use Rattle.code_drafts.proofs.Counts.{branch_length}
-use Rattle.code_items.proofs.StatementCounts.{once_length, test_length, action_length}
-use Rattle.code_items.proofs.Running.{ends_there, steps_on, Running, code, locals, setting, RunsTo}
-use Rattle.code_items.proofs.Standing.{HasAt, split}
-use Rattle.code_items.proofs.Leads.{Leads, on, given, here, stands, goes_by, at_place, begins_at}
+use Rattle.code_items.proofs.StatementCounts.{once_length, test_length, until_length, action_length}
+use Rattle.code_items.proofs.Running.{ends_there, Running, code, locals, setting, RunsTo}
+use Rattle.code_items.proofs.Standing.{HasAt, split, long}
+use Rattle.code_items.proofs.Leads.{Leads, on, given, then_to, stands, goes_by, at_place, begins_at}
 use Rattle.code_items.proofs.EachValue.{value_ok}
+use Rattle.code_items.proofs.Untils.{goes_again, again_or, item_leads, leads_again, tested_again}
 use Rattle.code_items.proofs.Statements.{ended_at, goes_at}
 use Rattle.code_items.proofs.Conditionals.{ActionOk}
 
@@ -31,25 +32,20 @@ module _ (now : Running) where
   open now use {p, full}
 
   -- a loop cannot go back with no unit left
-  no_more : {s : Situation} (x : Exits) (b t q : ℕ) → slice_get (code now) b ≡ Some (items.back t) → t ≤ b
-      → Leads now s 0 (stands now b [] s) (world.ends (places.Limit limits.Fuel) s) (ended_at now x q)
-  no_more {s = s} x b t q h le = record {
+  no_more : {s : Situation} (x : Exits) (t q : ℕ)
+      → Leads now s 0 (goes_again now t s) (world.ends (places.Limit limits.Fuel) s) (ended_at now x q)
+  no_more {s = s} x t q = record {
     does = λ k none d.
         let P : Comes (Unit {0}) → Type 0 = λ c. RunsTo p full (after_part c (λ _ last. stands now t [] last))
         (ended (places.Limit limits.Fuel) s.world) in
-        let there = spends full s P (λ e. ends_there p full _) (λ last low is. absurd (omega (arith, none, low))) in
-        steps_on p full (here now b [] s) _ _
-        (ap (λ x. act p full x (here now b [] s)) h
-        ∙ ap (λ c. if c then after_part (spend s) (λ _ last. stands now t [] last) else stuck) (le-leb t b le))
-        there;
+        spends full s P (λ e. ends_there p full _) (λ last low is. absurd (omega (arith, none, low)));
   }
 
   -- it goes back with one unit less
-  goes_back : {s : Situation} (x : Exits) (n b t q : ℕ) (again : Part Ending)
-      → slice_get (code now) b ≡ Some (items.back t)
-      → t ≤ b → ((last : Situation) → Leads now last n (stands now t [] last) (again last) (ended_at now x q))
-      → Leads now s (suc n) (stands now b [] s) ((spend >>= λ _. again) s) (ended_at now x q)
-  goes_back {s = s} x n b t q again h le ha = record {
+  goes_back : {s : Situation} (x : Exits) (n t q : ℕ) (again : Part Ending)
+      → ((last : Situation) → Leads now last n (stands now t [] last) (again last) (ended_at now x q))
+      → Leads now s (suc n) (goes_again now t s) ((spend >>= λ _. again) s) (ended_at now x q)
+  goes_back {s = s} x n t q again ha = record {
     does = λ k most d.
         let P : Comes (Unit {0}) → Type 0 =
         λ c. spend s ≡ c → RunsTo p full (after_part c (λ _ last. stands now t [] last))
@@ -58,29 +54,38 @@ module _ (now : Running) where
         spends full s P (λ e _. ends_there p full _)
         (λ last low is e. (ha last).does k (omega (arith, most, low))
         (λ a later e2 low2. d a later (ap (λ c. bound c (λ _. again)) e ∙ e2) (omega (arith, low, low2)))) in
-        steps_on p full (here now b [] s) _ _
-        (ap (λ x. act p full x (here now b [] s)) h
-        ∙ ap (λ c. if c then after_part (spend s) (λ _ last. stands now t [] last) else stuck) (le-leb t b le))
-        (there refl);
+        there refl;
   }
 
-  -- A loop whose test stands at `top`: its body, the part behind the body, and the item that goes back stand at these
-  -- places, and the loop ends at `end`.
-  module _ (test : Part ℕ) (body : Part Ending) (behind : Part Bool) (top inside close back end : ℕ)
+  -- the item that goes back
+  by_back : {s : Situation} {n : ℕ} {before : Next} {c : Comes Bool} (top back end : ℕ)
+      → slice_get (code now) back ≡ Some (items.back top) → top ≤ back
+      → Leads now s n before c (λ wanted last. stands now (if wanted then back else end) [] last)
+      → Leads now s n before c (again_or now top end)
+  by_back {n = n} {c = c} top back end h le l = then_to now c l (λ wanted last _. go wanted last)
+    where
+      go : (wanted : Bool) (last : Situation) → Leads now last n (stands now (if wanted then back else end) [] last)
+          (to wanted last) (again_or now top end)
+      go true last = item_leads now back [] (items.back top) (goes_again now top last) h
+          (leads_again now back top last le) (given now {behind = again_or now top end} true)
+      go false last = given now {behind = again_or now top end} false
+
+  -- A loop whose test stands at `top`: its body and the part behind the body stand at these places, and the loop ends
+  -- at `end`.
+  module _ (test : Part ℕ) (body : Part Ending) (behind : Part Bool) (top inside close end : ℕ)
       (tests : (s : Situation) (n : ℕ) → Leads now s n (stands now top [] s) (test s)
       (goes_by now false end inside []))
       (runs : (s : Situation) (n : ℕ) → Leads now s n (stands now inside [] s) (body s)
       (ended_at now (exits_to close end) close))
-      (closes : (s : Situation) (n : ℕ) → Leads now s n (stands now close [] s) (behind s)
-      (λ wanted last. stands now (if wanted then back else end) [] last)) where
+      (closes : (s : Situation) (n : ℕ) → Leads now s n (stands now close [] s) (behind s) (again_or now top end)) where
     -- one round, and then again
     round_does : (x : Exits) (n : ℕ) (s : Situation) (again : Part Ending)
-        → ((last : Situation) → Leads now last n (stands now back [] last) (again last) (ended_at now x end))
+        → ((last : Situation) → Leads now last n (goes_again now top last) (again last) (ended_at now x end))
         → Leads now s n (stands now top [] s) (round test body behind again s) (ended_at now x end)
     round_does x n s again ha = on now test _ (tests s n) (λ v last _. entered (is_true v) last)
       where
         told : (wanted : Bool) (last : Situation)
-            → Leads now last n (stands now (if wanted then back else end) [] last)
+            → Leads now last n (again_or now top end wanted last)
             ((if wanted then again else give goes_on) last) (ended_at now x end)
         told true last = ha last
         told false last = goes_at now x end end refl
@@ -104,12 +109,24 @@ module _ (now : Running) where
         entered false last = goes_at now x end end refl
 
     -- at most n goings back, where no more units are left
-    pub rounds_do : slice_get (code now) back ≡ Some (items.back top) → top ≤ back → (x : Exits) (n : ℕ)
-        (s : Situation)
+    rounds_go : (x : Exits) (n : ℕ) (s : Situation)
         → Leads now s n (stands now top [] s) (rounds n test body behind s) (ended_at now x end)
-    rounds_do h le x zero s = round_does x zero s _ (λ last. no_more x back top end h le)
-    rounds_do h le x (suc n) s = round_does x (suc n) s _
-        (λ last. goes_back x n back top end (rounds n test body behind) h le (λ later. rounds_do h le x n later))
+    rounds_go x zero s = round_does x zero s _ (λ last. no_more x top end)
+    rounds_go x (suc n) s = round_does x (suc n) s _
+        (λ last. goes_back x n top end (rounds n test body behind) (λ later. rounds_go x n later))
+
+  -- the same, where an item of its own goes back, from a place
+  pub rounds_do : (test : Part ℕ) (body : Part Ending) (behind : Part Bool) (top inside close back end : ℕ)
+      → ((s : Situation) (n : ℕ) → Leads now s n (stands now top [] s) (test s) (goes_by now false end inside []))
+      → ((s : Situation) (n : ℕ) → Leads now s n (stands now inside [] s) (body s)
+      (ended_at now (exits_to close end) close))
+      → ((s : Situation) (n : ℕ) → Leads now s n (stands now close [] s) (behind s)
+      (λ wanted last. stands now (if wanted then back else end) [] last))
+      → slice_get (code now) back ≡ Some (items.back top) → top ≤ back → (x : Exits) (n : ℕ) (s : Situation)
+      → Leads now s n (stands now top [] s) (rounds n test body behind s) (ended_at now x end)
+  rounds_do test body behind top inside close back end tests runs closes h le x n s =
+      rounds_go test body behind top inside close end tests runs (λ s1 n1. by_back top back end h le (closes s1 n1))
+      x n s
 
   -- as many goings back as there are units
   pub loop_does : {s : Situation} {n : ℕ} (x : Exits) (test : Part ℕ) (body : Part Ending) (behind : Part Bool)
@@ -150,22 +167,42 @@ module _ (now : Running) where
       go true last = given now {behind = λ wanted later. stands now (if wanted then q else t) [] later} false
       go false last = given now {behind = λ wanted later. stands now (if wanted then q else t) [] later} true
 
+  -- the test of a `do`: back, or on at the end
+  until_leads : (v : Value) → IsWhole p (locals now) v → (s : Situation) (n pc first q : ℕ)
+      → HasAt (code now) pc (until_items pc first v) q → first ≤ pc
+      → Leads now s n (stands now pc [] s) (until (setting now) v s) (again_or now first q)
+  until_leads v fine s n pc first q has le = go (is_one_test v) refl has
+    where
+      k : ℕ
+      k = branch_count v true
+
+      go : (b : Bool) → is_one_test v ≡ b
+          → HasAt (code now) pc (if b then last_back first (branch_items pc v true (pc + k))
+          else branch_items pc v true (pc + k + 1) ++ items.back first ∷ []) q
+          → Leads now s n (stands now pc [] s) (until (setting now) v s) (again_or now first q)
+      go true one has = tested_again now v one fine s n pc first q has le
+      go false other has =
+          let h = split (code now) pc (branch_items pc v true (pc + k + 1)) _ q k
+          (branch_length v true pc (pc + k + 1)) has in
+          at_place now (λ y. again_or now first y) (pc + k + 1) q h.1.1
+          (by_back first (pc + k) (pc + k + 1) h.1.0 (omega (arith, le))
+          (until_does v fine s n pc (pc + k + 1) (pc + k) h.0 (omega arith)))
+
   pub do_does : (v : Value) (a : Action) → IsWhole p (locals now) v → ActionOk now a
       → ActionOk now (source.do_until a v)
   do_does v a fine oka x s n pc q ahead has =
       let m = pc + action_count a in
-      let e = m + branch_count v true in
-      let inside = exits_to m (e + 1) in
+      let e = m + until_count v in
+      let inside = exits_to m e in
       let h = split (code now) pc (action_items inside pc a) _ q (action_count a) (action_length inside a pc) has in
-      let hv = split (code now) m (branch_items m v true (e + 1)) _ q (branch_count v true)
-      (branch_length v true m (e + 1)) h.1 in
-      at_place now (ended_at now x) (e + 1) q hv.1.1
-      (loop_does x (give 1) (run (setting now) a) (until (setting now) v) pc (e + 1)
-      (rounds_do (give 1) (run (setting now) a) (until (setting now) v) pc pc m e (e + 1)
-      (λ s1 n1. given now {behind = goes_by now false (e + 1) pc []} 1)
+      let ends = long (code now) m (until_items m pc v) q (until_count v) (until_length v m pc) h.1 in
+      at_place now (ended_at now x) e q ends
+      (loop_does x (give 1) (run (setting now) a) (until (setting now) v) pc e
+      (rounds_go (give 1) (run (setting now) a) (until (setting now) v) pc pc m e
+      (λ s1 n1. given now {behind = goes_by now false e pc []} 1)
       (λ s1 n1. oka inside s1 n1 pc m (omega arith, omega arith) h.0)
-      (λ s1 n1. until_does v fine s1 n1 m (e + 1) e hv.0 (omega arith))
-      hv.1.0 (omega arith) x))
+      (λ s1 n1. at_place now (λ y. again_or now pc y) q e (sym ends) (until_leads v fine s1 n1 m pc q h.1 (omega arith)))
+      x))
 
   -- the parts of a `for`
 

@@ -1,19 +1,20 @@
 -- What is written for `do`, `for` and `objectloop`.
-use Rattle.std.proofs.Common.{◌≡◌, ℕ, ◌+◌, ◌-◌, List, [], ◌∷◌, ◌++◌, length, slice_set, true, false, Option, refl, sym}
-use Rattle.std.proofs.Common.{ap, ◌∙◌, arith, append_assoc, length-append}
-use Rattle.std.proofs.Math.Seq.{set-append_seam}
+use Rattle.std.proofs.Common.{◌≡◌, ℕ, ◌+◌, ◌-◌, ◌<◌, ◌≤◌, List, [], ◌∷◌, ◌++◌, length, slice_set, Bool, true, false, Option}
+use Rattle.std.proofs.Common.{refl, sym, ap, ◌∙◌, arith, append_assoc, length-append, slice_index_or}
+use Rattle.std.specs.Prelude.{if◌then◌else◌}
+use Rattle.std.proofs.Math.Seq.{set-append_seam, get_or-append_seam}
 use Rattle.syntax_trees.specs.declared.tree.Relative.TheVariants as relatives
 use Rattle.meaning.specs.declared.resolved.Variable.{Variable}
-use Rattle.meaning.specs.Resolved.{Value, Action}
+use Rattle.meaning.specs.Resolved.{Value, Values, Action}
 use Rattle.meaning.specs.Resolved as source
 use Rattle.code_drafts.specs.Items.{Item, Operand, alone, if_pushed, push, value_count, value_items, branch_count}
-use Rattle.code_drafts.specs.Items.{branch_items}
+use Rattle.code_drafts.specs.Items.{branch_items, is_one_test, last_back, is_direct, same_count, operand_of, operands_of}
 use Rattle.code_drafts.specs.Items as items
 use Rattle.code_drafts.specs.declared.wanted.Wanted.TheVariants.{Branch}
-use Rattle.code_drafts.specs.Writing.{wanted_items, WritesBefore}
+use Rattle.code_drafts.specs.Writing.{wanted_items, WritesBefore, in_order}
 use Rattle.code_drafts.proofs.CountedForms.{joined}
 use Rattle.code_drafts.proofs.Counts.{branch_length}
-use Rattle.code_drafts.proofs.WrittenItems.{one, counted, both, as_items, then_one}
+use Rattle.code_drafts.proofs.WrittenItems.{one, counted, both, as_items, then_one, turned_first}
 use Rattle.code_values.specs.ValueWriting.{pushes}
 use Rattle.code_values.proofs.Values.{pushes_length}
 use Rattle.code_items.specs.Statements.{action_count, action_items, once_count, once_items, test_count, test_items}
@@ -22,6 +23,37 @@ use Rattle.code_items.specs.Statements as statements
 use Rattle.code_items.specs.declared.exits.Exits.{Exits}
 use Rattle.code_items.specs.Writing.{exits_of}
 use Rattle.code_items.proofs.StatementCounts.{action_length, once_length, test_length}
+
+-- a condition of one test has at least the item of that
+test_counted : (v : Value) → is_one_test v ≡ true → 0 < branch_count v true
+test_counted (source.read x) single = omega arith
+test_counted (source.compare op a b) single = omega arith
+test_counted (source.equal op a bs) single = go (is_direct a bs)
+  where
+    some : (os : List Operand) → 0 < same_count os
+    some [] = omega arith
+    some (o ∷ []) = omega arith
+    some (o ∷ p ∷ []) = omega arith
+    some (o ∷ p ∷ q ∷ []) = omega arith
+    some (o ∷ p ∷ q ∷ r ∷ os) = omega arith
+
+    many : (vs : Values) → 0 < items.many_count vs
+    many source.none = omega arith
+    many (source.more w ws) = omega arith
+
+    go : (b : Bool) → 0 < (if b then
+        if_pushed (operand_of a bs) (value_count a push) 0 + items.operands_count bs + same_count (operands_of bs)
+        else value_count a push + items.many_count bs)
+    go true = omega (arith, some (operands_of bs))
+    go false = omega (arith, many bs)
+test_counted v single = absurd (cc)
+
+-- what was written between, of which the first is turned back, and what was written behind it
+record Turned (c c1 c2 c3 : List Item) (f : ℕ → ℕ → List Item) (more : List Item) : Type 0 where
+  between : List Item
+  then_more : c3 ≡ between ++ more
+  long : length between ≡ length c1
+  turned : WritesBefore c between (λ n at. last_back (n - length c2) (f n at))
 
 -- a round that ends in a way back to its first item
 looped : (c c1 c2 c3 : List Item) (f : ℕ → ℕ → List Item) (k end : ℕ) → ((n at : ℕ) → length (f n at) ≡ k)
@@ -47,12 +79,22 @@ looped c c1 c2 c3 f k end long ee e1 w e3 =
     ap (λ b. f n at ++ items.back b ∷ []) b)
     (both k long (one c (c ++ there ∷ []) there refl) w3)
 
-pub do_more : (c c1 c2 c3 c4 : List Item) (v : Value) (a : Action) (x : Exits) → x.breaks ≡ length c → c1
+-- a `do`, of which the test is written so
+abbrev do_items : Bool → Value → Action → ℕ → List Item
+do_items single v a at =
+    action_items (exits_to (at + action_count a) (at + action_count a + (if single then branch_count v true
+    else branch_count v true + 1))) at a
+    ++ (if single then last_back at (branch_items (at + action_count a) v true (at + action_count a + branch_count v true))
+    else branch_items (at + action_count a) v true (at + action_count a + branch_count v true + 1) ++ items.back at ∷ [])
+
+-- with a jump back
+pub do_by_jump : (c c1 c2 c3 c4 : List Item) (v : Value) (a : Action) (x : Exits) → is_one_test v ≡ false
+    → x.breaks ≡ length c → c1
     ≡ c ++ items.back 0 ∷ [] → WritesBefore c1 c2 (wanted_items (Branch true x.breaks) v) → x.continues ≡ length c2
     → WritesBefore c2 c3 (λ n at. action_items (exits_of n x) at a)
     → c4 ≡ slice_set c3 x.breaks (items.back (length c3)) → (y : Exits)
     → WritesBefore c c4 (λ n at. action_items (exits_of n y) at (source.do_until a v))
-do_more c c1 c2 c3 c4 v a x ee e1 wv ec wa e4 y =
+do_by_jump c c1 c2 c3 c4 v a x other ee e1 wv ec wa e4 y =
     let k = branch_count v true in
     let m = action_count a in
     let end = x.breaks in
@@ -68,13 +110,105 @@ do_more c c1 c2 c3 c4 v a x ee e1 wv ec wa e4 y =
     as_items (λ n at h.
     let t : n - end ≡ at + m + k + 1 = omega (arith, h, l4, ee) in
     let s : n - x.continues ≡ at + m = omega (arith, h, l1, l2, l4, ec) in
+    let last : at + m + k + 1 ≡ at + m + (k + 1) = omega arith in
     ap (λ t. (action_items (exits_to (n - x.continues) t) at a ++ branch_items (at + m) v true t)
     ++ items.back at ∷ []) t
     ∙ ap (λ s. (action_items (exits_to s (at + m + k + 1)) at a ++ branch_items (at + m) v true (at + m + k + 1))
     ++ items.back at ∷ []) s
     ∙ append_assoc (action_items (exits_to (at + m) (at + m + k + 1)) at a)
-    (branch_items (at + m) v true (at + m + k + 1)) (items.back at ∷ []))
+    (branch_items (at + m) v true (at + m + k + 1)) (items.back at ∷ [])
+    ∙ ap (λ l. action_items (exits_to (at + m) l) at a
+    ++ (branch_items (at + m) v true (at + m + k + 1) ++ items.back at ∷ [])) last
+    ∙ ap (λ single. do_items single v a at) (sym other))
     around
+
+-- what is written first of these becomes a branch back to the first of what is written behind it
+turned_more : (c c1 c2 c3 : List Item) (f : ℕ → ℕ → List Item) (end : ℕ) → end ≡ length c → length c < length c1
+    → WritesBefore c c1 f → (more : List Item) → c2 ≡ c1 ++ more
+    → c3 ≡ slice_set c2 end (items.turned_back (length c2) (slice_index_or c2 end items.quit))
+    → Turned c c1 c2 c3 f more
+turned_more c c1 c2 c3 f end ee long w more e2 e3 = go w.more w.is w.are
+  where
+    go : (written : List Item) → c1 ≡ c ++ written
+        → ((n : ℕ) → length c1 ≤ n → in_order n written ≡ f n (n - length c1)) → Turned c c1 c2 c3 f more
+    go [] is are = absurd (omega (arith, long, ap length is, length-append c []))
+    go (i ∷ rest) is are =
+        let there = items.turned_back (length c2) i in
+        let whole : c2 ≡ c ++ i ∷ (rest ++ more) = e2 ∙ ap (λ l. l ++ more) is ∙ append_assoc c (i ∷ rest) more in
+        let found : slice_index_or c2 end items.quit ≡ i =
+        ap (λ l. slice_index_or l end items.quit) whole
+        ∙ ap (λ k. slice_index_or (c ++ i ∷ (rest ++ more)) k items.quit) ee
+        ∙ get_or-append_seam c i (rest ++ more) items.quit in
+        let led : c3 ≡ c ++ there ∷ (rest ++ more) =
+        e3 ∙ ap (λ j. slice_set c2 end (items.turned_back (length c2) j)) found
+        ∙ ap (λ l. slice_set l end there) whole ∙ ap (λ k. slice_set (c ++ i ∷ (rest ++ more)) k there) ee
+        ∙ set-append_seam c i (rest ++ more) there in
+        let ahead : c ++ there ∷ (rest ++ more) ≡ (c ++ there ∷ rest) ++ more =
+        sym (append_assoc c (there ∷ rest) more) in
+        record {
+          between = c ++ there ∷ rest;
+          then_more = led ∙ ahead;
+          long = length-append c (there ∷ rest) ∙ sym (length-append c (i ∷ rest)) ∙ sym (ap length is);
+          turned = record {
+            more = there ∷ rest;
+            is = refl;
+            are = λ n le.
+                let l : length (c ++ there ∷ rest) ≡ length c1 =
+                length-append c (there ∷ rest) ∙ sym (length-append c (i ∷ rest)) ∙ sym (ap length is) in
+                turned_first n (length c2) i rest
+                ∙ ap (last_back (n - length c2)) (are n (omega (arith, le, l)))
+                ∙ ap (λ k. last_back (n - length c2) (f n (n - k))) (sym l);
+          };
+        }
+
+-- with a test that leads back itself
+pub do_by_test : (c c1 c2 c3 : List Item) (v : Value) (a : Action) (x : Exits) → is_one_test v ≡ true
+    → x.breaks ≡ length c → WritesBefore c c1 (wanted_items (Branch true x.breaks) v) → x.continues ≡ length c1
+    → WritesBefore c1 c2 (λ n at. action_items (exits_of n x) at a)
+    → c3 ≡ slice_set c2 x.breaks (items.turned_back (length c2) (slice_index_or c2 x.breaks items.quit)) → (y : Exits)
+    → WritesBefore c c3 (λ n at. action_items (exits_of n y) at (source.do_until a v))
+do_by_test c c1 c2 c3 v a x single ee wv ec wa e3 y =
+    let k = branch_count v true in
+    let m = action_count a in
+    let end = x.breaks in
+    let long_v = λ (n at : ℕ). branch_length v true at (n - end) in
+    let long_a = λ (n at : ℕ). action_length (exits_of n x) a at in
+    let l1 = counted k long_v wv in
+    let l2 = counted m long_a wa in
+    let some : 0 < k = test_counted v single in
+    let t = turned_more c c1 c2 c3 _ end ee (omega (arith, l1, some)) wv wa.more wa.is e3 in
+    let l3 : length c3 ≡ length c2 =
+    ap length t.then_more ∙ length-append t.between wa.more ∙ ap (λ j. j + length wa.more) t.long
+    ∙ sym (length-append c1 wa.more) ∙ sym (ap length wa.is) in
+    let body : WritesBefore t.between c3 (λ n at. action_items (exits_of n x) at a) =
+    record {
+      more = wa.more;
+      is = t.then_more;
+      are = λ n le. wa.are n (omega (arith, le, l3)) ∙ ap (λ j. action_items (exits_of n x) (n - j) a) (sym l3);
+    } in
+    as_items (λ n at h.
+    let b : n - length c2 ≡ at = omega (arith, h, l3) in
+    let e : n - end ≡ at + m + k = omega (arith, h, l1, l2, l3, ee) in
+    let s : n - x.continues ≡ at + m = omega (arith, h, l2, l3, ec) in
+    ap (λ b. action_items (exits_of n x) at a ++ last_back b (branch_items (at + m) v true (n - end))) b
+    ∙ ap (λ e. action_items (exits_to (n - x.continues) e) at a ++ last_back at (branch_items (at + m) v true e)) e
+    ∙ ap (λ s. action_items (exits_to s (at + m + k)) at a ++ last_back at (branch_items (at + m) v true (at + m + k)))
+    s
+    ∙ ap (λ b. do_items b v a at) (sym single))
+    (both m long_a t.turned body)
+
+-- what was written first of the test is there when the body is written
+pub do_turns : (c c1 c2 : List Item) (v : Value) (a : Action) (x : Exits) (end : ℕ) → is_one_test v ≡ true
+    → end ≡ length c → WritesBefore c c1 (wanted_items (Branch true end) v)
+    → WritesBefore c1 c2 (λ n at. action_items (exits_of n x) at a) → end < length c2
+do_turns c c1 c2 v a x end single ee wv wa =
+    omega (
+      arith,
+      ee,
+      counted (branch_count v true) (λ n at. branch_length v true at (n - end)) wv,
+      counted (action_count a) (λ n at. action_length (exits_of n x) a at) wa,
+      test_counted v single,
+    )
 
 -- the test, the body, and what is done behind each round
 rounds_more : (c c1 c2 c3 c4 c5 : List Item) (test behind : Option Value) (a : Action) (x : Exits) → x.breaks

@@ -16,7 +16,7 @@ use Rattle.meaning.specs.Resolved.{text, character_of, number_of}
 use Rattle.meaning.specs.Resolved as source
 use Rattle.code_drafts.specs.Items.{pushed, push, into, aside, nowhere, less, greater, same, is_zero, move, operate}
 use Rattle.code_drafts.specs.Items.{operate_aside, step}
-use Rattle.code_drafts.specs.Items.{branch, jump, back, print_text, print_character, print_number, new_line}
+use Rattle.code_drafts.specs.Items.{branch, jump, back, branch_back, print_text, print_character, print_number, new_line}
 use Rattle.code_drafts.specs.Items.{quit, apply_prefix, keep, first_equal, also_equal, drop_below}
 use Rattle.code_drafts.specs.Items as items
 use Rattle.code_items.specs.Statements.{Exits, exits_to, action_items, return_true}
@@ -299,12 +299,38 @@ endless_loop = refl
 tested_behind : action_items outside 0
     (do_until (source.block (next (if_then (read x) source.break_out) (next (effect called) stop))) (read g))
     ≡ branch is_zero (items.variable x ∷ []) true 2
-    ∷ jump 5
+    ∷ jump 4
     ∷ items.call 7 [] nowhere
-    ∷ branch is_zero (items.variable g ∷ []) false 5
-    ∷ back 0
+    ∷ branch_back is_zero (items.variable g ∷ []) true 0
     ∷ []
 tested_behind = refl
+
+-- do F(); until (F() > y);
+compared_behind : action_items outside 3
+    (do_until (effect called) (compare comparisons.Greater called (read y)))
+    ≡ items.call 7 [] nowhere
+    ∷ items.call 7 [] push
+    ∷ branch_back greater (pushed ∷ items.variable y ∷ []) false 3
+    ∷ []
+compared_behind = refl
+
+-- do F(); until (x == 1 or y);
+few_behind : action_items outside 3
+    (do_until (effect called) (equal equalities.Equal (read x) (more (number 1) (more (read y) none))))
+    ≡ items.call 7 [] nowhere
+    ∷ branch_back same (items.variable x ∷ items.number 1 ∷ items.variable y ∷ []) false 3
+    ∷ []
+few_behind = refl
+
+-- do F(); until (x && y); two tests, and a jump
+both_behind : action_items outside 3
+    (do_until (effect called) (source.binary binaries.AndAlso (read x) (read y)))
+    ≡ items.call 7 [] nowhere
+    ∷ branch is_zero (items.variable x ∷ []) true 6
+    ∷ branch is_zero (items.variable y ∷ []) false 7
+    ∷ back 3
+    ∷ []
+both_behind = refl
 
 -- switch (x) { 1 to 5, 7, 8, 9, 10: y++; default: F(); }
 grouped : action_items outside 0

@@ -1,19 +1,21 @@
 -- How many items the forms of statements have.
 use Rattle.std.proofs.Common.{◌≡◌, ℕ, ◌+◌, List, [], ◌∷◌, ◌++◌, length, Bool, true, false, Option, Some, None, refl}
-use Rattle.std.proofs.Common.{arith, length-append}
+use Rattle.std.proofs.Common.{◌∙◌, arith, length-append}
 use Rattle.std.specs.Prelude.{◌==◌, if◌then◌else◌}
 use Rattle.syntax_trees.specs.declared.tree.Relative.TheVariants as relatives
 use Rattle.meaning.specs.Resolved.{Value, Printed, Action, Actions, CasesOf, stop, next}
 use Rattle.meaning.specs.Resolved as source
 use Rattle.meaning.specs.declared.resolved.Variable.{Variable}
 use Rattle.code_drafts.specs.Items.{Operand, variable, push, aside, left_of, if_pushed, value_count, value_items}
-use Rattle.code_drafts.specs.Items.{nowhere, alone, branch_count, branch_items, operand_count, alone_items}
+use Rattle.code_drafts.specs.Items.{nowhere, alone, branch_count, branch_items, operand_count, alone_items, is_one_test, last_back}
 use Rattle.code_drafts.specs.Items as items
 use Rattle.code_drafts.proofs.CountedForms.{joined, if_length}
 use Rattle.code_drafts.proofs.Counts.{value_length, branch_length, alone_length}
+use Rattle.code_drafts.proofs.WrittenItems as written
 use Rattle.code_items.specs.Statements.{each_items, children_items, relative_items, printed_count, prints_count}
 use Rattle.code_items.specs.Statements.{action_count, actions_count, cases_count, once_count, test_count, tests_count}
 use Rattle.code_items.specs.Statements.{group_count, groups_of, over_count, printed_items, prints_items, once_items}
+use Rattle.code_items.specs.Statements.{until_count, until_items}
 use Rattle.code_items.specs.Statements.{test_items, Group, group_items, last_items, tests_items, over_items, Exits}
 use Rattle.code_items.specs.Statements.{exits_to, action_items, actions_items, cases_items, for_items, case_items}
 use Rattle.code_items.specs.Statements as statements
@@ -38,6 +40,18 @@ once_length (Some v) at = value_length v nowhere at
 pub test_length : (test : Option Value) (at end : ℕ) → length (test_items at test end) ≡ test_count test
 test_length None at end = refl
 test_length (Some v) at end = branch_length v false at end
+
+-- the test of a `do`
+pub until_length : (v : Value) (at first : ℕ) → length (until_items at first v) ≡ until_count v
+until_length v at first = go (is_one_test v)
+  where
+    k : ℕ
+    k = branch_count v true
+
+    go : (b : Bool) → length (if b then last_back first (branch_items at v true (at + k))
+        else branch_items at v true (at + k + 1) ++ items.back first ∷ []) ≡ (if b then k else k + 1)
+    go true = written.last_length first (branch_items at v true (at + k)) ∙ branch_length v true at (at + k)
+    go false = joined (branch_items at v true (at + k + 1)) _ _ 1 (branch_length v true at (at + k + 1)) refl
 
 pub for_length : (at tested body done : ℕ) (test : ℕ → List items.Item) (run : Exits → ℕ → List items.Item)
     (behind : ℕ → List items.Item)
@@ -165,15 +179,8 @@ mutual
       )
   action_length x (source.do_until a v) at =
       let behind = at + action_count a in
-      let e = behind + branch_count v true + 1 in
-      let inside = exits_to behind e in
-      omega (
-        arith,
-        branch_length v true behind e,
-        action_length inside a at,
-        length-append (action_items inside at a) (branch_items behind v true e ++ items.back at ∷ []),
-        length-append (branch_items behind v true e) (items.back at ∷ []),
-      )
+      let inside = exits_to behind (behind + until_count v) in
+      joined (action_items inside at a) _ _ _ (action_length inside a at) (until_length v behind at)
   action_length x (source.for_loop before test behind a) at =
       let place = at + once_count before in
       let whole = for_items place (test_count test) (action_count a) (once_count behind)

@@ -1,7 +1,7 @@
 -- What the items of a routine name is there.
 use Rattle.std.proofs.Common.{◌≡◌, ℕ, ◌+◌, ◌<◌, List, [], ◌∷◌, length, Option, Some, None, Bool, true, false, refl}
 use Rattle.std.proofs.Common.{arith, length-append}
-use Rattle.std.specs.Prelude.{◌==◌, ◌++◌}
+use Rattle.std.specs.Prelude.{◌==◌, ◌++◌, if◌then◌else◌}
 use Rattle.std.specs.List.{All}
 use Rattle.std.proofs.lemmas.List.Elements.{All-head, All-tail}
 use Rattle.syntax_trees.specs.declared.tree.Relative.{Relative}
@@ -11,14 +11,14 @@ use Rattle.meaning.specs.Resolved.{Value, none, more, Printed, Action, Actions, 
 use Rattle.meaning.specs.Resolved as source
 use Rattle.meaning.specs.Accepted.{IsVariable, IsValue, IsPart, IsPrinted, IsAction, AreActions, AreCases}
 use Rattle.code_drafts.specs.Items.{aside, nowhere, value_count, value_items, alone, operand_count, branch_count, branch_items, alone_items, Test, less}
-use Rattle.code_drafts.specs.Items.{greater, same, Item, Operand, pushed, variable}
+use Rattle.code_drafts.specs.Items.{greater, same, Item, Operand, pushed, variable, is_one_test, turned_back, last_back}
 use Rattle.code_drafts.specs.Items as items
 use Rattle.code_items.specs.Statements.{printed_count, prints_count, action_count, actions_count, printed_items}
 use Rattle.code_items.specs.Statements.{prints_items, return_true, Exits, exits_to, action_items, actions_items}
 use Rattle.code_items.specs.Statements.{routine_items, once_count, once_items, test_count, test_items, Group, numbers}
 use Rattle.code_items.specs.Statements.{range, groups_of, group_count, group_items, last_items, tests_count}
 use Rattle.code_items.specs.Statements.{tests_items, over_count, over_items, cases_count, cases_items, each_items}
-use Rattle.code_items.specs.Statements.{children_items, relative_items}
+use Rattle.code_items.specs.Statements.{children_items, relative_items, until_count, until_items}
 use Rattle.code_items.specs.Laws.{IsItem, IsOperand, ItemsAreWithin, IsTestedValue}
 use Rattle.code_items.proofs.StatementCounts.{actions_length}
 use Rattle.code_items.proofs.Fine.{Bounds, Fine, either_fine, first, joined, last, last_two, nothing, operand_fine}
@@ -64,6 +64,37 @@ module _ (here : Bounds) where
       → Fine here (test_items at v end)
   test_fine None h at end lt le = nothing here
   test_fine (Some v) h at end lt le = (value_fine here v h.0).branch at false end lt le
+
+  -- `do`
+
+  -- what leads back instead of out of a loop
+  turned_fine : (to : ℕ) (i : Item) → to < count → IsItem p locals count i
+      → IsItem p locals count (turned_back to i)
+  turned_fine to (items.branch test os when end) lt h = (h.0, h.1, lt)
+  turned_fine to i lt h = h
+
+  back_fine : (to : ℕ) (is : List Item) → to < count → Fine here is → Fine here (last_back to is)
+  back_fine to [] lt h = nothing here
+  back_fine to (i ∷ []) lt h =
+      first here _ _ (turned_fine to i lt (All-head (IsItem p locals count) i [] h.all)) (nothing here)
+  back_fine to (i ∷ j ∷ is) lt h =
+      first here _ _ (All-head (IsItem p locals count) i (j ∷ is) h.all)
+      (back_fine to (j ∷ is) lt (record { all = All-tail (IsItem p locals count) i (j ∷ is) h.all }))
+
+  until_fine : (v : Value) → IsValue p locals v → (at to : ℕ) → at + until_count v < count → to < count
+      → Fine here (until_items at to v)
+  until_fine v h at to lt le = go (is_one_test v) lt
+    where
+      k : ℕ
+      k = branch_count v true
+
+      go : (b : Bool) → at + (if b then k else k + 1) < count
+          → Fine here (if b then last_back to (branch_items at v true (at + k))
+          else branch_items at v true (at + k + 1) ++ items.back to ∷ [])
+      go true lt = back_fine to (branch_items at v true (at + k)) le
+          ((value_fine here v h).branch at true (at + k) (omega (arith, lt)) (omega (arith, lt)))
+      go false lt = last here (branch_items at v true (at + k + 1)) (items.back to)
+          ((value_fine here v h).branch at true (at + k + 1) (omega (arith, lt)) (omega (arith, lt))) le
 
   -- `switch`
 
@@ -170,12 +201,10 @@ module _ (here : Bounds) where
         (omega (arith, lt))) (omega (arith, lt)))
     action_fine x (source.do_until a v) there h at lt =
         let n = at + action_count a in
-        let e = n + branch_count v true + 1 in
-        let inside = exits_to n e in
+        let inside = exits_to n (n + until_count v) in
         joined here (action_items inside at a) _
         (action_fine inside a (omega (arith, lt), omega (arith, lt)) h.0 at (omega (arith, lt)))
-        (last here (branch_items n v true e) _
-        ((value_fine here v h.1.0).branch n true e (omega (arith, lt)) (omega (arith, lt))) (omega (arith, lt)))
+        (until_fine v h.1.0 n at (omega (arith, lt)) (omega (arith, lt)))
     action_fine x (source.for_loop before test behind a) there h at lt =
         let top = at + once_count before in
         let n = top + test_count test in

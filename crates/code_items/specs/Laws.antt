@@ -8,7 +8,7 @@ use Rattle.meaning.specs.Accepted.{IsVariable, IsRoutine, IsAccepted, IsProperty
 use Rattle.meaning.specs.Meaning.{routine_at, meaning}
 use Rattle.code_drafts.specs.Items.{Operand, variable, Destination, into, Test, is_zero, less, greater, same, Item}
 use Rattle.code_drafts.specs.Items.{move, apply_prefix, operate, operate_aside, step, entry, assign_entry, keep, print_character}
-use Rattle.code_drafts.specs.Items.{print_number, branch, read_line, case, jump, back, call, call_aside, return}
+use Rattle.code_drafts.specs.Items.{print_number, branch, read_line, case, jump, back, branch_back, call, call_aside, return}
 use Rattle.code_drafts.specs.Items.{is_any_pushed, print_name, relative, property, property_size, property_word, assign_property}
 use Rattle.code_drafts.specs.Items.{assign_property_word, give, has, move_object, remove_object, is_in, provides}
 use Rattle.code_drafts.specs.Items.{entry_aside, assign_entry_aside, first_object, next_object}
@@ -84,6 +84,8 @@ module _ (p : ProgramOf) (locals : ℕ) where
   IsItem count (case test ns when target) = IsTestedValue test (1 + length ns) × (1 ≤ length ns) × (target < count)
   IsItem count (jump target) = target < count
   IsItem count (back target) = target < count
+  IsItem count (branch_back test os when target) =
+      All IsOperand os × IsTestedValue test (length os) × (target < count)
   IsItem count (call r os d) = (r < length p.routines) × All IsOperand os × (length os ≤ 7)
       × (length os ≤ (routine_at p.routines r).locals) × IsDestination d
   IsItem count (call_aside r os d) = (r < length p.routines) × All IsOperand os × (length os ≤ 7)

@@ -165,6 +165,13 @@ go_back target s =
     (λ _ situation. goes (record s { place = target; put_aside = None; situation = situation }))
     else stuck
 
+-- back, which costs a unit, or to the next item
+abbrev pub branch_back : Bool → ℕ → List ℕ → ItemState → Next
+branch_back so target stack s =
+    if nat_le target s.place then (if so then go_back target (record s { stack = stack })
+    else goes (after s stack s.situation))
+    else stuck
+
 -- Objects: what items do with them, each with its tests first
 
 module _ (p : ProgramOf) where
@@ -391,6 +398,8 @@ act p full (Some (items.next_object x target)) s = decides (steps_object p x) fa
 act p full (Some (items.case test ns when target)) s = test_case s.put_aside test ns when target s
 act p full (Some (items.jump target)) s = jump_forward target s
 act p full (Some (items.back target)) s = go_back target s
+act p full (Some (items.branch_back test os when target)) s =
+    with_operands os s.situation s.stack (λ vs stack. branch_back (agrees (holds test vs) when) target stack s)
 act p full (Some (items.call r os d)) s =
     with_operands os s.situation s.stack (λ vs stack. enter p r vs (caller d stack s ∷ s.callers) s.situation)
 act p full (Some (items.call_aside r os d)) s =

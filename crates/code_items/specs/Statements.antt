@@ -10,7 +10,7 @@ use Rattle.code_drafts.specs.Items.{keep, relative, give, move_object, remove_ob
 use Rattle.code_drafts.specs.Items.{print_number, print_name, new_line, read_line, quit, first_object, next_object}
 use Rattle.code_drafts.specs.Items.{case, jump, back, return, Item, Operand, alone, alone_items, branch_count}
 use Rattle.code_drafts.specs.Items.{aside, branch_items, branch_true, greater, if_pushed, left_of, less, nowhere, number}
-use Rattle.code_drafts.specs.Items.{operand_count, push, pushed, same, value_count, value_items, variable}
+use Rattle.code_drafts.specs.Items.{is_one_test, last_back, operand_count, push, pushed, same, value_count, value_items, variable}
 
 -- one thing that is printed
 abbrev pub printed_count : Printed → ℕ
@@ -99,6 +99,17 @@ over_count later = if later == 0 then 0 else 1
 abbrev pub over_items : ℕ → ℕ → List Item
 over_items later end = if later == 0 then [] else jump end ∷ []
 
+-- the test of a `do`, and the way back where that is an item of its own
+abbrev pub until_count : Value → ℕ
+until_count v = if is_one_test v then branch_count v true else branch_count v true + 1
+
+-- They lead back to the item of this number, where the condition is false. The one instruction of a test does it
+-- itself; other tests lead over a jump.
+abbrev pub until_items : ℕ → ℕ → Value → List Item
+until_items at first v =
+    if is_one_test v then last_back first (branch_items at v true (at + branch_count v true))
+    else branch_items at v true (at + branch_count v true + 1) ++ back first ∷ []
+
 abbrev mutual
   -- a statement
   pub action_count : Action → ℕ
@@ -111,7 +122,7 @@ abbrev mutual
   action_count (source.if_then v a) = branch_count v false + action_count a
   action_count (source.if_else v a b) = branch_count v false + action_count a + 1 + action_count b
   action_count (source.while_do v a) = branch_count v false + action_count a + 1
-  action_count (source.do_until a v) = action_count a + branch_count v true + 1
+  action_count (source.do_until a v) = action_count a + until_count v
   action_count (source.for_loop x y z a) = once_count x + test_count y + action_count a + once_count z + 1
   action_count (source.switch_on v cs) = value_count v aside + cases_count cs
   action_count source.break_out = 1
@@ -221,8 +232,8 @@ abbrev mutual
       (exits_to (at + branch_count v false + action_count a) (at + branch_count v false + action_count a + 1))
       (at + branch_count v false) a ++ back at ∷ [])
   action_items x at (source.do_until a v) =
-      action_items (exits_to (at + action_count a) (at + action_count a + branch_count v true + 1)) at a
-      ++ (branch_items (at + action_count a) v true (at + action_count a + branch_count v true + 1) ++ back at ∷ [])
+      action_items (exits_to (at + action_count a) (at + action_count a + until_count v)) at a
+      ++ until_items (at + action_count a) at v
   action_items x at (source.for_loop before test behind a) =
       once_items at before
       ++ for_items (at + once_count before) (test_count test) (action_count a) (once_count behind)

@@ -1,6 +1,6 @@
 //! Statements as items.
 
-ghost use Rattle.std.specs.Prelude.{◌-◌, [], ◌∷◌, map, IfOk, OnOk};
+ghost use Rattle.std.specs.Prelude.{◌≡◌, ◌-◌, [], ◌∷◌, true, false, map, IfOk, OnOk};
 ghost use Rattle.std.specs.Option.{option_map};
 ghost use Rattle.meaning.specs.Resolved.{block, if_then, if_else, while_do, do_until, for_loop, switch_on};
 ghost use Rattle.meaning.specs.Resolved.{return_value, give_to, move_to, remove_from, each_object, each_where, each_in};
@@ -9,6 +9,7 @@ ghost use Rattle.meaning.specs.Views.{value_of, printed_of, action_of, actions_o
 ghost use Rattle.meaning.specs.Views.{boxed_value};
 ghost use Rattle.code_drafts.specs.Code.{as_operand};
 ghost use Rattle.code_drafts.specs.Items.{new_line};
+ghost use Rattle.code_drafts.specs.Items as definitions;
 ghost use Rattle.code_drafts.specs.Writing.{Writes};
 ghost use Rattle.code_items.specs.Statements.{return_true, printed_items, relative_items};
 ghost use Rattle.code_items.specs.Writing.{WritesAction, WritesPrinted, WritesTaken, WritesCases};
@@ -18,7 +19,8 @@ use crate::cases::{put_over, put_tests};
 use crate::exits::Exits;
 use crate::heading::{put_once, put_test};
 use code_drafts::{
-    Destination, Draft, Item, Operand, Wanted, alone, lead_back, left_of, put, put_branch, written,
+    Destination, Draft, Item, Operand, Wanted, alone, is_one_test, lead_back, left_of, put,
+    put_branch, turn_back, written,
 };
 use code_values::{put_operand, put_value};
 use meaning::{Action, Printed, Span, Value, Variable};
@@ -178,6 +180,50 @@ fn put_while<'a>(draft: &mut Draft<'a>, body: &Action<'a>, test: &Value) -> Resu
 /// `do`: the test goes back to the body where it is false.
 #[cycle(statements)]
 fn put_do<'a>(draft: &mut Draft<'a>, body: &Action<'a>, test: &Value) -> Result<(), AllocError>
+    ensures { OnOk result ((x : _) → WritesAction draft.old draft.new x
+        (do_until (action_of body.now) (value_of test.now))) }
+{
+    if is_one_test(test) {
+        put_do_by_test(draft, body, test)
+    } else {
+        put_do_by_jump(draft, body, test)
+    }
+}
+
+/// `do` whose test is one instruction: that leads back itself.
+#[cycle(statements)]
+fn put_do_by_test<'a>(
+    draft: &mut Draft<'a>,
+    body: &Action<'a>,
+    test: &Value,
+) -> Result<(), AllocError>
+    requires { definitions.is_one_test (value_of test.now) ≡ true }
+    ensures { OnOk result ((x : _) → WritesAction draft.old draft.new x
+        (do_until (action_of body.now) (value_of test.now))) }
+{
+    let end = written(draft);
+    let Ok(()) = put_value(draft, test, Wanted::Branch(true, end)) else {
+        return Err(AllocError);
+    };
+    let inside = Exits {
+        breaks: end,
+        continues: written(draft),
+    };
+    let Ok(()) = put_statement(draft, inside, body) else {
+        return Err(AllocError);
+    };
+    turn_back(draft, end);
+    Ok(())
+}
+
+/// `do` with another test: that leads out over a jump back.
+#[cycle(statements)]
+fn put_do_by_jump<'a>(
+    draft: &mut Draft<'a>,
+    body: &Action<'a>,
+    test: &Value,
+) -> Result<(), AllocError>
+    requires { definitions.is_one_test (value_of test.now) ≡ false }
     ensures { OnOk result ((x : _) → WritesAction draft.old draft.new x
         (do_until (action_of body.now) (value_of test.now))) }
 {

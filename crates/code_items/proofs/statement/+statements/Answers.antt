@@ -14,7 +14,7 @@ use Rattle.code_items.specs.declared.exits.Exits.{Exits}
 use Rattle.code_items.specs.Writing.{exits_of, LeavesCases}
 use Rattle.code_items.proofs.Trees.{while_is, do_is, for_is, switch_is, return_is, give_is, move_is, remove_is, each_is}
 use Rattle.code_items.proofs.Trees.{each_where_is, each_in_is}
-use Rattle.code_items.proofs.Rounds.{do_more, for_more, each_more, each_where_more, each_in_more}
+use Rattle.code_items.proofs.Rounds.{do_by_jump, do_by_test, do_turns, for_more, each_more, each_where_more, each_in_more}
 use Rattle.code_items.proofs.StatementCounts.{action_length}
 use Rattle.code_items.proofs.SwitchCases.{case_leaves, case_next, cases_all, switch_more}
 use Rattle.code_items.proofs.Actions.{if_more, else_more, while_more, action_next, on_ok}
@@ -68,10 +68,19 @@ put_statement-returns-in-ReturnValue t c = on_ok c.put_return.result (λ w.
     (λ n at. action_items (exits_of n c.args.exits) at a) in
     subst P (sym (return_is _ _ x.is)) (w c.args.exits)) c.put_return.ensures
 
-pub put_do-returns : goal.put_do-returns
-put_do-returns t c = do_more _ _ _ _ _ (value_of c.args.test.now) (action_of c.args.body.now) _
-    c.written-end.ensures c.in-Ok.ensures c.in-Ok-put_value.ensures c.written.ensures
+pub put_do_by_jump-returns : goal.put_do_by_jump-returns
+put_do_by_jump-returns t c = do_by_jump _ _ _ _ _ (value_of c.args.test.now) (action_of c.args.body.now) _
+    c.requires c.written-end.ensures c.in-Ok.ensures c.in-Ok-put_value.ensures c.written.ensures
     c.in-Ok-put_statement.ensures c.lead_back.ensures
+
+pub put_do_by_test-turn_back-requires : goal.put_do_by_test-turn_back-requires
+put_do_by_test-turn_back-requires t c = do_turns _ _ _ (value_of c.args.test.now) (action_of c.args.body.now) _ _
+    c.requires c.written-end.ensures c.in-Ok.ensures c.in-Ok-put_statement.ensures
+
+pub put_do_by_test-returns : goal.put_do_by_test-returns
+put_do_by_test-returns t c = do_by_test _ _ _ _ (value_of c.args.test.now) (action_of c.args.body.now) _
+    c.requires c.written-end.ensures c.in-Ok.ensures c.written.ensures c.in-Ok-put_statement.ensures
+    c.turn_back.ensures
 
 pub put_for-returns : goal.put_for-returns
 put_for-returns t c = on_ok c.put_once-2.result (for_more _ _ _ _ _ _ _ (option_map boxed_value c.args.before.now)
