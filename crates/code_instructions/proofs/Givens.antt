@@ -11,8 +11,8 @@ use Rattle.code_drafts.specs.Items as items
 use Rattle.code_drafts.specs.declared.item.Operand as code_operand
 use Rattle.code_drafts.specs.Code.{as_operand, as_operands}
 use Rattle.code_encoding.specs.Instructions.{takes, operands, in_place, giving, result_in}
-use Rattle.code_instructions.specs.Instructions.{calling, call_code, call_operation, call_result, asks_none, labelled}
-use Rattle.code_instructions.specs.Instructions.{test_operation, least_word, ordered_code, tested_code, branch_code}
+use Rattle.code_instructions.specs.Instructions.{calling, call_code, call_operation, call_result, asks_none, labelled_below}
+use Rattle.code_instructions.specs.Instructions.{test_operation, least_word, ordered_below, tested_below, branch_below}
 use Rattle.code_instructions.specs.Instructions.{arithmetic}
 use Rattle.code_encoding.specs.Bytes.{bytes_of_all}
 use Rattle.code_encoding.proofs.Chains.{one_joined, all_joined}
@@ -86,54 +86,54 @@ arithmetic_joined o q d op result name other b b1 b2 is both r f1 f2 =
     (record { operation = op; operands = operands (o ∷ q ∷ []); result = Some x; branch = None })) r)
 
 -- the bytes of a branch by one operand, by two, and by any
-labelled_as : (op : Operation) (when : Bool) (offset : ℕ) (b b1 : List ℕ) (names others : List Operand)
-    → names ≡ others → b1 ≡ b ++ bytes_of_all (labelled op names when offset)
-    → b1 ≡ b ++ bytes_of_all (labelled op others when offset)
-labelled_as op when offset b b1 names others same e =
-    e ∙ ap (λ (x : List Operand). b ++ bytes_of_all (labelled op x when offset)) same
+labelled_as : (limit : ℕ) (op : Operation) (when : Bool) (offset : ℕ) (b b1 : List ℕ) (names others : List Operand)
+    → names ≡ others → b1 ≡ b ++ bytes_of_all (labelled_below limit op names when offset)
+    → b1 ≡ b ++ bytes_of_all (labelled_below limit op others when offset)
+labelled_as limit op when offset b b1 names others same e =
+    e ∙ ap (λ (x : List Operand). b ++ bytes_of_all (labelled_below limit op x when offset)) same
 
-pub one_labelled : (op : Operation) (when : Bool) (offset : ℕ) (o : items.Operand) (name : Operand) (b b1 : List ℕ)
-    → name ≡ in_place o → b1 ≡ b ++ bytes_of_all (labelled op (name ∷ []) when offset)
-    → b1 ≡ b ++ bytes_of_all (labelled op (operands (o ∷ [])) when offset)
-one_labelled op when offset o name b b1 is e =
-    labelled_as op when offset b b1 (name ∷ []) (operands (o ∷ []))
+pub one_labelled : (limit : ℕ) (op : Operation) (when : Bool) (offset : ℕ) (o : items.Operand) (name : Operand) (b b1 : List ℕ)
+    → name ≡ in_place o → b1 ≡ b ++ bytes_of_all (labelled_below limit op (name ∷ []) when offset)
+    → b1 ≡ b ++ bytes_of_all (labelled_below limit op (operands (o ∷ [])) when offset)
+one_labelled limit op when offset o name b b1 is e =
+    labelled_as limit op when offset b b1 (name ∷ []) (operands (o ∷ []))
     (ap (λ (x : Operand). x ∷ []) is ∙ one_named o) e
 
-pub two_labelled : (op : Operation) (when : Bool) (offset : ℕ) (o q : items.Operand) (name other : Operand)
+pub two_labelled : (limit : ℕ) (op : Operation) (when : Bool) (offset : ℕ) (o q : items.Operand) (name other : Operand)
     (b b1 : List ℕ) → name ≡ in_place o → in_place o ∷ other ∷ [] ≡ operands (o ∷ q ∷ [])
-    → b1 ≡ b ++ bytes_of_all (labelled op (name ∷ other ∷ []) when offset)
-    → b1 ≡ b ++ bytes_of_all (labelled op (operands (o ∷ q ∷ [])) when offset)
-two_labelled op when offset o q name other b b1 is both e =
-    labelled_as op when offset b b1 (name ∷ other ∷ []) (operands (o ∷ q ∷ []))
+    → b1 ≡ b ++ bytes_of_all (labelled_below limit op (name ∷ other ∷ []) when offset)
+    → b1 ≡ b ++ bytes_of_all (labelled_below limit op (operands (o ∷ q ∷ [])) when offset)
+two_labelled limit op when offset o q name other b b1 is both e =
+    labelled_as limit op when offset b b1 (name ∷ other ∷ []) (operands (o ∷ q ∷ []))
     (ap (λ (x : Operand). x ∷ other ∷ []) is ∙ both) e
 
-pub all_labelled : (op : Operation) (when : Bool) (offset : ℕ) (os : List items.Operand) (b b1 : List ℕ)
+pub all_labelled : (limit : ℕ) (op : Operation) (when : Bool) (offset : ℕ) (os : List items.Operand) (b b1 : List ℕ)
     (n1 n2 n3 : List Operand) → n1 ≡ [] → n2 ≡ n1 ++ operands os → n3 ≡ n2
-    → b1 ≡ b ++ bytes_of_all (labelled op n3 when offset)
-    → b1 ≡ b ++ bytes_of_all (labelled op (operands os) when offset)
-all_labelled op when offset os b b1 n1 n2 n3 e1 e2 e3 e =
-    labelled_as op when offset b b1 n3 (operands os) (e3 ∙ e2 ∙ ap (λ n. n ++ operands os) e1) e
+    → b1 ≡ b ++ bytes_of_all (labelled_below limit op n3 when offset)
+    → b1 ≡ b ++ bytes_of_all (labelled_below limit op (operands os) when offset)
+all_labelled limit op when offset os b b1 n1 n2 n3 e1 e2 e3 e =
+    labelled_as limit op when offset b b1 n3 (operands os) (e3 ∙ e2 ∙ ap (λ n. n ++ operands os) e1) e
 
 -- the bytes of a branch by a test, after those that take its operands
-pub ordered_joined : (test : Test) (os : List items.Operand) (op : Operation) (when : Bool) (offset : ℕ)
+pub ordered_joined : (limit : ℕ) (test : Test) (os : List items.Operand) (op : Operation) (when : Bool) (offset : ℕ)
     (b b1 b2 : List ℕ) → op ≡ test_operation test → b1 ≡ b ++ bytes_of_all (takes os)
-    → b2 ≡ b1 ++ bytes_of_all (labelled op (operands os) when offset)
-    → b2 ≡ b ++ bytes_of_all (ordered_code test os when offset)
-ordered_joined test os op when offset b b1 b2 o f1 f2 =
-    all_joined (takes os) (labelled (test_operation test) (operands os) when offset) b b1 b2 f1
-    (f2 ∙ ap (λ (x : Operation). b1 ++ bytes_of_all (labelled x (operands os) when offset)) o)
+    → b2 ≡ b1 ++ bytes_of_all (labelled_below limit op (operands os) when offset)
+    → b2 ≡ b ++ bytes_of_all (ordered_below limit test os when offset)
+ordered_joined limit test os op when offset b b1 b2 o f1 f2 =
+    all_joined (takes os) (labelled_below limit (test_operation test) (operands os) when offset) b b1 b2 f1
+    (f2 ∙ ap (λ (x : Operation). b1 ++ bytes_of_all (labelled_below limit x (operands os) when offset)) o)
 
 -- a branch that is asked as it is
-pub branch_otherwise : (test : Test) (os given : List items.Operand) (asks when : Bool) (offset : ℕ) (b b1 : List ℕ)
+pub branch_otherwise : (limit : ℕ) (test : Test) (os given : List items.Operand) (asks when : Bool) (offset : ℕ) (b b1 : List ℕ)
     → given ≡ os → asks ≡ asks_none test given → asks ≡ false
-    → b1 ≡ b ++ bytes_of_all (tested_code test given when offset)
-    → b1 ≡ b ++ bytes_of_all (branch_code test os when offset)
-branch_otherwise test os given asks when offset b b1 same is isnt e =
+    → b1 ≡ b ++ bytes_of_all (tested_below limit test given when offset)
+    → b1 ≡ b ++ bytes_of_all (branch_below limit test os when offset)
+branch_otherwise limit test os given asks when offset b b1 same is isnt e =
     let none : asks_none test os ≡ false = sym (is ∙ ap (λ xs. asks_none test xs) same) ∙ isnt in
-    e ∙ ap (λ xs. b ++ bytes_of_all (tested_code test xs when offset)) same
+    e ∙ ap (λ xs. b ++ bytes_of_all (tested_below limit test xs when offset)) same
     ∙ ap (λ (x : Bool). b ++ bytes_of_all (if x
-    then tested_code items.less (os ++ items.number least_word ∷ []) when offset
-    else tested_code test os when offset))
+    then tested_below limit items.less (os ++ items.number least_word ∷ []) when offset
+    else tested_below limit test os when offset))
     (sym none)
 
 pub on_ok : {A E P Q : Type 0} (r : Result A E) → (P → Q) → OnOk r P → OnOk r Q

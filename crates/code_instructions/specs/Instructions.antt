@@ -183,14 +183,29 @@ test_operation items.less = JumpIfLess
 test_operation items.greater = JumpIfGreater
 test_operation items.same = JumpIfEqual
 
--- to 8,191 the branch itself, and else the opposite branch over a jump
-abbrev pub labelled : Operation → List Operand → Bool → ℕ → List Instruction
-labelled operation os when offset =
-    if nat_lt offset 8192 then branching operation os when offset ∷ []
+-- below a limit the branch itself, and else the opposite branch over a jump
+abbrev pub labelled_below : ℕ → Operation → List Operand → Bool → ℕ → List Instruction
+labelled_below limit operation os when offset =
+    if nat_lt offset limit then branching operation os when offset ∷ []
     else branching operation os (not when) 5 ∷ plain Jump (Large (offset % 65536) ∷ []) ∷ []
 
+-- a branch ahead reaches to 8,191
+abbrev pub ahead_limit : ℕ
+ahead_limit = 8192
+
+-- the offset of a branch back has 14 bits; where a jump goes back instead, it is 65,536 more than the jump's
+abbrev pub back_limit : ℕ
+back_limit = 16384
+
+abbrev pub labelled : Operation → List Operand → Bool → ℕ → List Instruction
+labelled operation os when offset = labelled_below ahead_limit operation os when offset
+
+abbrev pub ordered_below : ℕ → Test → List items.Operand → Bool → ℕ → List Instruction
+ordered_below limit test os when offset =
+    takes os ++ labelled_below limit (test_operation test) (operands os) when offset
+
 abbrev pub ordered_code : Test → List items.Operand → Bool → ℕ → List Instruction
-ordered_code test os when offset = takes os ++ labelled (test_operation test) (operands os) when offset
+ordered_code test os when offset = ordered_below ahead_limit test os when offset
 
 -- the test of two operands that stand the other way round
 abbrev pub turned : Test → Test
@@ -204,10 +219,13 @@ are_both_pushed (items.pushed ∷ items.pushed ∷ []) = true
 are_both_pushed os = false
 
 -- of two pushed words the right one is on the top: they are taken as they stand, by the turned test
+abbrev pub tested_below : ℕ → Test → List items.Operand → Bool → ℕ → List Instruction
+tested_below limit test os when offset =
+    if are_both_pushed os then labelled_below limit (test_operation (turned test)) (top ∷ top ∷ []) when offset
+    else ordered_below limit test os when offset
+
 abbrev pub tested_code : Test → List items.Operand → Bool → ℕ → List Instruction
-tested_code test os when offset =
-    if are_both_pushed os then labelled (test_operation (turned test)) (top ∷ top ∷ []) when offset
-    else ordered_code test os when offset
+tested_code test os when offset = tested_below ahead_limit test os when offset
 
 -- the test that a word equals one of none is never so
 abbrev pub asks_none : Test → List items.Operand → Bool
@@ -218,10 +236,13 @@ asks_none test os = false
 abbrev pub least_word : ℕ
 least_word = 32768
 
+abbrev pub branch_below : ℕ → Test → List items.Operand → Bool → ℕ → List Instruction
+branch_below limit test os when offset =
+    if asks_none test os then tested_below limit items.less (os ++ items.number least_word ∷ []) when offset
+    else tested_below limit test os when offset
+
 abbrev pub branch_code : Test → List items.Operand → Bool → ℕ → List Instruction
-branch_code test os when offset =
-    if asks_none test os then tested_code items.less (os ++ items.number least_word ∷ []) when offset
-    else tested_code test os when offset
+branch_code test os when offset = branch_below ahead_limit test os when offset
 
 -- `switch`
 

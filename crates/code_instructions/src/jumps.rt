@@ -31,6 +31,10 @@ const LEAST_WORD: u16 = 0x8000;
 /// The branch by a label that leads over the opposite branch and a jump.
 const OVER_JUMP: u16 = 5;
 
+/// The offset of a branch back is below this: it has 14 bits (Z-Machine Standards Document 1.1,
+/// section 4.7).
+const BACK_LIMIT: usize = 16384;
+
 /// The offset of a jump that leads from the address after it to another.
 pub fn jump_offset(after: usize, target: usize) -> u16
     ensures { result ≡ basic.jump_offset after target }
@@ -48,19 +52,21 @@ pub fn put_jump(bytes: &mut Vec<u8>, offset: u16) -> Result<(), AllocError>
     )
 }
 
-/// A branch by an offset of two bytes, or the opposite branch over a jump where it does not reach.
+/// A branch by an offset below a limit, or the opposite branch over a jump for any other.
 #[tactic(auto, using(code_encoding::proofs::Chains::one_there, code_encoding::proofs::Chains::two_there))]
-pub fn put_labelled(
+fn put_labelled_below(
     bytes: &mut Vec<u8>,
+    limit: usize,
     operation: Operation,
     operands: &[Operand],
     when: bool,
     offset: usize,
 ) -> Result<(), AllocError>
+    requires { limit ≤ spec.back_limit }
     ensures { OnOk result (AddsCode bytes.old bytes.new
-        (labelled operation operands.now when offset)) }
+        (spec.labelled_below limit operation operands.now when offset)) }
 {
-    if offset < TWO_BYTE_LIMIT {
+    if offset < limit {
         let branch = Branch {
             when,
             offset: offset as u16,
@@ -75,6 +81,21 @@ pub fn put_labelled(
         put_jump(bytes, (offset % 65536) as u16)?;
     }
     Ok(())
+}
+
+/// A branch ahead by an offset of two bytes, or the opposite branch over a jump where it does not
+/// reach.
+pub fn put_labelled(
+    bytes: &mut Vec<u8>,
+    operation: Operation,
+    operands: &[Operand],
+    when: bool,
+    offset: usize,
+) -> Result<(), AllocError>
+    ensures { OnOk result (AddsCode bytes.old bytes.new
+        (labelled operation operands.now when offset)) }
+{
+    put_labelled_below(bytes, TWO_BYTE_LIMIT, operation, operands, when, offset)
 }
 
 /// The instruction of a test.
@@ -125,72 +146,80 @@ fn are_both_pushed(operands: &[code_drafts::Operand]) -> bool
 /// A branch by a label, with one operand.
 fn put_labelled_one(
     bytes: &mut Vec<u8>,
+    limit: usize,
     operation: Operation,
     operand: code_drafts::Operand,
     when: bool,
     offset: usize,
 ) -> Result<(), AllocError>
+    requires { limit ≤ spec.back_limit }
     ensures { OnOk result (AddsCode bytes.old bytes.new
-        (labelled operation (basic.operands (as_operand operand ∷ [])) when offset)) }
+        (spec.labelled_below limit operation (basic.operands (as_operand operand ∷ [])) when offset)) }
 {
-    put_labelled(bytes, operation, &[in_place(operand)], when, offset)?;
+    put_labelled_below(bytes, limit, operation, &[in_place(operand)], when, offset)?;
     Ok(())
 }
 
 /// A branch by a label, with two operands. If both are pushed, the second was taken before.
 fn put_labelled_two(
     bytes: &mut Vec<u8>,
+    limit: usize,
     operation: Operation,
     left: code_drafts::Operand,
     right: code_drafts::Operand,
     when: bool,
     offset: usize,
 ) -> Result<(), AllocError>
+    requires { limit ≤ spec.back_limit }
     ensures { OnOk result (AddsCode bytes.old bytes.new
-        (labelled operation (basic.operands (as_operand left ∷ as_operand right ∷ [])) when
+        (spec.labelled_below limit operation (basic.operands (as_operand left ∷ as_operand right ∷ [])) when
         offset)) }
 {
     let operands = [in_place(left), named_second(left, right)];
-    put_labelled(bytes, operation, &operands, when, offset)?;
+    put_labelled_below(bytes, limit, operation, &operands, when, offset)?;
     Ok(())
 }
 
 /// A branch by a label. Of the operands that are pushed, all but the first were taken before.
 fn put_labelled_any(
     bytes: &mut Vec<u8>,
+    limit: usize,
     alloc: Global,
     operation: Operation,
     operands: &[code_drafts::Operand],
     when: bool,
     offset: usize,
 ) -> Result<(), AllocError>
-    requires { length operands.now ≤ most_arguments }
+    requires few { length operands.now ≤ most_arguments }
+    requires within { limit ≤ spec.back_limit }
     ensures { OnOk result (AddsCode bytes.old bytes.new
-        (labelled operation (basic.operands (as_operands operands.now)) when offset)) }
+        (spec.labelled_below limit operation (basic.operands (as_operands operands.now)) when offset)) }
 {
     let mut named = Vec::new(alloc);
     put_named(&mut named, operands)?;
-    put_labelled(bytes, operation, &named, when, offset)?;
+    put_labelled_below(bytes, limit, operation, &named, when, offset)?;
     Ok(())
 }
 
 /// The same. Most branches have one operand or two, for which no memory is asked for.
 fn put_labelled_named(
     bytes: &mut Vec<u8>,
+    limit: usize,
     alloc: Global,
     operation: Operation,
     operands: &[code_drafts::Operand],
     when: bool,
     offset: usize,
 ) -> Result<(), AllocError>
-    requires { length operands.now ≤ most_arguments }
+    requires few { length operands.now ≤ most_arguments }
+    requires within { limit ≤ spec.back_limit }
     ensures { OnOk result (AddsCode bytes.old bytes.new
-        (labelled operation (basic.operands (as_operands operands.now)) when offset)) }
+        (spec.labelled_below limit operation (basic.operands (as_operands operands.now)) when offset)) }
 {
     match operands {
-        [operand] => put_labelled_one(bytes, operation, *operand, when, offset)?,
-        [left, right] => put_labelled_two(bytes, operation, *left, *right, when, offset)?,
-        _ => put_labelled_any(bytes, alloc, operation, operands, when, offset)?,
+        [operand] => put_labelled_one(bytes, limit, operation, *operand, when, offset)?,
+        [left, right] => put_labelled_two(bytes, limit, operation, *left, *right, when, offset)?,
+        _ => put_labelled_any(bytes, limit, alloc, operation, operands, when, offset)?,
     }
     Ok(())
 }
@@ -198,18 +227,20 @@ fn put_labelled_named(
 /// A branch by a test of its operands, of which all but the first are taken from the stack before.
 fn put_ordered(
     bytes: &mut Vec<u8>,
+    limit: usize,
     alloc: Global,
     test: Test,
     operands: &[code_drafts::Operand],
     when: bool,
     offset: usize,
 ) -> Result<(), AllocError>
-    requires { length operands.now ≤ most_arguments }
+    requires few { length operands.now ≤ most_arguments }
+    requires within { limit ≤ spec.back_limit }
     ensures { OnOk result (AddsCode bytes.old bytes.new
-        (ordered_code (as_test test) (as_operands operands.now) when offset)) }
+        (spec.ordered_below limit (as_test test) (as_operands operands.now) when offset)) }
 {
     put_takes(bytes, operands)?;
-    put_labelled_named(bytes, alloc, operation_of(test), operands, when, offset)?;
+    put_labelled_named(bytes, limit, alloc, operation_of(test), operands, when, offset)?;
     Ok(())
 }
 
@@ -217,21 +248,23 @@ fn put_ordered(
 /// taken as they stand, by the turned test.
 fn put_tested(
     bytes: &mut Vec<u8>,
+    limit: usize,
     alloc: Global,
     test: Test,
     operands: &[code_drafts::Operand],
     when: bool,
     offset: usize,
 ) -> Result<(), AllocError>
-    requires { length operands.now ≤ most_arguments }
+    requires few { length operands.now ≤ most_arguments }
+    requires within { limit ≤ spec.back_limit }
     ensures { OnOk result (AddsCode bytes.old bytes.new
-        (tested_code (as_test test) (as_operands operands.now) when offset)) }
+        (spec.tested_below limit (as_test test) (as_operands operands.now) when offset)) }
 {
     if are_both_pushed(operands) {
         let top = in_place(code_drafts::Operand::Pushed);
-        put_labelled(bytes, operation_of(turned(test)), &[top, top], when, offset)
+        put_labelled_below(bytes, limit, operation_of(turned(test)), &[top, top], when, offset)
     } else {
-        put_ordered(bytes, alloc, test, operands, when, offset)
+        put_ordered(bytes, limit, alloc, test, operands, when, offset)
     }
 }
 
@@ -239,23 +272,47 @@ fn put_tested(
 /// least one.
 fn put_never(
     bytes: &mut Vec<u8>,
+    limit: usize,
     alloc: Global,
     operands: &[code_drafts::Operand],
     when: bool,
     offset: usize,
 ) -> Result<(), AllocError>
-    requires { length operands.now ≤ basic.most_tested }
+    requires few { length operands.now ≤ basic.most_tested }
+    requires within { limit ≤ spec.back_limit }
     ensures { OnOk result (AddsCode bytes.old bytes.new
-        (tested_code source_items.less (as_operands operands.now
+        (spec.tested_below limit source_items.less (as_operands operands.now
         ++ source_items.number spec.least_word ∷ []) when offset)) }
 {
     let mut asked = Vec::from_slice(alloc, operands)?;
     asked.push(code_drafts::Operand::Number(LEAST_WORD))?;
-    put_tested(bytes, alloc, Test::Less, &asked, when, offset)?;
+    put_tested(bytes, limit, alloc, Test::Less, &asked, when, offset)?;
     Ok(())
 }
 
-/// A branch by a test of at most four operands.
+/// A branch by a test of at most four operands, by an offset below a limit.
+fn put_branch_below(
+    bytes: &mut Vec<u8>,
+    alloc: Global,
+    limit: usize,
+    test: Test,
+    operands: &[code_drafts::Operand],
+    when: bool,
+    offset: usize,
+) -> Result<(), AllocError>
+    requires { limit ≤ spec.back_limit }
+    ensures { OnOk result (AddsCode bytes.old bytes.new (spec.branch_below limit (as_test test)
+        (take basic.most_tested (as_operands operands.now)) when offset)) }
+{
+    let operands = &operands[..operands.len().min(MOST_TESTED)];
+    if asks_none(test, operands) {
+        put_never(bytes, limit, alloc, operands, when, offset)
+    } else {
+        put_tested(bytes, limit, alloc, test, operands, when, offset)
+    }
+}
+
+/// A branch ahead by a test of at most four operands.
 pub fn put_branch(
     bytes: &mut Vec<u8>,
     alloc: Global,
@@ -267,12 +324,23 @@ pub fn put_branch(
     ensures { OnOk result (AddsCode bytes.old bytes.new (branch_code (as_test test)
         (take basic.most_tested (as_operands operands.now)) when offset)) }
 {
-    let operands = &operands[..operands.len().min(MOST_TESTED)];
-    if asks_none(test, operands) {
-        put_never(bytes, alloc, operands, when, offset)
-    } else {
-        put_tested(bytes, alloc, test, operands, when, offset)
-    }
+    put_branch_below(bytes, alloc, TWO_BYTE_LIMIT, test, operands, when, offset)
+}
+
+/// A branch back by a test of at most four operands, by an offset as it is in two bytes, or the
+/// opposite branch over a jump by an offset of 65,536 less.
+pub fn put_branch_back(
+    bytes: &mut Vec<u8>,
+    alloc: Global,
+    test: Test,
+    operands: &[code_drafts::Operand],
+    when: bool,
+    offset: usize,
+) -> Result<(), AllocError>
+    ensures { OnOk result (AddsCode bytes.old bytes.new (spec.branch_below spec.back_limit
+        (as_test test) (take basic.most_tested (as_operands operands.now)) when offset)) }
+{
+    put_branch_below(bytes, alloc, BACK_LIMIT, test, operands, when, offset)
 }
 
 /// The word of a `switch` and the numbers that a test of its cases compares it with.

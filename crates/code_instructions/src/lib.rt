@@ -10,7 +10,7 @@ mod tested;
 mod words;
 
 pub use calls::{put_call, put_call_aside, put_return};
-pub use jumps::{put_branch, put_case, put_jump, put_labelled};
+pub use jumps::{put_branch, put_branch_back, put_case, put_jump, put_labelled};
 pub use operators::{put_also_equal, put_binary, put_first_equal, put_prefix, put_with_aside};
 pub use places::{label_size, offset_of, place, target_of};
 pub use printing::{put_character, put_text};

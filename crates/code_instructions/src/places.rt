@@ -9,7 +9,17 @@ ghost use Rattle.code_instructions.specs.Places as spec;
 use crate::jumps::jump_offset;
 use code_drafts::Item;
 
-/// The item to which one branches.
+/// The fewest bytes that a branch back leads over: its own.
+const LEAST_BACK: usize = 3;
+
+/// The offset of a branch back over so many, in 14 bits (Z-Machine Standards Document 1.1, section
+/// 4.7.2): 2 less than 0 and the bytes.
+const LAST_BACK: usize = 16_383;
+
+/// What is added to the offset of a jump where that goes back for a branch.
+const JUMP_BACK: usize = 65_536;
+
+/// The item to which one branches ahead.
 pub fn target_of(item: &Item<'_>) -> Option<usize>
     ensures { result ≡ spec.target_of (item_of item.now) }
 {
@@ -55,11 +65,23 @@ pub fn place(left: &[usize], number: usize) -> usize
     left_from(left, 0).saturating_sub(left_from(left, number))
 }
 
-/// The offset of the branch or the jump of the item of a number.
-pub fn offset_of(left: &[usize], number: usize, item: &Item<'_>) -> usize
+/// The offset of a branch back from the address after it to another: as two bytes of branch data
+/// hold it, if branches back are near, and else 65,536 more than that of a jump.
+fn back_offset(near: bool, after: usize, target: usize) -> usize
+    ensures { result ≡ spec.back_offset near after target }
+{
+    if near {
+        LAST_BACK.saturating_sub(after.saturating_sub(target).saturating_sub(LEAST_BACK))
+    } else {
+        jump_offset(after, target) as usize + JUMP_BACK
+    }
+}
+
+/// The offset of the branch or the jump of the item of a number; whether branches back are near.
+pub fn offset_of(near: bool, left: &[usize], number: usize, item: &Item<'_>) -> usize
     requires few { number < length left.now }
     requires small { first (reverse left.now) < bytes_limit }
-    ensures { result ≡ spec.offset_of (place_in (reverse left.now)) number (item_of item.now) }
+    ensures { result ≡ spec.offset_of near (place_in (reverse left.now)) number (item_of item.now) }
 {
     match item {
         Item::Branch(_, _, _, target)
@@ -74,6 +96,9 @@ pub fn offset_of(left: &[usize], number: usize, item: &Item<'_>) -> usize
         | Item::Jump(target)
         | Item::Back(target) => {
             jump_offset(place(left, number + 1), place(left, *target)) as usize
+        }
+        Item::BranchBack(_, _, _, target) => {
+            back_offset(near, place(left, number + 1), place(left, *target))
         }
         _ => 0,
     }

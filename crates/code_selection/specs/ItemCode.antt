@@ -18,7 +18,7 @@ use Rattle.code_encoding.specs.Instructions.{aside_variable, result_in}
 use Rattle.meaning.specs.Limits.{most_arguments}
 use Rattle.code_instructions.specs.Instructions.{move_code, prefix_code, binary_code, step_code, first_equal_code}
 use Rattle.code_instructions.specs.Instructions.{also_equal_code, tested_between, character_code, branch_code}
-use Rattle.code_instructions.specs.Instructions.{aside_code, case_code, call_code, with_last_aside}
+use Rattle.code_instructions.specs.Instructions.{aside_code, case_code, call_code, with_last_aside, branch_below, back_limit}
 use Rattle.code_instructions.specs.Instructions.{return_code}
 use Rattle.code_objects.specs.ObjectCode.{at_tested, assigned_takes, assigned_word, passed_on, relative_code}
 use Rattle.code_objects.specs.ObjectCode.{is_in_code, has_code, give_code, remove_code, print_name_code}
@@ -166,6 +166,8 @@ item_code sizes a offset (items.next_object x target) = next_object_code (object
 item_code sizes a offset (items.case test ns when target) = case_code test ns when offset
 item_code sizes a offset (items.jump target) = jump_by offset ∷ []
 item_code sizes a offset (items.back target) = jump_by offset ∷ []
+item_code sizes a offset (items.branch_back test os when target) =
+    branch_below back_limit test (take most_tested os) when offset
 item_code sizes a offset (items.call r os d) = call_code (slice_index a.routines r) (take most_arguments os) d
 item_code sizes a offset (items.call_aside r os d) =
     call_code (slice_index a.routines r) (take most_arguments (with_last_aside os)) d

@@ -44,6 +44,7 @@ kind_of (items.branch test os when target) = Flow
 kind_of (items.case test ns when target) = Flow
 kind_of (items.jump target) = Flow
 kind_of (items.back target) = Flow
+kind_of (items.branch_back test os when target) = Flow
 kind_of (items.call r os d) = Flow
 kind_of (items.call_aside r os d) = Flow
 kind_of (items.return o) = Flow

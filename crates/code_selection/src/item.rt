@@ -20,7 +20,7 @@ use crate::lines::put_read;
 use code_drafts::Item;
 use code_encoding::{Addresses, Operands, Sizes, in_place, plain, pull, put_all, routine_address};
 use code_instructions::{
-    put_also_equal, put_binary, put_branch, put_call, put_call_aside, put_case, put_character,
+    put_also_equal, put_binary, put_branch, put_branch_back, put_call, put_call_aside, put_case, put_character,
     put_first_equal, put_jump, put_keep, put_move, put_prefix, put_return, put_step, put_text,
     put_with_aside,
 };
@@ -288,6 +288,9 @@ fn put_flow(
             put_case(bytes, alloc, *test, numbers, *when, offset)?
         }
         Item::Jump(_) | Item::Back(_) => put_jump(bytes, (offset % 65536) as u16)?,
+        Item::BranchBack(test, operands, when, _) => {
+            put_branch_back(bytes, alloc, *test, operands, *when, offset)?
+        }
         Item::Call(routine, operands, destination) => {
             let address = routine_address(addresses, *routine);
             put_call(bytes, alloc, address, operands, *destination)?
