@@ -21,7 +21,7 @@ use Rattle.code_instructions.specs.Places.{offset_of}
 use Rattle.code_selection.specs.ItemCode.{item_code}
 use Rattle.code_selection.specs.ItemBytes.{text_bytes, item_bytes}
 use Rattle.code.proofs.Behind.{Holds}
-use Rattle.code.specs.Bytes.{place_of}
+use Rattle.code.specs.Bytes.{place_of, is_near}
 use Rattle.code.specs.HeldProgram.{sizes_of, HoldsProgram}
 use Rattle.code.proofs.Play.{Leads, Stored, items_in, address, frames_of, back_of, result_of, state_of, next_of, Good}
 use Rattle.code.proofs.Play.{Led, HoldsAside, none_aside}
@@ -90,7 +90,9 @@ module _ (c : Running) where
 
   -- the bytes of an item that stands here
   abbrev pub offset_here : Item → ℕ
-  offset_here i = offset_of (place_of (sizes_of p) (items_in story a p routine)) place i
+  offset_here i =
+      offset_of (is_near (sizes_of p) (items_in story a p routine)) (place_of (sizes_of p) (items_in story a p routine))
+      place i
 
   abbrev pub bytes_here : Item → List ℕ
   bytes_here i = item_bytes (sizes_of p) a (offset_here i) i

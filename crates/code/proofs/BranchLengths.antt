@@ -45,7 +45,7 @@ branching_length op os when offset =
     (branch_bytes (Some (record { when = when; offset = offset })))
     ∙ ap (λ k. beside op os + k) (label_bytes (nat_lt offset 64) _ _ _)
 
-jump_length : (offset : ℕ) → length (bytes_of_all (plain operations.Jump (Large offset ∷ []) ∷ [])) ≡ 3
+pub jump_length : (offset : ℕ) → length (bytes_of_all (plain operations.Jump (Large offset ∷ []) ∷ [])) ≡ 3
 unfolding bytes_of
 jump_length offset = refl
 

@@ -17,7 +17,7 @@ use Rattle.code_drafts.specs.Items as items
 use Rattle.code_items.specs.Laws.{IsTestedValue}
 use Rattle.code_items.specs.Stack as stack
 use Rattle.code_encoding.specs.Instructions.{operands, takes, top, most_tested}
-use Rattle.code_instructions.specs.Instructions.{labelled, test_operation, ordered_code, turned, are_both_pushed}
+use Rattle.code_instructions.specs.Instructions.{ahead_limit, labelled, test_operation, ordered_code, turned, are_both_pushed}
 use Rattle.code_instructions.specs.Instructions.{tested_code, branch_code}
 use Rattle.code_selection.specs.ItemBytes.{text_bytes}
 use Rattle.code.specs.Bytes.{place_of}
@@ -133,7 +133,7 @@ module _ (c : Running) where
       d = over target
 
       fit : All FitsOperand os
-      fit = labelled_fit op os when (2 + d)
+      fit = labelled_fit ahead_limit op os when (2 + d)
           (held_bytes _ q story m (flat_map bytes_of (labelled op os when (2 + d))) holds.byte_each (kept c)
           (omega (arith, high c, from)) held)
 
@@ -177,7 +177,7 @@ module _ (c : Running) where
           (held_in c memory (flat_map bytes_of (labelled op os when (2 + d))) q scratch from held))
 
   -- the place behind the instructions of the item
-  item_ends : (item : Item) (is : List Instruction) → ArrivesAt c item → text_bytes p.abbreviations item ≡ []
+  pub item_ends : (item : Item) (is : List Instruction) → ArrivesAt c item → text_bytes p.abbreviations item ≡ []
       → code_here c item ≡ is → next_place c ≡ here c + length (flat_map bytes_of is)
   item_ends item is stands none code =
       omega (arith, stands.next, plain_length c item none, ap (λ is. length (flat_map bytes_of is)) code)
@@ -266,7 +266,7 @@ module _ (c : Running) where
       let item = items.branch test os when target in
       let code : code_here c item ≡ tested_code k.test1 k.os1 when (2 + over target) =
       ap (λ os. branch_code test os when (2 + over target)) (take_all most_tested os few)
-      ∙ k.code when (2 + over target) in
+      ∙ k.code ahead_limit when (2 + over target) in
       subst (λ b. LedFrom c words (stack.branch (agrees b when) target rest (at_aside c aside words))) k.holds
       (branches_led item k.test1 k.os1 when target aside words k.vs1 rest k.all k.counted room stands refl code
       k.gives))

@@ -15,7 +15,7 @@ use Rattle.code_drafts.specs.Items as items
 use Rattle.code_items.specs.Laws.{IsTestedValue}
 use Rattle.code_items.specs.Stack as stack
 use Rattle.code_encoding.specs.Instructions.{constant, aside_variable}
-use Rattle.code_instructions.specs.Instructions.{most_compared, labelled, test_operation}
+use Rattle.code_instructions.specs.Instructions.{ahead_limit, most_compared, labelled, test_operation}
 use Rattle.code.specs.HeldProgram.{sizes_of}
 use Rattle.code.proofs.Behind.{Holds}
 use Rattle.code.proofs.Play.{Leads, HoldsAside}
@@ -87,7 +87,7 @@ module _ (c : Running) where
       held = subst (λ is. Holds m (here c) (flat_map bytes_of is)) code (code_held c item stands)
 
       fit : All FitsOperand os
-      fit = labelled_fit op os when (2 + d)
+      fit = labelled_fit ahead_limit op os when (2 + d)
           (held_bytes _ (here c) story m (flat_map bytes_of (labelled op os when (2 + d))) holds.byte_each (kept c)
           (high c) held)
 

@@ -99,6 +99,17 @@ decides_keeps f when target words s h =
     keeps_from s.situation.world t.world _ g
     (branch_keeps (items.agrees so when) target words (record s { situation = t })))
 
+branch_back_keeps : (so : Bool) (target : ℕ) (words : List ℕ) (s : stack.ItemState)
+    → Keeps s.situation.world (stack.branch_back so target words s)
+branch_back_keeps so target words s = go (nat_le target s.place) so
+  where
+    go : (b so : Bool) → Keeps s.situation.world (if b then (if so
+        then stack.go_back target (record s { stack = words }) else stack.goes (stack.after s words s.situation))
+        else stack.stuck)
+    go false so = tt
+    go true false = same s.situation.world
+    go true true = back_keeps target (record s { stack = words })
+
 pub act_keeps : (p : ProgramOf) (full : ℕ) (i : Item) (s : stack.ItemState)
     → KeepsBy (is_read i) s.situation.world (stack.act p full (Some i) s)
 act_keeps p full (items.move o d) s = operand_keeps s.situation.world o s.situation s.stack _
@@ -214,6 +225,9 @@ act_keeps p full (items.next_object x target) s =
 act_keeps p full (items.case test ns when target) s = case_keeps s.put_aside test ns when target s
 act_keeps p full (items.jump target) s = forward_keeps target s
 act_keeps p full (items.back target) s = back_keeps target s
+act_keeps p full (items.branch_back test os when target) s =
+    operands_keep s.situation.world os s.situation s.stack _
+    (λ vs rest. branch_back_keeps (items.agrees (stack.holds test vs) when) target rest s)
 act_keeps p full (items.call r os d) s = operands_keep s.situation.world os s.situation s.stack _
     (λ vs rest. enter_keeps p r vs (stack.caller d rest s ∷ s.callers) s.situation)
 act_keeps p full (items.call_aside r os d) s =

@@ -26,7 +26,7 @@ use Rattle.code_items.specs.Stack as stack
 use Rattle.code_object_memory.specs.Region.{tables_base}
 use Rattle.code_object_memory.specs.Tables.{words_place}
 use Rattle.code_object_memory.proofs.Together.{region_laws}
-use Rattle.code_instructions.specs.Instructions.{labelled}
+use Rattle.code_instructions.specs.Instructions.{ahead_limit, labelled}
 use Rattle.code_objects.specs.ObjectCode.{assigned_word, at_label, property_address}
 use Rattle.code.specs.HeldProgram.{sizes_of}
 use Rattle.code.proofs.Play.{Leads, none_aside}
@@ -80,7 +80,7 @@ module _ (c : Running) where
       d = over c target
 
       fit : All FitsOperand os
-      fit = labelled_fit op os when (2 + d)
+      fit = labelled_fit ahead_limit op os when (2 + d)
           (held_bytes _ r.q story m (flat_map bytes_of (labelled op os when (2 + d))) holds.byte_each (kept c)
           (omega (arith, high c, r.from)) r.held)
 

@@ -22,7 +22,7 @@ use Rattle.code.proofs.Parts.{Around, machine as at_words}
 use Rattle.code.proofs.Steps.{point, leads_then, one_step, first_held, others_held, landing}
 use Rattle.code.proofs.SingleSteps.{branch_here_step, jump_step}
 
-jump_length : (offset : ℕ) → length (bytes_of (plain operations.Jump (Large offset ∷ []))) ≡ 3
+pub jump_length : (offset : ℕ) → length (bytes_of (plain operations.Jump (Large offset ∷ []))) ≡ 3
 unfolding bytes_of
 jump_length offset = refl
 

@@ -1,5 +1,5 @@
 -- How long the bytes of an item are: it depends on no address, and of its branch on the form alone.
-use Rattle.std.proofs.Common.{◌≡◌, ℕ, ◌+◌, ◌-◌, ◌%◌, ◌≤◌, List, [], ◌∷◌, ◌++◌, length, Option, Some, Bool, refl, ap}
+use Rattle.std.proofs.Common.{◌≡◌, ℕ, ◌+◌, ◌-◌, ◌%◌, ◌≤◌, List, [], ◌∷◌, ◌++◌, length, Option, Some, Bool, true, refl, ap}
 use Rattle.std.proofs.Common.{◌∙◌, arith, length-append, append-nil}
 use Rattle.std.specs.Prelude.{not, take}
 use Rattle.zcore.specs.declared.instruction.Operand.{Operand}
@@ -18,18 +18,20 @@ use Rattle.code_selection.specs.ItemCode.{item_code}
 use Rattle.code_objects.specs.ObjectCode.{tests_in, objects_of, property_address, assigned_takes, assigned_word}
 use Rattle.code_selection.specs.ItemBytes.{item_bytes, text_bytes}
 use Rattle.code_instructions.specs.Places.{label_size, target_of}
-use Rattle.code.specs.Bytes.{no_addresses, least_size, part_of}
+use Rattle.code.specs.Bytes.{no_addresses, least_size, part_of, is_back}
+use Rattle.code.proofs.BackForms.{BackForm}
+use Rattle.code.proofs.BackLengths.{back_length}
 use Rattle.code.proofs.AddressLengths.{all_length}
 use Rattle.code.proofs.BranchLengths.{beside, branch_length, branch_some, case_length, case_some, label_length}
 use Rattle.code.proofs.BranchLengths.{label_some}
 use Rattle.code.proofs.PlainLengths.{same_length}
 
 -- of a program of these sizes
-module _ (sizes : Sizes) where
+module _ (sizes : Sizes) (near : Bool) where
   branch_size : (a : Addresses) (n : ℕ) (rest : List ℕ) (test : Test) (os : List items.Operand) (when : Bool)
       (target : ℕ)
       → length (item_bytes sizes a (offset_over (target - (n + 1)) rest) (items.branch test os when target))
-      ≡ part_size n (part_of sizes (items.branch test os when target)) rest
+      ≡ part_size n (part_of sizes near (items.branch test os when target)) rest
   branch_size a n rest test os when target =
       let given = take most_tested os in
       let offset = offset_over (target - (n + 1)) rest in
@@ -43,7 +45,7 @@ module _ (sizes : Sizes) where
 
   case_size : (a : Addresses) (n : ℕ) (rest : List ℕ) (test : Test) (ns : List ℕ) (when : Bool) (target : ℕ)
       → length (item_bytes sizes a (offset_over (target - (n + 1)) rest) (items.case test ns when target))
-      ≡ part_size n (part_of sizes (items.case test ns when target)) rest
+      ≡ part_size n (part_of sizes near (items.case test ns when target)) rest
   case_size a n rest test ns when target =
       let offset = offset_over (target - (n + 1)) rest in
       omega (
@@ -60,7 +62,7 @@ module _ (sizes : Sizes) where
       → ((offset : ℕ) → length (bytes_of_all (item_code sizes a offset i)) + 1
       ≡ length (bytes_of_all (item_code sizes no_addresses 2 i)) + size_with (form_for offset))
       → 1 ≤ length (bytes_of_all (item_code sizes no_addresses 2 i))
-      → length (item_bytes sizes a (offset_over (target - (n + 1)) rest) i) ≡ part_size n (part_of sizes i) rest
+      → length (item_bytes sizes a (offset_over (target - (n + 1)) rest) i) ≡ part_size n (part_of sizes near i) rest
   labelled_size a n rest i target t text long some =
       let offset = offset_over (target - (n + 1)) rest in
       let least : least_size sizes i ≡ length (bytes_of_all (item_code sizes no_addresses 2 i)) =
@@ -69,13 +71,13 @@ module _ (sizes : Sizes) where
       let whole : length (item_bytes sizes a offset i) ≡ length (bytes_of_all (item_code sizes a offset i)) =
       ap (λ xs. length (bytes_of_all (item_code sizes a offset i) ++ xs)) text
       ∙ ap length (append-nil (bytes_of_all (item_code sizes a offset i))) in
-      let beside : part_size n (part_of sizes i) rest ≡ least_size sizes i - 1 + size_with (form_for offset) =
+      let beside : part_size n (part_of sizes near i) rest ≡ least_size sizes i - 1 + size_with (form_for offset) =
       ap (λ (x : Option ℕ). part_size n (record { size = least_size sizes i - label_size x; target = x }) rest) t in
       omega (arith, long offset, some, least, whole, beside)
 
   is_in_size : (a : Addresses) (n : ℕ) (rest : List ℕ) (o q : items.Operand) (when : Bool) (target : ℕ)
       → length (item_bytes sizes a (offset_over (target - (n + 1)) rest) (items.is_in o q when target))
-      ≡ part_size n (part_of sizes (items.is_in o q when target)) rest
+      ≡ part_size n (part_of sizes near (items.is_in o q when target)) rest
   is_in_size a n rest o q when target =
       labelled_size a n rest (items.is_in o q when target) target refl refl
       (λ offset. omega (
@@ -100,7 +102,7 @@ module _ (sizes : Sizes) where
 
   has_size : (a : Addresses) (n : ℕ) (rest : List ℕ) (o : items.Operand) (k : ℕ) (when : Bool) (target : ℕ)
       → length (item_bytes sizes a (offset_over (target - (n + 1)) rest) (items.has o k when target))
-      ≡ part_size n (part_of sizes (items.has o k when target)) rest
+      ≡ part_size n (part_of sizes near (items.has o k when target)) rest
   has_size a n rest o k when target =
       let words = word_in 0 o ∷ Small (k % 256) ∷ [] in
       labelled_size a n rest (items.has o k when target) target refl refl
@@ -109,7 +111,7 @@ module _ (sizes : Sizes) where
 
   provides_size : (a : Addresses) (n : ℕ) (rest : List ℕ) (o : items.Operand) (k : ℕ) (when : Bool) (target : ℕ)
       → length (item_bytes sizes a (offset_over (target - (n + 1)) rest) (items.provides o k when target))
-      ≡ part_size n (part_of sizes (items.provides o k when target)) rest
+      ≡ part_size n (part_of sizes near (items.provides o k when target)) rest
   provides_size a n rest o k when target =
       let before = property_address (word_in 0 o) (k % 256) (temporary 0) ∷ [] in
       let words = Variable (temporary 0) ∷ [] in
@@ -120,20 +122,23 @@ module _ (sizes : Sizes) where
   -- the bytes of an item are those of its part
   pub item_length : (a : Addresses) (n : ℕ) (rest : List ℕ) (offset : ℕ) (i : Item)
       → ((target : ℕ) → target_of i ≡ Some target → offset ≡ offset_over (target - (n + 1)) rest)
-      → length (item_bytes sizes a offset i) ≡ part_size n (part_of sizes i) rest
-  item_length a n rest offset (items.branch test os when target) is =
+      → (is_back i ≡ true → BackForm near offset)
+      → length (item_bytes sizes a offset i) ≡ part_size n (part_of sizes near i) rest
+  item_length a n rest offset (items.branch test os when target) is form =
       ap (λ (k : ℕ). length (item_bytes sizes a k (items.branch test os when target))) (is target refl)
       ∙ branch_size a n rest test os when target
-  item_length a n rest offset (items.case test ns when target) is =
+  item_length a n rest offset (items.case test ns when target) is form =
       ap (λ (k : ℕ). length (item_bytes sizes a k (items.case test ns when target))) (is target refl)
       ∙ case_size a n rest test ns when target
-  item_length a n rest offset (items.is_in o q when target) is =
+  item_length a n rest offset (items.is_in o q when target) is form =
       ap (λ (k : ℕ). length (item_bytes sizes a k (items.is_in o q when target))) (is target refl)
       ∙ is_in_size a n rest o q when target
-  item_length a n rest offset (items.has o k when target) is =
+  item_length a n rest offset (items.has o k when target) is form =
       ap (λ (j : ℕ). length (item_bytes sizes a j (items.has o k when target))) (is target refl)
       ∙ has_size a n rest o k when target
-  item_length a n rest offset (items.provides o q when target) is =
+  item_length a n rest offset (items.provides o q when target) is form =
       ap (λ (k : ℕ). length (item_bytes sizes a k (items.provides o q when target))) (is target refl)
       ∙ provides_size a n rest o q when target
-  item_length a n rest offset i is = omega (arith, same_length sizes a offset i refl)
+  item_length a n rest offset (items.branch_back test os when target) is form =
+      back_length near test (take most_tested os) when offset (form refl)
+  item_length a n rest offset i is form = omega (arith, same_length sizes a offset i refl refl)

@@ -5,9 +5,13 @@ pub mod HeldRoutines
 pub mod Arriving
 pub mod StoringProperties
 pub mod AssigningProperties
+pub mod BackForms
+pub mod BackLengths
 pub mod Behind
 pub mod Bounding
 pub mod Branching
+pub mod BackSteps
+pub mod BranchingBack
 pub mod Calling
 pub mod AsideOperands
 pub mod CallingAside

@@ -1,5 +1,5 @@
 -- Where items stand, and their bytes.
-use Rattle.std.proofs.Common.{◌≡◌, ◌⊎◌, inl, inr, ℕ, zero, suc, ◌+◌, ◌-◌, ◌<◌, ◌≤◌, List, [], ◌∷◌, length, Some, true}
+use Rattle.std.proofs.Common.{◌≡◌, ◌⊎◌, inl, inr, ℕ, zero, suc, ◌+◌, ◌-◌, ◌<◌, ◌≤◌, List, [], ◌∷◌, length, Some, Bool, true}
 use Rattle.std.proofs.Common.{false, refl, sym, ap, ◌∙◌, subst, arith, length-append}
 use Rattle.std.specs.Prelude.{slice_get, slice_index, nat_lt}
 use Rattle.std.proofs.lemmas.Bool.{cases_lt, lt-ltb, le-ltb}
@@ -13,8 +13,10 @@ use Rattle.code_drafts.specs.Items as items
 use Rattle.code_encoding.specs.Addresses.{Addresses, Sizes}
 use Rattle.code_encoding.specs.Instructions.{jump_offset}
 use Rattle.code_selection.specs.ItemBytes.{item_bytes}
-use Rattle.code_instructions.specs.Places.{target_of, offset_of}
-use Rattle.code.specs.Bytes.{part_of, parts_of, lefts_of, code_size, place_of, items_bytes, code_bytes}
+use Rattle.code_instructions.specs.Places.{target_of, offset_of, back_offset}
+use Rattle.code.specs.Bytes.{part_of, parts_with, parts_of, lefts_of, code_size, place_of, items_bytes, code_bytes}
+use Rattle.code.specs.Bytes.{is_near, is_back}
+use Rattle.code.proofs.BackForms.{BackForm, near_small}
 use Rattle.code.proofs.Lengths.{item_length}
 
 -- How many bytes there are on to the end
@@ -73,11 +75,11 @@ at_end k (y ∷ ps) (suc n) h = at_end (k + 1) ps n (omega (arith, h))
 
 -- of a program of these sizes
 module _ (sizes : Sizes) where
-  part_at : (is : List Item) (n : ℕ) (i : Item) → slice_get is n ≡ Some i
-      → slice_get (parts_of sizes is) n ≡ Some (part_of sizes i)
-  part_at [] n i e = absurd (cc)
-  part_at (y ∷ is) zero i e = let same : y ≡ i = cc in ap (λ z. Some (part_of sizes z)) same
-  part_at (y ∷ is) (suc n) i e = part_at is n i e
+  part_at : (near : Bool) (is : List Item) (n : ℕ) (i : Item) → slice_get is n ≡ Some i
+      → slice_get (parts_with sizes near is) n ≡ Some (part_of sizes near i)
+  part_at near [] n i e = absurd (cc)
+  part_at near (y ∷ is) zero i e = let same : y ≡ i = cc in ap (λ z. Some (part_of sizes near z)) same
+  part_at near (y ∷ is) (suc n) i e = part_at near is n i e
 
   -- Places
 
@@ -121,13 +123,14 @@ module _ (sizes : Sizes) where
   -- the next item stands behind an item's bytes
   pub next_place : (a : Addresses) (is : List Item) (n : ℕ) (i : Item) → slice_get is n ≡ Some i
       → place_of sizes is (n + 1)
-      ≡ place_of sizes is n + length (item_bytes sizes a (offset_of (place_of sizes is) n i) i)
+      ≡ place_of sizes is n + length (item_bytes sizes a (offset_of (is_near sizes is) (place_of sizes is) n i) i)
   next_place a is n i e =
-      let s = split 0 (parts_of sizes is) n (part_of sizes i) (part_at is n i e) in
+      let near = is_near sizes is in
+      let s = split 0 (parts_of sizes is) n (part_of sizes near i) (part_at near is n i e) in
       let number : 0 + n ≡ n = omega arith in
-      let same = ap (λ k. part_size k (part_of sizes i) s.rest) number in
-      let size = item_length sizes a n s.rest (offset_of (place_of sizes is) n i) i
-      (λ target t. leads i target t s.rest s.at) in
+      let same = ap (λ k. part_size k (part_of sizes near i) s.rest) number in
+      let size = item_length sizes near a n s.rest (offset_of near (place_of sizes is) n i) i
+      (λ target t. leads i target t s.rest s.at) (λ b. back_fits i b (near_small sizes is n i e b)) in
       let next : n + 1 ≡ suc n = omega arith in
       let behind = ap (slice_index (lefts_of sizes is)) next in
       let low = falls 0 (parts_of sizes is) 0 n (omega arith) in
@@ -135,7 +138,7 @@ module _ (sizes : Sizes) where
     where
       leads : (i : Item) (target : ℕ) → target_of i ≡ Some target → (rest : List ℕ)
           → ((j : ℕ) → slice_index rest j ≡ slice_index (lefts_of sizes is) (suc n + j))
-          → offset_of (place_of sizes is) n i ≡ offset_over (target - (n + 1)) rest
+          → offset_of (is_near sizes is) (place_of sizes is) n i ≡ offset_over (target - (n + 1)) rest
       leads (items.branch test os when t) target e rest at =
           let same : t ≡ target = cc in
           branch_offset is rest n t at ∙ ap (λ (x : ℕ). offset_over (x - (n + 1)) rest) same
@@ -153,10 +156,20 @@ module _ (sizes : Sizes) where
           branch_offset is rest n t at ∙ ap (λ (x : ℕ). offset_over (x - (n + 1)) rest) same
       leads i target e rest at = absurd (cc)
 
+      back_fits : (i : Item) → is_back i ≡ true → (is_near sizes is ≡ true → code_size sizes is ≤ 8190)
+          → BackForm (is_near sizes is) (offset_of (is_near sizes is) (place_of sizes is) n i)
+      back_fits (items.branch_back test os when t) b small = go (is_near sizes is) small
+        where
+          go : (near : Bool) → (near ≡ true → code_size sizes is ≤ 8190)
+              → BackForm near (back_offset near (place_of sizes is (n + 1)) (place_of sizes is t))
+          go true small = let few = small refl in (omega (arith, few, ends_by is (n + 1)), omega arith)
+          go false small = omega arith
+      back_fits i b small = absurd (cc)
+
   -- how many bytes an item has
   pub item_size : (a : Addresses) (is : List Item) (n : ℕ) (i : Item) → slice_get is n ≡ Some i
       → slice_index (lefts_of sizes is) n - slice_index (lefts_of sizes is) (n + 1)
-      ≡ length (item_bytes sizes a (offset_of (place_of sizes is) n i) i)
+      ≡ length (item_bytes sizes a (offset_of (is_near sizes is) (place_of sizes is) n i) i)
   item_size a is n i e =
       let low = falls 0 (parts_of sizes is) 0 n (omega arith) in
       let less = falls 0 (parts_of sizes is) n (n + 1) (omega arith) in
@@ -165,85 +178,85 @@ module _ (sizes : Sizes) where
   -- Bytes
 
   -- where a list of items ends
-  abbrev pub Follow : Addresses → (ℕ → ℕ) → ℕ → List Item → Type 0
-  Follow a places from is = (n : ℕ) (i : Item) → slice_get is n ≡ Some i
-      → places (from + n + 1) ≡ places (from + n) + length (item_bytes sizes a (offset_of places (from + n) i) i)
+  abbrev pub Follow : Bool → Addresses → (ℕ → ℕ) → ℕ → List Item → Type 0
+  Follow near a places from is = (n : ℕ) (i : Item) → slice_get is n ≡ Some i
+      → places (from + n + 1) ≡ places (from + n) + length (item_bytes sizes a (offset_of near places (from + n) i) i)
 
-  one_on : (a : Addresses) (places : ℕ → ℕ) (from : ℕ) (y : Item) (is : List Item) → Follow a places from (y ∷ is)
-      → Follow a places (from + 1) is
-  one_on a places from y is f n i e =
+  one_on : (near : Bool) (a : Addresses) (places : ℕ → ℕ) (from : ℕ) (y : Item) (is : List Item) → Follow near a places from (y ∷ is)
+      → Follow near a places (from + 1) is
+  one_on near a places from y is f n i e =
       let number : from + suc n ≡ from + 1 + n = omega arith in
-      subst (λ k. places (k + 1) ≡ places k + length (item_bytes sizes a (offset_of places k i) i)) number
+      subst (λ k. places (k + 1) ≡ places k + length (item_bytes sizes a (offset_of near places k i) i)) number
       (f (suc n) i e)
 
-  first_on : (a : Addresses) (places : ℕ → ℕ) (from : ℕ) (y : Item) (is : List Item) → Follow a places from (y ∷ is)
-      → places (from + 1) ≡ places from + length (item_bytes sizes a (offset_of places from y) y)
-  first_on a places from y is f =
+  first_on : (near : Bool) (a : Addresses) (places : ℕ → ℕ) (from : ℕ) (y : Item) (is : List Item) → Follow near a places from (y ∷ is)
+      → places (from + 1) ≡ places from + length (item_bytes sizes a (offset_of near places from y) y)
+  first_on near a places from y is f =
       let number : from + 0 ≡ from = omega arith in
-      subst (λ k. places (k + 1) ≡ places k + length (item_bytes sizes a (offset_of places k y) y)) number
+      subst (λ k. places (k + 1) ≡ places k + length (item_bytes sizes a (offset_of near places k y) y)) number
       (f 0 y refl)
 
   -- the bytes of the item of a number
-  pub item_holds : (memory : List ℕ) (a : Addresses) (places : ℕ → ℕ) (base : ℕ) (is : List Item) (from n : ℕ)
+  pub item_holds : (memory : List ℕ) (near : Bool) (a : Addresses) (places : ℕ → ℕ) (base : ℕ) (is : List Item) (from n : ℕ)
       (i : Item)
-      → Follow a places from is
-      → Holds memory (base + places from) (items_bytes sizes a places from is) → slice_get is n ≡ Some i
-      → Holds memory (base + places (from + n)) (item_bytes sizes a (offset_of places (from + n) i) i)
-  item_holds memory a places base [] from n i f h e = absurd (cc)
-  item_holds memory a places base (y ∷ is) from zero i f h e =
+      → Follow near a places from is
+      → Holds memory (base + places from) (items_bytes sizes near a places from is) → slice_get is n ≡ Some i
+      → Holds memory (base + places (from + n)) (item_bytes sizes a (offset_of near places (from + n) i) i)
+  item_holds memory near a places base [] from n i f h e = absurd (cc)
+  item_holds memory near a places base (y ∷ is) from zero i f h e =
       let same : y ≡ i = cc in
       let number : from ≡ from + 0 = omega arith in
-      let here = (holds_append memory (base + places from) (item_bytes sizes a (offset_of places from y) y)
-      (items_bytes sizes a places (from + 1) is) h).0 in
-      subst (λ k. Holds memory (base + places k) (item_bytes sizes a (offset_of places k i) i)) number
-      (subst (λ z. Holds memory (base + places from) (item_bytes sizes a (offset_of places from z) z)) same here)
-  item_holds memory a places base (y ∷ is) from (suc n) i f h e =
-      let rest = (holds_append memory (base + places from) (item_bytes sizes a (offset_of places from y) y)
-      (items_bytes sizes a places (from + 1) is) h).1 in
-      let there : base + places from + length (item_bytes sizes a (offset_of places from y) y)
+      let here = (holds_append memory (base + places from) (item_bytes sizes a (offset_of near places from y) y)
+      (items_bytes sizes near a places (from + 1) is) h).0 in
+      subst (λ k. Holds memory (base + places k) (item_bytes sizes a (offset_of near places k i) i)) number
+      (subst (λ z. Holds memory (base + places from) (item_bytes sizes a (offset_of near places from z) z)) same here)
+  item_holds memory near a places base (y ∷ is) from (suc n) i f h e =
+      let rest = (holds_append memory (base + places from) (item_bytes sizes a (offset_of near places from y) y)
+      (items_bytes sizes near a places (from + 1) is) h).1 in
+      let there : base + places from + length (item_bytes sizes a (offset_of near places from y) y)
       ≡ base + places (from + 1) =
-      omega (arith, first_on a places from y is f) in
+      omega (arith, first_on near a places from y is f) in
       let number : from + 1 + n ≡ from + suc n = omega arith in
-      subst (λ k. Holds memory (base + places k) (item_bytes sizes a (offset_of places k i) i)) number
-      (item_holds memory a places base is (from + 1) n i (one_on a places from y is f)
-      (subst (λ q. Holds memory q (items_bytes sizes a places (from + 1) is)) there rest) e)
+      subst (λ k. Holds memory (base + places k) (item_bytes sizes a (offset_of near places k i) i)) number
+      (item_holds memory near a places base is (from + 1) n i (one_on near a places from y is f)
+      (subst (λ q. Holds memory q (items_bytes sizes near a places (from + 1) is)) there rest) e)
 
-  bytes_length : (a : Addresses) (places : ℕ → ℕ) (is : List Item) (from : ℕ) → Follow a places from is
-      → places from + length (items_bytes sizes a places from is) ≡ places (from + length is)
-  bytes_length a places [] from f =
+  bytes_length : (near : Bool) (a : Addresses) (places : ℕ → ℕ) (is : List Item) (from : ℕ) → Follow near a places from is
+      → places from + length (items_bytes sizes near a places from is) ≡ places (from + length is)
+  bytes_length near a places [] from f =
       let number : from + 0 ≡ from = omega arith in
       let same = ap places number in
       omega (arith, same)
-  bytes_length a places (y ∷ is) from f =
-      let more = bytes_length a places is (from + 1) (one_on a places from y is f) in
+  bytes_length near a places (y ∷ is) from f =
+      let more = bytes_length near a places is (from + 1) (one_on near a places from y is f) in
       let number : from + 1 + length is ≡ from + suc (length is) = omega arith in
       let same = ap places number in
       omega (
         arith,
         more,
         same,
-        first_on a places from y is f,
-        length-append (item_bytes sizes a (offset_of places from y) y) (items_bytes sizes a places (from + 1) is),
+        first_on near a places from y is f,
+        length-append (item_bytes sizes a (offset_of near places from y) y) (items_bytes sizes near a places (from + 1) is),
       )
 
-  pub follow : (a : Addresses) (is : List Item) → Follow a (place_of sizes is) 0 is
+  pub follow : (a : Addresses) (is : List Item) → Follow (is_near sizes is) a (place_of sizes is) 0 is
   follow a is n i e =
       let number : n ≡ 0 + n = omega arith in
       subst (λ k. place_of sizes is (k + 1)
-      ≡ place_of sizes is k + length (item_bytes sizes a (offset_of (place_of sizes is) k i) i)) number
+      ≡ place_of sizes is k + length (item_bytes sizes a (offset_of (is_near sizes is) (place_of sizes is) k i) i)) number
       (next_place a is n i e)
 
-  parts_length : (is : List Item) → length (parts_of sizes is) ≡ length is
-  parts_length [] = refl
-  parts_length (i ∷ is) = ap suc (parts_length is)
+  parts_length : (near : Bool) (is : List Item) → length (parts_with sizes near is) ≡ length is
+  parts_length near [] = refl
+  parts_length near (i ∷ is) = ap suc (parts_length near is)
 
   -- a routine's code has the bytes that its layout tells
   pub code_length : (a : Addresses) (is : List Item) → length (code_bytes sizes a is) ≡ code_size sizes is
   code_length a is =
-      let e = bytes_length a (place_of sizes is) is 0 (follow a is) in
+      let e = bytes_length (is_near sizes is) a (place_of sizes is) is 0 (follow a is) in
       let number : 0 + length is ≡ length is = omega arith in
       let last = ap (place_of sizes is) number in
-      omega (arith, e, last, ends_at is (length is) (omega (arith, parts_length is)), starts is)
+      omega (arith, e, last, ends_at is (length is) (omega (arith, parts_length (is_near sizes is) is)), starts is)
 
 -- Jumps
 

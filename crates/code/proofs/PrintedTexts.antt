@@ -13,12 +13,15 @@ use Rattle.meaning.specs.Printable.{IsPrintableItem, IsPrintableAction, ArePrint
 use Rattle.code_drafts.specs.Items.{Item, Operand, number, variable, push, into, aside, nowhere, operand_of, alone}
 use Rattle.code_drafts.specs.Items.{left_of, if_pushed, agrees, value_count, operand_count, branch_count, value_items}
 use Rattle.code_drafts.specs.Items.{branch_items, alone_items, Destination, operands_of, is_any_pushed}
-use Rattle.code_drafts.specs.Items.{are_more_pushed, argument_place, called, arguments_items}
+use Rattle.code_drafts.specs.Items.{are_more_pushed, argument_place, called, arguments_items, is_one_test, turned_back}
+use Rattle.code_drafts.specs.Items.{last_back}
+use Rattle.code_drafts.specs.Items as items
 use Rattle.code_items.specs.Statements.{each_items, relative_items, children_items, printed_count, action_count}
 use Rattle.code_items.specs.Statements.{printed_items, prints_items, Exits, exits_to, action_items, actions_items}
 use Rattle.code_items.specs.Statements.{return_true, routine_items, once_count, once_items, test_count, test_items}
 use Rattle.code_items.specs.Statements.{Group, groups_of, group_count, group_items, last_items, tests_count}
 use Rattle.code_items.specs.Statements.{tests_items, over_count, over_items, actions_count, cases_count, cases_items}
+use Rattle.code_items.specs.Statements.{until_count, until_items}
 use Rattle.code_items.specs.Statements as statements
 use Rattle.code.proofs.PrintedLists.{HasPrintableText, Fine, nothing, first, joined, last, pushed_fine, either_fine}
 use Rattle.code.proofs.PrintedLists.{moved_fine, after_fine, kept_fine, two_fine}
@@ -151,6 +154,23 @@ tests_fine (g ∷ h ∷ gs) at inside behind =
 over_fine : (later end : ℕ) → Fine (over_items later end)
 over_fine later end = either_fine (later == 0) _ _ nothing (first _ _ tt nothing)
 
+-- the test of a `do`
+turned_text : (to : ℕ) (i : Item) → HasPrintableText i → HasPrintableText (turned_back to i)
+turned_text to (items.branch test os when end) h = tt
+turned_text to i h = h
+
+back_fine : (to : ℕ) (is : List Item) → Fine is → Fine (last_back to is)
+back_fine to [] h = nothing
+back_fine to (i ∷ []) h = first _ _ (turned_text to i (All-head HasPrintableText i [] h.all)) nothing
+back_fine to (i ∷ j ∷ is) h =
+    first _ _ (All-head HasPrintableText i (j ∷ is) h.all)
+    (back_fine to (j ∷ is) (record { all = All-tail HasPrintableText i (j ∷ is) h.all }))
+
+until_fine : (v : Value) (at to : ℕ) → Fine (until_items at to v)
+until_fine v at to = either_fine (is_one_test v) _ _
+    (back_fine to _ ((value_fine v).branch at true (at + branch_count v true)))
+    (last _ _ ((value_fine v).branch at true (at + branch_count v true + 1)) tt)
+
 -- Objects one after another
 
 each_fine : (at : ℕ) (x : Variable) (body : ℕ) (run : Exits → ℕ → List Item)
@@ -195,11 +215,10 @@ mutual
       (last (action_items inside (at + branch_count v false) a) _
       (action_fine inside a h (at + branch_count v false)) tt)
   action_fine x (source.do_until a v) h at =
-      let end = at + action_count a + branch_count v true + 1 in
+      let end = at + action_count a + until_count v in
       joined (action_items (exits_to (at + action_count a) end) at a) _
       (action_fine (exits_to (at + action_count a) end) a h at)
-      (last (branch_items (at + action_count a) v true end) _ ((value_fine v).branch (at + action_count a) true end)
-      tt)
+      (until_fine v (at + action_count a) at)
   action_fine x (source.for_loop before test behind a) h at =
       let tested = at + once_count before in
       let inside = tested + test_count test in

@@ -13,7 +13,7 @@ use Rattle.meaning.specs.declared.resolved.Variable.TheVariants as variables
 use Rattle.code_drafts.specs.Items.{Item, pushed, number, variable, push, into, aside, nowhere, is_zero, less, greater}
 use Rattle.code_drafts.specs.Items.{same, move, operate, operate_aside, step, entry, assign_entry, print_text}
 use Rattle.code_drafts.specs.Items.{entry_aside, assign_entry_aside}
-use Rattle.code_drafts.specs.Items.{read_line, branch, case, jump, call, return}
+use Rattle.code_drafts.specs.Items.{read_line, branch, branch_back, case, jump, call, return}
 use Rattle.code_branch_forms.specs.declared.layout.Form.TheVariants.{One, Two, Far}
 use Rattle.code_branch_forms.specs.declared.layout.Part.{Part}
 use Rattle.code_branch_forms.specs.declared.layout.BranchUse.{BranchUse}
@@ -228,6 +228,18 @@ two_bytes = refl
 far_form : item_bytes sizes a 8193 (branch is_zero (variable g ∷ []) false 9) ≡ 160 ∷ 16 ∷ 197 ∷ 140 ∷ 32 ∷ 1 ∷ []
 unfolding bytes_of
 far_form = refl
+
+-- do x++; until (x > 10);
+leads_back : code_bytes sizes a (step steps.Increment x nowhere
+    ∷ branch_back greater (variable x ∷ number 10 ∷ []) false 0 ∷ []) ≡ 149 ∷ 1 ∷ 67 ∷ 1 ∷ 10 ∷ 63 ∷ 251 ∷ []
+unfolding bytes_of
+leads_back = refl
+
+-- jz g over the jump back; the jump, over 8,202 bytes
+far_back : item_bytes sizes a (65536 + 57336) (branch_back is_zero (variable g ∷ []) true 0)
+    ≡ 160 ∷ 16 ∷ 69 ∷ 140 ∷ 223 ∷ 248 ∷ []
+unfolding bytes_of
+far_back = refl
 
 prints : written (print_text (codes "hello")) ≡ 178 ∷ 53 ∷ 81 ∷ 198 ∷ 133 ∷ []
 unfolding bytes_of encoded_with packed spelling_of

@@ -23,15 +23,16 @@ use Rattle.code_drafts.specs.Items as items
 use Rattle.code_items.specs.Laws.{IsOperand, IsTestedValue}
 use Rattle.code_items.specs.Stack as stack
 use Rattle.code_encoding.specs.Instructions.{plain, branching}
-use Rattle.code_instructions.specs.Instructions.{labelled, test_operation, turned, tested_code, least_word, branch_code}
+use Rattle.code_instructions.specs.Instructions.{labelled_below, test_operation, turned, tested_below, least_word}
+use Rattle.code_instructions.specs.Instructions.{branch_below}
 use Rattle.code.proofs.Fitting.{AreBytes, first_part, all_fit}
 use Rattle.code.proofs.ItemOperands.{gives_length, GivesOperands}
 use Rattle.code.proofs.BranchLengths.{branching_length}
 
 -- the operands of a branch with a label
-pub labelled_fit : (op : Operation) (os : List Operand) (when : Bool) (offset : ℕ)
-    → AreBytes (flat_map bytes_of (labelled op os when offset)) → All FitsOperand os
-labelled_fit op os when offset h = go (nat_lt offset 8192) h
+pub labelled_fit : (limit : ℕ) (op : Operation) (os : List Operand) (when : Bool) (offset : ℕ)
+    → AreBytes (flat_map bytes_of (labelled_below limit op os when offset)) → All FitsOperand os
+labelled_fit limit op os when offset h = go (nat_lt offset limit) h
   where
     go : (b : Bool) → AreBytes (flat_map bytes_of (if b then branching op os when offset ∷ []
         else branching op os (not when) 5 ∷ plain operations.Jump (Large (offset % 65536) ∷ []) ∷ []))
@@ -93,7 +94,8 @@ pub record Asked (p : ProgramOf) (locals : ℕ) (s : Situation) (test : Test) (o
   pub test1 : Test
   pub os1 : List items.Operand
   pub vs1 : List ℕ
-  pub code : (when : Bool) (offset : ℕ) → branch_code test os when offset ≡ tested_code test1 os1 when offset
+  pub code : (limit : ℕ) (when : Bool) (offset : ℕ)
+      → branch_below limit test os when offset ≡ tested_below limit test1 os1 when offset
   pub counted : Counted test1 (length os1)
   pub all : All (IsOperand p locals) os1
   pub gives : GivesOperands os1 s words vs1 rest
@@ -108,7 +110,7 @@ asked p locals s items.is_zero os words vs rest is all g =
       test1 = items.is_zero;
       os1 = os;
       vs1 = vs;
-      code = λ when offset. refl;
+      code = λ limit when offset. refl;
       counted = is;
       all = all;
       gives = g;
@@ -119,7 +121,7 @@ asked p locals s items.less os words vs rest is all g =
       test1 = items.less;
       os1 = os;
       vs1 = vs;
-      code = λ when offset. refl;
+      code = λ limit when offset. refl;
       counted = is;
       all = all;
       gives = g;
@@ -130,7 +132,7 @@ asked p locals s items.greater os words vs rest is all g =
       test1 = items.greater;
       os1 = os;
       vs1 = vs;
-      code = λ when offset. refl;
+      code = λ limit when offset. refl;
       counted = is;
       all = all;
       gives = g;
@@ -142,7 +144,7 @@ asked p locals s items.same (o ∷ q ∷ os) words vs rest is all g =
       test1 = items.same;
       os1 = o ∷ q ∷ os;
       vs1 = vs;
-      code = λ when offset. refl;
+      code = λ limit when offset. refl;
       counted = (omega arith, is.1);
       all = all;
       gives = g;
@@ -155,7 +157,7 @@ asked p locals s items.same (o ∷ []) words (v ∷ []) rest is all g = record {
   test1 = items.less;
   os1 = o ∷ items.number least_word ∷ [];
   vs1 = v ∷ least_word ∷ [];
-  code = λ when offset. refl;
+  code = λ limit when offset. refl;
   counted = refl;
   all = All-cons (IsOperand p locals) o (items.number least_word ∷ []) (all 0 o (omega arith))
       (All-cons (IsOperand p locals) (items.number least_word) [] tt (All-nil (IsOperand p locals)));

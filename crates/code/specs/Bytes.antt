@@ -1,6 +1,7 @@
 -- Where the items of a routine stand, and their bytes.
-use Rattle.std.specs.Prelude.{◌+◌, ◌-◌, ℕ, Bool, true, false, not, if◌then◌else◌, List, [], ◌∷◌, ◌++◌, length, map}
-use Rattle.std.specs.Prelude.{slice_index}
+use Rattle.std.specs.Prelude.{◌+◌, ◌-◌, ◌*◌, ◌||◌, ℕ, nat_le, Bool, true, false, not, if◌then◌else◌, List, [], ◌∷◌, ◌++◌}
+use Rattle.std.specs.Prelude.{length, map, slice_index}
+use Rattle.std.specs.List.{list_any}
 use Rattle.syntax_trees.specs.declared.tree.Binary.{Binary}
 use Rattle.syntax_trees.specs.declared.tree.Binary.TheVariants as binaries
 use Rattle.code_branch_forms.specs.declared.layout.Part.{Part}
@@ -41,18 +42,50 @@ is_settled items.quit = true
 is_settled (items.return o) = true
 is_settled _ = false
 
+-- Branches back
+
+abbrev pub is_back : Item → Bool
+is_back (items.branch_back test os when target) = true
+is_back _ = false
+
+abbrev pub has_back : List Item → Bool
+has_back is = list_any is_back is
+
+-- over so many bytes a branch back leads by two bytes of branch data at most
+abbrev pub most_back : ℕ
+most_back = 8190
+
+-- the bytes of a branch back beside the shortest: a second byte of branch data, or a jump
+abbrev pub back_size : Bool → Item → ℕ
+back_size near item = if is_back item then (if near then 1 else 3) else 0
+
 -- of a program of these sizes
 module _ (sizes : Sizes) where
   -- the bytes of an item whose branch is the shortest
   abbrev pub least_size : Item → ℕ
   least_size item = length (item_bytes sizes no_addresses 2 item)
 
-  -- an item as a part of what is laid out
-  abbrev pub part_of : Item → Part
-  part_of item = record { size = least_size item - label_size (target_of item); target = target_of item }
+  abbrev pub least_sum : List Item → ℕ
+  least_sum [] = 0
+  least_sum (i ∷ is) = least_size i + least_sum is
+
+  -- an item as a part of what is laid out, where branches back are near, or far
+  abbrev pub part_of : Bool → Item → Part
+  part_of near item = record {
+    size = least_size item - label_size (target_of item) + back_size near item;
+    target = target_of item;
+  }
+
+  abbrev pub parts_with : Bool → List Item → List Part
+  parts_with near is = map (part_of near) is
+
+  -- Branches back are near where none can lead too far for two bytes of branch data: all items together have no more
+  -- bytes, in whatever forms.
+  abbrev pub is_near : List Item → Bool
+  is_near is = not (has_back is) || nat_le (least_sum is + 4 * length is) most_back
 
   abbrev pub parts_of : List Item → List Part
-  parts_of is = map part_of is
+  parts_of is = parts_with (is_near is) is
 
   -- how many bytes there are from each item on to the end, where each branch has its shortest form
   abbrev pub lefts_of : List Item → List ℕ
@@ -76,10 +109,11 @@ module _ (sizes : Sizes) where
   kept_bytes (i ∷ is) = kept_of i ++ kept_bytes is
 
   -- items of which the first has this number
-  abbrev pub items_bytes : Addresses → (ℕ → ℕ) → ℕ → List Item → List ℕ
-  items_bytes a places n [] = []
-  items_bytes a places n (i ∷ is) = item_bytes sizes a (offset_of places n i) i ++ items_bytes a places (n + 1) is
+  abbrev pub items_bytes : Bool → Addresses → (ℕ → ℕ) → ℕ → List Item → List ℕ
+  items_bytes near a places n [] = []
+  items_bytes near a places n (i ∷ is) =
+      item_bytes sizes a (offset_of near places n i) i ++ items_bytes near a places (n + 1) is
 
   -- the code of a routine
   abbrev pub code_bytes : Addresses → List Item → List ℕ
-  code_bytes a is = items_bytes a (place_of is) 0 is
+  code_bytes a is = items_bytes (is_near is) a (place_of is) 0 is

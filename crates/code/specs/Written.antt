@@ -1,5 +1,5 @@
 -- What the values of the code stand for.
-use Rattle.std.specs.Prelude.{◌≡◌, ◌+◌, ◌&&◌, Bool, false, List, [], ◌∷◌, ℕ, slice_index_or}
+use Rattle.std.specs.Prelude.{◌≡◌, ◌+◌, ◌&&◌, Bool, true, false, List, [], ◌∷◌, ℕ, slice_index_or}
 use Rattle.meaning.specs.Resolved.{ProgramOf}
 use Rattle.code_drafts.specs.Items.{Item}
 use Rattle.code_drafts.specs.Items as items
@@ -9,19 +9,19 @@ use Rattle.code_encoding.specs.declared.addresses.Sizes as counted
 use Rattle.code_instructions.specs.Places.{offset_of}
 use Rattle.code.specs.HeldProgram.{sizes_of}
 
--- the offsets of the branches to labels, of items of which the first has this number
+-- the offsets of the branches ahead, of items of which the first has this number
 abbrev pub branch_offsets : (ℕ → ℕ) → ℕ → List Item → List ℕ
 branch_offsets places n [] = []
 branch_offsets places n (items.branch test os when target ∷ is) =
-    offset_of places n (items.branch test os when target) ∷ branch_offsets places (n + 1) is
+    offset_of true places n (items.branch test os when target) ∷ branch_offsets places (n + 1) is
 branch_offsets places n (items.is_in o q when target ∷ is) =
-    offset_of places n (items.is_in o q when target) ∷ branch_offsets places (n + 1) is
+    offset_of true places n (items.is_in o q when target) ∷ branch_offsets places (n + 1) is
 branch_offsets places n (items.has o a when target ∷ is) =
-    offset_of places n (items.has o a when target) ∷ branch_offsets places (n + 1) is
+    offset_of true places n (items.has o a when target) ∷ branch_offsets places (n + 1) is
 branch_offsets places n (items.provides o q when target ∷ is) =
-    offset_of places n (items.provides o q when target) ∷ branch_offsets places (n + 1) is
+    offset_of true places n (items.provides o q when target) ∷ branch_offsets places (n + 1) is
 branch_offsets places n (items.case test ns when target ∷ is) =
-    offset_of places n (items.case test ns when target) ∷ branch_offsets places (n + 1) is
+    offset_of true places n (items.case test ns when target) ∷ branch_offsets places (n + 1) is
 branch_offsets places n (i ∷ is) = branch_offsets places (n + 1) is
 
 -- the code of a routine that is ready to be written: how many locals it has, the sizes of its program, and its items

@@ -1,6 +1,7 @@
 //! The code of routines: the bytes that do their items.
 #![tactic(auto)]
 
+mod backward;
 mod fault;
 mod laws;
 mod routine;

@@ -1,7 +1,7 @@
 //! The code of a routine.
 
-ghost use Rattle.std.specs.Prelude.{◌≡◌, ◌<◌, reverse, length, IfOk, OnOk};
-ghost use Rattle.code_branch_forms.specs.Layout.{bytes_limit};
+ghost use Rattle.std.specs.Prelude.{◌≡◌, ◌<◌, [], reverse, length, IfOk, OnOk};
+ghost use Rattle.code_branch_forms.specs.Layout.{bytes_limit, first, lefts};
 ghost use Rattle.meaning.specs.Meaning.{routine_at};
 ghost use Rattle.meaning.specs.Views.{program_of};
 ghost use Rattle.code_drafts.specs.Code.{items_of};
@@ -14,6 +14,7 @@ ghost use Rattle.code.specs.HeldProgram.{sizes_of};
 ghost use Rattle.code.specs.Written.{AreSizesOf};
 
 use crate::fault::CodeFault;
+use crate::backward::{back_size, is_near};
 use crate::settled::{after, between, front, is_settled, size_between};
 use code_branch_forms::{BranchUse, Part, branches, lay_out};
 use code_encoding::{Addresses, Sizes};
@@ -62,7 +63,10 @@ pub struct Code<'a, 'b> {
     /// How many bytes there are from each item on to the end, the end's first.
     left: Vec<usize>,
 
-    /// The branches to other items, in order of place.
+    /// Whether branches back have two bytes of branch data.
+    near: bool,
+
+    /// The branches ahead to other items, in order of place.
     branches: Vec<BranchUse>,
 
     /// How many bytes are written: one for the number of locals, and those of the items.
@@ -74,7 +78,7 @@ impl<'a, 'b> Model for Code<'a, 'b> {
     ghost use Rattle.code_branch_forms.specs.Layout.{bytes_limit, uses};
     ghost use Rattle.code_drafts.specs.Code.{items_of};
     ghost use Rattle.code_encoding.specs.Written.{sizes_in};
-    ghost use Rattle.code.specs.Bytes.{parts_of, lefts_of, code_size, kept_bytes};
+    ghost use Rattle.code.specs.Bytes.{parts_of, lefts_of, code_size, kept_bytes, is_near};
     ghost use Rattle.code.specs.Written.{CodeOf};
 
     ghost Value = { CodeOf };
@@ -85,25 +89,29 @@ impl<'a, 'b> Model for Code<'a, 'b> {
         × (c.branches.items ≡ uses 0 (parts_of (sizes_in c.sizes) (items_of c.items.items)))
         × (c.length ≡ 1 + code_size (sizes_in c.sizes) (items_of c.items.items))
         × (code_size (sizes_in c.sizes) (items_of c.items.items) < bytes_limit)
-        × (c.kept.items ≡ kept_bytes (sizes_in c.sizes) (items_of c.items.items)) };
+        × (c.kept.items ≡ kept_bytes (sizes_in c.sizes) (items_of c.items.items))
+        × (c.near ≡ is_near (sizes_in c.sizes) (items_of c.items.items)) };
 }
 
-/// The items as parts that are laid out, and what is kept of them. They are written once, with no
-/// addresses and the shortest branches: an item has as many bytes wherever everything is, but for
-/// the form of its branch.
+/// The items as parts that are laid out, where branches back are near, or far, and what is kept of
+/// them. They are written once, with no addresses and the shortest branches: an item has as many
+/// bytes wherever everything is, but for the form of its branch.
 fn put_parts(
     scratch: &mut Scratch,
     kept: &mut Vec<u8>,
     alloc: Global,
+    near: bool,
     sizes: &Sizes<'_>,
     items: &[Item<'_>],
 ) -> Result<(), AllocError>
     ensures parts { OnOk result (scratch.new.parts.items
-        ≡ spec.parts_of (sizes_in sizes.now) (items_of items.now)) }
+        ≡ spec.parts_with (sizes_in sizes.now) near (items_of items.now)) }
     ensures kept { OnOk result (Adds kept.old kept.new
         (kept_bytes (sizes_in sizes.now) (items_of items.now))) }
-    ensures fits { OnOk result
-        (spec.code_size (sizes_in sizes.now) (items_of items.now) < bytes_limit) }
+    ensures sum { OnOk result (length scratch.new.bytes.items
+        ≡ spec.least_sum (sizes_in sizes.now) (items_of items.now)) }
+    ensures fits { OnOk result (first (lefts 0
+        (spec.parts_with (sizes_in sizes.now) near (items_of items.now))) < bytes_limit) }
 {
     let addresses = Addresses {
         routines: &[],
@@ -117,7 +125,8 @@ fn put_parts(
         let before = scratch.bytes.len();
         put_item(&mut scratch.bytes, alloc, sizes, &addresses, 2, item)?;
         let target = target_of(item);
-        let size = (scratch.bytes.len() - before).saturating_sub(label_size(target));
+        let least = (scratch.bytes.len() - before).saturating_sub(label_size(target));
+        let size = least + back_size(near, item);
         scratch.parts.push(Part { size, target })?;
         if is_settled(item) {
             continue;
@@ -129,11 +138,39 @@ fn put_parts(
     Ok(())
 }
 
+/// The items as parts, and what is kept of them; whether branches back are near. Only where one may
+/// lead too far, which is rare, the items are written once more.
+fn put_all_parts(
+    scratch: &mut Scratch,
+    kept: &mut Vec<u8>,
+    alloc: Global,
+    sizes: &Sizes<'_>,
+    items: &[Item<'_>],
+) -> Result<bool, AllocError>
+    requires { kept.now.items ≡ [] }
+    ensures near { IfOk result (λ near. near ≡ spec.is_near (sizes_in sizes.now) (items_of items.now)) }
+    ensures parts { OnOk result (scratch.new.parts.items
+        ≡ spec.parts_of (sizes_in sizes.now) (items_of items.now)) }
+    ensures kept { OnOk result (kept.new.items
+        ≡ kept_bytes (sizes_in sizes.now) (items_of items.now)) }
+    ensures fits { OnOk result
+        (spec.code_size (sizes_in sizes.now) (items_of items.now) < bytes_limit) }
+{
+    put_parts(scratch, kept, alloc, true, sizes, items)?;
+    let near = is_near(sizes, items, scratch.bytes.len());
+    if !near {
+        kept.clear();
+        put_parts(scratch, kept, alloc, false, sizes, items)?;
+    }
+    Ok(near)
+}
+
 /// The bytes of items, one after another, of which the first begins the code. What was kept of them
 /// is copied, run by run.
 fn put_items(
     bytes: &mut Vec<u8>,
     alloc: Global,
+    near: bool,
     sizes: &Sizes<'_>,
     addresses: &Addresses<'_>,
     items: &[Item<'_>],
@@ -143,8 +180,10 @@ fn put_items(
     requires left { left.now ≡ reverse (lefts_of (sizes_in sizes.now) (items_of items.now)) }
     requires small { spec.code_size (sizes_in sizes.now) (items_of items.now) < bytes_limit }
     requires kept { kept.now ≡ kept_bytes (sizes_in sizes.now) (items_of items.now) }
+    requires near { near ≡ spec.is_near (sizes_in sizes.now) (items_of items.now) }
     ensures { OnOk result (Adds bytes.old bytes.new
-        (items_bytes (sizes_in sizes.now) (addresses_of addresses.now)
+        (items_bytes (sizes_in sizes.now) (spec.is_near (sizes_in sizes.now) (items_of items.now))
+        (addresses_of addresses.now)
         (place_of (sizes_in sizes.now) (items_of items.now)) 0 (items_of items.now))) }
 {
     let mut rest = kept;
@@ -156,7 +195,7 @@ fn put_items(
         }
         let run = size_between(left, start, number);
         bytes.extend_from_slice(front(rest, run))?;
-        let offset = offset_of(left, number, item);
+        let offset = offset_of(near, left, number, item);
         put_item(bytes, alloc, sizes, addresses, offset, item)?;
         rest = after(rest, run);
         start = number + 1;
@@ -180,7 +219,7 @@ fn code_of<'a, 'b>(
     }) }
 {
     let mut kept = Vec::new(alloc);
-    put_parts(scratch, &mut kept, alloc, &sizes, &items)?;
+    let near = put_all_parts(scratch, &mut kept, alloc, &sizes, &items)?;
     let left = lay_out(alloc, &scratch.parts)?;
     let branches = branches(alloc, &scratch.parts, &left)?;
     let length = 1 + place(&left, items.len());
@@ -191,6 +230,7 @@ fn code_of<'a, 'b>(
         items,
         kept,
         left,
+        near,
         branches,
         length,
     })
@@ -287,7 +327,7 @@ impl Code<'_, '_> {
         self.length
     }
 
-    /// The branches to labels, in order of place, each with its form and its offset; of a far one
+    /// The branches ahead, in order of place, each with its form and its offset; of a far one
     /// the offset that two bytes of branch data would need. A branch leads from the place of the
     /// item after it to its target, which gives its offset. It has one byte of branch data exactly
     /// where the offset is 2 to 63, two exactly where it is another to 8,191, and the far form
@@ -325,6 +365,7 @@ impl Code<'_, '_> {
         put_items(
             &mut bytes,
             self.alloc,
+            self.near,
             &self.sizes,
             addresses,
             &self.items,

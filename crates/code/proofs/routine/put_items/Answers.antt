@@ -44,8 +44,8 @@ loop-number-preserved c =
     (c.size_between-run.ensures ∙ between_is sizes c.args.left.now (items_of xs) c.loop-number.start
     c.loop-number.number c.requires.left)
     (c.in_ok-extend_from_slice.ensures.items ∙ ap (λ (l : List ℕ). c.loop-number.bytes.items ++ l) c.front.ensures)
-    (c.offset_of-offset.ensures ∙ offset_is sizes c.args.left.now (items_of xs) c.loop-number.number (item_of x)
-    c.requires.left)
+    (c.offset_of-offset.ensures ∙ offset_is sizes c.args.near c.args.left.now (items_of xs) c.loop-number.number
+    (item_of x) c.requires.near c.requires.left)
     c.in_ok-put_item.ensures c.after-rest.ensures
 
 pub loop-number-preserved-then-is_settled : goal.loop-number-preserved-then-is_settled

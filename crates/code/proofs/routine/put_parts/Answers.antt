@@ -1,7 +1,9 @@
 use Rattle.std.proofs.Common.{◌≡◌, ◌∙◌, ◌-◌, ◌++◌, List, ℕ, take, drop, length, sym, ap, arith}
 use Rattle.code_drafts.specs.Code.{item_of, items_of}
 use Rattle.code_encoding.specs.Written.{sizes_in}
-use Rattle.code.proofs.Codes.{least_sum, lefts_low, part_next, items_length, parts_count, all_sum}
+use Rattle.code.specs.Bytes.{least_sum}
+use Rattle.code.proofs.BackForms.{lefts_low}
+use Rattle.code.proofs.Codes.{part_next, items_length, parts_count, all_sum}
 use Rattle.code.proofs.Copies.{settled_kept, other_kept, all_kept}
 use Rattle.code.proofs.routine.put_parts.Goals as goal
 
@@ -9,10 +11,10 @@ pub returns-clause-fits : goal.returns-clause-fits
 returns-clause-fits c =
     let xs = c.args.items.now in
     let sizes = sizes_in c.args.sizes.now in
-    let low = lefts_low sizes 0 (items_of xs) in
+    let low = lefts_low sizes c.args.near 0 (items_of xs) in
     let sum = all_sum sizes (length c.loop-item.scratch.bytes.items) (least_sum sizes (items_of xs)) xs
     c.loop-item.item-index c.loop-item-test.false c.loop-item.invariant.1 in
-    let count = parts_count sizes c.loop-item.scratch.parts.items xs c.loop-item.item-index c.loop-item-test.false
+    let count = parts_count sizes c.args.near c.loop-item.scratch.parts.items xs c.loop-item.item-index c.loop-item-test.false
     c.loop-item.invariant.0 in
     omega (
       arith,
@@ -54,12 +56,13 @@ loop-item-preserved c =
       c.len-before.ensures,
       c.loop-item.scratch.bytes.ok.0,
     ) in
-    let parts = part_next sizes b b1 c.loop-item.scratch.parts.items c.push.new.self.items xs i x (item_of x)
-    c.saturating_sub-size.result c.target_of-target.result _ _ within is c.loop-item.invariant.0
+    let parts = part_next sizes c.args.near b b1 c.loop-item.scratch.parts.items c.push.new.self.items xs i x (item_of x)
+    c.let-size.size c.target_of-target.result _ _ within is c.loop-item.invariant.0
     c.loop-item.invariant.1 written c.target_of-target.ensures
     (omega (
       arith,
-      c.saturating_sub-size.ensures,
+      c.saturating_sub-least.ensures,
+      c.back_size.ensures,
       c.len.ensures,
       c.len-before.ensures,
       c.label_size.ensures,
@@ -89,12 +92,13 @@ loop-item-preserved-then-is_settled c =
     let within = c.loop-item-test.true in
     let is = ap item_of c.item-item.is in
     let written = c.in_ok-put_item.ensures in
-    let parts = part_next sizes b b1 c.loop-item.scratch.parts.items c.push.new.self.items xs i x (item_of x)
-    c.saturating_sub-size.result c.target_of-target.result _ _ within is c.loop-item.invariant.0
+    let parts = part_next sizes c.args.near b b1 c.loop-item.scratch.parts.items c.push.new.self.items xs i x (item_of x)
+    c.let-size.size c.target_of-target.result _ _ within is c.loop-item.invariant.0
     c.loop-item.invariant.1 written c.target_of-target.ensures
     (omega (
       arith,
-      c.saturating_sub-size.ensures,
+      c.saturating_sub-least.ensures,
+      c.back_size.ensures,
       c.len.ensures,
       c.len-before.ensures,
       c.label_size.ensures,
@@ -106,3 +110,10 @@ loop-item-preserved-then-is_settled c =
       settled_kept sizes xs c.loop-item.kept.items b _ b1 c.loop-item.start i x (item_of x) c.loop-item.invariant.2
           within is written (sym c.is_settled.ensures ∙ c.if-is_settled.true),
     )
+
+pub returns-clause-sum : goal.returns-clause-sum
+returns-clause-sum c =
+    let xs = c.args.items.now in
+    let sizes = sizes_in c.args.sizes.now in
+    all_sum sizes (length c.loop-item.scratch.bytes.items) (least_sum sizes (items_of xs)) xs
+    c.loop-item.item-index c.loop-item-test.false c.loop-item.invariant.1
