@@ -2,7 +2,7 @@
 
 use crate::passing::Passing;
 use crate::tests_of_cases::test_count;
-use code_drafts::{Destination, Wanted, alone};
+use code_drafts::{Destination, Wanted, alone, is_one_test};
 use meaning::{Action, Span, Value};
 use std::alloc::AllocError;
 use syntax_lexer::Sign;
@@ -74,11 +74,13 @@ impl Passing<'_, '_> {
         Ok(())
     }
 
-    /// Passes `until` with its condition, and the way back.
+    /// Passes `until` with its condition, and the way back if that is an item of its own.
     pub fn pass_until(&mut self, test: &Value) -> Result<(), AllocError> {
         self.mark()?;
         self.pass_test(test, true)?;
-        self.pass_items(1);
+        if !is_one_test(test) {
+            self.pass_items(1);
+        }
         self.pass_through(Sign::Semicolon);
         Ok(())
     }

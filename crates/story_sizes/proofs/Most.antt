@@ -9,7 +9,9 @@ use Rattle.meaning.specs.Resolved.{Value, Values, none, more}
 use Rattle.meaning.specs.declared.resolved.Variable.{Variable}
 use Rattle.code_drafts.specs.Items as items
 use Rattle.code_drafts.specs.Items.{Item, Operand, pushed, number, variable, Destination, push, into, aside, nowhere}
-use Rattle.code_drafts.specs.Items.{operands_of, if_pushed, moved, truth_items, after_items, kept_items}
+use Rattle.code_drafts.specs.Items.{operands_of, if_pushed, moved, truth_items, after_items, kept_items, is_one_test}
+use Rattle.code_drafts.specs.Items.{turned_back, last_back, branch_count, branch_items}
+use Rattle.code_items.specs.Statements.{until_items}
 
 -- An operand has 2 bytes, or 1 and an instruction `pull`; a label has 4 bytes at most, a fault inline 4, and the tests
 -- of an index or an object 10. A case compares its word with three numbers at most; `read` tests the first bytes of two
@@ -46,6 +48,7 @@ most (items.next_object x target) = 15
 most (items.case test ns when target) = 13
 most (items.jump target) = 3
 most (items.back target) = 3
+most (items.branch_back test os when target) = 6 + 4 * length os
 most (items.call r os d) = 9 + 4 * length os
 most (items.call_aside r os d) = 9 + 4 * length os
 most (items.return o) = 4
@@ -172,3 +175,27 @@ list_of (more v vs) = omega (arith, list_of vs)
 pub alternatives_are : (vs : Values) → list_tokens vs + 1 ≤ alternative_tokens vs
 alternatives_are none = omega arith
 alternatives_are (more v vs) = omega (arith, list_of vs)
+
+-- Branches that are turned back
+
+turned_most : (to : ℕ) (i : Item) → most (turned_back to i) ≡ most i
+turned_most to (items.branch test os when end) = refl
+turned_most to i = refl
+
+pub back_most : (to : ℕ) (is : List Item) → most_of (last_back to is) ≡ most_of is
+back_most to [] = refl
+back_most to (i ∷ []) = omega (arith, turned_most to i)
+back_most to (i ∷ j ∷ is) = omega (arith, back_most to (j ∷ is))
+
+-- the test of a `do`
+pub until_small : (v : Value) (at to n : ℕ) → ((end : ℕ) → most_of (branch_items at v true end) ≤ n)
+    → most_of (until_items at to v) ≤ n + 3
+until_small v at to n h = go (is_one_test v)
+  where
+    k : ℕ
+    k = branch_count v true
+
+    go : (b : Bool) → most_of (if b then last_back to (branch_items at v true (at + k))
+        else branch_items at v true (at + k + 1) ++ items.back to ∷ []) ≤ n + 3
+    go true = omega (arith, back_most to (branch_items at v true (at + k)), h (at + k))
+    go false = omega (arith, most_append (branch_items at v true (at + k + 1)) (items.back to ∷ []), h (at + k + 1))

@@ -11,7 +11,7 @@ use Rattle.code_drafts.specs.Items.{Test}
 use Rattle.code_drafts.specs.Items as items
 use Rattle.code_encoding.specs.Instructions as spec
 use Rattle.code_encoding.specs.Instructions.{constant, operands, takes, most_tested}
-use Rattle.code_instructions.specs.Instructions.{labelled, test_operation, turned, are_both_pushed, ordered_code, tested_code}
+use Rattle.code_instructions.specs.Instructions.{branch_below, back_limit, labelled, test_operation, turned, are_both_pushed, ordered_code, tested_code}
 use Rattle.code_instructions.specs.Instructions.{least_word, branch_code, most_compared, compared, case_code}
 use Rattle.code_encoding.specs.Addresses.{Sizes}
 use Rattle.code_encoding.specs.Bytes.{bytes_of_all}
@@ -75,9 +75,9 @@ shortest_few items.same (o ∷ []) when = tested_few items.less (o ∷ items.num
 shortest_few items.same (o ∷ p ∷ os) when =
     tested_few items.same (o ∷ p ∷ os) when (4 * length (o ∷ p ∷ os)) (taken_few (o ∷ p ∷ os))
 
-pub branch_few : (sizes : Sizes) (test : Test) (os : List items.Operand) (when : Bool) (target n : ℕ) (rest : List ℕ)
-    → part_size n (part_of sizes (items.branch test os when target)) rest ≤ 6 + 4 * length os
-branch_few sizes test os when target n rest =
+pub branch_few : (sizes : Sizes) (near : Bool) (test : Test) (os : List items.Operand) (when : Bool) (target n : ℕ) (rest : List ℕ)
+    → part_size n (part_of sizes near (items.branch test os when target)) rest ≤ 6 + 4 * length os
+branch_few sizes near test os when target n rest =
     let given = take most_tested os in
     let offset = offset_over (target - (n + 1)) rest in
     omega (
@@ -86,6 +86,24 @@ branch_few sizes test os when target n rest =
       length-append (bytes_of_all (branch_code test given when 2)) [],
       taken_length most_tested os,
       label_few (form_for offset),
+    )
+
+-- a branch back has a second byte of branch data, or a jump
+near_few : (near : Bool) → (if near then 1 else 3) ≤ 3
+near_few true = omega arith
+near_few false = omega arith
+
+pub branch_back_few : (sizes : Sizes) (near : Bool) (test : Test) (os : List items.Operand) (when : Bool)
+    (target n : ℕ) (rest : List ℕ)
+    → part_size n (part_of sizes near (items.branch_back test os when target)) rest ≤ 6 + 4 * length os
+branch_back_few sizes near test os when target n rest =
+    let given = take most_tested os in
+    omega (
+      arith,
+      shortest_few test given when,
+      length-append (bytes_of_all (branch_below back_limit test given when 2)) [],
+      taken_length most_tested os,
+      near_few near,
     )
 
 -- `switch`
@@ -106,9 +124,9 @@ compared_few ns =
     let given = take most_compared ns in
     omega (arith, constants_few given, length-take most_compared ns)
 
-pub case_few : (sizes : Sizes) (test : Test) (ns : List ℕ) (when : Bool) (target n : ℕ) (rest : List ℕ)
-    → part_size n (part_of sizes (items.case test ns when target)) rest ≤ 13
-case_few sizes test ns when target n rest =
+pub case_few : (sizes : Sizes) (near : Bool) (test : Test) (ns : List ℕ) (when : Bool) (target n : ℕ) (rest : List ℕ)
+    → part_size n (part_of sizes near (items.case test ns when target)) rest ≤ 13
+case_few sizes near test ns when target n rest =
     let op = test_operation test in
     let offset = offset_over (target - (n + 1)) rest in
     omega (

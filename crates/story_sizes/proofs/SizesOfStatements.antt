@@ -10,7 +10,7 @@ use Rattle.syntax_statement_parts.specs.Grammar.{items_last, items_comma, IsOpti
 use Rattle.syntax_statements.specs.Tree.{StatementTree, StatementTrees}
 use Rattle.syntax_statements.specs.Tree as statements
 use Rattle.syntax_directives.specs.Weight.{item_weight, item_weights, optional_weight, statement_weight}
-use Rattle.syntax_directives.specs.Weight.{statement_weights}
+use Rattle.syntax_directives.specs.Weight.{statement_weights, expression_weight}
 use Rattle.checker_names.specs.Names.{Seen}
 use Rattle.checker_values.specs.Expressions.{resolve}
 use Rattle.checker_statements.specs.Statements.{resolve_item, resolve_statement, resolve_statements}
@@ -18,8 +18,8 @@ use Rattle.code_drafts.specs.Items.{nowhere, branch_count, alone, branch_items, 
 use Rattle.code_drafts.specs.Items as items
 use Rattle.code_items.specs.Statements.{printed_count, printed_items, prints_items, once_count, test_count, once_items}
 use Rattle.code_items.specs.Statements.{test_items, return_true, action_count, Exits, exits_to, action_items}
-use Rattle.code_items.specs.Statements.{actions_items}
-use Rattle.story_sizes.proofs.Most.{most_of, most_append}
+use Rattle.code_items.specs.Statements.{actions_items, until_count, until_items}
+use Rattle.story_sizes.proofs.Most.{most_of, most_append, until_small}
 use Rattle.story_sizes.proofs.SizesOfExpressions.{fits_E, few_value, few_branch, few_alone, FitsExpression}
 
 -- in a routine that sees so much of the file
@@ -163,14 +163,13 @@ module _ (seen : Seen) where
       record {
         within = λ e at.
             let n = at + action_count a in
-            let end = n + branch_count v true + 1 in
-            let inside = exits_to n end in
-            let rest = branch_items n v true end ++ items.back at ∷ [] in
+            let inside = exits_to n (n + until_count v) in
+            let tests = few_branch seen c f true n in
             omega (
               arith,
-              most_append (action_items inside at a) rest,
-              most_append (branch_items n v true end) (items.back at ∷ []),
-              few_branch seen c f true n end,
+              most_append (action_items inside at a) (until_items n at v),
+              tests n,
+              until_small v n at (expression_weight c - 20) (λ end. omega (arith, tests end)),
               g.within inside at,
             );
       }
