@@ -9,10 +9,11 @@ use syntax_parsing::ParseError;
 ///
 /// # Errors
 ///
-/// `Memory`: a growth is refused. The value is dropped.
+/// `Memory`: a growth is refused. The row stays as it was, and the value is dropped.
 pub fn push<T: Drop>(row: &mut Vec<T>, next: T) -> Result<(), ParseError>
     ensures ok { IfOk result (λ _. row.new.items ≡ row.old.items ++ next ∷ []) }
     ensures err { IfErr result (λ e. e ≡ ParseError.Memory) }
+    ensures stays { IfErr result (λ _. row.new.items ≡ row.old.items) }
 {
     row.push(next)?;
     Ok(())
