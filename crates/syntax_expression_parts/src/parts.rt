@@ -45,10 +45,7 @@ fn in_box<'t, 'a>(
 }
 
 // A name in a box.
-fn boxed_name<'t, 'a>(
-    parser: &Parser<'t, 'a>,
-    name: &Name<'a>,
-) -> Result<Box<Name<'a>>, ParseError>
+fn boxed_name<'t, 'a>(parser: &Parser<'t, 'a>, name: &Name<'a>) -> Result<Box<Name<'a>>, ParseError>
     ensures ok { IfOk result (λ x. x.value ≡ name.now) }
     ensures err { IfErr result (λ e. e ≡ ParseError.Memory) }
 {
