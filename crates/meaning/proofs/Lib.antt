@@ -1,6 +1,7 @@
 pub mod Cutting
 pub mod Routines
 pub mod Mapped
+pub mod Switches
 pub mod Folding
 pub mod Numbers
 pub mod ObjectLists
