@@ -65,6 +65,11 @@ pub enum Statement<'a> {
     Switch(
         Position,
         Box<Expression<'a>>,
-        Box<(Vec<(Vec<Range<'a>>, Vec<Statement<'a>>)>, Option<Vec<Statement<'a>>>)>,
+        Box<
+            (
+                Vec<(Vec<Range<'a>>, Vec<Statement<'a>>)>,
+                Option<Vec<Statement<'a>>>,
+            ),
+        >,
     ),
 }
