@@ -5,7 +5,7 @@
 //!
 //! `Memory`: a growth is refused. The value is dropped.
 
-ghost use Rattle.std.specs.Prelude.{◌≡◌, ◌<◌, IfErr, IfOk, vec_capacity, vec_len};
+ghost use Rattle.std.specs.Prelude.{◌≡◌, ◌<◌, IfErr, IfOk, [], ◌∷◌, ◌++◌, vec_capacity, vec_len};
 
 use std::alloc::Global;
 use syntax_parsing::ParseError;
@@ -35,4 +35,12 @@ pub fn make_room<T>(row: &mut Vec<T>) -> Result<(), ParseError>
     }
     row.reserve(1)?;
     Ok(())
+}
+
+/// The value in the box at the end of a row that has room for it.
+pub fn put_boxed<T>(row: &mut Vec<T>, next: Box<T>)
+    requires { vec_len row.old < vec_capacity row.old }
+    ensures { row.new.items ≡ row.old.items ++ next.value ∷ [] }
+{
+    row.push_reserved(Box::into_inner(next));
 }

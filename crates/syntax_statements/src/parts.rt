@@ -7,13 +7,13 @@ ghost use Rattle.syntax_parsing.specs.Parse as reading;
 ghost use Rattle.syntax_parsing.specs.Returned.{ahead};
 ghost use Rattle.syntax_statement_parts.specs.Views.{heading_tree, loop_tree};
 ghost use Rattle.syntax_statements.specs.Tree as tree;
-ghost use Rattle.syntax_statements.specs.Views.{statement_tree, simple_tree, case_tree, other_tree};
+ghost use Rattle.syntax_statements.specs.Views.{statement_tree, simple_tree, case_tree, cases_of, other_tree};
 ghost use Rattle.syntax_statements.specs.Returned.{TakesStatement};
 ghost use Rattle.syntax_statements.specs.Parse as spec;
 ghost use Rattle.syntax_statements.specs.Rows as rows;
 ghost use Rattle.syntax_statements.specs.Rows.{AddsStatement};
 
-use crate::memory::{boxed, make_room};
+use crate::memory::{boxed, make_room, put_boxed};
 use crate::simple::simple;
 use crate::tree::{SimpleStatement, Statement};
 use syntax_lexer::{Position, Sign};
@@ -88,7 +88,7 @@ pub fn add_boxed<'t, 'a>(
 {
     match room(row) {
         Ok(()) => {
-            put(row, Box::into_inner(next));
+            put_boxed(row, next);
             Ok(())
         }
         Err(e) => {
@@ -283,6 +283,28 @@ pub fn loop_over<'t, 'a>(
     in_box(parser, Statement::Objectloop(position, over, body))
 }
 
+// `switch`, with its cases and its `default` in their box. It is apart from what reads the brace, so
+// that a statement is spelled where nothing but boxes is left to drop.
+fn switch_over<'t, 'a>(
+    parser: &Parser<'t, 'a>,
+    position: Position,
+    value: Box<Expression<'a>>,
+    cases: Box<
+        (
+            Vec<(Vec<Range<'a>>, Vec<Statement<'a>>)>,
+            Option<Vec<Statement<'a>>>,
+        ),
+    >,
+) -> Result<Box<Statement<'a>>, ParseError>
+    ensures { TakesStatement result parser.now (Ok (
+      tree.switch_on position (expression_tree value.entry.value)
+          (cases_of (map case_tree cases.entry.value.0.items) (other_tree cases.entry.value.1)),
+      ahead parser.now,
+    )) }
+{
+    in_box(parser, Statement::Switch(position, value, cases))
+}
+
 /// `switch`, with its second brace.
 pub fn switch_on<'t, 'a>(
     parser: &mut Parser<'t, 'a>,
@@ -297,7 +319,7 @@ pub fn switch_on<'t, 'a>(
 {
     match expect(parser, Sign::CloseBrace) {
         Ok(()) => match boxed(parser.alloc, (cases, other)) {
-            Ok(cases) => in_box(parser, Statement::Switch(position, value, cases)),
+            Ok(cases) => switch_over(parser, position, value, cases),
             Err(e) => {
                 drop(value);
                 Err(e)

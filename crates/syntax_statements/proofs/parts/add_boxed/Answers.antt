@@ -1,8 +1,6 @@
-use Rattle.std.proofs.Common.{ap}
-use Rattle.syntax_statements.specs.Views.{statement_tree}
+use Rattle.std.proofs.Common.{refl}
 use Rattle.syntax_statements.proofs.Rows.{added}
 use Rattle.syntax_statements.proofs.parts.add_boxed.Goals as goal
 
 pub returns-in-Ok : goal.returns-in-Ok
-returns-in-Ok c = added c.args.row.now.items _ _ _ _ c.args.parser.now c.in-Ok.ensures.items c.put.ensures
-    (ap statement_tree c.into_inner.ensures)
+returns-in-Ok c = added c.args.row.now.items _ _ _ _ c.args.parser.now c.in-Ok.ensures.items c.put_boxed.ensures refl
