@@ -11,7 +11,7 @@ use Rattle.meaning.specs.declared.resolved.Action.TheFolds.{fold-roll-Action}
 use Rattle.meaning.specs.Resolved.{give_to, move_to, remove_from, each_object, each_where, each_in, Action, text_alone}
 use Rattle.meaning.specs.Resolved.{while_do, do_until, for_loop, switch_on, return_value}
 use Rattle.meaning.specs.Views.{cases_of, value_of, case_of, boxed_value, other_of, action_of, action_layer}
-use Rattle.meaning.proofs.Mapped.{cases_mapped}
+use Rattle.meaning.proofs.Switches.{made_switch}
 
 pub text_is : (t : code_action.Action) (text : _) → t ≡ s.Text text → action_of t ≡ text_alone text.now
 text_is t text is = ap action_of is ∙ ap action_of (sym (s.rolls-Text text)) ∙ fold-roll-Action Action action_layer _
@@ -36,13 +36,7 @@ pub switch_is : (t : code_action.Action) (e : Box code_value.Value)
     (cases : Box (Vec (Vec Span × Vec code_action.Action) × Option (Vec code_action.Action)))
     → t ≡ s.Switch e cases → action_of t
     ≡ switch_on (value_of e.value) (cases_of (map case_of cases.value.0.items) (other_of cases.value.1))
-unfolding case_of
-switch_is t e cases is = ap action_of is
-    ∙ ap action_of (sym (s.rolls-Switch e cases))
-    ∙ fold-roll-Action Action action_layer _
-    ∙ ap (λ cs. switch_on (value_of e.value) cs)
-    (cases_mapped _ _ case_of (λ c. refl) _ _ (λ xs. map action_of xs.items) (λ xs. refl) cases.value.0.items
-    cases.value.1)
+switch_is t e cases is = ap action_of is ∙ made_switch e cases
 
 pub return_is : (t : code_action.Action) (e : code_value.Value) → t ≡ s.ReturnValue e
     → action_of t ≡ return_value (value_of e)

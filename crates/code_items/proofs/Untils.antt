@@ -196,8 +196,7 @@ module _ (now : Running) where
       ((list_ok now bs).all s1 n 0 1 m e (onto o x []) hb.0 (onto_length o x []) (omega (arith, fine.1)))
       (λ ys s2 e2.
       asked_again e first q same (o ∷ operands_of bs) (x ∷ ys) when (truth (equated op x ys)) hb.1.0
-      (omega (arith, le)) hb.1.1
-      (
+      (omega (arith, le)) hb.1.1 (
         still_held now a bs s1 s2 x (λ z f. all_unchanged (setting now) keep z bs s1 s2 ys f e2)
             (operand_held now a bs s s1 x e1),
         all_held now bs s1 s2 ys e2,

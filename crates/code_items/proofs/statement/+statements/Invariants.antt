@@ -34,6 +34,12 @@ decreases-put_while l = 8 * goal.size-put_while l + 2
 abbrev pub decreases-put_do : goal.decreases-put_do
 decreases-put_do l = 8 * goal.size-put_do l + 2
 
+abbrev pub decreases-put_do_by_test : goal.decreases-put_do_by_test
+decreases-put_do_by_test l = 8 * goal.size-put_do_by_test l + 1
+
+abbrev pub decreases-put_do_by_jump : goal.decreases-put_do_by_jump
+decreases-put_do_by_jump l = 8 * goal.size-put_do_by_jump l + 1
+
 abbrev pub decreases-put_for : goal.decreases-put_for
 decreases-put_for l = 8 * goal.size-put_for l + 2
 
