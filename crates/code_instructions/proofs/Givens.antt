@@ -11,9 +11,9 @@ use Rattle.code_drafts.specs.Items as items
 use Rattle.code_drafts.specs.declared.item.Operand as code_operand
 use Rattle.code_drafts.specs.Code.{as_operand, as_operands}
 use Rattle.code_encoding.specs.Instructions.{takes, operands, in_place, giving, result_in}
-use Rattle.code_instructions.specs.Instructions.{calling, call_code, call_operation, call_result, asks_none, labelled_below}
-use Rattle.code_instructions.specs.Instructions.{test_operation, least_word, ordered_below, tested_below, branch_below}
-use Rattle.code_instructions.specs.Instructions.{arithmetic}
+use Rattle.code_instructions.specs.Instructions.{calling, call_code, call_operation, call_result, asks_none}
+use Rattle.code_instructions.specs.Instructions.{labelled_below, test_operation, least_word, ordered_below}
+use Rattle.code_instructions.specs.Instructions.{tested_below, branch_below, arithmetic}
 use Rattle.code_encoding.specs.Bytes.{bytes_of_all}
 use Rattle.code_encoding.proofs.Chains.{one_joined, all_joined}
 use Rattle.code_encoding.proofs.Naming.{one_named}
@@ -92,8 +92,8 @@ labelled_as : (limit : ℕ) (op : Operation) (when : Bool) (offset : ℕ) (b b1 
 labelled_as limit op when offset b b1 names others same e =
     e ∙ ap (λ (x : List Operand). b ++ bytes_of_all (labelled_below limit op x when offset)) same
 
-pub one_labelled : (limit : ℕ) (op : Operation) (when : Bool) (offset : ℕ) (o : items.Operand) (name : Operand) (b b1 : List ℕ)
-    → name ≡ in_place o → b1 ≡ b ++ bytes_of_all (labelled_below limit op (name ∷ []) when offset)
+pub one_labelled : (limit : ℕ) (op : Operation) (when : Bool) (offset : ℕ) (o : items.Operand) (name : Operand)
+    (b b1 : List ℕ) → name ≡ in_place o → b1 ≡ b ++ bytes_of_all (labelled_below limit op (name ∷ []) when offset)
     → b1 ≡ b ++ bytes_of_all (labelled_below limit op (operands (o ∷ [])) when offset)
 one_labelled limit op when offset o name b b1 is e =
     labelled_as limit op when offset b b1 (name ∷ []) (operands (o ∷ []))
@@ -124,8 +124,8 @@ ordered_joined limit test os op when offset b b1 b2 o f1 f2 =
     (f2 ∙ ap (λ (x : Operation). b1 ++ bytes_of_all (labelled_below limit x (operands os) when offset)) o)
 
 -- a branch that is asked as it is
-pub branch_otherwise : (limit : ℕ) (test : Test) (os given : List items.Operand) (asks when : Bool) (offset : ℕ) (b b1 : List ℕ)
-    → given ≡ os → asks ≡ asks_none test given → asks ≡ false
+pub branch_otherwise : (limit : ℕ) (test : Test) (os given : List items.Operand) (asks when : Bool) (offset : ℕ)
+    (b b1 : List ℕ) → given ≡ os → asks ≡ asks_none test given → asks ≡ false
     → b1 ≡ b ++ bytes_of_all (tested_below limit test given when offset)
     → b1 ≡ b ++ bytes_of_all (branch_below limit test os when offset)
 branch_otherwise limit test os given asks when offset b b1 same is isnt e =

@@ -154,7 +154,8 @@ fn put_labelled_one(
 ) -> Result<(), AllocError>
     requires { limit ≤ spec.back_limit }
     ensures { OnOk result (AddsCode bytes.old bytes.new
-        (spec.labelled_below limit operation (basic.operands (as_operand operand ∷ [])) when offset)) }
+        (spec.labelled_below limit operation (basic.operands (as_operand operand ∷ []))
+        when offset)) }
 {
     put_labelled_below(bytes, limit, operation, &[in_place(operand)], when, offset)?;
     Ok(())
@@ -172,8 +173,8 @@ fn put_labelled_two(
 ) -> Result<(), AllocError>
     requires { limit ≤ spec.back_limit }
     ensures { OnOk result (AddsCode bytes.old bytes.new
-        (spec.labelled_below limit operation (basic.operands (as_operand left ∷ as_operand right ∷ [])) when
-        offset)) }
+        (spec.labelled_below limit operation
+        (basic.operands (as_operand left ∷ as_operand right ∷ [])) when offset)) }
 {
     let operands = [in_place(left), named_second(left, right)];
     put_labelled_below(bytes, limit, operation, &operands, when, offset)?;
@@ -183,8 +184,8 @@ fn put_labelled_two(
 /// A branch by a label. Of the operands that are pushed, all but the first were taken before.
 fn put_labelled_any(
     bytes: &mut Vec<u8>,
-    limit: usize,
     alloc: Global,
+    limit: usize,
     operation: Operation,
     operands: &[code_drafts::Operand],
     when: bool,
@@ -193,7 +194,8 @@ fn put_labelled_any(
     requires few { length operands.now ≤ most_arguments }
     requires within { limit ≤ spec.back_limit }
     ensures { OnOk result (AddsCode bytes.old bytes.new
-        (spec.labelled_below limit operation (basic.operands (as_operands operands.now)) when offset)) }
+        (spec.labelled_below limit operation (basic.operands (as_operands operands.now))
+        when offset)) }
 {
     let mut named = Vec::new(alloc);
     put_named(&mut named, operands)?;
@@ -204,8 +206,8 @@ fn put_labelled_any(
 /// The same. Most branches have one operand or two, for which no memory is asked for.
 fn put_labelled_named(
     bytes: &mut Vec<u8>,
-    limit: usize,
     alloc: Global,
+    limit: usize,
     operation: Operation,
     operands: &[code_drafts::Operand],
     when: bool,
@@ -214,12 +216,13 @@ fn put_labelled_named(
     requires few { length operands.now ≤ most_arguments }
     requires within { limit ≤ spec.back_limit }
     ensures { OnOk result (AddsCode bytes.old bytes.new
-        (spec.labelled_below limit operation (basic.operands (as_operands operands.now)) when offset)) }
+        (spec.labelled_below limit operation (basic.operands (as_operands operands.now))
+        when offset)) }
 {
     match operands {
         [operand] => put_labelled_one(bytes, limit, operation, *operand, when, offset)?,
         [left, right] => put_labelled_two(bytes, limit, operation, *left, *right, when, offset)?,
-        _ => put_labelled_any(bytes, limit, alloc, operation, operands, when, offset)?,
+        _ => put_labelled_any(bytes, alloc, limit, operation, operands, when, offset)?,
     }
     Ok(())
 }
@@ -227,8 +230,8 @@ fn put_labelled_named(
 /// A branch by a test of its operands, of which all but the first are taken from the stack before.
 fn put_ordered(
     bytes: &mut Vec<u8>,
-    limit: usize,
     alloc: Global,
+    limit: usize,
     test: Test,
     operands: &[code_drafts::Operand],
     when: bool,
@@ -240,7 +243,15 @@ fn put_ordered(
         (spec.ordered_below limit (as_test test) (as_operands operands.now) when offset)) }
 {
     put_takes(bytes, operands)?;
-    put_labelled_named(bytes, limit, alloc, operation_of(test), operands, when, offset)?;
+    put_labelled_named(
+        bytes,
+        alloc,
+        limit,
+        operation_of(test),
+        operands,
+        when,
+        offset,
+    )?;
     Ok(())
 }
 
@@ -248,8 +259,8 @@ fn put_ordered(
 /// taken as they stand, by the turned test.
 fn put_tested(
     bytes: &mut Vec<u8>,
-    limit: usize,
     alloc: Global,
+    limit: usize,
     test: Test,
     operands: &[code_drafts::Operand],
     when: bool,
@@ -262,9 +273,16 @@ fn put_tested(
 {
     if are_both_pushed(operands) {
         let top = in_place(code_drafts::Operand::Pushed);
-        put_labelled_below(bytes, limit, operation_of(turned(test)), &[top, top], when, offset)
+        put_labelled_below(
+            bytes,
+            limit,
+            operation_of(turned(test)),
+            &[top, top],
+            when,
+            offset,
+        )
     } else {
-        put_ordered(bytes, limit, alloc, test, operands, when, offset)
+        put_ordered(bytes, alloc, limit, test, operands, when, offset)
     }
 }
 
@@ -272,8 +290,8 @@ fn put_tested(
 /// least one.
 fn put_never(
     bytes: &mut Vec<u8>,
-    limit: usize,
     alloc: Global,
+    limit: usize,
     operands: &[code_drafts::Operand],
     when: bool,
     offset: usize,
@@ -286,7 +304,7 @@ fn put_never(
 {
     let mut asked = Vec::from_slice(alloc, operands)?;
     asked.push(code_drafts::Operand::Number(LEAST_WORD))?;
-    put_tested(bytes, limit, alloc, Test::Less, &asked, when, offset)?;
+    put_tested(bytes, alloc, limit, Test::Less, &asked, when, offset)?;
     Ok(())
 }
 
@@ -306,9 +324,9 @@ fn put_branch_below(
 {
     let operands = &operands[..operands.len().min(MOST_TESTED)];
     if asks_none(test, operands) {
-        put_never(bytes, limit, alloc, operands, when, offset)
+        put_never(bytes, alloc, limit, operands, when, offset)
     } else {
-        put_tested(bytes, limit, alloc, test, operands, when, offset)
+        put_tested(bytes, alloc, limit, test, operands, when, offset)
     }
 }
 
