@@ -18,8 +18,8 @@ use Rattle.code_encoding.specs.Instructions.{aside_variable, result_in}
 use Rattle.meaning.specs.Limits.{most_arguments}
 use Rattle.code_instructions.specs.Instructions.{move_code, prefix_code, binary_code, step_code, first_equal_code}
 use Rattle.code_instructions.specs.Instructions.{also_equal_code, tested_between, character_code, branch_code}
-use Rattle.code_instructions.specs.Instructions.{aside_code, case_code, call_code, with_last_aside, branch_below, back_limit}
-use Rattle.code_instructions.specs.Instructions.{return_code}
+use Rattle.code_instructions.specs.Instructions.{aside_code, case_code, call_code, with_last_aside}
+use Rattle.code_instructions.specs.Instructions.{return_code, branch_below, back_limit}
 use Rattle.code_objects.specs.ObjectCode.{at_tested, assigned_takes, assigned_word, passed_on, relative_code}
 use Rattle.code_objects.specs.ObjectCode.{is_in_code, has_code, give_code, remove_code, print_name_code}
 use Rattle.code_objects.specs.ObjectCode.{provides_code, property_code, property_size_code, property_word_code}

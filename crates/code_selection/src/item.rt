@@ -20,9 +20,9 @@ use crate::lines::put_read;
 use code_drafts::Item;
 use code_encoding::{Addresses, Operands, Sizes, in_place, plain, pull, put_all, routine_address};
 use code_instructions::{
-    put_also_equal, put_binary, put_branch, put_branch_back, put_call, put_call_aside, put_case, put_character,
-    put_first_equal, put_jump, put_keep, put_move, put_prefix, put_return, put_step, put_text,
-    put_with_aside,
+    put_also_equal, put_binary, put_branch, put_branch_back, put_call, put_call_aside, put_case,
+    put_character, put_first_equal, put_jump, put_keep, put_move, put_prefix, put_return, put_step,
+    put_text, put_with_aside,
 };
 use code_objects::{
     put_assign_property, put_assign_property_word, put_first_object, put_give, put_has, put_is_in,
