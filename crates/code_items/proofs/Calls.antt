@@ -1,12 +1,12 @@
 -- Calls.
-use Rattle.std.proofs.Common.{◌≡◌, ℕ, ◌+◌, ◌≤◌, List, [], ◌∷◌, ◌++◌, length, Some, Bool, true, false, refl, sym, ap}
+use Rattle.std.proofs.Common.{◌≡◌, ℕ, ◌+◌, ◌≤◌, List, [], ◌∷◌, length, Some, Bool, true, false, refl, sym, ap}
 use Rattle.std.proofs.Common.{◌∙◌, subst, arith}
 use Rattle.std.specs.Prelude.{◌&&◌, slice_get}
 use Rattle.meaning.specs.Limits.{operands}
 use Rattle.meaning.specs.Resolved.{Values}
 use Rattle.meaning.specs.Resolved as source
 use Rattle.meaning.specs.Accepted.{needs_of}
-use Rattle.meaning.specs.World.{Situation, Comes, ◌>>=◌}
+use Rattle.meaning.specs.World.{Situation, Comes}
 use Rattle.meaning.specs.Meaning.{evaluate, evaluate_all}
 use Rattle.code_drafts.specs.Items.{Operand, pushed, number, variable, Destination, push, operands_of, is_any_pushed}
 use Rattle.code_drafts.specs.Items.{are_more_pushed, called, arguments_count, arguments_items}

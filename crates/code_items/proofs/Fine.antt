@@ -5,7 +5,6 @@ use Rattle.std.specs.List.{All}
 use Rattle.std.proofs.lemmas.List.Elements.{All-nil, All-cons, All-head, All-tail}
 use Rattle.syntax_trees.specs.declared.tree.Comparison.{Comparison}
 use Rattle.syntax_trees.specs.declared.tree.Comparison.TheVariants as comparisons
-use Rattle.syntax_trees.specs.declared.tree.Prefix.{Prefix}
 use Rattle.meaning.specs.declared.resolved.Variable.{Variable}
 use Rattle.meaning.specs.Resolved.{Value, Values, none, more, ProgramOf}
 use Rattle.meaning.specs.Resolved as source

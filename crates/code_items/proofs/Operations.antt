@@ -18,8 +18,7 @@ use Rattle.code_drafts.specs.Items.{alone, left_of, if_pushed, branch_true, agre
 use Rattle.code_drafts.specs.Items.{branch_count, value_items, branch_items, alone_items}
 use Rattle.code_drafts.specs.Items as items
 use Rattle.code_drafts.proofs.Counts.{branch_length, alone_length}
-use Rattle.code_items.specs.Stack.{with_operand, delivered, gives, act}
-use Rattle.code_items.specs.Stack as stack
+use Rattle.code_items.specs.Stack.{with_operand, delivered, gives}
 use Rattle.code_items.proofs.Acts.{keeps_give, keeps_operate}
 use Rattle.code_items.proofs.Running.{Running, code, setting}
 use Rattle.code_items.proofs.Standing.{HasAt, split}

@@ -1,5 +1,5 @@
 -- What a statement of the code stands for, a variant at a time.
-use Rattle.std.proofs.Common.{◌≡◌, map, refl, ap, sym, ◌∙◌, Option}
+use Rattle.std.proofs.Common.{◌≡◌, map, ap, sym, ◌∙◌, Option}
 use Rattle.std.specs.Option.{option_map}
 use Rattle.std.specs.Global.{Vec, Box}
 use Rattle.meaning.specs.declared.resolved.Span.{Span}

@@ -1,5 +1,5 @@
 -- Tests of a `do` that lead back themselves.
-use Rattle.std.proofs.Common.{◌≡◌, ℕ, ◌+◌, ◌≤◌, List, [], ◌∷◌, ◌++◌, length, Some, Bool, true, false, refl, sym, ap}
+use Rattle.std.proofs.Common.{◌≡◌, ℕ, ◌+◌, ◌≤◌, List, [], ◌∷◌, ◌++◌, Some, Bool, true, false, refl, sym, ap}
 use Rattle.std.proofs.Common.{◌∙◌, subst, arith, append_assoc}
 use Rattle.std.specs.Prelude.{◌||◌, ◌&&◌, ◌==◌, not, if◌then◌else◌, slice_get}
 use Rattle.std.specs.List.{list_any}
@@ -8,7 +8,7 @@ use Rattle.syntax_trees.specs.declared.tree.Comparison.{Comparison}
 use Rattle.syntax_trees.specs.declared.tree.Equality.{Equality}
 use Rattle.meaning.specs.Resolved.{Value, Values}
 use Rattle.meaning.specs.Resolved as source
-use Rattle.meaning.specs.Accepted.{IsWhole, need_of, needs_of}
+use Rattle.meaning.specs.Accepted.{IsWhole}
 use Rattle.meaning.specs.World.{Situation, Comes, to, ◌>>=◌, give, spend, value_in}
 use Rattle.meaning.specs.Meaning.{truth, is_true, compared, equated, evaluate, evaluate_all, until}
 use Rattle.code_drafts.specs.Items.{Item, Operand, variable, push, Test, is_zero, same, alone, left_of, operand_of}
