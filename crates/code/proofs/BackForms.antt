@@ -6,14 +6,12 @@ use Rattle.std.specs.List.{list_any}
 use Rattle.std.proofs.lemmas.Bool.{leb-true}
 use Rattle.code_branch_forms.specs.declared.layout.Form.{Form}
 use Rattle.code_branch_forms.specs.declared.layout.Form.TheVariants as form
-use Rattle.code_branch_forms.specs.declared.layout.Part.{Part}
 use Rattle.code_branch_forms.specs.Layout.{first, size_with, form_for, offset_over, part_size, lefts}
 use Rattle.code_drafts.specs.Items.{Item}
 use Rattle.code_drafts.specs.Items as items
 use Rattle.code_encoding.specs.Addresses.{Sizes}
-use Rattle.code_instructions.specs.Places.{target_of, label_size}
+use Rattle.code_instructions.specs.Places.{target_of}
 use Rattle.code.specs.Bytes.{least_size, least_sum, part_of, parts_with, code_size, is_near, is_back, has_back}
-use Rattle.code.specs.Bytes.{back_size}
 
 -- the offset of a branch back in two bytes of branch data, or of the jump that goes back instead
 abbrev pub BackForm : Bool → ℕ → Type 0

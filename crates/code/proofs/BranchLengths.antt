@@ -92,7 +92,7 @@ both_pushed (items.pushed ∷ items.variable x ∷ os) e = absurd (cc)
 both_pushed (items.pushed ∷ items.pushed ∷ o ∷ os) e = absurd (cc)
 
 -- the bytes of a test beside its label
-abbrev before_label : Bool → Test → List items.Operand → ℕ
+abbrev pub before_label : Bool → Test → List items.Operand → ℕ
 before_label both test os = if both then beside (test_operation (turned test)) (top ∷ top ∷ [])
     else length (bytes_of_all (takes os)) + beside (test_operation test) (operands os)
 

@@ -1,6 +1,6 @@
 -- The branches of a routine that lead back.
-use Rattle.std.proofs.Common.{◌≡◌, ℕ, zero, suc, ◌+◌, ◌-◌, ◌%◌, ◌<◌, ◌≤◌, List, [], ◌∷◌, ◌++◌, length, Bool, true, false}
-use Rattle.std.proofs.Common.{Option, None, refl, sym, ap, ◌∙◌, subst, arith, length-append}
+use Rattle.std.proofs.Common.{◌≡◌, ℕ, zero, suc, ◌+◌, ◌-◌, ◌%◌, ◌<◌, ◌≤◌, List, [], ◌∷◌, ◌++◌, length, Bool, true}
+use Rattle.std.proofs.Common.{false, Option, None, refl, sym, ap, ◌∙◌, subst, arith, length-append}
 use Rattle.std.specs.Prelude.{not, nat_lt, nat_le, if◌then◌else◌}
 use Rattle.std.specs.List.{All, flat_map}
 use Rattle.std.proofs.lemmas.Bool.{leb-true, le-leb, le-ltb, lt-ltb}
@@ -13,7 +13,6 @@ use Rattle.zcore.specs.declared.place.Place.TheVariants as places
 use Rattle.zcore.specs.declared.instruction.Operation.TheVariants as operations
 use Rattle.zcore.specs.Operations.{count_of, has_more_types}
 use Rattle.zcore.specs.Operations as numbers
-use Rattle.zcore.specs.Instruction.{Instruction}
 use Rattle.zcore.specs.InstructionBytes.{bytes_of, FitsOperand, operand_bytes, opcode_bytes}
 use Rattle.zcore.specs.State.{State, done}
 use Rattle.zcore.specs.Parts.{operand_values, branch_target, jump_target}
@@ -31,7 +30,7 @@ use Rattle.code_selection.specs.ItemBytes.{text_bytes}
 use Rattle.code.specs.Bytes.{place_of, code_size, is_near}
 use Rattle.code.specs.HeldProgram.{sizes_of}
 use Rattle.code.proofs.Behind.{Holds}
-use Rattle.code.proofs.Play.{Leads, Led, address, base, HoldsAside, none_aside, stays}
+use Rattle.code.proofs.Play.{Leads, Led, address, base, none_aside, stays}
 use Rattle.code.proofs.Parts.{machine as at_words}
 use Rattle.code.proofs.Steps.{point, leads_then, two_operands}
 use Rattle.code.proofs.Ends.{does_halt, does_after}
@@ -47,7 +46,7 @@ use Rattle.code.proofs.Temporaries.{Scratch, scratch_here, held_in}
 use Rattle.code.proofs.Taking.{after_takes, taken, apart}
 use Rattle.code.proofs.Alone.{IsOperandHere, next_place, alone_value}
 use Rattle.code.proofs.Branching.{item_ends}
-use Rattle.code.proofs.Jumping.{is_in, short, target_within, target_above, good_there}
+use Rattle.code.proofs.Jumping.{is_in, short, target_within, target_above}
 use Rattle.code.proofs.Tests.{labelled_fit, branching_some, TestOf, Counted, few_tested, few_given, asked, test_of}
 use Rattle.code.proofs.Tests.{holds_turned, counted_turned}
 use Rattle.code.proofs.BranchLengths.{both_pushed, beside, branching_length}
@@ -69,15 +68,18 @@ least_back op os when offset some low few =
     let form : flat_map bytes_of (labelled_below back_limit op os when offset) ≡ bytes_of i ++ [] =
     ap (λ (b : Bool). flat_map bytes_of (if b then i ∷ [] else branching op os (not when) 5 ∷ plain operations.Jump
     (Large (offset % 65536) ∷ []) ∷ [])) near in
+    let long : length (bytes_of i) ≡ beside op os + 2 =
+    branching_length op os when offset ∙ ap (λ (b : Bool). beside op os + (if b then 1 else 2)) two in
     let opcode = opcode_bytes (count_of op) (numbers.number_of op) (has_more_types op) os in
+    let whole : beside op os ≡ length (opcode ++ flat_map operand_bytes os) + 0 =
+    length-append (opcode ++ flat_map operand_bytes os) [] in
     omega (
       arith,
       ap length form,
       length-append (bytes_of i) [],
-      branching_length op os when offset,
-      ap (λ (b : Bool). if b then 1 else 2) two,
-      length-append opcode (flat_map operand_bytes os ++ []),
-      length-append (flat_map operand_bytes os) [],
+      long,
+      whole,
+      length-append opcode (flat_map operand_bytes os),
       operands_some os some,
     )
 
@@ -111,7 +113,7 @@ module _ (c : Running) where
       le-ltb _ _ (omega (arith, is, few, ends_by (sizes_of p) (is_in c) (place + 1))) in (
         omega (arith, is, few, ends_by (sizes_of p) (is_in c) (place + 1)),
         ap (λ (b : Bool). if b then next_place c + offset_back target - 2
-        else next_place c + offset_back target - 16386) large
+            else next_place c + offset_back target - 16386) large
             ∙ omega (arith, is, long),
       )
 
@@ -249,7 +251,14 @@ module _ (c : Running) where
         memory = memory;
         count = count;
         counts = counts;
-        good = record (good_there c target rest None fuel left (none_aside story m)) {
+        good = record {
+          known = good.known;
+          locals = good.locals;
+          room = left;
+          callers = good.callers;
+          few = good.few;
+          globals = good.globals;
+          sizes = good.sizes;
           stored = scratch.stored;
           put_aside = none_aside story memory;
         };

@@ -1,7 +1,7 @@
 -- The code of a routine from its items.
-use Rattle.std.proofs.Common.{◌≡◌, ℕ, suc, ◌+◌, ◌-◌, ◌*◌, ◌%◌, ◌<◌, ◌≤◌, List, [], ◌∷◌, ◌++◌, length, drop, reverse}
-use Rattle.std.proofs.Common.{slice_index, slice_index_or, Bool, true, Option, Some, None, refl, sym, ap, ◌∙◌, arith, append_assoc}
-use Rattle.std.proofs.Common.{length-append}
+use Rattle.std.proofs.Common.{◌≡◌, ℕ, suc, ◌+◌, ◌-◌, ◌%◌, ◌<◌, ◌≤◌, List, [], ◌∷◌, ◌++◌, length, drop, reverse}
+use Rattle.std.proofs.Common.{slice_index, slice_index_or, Bool, true, Option, refl, sym, ap, ◌∙◌, arith}
+use Rattle.std.proofs.Common.{append_assoc, length-append}
 use Rattle.std.specs.Prelude.{map}
 use Rattle.std.proofs.Math.Seq.{drop-cons}
 use Rattle.std.proofs.lemmas.List.{reverse-reverse, drop_all}
@@ -51,12 +51,14 @@ parts_on ps ps1 x y rest more total last same is all =
 -- of a program of these sizes
 module _ (sizes : Sizes) where
   -- one part more
-  pub part_next : (near : Bool) (b b1 : List ℕ) (ps ps1 : List Part) (xs : List code.Item) (i : ℕ) (x : code.Item) (item : Item)
-      (size : ℕ) (target : Option ℕ) (total : List Part) (sum : ℕ) → i < length xs
+  pub part_next : (near : Bool) (b b1 : List ℕ) (ps ps1 : List Part) (xs : List code.Item) (i : ℕ) (x : code.Item)
+      (item : Item) (size : ℕ) (target : Option ℕ) (total : List Part) (sum : ℕ) → i < length xs
       → item ≡ item_of (slice_index_or xs i x)
-      → ps ++ parts_with sizes near (items_of (drop i xs)) ≡ total → length b + least_sum sizes (items_of (drop i xs)) ≡ sum
+      → ps ++ parts_with sizes near (items_of (drop i xs)) ≡ total
+      → length b + least_sum sizes (items_of (drop i xs)) ≡ sum
       → b1 ≡ b ++ item_bytes sizes no_addresses 2 item → target ≡ target_of item
-      → size ≡ length b1 - length b - label_size target + back_size near item → ps1 ≡ ps ++ record { size = size; target = target } ∷ []
+      → size ≡ length b1 - length b - label_size target + back_size near item
+      → ps1 ≡ ps ++ record { size = size; target = target } ∷ []
       → (ps1 ++ parts_with sizes near (items_of (drop (i + 1) xs)) ≡ total)
       × (length b1 + least_sum sizes (items_of (drop (i + 1) xs)) ≡ sum)
   part_next near b b1 ps ps1 xs i x item size target total sum h is all long more to size_is last =
@@ -77,8 +79,8 @@ module _ (sizes : Sizes) where
   parts_length near [] = refl
   parts_length near (i ∷ is) = ap suc (parts_length near is)
 
-  pub all_sum : (n sum : ℕ) (xs : List code.Item) (i : ℕ) → length xs ≤ i → n + least_sum sizes (items_of (drop i xs)) ≡ sum
-      → n ≡ sum
+  pub all_sum : (n sum : ℕ) (xs : List code.Item) (i : ℕ) → length xs ≤ i
+      → n + least_sum sizes (items_of (drop i xs)) ≡ sum → n ≡ sum
   all_sum n sum xs i h e = let none = ap (λ ys. least_sum sizes (items_of ys)) (nothing_left xs i h) in
       omega (arith, e, none)
 
@@ -106,7 +108,8 @@ module _ (sizes : Sizes) where
       let whole = from_item xs i x h ∙ ap (λ y. y ∷ items_of (drop (i + 1) xs)) (sym is) in
       let rest = items_of (drop (i + 1) xs) in
       ap (λ l. l ++ items_bytes sizes near a places (i + 1) rest) (more ∙ ap (λ k. b ++ item_bytes sizes a k item) to)
-      ∙ append_assoc b (item_bytes sizes a (offset_of near places i item) item) (items_bytes sizes near a places (i + 1) rest)
+      ∙ append_assoc b (item_bytes sizes a (offset_of near places i item) item)
+      (items_bytes sizes near a places (i + 1) rest)
       ∙ ap (λ l. b ++ items_bytes sizes near a places i l) (sym whole) ∙ all
 
   -- where items stand, by what was laid out
@@ -123,7 +126,9 @@ module _ (sizes : Sizes) where
 
   pub last_place : (xs : List code.Item) (n : ℕ) → n ≡ length xs
       → place_of sizes (items_of xs) n ≡ code_size sizes (items_of xs)
-  last_place xs n e = ends_at sizes (items_of xs) n (omega (arith, e, parts_length (is_near sizes (items_of xs)) (items_of xs), items_length xs))
+  last_place xs n e =
+      ends_at sizes (items_of xs) n
+      (omega (arith, e, parts_length (is_near sizes (items_of xs)) (items_of xs), items_length xs))
 
   pub left_count : (left : List ℕ) (xs : List code.Item) → left ≡ reverse (lefts_of sizes (items_of xs))
       → length left ≡ length xs + 1
@@ -150,7 +155,8 @@ module _ (sizes : Sizes) where
           behind j ∙ ap (slice_index (lefts_of sizes all)) number
 
       go : (i : Item)
-          → ((j : ℕ) → slice_index (lefts (n + 1) (parts_with sizes near is)) j ≡ slice_index (lefts_of sizes all) (suc n + j))
+          → ((j : ℕ) → slice_index (lefts (n + 1) (parts_with sizes near is)) j
+          ≡ slice_index (lefts_of sizes all) (suc n + j))
           → map (λ (u : BranchUse). u.offset) (uses (n + 1) (parts_with sizes near is))
           ≡ branch_offsets (place_of sizes all) (n + 1) is
           → map (λ (u : BranchUse). u.offset) (uses n (parts_with sizes near (i ∷ is)))
@@ -185,8 +191,8 @@ module _ (sizes : Sizes) where
   -- what is written of a routine
   pub code_written : (a : Addresses) (v : CodeOf) (is : List Item) (locals : ℕ) (s s1 b b1 z : List ℕ)
       → record { locals = locals; sizes = sizes; items = is } ≡ v
-      → b ≡ (locals % 256) ∷ [] → b1 ≡ b ++ items_bytes sizes (is_near sizes is) a (place_of sizes is) 0 is → z ≡ b1 → s1 ≡ s ++ z
+      → b ≡ (locals % 256) ∷ [] → b1 ≡ b ++ code_bytes sizes a is → z ≡ b1 → s1 ≡ s ++ z
       → s1 ≡ s ++ (v.locals % 256) ∷ code_bytes v.sizes a v.items
   code_written a v is locals s s1 b b1 z ev eb e1 ez e =
-      e ∙ ap (λ w. s ++ w) (ez ∙ e1 ∙ ap (λ w. w ++ items_bytes sizes (is_near sizes is) a (place_of sizes is) 0 is) eb)
+      e ∙ ap (λ w. s ++ w) (ez ∙ e1 ∙ ap (λ w. w ++ code_bytes sizes a is) eb)
       ∙ ap (λ (w : CodeOf). s ++ (w.locals % 256) ∷ code_bytes w.sizes a w.items) ev

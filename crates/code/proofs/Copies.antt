@@ -15,7 +15,7 @@ use Rattle.code_encoding.specs.Addresses.{Addresses, Sizes}
 use Rattle.code_instructions.specs.Places.{offset_of}
 use Rattle.code_selection.specs.ItemBytes.{item_bytes}
 use Rattle.code.specs.Bytes.{no_addresses, is_settled, parts_of, lefts_of, place_of, kept_of, kept_bytes}
-use Rattle.code.specs.Bytes.{items_bytes, is_near}
+use Rattle.code.specs.Bytes.{items_bytes, code_bytes, is_near}
 use Rattle.code.proofs.Codes.{from_item, bytes_next}
 use Rattle.code.proofs.Places.{falls, item_size}
 
@@ -203,13 +203,20 @@ module _ (sizes : Sizes) where
       ap (λ (l : List ℕ). slice_index l first - slice_index l end)
       (ap reverse turned ∙ reverse-reverse (lefts_of sizes is))
 
+  -- the offset of the item of a number, and the bytes of items from one on
+  abbrev pub offset_in : List code.Item → ℕ → Item → ℕ
+  offset_in xs k item = offset_of (is_near sizes (items_of xs)) (place_of sizes (items_of xs)) k item
+
+  abbrev pub bytes_in : Addresses → List code.Item → ℕ → List Item → List ℕ
+  bytes_in a xs k is = items_bytes sizes (is_near sizes (items_of xs)) a (place_of sizes (items_of xs)) k is
+
   -- a settled item more
   one_between : (xs : List code.Item) (start k : ℕ) (x : code.Item) (item : Item) → start ≤ k → k < length xs
       → item ≡ item_of (slice_index_or xs k x) → is_settled item ≡ true
       → between (items_of xs) start (k + 1) ≡ between (items_of xs) start k + length (kept_of sizes item)
   one_between xs start k x item low h is s =
       let there : slice_get (items_of xs) k ≡ Some item = item_at xs k x h ∙ ap (λ (y : Item). Some y) (sym is) in
-      let offset = offset_of (is_near sizes (items_of xs)) (place_of sizes (items_of xs)) k item in
+      let offset = offset_in xs k item in
       let size : between (items_of xs) k (k + 1) ≡ length (kept_of sizes item) =
       item_size sizes no_addresses (items_of xs) k item there
       ∙ ap length (sym (kept_settled item s ∙ settled_same no_addresses offset item s)) in
@@ -221,14 +228,14 @@ module _ (sizes : Sizes) where
   pub record Copying (a : Addresses) (xs : List code.Item) (bytes rest total : List ℕ) (start k : ℕ) : Type 0 where
     pub low : start ≤ k
     pub are : (bytes ++ take (between (items_of xs) start k) rest)
-        ++ items_bytes sizes (is_near sizes (items_of xs)) a (place_of sizes (items_of xs)) k (items_of (drop k xs)) ≡ total
+        ++ bytes_in a xs k (items_of (drop k xs)) ≡ total
     pub left : drop (between (items_of xs) start k) rest ≡ kept_bytes sizes (items_of (drop k xs))
 
   pub none_copied : (a : Addresses) (xs : List code.Item) (bytes rest : List ℕ)
       → rest ≡ kept_bytes sizes (items_of xs)
-      → Copying a xs bytes rest (bytes ++ items_bytes sizes (is_near sizes (items_of xs)) a (place_of sizes (items_of xs)) 0 (items_of xs)) 0 0
+      → Copying a xs bytes rest (bytes ++ code_bytes sizes a (items_of xs)) 0 0
   none_copied a xs bytes rest is =
-      let all = items_bytes sizes (is_near sizes (items_of xs)) a (place_of sizes (items_of xs)) 0 (items_of xs) in
+      let all = code_bytes sizes a (items_of xs) in
       let none : between (items_of xs) 0 0 ≡ 0 = omega arith in
       record {
         low = omega arith;
@@ -244,10 +251,10 @@ module _ (sizes : Sizes) where
   settled_copied a xs bytes rest total start k x item c h is s =
       let m = between (items_of xs) start k in
       let n = length (kept_of sizes item) in
-      let own = item_bytes sizes a (offset_of (is_near sizes (items_of xs)) (place_of sizes (items_of xs)) k item) item in
+      let own = item_bytes sizes a (offset_in xs k item) item in
       let sum : between (items_of xs) start (k + 1) ≡ m + n = one_between xs start k x item c.low h is s in
       let same : kept_of sizes item ≡ own =
-      kept_settled item s ∙ settled_same a (offset_of (is_near sizes (items_of xs)) (place_of sizes (items_of xs)) k item) item s in
+      kept_settled item s ∙ settled_same a (offset_in xs k item) item s in
       let run : take (between (items_of xs) start (k + 1)) rest ≡ take m rest ++ own =
       ap (λ i. take i rest) sum ∙ take_sum m n rest ∙ ap (λ l. take m rest ++ take n l) c.left
       ∙ ap (λ l. take m rest ++ l) (kept_here xs k x item h is ∙ same) in
@@ -255,7 +262,7 @@ module _ (sizes : Sizes) where
         low = omega (arith, c.low);
         are = bytes_next sizes (is_near sizes (items_of xs)) a (place_of sizes (items_of xs)) (bytes ++ take m rest)
             (bytes ++ take (between (items_of xs) start (k + 1)) rest) xs k x item
-            (offset_of (is_near sizes (items_of xs)) (place_of sizes (items_of xs)) k item) total h is c.are refl
+            (offset_in xs k item) total h is c.are refl
             (ap (λ l. bytes ++ l) run ∙ sym (append_assoc bytes (take m rest) own));
         left = ap (λ i. drop i rest) sum ∙ drop_sum m n rest ∙ ap (drop n) c.left ∙ kept_after xs k x item h is;
       }
@@ -265,11 +272,11 @@ module _ (sizes : Sizes) where
       (start k run offset : ℕ) (x : code.Item) (item : Item)
       → Copying a xs bytes rest total start k → k < length xs → item ≡ item_of (slice_index_or xs k x)
       → is_settled item ≡ false → run ≡ between (items_of xs) start k → b1 ≡ bytes ++ take run rest
-      → offset ≡ offset_of (is_near sizes (items_of xs)) (place_of sizes (items_of xs)) k item → b2 ≡ b1 ++ item_bytes sizes a offset item
+      → offset ≡ offset_in xs k item → b2 ≡ b1 ++ item_bytes sizes a offset item
       → rest1 ≡ drop run rest → Copying a xs b2 rest1 total (k + 1) (k + 1)
   other_copied a xs bytes rest total b1 b2 rest1 start k run offset x item c h is s r e1 to e2 er =
       let m = between (items_of xs) start k in
-      let after = items_bytes sizes (is_near sizes (items_of xs)) a (place_of sizes (items_of xs)) (k + 1) (items_of (drop (k + 1) xs)) in
+      let after = bytes_in a xs (k + 1) (items_of (drop (k + 1) xs)) in
       let more = kept_bytes sizes (items_of (drop (k + 1) xs)) in
       let none : between (items_of xs) (k + 1) (k + 1) ≡ 0 = omega arith in
       let whole : b2 ≡ (bytes ++ take m rest) ++ item_bytes sizes a offset item =
@@ -277,8 +284,9 @@ module _ (sizes : Sizes) where
       record {
         low = omega arith;
         are = ap (λ i. (b2 ++ take i rest1) ++ after) none ∙ ap (λ l. l ++ after) (append-nil b2)
-            ∙ bytes_next sizes (is_near sizes (items_of xs)) a (place_of sizes (items_of xs)) (bytes ++ take m rest) b2 xs k x item offset total h is
-            c.are to whole;
+            ∙ bytes_next sizes (is_near sizes (items_of xs)) a (place_of sizes (items_of xs)) (bytes ++ take m rest) b2
+            xs k x item
+            offset total h is c.are to whole;
         left = ap (λ i. drop i rest1) none ∙ er ∙ ap (λ i. drop i rest) r ∙ c.left ∙ kept_from xs k x item h is
             ∙ ap (λ l. l ++ more) (kept_other item s);
       }
@@ -291,5 +299,5 @@ module _ (sizes : Sizes) where
       let front : rest ≡ take m rest =
       sym (take-append-drop m rest) ∙ ap (λ l. take m rest ++ l) none ∙ append-nil (take m rest) in
       e ∙ ap (λ l. bytes ++ l) front ∙ sym (append-nil (bytes ++ take m rest))
-      ∙ ap (λ ys. (bytes ++ take m rest) ++ items_bytes sizes (is_near sizes (items_of xs)) a (place_of sizes (items_of xs)) k (items_of ys))
+      ∙ ap (λ ys. (bytes ++ take m rest) ++ bytes_in a xs k (items_of ys))
       (sym (drop_all k xs h)) ∙ c.are

@@ -93,7 +93,7 @@ module _ (c : Running) where
   pub target_above : (n : ℕ) → 64 ≤ address story a p routine n
   target_above n = omega (arith, (holds.routines routine good.known).above, holds.globals_above, holds.globals_below)
 
-  pub good_there : (n : ℕ) (stack : List ℕ) (aside : Option ℕ) (fuel : ℕ) → length stack ≤ 48
+  good_there : (n : ℕ) (stack : List ℕ) (aside : Option ℕ) (fuel : ℕ) → length stack ≤ 48
       → HoldsAside story m aside
       → Good story a p (record {
         routine = routine;

@@ -24,7 +24,7 @@ use Rattle.code_encoding.specs.Addresses.{Addresses}
 use Rattle.code_encoding.specs.Instructions.{plain}
 use Rattle.code_instructions.specs.Places.{offset_of}
 use Rattle.code_selection.specs.ItemBytes.{item_bytes}
-use Rattle.code.specs.Bytes.{place_of, code_bytes, is_near, is_back, code_size}
+use Rattle.code.specs.Bytes.{place_of, code_bytes, is_near}
 use Rattle.code.specs.Laws.{CodePlays}
 use Rattle.code.specs.HeldProgram.{sizes_of, HoldsProgram}
 use Rattle.code.proofs.Play.{items_in, address, next_of, state_of, Good, LedBy, none_aside}
@@ -121,16 +121,17 @@ module _ (story : List ℕ) (a : Addresses) (p : ProgramOf) (accepted : IsAccept
       let code = (holds_byte story (unpacked story (slice_index a.routines r)) (routine_at p.routines r).locals
       (code_bytes (sizes_of p) a is) h.bytes).rest in
       let begin : base ≡ base + place_of (sizes_of p) is 0 = omega (arith, starts (sizes_of p) is) in
-      let there = item_holds (sizes_of p) story (is_near (sizes_of p) is) a (place_of (sizes_of p) is) base is 0 s.place i
+      let near = is_near (sizes_of p) is in
+      let there = item_holds (sizes_of p) story near a (place_of (sizes_of p) is) base is 0 s.place i
       (follow (sizes_of p) a is)
       (subst (λ q. Holds story q (code_bytes (sizes_of p) a is)) begin code) e in
       let zero_and : 0 + s.place ≡ s.place = omega arith in
       record {
         held = holds_on (static_base_of story) (address story a p r s.place) story m
-            (item_bytes (sizes_of p) a (offset_of (is_near (sizes_of p) is) (place_of (sizes_of p) is) s.place i) i) good.stored.kept
+            (item_bytes (sizes_of p) a (offset_of near (place_of (sizes_of p) is) s.place i) i) good.stored.kept
             (omega (arith, h.above))
             (subst (λ x. Holds story (base + place_of (sizes_of p) is x)
-            (item_bytes (sizes_of p) a (offset_of (is_near (sizes_of p) is) (place_of (sizes_of p) is) x i) i)) zero_and
+            (item_bytes (sizes_of p) a (offset_of near (place_of (sizes_of p) is) x i) i)) zero_and
             there);
         next = omega (arith, next_place (sizes_of p) a is s.place i e);
         followed = omega (arith, h.followed, ends_by (sizes_of p) is (s.place + 1), good.stored.size);
@@ -234,8 +235,8 @@ module _ (story : List ℕ) (a : Addresses) (p : ProgramOf) (accepted : IsAccept
       go (items.back target) f st is text = back_led c target words good.room st
       go (items.branch_back test os when target) f st is text =
           branch_back_led c test os when target s.put_aside words is.0 is.1 good.room
-          (near_small (sizes_of p) (items_in story a p s.routine) s.place (items.branch_back test os when target) f refl)
-          st
+          (near_small (sizes_of p) (items_in story a p s.routine) s.place (items.branch_back test os when target) f
+          refl) st
       go (items.call r os d) f st is text = call_led c r os d words is.0 is.1 is.4 is.2 good.room st
       go (items.call_aside r os d) f st is text =
           call_aside_led c r os d s.put_aside words is.0 is.1 is.4 is.5 is.2 good.room good.put_aside st

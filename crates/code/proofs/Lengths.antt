@@ -1,7 +1,7 @@
 -- How long the bytes of an item are: it depends on no address, and of its branch on the form alone.
-use Rattle.std.proofs.Common.{◌≡◌, ℕ, ◌+◌, ◌-◌, ◌%◌, ◌≤◌, List, [], ◌∷◌, ◌++◌, length, Option, Some, Bool, true, refl, ap}
-use Rattle.std.proofs.Common.{◌∙◌, arith, length-append, append-nil}
-use Rattle.std.specs.Prelude.{not, take}
+use Rattle.std.proofs.Common.{◌≡◌, ℕ, ◌+◌, ◌-◌, ◌%◌, ◌≤◌, List, [], ◌∷◌, ◌++◌, length, Option, Some, Bool}
+use Rattle.std.proofs.Common.{true, false, refl, ap, ◌∙◌, arith, length-append, append-nil}
+use Rattle.std.specs.Prelude.{not, take, if◌then◌else◌}
 use Rattle.zcore.specs.declared.instruction.Operand.{Operand}
 use Rattle.zcore.specs.declared.instruction.Operand.TheVariants.{Small, Variable}
 use Rattle.zcore.specs.declared.instruction.Operation.TheVariants as operations
@@ -18,7 +18,7 @@ use Rattle.code_selection.specs.ItemCode.{item_code}
 use Rattle.code_objects.specs.ObjectCode.{tests_in, objects_of, property_address, assigned_takes, assigned_word}
 use Rattle.code_selection.specs.ItemBytes.{item_bytes, text_bytes}
 use Rattle.code_instructions.specs.Places.{label_size, target_of}
-use Rattle.code.specs.Bytes.{no_addresses, least_size, part_of, is_back}
+use Rattle.code.specs.Bytes.{no_addresses, least_size, part_of, is_back, back_size}
 use Rattle.code.proofs.BackForms.{BackForm}
 use Rattle.code.proofs.BackLengths.{back_length}
 use Rattle.code.proofs.AddressLengths.{all_length}
@@ -58,12 +58,12 @@ module _ (sizes : Sizes) (near : Bool) where
 
   -- an item that ends in a branch to a label, by how long its code is
   labelled_size : (a : Addresses) (n : ℕ) (rest : List ℕ) (i : Item) (target : ℕ) → target_of i ≡ Some target
-      → text_bytes sizes.abbreviations i ≡ []
+      → is_back i ≡ false → text_bytes sizes.abbreviations i ≡ []
       → ((offset : ℕ) → length (bytes_of_all (item_code sizes a offset i)) + 1
       ≡ length (bytes_of_all (item_code sizes no_addresses 2 i)) + size_with (form_for offset))
       → 1 ≤ length (bytes_of_all (item_code sizes no_addresses 2 i))
       → length (item_bytes sizes a (offset_over (target - (n + 1)) rest) i) ≡ part_size n (part_of sizes near i) rest
-  labelled_size a n rest i target t text long some =
+  labelled_size a n rest i target t ahead text long some =
       let offset = offset_over (target - (n + 1)) rest in
       let least : least_size sizes i ≡ length (bytes_of_all (item_code sizes no_addresses 2 i)) =
       ap (λ xs. length (bytes_of_all (item_code sizes no_addresses 2 i) ++ xs)) text
@@ -71,15 +71,18 @@ module _ (sizes : Sizes) (near : Bool) where
       let whole : length (item_bytes sizes a offset i) ≡ length (bytes_of_all (item_code sizes a offset i)) =
       ap (λ xs. length (bytes_of_all (item_code sizes a offset i) ++ xs)) text
       ∙ ap length (append-nil (bytes_of_all (item_code sizes a offset i))) in
-      let beside : part_size n (part_of sizes near i) rest ≡ least_size sizes i - 1 + size_with (form_for offset) =
-      ap (λ (x : Option ℕ). part_size n (record { size = least_size sizes i - label_size x; target = x }) rest) t in
-      omega (arith, long offset, some, least, whole, beside)
+      let more : back_size near i ≡ 0 = ap (λ (b : Bool). if b then (if near then 1 else 3) else 0) ahead in
+      let beside : part_size n (part_of sizes near i) rest
+      ≡ least_size sizes i - 1 + back_size near i + size_with (form_for offset) =
+      ap (λ (x : Option ℕ).
+      part_size n (record { size = least_size sizes i - label_size x + back_size near i; target = x }) rest) t in
+      omega (arith, long offset, some, least, whole, more, beside)
 
   is_in_size : (a : Addresses) (n : ℕ) (rest : List ℕ) (o q : items.Operand) (when : Bool) (target : ℕ)
       → length (item_bytes sizes a (offset_over (target - (n + 1)) rest) (items.is_in o q when target))
       ≡ part_size n (part_of sizes near (items.is_in o q when target)) rest
   is_in_size a n rest o q when target =
-      labelled_size a n rest (items.is_in o q when target) target refl refl
+      labelled_size a n rest (items.is_in o q when target) target refl refl refl
       (λ offset. omega (
         arith,
         all_length (assigned_takes q) (asked a offset),
@@ -105,7 +108,7 @@ module _ (sizes : Sizes) (near : Bool) where
       ≡ part_size n (part_of sizes near (items.has o k when target)) rest
   has_size a n rest o k when target =
       let words = word_in 0 o ∷ Small (k % 256) ∷ [] in
-      labelled_size a n rest (items.has o k when target) target refl refl
+      labelled_size a n rest (items.has o k when target) target refl refl refl
       (label_length a no_addresses (objects_of sizes) o [] operations.TestAttribute words when)
       (label_some no_addresses (objects_of sizes) o [] operations.TestAttribute words when)
 
@@ -115,7 +118,7 @@ module _ (sizes : Sizes) (near : Bool) where
   provides_size a n rest o k when target =
       let before = property_address (word_in 0 o) (k % 256) (temporary 0) ∷ [] in
       let words = Variable (temporary 0) ∷ [] in
-      labelled_size a n rest (items.provides o k when target) target refl refl
+      labelled_size a n rest (items.provides o k when target) target refl refl refl
       (label_length a no_addresses (objects_of sizes) o before operations.JumpIfZero words (not when))
       (label_some no_addresses (objects_of sizes) o before operations.JumpIfZero words (not when))
 

@@ -1,6 +1,6 @@
 -- Where items stand, and their bytes.
-use Rattle.std.proofs.Common.{◌≡◌, ◌⊎◌, inl, inr, ℕ, zero, suc, ◌+◌, ◌-◌, ◌<◌, ◌≤◌, List, [], ◌∷◌, length, Some, Bool, true}
-use Rattle.std.proofs.Common.{false, refl, sym, ap, ◌∙◌, subst, arith, length-append}
+use Rattle.std.proofs.Common.{◌≡◌, ◌⊎◌, inl, inr, ℕ, zero, suc, ◌+◌, ◌-◌, ◌<◌, ◌≤◌, List, [], ◌∷◌, length, Some}
+use Rattle.std.proofs.Common.{Bool, true, false, refl, sym, ap, ◌∙◌, subst, arith, length-append}
 use Rattle.std.specs.Prelude.{slice_get, slice_index, nat_lt}
 use Rattle.std.proofs.lemmas.Bool.{cases_lt, lt-ltb, le-ltb}
 use Rattle.zcore.specs.Parts.{jump_target}
@@ -182,14 +182,15 @@ module _ (sizes : Sizes) where
   Follow near a places from is = (n : ℕ) (i : Item) → slice_get is n ≡ Some i
       → places (from + n + 1) ≡ places (from + n) + length (item_bytes sizes a (offset_of near places (from + n) i) i)
 
-  one_on : (near : Bool) (a : Addresses) (places : ℕ → ℕ) (from : ℕ) (y : Item) (is : List Item) → Follow near a places from (y ∷ is)
-      → Follow near a places (from + 1) is
+  one_on : (near : Bool) (a : Addresses) (places : ℕ → ℕ) (from : ℕ) (y : Item) (is : List Item)
+      → Follow near a places from (y ∷ is) → Follow near a places (from + 1) is
   one_on near a places from y is f n i e =
       let number : from + suc n ≡ from + 1 + n = omega arith in
       subst (λ k. places (k + 1) ≡ places k + length (item_bytes sizes a (offset_of near places k i) i)) number
       (f (suc n) i e)
 
-  first_on : (near : Bool) (a : Addresses) (places : ℕ → ℕ) (from : ℕ) (y : Item) (is : List Item) → Follow near a places from (y ∷ is)
+  first_on : (near : Bool) (a : Addresses) (places : ℕ → ℕ) (from : ℕ) (y : Item) (is : List Item)
+      → Follow near a places from (y ∷ is)
       → places (from + 1) ≡ places from + length (item_bytes sizes a (offset_of near places from y) y)
   first_on near a places from y is f =
       let number : from + 0 ≡ from = omega arith in
@@ -197,8 +198,8 @@ module _ (sizes : Sizes) where
       (f 0 y refl)
 
   -- the bytes of the item of a number
-  pub item_holds : (memory : List ℕ) (near : Bool) (a : Addresses) (places : ℕ → ℕ) (base : ℕ) (is : List Item) (from n : ℕ)
-      (i : Item)
+  pub item_holds : (memory : List ℕ) (near : Bool) (a : Addresses) (places : ℕ → ℕ) (base : ℕ) (is : List Item)
+      (from n : ℕ) (i : Item)
       → Follow near a places from is
       → Holds memory (base + places from) (items_bytes sizes near a places from is) → slice_get is n ≡ Some i
       → Holds memory (base + places (from + n)) (item_bytes sizes a (offset_of near places (from + n) i) i)
@@ -221,7 +222,8 @@ module _ (sizes : Sizes) where
       (item_holds memory near a places base is (from + 1) n i (one_on near a places from y is f)
       (subst (λ q. Holds memory q (items_bytes sizes near a places (from + 1) is)) there rest) e)
 
-  bytes_length : (near : Bool) (a : Addresses) (places : ℕ → ℕ) (is : List Item) (from : ℕ) → Follow near a places from is
+  bytes_length : (near : Bool) (a : Addresses) (places : ℕ → ℕ) (is : List Item) (from : ℕ)
+      → Follow near a places from is
       → places from + length (items_bytes sizes near a places from is) ≡ places (from + length is)
   bytes_length near a places [] from f =
       let number : from + 0 ≡ from = omega arith in
@@ -236,15 +238,16 @@ module _ (sizes : Sizes) where
         more,
         same,
         first_on near a places from y is f,
-        length-append (item_bytes sizes a (offset_of near places from y) y) (items_bytes sizes near a places (from + 1) is),
+        length-append (item_bytes sizes a (offset_of near places from y) y)
+            (items_bytes sizes near a places (from + 1) is),
       )
 
   pub follow : (a : Addresses) (is : List Item) → Follow (is_near sizes is) a (place_of sizes is) 0 is
   follow a is n i e =
       let number : n ≡ 0 + n = omega arith in
       subst (λ k. place_of sizes is (k + 1)
-      ≡ place_of sizes is k + length (item_bytes sizes a (offset_of (is_near sizes is) (place_of sizes is) k i) i)) number
-      (next_place a is n i e)
+      ≡ place_of sizes is k + length (item_bytes sizes a (offset_of (is_near sizes is) (place_of sizes is) k i) i))
+      number (next_place a is n i e)
 
   parts_length : (near : Bool) (is : List Item) → length (parts_with sizes near is) ≡ length is
   parts_length near [] = refl

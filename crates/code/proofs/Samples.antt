@@ -1,5 +1,5 @@
 -- Bytes of items, computed, and the forms of branches.
-use Rattle.std.proofs.Common.{◌≡◌, ℕ, List, [], ◌∷◌, refl, true, false, Some, None}
+use Rattle.std.proofs.Common.{◌≡◌, ℕ, ◌+◌, List, [], ◌∷◌, refl, true, false, Some, None}
 use Rattle.std.specs.Prelude.{codes, replicate}
 use Rattle.ztext.specs.Alphabets.{spelling_of}
 use Rattle.ztext.specs.Words.{packed}
@@ -13,14 +13,14 @@ use Rattle.meaning.specs.declared.resolved.Variable.TheVariants as variables
 use Rattle.code_drafts.specs.Items.{Item, pushed, number, variable, push, into, aside, nowhere, is_zero, less, greater}
 use Rattle.code_drafts.specs.Items.{same, move, operate, operate_aside, step, entry, assign_entry, print_text}
 use Rattle.code_drafts.specs.Items.{entry_aside, assign_entry_aside}
-use Rattle.code_drafts.specs.Items.{read_line, branch, branch_back, case, jump, call, return}
+use Rattle.code_drafts.specs.Items.{read_line, branch, branch_back, case, jump, call, return, quit}
 use Rattle.code_branch_forms.specs.declared.layout.Form.TheVariants.{One, Two, Far}
 use Rattle.code_branch_forms.specs.declared.layout.Part.{Part}
 use Rattle.code_branch_forms.specs.declared.layout.BranchUse.{BranchUse}
 use Rattle.code_branch_forms.specs.Layout.{uses}
 use Rattle.code_encoding.specs.Addresses.{Addresses, Sizes}
 use Rattle.code_selection.specs.ItemBytes.{item_bytes}
-use Rattle.code.specs.Bytes.{parts_of, code_bytes}
+use Rattle.code.specs.Bytes.{parts_of, code_bytes, is_near}
 use Rattle.code.specs.HeldProgram.{start_code}
 
 abbrev pub a : Addresses
@@ -240,6 +240,22 @@ far_back : item_bytes sizes a (65536 + 57336) (branch_back is_zero (variable g �
     ≡ 160 ∷ 16 ∷ 69 ∷ 140 ∷ 223 ∷ 248 ∷ []
 unfolding bytes_of
 far_back = refl
+
+-- a branch back of three bytes, and so many others of one: 8,187 bytes at most, and 8,192
+abbrev over_quits : ℕ → List Item
+over_quits n = branch_back is_zero (variable g ∷ []) true 0 ∷ replicate n quit
+
+near_most : is_near sizes (over_quits 1636) ≡ true
+unfolding bytes_of
+near_most = refl
+
+far_least : is_near sizes (over_quits 1637) ≡ false
+unfolding bytes_of
+far_least = refl
+
+-- without a branch back
+none_back : is_near sizes (replicate 5000 quit) ≡ true
+none_back = refl
 
 prints : written (print_text (codes "hello")) ≡ 178 ∷ 53 ∷ 81 ∷ 198 ∷ 133 ∷ []
 unfolding bytes_of encoded_with packed spelling_of

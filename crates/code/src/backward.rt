@@ -22,8 +22,8 @@ fn is_back(item: &Item<'_>) -> bool
     matches!(item, Item::BranchBack(_, _, _, _))
 }
 
-/// The bytes of a branch back in addition to the shortest one: a second byte of branch data if it is
-/// near, or a jump.
+/// The bytes of a branch back in addition to the shortest one: a second byte of branch data if it
+/// is near, or a jump; none of any other item.
 pub fn back_size(near: bool, item: &Item<'_>) -> usize
     ensures { result ≡ spec.back_size near (item_of item.now) }
 {
@@ -54,6 +54,5 @@ pub fn is_near(sizes: &Sizes<'_>, items: &[Item<'_>], sum: usize) -> bool
     requires { sum ≡ spec.least_sum (sizes_in sizes.now) (items_of items.now) }
     ensures { result ≡ spec.is_near (sizes_in sizes.now) (items_of items.now) }
 {
-    !has_back(items)
-        || sum.saturating_add(items.len().saturating_mul(MOST_MORE)) <= MOST_BACK
+    !has_back(items) || sum.saturating_add(items.len().saturating_mul(MOST_MORE)) <= MOST_BACK
 }

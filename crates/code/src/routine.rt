@@ -8,13 +8,13 @@ ghost use Rattle.code_drafts.specs.Code.{items_of};
 ghost use Rattle.code_items.specs.Statements as definitions;
 ghost use Rattle.code_encoding.specs.Bytes.{Adds};
 ghost use Rattle.code_encoding.specs.Written.{addresses_of, sizes_in};
-ghost use Rattle.code.specs.Bytes.{lefts_of, place_of, items_bytes, kept_bytes};
+ghost use Rattle.code.specs.Bytes.{lefts_of, kept_bytes};
 ghost use Rattle.code.specs.Bytes as spec;
 ghost use Rattle.code.specs.HeldProgram.{sizes_of};
 ghost use Rattle.code.specs.Written.{AreSizesOf};
 
-use crate::fault::CodeFault;
 use crate::backward::{back_size, is_near};
+use crate::fault::CodeFault;
 use crate::settled::{after, between, front, is_settled, size_between};
 use code_branch_forms::{BranchUse, Part, branches, lay_out};
 use code_encoding::{Addresses, Sizes};
@@ -148,7 +148,8 @@ fn put_all_parts(
     items: &[Item<'_>],
 ) -> Result<bool, AllocError>
     requires { kept.now.items ≡ [] }
-    ensures near { IfOk result (λ near. near ≡ spec.is_near (sizes_in sizes.now) (items_of items.now)) }
+    ensures near { IfOk result (λ near. near
+        ≡ spec.is_near (sizes_in sizes.now) (items_of items.now)) }
     ensures parts { OnOk result (scratch.new.parts.items
         ≡ spec.parts_of (sizes_in sizes.now) (items_of items.now)) }
     ensures kept { OnOk result (kept.new.items
@@ -182,9 +183,7 @@ fn put_items(
     requires kept { kept.now ≡ kept_bytes (sizes_in sizes.now) (items_of items.now) }
     requires near { near ≡ spec.is_near (sizes_in sizes.now) (items_of items.now) }
     ensures { OnOk result (Adds bytes.old bytes.new
-        (items_bytes (sizes_in sizes.now) (spec.is_near (sizes_in sizes.now) (items_of items.now))
-        (addresses_of addresses.now)
-        (place_of (sizes_in sizes.now) (items_of items.now)) 0 (items_of items.now))) }
+        (spec.code_bytes (sizes_in sizes.now) (addresses_of addresses.now) (items_of items.now))) }
 {
     let mut rest = kept;
     let mut start = 0;

@@ -1,4 +1,4 @@
-use Rattle.std.proofs.Common.{◌≡◌, ◌∙◌, ◌-◌, ◌++◌, List, ℕ, take, drop, length, sym, ap, arith}
+use Rattle.std.proofs.Common.{◌≡◌, ◌∙◌, ◌+◌, ◌-◌, ◌++◌, List, ℕ, take, drop, length, sym, ap, arith}
 use Rattle.code_drafts.specs.Code.{item_of, items_of}
 use Rattle.code_encoding.specs.Written.{sizes_in}
 use Rattle.code.specs.Bytes.{least_sum}
@@ -14,8 +14,8 @@ returns-clause-fits c =
     let low = lefts_low sizes c.args.near 0 (items_of xs) in
     let sum = all_sum sizes (length c.loop-item.scratch.bytes.items) (least_sum sizes (items_of xs)) xs
     c.loop-item.item-index c.loop-item-test.false c.loop-item.invariant.1 in
-    let count = parts_count sizes c.args.near c.loop-item.scratch.parts.items xs c.loop-item.item-index c.loop-item-test.false
-    c.loop-item.invariant.0 in
+    let count = parts_count sizes c.args.near c.loop-item.scratch.parts.items xs c.loop-item.item-index
+    c.loop-item-test.false c.loop-item.invariant.0 in
     omega (
       arith,
       low,
@@ -56,9 +56,9 @@ loop-item-preserved c =
       c.len-before.ensures,
       c.loop-item.scratch.bytes.ok.0,
     ) in
-    let parts = part_next sizes c.args.near b b1 c.loop-item.scratch.parts.items c.push.new.self.items xs i x (item_of x)
-    c.let-size.size c.target_of-target.result _ _ within is c.loop-item.invariant.0
-    c.loop-item.invariant.1 written c.target_of-target.ensures
+    let parts = part_next sizes c.args.near b b1 c.loop-item.scratch.parts.items c.push.new.self.items xs i x
+    (item_of x) (c.saturating_sub-least.result + c.back_size.result) c.target_of-target.result _ _ within is
+    c.loop-item.invariant.0 c.loop-item.invariant.1 written c.target_of-target.ensures
     (omega (
       arith,
       c.saturating_sub-least.ensures,
@@ -92,9 +92,9 @@ loop-item-preserved-then-is_settled c =
     let within = c.loop-item-test.true in
     let is = ap item_of c.item-item.is in
     let written = c.in_ok-put_item.ensures in
-    let parts = part_next sizes c.args.near b b1 c.loop-item.scratch.parts.items c.push.new.self.items xs i x (item_of x)
-    c.let-size.size c.target_of-target.result _ _ within is c.loop-item.invariant.0
-    c.loop-item.invariant.1 written c.target_of-target.ensures
+    let parts = part_next sizes c.args.near b b1 c.loop-item.scratch.parts.items c.push.new.self.items xs i x
+    (item_of x) (c.saturating_sub-least.result + c.back_size.result) c.target_of-target.result _ _ within is
+    c.loop-item.invariant.0 c.loop-item.invariant.1 written c.target_of-target.ensures
     (omega (
       arith,
       c.saturating_sub-least.ensures,

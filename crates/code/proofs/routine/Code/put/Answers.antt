@@ -2,7 +2,7 @@ use Rattle.std.proofs.Common.{◌≡◌, ◌%◌, List, [], ◌∷◌, ◌++◌,
 use Rattle.code_drafts.specs.Items.{Item}
 use Rattle.code_drafts.specs.Code.{items_of}
 use Rattle.code_encoding.specs.Written.{addresses_of, sizes_in}
-use Rattle.code.specs.Bytes.{place_of, items_bytes, is_near}
+use Rattle.code.specs.Bytes.{code_bytes}
 use Rattle.code.proofs.Codes.{code_written}
 use Rattle.code.proofs.routine.Code.put.Goals as goal
 
@@ -18,5 +18,5 @@ returns-clause-written c =
     c.extend_from_slice.new.self.items c.push.new.self.items c.put_items.new.bytes.items c.deref-4.result.now
     c.self.view_is first (c.in_ok-put_items.ensures
     ∙ ap (λ (is : List Item). c.push.new.self.items
-    ++ items_bytes sizes (is_near sizes is) a (place_of sizes is) 0 is) same) c.deref-4.ensures.value
+    ++ code_bytes sizes a is) same) c.deref-4.ensures.value
     c.in_ok-extend_from_slice.ensures.items
