@@ -22,7 +22,7 @@ use Rattle.code_drafts.specs.Items.{Destination}
 use Rattle.code_drafts.specs.Items as items
 use Rattle.code_encoding.specs.Addresses.{Addresses, fault_address}
 use Rattle.code_encoding.specs.Instructions.{plain, branching, fail, takes, operands, number_of, temporary, constant}
-use Rattle.code_encoding.specs.Instructions.{giving, result_in, pulled_into, store, aside_variable}
+use Rattle.code_encoding.specs.Instructions.{giving, result_in, pulled_into, aside_variable}
 use Rattle.code_encoding.specs.Bytes.{bytes_of_all}
 use Rattle.code_instructions.specs.Instructions.{calling, call_operation, call_result, call_code, divided}
 use Rattle.code_instructions.specs.Instructions.{aside_global, character_code, behind_comparison, tested_between, is_between}

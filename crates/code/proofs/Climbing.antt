@@ -25,7 +25,7 @@ use Rattle.code.proofs.Jumping.{back_step, back_ends}
 use Rattle.code.proofs.Arriving.{Running, around, here, above}
 use Rattle.code.proofs.Temporaries.{Scratch, scratch_with, held_in}
 use Rattle.code.proofs.TestedObjects.{IsObjectHere}
-use Rattle.code.proofs.ClimbingSteps.{refuel, scratch_in, turning, Turns, turns, up, next, meets, ends_up, goes_on}
+use Rattle.code.proofs.ClimbingSteps.{refuel, scratch_in, turning, Turns, turns, next, meets, ends_up, goes_on}
 use Rattle.code.proofs.ClimbingSteps.{parent_known, next_has, next_object, next_at, next_others}
 
 -- The loop

@@ -13,7 +13,6 @@ use Rattle.syntax_trees.specs.declared.tree.Width.TheVariants as widths
 use Rattle.meaning.specs.declared.cause.Cause.TheVariants as causes
 use Rattle.meaning.specs.Limits.{most_array_bytes}
 use Rattle.meaning.specs.Reading.{holds_letters, holds_words}
-use Rattle.meaning.specs.World.{to}
 use Rattle.code_drafts.specs.Items as items
 use Rattle.code_items.specs.Stack as stack
 use Rattle.code_selection.specs.ItemCode.{first_byte, letters_in, words_in, tested_first}

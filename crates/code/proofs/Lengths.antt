@@ -22,7 +22,7 @@ use Rattle.code.specs.Bytes.{no_addresses, least_size, part_of, is_back, back_si
 use Rattle.code.proofs.BackForms.{BackForm}
 use Rattle.code.proofs.BackLengths.{back_length}
 use Rattle.code.proofs.AddressLengths.{all_length}
-use Rattle.code.proofs.BranchLengths.{beside, branch_length, branch_some, case_length, case_some, label_length}
+use Rattle.code.proofs.BranchLengths.{branch_length, branch_some, case_length, case_some, label_length}
 use Rattle.code.proofs.BranchLengths.{label_some}
 use Rattle.code.proofs.PlainLengths.{same_length}
 

@@ -13,7 +13,7 @@ use Rattle.zcore.specs.Parts.{operand_value}
 use Rattle.zcore.specs.Execution.{perform, push_word}
 use Rattle.syntax_trees.specs.declared.tree.Width.{Width}
 use Rattle.syntax_trees.specs.declared.tree.Width.TheVariants as widths
-use Rattle.meaning.specs.World.{Situation, to, with_value, is_index, with_entry, with_array}
+use Rattle.meaning.specs.World.{Situation, with_value, is_index, with_entry, with_array}
 use Rattle.code_drafts.specs.Items.{Destination}
 use Rattle.code_drafts.specs.Items as items
 use Rattle.code_items.specs.Stack as stack
