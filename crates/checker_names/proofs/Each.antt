@@ -63,16 +63,10 @@ module _ {A B R : Type 0} (f : A → List Breach) (g : A → R) (v : B → R) wh
   value_end (x ∷ xs) zero h = absurd (omega arith)
   value_end (x ∷ xs) (suc i) h = ap (λ r. g x ∷ r) (value_end xs i (omega arith))
 
-  -- The same for one that is named by where it stands
-
+  -- the same for one that is named by its place
   pub each_there : (m o : Least) (xs : List A) (i : ℕ) (d : A) → i < length xs
       → o ≡ noted m (f (slice_index_or xs i d))
       → noted o (flat_map f (drop (i + 1) xs)) ≡ noted m (flat_map f (drop i xs))
   each_there m o xs i d lt is =
       let x = slice_index_or xs i d in
       rw is (sym (each_next m xs i x lt (same_here xs i d x lt)))
-
-  pub value_there : (rs : List B) (r : B) (xs : List A) (i : ℕ) (d : A) → i < length xs → map v rs ≡ map g (take i xs)
-      → v r ≡ g (slice_index_or xs i d) → map v (rs ++ r ∷ []) ≡ map g (take (i + 1) xs)
-  value_there rs r xs i d lt so_far h =
-      let x = slice_index_or xs i d in value_next rs r xs i x lt (same_here xs i d x lt) so_far h
