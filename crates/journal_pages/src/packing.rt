@@ -17,12 +17,13 @@ fn word_in(pair: &[u8]) -> u16
     pair[0] as u16 + pair[1] as u16 * 256
 }
 
-/// Writes the first words that bytes stand for to the front of an array.
+/// Writes the first words that bytes stand for to the front of an array. What is after them stays.
 #[inline(always)]
 pub fn unpack(packed: &[u8], count: usize, words: &mut [u16; PAGE])
     requires packed { length packed.now ≡ count * 2 }
     requires page { count ≤ whole_page }
-    ensures { (k : ℕ) → k < count → slice_index words.new k ≡ word_at packed.now k }
+    ensures front { (k : ℕ) → k < count → slice_index words.new k ≡ word_at packed.now k }
+    ensures after { (k : ℕ) → count ≤ k → slice_index words.new k ≡ slice_index words.old k }
 {
     let mut offset = 0;
     'offsets: while offset != count {

@@ -11,7 +11,7 @@ exchange_words-requires-clause-within g c =
     let b = g.C.Cells.bounds c.args.store.now in
     let front : take c.args.size c.unpack.new.words ≡ words_of c.args.size c.args.packed.now =
     unpacked_front c.unpack.new.words c.args.packed.now c.args.size
-    (omega (arith, c.requires.page)) c.unpack.ensures in
+    (omega (arith, c.requires.page)) c.unpack.ensures.front in
     subst (λ (t : List ℕ). AreWithin b (c.args.page * 64) t) (sym front)
     (are_within n b c.args.page (words_of c.args.size c.args.packed.now) c.requires.fits)
 
@@ -20,7 +20,7 @@ returns-clause-back g c =
     let words : List ℕ = c.unpack.new.words in
     let was : List ℕ = words_of c.args.size c.args.packed.now in
     let front : take c.args.size words ≡ was = unpacked_front words c.args.packed.now c.args.size
-    (omega (arith, c.requires.page)) c.unpack.ensures in
+    (omega (arith, c.requires.page)) c.unpack.ensures.front in
     let size : length c.exchange_words.new.values ≡ c.args.size = c.exchange_words.auto.values
     ∙ length-take-le c.args.size words (omega (arith, c.requires.page)) in
     let behind : words_of c.args.size c.pack.new.packed ≡ c.exchange_words.new.values = packed_front
@@ -37,7 +37,7 @@ returns-clause-back_entries g c =
     let words : List ℕ = c.unpack.new.words in
     let was : List ℕ = words_of c.args.size c.args.packed.now in
     let front : take c.args.size words ≡ was = unpacked_front words c.args.packed.now c.args.size
-    (omega (arith, c.requires.page)) c.unpack.ensures in
+    (omega (arith, c.requires.page)) c.unpack.ensures.front in
     let size : length c.exchange_words.new.values ≡ c.args.size = c.exchange_words.auto.values
     ∙ length-take-le c.args.size words (omega (arith, c.requires.page)) in
     let behind : words_of c.args.size c.pack.new.packed ≡ c.exchange_words.new.values = packed_front
@@ -54,7 +54,7 @@ returns-clause-forward g c =
     let words : List ℕ = c.unpack.new.words in
     let was : List ℕ = words_of c.args.size c.args.packed.now in
     let front : take c.args.size words ≡ was = unpacked_front words c.args.packed.now c.args.size
-    (omega (arith, c.requires.page)) c.unpack.ensures in
+    (omega (arith, c.requires.page)) c.unpack.ensures.front in
     let size : length c.exchange_words.new.values ≡ c.args.size = c.exchange_words.auto.values
     ∙ length-take-le c.args.size words (omega (arith, c.requires.page)) in
     let behind : words_of c.args.size c.pack.new.packed ≡ c.exchange_words.new.values = packed_front
@@ -71,7 +71,7 @@ returns-clause-forward_entries g c =
     let words : List ℕ = c.unpack.new.words in
     let was : List ℕ = words_of c.args.size c.args.packed.now in
     let front : take c.args.size words ≡ was = unpacked_front words c.args.packed.now c.args.size
-    (omega (arith, c.requires.page)) c.unpack.ensures in
+    (omega (arith, c.requires.page)) c.unpack.ensures.front in
     let size : length c.exchange_words.new.values ≡ c.args.size = c.exchange_words.auto.values
     ∙ length-take-le c.args.size words (omega (arith, c.requires.page)) in
     let behind : words_of c.args.size c.pack.new.packed ≡ c.exchange_words.new.values = packed_front
@@ -88,7 +88,7 @@ returns-clause-fits g c =
     let words : List ℕ = c.unpack.new.words in
     let was : List ℕ = words_of c.args.size c.args.packed.now in
     let front : take c.args.size words ≡ was = unpacked_front words c.args.packed.now c.args.size
-    (omega (arith, c.requires.page)) c.unpack.ensures in
+    (omega (arith, c.requires.page)) c.unpack.ensures.front in
     let size : length c.exchange_words.new.values ≡ c.args.size = c.exchange_words.auto.values
     ∙ length-take-le c.args.size words (omega (arith, c.requires.page)) in
     let behind : words_of c.args.size c.pack.new.packed ≡ c.exchange_words.new.values = packed_front

@@ -6,6 +6,7 @@ abbrev pub invariant-offsets : goal.invariant-offsets
 invariant-offsets l = record {
   upto : l.offset ≤ l.count;
   done : (k : ℕ) → k < l.offset → slice_index l.words k ≡ word_at l.packed k;
+  after : (k : ℕ) → l.count ≤ k → slice_index l.words k ≡ slice_index l.initial.words k;
 }
 
 abbrev pub decreases-offsets : goal.decreases-offsets
