@@ -3,7 +3,6 @@ use Rattle.std.proofs.Common.{◌≡◌, Option, refl, sym, ap, ◌∙◌}
 use Rattle.std.specs.Prelude.{map}
 use Rattle.std.specs.Global.{Vec, Box}
 use Rattle.std.specs.Option.{option_map}
-use Rattle.meaning.specs.declared.resolved.Span.{Span}
 use Rattle.meaning.specs.declared.resolved.Variable.{Variable}
 use Rattle.meaning.specs.declared.resolved.Value as code_value
 use Rattle.meaning.specs.declared.resolved.Action as code_action
@@ -11,8 +10,7 @@ use Rattle.meaning.specs.declared.resolved.Action.TheVariants as done
 use Rattle.meaning.specs.declared.resolved.Action.TheFolds.{fold-roll-Action}
 use Rattle.meaning.specs.Resolved as values
 use Rattle.meaning.specs.Resolved.{Action}
-use Rattle.meaning.specs.Views.{boxed_value, action_of, action_layer, case_of, other_of, actions_of, cases_of}
-use Rattle.meaning.proofs.Mapped.{cases_mapped}
+use Rattle.meaning.specs.Views.{boxed_value, action_of, action_layer, actions_of}
 
 pub made_empty : action_of done.Empty ≡ values.empty
 made_empty = ap action_of (sym done.rolls-Empty) ∙ fold-roll-Action Action action_layer _
@@ -53,14 +51,3 @@ pub made_for : (x y z : Option (Box code_value.Value)) (a : Box code_action.Acti
     ≡ values.for_loop (option_map boxed_value x) (option_map boxed_value y) (option_map boxed_value z)
     (action_of a.value)
 made_for x y z a = ap action_of (sym (done.rolls-For x y z a)) ∙ fold-roll-Action Action action_layer _
-
-pub made_switch : (v : Box code_value.Value)
-    (cases : Box (Vec (Vec Span × Vec code_action.Action) × Option (Vec code_action.Action)))
-    → action_of (done.Switch v cases)
-    ≡ values.switch_on (boxed_value v) (cases_of (map case_of cases.value.0.items) (other_of cases.value.1))
-unfolding case_of
-made_switch v cases = ap action_of (sym (done.rolls-Switch v cases))
-    ∙ fold-roll-Action Action action_layer _
-    ∙ ap (λ cs. values.switch_on (boxed_value v) cs)
-    (cases_mapped _ _ case_of (λ c. refl) _ _ (λ xs. map action_of xs.items) (λ xs. refl) cases.value.0.items
-    cases.value.1)

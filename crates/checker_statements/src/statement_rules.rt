@@ -420,7 +420,10 @@ fn otherwise<'a>(
 
 #[cycle(statement)]
 fn switch_on<'a>(
-    cases: &(Vec<(Vec<Range<'a>>, Vec<Statement<'a>>)>, Option<Vec<Statement<'a>>>),
+    cases: &(
+        Vec<(Vec<Range<'a>>, Vec<Statement<'a>>)>,
+        Option<Vec<Statement<'a>>>,
+    ),
     value: &Expression<'_>,
     alloc: Global,
     scope: &Scope<'_>,

@@ -133,7 +133,10 @@ fn sequence<'a>(all: &[Statement<'a>], sought: &mut Sought)
 // The cases of a `switch`, and the statements of its `default`.
 #[cycle(statement)]
 fn choices<'a>(
-    cases: &(Vec<(Vec<Range<'a>>, Vec<Statement<'a>>)>, Option<Vec<Statement<'a>>>),
+    cases: &(
+        Vec<(Vec<Range<'a>>, Vec<Statement<'a>>)>,
+        Option<Vec<Statement<'a>>>,
+    ),
     sought: &mut Sought,
 )
     ensures { sought.new ≡ raised_all sought.old

@@ -1,5 +1,5 @@
 -- The code of statements that branch or print is no longer than their trees weigh.
-use Rattle.std.proofs.Common.{◌≤◌, ◌+◌, ℕ, true, false, List, [], ◌∷◌, ◌++◌, map, Option, arith}
+use Rattle.std.proofs.Common.{◌≤◌, ◌+◌, ◌-◌, ℕ, true, false, List, [], ◌∷◌, ◌++◌, map, Option, arith}
 use Rattle.std.specs.Option.{option_map}
 use Rattle.syntax_lexer.specs.declared.token.Position.{Position}
 use Rattle.syntax_lexer.specs.Token.{Lexeme}

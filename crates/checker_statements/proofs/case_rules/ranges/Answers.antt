@@ -2,7 +2,7 @@ use Rattle.std.proofs.Common.{sym, ◌∙◌, arith}
 use Rattle.syntax_statement_parts.specs.declared.tree.Range.{Range}
 use Rattle.meaning.specs.Views.{range_of}
 use Rattle.checker_names.specs.Scope.{seen_in}
-use Rattle.checker_names.proofs.Each.{each_there, each_end, value_there, value_end}
+use Rattle.checker_names.proofs.Each.{each_next, each_end, value_next, value_end}
 use Rattle.checker_statements.specs.Walk.{own_range_breaches, resolved_range}
 use Rattle.checker_statements.proofs.case_rules.ranges.Goals as goal
 
@@ -12,10 +12,11 @@ loop-x-preserved c =
     let g = λ (x : Range). resolved_range (seen_in c.args.scope.now) x in
     record {
       value = rw c.push_reserved.ensures.items
-          (value_there f g range_of c.loop-x.found.items c.range-resolved.result c.args.given.now c.loop-x.x-index _
-          c.loop-x-test.true c.loop-x.invariant.value c.range-resolved.ensures.value);
-      least = each_there f g range_of c.loop-x.least _ c.args.given.now c.loop-x.x-index _ c.loop-x-test.true
-          c.range-resolved.ensures.breaches ∙ c.loop-x.invariant.least;
+          (value_next f g range_of c.loop-x.found.items c.range-resolved.result c.args.given.now c.loop-x.x-index
+          c.x-item.result c.loop-x-test.true c.x-item.is c.loop-x.invariant.value c.range-resolved.ensures.value);
+      least = rw c.range-resolved.ensures.breaches
+          (sym (each_next f g range_of c.loop-x.least c.args.given.now c.loop-x.x-index c.x-item.result
+          c.loop-x-test.true c.x-item.is) ∙ c.loop-x.invariant.least);
       count = omega (arith, c.push_reserved.ensures.len, c.loop-x.invariant.count);
       room = omega (arith, c.push_reserved.ensures.capacity, c.loop-x.invariant.room);
     }

@@ -12,6 +12,7 @@ use Rattle.meaning.specs.declared.resolved.Action.TheVariants as done
 use Rattle.meaning.specs.Resolved as values
 use Rattle.meaning.specs.Resolved.{Value, Action}
 use Rattle.meaning.specs.Views.{boxed_value, action_of, case_of, other_of}
+use Rattle.meaning.proofs.Switches.{made_switch}
 use Rattle.checker_names.specs.declared.noting.Least.{Least}
 use Rattle.checker_names.specs.Noted.{noted}
 use Rattle.checker_names.specs.Scope.{seen_in}
@@ -25,8 +26,7 @@ use Rattle.checker_statements.proofs.Shapes.{is_simple_statement, is_block_state
 use Rattle.checker_statements.proofs.Shapes.{is_if_else_statement, is_while_statement, is_do_statement}
 use Rattle.checker_statements.proofs.Shapes.{is_for_statement, is_objectloop_statement, is_switch_statement}
 use Rattle.checker_statements.proofs.MadeStatements.{made_block, made_if_then, made_if_else, made_while_do, made_do}
-use Rattle.checker_statements.proofs.MadeStatements.{made_for, made_switch, made_each_object, made_each_in}
-use Rattle.checker_statements.proofs.MadeStatements.{made_each_where}
+use Rattle.checker_statements.proofs.MadeStatements.{made_for, made_each_object, made_each_in, made_each_where}
 use Rattle.checker_statements.proofs.StatementForms.{kept_action, empty_walked, statements_walked, case_walked}
 use Rattle.checker_statements.proofs.StatementForms.{other_walked, switch_walked}
 use Rattle.checker_statements.proofs.statement_rules.+statement.Goals as goal
@@ -200,7 +200,7 @@ statement-returns-in-Switch t c = let v = c.in-Switch in
 
 pub statement-returns-in-Block : goal.statement-returns-in-Block
 statement-returns-in-Block t c = let v = c.in-Block in
-    rw (is_block_statement c.args.s.now v.all v.is, ← c.deref-in-Block.ensures.value) c.block.ensures
+    rw (is_block_statement c.args.s.now v.all v.is, ← c.deref.ensures.value) c.block.ensures
 
 pub statement-returns-in-If : goal.statement-returns-in-If
 statement-returns-in-If t c = let v = c.in-If in
