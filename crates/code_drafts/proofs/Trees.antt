@@ -1,8 +1,9 @@
 -- What a tree of the code stands for, a variant at a time.
-use Rattle.std.proofs.Common.{◌≡◌, ℕ, suc, ◌+◌, List, [], ◌∷◌, length, Bool, true, false, map, arith, refl, ap, sym, ◌∙◌}
-use Rattle.std.specs.Prelude.{◌||◌, nat_le, nat_lt}
+use Rattle.std.proofs.Common.{◌≡◌, ℕ, suc, ◌+◌, ◌-◌, List, [], ◌∷◌, length, Bool, true, false, map, arith, refl, ap, sym, ◌∙◌}
+use Rattle.std.specs.Prelude.{◌||◌, not, nat_le, nat_lt, slice_get, Some}
 use Rattle.std.specs.Global.{Vec, Box}
 use Rattle.syntax_trees.specs.declared.tree.Binary.{Binary}
+use Rattle.syntax_trees.specs.declared.tree.Binary.TheVariants as binaries
 use Rattle.syntax_trees.specs.declared.tree.Comparison.{Comparison}
 use Rattle.syntax_trees.specs.declared.tree.Containment.{Containment}
 use Rattle.syntax_trees.specs.declared.tree.Equality.{Equality}
@@ -20,7 +21,7 @@ use Rattle.meaning.specs.Resolved.{property, property_size, property_word, assig
 use Rattle.meaning.specs.Views.{values_of, chained, propertied, value_of, value_layer}
 use Rattle.meaning.specs.Accepted.{count_of}
 use Rattle.code_drafts.specs.Items as items
-use Rattle.code_drafts.specs.Writing.{link_of, change_links, values_in}
+use Rattle.code_drafts.specs.Writing.{link_of, change_links, is_logical, last_operator, values_in}
 
 pub number_is : (e : code_value.Value) (n : ℕ) → e ≡ v.Number n → value_of e ≡ number n
 number_is e n is = ap value_of is ∙ ap value_of (sym (v.rolls-Number n)) ∙ fold-roll-Value Value value_layer _
@@ -181,25 +182,42 @@ property_changes z e b p ps is =
     go x [] = refl
     go x (q ∷ ps) = go (property x q) ps
 
--- Tests of one instruction
+-- Conditions that one test decides
 
 pub chain_tests : (e : code_value.Value) (a : Box code_value.Value) (op : Binary) (b : Box code_value.Value)
-    (ls : Vec (Binary × code_value.Value)) → e ≡ v.Chain a op b ls → false ≡ items.is_one_test (value_of e)
-chain_tests e a op b ls is = go (value_of a.value) op (value_of b.value) (map link_of ls.items)
+    (ls : Vec (Binary × code_value.Value)) (single : Bool) → e ≡ v.Chain a op b ls
+    → single ≡ not (is_logical (last_operator op (map link_of ls.items))) → single ≡ items.is_one_test (value_of e)
+chain_tests e a op b ls single is h = h ∙ go (value_of a.value) op (value_of b.value) (map link_of ls.items)
     ∙ ap items.is_one_test (sym (chain_is e a op b ls is))
   where
     go : (x : Value) (op : Binary) (y : Value) (ls : List (Binary × Value))
-        → false ≡ items.is_one_test (chained (binary op x y) ls)
+        → not (is_logical (last_operator op ls)) ≡ items.is_one_test (chained (binary op x y) ls)
+    go x binaries.AndAlso y [] = refl
+    go x binaries.OrElse y [] = refl
     go x op y [] = refl
     go x op y (l ∷ ls) = go (binary op x y) l.0 l.1 ls
 
 pub property_tests : (e : code_value.Value) (b : Box code_value.Value) (p : ℕ) (ps : Vec ℕ) → e ≡ v.Property b p ps
-    → false ≡ items.is_one_test (value_of e)
+    → true ≡ items.is_one_test (value_of e)
 property_tests e b p ps is = go (value_of b.value) p ps.items ∙ ap items.is_one_test (sym (property_is e b p ps is))
   where
-    go : (x : Value) (p : ℕ) (ps : List ℕ) → false ≡ items.is_one_test (propertied (property x p) ps)
+    go : (x : Value) (p : ℕ) (ps : List ℕ) → true ≡ items.is_one_test (propertied (property x p) ps)
     go x p [] = refl
     go x p (q ∷ ps) = go (property x p) q ps
+
+-- the operator of the last of some links
+pub last_found : (op : Binary) (ls : List (Binary × code_value.Value)) (l : Binary × code_value.Value)
+    → Some l ≡ slice_get ls (length ls - 1) → l.0 ≡ last_operator op (map link_of ls)
+last_found op [] l is = absurd (cc)
+last_found op (m ∷ ls) l is = go m ls (is ∙ ap (slice_get (m ∷ ls)) back)
+  where
+    back : suc (length ls) - 1 ≡ length ls
+    back = omega arith
+
+    go : (m : Binary × code_value.Value) (ls : List (Binary × code_value.Value))
+        → Some l ≡ slice_get (m ∷ ls) (length ls) → l.0 ≡ last_operator m.0 (map link_of ls)
+    go m [] is = let e : l ≡ m = cc in ap (λ (k : Binary × code_value.Value). k.0) e
+    go m (n ∷ ls) is = go n ls is
 
 pub equal_tests : (e : code_value.Value) (a : Box code_value.Value) (op : Equality) (b : Box code_value.Value)
     (es : Vec code_value.Value) (few : Bool) → e ≡ v.Equal a op b es

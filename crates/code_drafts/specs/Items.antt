@@ -302,12 +302,17 @@ agrees false when = not when
 abbrev pub is_few : Values → Bool
 is_few vs = nat_le (count_of vs) 3
 
--- a condition is decided by one instruction, which compares words
+-- a condition is decided by one test of words, its last item
 abbrev pub is_one_test : Value → Bool
-is_one_test (source.read x) = true
-is_one_test (source.compare op a b) = true
+is_one_test (source.number n) = false
+is_one_test (source.prefixed prefixes.Not v) = is_one_test v
+is_one_test (source.binary binaries.AndAlso a b) = false
+is_one_test (source.binary binaries.OrElse a b) = false
 is_one_test (source.equal op a bs) = is_few bs
-is_one_test v = false
+is_one_test (source.contained op a b) = false
+is_one_test (source.has positive v a) = false
+is_one_test (source.provides v p) = false
+is_one_test v = true
 
 -- what stands in place whatever is evaluated later, since that stands in place too
 abbrev pub is_in_place : Value → Bool

@@ -77,6 +77,11 @@ is_logical _ = false
 abbrev pub link_of : Binary × code_value.Value → Binary × Value
 link_of l = (l.0, value_of l.1)
 
+-- the operator of a chain that is done last
+abbrev pub last_operator : Binary → List (Binary × Value) → Binary
+last_operator op [] = op
+last_operator op (l ∷ ls) = last_operator l.0 ls
+
 -- evaluation of the operands of a chain may change the variable
 abbrev pub change_links : Variable → List (Binary × Value) → Bool
 change_links x [] = false

@@ -7,10 +7,11 @@ ghost use Rattle.meaning.specs.Accepted.{count_of};
 ghost use Rattle.meaning.specs.Meaning.{with_prefix};
 ghost use Rattle.code_drafts.specs.Items as items;
 ghost use Rattle.code_drafts.specs.Code.{as_operand, as_operands};
-ghost use Rattle.code_drafts.specs.Writing.{change_links, link_of, values_in, more_in, left_side};
-ghost use Rattle.code_drafts.specs.Writing.{right_side, AddsOperands, AddsAlone};
+ghost use Rattle.code_drafts.specs.Writing.{change_links, last_operator, link_of, values_in, more_in};
+ghost use Rattle.code_drafts.specs.Writing.{left_side, right_side, AddsOperands, AddsAlone};
 
 use crate::item::Operand;
+use crate::parts::is_logical;
 use meaning::{Value, Variable};
 use std::alloc::AllocError;
 use syntax_trees::{Binary, Prefix};
@@ -328,31 +329,40 @@ pub fn are_few(others: &[Value]) -> bool
     others.len() < MOST_COMPARED
 }
 
-/// Whether a condition is decided by one instruction, which compares words.
+/// Whether a condition is decided by one test of words, its last item.
 pub fn is_one_test(value: &Value) -> bool
     ensures { result ≡ items.is_one_test (value_of value.now) }
 {
     match value {
-        Value::Read(..) | Value::Compare(..) => true,
+        Value::Prefixed(Prefix::Not, operand) => is_one_test(operand),
+        Value::Chain(_, operator, _, links) => !is_logical(last_operator(*operator, links)),
         Value::Equal(_, _, _, others) => are_few(others),
-        Value::Chain(..) => false,
-        Value::Property(..) => false,
-        Value::Number(..)
+        Value::Property(..) => true,
+        Value::Number(..) | Value::Contained(..) | Value::Has(..) | Value::Provides(..) => false,
+        Value::Read(..)
         | Value::Call(..)
         | Value::Prefixed(..)
         | Value::StepBefore(..)
         | Value::StepAfter(..)
+        | Value::Compare(..)
         | Value::Assign(..)
         | Value::Entry(..)
         | Value::AssignEntry(..)
         | Value::Relative(..)
-        | Value::Contained(..)
-        | Value::Has(..)
-        | Value::Provides(..)
         | Value::PropertySize(..)
         | Value::PropertyWord(..)
         | Value::AssignProperty(..)
-        | Value::AssignPropertyWord(..) => false,
+        | Value::AssignPropertyWord(..) => true,
+    }
+}
+
+/// The operator of a chain that is done last.
+fn last_operator(operator: Binary, links: &[(Binary, Value)]) -> Binary
+    ensures { result ≡ last_operator operator (map link_of links.now) }
+{
+    match links.last() {
+        None => operator,
+        Some(link) => link.0,
     }
 }
 

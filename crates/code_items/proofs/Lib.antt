@@ -39,6 +39,7 @@ mod FineValues
 mod FineObjects
 mod EachFine
 mod Within
+mod Words
 mod Samples
 mod ObjectSamples
 pub mod Trees

@@ -49,6 +49,12 @@ contained_tested : action_items outside 0 (if_then (contained containments.In (r
     ≡ is_in (items.variable x) (items.variable y) false 2 ∷ items.quit ∷ []
 contained_tested = refl
 
+-- do F(); until (x in y); the item of an object leads out, over a jump
+contained_behind : action_items outside 3
+    (source.do_until (effect called) (contained containments.In (read x) (read y)))
+    ≡ items.call 7 [] nowhere ∷ is_in (items.variable x) (items.variable y) true 6 ∷ back 3 ∷ []
+contained_behind = refl
+
 -- if (g notin F()) quit; where the call may change g
 contained_changed : action_items outside 0 (if_then (contained containments.NotIn (read g) called) source.quit)
     ≡ move (items.variable g) push ∷ items.call 7 [] push ∷ is_in pushed pushed true 4 ∷ items.quit ∷ []

@@ -1,8 +1,10 @@
 -- What is written for `do`, `for` and `objectloop`.
 use Rattle.std.proofs.Common.{◌≡◌, ℕ, ◌+◌, ◌-◌, ◌<◌, ◌≤◌, List, [], ◌∷◌, ◌++◌, length, slice_set, Bool, true, false, Option}
 use Rattle.std.proofs.Common.{refl, sym, ap, ◌∙◌, arith, append_assoc, length-append, slice_index_or}
-use Rattle.std.specs.Prelude.{if◌then◌else◌}
+use Rattle.std.specs.Prelude.{not, if◌then◌else◌}
 use Rattle.std.proofs.Math.Seq.{set-append_seam, get_or-append_seam}
+use Rattle.syntax_trees.specs.declared.tree.Binary.TheVariants as binaries
+use Rattle.syntax_trees.specs.declared.tree.Prefix.TheVariants as prefixes
 use Rattle.syntax_trees.specs.declared.tree.Relative.TheVariants as relatives
 use Rattle.meaning.specs.declared.resolved.Variable.{Variable}
 use Rattle.meaning.specs.Resolved.{Value, Values, Action}
@@ -25,10 +27,12 @@ use Rattle.code_items.specs.Writing.{exits_of}
 use Rattle.code_items.proofs.StatementCounts.{action_length, once_length, test_length}
 
 -- a condition of one test has at least the item of that
-test_counted : (v : Value) → is_one_test v ≡ true → 0 < branch_count v true
-test_counted (source.read x) single = omega arith
-test_counted (source.compare op a b) single = omega arith
-test_counted (source.equal op a bs) single = go (is_direct a bs)
+test_counted : (v : Value) → is_one_test v ≡ true → (when : Bool) → 0 < branch_count v when
+test_counted (source.number n) single when = absurd (cc)
+test_counted (source.prefixed prefixes.Not v) single when = test_counted v single (not when)
+test_counted (source.binary binaries.AndAlso a b) single when = absurd (cc)
+test_counted (source.binary binaries.OrElse a b) single when = absurd (cc)
+test_counted (source.equal op a bs) single when = go (is_direct a bs)
   where
     some : (os : List Operand) → 0 < same_count os
     some [] = omega arith
@@ -46,7 +50,7 @@ test_counted (source.equal op a bs) single = go (is_direct a bs)
         else value_count a push + items.many_count bs)
     go true = omega (arith, some (operands_of bs))
     go false = omega (arith, many bs)
-test_counted v single = absurd (cc)
+test_counted v single when = omega arith
 
 -- what was written between, of which the first is turned back, and what was written behind it
 record Turned (c c1 c2 c3 : List Item) (f : ℕ → ℕ → List Item) (more : List Item) : Type 0 where
@@ -175,7 +179,7 @@ do_by_test c c1 c2 c3 v a x single ee wv ec wa e3 y =
     let long_a = λ (n at : ℕ). action_length (exits_of n x) a at in
     let l1 = counted k long_v wv in
     let l2 = counted m long_a wa in
-    let some : 0 < k = test_counted v single in
+    let some : 0 < k = test_counted v single true in
     let t = turned_more c c1 c2 c3 _ end ee (omega (arith, l1, some)) wv wa.more wa.is e3 in
     let l3 : length c3 ≡ length c2 =
     ap length t.then_more ∙ length-append t.between wa.more ∙ ap (λ j. j + length wa.more) t.long
@@ -207,7 +211,7 @@ do_turns c c1 c2 v a x end single ee wv wa =
       ee,
       counted (branch_count v true) (λ n at. branch_length v true at (n - end)) wv,
       counted (action_count a) (λ n at. action_length (exits_of n x) a at) wa,
-      test_counted v single,
+      test_counted v single true,
     )
 
 -- the test, the body, and what is done behind each round

@@ -322,6 +322,32 @@ few_behind : action_items outside 3
     ∷ []
 few_behind = refl
 
+-- do F(); until (F());
+called_behind : action_items outside 3 (do_until (effect called) called)
+    ≡ items.call 7 [] nowhere
+    ∷ items.call 7 [] push
+    ∷ branch_back is_zero (pushed ∷ []) true 3
+    ∷ []
+called_behind = refl
+
+-- do F(); until (x--);
+stepped_behind : action_items outside 3 (do_until (effect called) (step_after x steps.Decrement))
+    ≡ items.call 7 [] nowhere
+    ∷ move (items.variable x) push
+    ∷ step steps.Decrement x nowhere
+    ∷ branch_back is_zero (pushed ∷ []) true 3
+    ∷ []
+stepped_behind = refl
+
+-- do F(); until (~~(x + y));
+not_behind : action_items outside 3
+    (do_until (effect called) (prefixed prefixes.Not (binary binaries.Add (read x) (read y))))
+    ≡ items.call 7 [] nowhere
+    ∷ operate binaries.Add (items.variable x) (items.variable y) push
+    ∷ branch_back is_zero (pushed ∷ []) false 3
+    ∷ []
+not_behind = refl
+
 -- do F(); until (x && y); two tests, and a jump
 both_behind : action_items outside 3
     (do_until (effect called) (source.binary binaries.AndAlso (read x) (read y)))

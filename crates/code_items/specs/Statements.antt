@@ -103,8 +103,8 @@ over_items later end = if later == 0 then [] else jump end ∷ []
 abbrev pub until_count : Value → ℕ
 until_count v = if is_one_test v then branch_count v true else branch_count v true + 1
 
--- They lead back to the item of this number, where the condition is false. The one instruction of a test does it
--- itself; other tests lead over a jump.
+-- They lead back to the item of this number, where the condition is false. If one test decides it, this does it
+-- itself; other conditions lead over a jump.
 abbrev pub until_items : ℕ → ℕ → Value → List Item
 until_items at first v =
     if is_one_test v then last_back first (branch_items at v true (at + branch_count v true))

@@ -190,7 +190,7 @@ fn put_do<'a>(draft: &mut Draft<'a>, body: &Action<'a>, test: &Value) -> Result<
     }
 }
 
-/// `do` whose test is one instruction: that leads back itself.
+/// `do` whose condition one test decides: that leads back itself.
 #[cycle(statements)]
 fn put_do_by_test<'a>(
     draft: &mut Draft<'a>,
@@ -216,7 +216,7 @@ fn put_do_by_test<'a>(
     Ok(())
 }
 
-/// `do` with another test: that leads out over a jump back.
+/// `do` with another condition: that leads out over a jump back.
 #[cycle(statements)]
 fn put_do_by_jump<'a>(
     draft: &mut Draft<'a>,
