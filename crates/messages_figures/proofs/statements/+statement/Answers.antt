@@ -55,8 +55,8 @@ statement-returns-in-Empty t c = rw (is_empty_statement c.args.s.now c.in-Empty.
 pub statement-returns-in-Block : goal.statement-returns-in-Block
 statement-returns-in-Block t c =
     let v = c.in-Block in
-    rw (is_block_statement c.args.s.now v.all v.is, ← c.deref-in-Block.ensures.value)
-    (c.sequence.ensures ∙ ap (raised_all c.args.sought.now) (sym (statements_need c.deref-in-Block.result.now)))
+    rw (is_block_statement c.args.s.now v.all v.is, ← c.deref.ensures.value)
+    (c.sequence.ensures ∙ ap (raised_all c.args.sought.now) (sym (statements_need c.deref.result.now)))
 
 pub statement-returns-in-If : goal.statement-returns-in-If
 statement-returns-in-If t c =
