@@ -12,7 +12,8 @@ use Rattle.meaning.specs.Resolved as source
 use Rattle.meaning.specs.Accepted.{IsWhole}
 use Rattle.meaning.specs.World.{Situation, Comes, to, ◌>>=◌, give, spend, value_in}
 use Rattle.meaning.specs.Meaning.{truth, is_true, compared, equated, evaluate, evaluate_all, until}
-use Rattle.code_drafts.specs.Items.{Item, Operand, pushed, variable, push, value_count, Test, is_zero, same, alone, left_of, operand_of}
+use Rattle.code_drafts.specs.Items.{Item, Operand, pushed, variable, push, Test, is_zero, same, alone, left_of}
+use Rattle.code_drafts.specs.Items.{operand_of, value_count}
 use Rattle.code_drafts.specs.Items.{operands_of, if_pushed, agrees, branch_true, comparison_test, comparison_when}
 use Rattle.code_drafts.specs.Items.{equality_when, is_few, is_one_test, same_items, turned_back, last_back, branch_count}
 use Rattle.code_drafts.specs.Items.{operand_count, operands_count, value_items, operands_items, branch_items}
