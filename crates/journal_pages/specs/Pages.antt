@@ -100,7 +100,7 @@ KeepsCells pages first count = (k : ℕ) → first ≤ k → k < first + count �
 
 -- the first pages, whose flags stand in place
 abbrev pub pages_in_place : ℕ
-pages_in_place = 1728
+pages_in_place = 2176
 
 -- how many numbers of pages a list has in place
 abbrev pub numbers_in_place : ℕ

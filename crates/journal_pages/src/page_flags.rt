@@ -6,10 +6,10 @@ ghost use Rattle.journal_pages.specs.Pages.{IsMarkedAs};
 use std::alloc::{AllocError, Global};
 use std::marker::Model;
 
-/// For how many pages flags stand in place: those of frames, stack and the memory in front, in a
-/// store of the Z-machine. Where the compiler knows that a page is one of them, it need not ask for
-/// a length. With more of them in place a session takes longer to make.
-const IN_PLACE: usize = 1_728;
+/// For how many pages flags are in place: in a store of the Z-machine those of frames, of the stack
+/// and of dynamic memory, and of what an address of a global may name behind it. Where the compiler
+/// knows that a page is one of them, it need not ask for a length.
+const IN_PLACE: usize = 2_176;
 
 /// Of each page, whether it is kept. Pages behind the last flag are not kept.
 #[derive(Drop)]
