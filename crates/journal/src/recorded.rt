@@ -31,10 +31,11 @@ const FIRST_ROOM: usize = 4 * PAGE_BYTES;
 /// what was kept, or given up by `abandon`, which puts it back. The next turn begins at once.
 #[derive(Drop)]
 pub struct Recorded<C: Cells> {
-    store: C,
-
-    /// Of each page, whether it is kept.
+    /// Of each page, whether it is kept. They come first, so that their address is that of the whole:
+    /// a loop that tests them often needs no CPU register for it.
     flags: PageFlags,
+
+    store: C,
 
     /// The kept pages, in the order in which they were first written.
     pages: PageList,
