@@ -50,6 +50,21 @@ pub trait Cells {
         ensures bounds { bounds self.new ≡ bounds self.old }
         ensures fixed { fixed self.new ≡ fixed self.old };
 
+    /// Writes bytes into a cell and the next, which hold bytes, and changes nothing else. A store
+    /// that keeps such cells next to each other may write both at once.
+    fn put_two_bytes(&mut self, i: usize, high: u8, low: u8)
+        requires cells { i + 1 < length (cells self.old) }
+        requires short { i + 1 < 2 ^ 64 }
+        requires bytes { (bounds self.old i ≡ 255) × (bounds self.old (i + 1) ≡ 255) }
+        ensures cells { cells self.new
+            ≡ slice_set (slice_set (cells self.old) i high) (i + 1) low }
+        ensures bounds { bounds self.new ≡ bounds self.old }
+        ensures fixed { fixed self.new ≡ fixed self.old }
+    {
+        self.put(i, high as u16);
+        self.put(i + 1, low as u16);
+    }
+
     /// Writes words, at least one, into cells that follow each other and may hold any, and changes
     /// nothing else.
     fn put_words(&mut self, first: usize, values: &[u16])

@@ -1,6 +1,6 @@
 //! A store whose writes are recorded by pages, turn by turn.
 
-ghost use Rattle.std.specs.Prelude.{◌≡◌, ◌≢◌, ◌+◌, ◌*◌, ◌/◌, ◌<◌, ◌≤◌, true, false, [], ◌∷◌, ◌++◌, map, length, take, AllPairs, slice_index, OnOk, OnErr, IsOk};
+ghost use Rattle.std.specs.Prelude.{◌≡◌, ◌≢◌, ◌+◌, ◌*◌, ◌/◌, ◌^◌, ◌<◌, ◌≤◌, true, false, [], ◌∷◌, ◌++◌, map, length, take, AllPairs, slice_index, slice_set, OnOk, OnErr, IsOk};
 ghost use Rattle.std.specs.Borrow.{sem, Lends};
 ghost use Rattle.journal.specs.contracts.recorded.Recorded.{the_row};
 ghost use Rattle.journal.specs.Recording.{IsNothingKept};
@@ -171,6 +171,25 @@ impl<C: Cells> Recorded<C> {
         ensures fixed { C.fixed self.new.store ≡ C.fixed self.old.store }
     {
         self.store.put_word(cell, value);
+    }
+
+    /// Writes bytes into a cell and the next, which hold bytes, of pages that the turn keeps. It
+    /// takes no memory.
+    #[inline(always)]
+    pub fn overwrite_two_bytes(&mut self, cell: usize, high: u8, low: u8)
+        requires cells { cell + 1 < length (C.cells self.old.store) }
+        requires short { cell + 1 < 2 ^ 64 }
+        requires bytes { (C.bounds self.old.store cell ≡ 255)
+            × (C.bounds self.old.store (cell + 1) ≡ 255) }
+        requires kept { KeepsCells self.old.kept cell 2 }
+        ensures cells { C.cells self.new.store
+            ≡ slice_set (slice_set (C.cells self.old.store) cell high) (cell + 1) low }
+        ensures kept { self.new.kept ≡ self.old.kept }
+        ensures beginning { self.new.beginning ≡ self.old.beginning }
+        ensures bounds { C.bounds self.new.store ≡ C.bounds self.old.store }
+        ensures fixed { C.fixed self.new.store ≡ C.fixed self.old.store }
+    {
+        self.store.put_two_bytes(cell, high, low);
     }
 
     /// Writes words, at least one, into cells that follow each other and may hold any, of pages that
