@@ -1,5 +1,5 @@
 -- Each further operation makes the profile's weight fall where its step goes on.
-use Rattle.std.proofs.Common.{◌≡◌, ℕ, ◌+◌, ◌-◌, ◌<◌, List, [], ◌∷◌, length, refl, ap, ◌∙◌, arith}
+use Rattle.std.proofs.Common.{◌≡◌, ℕ, ◌+◌, ◌-◌, ◌<◌, ◌≤◌, List, [], ◌∷◌, length, refl, ap, ◌∙◌, arith}
 use Rattle.std.proofs.Common.{slice_index, slice_index_or, Bool, true, false, Option}
 use Rattle.std.specs.Prelude.{◌&&◌, nat_le, nat_lt}
 use Rattle.std.proofs.lemmas.Bool.{and_parts, ltb-true}
@@ -9,10 +9,11 @@ use Rattle.zcore.specs.declared.place.Fault.TheVariants as faults
 use Rattle.zcore.specs.declared.instruction.Branch.{Branch}
 use Rattle.zcore.specs.declared.next.Next.{Next}
 use Rattle.zcore.specs.State.{Frame, State, done, bound}
+use Rattle.zcore.specs.Layout.{header_size}
 use Rattle.zcore.specs.Parts.{fault, test, can_store, is_code, is_writable, returning, goes_on, store_result}
 use Rattle.zcore.proofs.Keeping.{keeps_store_result, keeps_write_word}
 use Rattle.zcore.proofs.KeepingReads.{Alike, Keeps, alike_same, alike_then, done_state, done_value, never, both}
-use Rattle.zcore.proofs.KeepingReads.{keeps_test, keeps_then, keeps_done, can_store_keeps, tested}
+use Rattle.zcore.proofs.KeepingReads.{keeps_test, can_store_keeps, tested, passed, code_behind}
 use Rattle.zcore.proofs.FallsOfParts.{Falls, FallsFrom, returned, falls_alike, falls_then, goes_on_falls}
 use Rattle.zcore.proofs.FallsOfParts.{branch_on_falls}
 use Rattle.zcore.proofs.FallsOfEffects.{give_result_falls}
@@ -87,23 +88,24 @@ verify_falls loaded here after branch ahead = branch_on_falls here after branch 
 
 -- throw
 
--- the tests of a return change nothing
-returning_keeps : (s t : State) (fs : List Frame) (a : ℕ × Option ℕ) → returning s fs ≡ done a t → Alike s t
+-- the tests of a return change nothing, and the caller goes on after the header
+returning_keeps : (s t : State) (fs : List Frame) (a : ℕ × Option ℕ) → returning s fs ≡ done a t
+    → Alike s t × (header_size ≤ a.0)
 returning_keeps s t [] a h = absurd (never _ a s t h)
 returning_keeps s t (f ∷ []) a h = absurd (never _ a s t h)
 returning_keeps s t (f ∷ g ∷ fs) a h =
-    keeps_then (can_store f.result (g ∷ fs))
+    let p = both (can_store f.result (g ∷ fs) s)
     (λ _ u. bound (test (is_code s.memory f.return_address) faults.Code u)
-    (λ _ v. done (f.return_address, f.result) v))
-    (can_store_keeps f.result (g ∷ fs))
-    (λ _. keeps_then (test (is_code s.memory f.return_address) faults.Code)
-    (λ _ v. done (f.return_address, f.result) v)
-    (keeps_test (is_code s.memory f.return_address) faults.Code) (λ _. keeps_done _)) s t a h
-
--- a test that was passed
-passed : (b : Bool) (cause : Fault) (s t : State) (a : Unit {0}) → test b cause s ≡ done a t → b ≡ true
-passed true cause s t a h = refl
-passed false cause s t a h = absurd (never _ a s t h)
+    (λ _ v. done (f.return_address, f.result) v)) a t h in
+    let q = both (test (is_code s.memory f.return_address) faults.Code p.between)
+    (λ _ v. done (f.return_address, f.result) v) a t p.second in
+    let one = can_store_keeps f.result (g ∷ fs) s p.between p.value p.first in
+    let two = keeps_test (is_code s.memory f.return_address) faults.Code p.between q.between q.value q.first in
+    let three = alike_same q.between t (done_state _ a q.between t q.second) in
+    let code = code_behind s.memory f.return_address
+    (passed (is_code s.memory f.return_address) faults.Code p.between q.between q.value q.first) in
+    let v : a ≡ (f.return_address, f.result) = done_value _ a q.between t q.second in
+    (alike_then s p.between t one (alike_then p.between q.between t two three), rw v code)
 
 -- the frames that are left are fewer than there were
 leave_frame_leaves : (number : ℕ) (s t : State) (a : Unit {0}) → number < length s.frames
@@ -119,27 +121,30 @@ leave_frame_leaves number s t a few h =
 
 -- what comes after the frames are left
 stored : (fuel place : ℕ) (result : Option ℕ) (word : ℕ) (s t : State) (next : Next)
-    → bound (store_result result word s) (λ _. goes_on place fuel) ≡ done next t → (next.fuel ≡ fuel) × Alike s t
+    → bound (store_result result word s) (λ _. goes_on place fuel) ≡ done next t
+    → (next.fuel ≡ fuel) × (next.program_counter ≡ place) × Alike s t
 stored fuel place result word s t next h =
     let p = both (store_result result word s) (λ _. goes_on place fuel) next t h in
     let v = done_value (record { program_counter = place; fuel = fuel }) next p.between t p.second in
     let w = done_state (record { program_counter = place; fuel = fuel }) next p.between t p.second in (
       ap (λ (x : Next). x.fuel) v,
-      alike_then s p.between t (keeps_store_result result word s p.between p.value p.first) (alike_same p.between t w),
+      ap (λ (x : Next). x.program_counter) v,
+      alike_then s p.between t (keeps_store_result result word s p.between p.value p.first)
+          (alike_same p.between t w),
     )
 
 -- the frames that are left, and then the result
 left_falls : (here : Next) (number place : ℕ) (result : Option ℕ) (word : ℕ) (s t : State) (next : Next)
-    → number < length s.frames
+    → number < length s.frames → header_size ≤ place
     → bound (leave_frame number s) (λ _ u. bound (store_result result word u) (λ _. goes_on place here.fuel))
     ≡ done next t → Falls here s next t
-left_falls here number place result word s t next few h =
+left_falls here number place result word s t next few behind h =
     let p = both (leave_frame number s) (λ _ u. bound (store_result result word u) (λ _. goes_on place here.fuel)) next t
     h in
     let one = leave_frame_leaves number s p.between p.value few p.first in
     let two = stored here.fuel place result word p.between t next p.second in
-    let frames = two.1.frames in
-    returned here next s t (two.1.memory ∙ one.0) (omega (arith, one.1, frames)) two.0
+    let frames = two.2.frames in
+    returned here next s t (two.2.memory ∙ one.0) (omega (arith, one.1, frames)) two.0 (rw two.1 behind)
 
 throw_falls : (here : Next) (word number : ℕ) → FallsFrom here (throw here word number)
 unfolding throw
@@ -152,10 +157,10 @@ throw_falls here word number s t next within h =
     let one = keeps_test (holds s) faults.Return s p.between p.value p.first in
     let q = both (returning p.between (frames_at number p.between.frames)) _ next t p.second in
     let two = returning_keeps p.between q.between (frames_at number p.between.frames) q.value q.first in
-    let alike = alike_then s p.between q.between one two in
+    let alike = alike_then s p.between q.between one two.0 in
     let same = alike.frames in
     falls_alike here next s q.between t alike
-    (left_falls here number q.value.0 q.value.1 word q.between t next (omega (arith, few, same)) q.second)
+    (left_falls here number q.value.0 q.value.1 word q.between t next (omega (arith, few, same)) two.1 q.second)
 
 -- one case for each operation
 pub perform_keeping_falls : (loaded : Loaded) (operation : Further) (here : Next) (after : ℕ) (result : Option ℕ)

@@ -14,7 +14,7 @@ use Rattle.zcore.proofs.Ahead as ahead
 use Rattle.zcore.proofs.Keeping.{spend_less, keeps_spend}
 use Rattle.zcore.proofs.KeepingReads.{done_state, done_value, never, both, keeps_operand_values}
 use Rattle.zcore.proofs.FallsOfParts as parts
-use Rattle.zcore.proofs.FallsOfParts.{Falls, falls_alike}
+use Rattle.zcore.proofs.FallsOfParts.{Lighter, lighter_alike}
 use Rattle.zcore.proofs.FallsOfEffects.{give_result_falls}
 use Rattle.zcore_standard.specs.declared.operations.Further.{Further}
 use Rattle.zcore_standard.specs.declared.operations.Further.TheVariants as operations
@@ -57,10 +57,19 @@ random_falls here after result range past =
     within_falls here (record here { beside = (rolled range here.beside).1 }) _
     (give_result_falls here.next after result (rolled range here.beside).0 past)
 
+-- A part that ends a step: where it goes on, the weight falls. A story that restarts goes on at the place that its
+-- header then names, which may be any.
+abbrev LighterFrom : Here → (State → Out Here) → Type 0
+LighterFrom here f = (s t : State) (next : Here) → here.next.program_counter < length s.memory → f s ≡ done next t
+    → Lighter here.next s next.next t
+
+lighter_from : (here : Here) (f : State → Out Here) → FallsFrom here f → LighterFrom here f
+lighter_from here f falls s t next inside h = (falls s t next inside h).lighter
+
 -- restart: a unit is spent, and one frame is left
-restart_falls : (loaded : Loaded) (here : Here) → FallsFrom here (restart loaded here)
+restart_lighter : (loaded : Loaded) (here : Here) → LighterFrom here (restart loaded here)
 unfolding restart
-restart_falls loaded here s t next inside h =
+restart_lighter loaded here s t next inside h =
     let p = both (spend here.next.fuel s) _ next t h in
     let less = spend_less here.next.fuel s p.between p.value p.first in
     let one = keeps_spend here.next.fuel s p.between p.value p.first in
@@ -71,7 +80,7 @@ restart_falls loaded here s t next inside h =
     ∙ length-with_bytes p.between.memory header_size (drop header_size loaded.dynamic) ∙ one.memory in
     let frames : length t.frames ≡ 1 = ap (λ (x : State). length x.frames) w in
     let fuel : next.next.fuel ≡ p.value = ap (λ (x : Here). x.next.fuel) v in
-    parts.spent here.next next.next s t memory (omega (arith, frames)) (rw fuel less) (λ _. omega (arith, frames))
+    parts.spent_lighter here.next next.next s t memory (omega (arith, frames)) (rw fuel less) (λ _. omega (arith, frames))
 
 keeping_falls : (loaded : Loaded) (operation : Further) (here : Here) (after : ℕ) (result : Option ℕ)
     (branch : Option Branch) (values : List ℕ) → here.next.program_counter < after
@@ -79,29 +88,29 @@ keeping_falls : (loaded : Loaded) (operation : Further) (here : Here) (after : �
 keeping_falls loaded operation here after result branch values past =
     within_falls here here _ (perform_keeping_falls loaded operation here.next after result branch values past)
 
-perform_further_falls : (loaded : Loaded) (operation : Further) (here : Here) (after : ℕ) (result : Option ℕ)
+perform_further_lighter : (loaded : Loaded) (operation : Further) (here : Here) (after : ℕ) (result : Option ℕ)
     (branch : Option Branch) (values : List ℕ) → here.next.program_counter < after
-    → FallsFrom here (perform_further loaded operation here after result branch values)
+    → LighterFrom here (perform_further loaded operation here after result branch values)
 unfolding perform_further
-perform_further_falls loaded operations.Restart here after result branch values past = restart_falls loaded here
-perform_further_falls loaded operations.Random here after result branch values past = random_falls here after result
-    (slice_index values 0) past
-perform_further_falls loaded operations.Read here after result branch values past = read_line_falls loaded.characters
-    here after result (slice_index values 0) (slice_index_or values 1 0)
-perform_further_falls loaded operations.ReadChar here after result branch values past = read_key_falls
-    loaded.characters here after result
-perform_further_falls loaded operations.OutputStream here after result branch values past = output_stream_falls
-    loaded.characters here after values past
-perform_further_falls loaded operations.SetWindow here after result branch values past = set_window_falls here after
-    (slice_index values 0) past
-perform_further_falls loaded operations.SetCursor here after result branch values past = set_cursor_falls here after
-    (slice_index values 0) (slice_index values 1) past
-perform_further_falls loaded operations.EraseWindow here after result branch values past = erase_window_falls here
-    after (slice_index values 0) past
-perform_further_falls loaded operations.SplitWindow here after result branch values past = split_window_falls here
-    after (slice_index values 0) past
-perform_further_falls loaded operation here after result branch values past = keeping_falls loaded operation here after
-    result branch values past
+perform_further_lighter loaded operations.Restart here after result branch values past = restart_lighter loaded here
+perform_further_lighter loaded operations.Random here after result branch values past = lighter_from here _
+    (random_falls here after result (slice_index values 0) past)
+perform_further_lighter loaded operations.Read here after result branch values past = lighter_from here _
+    (read_line_falls loaded.characters here after result (slice_index values 0) (slice_index_or values 1 0))
+perform_further_lighter loaded operations.ReadChar here after result branch values past = lighter_from here _
+    (read_key_falls loaded.characters here after result)
+perform_further_lighter loaded operations.OutputStream here after result branch values past = lighter_from here _
+    (output_stream_falls loaded.characters here after values past)
+perform_further_lighter loaded operations.SetWindow here after result branch values past = lighter_from here _
+    (set_window_falls here after (slice_index values 0) past)
+perform_further_lighter loaded operations.SetCursor here after result branch values past = lighter_from here _
+    (set_cursor_falls here after (slice_index values 0) (slice_index values 1) past)
+perform_further_lighter loaded operations.EraseWindow here after result branch values past = lighter_from here _
+    (erase_window_falls here after (slice_index values 0) past)
+perform_further_lighter loaded operations.SplitWindow here after result branch values past = lighter_from here _
+    (split_window_falls here after (slice_index values 0) past)
+perform_further_lighter loaded operation here after result branch values past = lighter_from here _
+    (keeping_falls loaded operation here after result branch values past)
 
 -- The address after an instruction lies behind its own
 
@@ -183,31 +192,31 @@ decode_further_ahead memory at operation x h =
     let e = ahead.ok_after _ x.0 b.value.1 x.1 b.second in
     omega arith
 
-execute_further_falls : (loaded : Loaded) (operation : Further) (here : Here) (r : Result (Instruction × ℕ) Fault)
+execute_further_lighter : (loaded : Loaded) (operation : Further) (here : Here) (r : Result (Instruction × ℕ) Fault)
     → ((x : Instruction × ℕ) → r ≡ Ok x → here.next.program_counter < x.1)
-    → FallsFrom here (execute_further loaded operation here r)
-execute_further_falls loaded operation here (Err cause) past s t next inside h = absurd (never _ next s t h)
-execute_further_falls loaded operation here (Ok x) past s t next inside h =
+    → LighterFrom here (execute_further loaded operation here r)
+execute_further_lighter loaded operation here (Err cause) past s t next inside h = absurd (never _ next s t h)
+execute_further_lighter loaded operation here (Ok x) past s t next inside h =
     let p = both (operand_values x.0.operands s)
     (λ values. perform_further loaded operation here x.1 x.0.result x.0.branch values) next t h in
     let alike = keeps_operand_values x.0.operands s p.between p.value p.first in
-    falls_alike here.next next.next s p.between t alike
-    (perform_further_falls loaded operation here x.1 x.0.result x.0.branch p.value (past x refl) p.between t next
+    lighter_alike here.next next.next s p.between t alike
+    (perform_further_lighter loaded operation here x.1 x.0.result x.0.branch p.value (past x refl) p.between t next
     (omega (arith, alike.memory)) p.second)
 
-chosen_falls : (loaded : Loaded) (here : Here) (s t : State) (next : Here) (o : Option Further)
+chosen_lighter : (loaded : Loaded) (here : Here) (s t : State) (next : Here) (o : Option Further)
     → further_at s.memory here.next.program_counter ≡ o → chosen loaded o here s ≡ done next t
-    → Falls here.next s next.next t
-chosen_falls loaded here s t next None e h =
-    step_known_falls loaded here.next next.next s t (within_done here next (step_known loaded here.next s) t h)
-chosen_falls loaded here s t next (Some operation) e h =
+    → Lighter here.next s next.next t
+chosen_lighter loaded here s t next None e h =
+    (step_known_falls loaded here.next next.next s t (within_done here next (step_known loaded here.next s) t h)).lighter
+chosen_lighter loaded here s t next (Some operation) e h =
     let memory = s.memory in
     let at = here.next.program_counter in
-    execute_further_falls loaded operation here (decode_further memory at operation)
+    execute_further_lighter loaded operation here (decode_further memory at operation)
     (λ x f. decode_further_ahead memory at operation x f) s t next (stands memory at operation e).within h
 
-pub standard_step_falls : (loaded : Loaded) (here next : Here) (s t : State)
-    → standard_step loaded here s ≡ done next t → Falls here.next s next.next t
+pub standard_step_lighter : (loaded : Loaded) (here next : Here) (s t : State)
+    → standard_step loaded here s ≡ done next t → Lighter here.next s next.next t
 unfolding standard_step
-standard_step_falls loaded here next s t h =
-    chosen_falls loaded here s t next (further_at s.memory here.next.program_counter) refl h
+standard_step_lighter loaded here next s t h =
+    chosen_lighter loaded here s t next (further_at s.memory here.next.program_counter) refl h

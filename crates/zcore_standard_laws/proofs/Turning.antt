@@ -29,7 +29,7 @@ use Rattle.zcore_standard_laws.proofs.GivenAlike.{given_alike}
 use Rattle.zcore_standard_laws.proofs.Known.{known_keeps}
 use Rattle.zcore_standard_laws.proofs.Reading.{read_keeps}
 use Rattle.zcore_standard_laws.proofs.Refusing.{IsReadByte, Stands, stands, step_refused}
-use Rattle.zcore_standard_laws.proofs.Stepping.{standard_step_falls}
+use Rattle.zcore_standard_laws.proofs.Stepping.{standard_step_lighter}
 
 abbrev pub weighs : Here → State → ℕ
 weighs here s = weight here.next s
@@ -37,7 +37,7 @@ weighs here s = weight here.next s
 pub standard_weight : (loaded : Loaded) → IsWeight (standard loaded) weighs
 standard_weight loaded = record {
   some = λ here s. weight_some here.next s;
-  falls = λ here next s t e. (standard_step_falls loaded here next s t e).falls;
+  falls = λ here next s t e. (standard_step_lighter loaded here next s t e).falls;
 }
 
 pub standard_ends : (loaded : Loaded) (here : Here) (s : State)
