@@ -37,10 +37,20 @@ pub fn make_room<T>(row: &mut Vec<T>) -> Result<(), ParseError>
     Ok(())
 }
 
-/// The value in the box at the end of a row that has room for it.
-pub fn put_boxed<T>(row: &mut Vec<T>, next: Box<T>)
-    requires { vec_len row.old < vec_capacity row.old }
-    ensures { row.new.items ≡ row.old.items ++ next.value ∷ [] }
+/// The value in the box at the end of a row.
+pub fn push_boxed<T: Drop>(row: &mut Vec<T>, next: Box<T>) -> Result<(), ParseError>
+    ensures ok { IfOk result (λ _. row.new.items ≡ row.old.items ++ next.value ∷ []) }
+    ensures stays { IfErr result (λ _. row.new.items ≡ row.old.items) }
+    ensures err { IfErr result (λ e. e ≡ ParseError.Memory) }
 {
-    row.push_reserved(Box::into_inner(next));
+    match make_room(row) {
+        Ok(()) => {
+            row.push_reserved(Box::into_inner(next));
+            Ok(())
+        }
+        Err(e) => {
+            drop(next);
+            Err(e)
+        }
+    }
 }

@@ -119,10 +119,18 @@ fn returned<'t, 'a>(
 fn read<'t, 'a>(parser: &mut Parser<'t, 'a>) -> Result<Box<SimpleStatement<'a>>, ParseError>
     ensures { TakesSimple result parser.new (spec.line_read (ahead parser.old)) }
 {
-    let text = expect_name(parser)?;
-    let words = expect_name(parser)?;
-    let names = boxed(parser.alloc, (text, words))?;
-    ended(parser, SimpleStatement::Read(names))
+    let text = match expect_name(parser) {
+        Ok(text) => text,
+        Err(e) => return Err(e),
+    };
+    let words = match expect_name(parser) {
+        Ok(words) => words,
+        Err(e) => return Err(e),
+    };
+    match boxed(parser.alloc, (text, words)) {
+        Ok(names) => ended(parser, SimpleStatement::Read(names)),
+        Err(e) => Err(e),
+    }
 }
 
 /// What follows `give`, which stands at `position`.
