@@ -11,7 +11,7 @@ use std::alloc::Global;
 use syntax_parsing::ParseError;
 
 /// The value in a box.
-pub fn boxed<T: Drop>(alloc: Global, value: T) -> Result<Box<T>, ParseError>
+pub fn in_box<T: Drop>(alloc: Global, value: T) -> Result<Box<T>, ParseError>
     ensures ok { IfOk result (λ x. x.value ≡ value) }
     ensures err { IfErr result (λ e. e ≡ ParseError.Memory) }
 {
@@ -35,6 +35,24 @@ pub fn make_room<T>(row: &mut Vec<T>) -> Result<(), ParseError>
     }
     row.reserve(1)?;
     Ok(())
+}
+
+/// The value at the end of a row.
+pub fn push<T: Drop>(row: &mut Vec<T>, value: T) -> Result<(), ParseError>
+    ensures ok { IfOk result (λ _. row.new.items ≡ row.old.items ++ value ∷ []) }
+    ensures stays { IfErr result (λ _. row.new.items ≡ row.old.items) }
+    ensures err { IfErr result (λ e. e ≡ ParseError.Memory) }
+{
+    match make_room(row) {
+        Ok(()) => {
+            row.push_reserved(value);
+            Ok(())
+        }
+        Err(e) => {
+            drop(value);
+            Err(e)
+        }
+    }
 }
 
 /// The value in the box at the end of a row.

@@ -15,7 +15,7 @@ ghost use Rattle.syntax_statements.specs.Rows as rows;
 ghost use Rattle.syntax_statements.specs.Rows.{AddsStatement};
 
 use crate::kinds;
-use crate::memory::{boxed, make_room, push_boxed};
+use crate::memory::{self, make_room, push, push_boxed};
 use crate::simple::simple;
 use crate::tree::{SimpleStatement, Statement};
 use syntax_lexer::{Position, Sign};
@@ -34,7 +34,7 @@ pub fn in_box<'t, 'a>(
     ensures { TakesStatement result parser.now
         (Ok (statement_tree statement.entry, ahead parser.now)) }
 {
-    boxed(parser.alloc, statement)
+    memory::in_box(parser.alloc, statement)
 }
 
 /// `;` alone, which is read already.
@@ -82,13 +82,7 @@ fn add_empty<'t, 'a>(
     ensures { AddsStatement result row.old.items row.new.items parser.now
         (Ok (tree.empty, ahead parser.now)) }
 {
-    match make_room(row) {
-        Ok(()) => {
-            row.push_reserved(Statement::Empty);
-            Ok(())
-        }
-        Err(e) => Err(e),
-    }
+    push(row, Statement::Empty)
 }
 
 // A statement that contains no others, and which is not `;` alone, at the end of a row.
@@ -306,7 +300,7 @@ pub fn switch_on<'t, 'a>(
         (spec.switch_of position (expression_tree value.entry.value)
         (map case_tree cases.entry.items) (other_tree other.entry) (ahead parser.old)) }
 {
-    match boxed(parser.alloc, (cases, other)) {
+    match memory::in_box(parser.alloc, (cases, other)) {
         Ok(cases) => switch_over(parser, position, value, cases),
         Err(e) => {
             drop(value);
