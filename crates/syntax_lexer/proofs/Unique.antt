@@ -86,7 +86,7 @@ same_lexeme b bs x y p q at = go x y p q at (sym (begins x b bs p) ∙ begins y 
 
 -- ---- longest tokens
 
-same_length : (bs : List ℕ) (x y : Lexeme) (m n : ℕ) → IsLongest bs x m → IsLongest bs y n → m ≡ n
+pub same_length : (bs : List ℕ) (x y : Lexeme) (m n : ℕ) → IsLongest bs x m → IsLongest bs y n → m ≡ n
 same_length bs x y m n p q =
     elim (cases_order m n) [
       | inl e ↦ e
@@ -126,7 +126,7 @@ token_class : (b : ℕ) (bs : List ℕ) (x : Lexeme) (n : ℕ) → IsLongest (b 
 token_class b bs x zero p = absurd (omega (arith, takes x [] p.spelled))
 token_class b bs x (suc n) p = begins x b (take n bs) p.spelled
 
-abbrev Apart : ℕ → Type 0
+abbrev pub Apart : ℕ → Type 0
 Apart b = (is_divider b ≡ true → ⊥) × (b ≡ 33 → ⊥)
 
 token_apart : (b : ℕ) (bs : List ℕ) (x : Lexeme) (n : ℕ) → IsLongest (b ∷ bs) x n → Apart b
@@ -245,7 +245,12 @@ same_fault (b ∷ bs) f.NameTooLong f.NameTooLong p q = refl
 no_token_at_end : (x : Lexeme) (n : ℕ) → IsLongest [] x n → ⊥
 no_token_at_end x n p = omega (arith, some_byte [] x n p)
 
-no_break_at : (bs : List ℕ) (x : Lexeme) (n : ℕ) (g : LexicalFault) → IsLongest bs x n → IsAllowed x (drop n bs)
+-- a token begins with a byte that divides no tokens and begins no comment
+pub token_front : (bs : List ℕ) (x : Lexeme) (n : ℕ) → IsLongest bs x n → (0 < length bs) × Apart (get_or bs 0 0)
+token_front [] x n p = absurd (no_token_at_end x n p)
+token_front (b ∷ bs) x n p = (omega arith, token_apart b bs x n p)
+
+pub no_break_at : (bs : List ℕ) (x : Lexeme) (n : ℕ) (g : LexicalFault) → IsLongest bs x n → IsAllowed x (drop n bs)
     → Breaks g bs → ⊥
 no_break_at [] x n g p good h = no_token_at_end x n p
 no_break_at (b ∷ bs) x n g p good h = no_break b bs x n g p good h

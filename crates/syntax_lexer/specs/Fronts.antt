@@ -1,6 +1,6 @@
 -- Words of proofs: what the parts of a scan find at the front of bytes.
 use Rattle.std.specs.Prelude.{◌≡◌, ◌==◌, ◌||◌, ◌≤◌, ℕ, Bool, true, false, if◌then◌else◌, List, [], ◌∷◌, ◌++◌, length}
-use Rattle.std.specs.Prelude.{take, drop, Result, Ok, Err, Option, MatchOption}
+use Rattle.std.specs.Prelude.{take, Result, Ok, Err, Option, MatchOption}
 use Rattle.syntax_lexer.specs.declared.bytes.Base.{Base}
 use Rattle.syntax_lexer.specs.declared.bytes.Base.TheVariants as bases
 use Rattle.syntax_lexer.specs.declared.fault.LexicalFault.{LexicalFault}
@@ -12,7 +12,7 @@ use Rattle.syntax_lexer.specs.declared.token.Word.{Word}
 use Rattle.syntax_lexer.specs.declared.token.Word.TheVariants as w
 use Rattle.syntax_lexer.specs.Token.{Lexeme, character, dictionary_word, lexeme_of}
 use Rattle.syntax_lexer.specs.Spelling.{sign_spelling, IsCharacter, IsDictionaryWord}
-use Rattle.syntax_lexer.specs.Tokens.{IsLongest, IsAllowed, Breaks, TokenOutcome, LexesFrom, put}
+use Rattle.syntax_lexer.specs.Tokens.{BeginsWith, Breaks, TokenOutcome, LexesFrom, put}
 use Rattle.syntax_lexer.specs.Results.{source_token}
 
 -- what is found meets a fact, and where nothing is found, nothing meets it
@@ -21,7 +21,7 @@ FindsOne {A} P result = MatchOption result ((a : A) → P a → ⊥) P
 
 -- a token's kind and length, wherever the bytes lie, or the broken rule
 abbrev pub Scanned : List ℕ → Result (Kind × ℕ) LexicalFault → Type 0
-Scanned bs (Ok x) = (p : Position) → IsLongest bs (lexeme_of x.0 p) x.1 × IsAllowed (lexeme_of x.0 p) (drop x.1 bs)
+Scanned bs (Ok x) = (p : Position) → BeginsWith bs (lexeme_of x.0 p) x.1
 Scanned bs (Err g) = Breaks g bs
 
 -- a token that begins at a position was put at the end of a row, and the source goes on after it
@@ -70,7 +70,8 @@ is_statement_word _ = false
 
 -- the bytes with which a sign of several bytes begins
 abbrev pub begins_longer : ℕ → Bool
-begins_longer b = b == 46 || (b == 61 || (b == 126 || (b == 62 || (b == 60 || (b == 38 || (b == 124 || (b == 43 || b == 45)))))))
+begins_longer b =
+    b == 46 || (b == 61 || (b == 126 || (b == 62 || (b == 60 || (b == 38 || (b == 124 || (b == 43 || b == 45)))))))
 
 -- the byte spells the sign, and begins no longer one
 abbrev pub IsLone : ℕ → Sign → Type 0

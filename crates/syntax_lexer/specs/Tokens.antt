@@ -22,6 +22,10 @@ IsAllowed (name s p) rest = length s ≤ 32
 IsAllowed (number v p) rest = (v ≤ 65535) × (is_name_byte (slice_index rest 0) ≡ false)
 IsAllowed lexeme rest = Unit {0}
 
+-- the bytes begin with a token of n bytes, and a source may have it there
+abbrev pub BeginsWith : List ℕ → Lexeme → ℕ → Type 0
+BeginsWith bs lexeme n = IsLongest bs lexeme n × IsAllowed lexeme (drop n bs)
+
 -- no token stands at the front of the bytes
 abbrev pub HasNoToken : List ℕ → Type 0
 HasNoToken bs = (lexeme : Lexeme) (n : ℕ) → Spells lexeme (take n bs) → ⊥

@@ -6,7 +6,7 @@ ghost use Rattle.syntax_lexer.specs.FaultNumbers.{no_memory};
 ghost use Rattle.syntax_lexer.specs.Placed.{unplaced, nowhere, line_at, IsFaultIn};
 ghost use Rattle.syntax_lexer.specs.Bytes.{is_divider};
 ghost use Rattle.syntax_lexer.specs.Token.{Lexeme, lexemes};
-ghost use Rattle.syntax_lexer.specs.Tokens.{IsLongest, Lexes, LexesFrom, line_after, EndsOnce, TokenOutcome};
+ghost use Rattle.syntax_lexer.specs.Tokens.{BeginsWith, Lexes, LexesFrom, line_after, EndsOnce, TokenOutcome};
 ghost use Rattle.syntax_lexer.specs.Results.{Meets};
 ghost use Rattle.syntax_lexer.specs.Fronts.{PutsToken};
 
@@ -66,9 +66,10 @@ fn put_token<'a>(
 // A token in so many bytes is what most sources have, or more of them.
 const BYTES_OF_A_TOKEN: usize = 4;
 
-// Room is asked for so many tokens at most before one is read: 128 KiB. The system moves a row of
-// this size without copying it, so it doubles from there as its tokens come.
-const MOST_AT_FIRST: usize = 2_048;
+// Room is asked for so many tokens at most before one is read. A token has 56 bytes, so these have
+// 131 KiB. glibc gives room of 128 KiB and more as a mapping of its own, which the system moves
+// without copying it. So the row doubles from there, without a copy, as its tokens come.
+const MOST_AT_FIRST: usize = 2_400;
 
 // No tokens yet, but room for those with which so many bytes are likely to begin, since a smaller row
 // is copied where it grows. If that room is refused, the row grows as its tokens come.
@@ -133,10 +134,12 @@ pub fn lex_placed<'a>(alloc: Global, source: &'a [u8]) -> Result<Vec<Token<'a>>,
     Ok(tokens)
 }
 
-/// The length of the token that begins some bytes; 0 where none does.
+/// The length of the token that begins some bytes; 0 where none does, or one that no source may
+/// have, as a name of more than 32 bytes.
 pub fn token_length(bytes: &[u8]) -> usize
     ensures within { result ≤ length bytes.now }
-    ensures longest { (result ≡ 0) ⊎ ((lexeme : Lexeme) × IsLongest bytes.now lexeme result) }
+    ensures longest { (result ≡ 0) ⊎ ((lexeme : Lexeme) × BeginsWith bytes.now lexeme result) }
+    ensures each { (lexeme : Lexeme) (n : ℕ) → BeginsWith bytes.now lexeme n → result ≡ n }
 {
     if bytes.is_empty() || is_divider(bytes[0]) || bytes[0] == b'!' {
         return 0;

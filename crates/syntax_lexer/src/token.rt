@@ -1,6 +1,6 @@
 //! Tokens of the language.
 
-ghost use Rattle.std.specs.Prelude.{◌≡◌, ◌+◌, ◌<◌, ◌^◌, length};
+ghost use Rattle.std.specs.Prelude.{◌≡◌, ◌+◌, ◌-◌, ◌^◌, length, min};
 
 /// A sign.
 #[derive(Clone, Copy, Debug, PartialEq, Eq)]
@@ -172,10 +172,10 @@ pub struct Token<'a> {
 }
 
 impl Token<'_> {
-    /// The offset after its last byte.
+    /// The offset after its last byte; the greatest number where that is above it.
     pub fn end(&self) -> usize
-        ensures { self.now.position.offset + length self.now.text.now < 2 ^ 64
-            → result ≡ self.now.position.offset + length self.now.text.now }
+        ensures { result
+            ≡ min (self.now.position.offset + length self.now.text.now) (2 ^ 64 - 1) }
     {
         self.position.offset.saturating_add(self.text.len())
     }

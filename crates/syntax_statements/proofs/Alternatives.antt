@@ -1,5 +1,6 @@
 -- How each alternative of a statement is read, from how its parts are read.
-use Rattle.std.proofs.Common.{◌≡◌, ℕ, max, true, false, List, [], ◌∷◌, Option, Some, None, Ok, refl, ap, suc, arith, length, ◌≤◌}
+use Rattle.std.proofs.Common.{◌≡◌, ℕ, max, true, false, List, [], ◌∷◌, Option, Some, None, Ok, refl, ap, suc, arith}
+use Rattle.std.proofs.Common.{length, ◌≤◌}
 use Rattle.syntax_lexer.specs.declared.token.Position.{Position}
 use Rattle.syntax_lexer.specs.declared.token.Sign.{Sign}
 use Rattle.syntax_lexer.specs.declared.token.Sign.TheVariants as s
@@ -152,7 +153,8 @@ module _ (d : ℕ) where
       (bound _ b (omega (arith, second)) (then _ c (omega arith) refl))
 
   pub step_enclosed : {n : ℕ} {h : HeadingTree} {r : List Lexeme} (q : Position) (m : List Lexeme)
-      → Limited (heading_in d (suc (length m)) m) d n h r → Limited (enclosed_heading d (sign s.OpenParenthesis q ∷ m)) d n h r
+      → Limited (heading_in d (suc (length m)) m) d n h r
+      → Limited (enclosed_heading d (sign s.OpenParenthesis q ∷ m)) d n h r
   unfolding enclosed_heading expect
   step_enclosed q m a = a
 
@@ -164,7 +166,8 @@ module _ (d : ℕ) where
   step_for p ts t short a = bound _ t short (then _ a (omega arith) refl)
 
   pub step_enclosed_loop : {n : ℕ} {l : LoopTree} {r : List Lexeme} (q : Position) (m : List Lexeme)
-      → Limited (looped_in d (suc (length m)) m) d n l r → Limited (enclosed_loop d (sign s.OpenParenthesis q ∷ m)) d n l r
+      → Limited (looped_in d (suc (length m)) m) d n l r
+      → Limited (enclosed_loop d (sign s.OpenParenthesis q ∷ m)) d n l r
   unfolding enclosed_loop expect
   step_enclosed_loop q m a = a
 
@@ -181,12 +184,14 @@ module _ (d : ℕ) where
   unfolding entered
   step_entered ts e a = same {S = inside d ts} (rw e refl) a
 
-  pub step_do : {n l : ℕ} {x : StatementTree} {c : ExpressionTree} (p u q : Position) (ts m r : List Lexeme) → length r ≤ length m
+  pub step_do : {n l : ℕ} {x : StatementTree} {c : ExpressionTree} (p u q : Position) (ts m r : List Lexeme)
+      → length r ≤ length m
       → Limited (entered (inside d) ts) d n x (reserved w.Until u ∷ m)
       → Limited (enclosed_condition d m) d l c (sign s.Semicolon q ∷ r)
       → Limited (statement d (reserved w.Do p ∷ ts)) d (max n l) (do_until p x c) r
   unfolding statement statement_over until expect_word
-  step_do {x = x} {c = c} p u q ts m r short a b = bound _ a (omega (arith, short)) (then _ b (omega arith) (step_ended (do_until p x c) q r))
+  step_do {x = x} {c = c} p u q ts m r short a b = bound _ a (omega (arith, short))
+      (then _ b (omega arith) (step_ended (do_until p x c) q r))
 
   pub step_break : (p q : Position) (r : List Lexeme)
       → Limited (statement d (reserved w.Break p ∷ sign s.Semicolon q ∷ r)) d 0 (break_at p) r
@@ -216,7 +221,8 @@ module _ (d : ℕ) where
   step_default p q m a = then _ a (omega arith) refl
 
   pub step_switch : {n l j : ℕ} {e : ExpressionTree} {k m : List Lexeme} (p i q : Position) (cs : CaseTrees)
-      (ts r : List Lexeme) → length m ≤ length k → length r ≤ length m → Limited (enclosed_condition d ts) d n e (sign s.OpenBrace i ∷ k)
+      (ts r : List Lexeme) → length m ≤ length k → length r ≤ length m
+      → Limited (enclosed_condition d ts) d n e (sign s.OpenBrace i ∷ k)
       → Limited (cases (bodies d) k) d l (case_list cs) m
       → Limited (otherwise (braces d) m) d j (default_list cs) (sign s.CloseBrace q ∷ r)
       → Limited (statement d (reserved w.Switch p ∷ ts)) d (max n (max l j)) (switch_on p e cs) r
@@ -229,14 +235,16 @@ module _ (d : ℕ) where
       → Limited (flags k) d l xs (sign s.Semicolon q ∷ r)
       → Limited (statement d (reserved w.Give p ∷ m)) d (max n l) (give p e xs) r
   unfolding statement statement_over given
-  step_give {e = e} {xs = xs} p q m r short a b = bound _ a short (then _ b (omega arith) (step_ended (give p e xs) q r))
+  step_give {e = e} {xs = xs} p q m r short a b = bound _ a short
+      (then _ b (omega arith) (step_ended (give p e xs) q r))
 
   pub step_move : {n l : ℕ} {x y : ExpressionTree} (p o q : Position) (m k r : List Lexeme) → length r ≤ length k
       → Limited (expression (nested d) m) d n x (reserved w.To o ∷ k)
       → Limited (expression (nested d) k) d l y (sign s.Semicolon q ∷ r)
       → Limited (statement d (reserved w.Move p ∷ m)) d (max n l) (move p x y) r
   unfolding statement statement_over moved expect_word
-  step_move {x = x} {y = y} p o q m k r short a b = bound _ a (omega (arith, short)) (then _ b (omega arith) (step_ended (move p x y) q r))
+  step_move {x = x} {y = y} p o q m k r short a b = bound _ a (omega (arith, short))
+      (then _ b (omega arith) (step_ended (move p x y) q r))
 
   pub step_remove : {n : ℕ} {e : ExpressionTree} (p q : Position) (m r : List Lexeme)
       → Limited (expression (nested d) m) d n e (sign s.Semicolon q ∷ r)

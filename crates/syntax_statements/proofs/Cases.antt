@@ -1,18 +1,19 @@
 -- What is read behind `if`, the words of loops and `switch`, by what reading their parts gave.
-use Rattle.std.proofs.Common.{◌≡◌, ℕ, true, false, List, length, Option, Some, Ok, Err, refl, ◌∙◌}
+use Rattle.std.proofs.Common.{◌≡◌, ℕ, true, false, List, length, Option, Some, Result, Ok, Err, refl, sym, ap, ◌∙◌}
 use Rattle.syntax_lexer.specs.declared.token.Position.{Position}
 use Rattle.syntax_lexer.specs.declared.token.Sign.TheVariants as s
 use Rattle.syntax_lexer.specs.declared.token.Word.TheVariants as w
 use Rattle.syntax_lexer.specs.Token.{Lexeme}
 use Rattle.syntax_trees.specs.Tree.{ExpressionTree}
-use Rattle.syntax_parsing.specs.Stop.{unfit}
-use Rattle.syntax_parsing.specs.Parse.{◌>>=◌, Parse, head, tail, is_sign, is_word, expect}
-use Rattle.syntax_expression_parts.specs.Parse.{closed}
+use Rattle.syntax_parsing.specs.Stop.{Stop, unfit}
+use Rattle.syntax_parsing.specs.declared.error.ParseError.{ParseError}
+use Rattle.syntax_parsing.specs.declared.error.ParseError.TheVariants as errors
+use Rattle.syntax_parsing.specs.Parse.{◌>>=◌, Fails, Parse, head, tail, is_sign, is_word, expect}
 use Rattle.syntax_statement_parts.specs.Tree.{LoopTree}
 use Rattle.syntax_statement_parts.specs.Views.{HeadingTree}
 use Rattle.syntax_statement_parts.specs.Parse.{enclosed_condition, enclosed_heading, enclosed_loop}
-use Rattle.syntax_statements.specs.Tree.{StatementTree, while_do, for_loop, switch_on, loop_over}
-use Rattle.syntax_statements.specs.Views.{CaseTree, cases_of}
+use Rattle.syntax_statements.specs.Tree.{StatementTree, while_do, for_loop, loop_over}
+use Rattle.syntax_statements.specs.Views.{CaseTree}
 use Rattle.syntax_statements.specs.Parse.{block_of, braced, repetition, iteration, traversal, cases, switch_of}
 use Rattle.syntax_statements.specs.Parse.{otherwise, selection}
 
@@ -45,7 +46,9 @@ unfolding braced
 block_read braces left ts m xs h = rw h refl
 
 pub selection_made : (d : ℕ) (braces : ℕ → Parse (List StatementTree)) (bodies : Parse (List StatementTree))
-    (p : Position) (ts m us r k : List Lexeme) (e : ExpressionTree) (cs : List CaseTree) (o : Option (List StatementTree)) → enclosed_condition d ts ≡ Ok (e, m)
+    (p : Position) (ts m us r k : List Lexeme) (e : ExpressionTree) (cs : List CaseTree)
+    (o : Option (List StatementTree))
+    → enclosed_condition d ts ≡ Ok (e, m)
     → expect s.OpenBrace m ≡ Ok us → cases bodies us ≡ Ok (cs, r) → otherwise braces r ≡ Ok (o, k)
     → selection d braces bodies p ts ≡ switch_of p e cs o k
 unfolding selection
@@ -68,7 +71,18 @@ module _ (braces : ℕ → Parse (List StatementTree)) (ts us : List Lexeme) (is
   unfolding otherwise expect
   otherwise_uncoloned none = rw (is, ← behind, none) refl
 
-pub switch_made : (p : Position) (e : ExpressionTree) (cs : List CaseTree) (o : Option (List StatementTree))
-    (ts r : List Lexeme) → expect s.CloseBrace ts ≡ Ok r
-    → switch_of p e cs o ts ≡ Ok (switch_on p e (cases_of cs o), r)
-switch_made p e cs o ts r closed = rw closed refl
+-- ---- a statement in its box, and the sign that ends it
+
+abbrev tree_in : Result (StatementTree × List Lexeme) Stop → StatementTree → StatementTree
+tree_in (Ok r) x = r.0
+tree_in (Err e) x = x
+
+-- the tree in the box is that of the statement
+pub in_its_box : {x y z : StatementTree} {ts us : List Lexeme} (made : Result (StatementTree × List Lexeme) Stop)
+    → made ≡ Ok (x, ts) → made ≡ Ok (y, us) → x ≡ z → y ≡ z
+in_its_box {x = x} made p q h = ap (λ r. tree_in r x) (sym q ∙ p) ∙ h
+
+-- no box is made where memory is refused
+pub no_box : {A B : Type 0} (e : ParseError) (x : A) (read : Result B Stop) → Fails e (Ok x) → Fails e read
+no_box errors.Memory x read h = tt
+no_box (errors.Fault f count) x read h = absurd (cc h)

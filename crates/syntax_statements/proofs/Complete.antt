@@ -32,7 +32,8 @@ use Rattle.syntax_statements.proofs.Alternatives.{step_new_line, step_rtrue, ste
 use Rattle.syntax_statements.proofs.Alternatives.{step_return, step_return_value, step_condition, step_if, step_if_else}
 use Rattle.syntax_statements.proofs.Alternatives.{step_while, step_enclosed, step_for, step_enclosed_loop}
 use Rattle.syntax_statements.proofs.Alternatives.{step_objectloop, step_entered, step_do, step_break, step_continue}
-use Rattle.syntax_statements.proofs.Alternatives.{step_case, step_no_default, step_default, step_switch, step_switch_none, step_give}
+use Rattle.syntax_statements.proofs.Alternatives.{step_case, step_no_default, step_default, step_switch}
+use Rattle.syntax_statements.proofs.Alternatives.{step_switch_none, step_give}
 use Rattle.syntax_statements.proofs.Alternatives.{step_move, step_remove, statement_of, step_alone}
 use Rattle.syntax_statements.proofs.PartsRead.{as_long_stop, as_long_next, repeated_stop, repeated_next, at_Given}
 use Rattle.syntax_statements.proofs.PartsRead.{stops_Given, at_Heading}
@@ -136,21 +137,28 @@ mutual
   at_S (s_new_line {r = r} {p = p} {q = q}) d = step_new_line d p q r
   at_S (s_if {m = m} {k = k} {p = p} {q = q} {o = o} c a e) d = up
       (step_if d p (sign s.OpenParenthesis q ∷ m)
-      (step_condition d q o m k (in_whole (suc (length m)) m d (omega (arith, short_E c)) (λ j. at_E c j (omega arith)))) (omega (arith, short_S a)) (in_statement k d (short_S a) (λ j. at_S a j)) e)
+      (step_condition d q o m k
+      (in_whole (suc (length m)) m d (omega (arith, short_E c)) (λ j. at_E c j (omega arith))))
+      (omega (arith, short_S a)) (in_statement k d (short_S a) (λ j. at_S a j)) e)
       (omega arith)
   at_S (s_if_else {m = m} {k = k} {l = l} {p = p} {q = q} {o = o} {e = e} c a b) d = up
       (step_if_else d p e (sign s.OpenParenthesis q ∷ m) l
-      (step_condition d q o m k (in_whole (suc (length m)) m d (omega (arith, short_E c)) (λ j. at_E c j (omega arith)))) (omega (arith, short_S a)) (omega (arith, short_S b))
+      (step_condition d q o m k
+      (in_whole (suc (length m)) m d (omega (arith, short_E c)) (λ j. at_E c j (omega arith))))
+      (omega (arith, short_S a)) (omega (arith, short_S b))
       (in_statement k d (short_S a) (λ j. at_S a j)) (in_statement l d (short_S b) (λ j. at_S b j))) (omega arith)
   at_S (s_while {m = m} {k = k} {p = p} {q = q} {o = o} c a) d = up
       (step_while d p (sign s.OpenParenthesis q ∷ m)
-      (step_condition d q o m k (in_whole (suc (length m)) m d (omega (arith, short_E c)) (λ j. at_E c j (omega arith)))) (omega (arith, short_S a))
+      (step_condition d q o m k
+      (in_whole (suc (length m)) m d (omega (arith, short_E c)) (λ j. at_E c j (omega arith))))
+      (omega (arith, short_S a))
       (in_statement k d (short_S a) (λ j. at_S a j)))
       (omega arith)
   at_S (s_do {m = m} {k = k} {r = r} {p = p} {q = q} {o = o} {u = u} {j = j} a c) d = up
       (step_do d p u j m (sign s.OpenParenthesis q ∷ k) r (omega (arith, short_E c))
       (step_entered d m (first_S a) (in_statement m d (short_S a) (λ i. at_S a i)))
-      (step_condition d q o k (sign s.Semicolon j ∷ r) (in_whole (suc (length k)) k d (omega (arith, short_E c)) (λ i. at_E c i (omega arith)))))
+      (step_condition d q o k (sign s.Semicolon j ∷ r)
+      (in_whole (suc (length k)) k d (omega (arith, short_E c)) (λ i. at_E c i (omega arith)))))
       (omega arith)
   at_S (s_for {m = m} {n = n} {p = p} {q = q} a f b c g x) d = up
       (step_for d p (sign s.OpenParenthesis q ∷ m)
@@ -183,7 +191,8 @@ mutual
   at_S (s_read {r = r} {p = p} {q = q} {o = o} {j = j} {a = a} {b = b}) d = step_read d p q o j a b r
   at_S (s_give {m = m} {r = r} {p = p} {q = q} c a) d = up
       (step_give d p q m r (omega (arith, short_Given a)) (at_E c d (stops_Given a)) (at_Given a d)) (omega arith)
-  at_S (s_move {m = m} {k = k} {r = r} {p = p} {q = q} {o = o} a b) d = step_move d p o q m k r (omega (arith, short_E b))
+  at_S (s_move {m = m} {k = k} {r = r} {p = p} {q = q} {o = o} a b) d = step_move d p o q m k r
+      (omega (arith, short_E b))
       (at_E a d (omega arith)) (at_E b d (omega arith))
   at_S (s_remove {m = m} {r = r} {p = p} {q = q} c) d = step_remove d p q m r (at_E c d (omega arith))
   at_S {ts} (s_effect {r = r} {q = q} c f) d = same (statement_of d ts (first_E c))
@@ -219,8 +228,10 @@ mutual
     fewer = omega arith;
     last = omega (arith, short_Ss a);
     list =
-        repeated_stop begins_value (one_case (bodies (suc d))) (suc d) n (reserved w.Default p ∷ sign s.Colon o ∷ m) refl;
-    default = step_default (suc d) p o m (in_block (suc (length m)) m (suc d) (omega (arith, short_Ss a)) (λ k. at_block a k (length m) (omega arith)));
+        repeated_stop begins_value (one_case (bodies (suc d))) (suc d) n
+        (reserved w.Default p ∷ sign s.Colon o ∷ m) refl;
+    default = step_default (suc d) p o m
+        (in_block (suc (length m)) m (suc d) (omega (arith, short_Ss a)) (λ k. at_block a k (length m) (omega arith)));
   }
   at_cases (cases_next g a b) d zero le = absurd (omega (arith, short_Ranges g))
   at_cases {ts} (cases_next {m = m} {p = p} {gs = gs} {xs = xs} g a b) d (suc n) le =

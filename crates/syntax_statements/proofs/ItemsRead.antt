@@ -1,5 +1,6 @@
 -- What `print` prints is read as it derives.
-use Rattle.std.proofs.Common.{◌≡◌, ◌&&◌, ℕ, zero, suc, max, true, false, List, [], ◌∷◌, Result, Ok, refl, arith, length, ◌≤◌}
+use Rattle.std.proofs.Common.{◌≡◌, ◌&&◌, ℕ, zero, suc, max, true, false, List, [], ◌∷◌, Result, Ok, refl, arith}
+use Rattle.std.proofs.Common.{length, ◌≤◌}
 use Rattle.syntax_lexer.specs.declared.token.Position.{Position}
 use Rattle.syntax_lexer.specs.declared.token.Sign.TheVariants as s
 use Rattle.syntax_lexer.specs.declared.token.Word.TheVariants as w

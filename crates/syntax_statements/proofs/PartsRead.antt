@@ -34,7 +34,8 @@ module _ {A : Type 0} (begins : List Lexeme → Bool) (p : Parse A) (d : ℕ) wh
       → Limited (p ts) d l x m → length r ≤ length m → Limited (as_long begins p n m) d j xs r
       → Limited (as_long begins p (suc n) ts) d (max l j) (x ∷ xs) r
   unfolding as_long
-  as_long_next n ts e a short b = same {S = p ts >>= λ x. as_long begins p n x.1 >>= λ y. Ok (x.0 ∷ y.0, y.1)} (rw e refl)
+  as_long_next n ts e a short b = same {S = p ts >>= λ x. as_long begins p n x.1 >>= λ y. Ok (x.0 ∷ y.0, y.1)}
+      (rw e refl)
       (bound _ a short (then _ b (omega arith) refl))
 
 module _ {A : Type 0} (begins : Lexeme → Bool) (p : Parse A) (d : ℕ) where
@@ -43,7 +44,8 @@ module _ {A : Type 0} (begins : Lexeme → Bool) (p : Parse A) (d : ℕ) where
   repeated_stop n r e = as_long_stop (λ us. begins (head us)) p d n r e
 
   pub repeated_next : {l j : ℕ} {x : A} {xs : List A} {m r : List Lexeme} (n : ℕ) (ts : List Lexeme)
-      → begins (head ts) ≡ true → Limited (p ts) d l x m → length r ≤ length m → Limited (repeated begins p n m) d j xs r
+      → begins (head ts) ≡ true → Limited (p ts) d l x m → length r ≤ length m
+      → Limited (repeated begins p n m) d j xs r
       → Limited (repeated begins p (suc n) ts) d (max l j) (x ∷ xs) r
   unfolding repeated
   repeated_next n ts e a short b = as_long_next (λ us. begins (head us)) p d n ts e a short b
@@ -70,7 +72,8 @@ pub at_Given : {ts r : List Lexeme} {xs : List FlagTree} {q : Position} → IsGi
     → (d : ℕ) → Limited (flags ts) d 0 xs (sign s.Semicolon q ∷ r)
 unfolding flags
 at_Given (given_first {m = m} a b) d = up
-    (bound _ (at_once {d = d} (flag_read a)) (short_Flags b) (then _ (at_Flags b d (length m) (omega arith)) (omega arith) refl))
+    (bound _ (at_once {d = d} (flag_read a)) (short_Flags b)
+    (then _ (at_Flags b d (length m) (omega arith)) (omega arith) refl))
     (omega arith)
 
 -- an expression ends where they begin

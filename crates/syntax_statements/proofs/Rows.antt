@@ -1,7 +1,7 @@
 -- Statements that are put at the end of a row, one after the other.
 use Rattle.std.proofs.Common.{◌≡◌, ℕ, suc, ◌+◌, ◌-◌, ◌<◌, Bool, true, false, List, [], ◌∷◌, ◌++◌, length, Result, Ok}
 use Rattle.std.proofs.Common.{Err, map, refl, sym, ap, ◌∙◌, arith}
-use Rattle.std.specs.Prelude.{if◌then◌else◌}
+use Rattle.std.specs.Prelude.{if◌then◌else◌, IfOk, IfErr}
 use Rattle.std.proofs.lemmas.List.{map_push}
 use Rattle.syntax_lexer.specs.declared.token.Sign.TheVariants as s
 use Rattle.syntax_lexer.specs.declared.token.Word.TheVariants as w
@@ -21,7 +21,7 @@ use Rattle.syntax_statements.specs.declared.tree.Statement.TheFolds.{fold-roll-S
 use Rattle.syntax_statements.specs.Tree.{StatementTree, empty}
 use Rattle.syntax_statements.specs.Views.{layer, simple_tree, statement_tree}
 use Rattle.syntax_statements.specs.Parse.{plain_on, statement_on, statement_over, inside, braces, bodies, statement}
-use Rattle.syntax_statements.specs.Rows.{contains_statements, flat, after}
+use Rattle.syntax_statements.specs.Rows.{AddsStatement, contains_statements, flat, after}
 use Rattle.syntax_statements.proofs.Inside.{inside_zero}
 
 -- ---- one turn of a loop
@@ -61,7 +61,8 @@ module _ {A : Type 0} (begins : List Lexeme → Bool) (one : Parse A) where
       let k : n - i ≡ suc (n - (i + 1)) = omega arith in
       let all : joined front (as_long begins one (n - i) ts) ≡ Err (stop_of f count) =
       rw (k, b) (turn front (one ts) (as_long begins one (n - (i + 1)))
-      ∙ ap (λ (z : Result (List A × List Lexeme) Stop). z >>= λ x. joined x.0 (as_long begins one (n - (i + 1)) x.1)) h) in
+      ∙ ap (λ (z : Result (List A × List Lexeme) Stop). z >>= λ x. joined x.0
+      (as_long begins one (n - (i + 1)) x.1)) h) in
       sym so_far ∙ all
 
 module _ {A : Type 0} (begins : Lexeme → Bool) (one : Parse A) where
@@ -87,6 +88,13 @@ pub added : (before room longer : List Statement) (x : Statement) (y : Statement
 added before room longer x y left same pushed is = ap (λ ts. Ok (ts, ahead left))
     (ap (λ z. map statement_tree before ++ z ∷ []) (sym is) ∙ sym (map_push statement_tree before x)
     ∙ ap (map statement_tree) (ap (λ xs. xs ++ x ∷ []) (sym same) ∙ sym pushed))
+
+-- the row is longer, or memory was refused
+pub pushed : {X : Type 0} (result : Result X ParseError) (before longer : List Statement) (x : Statement)
+    (left : Parser) → IfOk result (λ _. longer ≡ before ++ x ∷ []) → IfErr result (λ e. e ≡ errors.Memory)
+    → AddsStatement result before longer left (Ok (statement_tree x, ahead left))
+pushed (Ok u) before longer x left ok err = added before before longer x (statement_tree x) left refl ok refl
+pushed (Err e) before longer x left ok err = rw err tt
 
 pub is_empty : statement_tree said.Empty ≡ empty
 is_empty = ap statement_tree (sym said.rolls-Empty) ∙ fold-roll-Statement StatementTree layer _

@@ -41,12 +41,3 @@ pub is_switch : (p : Position) (e : Box Expression)
 is_switch p e cases = ap statement_tree (sym (said.rolls-Switch p e cases))
     ∙ fold-roll-Statement StatementTree layer _
     ∙ ap (λ cs. switch_on p (expression_tree e.value) cs) (folded_cases cases.value.0.items cases.value.1)
-
--- what is in the box may be named
-pub in_the_box : (p : Position) (e : Box Expression)
-    (b : Box (Vec (Vec Range × Vec Statement) × Option (Vec Statement))) (cases : Vec (Vec Range × Vec Statement))
-    (other : Option (Vec Statement)) → b.value ≡ (cases, other)
-    → switch_on p (expression_tree e.value) (cases_of (map case_tree b.value.0.items) (other_tree b.value.1))
-    ≡ switch_on p (expression_tree e.value) (cases_of (map case_tree cases.items) (other_tree other))
-in_the_box p e b cases other is = ap (λ (x : Vec (Vec Range × Vec Statement) × Option (Vec Statement)).
-    switch_on p (expression_tree e.value) (cases_of (map case_tree x.0.items) (other_tree x.1))) is

@@ -97,7 +97,8 @@ module _ (d : ℕ) (inner : Inner d) where
       let body = subst (λ us. IsS ts x us)
       (expect_word_ok w.Until u v e ∙ ap (λ us. reserved w.Until (position_of (head u)) ∷ us) h.at) g.0 in
       deeper (λ n. DeepE n h.from) (λ n. DeepS n (reserved w.Do p ∷ ts)) d v far
-      (subst (λ us. DeepS 1 (reserved w.Do p ∷ ts) us) (sym h.at) (deep_s_until body)) (λ n y. deep_s_until_condition body y) h.deep))
+      (subst (λ us. DeepS 1 (reserved w.Do p ∷ ts) us) (sym h.at) (deep_s_until body))
+      (λ n y. deep_s_until_condition body y) h.deep))
       (λ n e. absurd (expect_word_not_deep w.Until u n e)))
       (λ v z. z)
 
@@ -136,7 +137,8 @@ module _ (d : ℕ) (inner : Inner d) where
         omega (arith, q.within, g.1, nests_over p l x),
       ))
       (λ far z. subst (λ us. DeepS (suc d) (reserved w.Objectloop p ∷ us) far) (sym q.at)
-      (behind (λ n. DeepS n r) (λ n. DeepS n (reserved w.Objectloop p ∷ sign s.OpenParenthesis q.opens ∷ q.from)) d r far
+      (behind (λ n. DeepS n r)
+      (λ n. DeepS n (reserved w.Objectloop p ∷ sign s.OpenParenthesis q.opens ∷ q.from)) d r far
       (omega (arith, q.within)) (λ n x. deep_s_objectloop_body q.derives x) z)))
       (λ far h. deeper (λ n. DeepLoop n h.from) (λ n. DeepS n (reserved w.Objectloop p ∷ ts)) d ts far
       (subst (λ us. DeepS 1 (reserved w.Objectloop p ∷ us) us) (sym h.at) deep_s_objectloop)
@@ -206,7 +208,8 @@ module _ (d : ℕ) (inner : Inner d) where
       (λ m e.
       let value = subst (λ us. IsE h.from a (sign s.CloseParenthesis h.closes ∷ us)) (expect_ok s.OpenBrace u m e)
       h.derives in
-      let up : (far : List Lexeme) → (d ≡ 0) ⊎ DeepCases d m far → DeepS (suc d) (reserved w.Switch p ∷ ts) far = λ far z.
+      let up : (far : List Lexeme) → (d ≡ 0) ⊎ DeepCases d m far
+      → DeepS (suc d) (reserved w.Switch p ∷ ts) far = λ far z.
       subst (λ us. DeepS (suc d) (reserved w.Switch p ∷ us) far) (sym h.at)
       (elim z [ inl n ↦ absurd (omega (arith, h.within, n)) | inr x ↦ deep_s_switch_cases value x ]) in
       judged_then _ (cases_judged m)

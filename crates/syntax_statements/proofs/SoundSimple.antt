@@ -36,7 +36,8 @@ use Rattle.syntax_statements.proofs.SoundRows.{both, repeated_judged}
 
 -- ---- statements without statements inside them
 
-pub ended_judged : {P : StatementTree → List Lexeme → Type 0} {C : List Lexeme → Type 0} (x : StatementTree) (ts : List Lexeme)
+pub ended_judged : {P : StatementTree → List Lexeme → Type 0} {C : List Lexeme → Type 0} (x : StatementTree)
+    (ts : List Lexeme)
     → ((p : Position) (r : List Lexeme) → ts ≡ sign s.Semicolon p ∷ r → P x r) → Judged P C (ended x ts)
 unfolding ended
 ended_judged x ts make =

@@ -2,6 +2,7 @@
 -- after it.
 use Rattle.std.specs.Prelude.{if◌then◌else◌, ℕ, zero, suc, List, length, Option, Some, None, Result, Ok, Err}
 use Rattle.syntax_lexer.specs.declared.token.Position.{Position}
+use Rattle.syntax_lexer.specs.declared.token.Sign.{Sign}
 use Rattle.syntax_lexer.specs.declared.token.Sign.TheVariants as s
 use Rattle.syntax_lexer.specs.declared.token.Word.TheVariants as w
 use Rattle.syntax_lexer.specs.Token.{Lexeme, text, reserved, sign, position_of}
@@ -26,6 +27,10 @@ use Rattle.syntax_statements.specs.Nesting.{begins_statement, begins_in_case}
 -- a statement that is complete but for its `;`
 unfoldable pub ended : StatementTree → Parse StatementTree
 ended x ts = expect s.Semicolon ts >>= λ r. Ok (x, r)
+
+-- a statement, and the sign that ends it
+abbrev pub closed_by : Sign → StatementTree → Parse StatementTree
+closed_by mark x ts = expect mark ts >>= λ r. Ok (x, r)
 
 -- the two names behind `read`
 unfoldable pub line_read : Parse StatementTree

@@ -1,6 +1,7 @@
 //! Statements: their trees, and what reads those that contain no others and makes the others.
 #![tactic(auto)]
 
+mod kinds;
 mod memory;
 pub mod parts;
 mod simple;

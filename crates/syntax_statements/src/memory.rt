@@ -11,7 +11,7 @@ use std::alloc::Global;
 use syntax_parsing::ParseError;
 
 /// The value in a box.
-pub fn boxed<T: Drop>(alloc: Global, value: T) -> Result<Box<T>, ParseError>
+pub fn in_box<T: Drop>(alloc: Global, value: T) -> Result<Box<T>, ParseError>
     ensures ok { IfOk result (λ x. x.value ≡ value) }
     ensures err { IfErr result (λ e. e ≡ ParseError.Memory) }
 {
@@ -37,10 +37,38 @@ pub fn make_room<T>(row: &mut Vec<T>) -> Result<(), ParseError>
     Ok(())
 }
 
-/// The value in the box at the end of a row that has room for it.
-pub fn put_boxed<T>(row: &mut Vec<T>, next: Box<T>)
-    requires { vec_len row.old < vec_capacity row.old }
-    ensures { row.new.items ≡ row.old.items ++ next.value ∷ [] }
+/// The value at the end of a row.
+pub fn push<T: Drop>(row: &mut Vec<T>, value: T) -> Result<(), ParseError>
+    ensures ok { IfOk result (λ _. row.new.items ≡ row.old.items ++ value ∷ []) }
+    ensures stays { IfErr result (λ _. row.new.items ≡ row.old.items) }
+    ensures err { IfErr result (λ e. e ≡ ParseError.Memory) }
 {
-    row.push_reserved(Box::into_inner(next));
+    match make_room(row) {
+        Ok(()) => {
+            row.push_reserved(value);
+            Ok(())
+        }
+        Err(e) => {
+            drop(value);
+            Err(e)
+        }
+    }
+}
+
+/// The value in the box at the end of a row.
+pub fn push_boxed<T: Drop>(row: &mut Vec<T>, next: Box<T>) -> Result<(), ParseError>
+    ensures ok { IfOk result (λ _. row.new.items ≡ row.old.items ++ next.value ∷ []) }
+    ensures stays { IfErr result (λ _. row.new.items ≡ row.old.items) }
+    ensures err { IfErr result (λ e. e ≡ ParseError.Memory) }
+{
+    match make_room(row) {
+        Ok(()) => {
+            row.push_reserved(Box::into_inner(next));
+            Ok(())
+        }
+        Err(e) => {
+            drop(next);
+            Err(e)
+        }
+    }
 }

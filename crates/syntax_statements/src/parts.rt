@@ -1,19 +1,21 @@
 //! Statements made of their parts, where the last part is read already. Trees come and go in boxes,
-//! and a kind of statement is spelled here and in `simple` alone.
+//! and a kind of statement is spelled in `kinds` and `simple`, and here if it is `;` or one that
+//! contains no others.
 
-ghost use Rattle.std.specs.Prelude.{◌≡◌, ◌<◌, IfErr, IfOk, Ok, map, [], ◌∷◌, ◌++◌, vec_capacity, vec_len};
+ghost use Rattle.std.specs.Prelude.{Ok, map};
 ghost use Rattle.syntax_trees.specs.Views.{expression_tree};
 ghost use Rattle.syntax_parsing.specs.Parse as reading;
 ghost use Rattle.syntax_parsing.specs.Returned.{ahead};
 ghost use Rattle.syntax_statement_parts.specs.Views.{heading_tree, loop_tree};
 ghost use Rattle.syntax_statements.specs.Tree as tree;
-ghost use Rattle.syntax_statements.specs.Views.{statement_tree, simple_tree, case_tree, cases_of, other_tree};
+ghost use Rattle.syntax_statements.specs.Views.{statement_tree, simple_tree, case_tree, other_tree};
 ghost use Rattle.syntax_statements.specs.Returned.{TakesStatement};
 ghost use Rattle.syntax_statements.specs.Parse as spec;
 ghost use Rattle.syntax_statements.specs.Rows as rows;
 ghost use Rattle.syntax_statements.specs.Rows.{AddsStatement};
 
-use crate::memory::{boxed, make_room, put_boxed};
+use crate::kinds;
+use crate::memory::{self, make_room, push, push_boxed};
 use crate::simple::simple;
 use crate::tree::{SimpleStatement, Statement};
 use syntax_lexer::{Position, Sign};
@@ -32,7 +34,7 @@ pub fn in_box<'t, 'a>(
     ensures { TakesStatement result parser.now
         (Ok (statement_tree statement.entry, ahead parser.now)) }
 {
-    boxed(parser.alloc, statement)
+    memory::in_box(parser.alloc, statement)
 }
 
 /// `;` alone, which is read already.
@@ -60,23 +62,6 @@ pub fn plain<'t, 'a>(
     }
 }
 
-// Room for one more statement in a row.
-fn room<'a>(row: &mut Vec<Statement<'a>>) -> Result<(), ParseError>
-    ensures items { row.new.items ≡ row.old.items }
-    ensures ok { IfOk result (λ _. vec_len row.new < vec_capacity row.new) }
-    ensures err { IfErr result (λ e. e ≡ ParseError.Memory) }
-{
-    make_room(row)
-}
-
-// The statement at the end of a row that has room for it.
-fn put<'a>(row: &mut Vec<Statement<'a>>, next: Statement<'a>)
-    requires { vec_len row.old < vec_capacity row.old }
-    ensures { row.new.items ≡ row.old.items ++ next.entry ∷ [] }
-{
-    row.push_reserved(next);
-}
-
 /// The statement in the box at the end of a row.
 pub fn add_boxed<'t, 'a>(
     parser: &Parser<'t, 'a>,
@@ -86,16 +71,7 @@ pub fn add_boxed<'t, 'a>(
     ensures { AddsStatement result row.old.items row.new.items parser.now
         (Ok (statement_tree next.entry.value, ahead parser.now)) }
 {
-    match room(row) {
-        Ok(()) => {
-            put_boxed(row, next);
-            Ok(())
-        }
-        Err(e) => {
-            drop(next);
-            Err(e)
-        }
-    }
+    push_boxed(row, next)
 }
 
 // `;` alone, which is read already, at the end of a row.
@@ -106,13 +82,7 @@ fn add_empty<'t, 'a>(
     ensures { AddsStatement result row.old.items row.new.items parser.now
         (Ok (tree.empty, ahead parser.now)) }
 {
-    match room(row) {
-        Ok(()) => {
-            put(row, Statement::Empty);
-            Ok(())
-        }
-        Err(e) => Err(e),
-    }
+    push(row, Statement::Empty)
 }
 
 // A statement that contains no others, and which is not `;` alone, at the end of a row.
@@ -124,9 +94,9 @@ fn add_simple<'t, 'a>(
     ensures { AddsStatement result row.old.items row.new.items parser.now
         (Ok (simple_tree next.entry.value, ahead parser.now)) }
 {
-    match room(row) {
+    match make_room(row) {
         Ok(()) => {
-            put(row, Statement::Simple(Box::into_inner(next)));
+            row.push_reserved(Statement::Simple(Box::into_inner(next)));
             Ok(())
         }
         Err(e) => {
@@ -159,6 +129,24 @@ pub fn add_flat<'t, 'a>(
     }
 }
 
+// The statement, after the sign that ends it.
+fn closed<'t, 'a>(
+    parser: &mut Parser<'t, 'a>,
+    statement: Box<Statement<'a>>,
+    sign: Sign,
+) -> Result<Box<Statement<'a>>, ParseError>
+    ensures { TakesStatement result parser.new
+        (spec.closed_by sign (statement_tree statement.entry.value) (ahead parser.old)) }
+{
+    match expect(parser, sign) {
+        Ok(()) => Ok(statement),
+        Err(e) => {
+            drop(statement);
+            Err(e)
+        }
+    }
+}
+
 /// A block, with its second brace.
 pub fn block<'t, 'a>(
     parser: &mut Parser<'t, 'a>,
@@ -167,12 +155,9 @@ pub fn block<'t, 'a>(
     ensures { TakesStatement result parser.new
         (spec.block_of (map statement_tree found.entry.items) (ahead parser.old)) }
 {
-    match expect(parser, Sign::CloseBrace) {
-        Ok(()) => in_box(parser, Statement::Block(found)),
-        Err(e) => {
-            drop(found);
-            Err(e)
-        }
+    match in_box(parser, kinds::block(parser, found)) {
+        Ok(made) => closed(parser, made, Sign::CloseBrace),
+        Err(e) => Err(e),
     }
 }
 
@@ -189,7 +174,7 @@ pub fn if_then<'t, 'a>(
       ahead parser.now,
     )) }
 {
-    in_box(parser, Statement::If(position, condition, first))
+    in_box(parser, kinds::if_then(parser, position, condition, first))
 }
 
 /// `if` with an `else`.
@@ -208,7 +193,7 @@ pub fn if_else<'t, 'a>(
 {
     in_box(
         parser,
-        Statement::IfElse(position, condition, first, second),
+        kinds::if_else(parser, position, condition, first, second),
     )
 }
 
@@ -225,7 +210,7 @@ pub fn while_do<'t, 'a>(
       ahead parser.now,
     )) }
 {
-    in_box(parser, Statement::While(position, condition, body))
+    in_box(parser, kinds::while_do(parser, position, condition, body))
 }
 
 /// `do`, with its `;`.
@@ -240,13 +225,9 @@ pub fn do_until<'t, 'a>(
         (tree.do_until position (statement_tree body.entry.value)
         (expression_tree condition.entry.value)) (ahead parser.old)) }
 {
-    match expect(parser, Sign::Semicolon) {
-        Ok(()) => in_box(parser, Statement::Do(position, body, condition)),
-        Err(e) => {
-            drop(body);
-            drop(condition);
-            Err(e)
-        }
+    match in_box(parser, kinds::do_until(parser, position, body, condition)) {
+        Ok(made) => closed(parser, made, Sign::Semicolon),
+        Err(e) => Err(e),
     }
 }
 
@@ -264,7 +245,7 @@ pub fn for_loop<'t, 'a>(
       ahead parser.now,
     )) }
 {
-    in_box(parser, Statement::For(position, heading, body))
+    in_box(parser, kinds::for_loop(parser, position, heading, body))
 }
 
 /// `objectloop`.
@@ -280,13 +261,13 @@ pub fn loop_over<'t, 'a>(
       ahead parser.now,
     )) }
 {
-    in_box(parser, Statement::Objectloop(position, over, body))
+    in_box(parser, kinds::loop_over(parser, position, over, body))
 }
 
-// `switch`, with its cases and its `default` in their box. It is apart from what reads the brace, so
-// that a statement is spelled where nothing but boxes is left to drop.
+// `switch`, with its cases and its `default` in their box, and its second brace. It is apart from
+// what makes the box, so that nothing but boxes lives here.
 fn switch_over<'t, 'a>(
-    parser: &Parser<'t, 'a>,
+    parser: &mut Parser<'t, 'a>,
     position: Position,
     value: Box<Expression<'a>>,
     cases: Box<
@@ -296,13 +277,15 @@ fn switch_over<'t, 'a>(
         ),
     >,
 ) -> Result<Box<Statement<'a>>, ParseError>
-    ensures { TakesStatement result parser.now (Ok (
-      tree.switch_on position (expression_tree value.entry.value)
-          (cases_of (map case_tree cases.entry.value.0.items) (other_tree cases.entry.value.1)),
-      ahead parser.now,
-    )) }
+    ensures { TakesStatement result parser.new
+        (spec.switch_of position (expression_tree value.entry.value)
+        (map case_tree cases.entry.value.0.items) (other_tree cases.entry.value.1)
+        (ahead parser.old)) }
 {
-    in_box(parser, Statement::Switch(position, value, cases))
+    match in_box(parser, kinds::switch_on(parser, position, value, cases)) {
+        Ok(made) => closed(parser, made, Sign::CloseBrace),
+        Err(e) => Err(e),
+    }
 }
 
 /// `switch`, with its second brace.
@@ -317,18 +300,10 @@ pub fn switch_on<'t, 'a>(
         (spec.switch_of position (expression_tree value.entry.value)
         (map case_tree cases.entry.items) (other_tree other.entry) (ahead parser.old)) }
 {
-    match expect(parser, Sign::CloseBrace) {
-        Ok(()) => match boxed(parser.alloc, (cases, other)) {
-            Ok(cases) => switch_over(parser, position, value, cases),
-            Err(e) => {
-                drop(value);
-                Err(e)
-            }
-        },
+    match memory::in_box(parser.alloc, (cases, other)) {
+        Ok(cases) => switch_over(parser, position, value, cases),
         Err(e) => {
             drop(value);
-            drop(cases);
-            drop(other);
             Err(e)
         }
     }

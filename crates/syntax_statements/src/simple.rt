@@ -8,7 +8,7 @@ ghost use Rattle.syntax_statements.specs.Views.{simple_tree};
 ghost use Rattle.syntax_statements.specs.Returned.{TakesSimple};
 ghost use Rattle.syntax_statements.specs.Parse as spec;
 
-use crate::memory::boxed;
+use crate::memory;
 use crate::tree::SimpleStatement;
 use syntax_expression_parts::expect_name;
 use syntax_expressions::expression;
@@ -27,7 +27,7 @@ fn in_box<'t, 'a>(
 ) -> Result<Box<SimpleStatement<'a>>, ParseError>
     ensures { TakesSimple result parser.now (Ok (simple_tree statement.entry, ahead parser.now)) }
 {
-    boxed(parser.alloc, statement)
+    memory::in_box(parser.alloc, statement)
 }
 
 // The statement, behind its `;`.
@@ -119,10 +119,18 @@ fn returned<'t, 'a>(
 fn read<'t, 'a>(parser: &mut Parser<'t, 'a>) -> Result<Box<SimpleStatement<'a>>, ParseError>
     ensures { TakesSimple result parser.new (spec.line_read (ahead parser.old)) }
 {
-    let text = expect_name(parser)?;
-    let words = expect_name(parser)?;
-    let names = boxed(parser.alloc, (text, words))?;
-    ended(parser, SimpleStatement::Read(names))
+    let text = match expect_name(parser) {
+        Ok(text) => text,
+        Err(e) => return Err(e),
+    };
+    let words = match expect_name(parser) {
+        Ok(words) => words,
+        Err(e) => return Err(e),
+    };
+    match memory::in_box(parser.alloc, (text, words)) {
+        Ok(names) => ended(parser, SimpleStatement::Read(names)),
+        Err(e) => Err(e),
+    }
 }
 
 /// What follows `give`, which stands at `position`.
@@ -140,7 +148,7 @@ fn given<'t, 'a>(
 {
     let object = expression(parser, depth)?;
     match flags(parser) {
-        Ok(found) => match boxed(parser.alloc, found) {
+        Ok(found) => match memory::in_box(parser.alloc, found) {
             Ok(found) => ended(parser, SimpleStatement::Give(position, object, found)),
             Err(e) => Err(e),
         },

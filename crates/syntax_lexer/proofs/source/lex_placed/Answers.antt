@@ -88,4 +88,5 @@ returns-clause-meets c =
     (sym c.from-2.ensures) (at_the_end bs at line c.loop-offset-test.false))))
 
 pub returns-clause-ends_once : goal.returns-clause-ends_once
-returns-clause-ends_once c = subst EndsOnce (lexemes_are c.shrink_to_fit.new.self.items) (ends_once (returns-clause-meets c))
+returns-clause-ends_once c = subst EndsOnce (lexemes_are c.shrink_to_fit.new.self.items)
+    (ends_once (returns-clause-meets c))

@@ -1,6 +1,6 @@
-use Rattle.std.proofs.Common.{refl}
-use Rattle.syntax_statements.proofs.Rows.{added}
+use Rattle.syntax_statements.proofs.Rows.{pushed}
 use Rattle.syntax_statements.proofs.parts.add_boxed.Goals as goal
 
-pub returns-in-Ok : goal.returns-in-Ok
-returns-in-Ok c = added c.args.row.now.items _ _ _ _ c.args.parser.now c.in-Ok.ensures.items c.put_boxed.ensures refl
+pub returns : goal.returns
+returns c = pushed c.push_boxed.result c.args.row.now.items c.push_boxed.new.row.items c.args.next.value
+    c.args.parser.now c.push_boxed.ensures.ok c.push_boxed.ensures.err

@@ -1,5 +1,14 @@
-use Rattle.syntax_statements.proofs.Rows.{added, is_empty}
+use Rattle.std.proofs.Common.{subst}
+use Rattle.syntax_parsing.specs.Returned.{ahead}
+use Rattle.std.specs.Prelude.{Ok}
+use Rattle.syntax_statements.specs.declared.tree.Statement.TheVariants as said
+use Rattle.syntax_statements.specs.Rows.{AddsStatement}
+use Rattle.syntax_statements.proofs.Rows.{pushed, is_empty}
 use Rattle.syntax_statements.proofs.parts.add_empty.Goals as goal
 
-pub returns-in-Ok : goal.returns-in-Ok
-returns-in-Ok c = added c.args.row.now.items _ _ _ _ c.args.parser.now c.in-Ok.ensures.items c.put.ensures is_empty
+pub returns : goal.returns
+returns c = subst
+    (λ x. AddsStatement c.push.result c.args.row.now.items c.push.new.row.items c.args.parser.now
+    (Ok (x, ahead c.args.parser.now))) is_empty
+    (pushed c.push.result c.args.row.now.items c.push.new.row.items said.Empty c.args.parser.now c.push.ensures.ok
+    c.push.ensures.err)
