@@ -18,7 +18,7 @@ use Rattle.zcore_standard.specs.Further.{perform_further, execute_further}
 use Rattle.zcore_standard.specs.Machine.{chosen, standard_step}
 use Rattle.zcore_standard.specs.Nothing.{step_known}
 use Rattle.zcore_standard.specs.Operations.{further_at}
-use Rattle.zcore_standard_laws.proofs.Stepping.{standard_step_falls}
+use Rattle.zcore_standard_laws.proofs.Stepping.{standard_step_lighter}
 use Rattle.machine_frames.specs.Contents.{Contents, memory_of}
 use Rattle.machine_frames.specs.States.{state_of, IsSound}
 use Rattle.machine_frames.specs.Went.{Went, Told}
@@ -65,7 +65,7 @@ pub standard_lighter : {s t : Recording Contents} {x y : List ℕ} (r : Result N
     → Told (seen (place new) r) s x t y (standard_step loaded here)
     → IfOk r (λ next. weight next (state_of t.store y) < weight here.next (state_of s.store x))
 standard_lighter {s} {t} {x} {y} (Ok next) loaded here new w =
-    (standard_step_falls loaded here (place new next) (state_of s.store x) (state_of t.store y) w.told.1).falls
+    (standard_step_lighter loaded here (place new next) (state_of s.store x) (state_of t.store y) w.told.1).falls
 standard_lighter (Err e) loaded here new w = tt
 
 pub executes_further : {s t u : Recording Contents} {x y : List ℕ} (r : Result Here End) (loaded : Loaded)
