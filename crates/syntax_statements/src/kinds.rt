@@ -1,6 +1,7 @@
 //! The kinds of statements that contain others, made of their parts. They are apart from what puts
 //! them into boxes: a function that makes a statement and returns it is proved in a second, and one
-//! that makes it and passes it on in seven.
+//! that makes it and passes it on in seven. The parser comes first here too, so that lifetimes have
+//! the places that they have in the callers.
 
 ghost use Rattle.std.specs.Prelude.{◌≡◌, map};
 ghost use Rattle.syntax_trees.specs.Views.{expression_tree};
@@ -14,6 +15,7 @@ use syntax_parsing::Parser;
 use syntax_statement_parts::{Heading, Loop, Range};
 use syntax_trees::Expression;
 
+/// A block.
 pub fn block<'t, 'a>(_parser: &Parser<'t, 'a>, found: Vec<Statement<'a>>) -> Statement<'a>
     ensures { statement_tree result
         ≡ tree.block (trees_of (map statement_tree found.entry.items)) }
@@ -21,6 +23,7 @@ pub fn block<'t, 'a>(_parser: &Parser<'t, 'a>, found: Vec<Statement<'a>>) -> Sta
     Statement::Block(found)
 }
 
+/// `if` without an `else`.
 pub fn if_then<'t, 'a>(
     _parser: &Parser<'t, 'a>,
     position: Position,
@@ -34,6 +37,7 @@ pub fn if_then<'t, 'a>(
     Statement::If(position, condition, first)
 }
 
+/// `if` with an `else`.
 pub fn if_else<'t, 'a>(
     _parser: &Parser<'t, 'a>,
     position: Position,
@@ -48,6 +52,7 @@ pub fn if_else<'t, 'a>(
     Statement::IfElse(position, condition, first, second)
 }
 
+/// `while`.
 pub fn while_do<'t, 'a>(
     _parser: &Parser<'t, 'a>,
     position: Position,
@@ -61,6 +66,7 @@ pub fn while_do<'t, 'a>(
     Statement::While(position, condition, body)
 }
 
+/// `do`.
 pub fn do_until<'t, 'a>(
     _parser: &Parser<'t, 'a>,
     position: Position,
@@ -74,6 +80,7 @@ pub fn do_until<'t, 'a>(
     Statement::Do(position, body, condition)
 }
 
+/// `for`.
 pub fn for_loop<'t, 'a>(
     _parser: &Parser<'t, 'a>,
     position: Position,
@@ -88,6 +95,7 @@ pub fn for_loop<'t, 'a>(
     Statement::For(position, heading, body)
 }
 
+/// `objectloop`.
 pub fn loop_over<'t, 'a>(
     _parser: &Parser<'t, 'a>,
     position: Position,
@@ -101,6 +109,7 @@ pub fn loop_over<'t, 'a>(
     Statement::Objectloop(position, over, body)
 }
 
+/// `switch`, with its cases and its `default` in their box.
 pub fn switch_on<'t, 'a>(
     _parser: &Parser<'t, 'a>,
     position: Position,
