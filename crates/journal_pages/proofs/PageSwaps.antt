@@ -1,16 +1,16 @@
 -- What a swap of one page does to a swap of all pages, whose entries stand as in PageEntries.
-use Rattle.std.proofs.Common.{◌≡◌, ℕ, ◌+◌, ◌-◌, ◌*◌, ◌<◌, ◌≤◌, List, [], ◌∷◌, ◌++◌, length, get_or}
-use Rattle.std.proofs.Common.{take, drop, refl, ap, sym, subst, ◌∙◌, arith, append_assoc}
+use Rattle.std.proofs.Common.{◌≡◌, ℕ, ◌+◌, ◌-◌, ◌*◌, List, [], ◌∷◌, ◌++◌, length, get_or}
+use Rattle.std.proofs.Common.{take, drop, refl, ap, sym, ◌∙◌, arith, append_assoc}
 use Rattle.std.specs.List.{range_with_len, zip}
 use Rattle.std.proofs.lemmas.List.{take-append-drop, take_at, drop_at, drop-drop}
 use Rattle.std.proofs.lemmas.List.{length-append, length-take-le, length-drop, take-take, drop-take}
 use Rattle.std.proofs.lemmas.List.FromFn.{length-range_with_len}
 use Rattle.std.proofs.lemmas.Slice.Zip.{length-zip}
 use Rattle.journal_pages.specs.Swap.{back, forward, Fits}
-use Rattle.journal_pages.specs.Pages.{cells_of, page_entries, page_len}
-use Rattle.journal_pages.proofs.PageEntries.{HasPage, fits_row, has_page, length-put_row, length-row, page_part, put_row}
+use Rattle.journal_pages.specs.Pages.{page_entries}
+use Rattle.journal_pages.proofs.PageEntries.{HasPage, fits_row, length-put_row, length-row, page_part, put_row}
 use Rattle.journal_pages.proofs.Pages.{back-append}
-use Rattle.journal_pages.proofs.Steps.{GoneBack, GoneForward, length-entries, page_start}
+use Rattle.journal_pages.proofs.Steps.{GoneBack, GoneForward, length-entries}
 
 -- swaps of entries one behind the other
 
@@ -139,30 +139,3 @@ page_gone_forward n b cs was c start k size p x vs y row g long end h same cells
       size = length-put_row cs vs row p start size h same;
       fits = fits_row n b cs vs row p start size h same g.fits fits;
     }
-
--- page s - 1, where a swap comes to its end that goes back; values is how the swap's values are written there
-pub page_before : {n : ℕ} {b : ℕ → ℕ} {was c x : List ℕ} (len : ℕ) (pages vs values : List ℕ) (s at size : ℕ) → 0 < s
-    → s ≤ length pages → at ≡ length (cells_of len (take s pages)) → size ≡ page_len len (get_or pages (s - 1) 0)
-    → values ≡ vs → GoneBack n b (cells_of len pages) was c at x vs
-    → GoneBack n b (cells_of len pages) was c at x values
-    × HasPage (cells_of len pages) values (get_or pages (s - 1) 0) (at - size) (at - size + size - (at - size))
-page_before {n} {b} {was} {c} {x} len pages vs values s at size pos upto end wide same g =
-    let start : (size ≤ at) × (at - size ≡ length (cells_of len (take (s - 1) pages))) =
-    page_start len pages s at size pos upto end wide in
-    let gone : GoneBack n b (cells_of len pages) was c at x values =
-    subst (λ (t : List ℕ). GoneBack n b (cells_of len pages) was c at x t) (sym same) g in (
-      gone,
-      has_page len pages values (s - 1) (at - size) (at - size + size - (at - size)) size (omega arith) start.1 wide
-          (omega arith) gone.size,
-    )
-
--- page s, where a swap comes to its beginning that goes forward
-pub page_after : {n : ℕ} {b : ℕ → ℕ} {was c x : List ℕ} (len : ℕ) (pages vs values : List ℕ) (s at size : ℕ)
-    → s < length pages → at ≡ length (cells_of len (take s pages)) → size ≡ page_len len (get_or pages s 0)
-    → values ≡ vs → GoneForward n b (cells_of len pages) was c at x vs
-    → GoneForward n b (cells_of len pages) was c at x values
-    × HasPage (cells_of len pages) values (get_or pages s 0) at (at + size - at)
-page_after {n} {b} {was} {c} {x} len pages vs values s at size lt start wide same g =
-    let gone : GoneForward n b (cells_of len pages) was c at x values =
-    subst (λ (t : List ℕ). GoneForward n b (cells_of len pages) was c at x t) (sym same) g in
-    (gone, has_page len pages values s at (at + size - at) size lt start wide (omega arith) gone.size)

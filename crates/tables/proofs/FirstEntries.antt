@@ -3,7 +3,7 @@ use Rattle.std.proofs.Common.{◌≡◌, ◌≢◌, ◌==◌, ℕ, zero, suc, �
 use Rattle.std.proofs.Common.{◌∙◌, arith}
 use Rattle.std.proofs.lemmas.Bool.{eq-eqb, ne_eqb}
 use Rattle.std.proofs.Math.Nat.{suc-mul}
-use Rattle.zcore.specs.Dictionary.{entry_in, entry_of, entries_in, is_dictionary}
+use Rattle.zcore.specs.Dictionary.{entry_in, entry_of, is_dictionary}
 use Rattle.zcore.specs.Header.{key_at, entry_length_of, first_entry}
 use Rattle.tables.specs.declared.dictionary.Entries.{Entries}
 use Rattle.tables.specs.Unordered.{AreEntriesOf}

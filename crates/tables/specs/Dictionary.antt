@@ -1,6 +1,6 @@
 -- The dictionary of a story: what a look-up finds, and what is written (Z-Machine Standards Document 1.1, section
 -- 13).
-use Rattle.std.specs.Prelude.{◌≡◌, ◌==◌, ◌+◌, ◌*◌, ◌/◌, ◌%◌, ◌<◌, ◌≤◌, ℕ, false, if◌then◌else◌, List, [], ◌∷◌, ◌++◌}
+use Rattle.std.specs.Prelude.{◌≡◌, ◌==◌, ◌+◌, ◌*◌, ◌/◌, ◌%◌, ◌<◌, ◌≤◌, ℕ, false, List, [], ◌∷◌, ◌++◌}
 use Rattle.std.specs.Prelude.{length, slice_range}
 use Rattle.std.specs.List.{flat_map}
 use Rattle.zcore.specs.Dictionary.{entry_of}

@@ -1,5 +1,5 @@
 -- The rows of a table, one after another.
-use Rattle.std.proofs.Common.{◌≡◌, ◌+◌, ◌≤◌, ◌<◌, ◌++◌, ℕ, zero, suc, List, [], ◌∷◌, length, drop, get_or}
+use Rattle.std.proofs.Common.{◌≡◌, ◌+◌, ◌≤◌, ◌<◌, ◌++◌, ℕ, List, ◌∷◌, length, drop, get_or}
 use Rattle.std.proofs.Common.{append_assoc, ap, sym, ◌∙◌, arith}
 use Rattle.std.specs.List.{flat_map}
 use Rattle.std.proofs.lemmas.List.{length-append, append-nil, drop_more, drop_all}
@@ -10,12 +10,6 @@ use Rattle.tables.specs.Rows.{name_bytes, table_bytes, entry_bytes, entries_byte
 pub record IsWhole (row : ObjectRow) : Type 0 where
   pub attributes : length row.attributes ≡ 6
   pub short : length (name_bytes row.name.items) ≤ 510
-
--- rows that are left have tables
-pub tables_left : (rows : List ObjectRow) (i : ℕ) → i < length rows → 1 ≤ length (flat_map table_bytes (drop i rows))
-tables_left [] i lt = absurd (omega arith)
-tables_left (row ∷ rows) zero lt = let a = length-append (table_bytes row) (flat_map table_bytes rows) in omega arith
-tables_left (row ∷ rows) (suc i) lt = tables_left rows i (omega arith)
 
 -- a row more
 

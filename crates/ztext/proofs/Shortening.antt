@@ -1,12 +1,10 @@
 -- Texts that use abbreviations: whole words of bytes, and no longer than without.
-use Rattle.std.proofs.Common.{◌≡◌, ℕ, zero, suc, ◌+◌, ◌-◌, ◌*◌, ◌/◌, ◌%◌, ◌<◌, ◌≤◌, Bool, true, false, eqb, List, []}
-use Rattle.std.proofs.Common.{◌∷◌, ◌++◌, length, drop, get_or, Option, Some, None, refl, sym, ap, subst, arith}
+use Rattle.std.proofs.Common.{◌≡◌, ℕ, zero, suc, ◌+◌, ◌-◌, ◌*◌, ◌/◌, ◌≤◌, Bool, true, false, eqb, List, []}
+use Rattle.std.proofs.Common.{◌∷◌, length, drop, get_or, Option, Some, None, refl, sym, ap, arith}
 use Rattle.std.specs.Prelude.{replicate, if◌then◌else◌}
 use Rattle.std.specs.List.{All, list_all}
 use Rattle.std.proofs.lemmas.Bool.{and_parts}
-use Rattle.std.proofs.lemmas.List.{length-append}
-use Rattle.std.proofs.lemmas.List.Elements.{All-nil, All-cons}
-use Rattle.ztext.specs.Alphabets.{is_printable, lower_letters, upper_letters, punctuation, place_in, spelling_of}
+use Rattle.ztext.specs.Alphabets.{is_printable, upper_letters, punctuation, place_in, spelling_of}
 use Rattle.ztext.specs.Alphabets.{spelling_in_lower, spelling_in_upper, spelling_in_punctuation, spelled}
 use Rattle.ztext.specs.Words.{packed, missing, padded}
 use Rattle.ztext.specs.Abbreviations.{abbreviation_at, Found, spelled_behind}
@@ -41,19 +39,6 @@ shortened_small texts text h =
     small_append zs (replicate (missing (length zs)) 5) (behind_small texts 0 text h)
     (fives_small (missing (length zs)))
 
-packed_bytes : (zs : List ℕ) → AreSmall zs → All (λ b. b < 256) (packed zs)
-unfolding packed
-packed_bytes [] h = All-nil (λ b. b < 256)
-packed_bytes (a ∷ []) h = All-nil (λ b. b < 256)
-packed_bytes (a ∷ b ∷ []) h = All-nil (λ b. b < 256)
-packed_bytes (a ∷ b ∷ c ∷ []) h = All-cons (λ b. b < 256) (128 + a * 4 + b / 8) (((b % 8) * 32 + c) ∷ [])
-    (omega (arith, h.0, h.1.0))
-    (All-cons (λ b. b < 256) ((b % 8) * 32 + c) [] (omega (arith, h.1.1.0)) (All-nil (λ b. b < 256)))
-packed_bytes (a ∷ b ∷ c ∷ d ∷ zs) h =
-    All-cons (λ b. b < 256) (0 + a * 4 + b / 8) (((b % 8) * 32 + c) ∷ packed (d ∷ zs)) (omega (arith, h.0, h.1.0))
-    (All-cons (λ b. b < 256) ((b % 8) * 32 + c) (packed (d ∷ zs)) (omega (arith, h.1.1.0))
-    (packed_bytes (d ∷ zs) h.1.1.1))
-
 -- ---- words
 
 -- how many words so many Z-characters need
@@ -76,10 +61,6 @@ words_more (suc m) (suc n) le = omega arith
 
 -- ---- without abbreviations
 
-plain_behind : (text : List ℕ) → spelled_behind [] 0 text ≡ spelled text
-plain_behind [] = refl
-plain_behind (c ∷ cs) = ap (λ zs. spelling_of c ++ zs) (plain_behind cs)
-
 -- ---- no longer than without
 
 abbreviation_is : (texts : List (List ℕ)) (n : ℕ) → abbreviation_at texts n ≡ get_or texts n []
@@ -93,16 +74,6 @@ pub long_enough : (texts : List (List ℕ)) (text : List ℕ) (x : Found) (least
 long_enough texts text x least h s =
     let here : least ≤ length (get_or texts x.number []) = h x.number [] s.within in
     omega (arith, s.size, ap length (abbreviation_is texts x.number))
-
--- and no longer than the text
-within_text : (texts : List (List ℕ)) (text : List ℕ) (x : Found) → StandsInText texts text x → x.length ≤ length text
-within_text texts text x s =
-    omega (
-      arith,
-      s.size,
-      ap length s.front,
-      length-append (abbreviation_at texts x.number) (drop x.length text),
-    )
 
 outside_some : (o : Option ℕ) (c : ℕ) → 1 ≤ length (spelling_in_punctuation o c)
 outside_some (Some place) c = omega arith
@@ -121,56 +92,6 @@ lower_some : (o : Option ℕ) (c : ℕ) → 1 ≤ length (spelling_in_lower o c)
 lower_some (Some place) c = omega arith
 lower_some None c = upper_some (place_in upper_letters c) c
 
-space_some : (b : Bool) (c : ℕ)
-    → 1 ≤ length (if b then 0 ∷ [] else spelling_in_lower (place_in lower_letters c) c)
-space_some true c = omega arith
-space_some false c = lower_some (place_in lower_letters c) c
-
-spelling_some : (c : ℕ) → 1 ≤ length (spelling_of c)
-unfolding spelling_of
-spelling_some c = space_some (eqb c 32) c
-
--- each character has a Z-character at least
-spelled_behind_front : (n : ℕ) (text : List ℕ) → n ≤ length text
-    → n + length (spelled (drop n text)) ≤ length (spelled text)
-spelled_behind_front zero text le = omega arith
-spelled_behind_front (suc n) [] le = absurd (omega arith)
-spelled_behind_front (suc n) (c ∷ cs) le =
-    omega (
-      arith,
-      spelled_behind_front n cs (omega arith),
-      spelling_some c,
-      length-append (spelling_of c) (spelled cs),
-    )
-
 pub drop_none : (n : ℕ) → drop {A = ℕ} n [] ≡ []
 drop_none zero = refl
 drop_none (suc n) = refl
-
-behind_shorter : (texts : List (List ℕ)) (spelled_ones : ℕ) (text : List ℕ)
-    → All (λ (a : List ℕ). 2 ≤ length a) texts
-    → length (spelled_behind texts spelled_ones text) ≤ length (spelled (drop spelled_ones text))
-behind_shorter texts n [] h = rw (drop_none n) (omega arith)
-behind_shorter texts n (c ∷ cs) h =
-    spelled_cases (λ zs. length zs ≤ length (spelled (drop n (c ∷ cs)))) texts c cs n
-    (λ k is. subst (λ m. length (spelled_behind texts k cs) ≤ length (spelled (drop m (c ∷ cs)))) (sym is)
-    (behind_shorter texts k cs h))
-    (λ is. subst
-    (λ m. length (spelling_of c ++ spelled_behind texts 0 cs) ≤ length (spelled (drop m (c ∷ cs)))) (sym is)
-    (omega (
-      arith,
-      behind_shorter texts 0 cs h,
-      length-append (spelling_of c) (spelled_behind texts 0 cs),
-      length-append (spelling_of c) (spelled cs),
-    )))
-    (λ is x s. subst
-    (λ m. suc (suc (length (spelled_behind texts (x.length - 1) cs))) ≤ length (spelled (drop m (c ∷ cs)))) (sym is)
-    (let two = long_enough texts (c ∷ cs) x 2 h s in
-    let most = within_text texts (c ∷ cs) x s in
-    omega (
-      arith,
-      behind_shorter texts (x.length - 1) cs h,
-      spelled_behind_front (x.length - 1) cs (omega arith),
-      spelling_some c,
-      length-append (spelling_of c) (spelled cs),
-    )))
