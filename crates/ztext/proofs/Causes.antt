@@ -78,6 +78,18 @@ abbrev IsFault : (ℕ → Result (List ℕ) Cause) → List ℕ → Cause → Ty
 IsFault expand zs cause = ((cause ≡ Character) × HasBadEscape zs)
     ⊎ ((number : ℕ) × UsesAbbreviation zs number × (expand number ≡ Err cause))
 
+escaped_cause : (t u : Bool) (code : ℕ) (cause : Cause) → eqb code 0 ≡ t → is_printable code ≡ u
+    → cond t (Ok []) (cond u (Ok (code ∷ [])) (Err Character)) ≡ Err cause
+    → (cause ≡ Character) × (eqb code 0 ≡ false) × (is_printable code ≡ false)
+escaped_cause true u code cause f g e = absurd cc
+escaped_cause false true code cause f g e = absurd cc
+escaped_cause false false code cause f g e = (sym (cause_is {B = List ℕ} Character cause e), f, g)
+
+never_err : (t u : Bool) (a b c : List ℕ) (cause : Cause) → cond t (Ok a) (cond u (Ok b) (Ok c)) ≡ Err cause → ⊥
+never_err true u a b c cause e = cc
+never_err false true a b c cause e = cc
+never_err false false a b c cause e = cc
+
 module _ (expand : ℕ → Result (List ℕ) Cause) where
   printed_cause : (zs : List ℕ) (place : ℕ) (cause : Cause) (s : ReadingState) → place < length zs
       → state_at zs place ≡ s

@@ -36,6 +36,11 @@ front_before : (most : ℕ) (text : List ℕ) (r : Result (List ℕ) Cause)
 front_before most text (Ok x) = ap (λ y. Ok y) (take_front most text x)
 front_before most text (Err f) = refl
 
+front_all : (most : ℕ) (text : List ℕ) (r : Result (List ℕ) Cause)
+    → front most (before text r) ≡ (r >>= λ more. Ok (take most (text ++ more)))
+front_all most text (Ok x) = refl
+front_all most text (Err f) = refl
+
 module _ (expand : ℕ → Result (List ℕ) Cause) where
   reads_step : (s : ReadingState) (zs text got : List ℕ) (i : ℕ) → i < length zs
       → printed expand s (get_or zs i 0) ≡ Ok got
