@@ -57,19 +57,6 @@ pub page_within : (n : ℕ) (pages : List ℕ) (s d : ℕ) → s < length pages
 page_within n pages s d lt = omega
     (arith, length-flat_map-take (page_cells n) pages s d lt, length-page_cells n (get_or pages s d))
 
--- where page s - 1 begins, as a swap finds it that goes back
-pub page_start : (n : ℕ) (pages : List ℕ) (s at size : ℕ) → 0 < s → s ≤ length pages
-    → at ≡ length (cells_of n (take s pages)) → size ≡ page_len n (get_or pages (s - 1) 0)
-    → (size ≤ at) × (at - size ≡ length (cells_of n (take (s - 1) pages)))
-page_start n pages s at size pos upto end same =
-    let e : s ≡ s - 1 + 1 = omega arith in
-    let k : length (cells_of n (take s pages)) ≡ length (cells_of n (take (s - 1 + 1) pages)) = ap
-    (λ (t : ℕ). length (cells_of n (take t pages))) e in
-    let p : length (cells_of n (take (s - 1 + 1) pages))
-    ≡ length (cells_of n (take (s - 1) pages)) + page_len n (get_or pages (s - 1) 0) = page_at n pages (s - 1) 0
-    (omega arith) in
-    (omega arith, omega arith)
-
 pub back_starts : (n : ℕ) (b : ℕ → ℕ) (cs was c : List ℕ) (k : ℕ) → length was ≡ length cs → k ≡ length was
     → Fits n b (zip cs was) → GoneBack n b cs was c k c was
 back_starts n b cs was c k p e fits =

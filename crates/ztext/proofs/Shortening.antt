@@ -1,11 +1,11 @@
 -- Texts that use abbreviations: whole words of bytes, and no longer than without.
-use Rattle.std.proofs.Common.{◌≡◌, ℕ, zero, suc, ◌+◌, ◌-◌, ◌*◌, ◌/◌, ◌≤◌, Bool, true, false, eqb, List, []}
+use Rattle.std.proofs.Common.{◌≡◌, ℕ, zero, suc, ◌+◌, ◌-◌, ◌*◌, ◌/◌, ◌≤◌, Bool, true, false, List, []}
 use Rattle.std.proofs.Common.{◌∷◌, length, drop, get_or, Option, Some, None, refl, sym, ap, arith}
 use Rattle.std.specs.Prelude.{replicate, if◌then◌else◌}
 use Rattle.std.specs.List.{All, list_all}
 use Rattle.std.proofs.lemmas.Bool.{and_parts}
-use Rattle.ztext.specs.Alphabets.{is_printable, upper_letters, punctuation, place_in, spelling_of}
-use Rattle.ztext.specs.Alphabets.{spelling_in_lower, spelling_in_upper, spelling_in_punctuation, spelled}
+use Rattle.ztext.specs.Alphabets.{is_printable, punctuation, place_in, spelling_of}
+use Rattle.ztext.specs.Alphabets.{spelling_in_punctuation, spelled}
 use Rattle.ztext.specs.Words.{packed, missing, padded}
 use Rattle.ztext.specs.Abbreviations.{abbreviation_at, Found, spelled_behind}
 use Rattle.ztext.specs.TextParts.{AreSmall}
@@ -83,14 +83,6 @@ line_some : (b : Bool) (c : ℕ)
     → 1 ≤ length (if b then 5 ∷ 7 ∷ [] else spelling_in_punctuation (place_in punctuation c) c)
 line_some true c = omega arith
 line_some false c = outside_some (place_in punctuation c) c
-
-upper_some : (o : Option ℕ) (c : ℕ) → 1 ≤ length (spelling_in_upper o c)
-upper_some (Some place) c = omega arith
-upper_some None c = line_some (eqb c 13) c
-
-lower_some : (o : Option ℕ) (c : ℕ) → 1 ≤ length (spelling_in_lower o c)
-lower_some (Some place) c = omega arith
-lower_some None c = upper_some (place_in upper_letters c) c
 
 pub drop_none : (n : ℕ) → drop {A = ℕ} n [] ≡ []
 drop_none zero = refl
