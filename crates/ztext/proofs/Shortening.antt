@@ -1,11 +1,11 @@
 -- Texts that use abbreviations: whole words of bytes, and no longer than without.
-use Rattle.std.proofs.Common.{◌≡◌, ℕ, zero, suc, ◌+◌, ◌-◌, ◌*◌, ◌/◌, ◌≤◌, Bool, true, false, List, []}
-use Rattle.std.proofs.Common.{◌∷◌, length, drop, get_or, Option, Some, None, refl, sym, ap, arith}
-use Rattle.std.specs.Prelude.{replicate, if◌then◌else◌}
+use Rattle.std.proofs.Common.{◌≡◌, ℕ, zero, suc, ◌+◌, ◌-◌, ◌*◌, ◌/◌, ◌≤◌, true, List, []}
+use Rattle.std.proofs.Common.{◌∷◌, length, drop, get_or, refl, sym, ap, arith}
+use Rattle.std.specs.Prelude.{replicate}
 use Rattle.std.specs.List.{All, list_all}
 use Rattle.std.proofs.lemmas.Bool.{and_parts}
-use Rattle.ztext.specs.Alphabets.{is_printable, punctuation, place_in, spelling_of}
-use Rattle.ztext.specs.Alphabets.{spelling_in_punctuation, spelled}
+use Rattle.ztext.specs.Alphabets.{is_printable, spelling_of}
+use Rattle.ztext.specs.Alphabets.{spelled}
 use Rattle.ztext.specs.Words.{packed, missing, padded}
 use Rattle.ztext.specs.Abbreviations.{abbreviation_at, Found, spelled_behind}
 use Rattle.ztext.specs.TextParts.{AreSmall}
@@ -59,8 +59,6 @@ words_more zero n le = words_some n
 words_more (suc m) zero le = absurd (omega arith)
 words_more (suc m) (suc n) le = omega arith
 
--- ---- without abbreviations
-
 -- ---- no longer than without
 
 abbreviation_is : (texts : List (List ℕ)) (n : ℕ) → abbreviation_at texts n ≡ get_or texts n []
@@ -74,15 +72,6 @@ pub long_enough : (texts : List (List ℕ)) (text : List ℕ) (x : Found) (least
 long_enough texts text x least h s =
     let here : least ≤ length (get_or texts x.number []) = h x.number [] s.within in
     omega (arith, s.size, ap length (abbreviation_is texts x.number))
-
-outside_some : (o : Option ℕ) (c : ℕ) → 1 ≤ length (spelling_in_punctuation o c)
-outside_some (Some place) c = omega arith
-outside_some None c = omega arith
-
-line_some : (b : Bool) (c : ℕ)
-    → 1 ≤ length (if b then 5 ∷ 7 ∷ [] else spelling_in_punctuation (place_in punctuation c) c)
-line_some true c = omega arith
-line_some false c = outside_some (place_in punctuation c) c
 
 pub drop_none : (n : ℕ) → drop {A = ℕ} n [] ≡ []
 drop_none zero = refl
