@@ -1,16 +1,15 @@
--- Texts that use abbreviations: whole words of bytes, and no longer than without.
-use Rattle.std.proofs.Common.{◌≡◌, ℕ, zero, suc, ◌+◌, ◌-◌, ◌*◌, ◌/◌, ◌≤◌, true, List, []}
-use Rattle.std.proofs.Common.{◌∷◌, length, drop, get_or, refl, sym, ap, arith}
+-- Texts that use abbreviations are Z-characters, and each abbreviation that is found is long enough.
+use Rattle.std.proofs.Common.{◌≡◌, ℕ, zero, suc, ◌-◌, ◌≤◌, true, List, []}
+use Rattle.std.proofs.Common.{◌∷◌, length, drop, get_or, refl, ap, arith}
 use Rattle.std.specs.Prelude.{replicate}
 use Rattle.std.specs.List.{All, list_all}
 use Rattle.std.proofs.lemmas.Bool.{and_parts}
 use Rattle.ztext.specs.Alphabets.{is_printable, spelling_of}
 use Rattle.ztext.specs.Alphabets.{spelled}
-use Rattle.ztext.specs.Words.{packed, missing, padded}
+use Rattle.ztext.specs.Words.{missing, padded}
 use Rattle.ztext.specs.Abbreviations.{abbreviation_at, Found, spelled_behind}
 use Rattle.ztext.specs.TextParts.{AreSmall}
 use Rattle.ztext.proofs.Packing.{small_append}
-use Rattle.ztext.proofs.TextSizes.{none_packed, some_packed}
 use Rattle.ztext.proofs.Spelling.{AreBytes, spelling_small, fives_small, printable_below}
 use Rattle.ztext.proofs.Longest.{spelled_cases, StandsInText}
 
@@ -38,28 +37,6 @@ shortened_small texts text h =
     let zs = spelled_behind texts 0 text in
     small_append zs (replicate (missing (length zs)) 5) (behind_small texts 0 text h)
     (fives_small (missing (length zs)))
-
--- ---- words
-
--- how many words so many Z-characters need
-abbrev words_of_many : ℕ → ℕ
-words_of_many zero = 1
-words_of_many (suc n) = (suc n + 2) / 3
-
-packed_size : (zs : List ℕ) (n : ℕ) → length zs ≡ n → length (packed (padded zs)) ≡ 2 * words_of_many n
-packed_size zs zero many = sym (none_packed zs 0 many refl)
-packed_size zs (suc n) many = sym (some_packed zs (suc n) many (λ e. omega arith))
-
-words_some : (n : ℕ) → 1 ≤ words_of_many n
-words_some zero = omega arith
-words_some (suc n) = omega arith
-
-words_more : (m n : ℕ) → m ≤ n → words_of_many m ≤ words_of_many n
-words_more zero n le = words_some n
-words_more (suc m) zero le = absurd (omega arith)
-words_more (suc m) (suc n) le = omega arith
-
--- ---- no longer than without
 
 abbreviation_is : (texts : List (List ℕ)) (n : ℕ) → abbreviation_at texts n ≡ get_or texts n []
 abbreviation_is [] n = refl
