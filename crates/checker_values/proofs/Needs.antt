@@ -99,8 +99,6 @@ operands_full b r es i x h is room = rw (operands_here b r es i x h is)
     (more_full b (need (expression_tree x)) (operands (b + 1) (operand_needs (drop (suc i) es))) r room
     (need_one (expression_tree x)))
 
--- one link and those after it
-
 -- two operands
 
 pub both_next : (a b r : ℕ) → 1 ≤ a → 1 ≤ b → nat_le a r ≡ true
