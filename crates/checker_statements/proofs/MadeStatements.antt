@@ -1,5 +1,5 @@
 -- What the actions of the code in which others stand mean, part by part.
-use Rattle.std.proofs.Common.{◌≡◌, Option, refl, sym, ap, ◌∙◌}
+use Rattle.std.proofs.Common.{◌≡◌, Option, sym, ap, ◌∙◌}
 use Rattle.std.specs.Prelude.{map}
 use Rattle.std.specs.Global.{Vec, Box}
 use Rattle.std.specs.Option.{option_map}

@@ -13,7 +13,7 @@ use Rattle.syntax_trees.specs.Tree.{NameTree, ExpressionTree}
 use Rattle.syntax_trees.specs.Views.{name_tree, expression_tree, trees_of, chained, link, propertied}
 use Rattle.meaning.specs.Resolved as values
 use Rattle.meaning.specs.Resolved.{Value}
-use Rattle.meaning.specs.Views.{values_of, value_of}
+use Rattle.meaning.specs.Views.{values_of}
 use Rattle.meaning.specs.Views as views
 use Rattle.meaning.specs.declared.resolved.Variable.TheVariants as variables
 use Rattle.checker_names.specs.declared.binding.Binding.{Binding}

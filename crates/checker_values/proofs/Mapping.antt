@@ -1,25 +1,9 @@
--- What is left of a list and what is done of it, mapped.
-use Rattle.std.proofs.Common.{◌≡◌, ℕ, zero, suc, ◌+◌, ◌<◌, ◌≤◌, List, [], ◌∷◌, ◌++◌, length, take, drop, slice_index_or}
+-- What is done of a list, mapped.
+use Rattle.std.proofs.Common.{◌≡◌, ℕ, zero, suc, ◌+◌, ◌<◌, List, [], ◌∷◌, ◌++◌, length, take, slice_index_or}
 use Rattle.std.proofs.Common.{refl, ap, arith}
 use Rattle.std.specs.Prelude.{map}
 
 module _ {A R : Type 0} (g : A → R) where
-  map_from : (xs : List A) (i : ℕ) (x : A) → i < length xs
-      → map g (drop i xs) ≡ g (slice_index_or xs i x) ∷ map g (drop (suc i) xs)
-  map_from [] i x h = absurd (omega arith)
-  map_from (y ∷ xs) zero x h = refl
-  map_from (y ∷ xs) (suc i) x h = map_from xs i x (omega arith)
-
-  pub map_there : (xs : List A) (i : ℕ) (d : A) → i < length xs
-      → map g (drop i xs) ≡ g (slice_index_or xs i d) ∷ map g (drop (i + 1) xs)
-  map_there xs i d lt = let j : i + 1 ≡ suc i = omega arith in rw j (map_from xs i d lt)
-
-  pub map_end : (xs : List A) (i : ℕ) → length xs ≤ i → map g (drop i xs) ≡ []
-  map_end [] zero h = refl
-  map_end [] (suc i) h = refl
-  map_end (x ∷ xs) zero h = absurd (omega arith)
-  map_end (x ∷ xs) (suc i) h = map_end xs i (omega arith)
-
   take_from : (xs : List A) (i : ℕ) (d : A) → i < length xs
       → map g (take (suc i) xs) ≡ map g (take i xs) ++ g (slice_index_or xs i d) ∷ []
   take_from [] i d h = absurd (omega arith)

@@ -56,16 +56,10 @@ more_bad b n rest left r room one h = grind (arith, nat_tests)
 more_full : (b n rest r : ℕ) → r - b ≡ 0 → 1 ≤ n → nat_le (max (b + n) rest) r ≡ false
 more_full b n rest r room one = grind (arith, nat_tests)
 
-zero_fits : (r : ℕ) → nat_le 0 r ≡ true
-zero_fits r = grind (arith, nat_tests)
-
 -- one operand and those after it
 
 abbrev pub operand_needs : List Expression → List ℕ
 operand_needs es = needs (trees_of (map expression_tree es))
-
-abbrev pub OperandsFit : ℕ → ℕ → List Expression → Bool
-OperandsFit b r es = nat_le (operands b (operand_needs es)) r
 
 operands_from : (b r : ℕ) (es : List Expression) (i : ℕ) (x : Expression) → i < length es
     → operands b (operand_needs (drop i es)) ≡ max (b + need (expression_tree (slice_index_or es i x)))
@@ -104,34 +98,6 @@ pub operands_full : (b r : ℕ) (es : List Expression) (i : ℕ) (x : Expression
 operands_full b r es i x h is room = rw (operands_here b r es i x h is)
     (more_full b (need (expression_tree x)) (operands (b + 1) (operand_needs (drop (suc i) es))) r room
     (need_one (expression_tree x)))
-
-pub operands_end : (b r : ℕ) (es : List Expression) (i : ℕ) → length es ≤ i
-    → nat_le (operands b (operand_needs (drop i es))) r ≡ nat_le 1 r
-operands_end b r [] zero h = refl
-operands_end b r [] (suc i) h = refl
-operands_end b r (e ∷ es) zero h = absurd (omega arith)
-operands_end b r (e ∷ es) (suc i) h = operands_end b r es i (omega arith)
-
--- one link and those after it
-
-links_from : (ls : List (Binary × Expression)) (i : ℕ) (x : Binary × Expression) → i < length ls
-    → greatest (map link_need (drop i ls)) ≡ max (link_need (slice_index_or ls i x))
-    (greatest (map link_need (drop (suc i) ls)))
-links_from [] i x h = absurd (omega arith)
-links_from (l ∷ ls) zero x h = refl
-links_from (l ∷ ls) (suc i) x h = links_from ls i x (omega arith)
-
-links_here : (ls : List (Binary × Expression)) (i : ℕ) (x : Binary × Expression) → i < length ls
-    → x ≡ slice_index_or ls i x → greatest (map link_need (drop i ls))
-    ≡ max (link_need x) (greatest (map link_need (drop (suc i) ls)))
-links_here ls i x h is = links_from ls i x h ∙ ap
-    (λ (y : Binary × Expression). max (link_need y) (greatest (map link_need (drop (suc i) ls)))) (sym is)
-
-pub links_next : (r : ℕ) (ls : List (Binary × Expression)) (i : ℕ) (x : Binary × Expression) → i < length ls
-    → x ≡ slice_index_or ls i x → nat_le (link_need x) r ≡ true
-    → nat_le (greatest (map link_need (drop i ls))) r ≡ nat_le (greatest (map link_need (drop (i + 1) ls))) r
-links_next r ls i x h is good = let j : i + 1 ≡ suc i = omega arith in
-    rw (j, links_here ls i x h is) (grind (arith, nat_tests))
 
 -- two operands
 

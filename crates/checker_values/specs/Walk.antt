@@ -1,5 +1,5 @@
 -- Words of proofs: what a walk over a name or an expression finds, and what it notes.
-use Rattle.std.specs.Prelude.{◌≡◌, ℕ, List, Option, map, Result, IfOk}
+use Rattle.std.specs.Prelude.{◌≡◌, ℕ, List, map, Result, IfOk}
 use Rattle.std.specs.Global.{Box}
 use Rattle.std.specs.List.{flat_map}
 use Rattle.syntax_lexer.specs.declared.token.Position.{Position}

@@ -10,7 +10,7 @@ use Rattle.meaning.specs.Resolved.{Value, Values, none, more}
 use Rattle.meaning.specs.Views.{value_of, values_of}
 use Rattle.meaning.specs.Resolved as source
 use Rattle.meaning.specs.Accepted.{count_of}
-use Rattle.code_drafts.specs.Items.{Item, Operand, pushed, number, variable, push, same, prefix_operand, operand_of}
+use Rattle.code_drafts.specs.Items.{Operand, pushed, number, variable, push, same, prefix_operand, operand_of}
 use Rattle.code_drafts.specs.Items.{operands_of, alone, if_pushed, changes, change, is_few, is_in_place, all_in_place}
 use Rattle.code_drafts.specs.Items.{is_direct, same_count, same_items, value_count, operands_count, operand_count}
 use Rattle.code_drafts.specs.Items.{value_items, operands_items}

@@ -8,13 +8,10 @@ use Rattle.meaning.specs.declared.resolved.Value as code_value
 use Rattle.meaning.specs.declared.resolved.Action as code_action
 use Rattle.meaning.specs.declared.resolved.Action.TheVariants as s
 use Rattle.meaning.specs.declared.resolved.Action.TheFolds.{fold-roll-Action}
-use Rattle.meaning.specs.Resolved.{give_to, move_to, remove_from, each_object, each_where, each_in, Action, text_alone}
+use Rattle.meaning.specs.Resolved.{give_to, move_to, remove_from, each_object, each_where, each_in, Action}
 use Rattle.meaning.specs.Resolved.{while_do, do_until, for_loop, switch_on, return_value}
 use Rattle.meaning.specs.Views.{cases_of, value_of, case_of, boxed_value, other_of, action_of, action_layer}
 use Rattle.meaning.proofs.Switches.{made_switch}
-
-pub text_is : (t : code_action.Action) (text : _) → t ≡ s.Text text → action_of t ≡ text_alone text.now
-text_is t text is = ap action_of is ∙ ap action_of (sym (s.rolls-Text text)) ∙ fold-roll-Action Action action_layer _
 
 pub while_is : (t : code_action.Action) (e : Box code_value.Value) (x : Box code_action.Action) → t ≡ s.While e x
     → action_of t

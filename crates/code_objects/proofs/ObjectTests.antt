@@ -1,6 +1,6 @@
 -- The tests of objects, and what is done behind them.
-use Rattle.std.proofs.Common.{◌≡◌, ℕ, ◌+◌, Bool, true, false, List, [], ◌++◌, Option, Some, None, refl, sym, ap, ◌∙◌}
-use Rattle.std.proofs.Common.{append_assoc, append-nil, subst}
+use Rattle.std.proofs.Common.{◌≡◌, ℕ, ◌+◌, Bool, true, false, List, [], ◌++◌, Option, Some, None, refl, ap, ◌∙◌}
+use Rattle.std.proofs.Common.{append_assoc, subst}
 use Rattle.std.specs.Prelude.{if◌then◌else◌}
 use Rattle.zcore.specs.declared.instruction.Operand.{Operand}
 use Rattle.zcore.specs.Instruction.{Instruction}
@@ -8,10 +8,10 @@ use Rattle.meaning.specs.declared.cause.Cause.{Cause}
 use Rattle.meaning.specs.declared.cause.Cause.TheVariants.{NotAnObject}
 use Rattle.code_drafts.specs.Items as items
 use Rattle.code_encoding.specs.Addresses.{Addresses, fault_address}
-use Rattle.code_encoding.specs.Instructions.{pulled_into, word_in, fail, constant}
+use Rattle.code_encoding.specs.Instructions.{pulled_into, fail, constant}
 use Rattle.code_instructions.specs.Instructions.{is_between}
 use Rattle.code_encoding.specs.Bytes.{bytes_of_all}
-use Rattle.code_objects.specs.ObjectCode.{tests_in, tested_in, at_object, at_label}
+use Rattle.code_objects.specs.ObjectCode.{tests_in, tested_in, at_object}
 use Rattle.code_objects.specs.Written.{found_in}
 use Rattle.code_encoding.proofs.Chains.{all_joined, three_joined}
 
@@ -63,21 +63,3 @@ module _ (a : Addresses) (objects : ℕ) (o : items.Operand) (act : Operand → 
       all_joined taken (acted (found_in 0 1 (objects + 1) o) act) b b1 b2 e1
       (subst (λ y. b2 ≡ b1 ++ bytes_of_all (acted y act)) found e2)
       ∙ ap (λ z. b ++ bytes_of_all z) at_is
-
-  -- behind the fault of a number
-  pub none_joined : (b b1 : List ℕ) → b1 ≡ b ++ bytes_of_all taken
-      → None ≡ found_in 0 1 (objects + 1) o
-      → b1 ≡ b ++ bytes_of_all (at_object a objects o act)
-  none_joined b b1 e1 found =
-      all_joined taken (acted (found_in 0 1 (objects + 1) o) act) b b1 b1 e1
-      (subst (λ y. b1 ≡ b1 ++ bytes_of_all (acted y act)) found (sym (append-nil b1)))
-      ∙ ap (λ z. b ++ bytes_of_all z) at_is
-
-  -- before a branch to a label
-  pub label_joined : (b b1 b2 : List ℕ) → b1 ≡ b ++ bytes_of_all taken
-      → b2 ≡ b1 ++ bytes_of_all (act (word_in 0 o))
-      → b2 ≡ b ++ bytes_of_all (at_label a objects o act)
-  label_joined b b1 b2 e1 e2 =
-      all_joined taken (act (word_in 0 o)) b b1 b2 e1 e2
-      ∙ ap (λ z. b ++ bytes_of_all z)
-      (append_assoc (pulled_into 0 o) (tests_in 0 a NotAnObject 1 (objects + 1) o) (act (word_in 0 o)))

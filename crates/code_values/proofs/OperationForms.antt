@@ -18,7 +18,7 @@ use Rattle.code_drafts.specs.declared.item.Destination.TheVariants as destinatio
 use Rattle.code_drafts.specs.declared.wanted.Wanted.{Wanted}
 use Rattle.code_drafts.specs.declared.wanted.Wanted.TheVariants.{Word}
 use Rattle.code_drafts.specs.Writing.{numbered, wanted_items, is_logical, ReducesWord, ReducesTruth, WritesBefore}
-use Rattle.code_drafts.proofs.WrittenItems.{nothing, both, as_items, after_one}
+use Rattle.code_drafts.proofs.WrittenItems.{both, as_items, after_one}
 use Rattle.code_values.specs.ValueWriting.{pushes, placed, first_items, ReducesLink, ReducesLinks, ReducesComparison}
 use Rattle.code_values.specs.ValueWriting.{ReducesAssignedEntry}
 use Rattle.code_values.proofs.Values.{pushes_length, placed_length}
@@ -101,11 +101,6 @@ either false x = refl
 pub first_pushed : (c c1 : List Item) (op : Binary) (wanted : Wanted) (v : Value)
     → WritesBefore c c1 (wanted_items wanted v) → WritesBefore c c1 (first_items op pushed wanted v)
 first_pushed c c1 op wanted v w = as_items (λ n at _. either (is_logical op) (wanted_items wanted v n at)) w
-
-pub first_number : (c : List Item) (op : Binary) (m : ℕ) (wanted : Wanted) (v : Value) → is_logical op
-    ≡ false → WritesBefore c c (first_items op (number m) wanted v)
-first_number c op m wanted v e = as_items (λ n at _. ap (λ b. if b then wanted_items wanted v n at else []) (sym e))
-    (nothing c)
 
 -- Chains
 

@@ -14,9 +14,6 @@ use Rattle.code_drafts.specs.Writing.{wanted_items, ReducesWord, WritesBefore}
 use Rattle.code_values.specs.ValueWriting.{pushes, ReducesProperties}
 use Rattle.code_values.proofs.ObjectValues.{property_written}
 
-pub properties_none : (c : List Item) (wanted : Wanted) → ReducesProperties c c wanted wanted []
-properties_none c wanted v is = record { with_rest = λ end w. w }
-
 properties_next : (c c1 c2 c3 : List Item) (wanted w1 : Wanted) (d : Destination) (p : ℕ) (ps : List ℕ)
     → ReducesProperties c c1 wanted w1 ps → ReducesWord c1 c2 w1 d → c3 ≡ c2 ++ items.property pushed p d ∷ []
     → ReducesProperties c c3 wanted (Word destinations.Push) (p ∷ ps)

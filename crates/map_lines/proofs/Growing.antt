@@ -58,9 +58,6 @@ pub record Mapped (rs : List CheckedRoutine) (i : ℕ) (rows : List RowOf) (at :
   pub routines : AreOf (map title_of (take i rs)) rows
   pub rise : Rise 0 rows (address_at at 0)
 
-pub none_mapped : (rs : List CheckedRoutine) (at : ℕ) → Mapped rs 0 [] at
-none_mapped rs at = record { routines = refl; rise = omega arith }
-
 pub one_more : (rs : List CheckedRoutine) (i at place end : ℕ) (old new : List RowOf) → i < length rs
     → Mapped rs i old at → address_at at 0 ≤ address_at place 0
     → ((r : CheckedRoutine) → Some r ≡ slice_get rs i → AddsRoutine (title_of r) place old new end)

@@ -1,10 +1,9 @@
 -- Rows whose addresses ascend.
-use Rattle.std.proofs.Common.{◌≡◌, ◌<◌, ◌≤◌, ◌+◌, ◌-◌, Option, Some, None, subst, ℕ, zero, suc, List, [], ◌∷◌, ◌++◌, map, length, drop, sym, ap, ◌∙◌, arith}
+use Rattle.std.proofs.Common.{◌≡◌, ◌<◌, ◌≤◌, ◌+◌, ◌-◌, Option, Some, None, subst, ℕ, zero, suc, List, [], ◌∷◌, map, length, drop, ap, arith}
 use Rattle.std.specs.List.{All, slice_index_or}
-use Rattle.std.proofs.lemmas.List.{append_assoc}
 use Rattle.std.proofs.lemmas.List.Elements.{All-nil, All-cons}
 use Rattle.map_text.specs.declared.row.Row.{Row}
-use Rattle.map_text.specs.Text.{Ascend, line_feed, row_of, row_text, rows_text}
+use Rattle.map_text.specs.Text.{Ascend, row_of}
 use Rattle.map_text.specs.Found.{IsBehind, IsLast, IsRowAt}
 
 pub all_behind : (rows : List Row) (least address : ℕ) → Ascend least (map row_of rows) → address < least
@@ -38,23 +37,3 @@ found rows n address (Some r) le below behind last =
       omega (arith, low, ap (λ (x : Row). x.address) last.1),
       subst (λ (m : ℕ). All (IsBehind address) (drop m rows)) next behind,
     )
-
--- the text of rows from one on
-pub next_rows : (rows : List Row) (i : ℕ) (r : Row) → i < length rows → r ≡ slice_index_or rows i r
-    → rows_text (map row_of (drop i rows))
-    ≡ row_text (row_of r) ++ line_feed ∷ rows_text (map row_of (drop (suc i) rows))
-next_rows [] i r lt e = absurd (omega (arith, lt))
-next_rows (x ∷ xs) zero r lt e =
-    ap (λ (y : Row). row_text (row_of y) ++ line_feed ∷ rows_text (map row_of xs)) (sym e)
-next_rows (x ∷ xs) (suc k) r lt e = next_rows xs k r (omega (arith, lt)) e
-
-pub written_next : (t0 t1 whole : List ℕ) (rows : List Row) (i : ℕ) (r : Row) → i < length rows
-    → r ≡ slice_index_or rows i r → t0 ++ rows_text (map row_of (drop i rows)) ≡ whole
-    → t1 ≡ t0 ++ (row_text (row_of r) ++ line_feed ∷ []) → t1 ++ rows_text (map row_of (drop (i + 1) rows)) ≡ whole
-written_next t0 t1 whole rows i r lt e before more =
-    let line = row_text (row_of r) in
-    let rest = rows_text (map row_of (drop (suc i) rows)) in
-    let at : i + 1 ≡ suc i = omega arith in
-    ap (λ n. t1 ++ rows_text (map row_of (drop n rows))) at ∙ ap (λ (t : List ℕ). t ++ rest) more
-    ∙ append_assoc t0 (line ++ line_feed ∷ []) rest
-    ∙ ap (λ (t : List ℕ). t0 ++ t) (append_assoc line (line_feed ∷ []) rest ∙ sym (next_rows rows i r lt e)) ∙ before

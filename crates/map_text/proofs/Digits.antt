@@ -1,7 +1,7 @@
 -- Digits, and the numbers that they are.
 use Rattle.std.proofs.Common.{◌≡◌, ◌<◌, ◌≤◌, ◌+◌, ◌-◌, ◌*◌, ◌/◌, ◌%◌, ◌^◌, ◌&&◌, ℕ, List, [], ◌∷◌, length, map}
 use Rattle.std.proofs.Common.{true, cond, if◌then◌else◌, nat_lt, nat_le, refl, sym, ap, ◌∙◌, subst, arith}
-use Rattle.std.proofs.Common.{inl, inr, le-leb, leb-true, lt-ltb, ltb-true, ne_eqb, Some, None, Result, Ok, Err, OkIff}
+use Rattle.std.proofs.Common.{inl, inr, le-leb, lt-ltb, ltb-true, Some, None, Result, Ok, Err, OkIff}
 use Rattle.std.proofs.Common.{IsAscii, IsUtf8, decimal}
 use Rattle.std.specs.List.{list_all, slice_index_or}
 use Rattle.std.specs.Int.Digits.{number_from_digits}
@@ -30,15 +30,6 @@ high_digit b low high =
     (and_right (nat_le 48 b) (nat_le b 57) (lt-leb b 57 (omega (arith, low))))
     ∙ cond-true (nat_le 65 b && nat_le b 70) (b - 55) 16
     (and_from (nat_le 65 b) (nat_le b 70) (le-leb 65 b low) (le-leb b 70 high))
-
-pub other_digit : (b : ℕ) → (48 ≤ b → b ≤ 57 → ⊥) → (65 ≤ b → b ≤ 70 → ⊥) → digit_value b ≡ 16
-other_digit b low high =
-    cond-false (nat_le 48 b && nat_le b 57) (b - 48) (cond (nat_le 65 b && nat_le b 70) (b - 55) 16)
-    (false_from_ne_true (nat_le 48 b && nat_le b 57) (λ e.
-    let p = and_parts (nat_le 48 b) (nat_le b 57) e in low (leb-true 48 b p.0) (leb-true b 57 p.1)))
-    ∙ cond-false (nat_le 65 b && nat_le b 70) (b - 55) 16
-    (false_from_ne_true (nat_le 65 b && nat_le b 70) (λ e.
-    let p = and_parts (nat_le 65 b) (nat_le b 70) e in high (leb-true 65 b p.0) (leb-true b 70 p.1)))
 
 digit_value_of : (n : ℕ) → n < 16 → digit_value (digit n) ≡ n
 digit_value_of n lt = elim (cases_lt n 10) [
@@ -80,11 +71,6 @@ pub five_digits : (bytes : List ℕ) → length bytes ≡ 5 → map digit_value 
     ∷ digit_value (slice_index_or bytes 4 0) ∷ []
 five_digits (a ∷ b ∷ c ∷ d ∷ e ∷ []) is = refl
 five_digits bytes is = absurd (omega (arith, is))
-
-pub not_five : (digits : List ℕ) → (length digits ≡ 5 → ⊥) → address_of digits ≡ None
-not_five digits other =
-    ap (λ t. if t && list_all (λ v. nat_lt v 16) digits then Some (number_from_digits 16 digits) else None)
-    (ne_eqb (length digits) 5 other)
 
 pub address_of_text : (a : ℕ) → a < 2 ^ 20 → address_in (address_text a) ≡ Some a
 address_of_text a lt =

@@ -32,10 +32,6 @@ line_fault number = Err (Line number)
 
 -- The rounds
 
-none_before : (x : Result (List RowOf) MapFault) → then_rows [] x ≡ x
-none_before (Ok rows) = refl
-none_before (Err fault) = refl
-
 then_twice : (xs ys : List RowOf) (x : Result (List RowOf) MapFault)
     → then_rows xs (then_rows ys x) ≡ then_rows (xs ++ ys) x
 then_twice xs ys (Ok rows) = ap these (sym (append_assoc xs ys rows))
@@ -44,9 +40,6 @@ then_twice xs ys (Err fault) = refl
 -- these rows were read, and the last has this address; the rest follows
 pub record Reads (lines rest : List ℕ) (least : ℕ) (rows : List RowOf) : Type 0 where
   pub is : rows_in lines ≡ then_rows rows (rows_from (length rows + 3) least (cut_lines rest))
-
-pub started : (lines : List ℕ) → Reads lines lines 0 []
-started lines = record { is = sym (none_before (rows_from 3 0 (cut_lines lines))) }
 
 -- all are read
 nothing_left : (number least : ℕ) (rest : List ℕ) → length rest ≡ 0 → rows_from number least (cut_lines rest) ≡ Ok []

@@ -3,7 +3,7 @@ use Rattle.std.proofs.Common.{◌≡◌, ◌==◌, ◌+◌, ◌≤◌, ◌<◌, 
 use Rattle.std.proofs.Common.{slice_index_or, refl, ap, sym, ◌∙◌, arith, subst, inl, inr}
 use Rattle.std.proofs.lemmas.Bool.{cases_eq}
 use Rattle.meaning.specs.Objects.{ObjectOf, no_object, object_at, standing_in, first_objects}
-use Rattle.meaning.specs.Forests.{Among, Once, IsForest, Rises, IsRooted}
+use Rattle.meaning.specs.Forests.{Among, Once, IsForest}
 use Rattle.meaning.proofs.ObjectLists.{if_same, if_other}
 
 -- the parent of the object at a place, from 0
@@ -121,18 +121,3 @@ module _ (xs : List ObjectOf) (earlier : (k : ℕ) → k < length xs → parent_
           let next : 1 + k ≡ suc k = omega arith in
           subst (Among (suc k)) (sym (children_are p some))
           (subst (λ x. Among x (standing_in p 1 xs)) next (stands_there 1 xs k p (within xs k some) refl))
-
-  -- also of what is no object
-  parent_earlier : (k : ℕ) → parent_at xs k ≤ k
-  parent_earlier k = elim (cases_eq (parent_at xs k) 0) [
-    | inl none ↦ omega (arith, none)
-    | inr some ↦ earlier k (within xs k some)
-  ]
-
-  rises_by : (steps x : ℕ) → x ≤ steps → Rises ((first_objects xs).tree.parent) steps x
-  rises_by zero x le = omega arith
-  rises_by (suc steps) zero le = inl refl
-  rises_by (suc steps) (suc k) le = inr (rises_by steps (parent_at xs k) (omega (arith, parent_earlier k)))
-
-  pub first_rooted : IsRooted ((first_objects xs).tree.parent)
-  first_rooted x = (x, rises_by x x (omega arith))

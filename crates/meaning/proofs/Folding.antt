@@ -26,13 +26,6 @@ fold_great n h = rw (le-ltb n 65536 h) refl
 
 -- either of the two
 module _ (n : ℕ) where
-  pub fold_below : folded n < 131072
-  fold_below = go (ltb n 65536) refl
-    where
-      go : (b : Bool) → ltb n 65536 ≡ b → folded n < 131072
-      go true e = let h = ltb-true n 65536 e in omega (arith, h, fold_small n h)
-      go false e = let h = ltb-false n 65536 e in omega (arith, fold_great n h)
-
   pub fold_over : ltb 65535 (folded n) ≡ ltb 65535 n
   fold_over = go (ltb n 65536) refl
     where

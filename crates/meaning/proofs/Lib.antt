@@ -3,9 +3,7 @@ pub mod Routines
 pub mod Mapped
 pub mod Switches
 pub mod Folding
-pub mod Numbers
 pub mod ObjectLists
-pub mod Rising
 pub mod Forests
 pub mod FirstForest
 mod LoopSamples

@@ -125,7 +125,3 @@ pub repeated_each : (P : Position → Type 0) (before ns : List NameTree) → Ea
 repeated_each P before [] h = nothing
 repeated_each P before (n ∷ ns) h = join (if_then (has_name before n) (one h.0 refl) nothing)
     (repeated_each P (before ++ n ∷ []) ns h.1)
-
-pub repeated_sounds : {P : Position → Type 0} {ns : List NameTree} (before : List NameTree) → Names P ns
-    → Sounds P (repeated_breaches before ns)
-repeated_sounds {P} {ns} before h = repeated_each P before ns h.each

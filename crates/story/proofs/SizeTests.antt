@@ -1,5 +1,5 @@
 -- What the tests of sizes say, where the weight of a source is limited, and where the length of its story is.
-use Rattle.std.proofs.Common.{◌≡◌, ◌⊎◌, inl, inr, ℕ, ◌<◌, ◌≤◌, Bool, true, false, nat_lt, length, Option, Some, None}
+use Rattle.std.proofs.Common.{◌≡◌, ℕ, ◌<◌, ◌≤◌, Bool, true, false, nat_lt, length, Option, Some, None}
 use Rattle.std.proofs.Common.{refl, sym, ap, ◌∙◌, arith, zero, suc, ◌+◌, List, [], ◌∷◌, drop}
 use Rattle.std.specs.Prelude.{if◌then◌else◌}
 use Rattle.std.specs.List.{slice_get}
@@ -14,7 +14,7 @@ use Rattle.meaning.specs.Resolved.{ProgramOf}
 use Rattle.meaning.specs.Sizes.{fault, first_heavy, greatest_routine_weight, greatest_weight, heavy_fault, size_fault}
 use Rattle.meaning.specs.declared.checked.CheckedRoutine.{CheckedRoutine}
 use Rattle.meaning.specs.Views.{CheckedProgram, program_of}
-use Rattle.meaning.specs.CheckedSizes.{checked_size_fault, heavy_place, name_place_of, routine_weight, StandsBySize}
+use Rattle.meaning.specs.CheckedSizes.{heavy_place, name_place_of, routine_weight}
 use Rattle.story_file.specs.Layout.{greatest_length, story_of}
 use Rattle.story.specs.declared.sized.Limit.{Limit}
 use Rattle.story.specs.declared.sized.Limit.TheVariants as limit

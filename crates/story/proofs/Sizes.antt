@@ -1,12 +1,11 @@
 -- How long stories are.
-use Rattle.std.proofs.Common.{◌≡◌, ℕ, ◌+◌, ◌*◌, ◌<◌, ◌≤◌, List, [], ◌∷◌, ◌++◌, length, ap, ◌∙◌, arith}
+use Rattle.std.proofs.Common.{◌≡◌, ℕ, ◌+◌, ◌*◌, ◌≤◌, List, [], ◌∷◌, ◌++◌, length, ap, ◌∙◌, arith}
 use Rattle.std.specs.Prelude.{map, slice_index, slice_index_or}
 use Rattle.std.specs.List.{All}
 use Rattle.zcore.specs.declared.header.Version.{Version}
 use Rattle.zcore.specs.declared.header.Version.TheVariants.{V5, V8}
 use Rattle.zcore.specs.Header.{scale_of}
-use Rattle.meaning.specs.Resolved.{RoutineOf, ProgramOf}
-use Rattle.meaning.specs.Accepted.{IsAccepted}
+use Rattle.meaning.specs.Resolved.{RoutineOf}
 use Rattle.meaning.specs.Places.{routines_place}
 use Rattle.meaning.specs.Sizes.{greatest_weight, greatest_routine_weight}
 use Rattle.code_encoding.specs.Addresses.{Sizes}

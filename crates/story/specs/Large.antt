@@ -1,6 +1,6 @@
 -- Which programs are too large where the length of the story is limited in place of the weight of the source: what
 -- weighs too much may have a story that packed addresses reach.
-use Rattle.std.specs.Prelude.{◌≡◌, ◌≤◌, ℕ, nat_lt, if◌then◌else◌, List, length, Option, Some, None, Result, Ok, Err}
+use Rattle.std.specs.Prelude.{◌≡◌, ◌≤◌, ℕ, nat_lt, if◌then◌else◌, length, Option, Some, None, Result, Ok, Err}
 use Rattle.std.specs.Global.{Vec}
 use Rattle.std.specs.Option.{option_or}
 use Rattle.zcore.specs.declared.header.Version.{Version}

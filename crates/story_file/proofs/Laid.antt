@@ -10,7 +10,6 @@ use Rattle.std.proofs.lemmas.List.Concat.{concat_is, length-flat_map}
 use Rattle.std.proofs.lemmas.List.Elements.{All-head, All-tail}
 use Rattle.std.proofs.lemmas.List.Sums.{sum-map}
 use Rattle.zcore.specs.declared.header.Version.{Version}
-use Rattle.zcore.specs.declared.header.Version.TheVariants.{V5, V8}
 use Rattle.zcore.specs.Header.{scale_of}
 use Rattle.meaning.specs.Resolved.{RoutineOf, ProgramOf}
 use Rattle.meaning.specs.Meaning.{routine_at}
@@ -372,11 +371,6 @@ story_reached version p fits reached =
     let end = story_end version p fits.accepted.defaults.0 in
     let near = leb-true (end_from (scale_of version) (routines_place p) (part_sizes p)) (65535 * scale_of version) reached in
     omega (arith, end, near)
-
--- an address that is a word is one that packed addresses reach
-pub word_reached : (version : Version) (n : ℕ) → n ≤ greatest_word → n ≤ 65535 * scale_of version
-word_reached V5 n h = omega (arith, h)
-word_reached V8 n h = omega (arith, h)
 
 -- the test is on the sizes of codes and of texts, from the first on
 pub reach_as : (version : Version) (p : ProgramOf) (codes : List CodeOf) (place : ℕ) (b : Bool)

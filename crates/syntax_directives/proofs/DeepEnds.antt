@@ -1,5 +1,5 @@
 -- A token that stands deep in what begins somewhere is one of the tokens from there on.
-use Rattle.std.proofs.Common.{◌≡◌, ℕ, List, [], ◌∷◌, ◌++◌, append_assoc, Option, refl, sym, ap, ◌∙◌, true}
+use Rattle.std.proofs.Common.{◌≡◌, ℕ, List, [], ◌∷◌, ◌++◌, append_assoc, refl, sym, ap, ◌∙◌, true}
 use Rattle.syntax_lexer.specs.Token.{Lexeme}
 use Rattle.syntax_expressions.specs.Nesting.{DeepE, deep_e_left, deep_e_first, deep_e_right, DeepE1}
 use Rattle.syntax_expressions.specs.Nesting.{deep_e1_first, deep_e1_next, DeepN1, deep_n1_plain, deep_n1_not}

@@ -1,4 +1,4 @@
--- What stands behind an object: properties, and the length of one.
+-- What stands behind an object: properties.
 use Rattle.std.proofs.Common.{◌≡◌, ℕ, zero, suc, ◌+◌, ◌-◌, ◌<◌, ◌≤◌, ◌⊎◌, inl, inr, true, false, List, [], ◌∷◌, ◌++◌}
 use Rattle.std.proofs.Common.{length, Result, Ok, Err, refl, sym, ◌∙◌, arith}
 use Rattle.std.proofs.lemmas.List.{length-map}
@@ -6,25 +6,13 @@ use Rattle.syntax_lexer.specs.declared.token.Sign.TheVariants as s
 use Rattle.syntax_lexer.specs.declared.token.Token.{Token}
 use Rattle.syntax_lexer.specs.Token.{Lexeme, lexeme, lexemes}
 use Rattle.syntax_trees.specs.declared.tree.Name.{Name}
-use Rattle.syntax_trees.specs.Tree.{NameTree, ExpressionTree, property, property_length}
+use Rattle.syntax_trees.specs.Tree.{NameTree, ExpressionTree, property}
 use Rattle.syntax_trees.specs.Views.{name_tree, propertied}
 use Rattle.syntax_parsing.specs.Stop.{Stop, stop_of}
 use Rattle.syntax_parsing.specs.declared.error.ParseError.{ParseError}
 use Rattle.syntax_parsing.specs.declared.error.ParseError.TheVariants as errors
 use Rattle.syntax_parsing.specs.Parse.{Fails, head, tail, is_sign}
-use Rattle.syntax_expression_parts.specs.Parse.{expect_name, properties, lengthened, property_next}
-
--- ---- the length of a property
-
-pub no_length : (e : ExpressionTree) (ts : List Lexeme) → is_sign s.DotHash (head ts) ≡ false
-    → lengthened e ts ≡ Ok (e, ts)
-unfolding lengthened
-no_length e ts h = rw h refl
-
-pub named_length : (e : ExpressionTree) (ts us r : List Lexeme) (n : NameTree) → is_sign s.DotHash (head ts) ≡ true
-    → us ≡ tail ts → expect_name us ≡ Ok (n, r) → lengthened e ts ≡ Ok (property_length e n, r)
-unfolding lengthened
-named_length e ts us r n h u g = rw (h, ← u, g) refl
+use Rattle.syntax_expression_parts.specs.Parse.{expect_name, properties, property_next}
 
 -- ---- one property
 

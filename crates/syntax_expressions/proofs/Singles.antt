@@ -1,12 +1,12 @@
 -- A part of an expression that is a name or a number alone is what an operand without operators is.
-use Rattle.std.proofs.Common.{◌≡◌, ◌&&◌, ℕ, Bool, true, false, List, [], ◌∷◌, length, None, Ok, refl, sym, ◌∙◌, arith}
+use Rattle.std.proofs.Common.{◌≡◌, ◌&&◌, ℕ, Bool, true, false, List, [], ◌∷◌, None, Ok, refl, sym, ◌∙◌, arith}
 use Rattle.std.specs.Prelude.{nat_le}
 use Rattle.std.proofs.lemmas.Bool.Decides.{nat_tests}
 use Rattle.syntax_lexer.specs.declared.token.Position.{Position}
 use Rattle.syntax_lexer.specs.declared.token.Sign.TheVariants as s
 use Rattle.syntax_lexer.specs.Token.{Lexeme, name, number, reserved, sign}
 use Rattle.syntax_trees.specs.Tree.{ExpressionTree, constant, named}
-use Rattle.syntax_parsing.specs.Parse.{Parse, head, tail}
+use Rattle.syntax_parsing.specs.Parse.{Parse}
 use Rattle.syntax_expression_parts.specs.declared.operators.Operators.{Operators}
 use Rattle.syntax_expression_parts.specs.declared.operators.Operators.TheVariants as operators
 use Rattle.syntax_expression_parts.specs.Operators.{logical, adding, scaling}

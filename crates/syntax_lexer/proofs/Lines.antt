@@ -1,14 +1,15 @@
 -- Each token of a source stands in its line, and so does its first fault: no token and no comment has an end of a line
 -- in it.
 use Rattle.std.proofs.Common.{◌≡◌, ℕ, zero, suc, ◌+◌, ◌<◌, ◌≤◌, Bool, true, false, cond, eqb, not, List, [], ◌∷◌, ◌++◌}
-use Rattle.std.proofs.Common.{length, get_or, take, drop, Ok, Err, refl, sym, ap, subst, ◌∙◌, arith, inl, inr}
+use Rattle.std.proofs.Common.{length, get_or, take, drop, Some, Ok, Err, refl, sym, ap, subst, ◌∙◌, arith, inl, inr}
 use Rattle.std.proofs.Common.{add-one, drop-cons}
-use Rattle.std.specs.Prelude.{IfOk}
 use Rattle.std.proofs.Math.Seq.{take-add}
 use Rattle.std.proofs.lemmas.Bool.Decides.{nat_tests}
 use Rattle.std.proofs.lemmas.List.{drop-drop, length-drop, get_or-drop}
 use Rattle.syntax_lexer.specs.declared.bytes.Base.{Base}
 use Rattle.syntax_lexer.specs.declared.bytes.Base.TheVariants as bases
+use Rattle.syntax_lexer.specs.declared.fault.LexicalFault.{LexicalFault}
+use Rattle.syntax_lexer.specs.declared.fault.PlacedFault.{PlacedFault}
 use Rattle.syntax_lexer.specs.declared.token.Sign.{Sign}
 use Rattle.syntax_lexer.specs.declared.token.Sign.TheVariants as s
 use Rattle.syntax_lexer.specs.Bytes.{is_letter, is_name_byte, is_text_byte, is_word_byte, is_character, is_divider}
@@ -17,11 +18,12 @@ use Rattle.syntax_lexer.specs.Token.{Lexeme, name, number, text, character, dict
 use Rattle.syntax_lexer.specs.Token.{position_of}
 use Rattle.syntax_lexer.specs.Spelling.{sign_spelling, prefix, IsPlainWord, Spells}
 use Rattle.syntax_lexer.specs.Tokens.{IsLongest, SourceToken, put, line_after, TokenOutcome, Lexes, at_end, divider}
-use Rattle.syntax_lexer.specs.Tokens.{comment, token, fault}
+use Rattle.syntax_lexer.specs.Tokens.{number_of, comment, token, fault}
 use Rattle.syntax_lexer.specs.Placed.{line_behind, line_at, IsInLine}
 use Rattle.syntax_lexer.proofs.Beginnings.{begins, takes, divider_class, class_of}
 use Rattle.syntax_lexer.proofs.Longest.{run_each}
 use Rattle.syntax_lexer.proofs.Runs.{run_within}
+use Rattle.syntax_lexer.proofs.Unique.{fault_begins}
 use Rattle.syntax_lexer.proofs.WordTables.{reserved_each}
 
 -- ---- bytes of tokens
@@ -215,15 +217,27 @@ AllInLine source [] = Unit {0}
 AllInLine source (t ∷ ts) = IsInLine source (position_of t.lexeme).line (position_of t.lexeme).offset
     × AllInLine source ts
 
-put_in : (source spelled : List ℕ) (x : Lexeme) (n : ℕ) (o : TokenOutcome)
-    → IsInLine source (position_of x).line (position_of x).offset → IfOk o (AllInLine source)
-    → IfOk (put (record { lexeme = x; text = spelled; end = n }) o) (AllInLine source)
-put_in source spelled x n (Ok ts) h rest = (h, rest)
-put_in source spelled x n (Err e) h rest = tt
+-- a fault of tokens stands in its line
+pub record IsFaultIn (source : List ℕ) (f : PlacedFault) : Type 0 where
+  pub at : ℕ
+  pub offset : f.offset ≡ Some at
+  pub in_line : IsInLine source f.fault.line at
+  pub broken : LexicalFault
+  pub number : f.fault.number ≡ number_of broken
 
--- each token of bytes that stand at an offset of a source
+abbrev OutcomeInLine : List ℕ → TokenOutcome → Type 0
+OutcomeInLine source (Ok ts) = AllInLine source ts
+OutcomeInLine source (Err f) = IsFaultIn source f
+
+put_in : (source spelled : List ℕ) (x : Lexeme) (n : ℕ) (o : TokenOutcome)
+    → IsInLine source (position_of x).line (position_of x).offset → OutcomeInLine source o
+    → OutcomeInLine source (put (record { lexeme = x; text = spelled; end = n }) o)
+put_in source spelled x n (Ok ts) h rest = (h, rest)
+put_in source spelled x n (Err e) h rest = rest
+
+-- each token of bytes that stand at an offset of a source, and the fault
 lexed_in : (source : List ℕ) {at line : ℕ} {bs : List ℕ} {o : TokenOutcome} → Lexes at line bs o → bs ≡ drop at source
-    → at ≤ length source → line_at source at ≡ line → IfOk o (AllInLine source)
+    → at ≤ length source → line_at source at ≡ line → OutcomeInLine source o
 lexed_in source (at_end {at = at} {line = line}) e le there = (
   record {
     within = le;
@@ -257,8 +271,22 @@ lexed_in source (token {at = at} {line = line} {n = n} {bs = bs} {lexeme = x} {o
     (lexed_in source h (ap (drop n) e ∙ drop-drop n at source)
     (omega (arith, long.within, ap length e, length-drop at source))
     (line_behind_token source at n x (subst (λ xs. IsLongest xs x n) e long) ∙ there))
-lexed_in source (fault g b) e le there = tt
+lexed_in source (fault {at = at} {line = line} {bs = bs} g b) e le there = record {
+  at = at;
+  offset = refl;
+  in_line = record {
+    within = le;
+    in_line = there;
+    divides_none = λ lt. ap is_divider (sym (byte_is source at bs e)) ∙ fault_begins bs g b;
+  };
+  broken = g;
+  number = refl;
+}
 
 -- each token of a source
 pub tokens_in_line : (source : List ℕ) (ts : List SourceToken) → Lexes 0 1 source (Ok ts) → AllInLine source ts
 tokens_in_line source ts h = lexed_in source h refl (omega arith) refl
+
+-- the first fault of a source
+pub fault_in_line : (source : List ℕ) (f : PlacedFault) → Lexes 0 1 source (Err f) → IsFaultIn source f
+fault_in_line source f h = lexed_in source h refl (omega arith) refl

@@ -1,11 +1,10 @@
 -- One turn of the loop over a source.
 use Rattle.std.proofs.Common.{◌≡◌, ℕ, ◌+◌, ◌<◌, ◌≤◌, ◌⊎◌, true, List, [], ◌∷◌, ◌++◌, length, get_or, take, drop, Result}
-use Rattle.std.proofs.Common.{Ok, Err, refl, sym, ap, subst, ◌∙◌, arith, drop-cons, add-one, inl, inr, map}
+use Rattle.std.proofs.Common.{Some, Ok, Err, refl, sym, ap, subst, ◌∙◌, arith, drop-cons, add-one, inl, inr, map}
 use Rattle.std.specs.Global.{Vec}
 use Rattle.std.specs.Prelude.{IfOk}
 use Rattle.std.proofs.lemmas.List.{drop-drop, length-drop, length-take, nil_from_length}
 use Rattle.syntax_lexer.specs.declared.fault.LexicalFault.{LexicalFault}
-use Rattle.syntax_lexer.specs.declared.fault.SourceFault.{SourceFault}
 use Rattle.syntax_lexer.specs.declared.fault.PlacedFault.{PlacedFault}
 use Rattle.syntax_lexer.specs.FaultNumbers.{no_memory}
 use Rattle.syntax_lexer.specs.Placed.{nowhere}
@@ -35,17 +34,22 @@ pub puts_last : (ts : List Token) (t : Token) → puts ts (Ok (source_token t �
 puts_last [] t = refl
 puts_last (x ∷ ts) t = ap (put (source_token x)) (puts_last ts t)
 
-pub puts_err : (ts : List Token) (e : SourceFault) → puts ts (Err e) ≡ Err e
+pub puts_err : (ts : List Token) (e : PlacedFault) → puts ts (Err e) ≡ Err e
 puts_err [] e = refl
 puts_err (t ∷ ts) e = rw (puts_err ts e) refl
 
-pub meets_either : (r : Result (Vec Token) SourceFault) (P : TokenOutcome → Type 0) (x e : SourceFault) → r ≡ Err x
-    → x ≡ e → (e ≡ no_memory) ⊎ P (Err e) → Meets r P
-meets_either r P x e er ex h = rw er (subst (λ y. (y ≡ no_memory) ⊎ P (Err y)) (sym ex) h)
+pub meets_either : (r : Result (Vec Token) PlacedFault) (P : TokenOutcome → Type 0) (x e : PlacedFault) → r ≡ Err x
+    → x ≡ e → (e ≡ nowhere no_memory) ⊎ P (Err e) → Meets r P
+meets_either r P x e er ex h = rw er (subst (λ y. (y ≡ nowhere no_memory) ⊎ P (Err y)) (sym ex) h)
 
-pub either_whole : {A B : Type 0} (e : PlacedFault) → (e ≡ nowhere no_memory) ⊎ A → (A → B) → (e.fault ≡ no_memory) ⊎ B
-either_whole e (inl q) f = inl (ap (λ (x : PlacedFault). x.fault) q)
-either_whole e (inr a) f = inr (f a)
+pub either_whole : {A B C : Type 0} → A ⊎ B → (B → C) → A ⊎ C
+either_whole (inl q) f = inl q
+either_whole (inr a) f = inr (f a)
+
+pub meets_unplaced : (P : TokenOutcome → Type 0) (e : PlacedFault) → (e ≡ nowhere no_memory) ⊎ P (Err e)
+    → (e.fault ≡ no_memory) ⊎ ((p : PlacedFault) × (p.fault ≡ e.fault) × P (Err p))
+meets_unplaced P e (inl q) = inl (ap (λ (x : PlacedFault). x.fault) q)
+meets_unplaced P e (inr h) = inr (e, refl, h)
 
 here : (bs : List ℕ) (at : ℕ) → at < length bs → drop at bs ≡ get_or bs at 0 ∷ drop (at + 1) bs
 here bs at lt = rw (add-one at) (drop-cons bs at 0 lt)
@@ -125,9 +129,10 @@ token_first bs rest s p kind n er et scanned o h =
 
 pub fault_first : (bs rest : List ℕ) (p : Position) (g : LexicalFault) (n : ℕ) → rest ≡ drop p.offset bs
     → n ≡ number_of g → Breaks g rest → Lexes p.offset p.line (drop p.offset bs)
-    (Err (record { number = n; line = p.line }))
+    (Err (record { fault = record { number = n; line = p.line }; offset = Some p.offset }))
 fault_first bs rest p g n er en b = subst
-    (λ k. Lexes p.offset p.line (drop p.offset bs) (Err (record { number = k; line = p.line }))) (sym en)
+    (λ k. Lexes p.offset p.line (drop p.offset bs)
+    (Err (record { fault = record { number = k; line = p.line }; offset = Some p.offset }))) (sym en)
     (fault g (subst (Breaks g) er b))
 
 -- ---- the end of the source is the last token alone

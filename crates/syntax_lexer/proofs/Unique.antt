@@ -1,6 +1,6 @@
 -- The bytes have one outcome.
 use Rattle.std.proofs.Common.{◌≡◌, ℕ, zero, suc, ◌+◌, ◌<◌, ◌≤◌, ◌⊎◌, Bool, true, false, List, [], ◌∷◌, ◌++◌, length}
-use Rattle.std.proofs.Common.{get_or, take, drop, Err, refl, sym, ap, subst, ◌∙◌, arith, inl, inr}
+use Rattle.std.proofs.Common.{get_or, take, drop, Some, Err, refl, sym, ap, subst, ◌∙◌, arith, inl, inr}
 use lib.Chars.{codes}
 use Rattle.std.proofs.Math.Seq.{drop-append_seam, take-length}
 use Rattle.std.proofs.lemmas.Bool.{cases_order, eqb-false}
@@ -159,6 +159,15 @@ fault_some f.BadText h = h
 fault_some f.BadNumber h = elim h [ inl e ↦ cc (e.0) | inr e ↦ omega (arith, some_byte [] (number e.0 e.2) e.1 e.3) ]
 fault_some f.NameTooLong h = omega (arith, some_byte [] (name h.0 h.2) h.1 h.3)
 
+-- a fault stands at a byte that divides no tokens
+pub fault_begins : (bs : List ℕ) (g : LexicalFault) → Breaks g bs → is_divider (get_or bs 0 0) ≡ false
+fault_begins [] g h = absurd (fault_some g h)
+fault_begins (b ∷ bs) g h = go (is_divider b) refl
+  where
+    go : (t : Bool) → is_divider b ≡ t → is_divider b ≡ false
+    go false q = q
+    go true q = absurd ((fault_apart b bs g h).0 q)
+
 number_moved : (bs : List ℕ) (v n : ℕ) (p q : Position) → IsLongest bs (number v p) n → IsLongest bs (number v q) n
 number_moved bs v n p q h = record { within = h.within; spelled = h.spelled; no_longer = h.no_longer }
 
@@ -290,4 +299,5 @@ one_outcome (fault g p) (comment {b = b} {bs = bs} e2 h2) = absurd ((fault_apart
 one_outcome (fault g p) (token {n = n} {bs = bs} {lexeme = x} place p2 good2 h2) = absurd
     (no_break_at bs x n g p2 good2 p)
 one_outcome (fault {at = at} {line = line} {bs = bs} g p) (fault h p2) = ap
-    (λ k. Err (record { number = number_of k; line = line })) (same_fault bs g h p p2)
+    (λ k. Err (record { fault = record { number = number_of k; line = line }; offset = Some at }))
+    (same_fault bs g h p p2)

@@ -1,11 +1,10 @@
 -- Faults with their places.
-use Rattle.std.specs.Prelude.{◌≡◌, ◌≤◌, ◌<◌, ℕ, false, List, [], ◌∷◌, length, take, drop, slice_index, Some, None}
+use Rattle.std.specs.Prelude.{◌≡◌, ◌≤◌, ◌<◌, ℕ, false, List, [], ◌∷◌, length, take, slice_index, Some, None}
 use Rattle.std.specs.Prelude.{Result, Ok, Err}
 use Rattle.syntax_lexer.specs.declared.fault.SourceFault.{SourceFault}
-use Rattle.syntax_lexer.specs.declared.fault.LexicalFault.{LexicalFault}
 use Rattle.syntax_lexer.specs.declared.fault.PlacedFault.{PlacedFault}
 use Rattle.syntax_lexer.specs.Bytes.{is_divider}
-use Rattle.syntax_lexer.specs.Tokens.{Breaks, number_of, line_after}
+use Rattle.syntax_lexer.specs.Tokens.{line_after}
 
 -- a fault of which no place is named
 abbrev pub nowhere : SourceFault → PlacedFault
@@ -33,9 +32,3 @@ pub record IsInLine (source : List ℕ) (line offset : ℕ) : Type 0 where
   pub within : offset ≤ length source
   pub in_line : line_at source offset ≡ line
   pub divides_none : offset < length source → is_divider (slice_index source offset) ≡ false
-
--- the bytes from the offset on, in the line of the fault, break its rule
-abbrev pub IsFaultIn : List ℕ → PlacedFault → Type 0
-IsFaultIn source p =
-    (at : ℕ) × (p.offset ≡ Some at) × IsInLine source p.fault.line at
-    × (broken : LexicalFault) × (p.fault.number ≡ number_of broken) × Breaks broken (drop at source)

@@ -1,9 +1,9 @@
 -- The tokens of a source, or its first fault.
 use Rattle.std.specs.Prelude.{◌≡◌, ◌==◌, ◌≤◌, ◌<◌, ◌+◌, ℕ, true, false, if◌then◌else◌, List, [], ◌∷◌, length, take}
-use Rattle.std.specs.Prelude.{drop, slice_index, Result, Ok, Err, ◌⊎◌}
+use Rattle.std.specs.Prelude.{drop, slice_index, Some, Result, Ok, Err, ◌⊎◌}
 use Rattle.syntax_lexer.specs.declared.fault.LexicalFault.{LexicalFault}
 use Rattle.syntax_lexer.specs.declared.fault.LexicalFault.TheVariants as f
-use Rattle.syntax_lexer.specs.declared.fault.SourceFault.{SourceFault}
+use Rattle.syntax_lexer.specs.declared.fault.PlacedFault.{PlacedFault}
 use Rattle.syntax_lexer.specs.declared.token.Position.{Position}
 use Rattle.syntax_lexer.specs.FaultNumbers as fault_numbers
 use Rattle.syntax_lexer.specs.Bytes.{is_name_byte, is_divider, is_comment_byte, run}
@@ -60,7 +60,7 @@ pub record SourceToken : Type 0 where
   pub end : ℕ
 
 abbrev pub TokenOutcome : Type 0
-TokenOutcome = Result (List SourceToken) SourceFault
+TokenOutcome = Result (List SourceToken) PlacedFault
 
 abbrev pub put : SourceToken → TokenOutcome → TokenOutcome
 put t (Ok ts) = Ok (t ∷ ts)
@@ -69,7 +69,8 @@ put t (Err e) = Err e
 abbrev pub line_after : ℕ → ℕ → ℕ
 line_after line b = if b == 10 then line + 1 else line
 
--- What the bytes from an offset on are, in a line: their tokens and the end of the source, or the first fault.
+-- What the bytes from an offset on are, in a line: their tokens and the end of the source, or the first fault, whose place
+-- is the first byte of what breaks the rule: the byte itself, the opening quote, or the first byte of the number or name.
 -- A comment ends before a line feed, before a byte that may stand in no source, or with the source.
 pub data Lexes : ℕ → ℕ → List ℕ → TokenOutcome → Type 0 where
   at_end : {at line : ℕ}
@@ -84,7 +85,8 @@ pub data Lexes : ℕ → ℕ → List ℕ → TokenOutcome → Type 0 where
       → IsLongest bs lexeme n → IsAllowed lexeme (drop n bs) → Lexes (at + n) line (drop n bs) o
       → Lexes at line bs (put (record { lexeme = lexeme; text = take n bs; end = at + n }) o)
   fault : {at line : ℕ} {bs : List ℕ} (broken : LexicalFault) → Breaks broken bs
-      → Lexes at line bs (Err (record { number = number_of broken; line = line }))
+      → Lexes at line bs
+      (Err (record { fault = record { number = number_of broken; line = line }; offset = Some at }))
 
 -- the same of a source, whose bytes before the offset are left out
 abbrev pub LexesFrom : ℕ → ℕ → List ℕ → TokenOutcome → Type 0

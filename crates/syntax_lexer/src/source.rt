@@ -3,11 +3,11 @@
 ghost use Rattle.std.specs.Prelude.{◌≡◌, ◌≤◌, ◌+◌, ◌-◌, ◌<◌, ◌==◌, ◌⊎◌, length, slice_index, List, [], ℕ, Err, false};
 ghost use Rattle.std.specs.Prelude.{IfOk, IfErr};
 ghost use Rattle.syntax_lexer.specs.FaultNumbers.{no_memory};
-ghost use Rattle.syntax_lexer.specs.Placed.{unplaced, nowhere, line_at, IsFaultIn};
+ghost use Rattle.syntax_lexer.specs.Placed.{nowhere};
 ghost use Rattle.syntax_lexer.specs.Bytes.{is_divider};
 ghost use Rattle.syntax_lexer.specs.Token.{Lexeme, lexemes};
 ghost use Rattle.syntax_lexer.specs.Tokens.{BeginsWith, Lexes, LexesFrom, line_after, EndsOnce, TokenOutcome};
-ghost use Rattle.syntax_lexer.specs.Results.{Meets};
+ghost use Rattle.syntax_lexer.specs.Results.{Meets, MeetsUnplaced};
 ghost use Rattle.syntax_lexer.specs.Fronts.{PutsToken};
 
 use crate::bytes::{Class, from, front, is_divider, run_length};
@@ -34,14 +34,11 @@ fn put_token<'a>(
     requires within { position.offset < length source.now }
     requires no_divider { is_divider (slice_index source.now position.offset) ≡ false }
     requires no_comment { (slice_index source.now position.offset == 33) ≡ false }
-    requires in_line { line_at source.now position.offset ≡ position.line }
     ensures puts { IfOk result
         (PutsToken source.now position tokens.old.items tokens.new.items) }
     ensures moves { IfOk result (λ n. (position.offset < n) × (n ≤ length source.now)) }
-    ensures in_line { IfOk result (λ n. line_at source.now n ≡ position.line) }
     ensures broken { IfErr result (λ e. (e ≡ nowhere no_memory)
-        ⊎ LexesFrom position.offset position.line source.now (Err e.fault)) }
-    ensures stands { IfErr result (λ e. (e ≡ nowhere no_memory) ⊎ IsFaultIn source.now e) }
+        ⊎ LexesFrom position.offset position.line source.now (Err e)) }
 {
     let rest = from(source, position.offset);
     match scan(rest) {
@@ -89,7 +86,7 @@ fn no_tokens<'a>(alloc: Global, bytes: usize) -> Vec<Token<'a>>
 ///   place.
 /// - E99, with line 0: a growth of memory is refused.
 pub fn lex<'a>(alloc: Global, source: &'a [u8]) -> Result<Vec<Token<'a>>, SourceFault>
-    ensures meets { Meets result (λ o. Lexes 0 1 source.now o) }
+    ensures meets { MeetsUnplaced result (λ o. Lexes 0 1 source.now o) }
     ensures ends_once { IfOk result (λ v. EndsOnce (lexemes v.items)) }
 {
     match lex_placed(alloc, source) {
@@ -102,12 +99,11 @@ pub fn lex<'a>(alloc: Global, source: &'a [u8]) -> Result<Vec<Token<'a>>, Source
 ///
 /// # Errors
 ///
-/// Those of [`lex`]. The offset is that of the byte at which the rule of tokens is broken; E99 has
-/// none.
+/// Those of [`lex`]. The offset is that of the stray byte, of the opening quote, or of the first byte
+/// of the number or name; E99 has none.
 pub fn lex_placed<'a>(alloc: Global, source: &'a [u8]) -> Result<Vec<Token<'a>>, PlacedFault>
-    ensures meets { Meets (unplaced result) (λ o. Lexes 0 1 source.now o) }
+    ensures meets { Meets result (λ o. Lexes 0 1 source.now o) }
     ensures ends_once { IfOk result (λ v. EndsOnce (lexemes v.items)) }
-    ensures stands { IfErr result (λ e. (e ≡ nowhere no_memory) ⊎ IsFaultIn source.now e) }
 {
     let mut tokens = no_tokens(alloc, source.len());
     let mut offset = 0;

@@ -15,7 +15,7 @@ use Rattle.syntax_token_machine.proofs.Frames.{compare_left, logic_left, assign_
 use Rattle.syntax_token_machine.proofs.Frames.{need}
 use Rattle.syntax_token_machine.proofs.Frames.{cases_left}
 use Rattle.syntax_token_machine.proofs.Frames.{Stack, given}
-use Rattle.syntax_token_machine.proofs.Frames.{or_else, under, less, on_word, on_atom, on_primary, on_unary}
+use Rattle.syntax_token_machine.proofs.Frames.{or_else, less, on_word, on_atom, on_primary, on_unary}
 use Rattle.syntax_token_machine.proofs.Frames.{on_unindexed}
 use Rattle.syntax_token_machine.proofs.Frames.{on_indexed, on_complement, on_product, on_sum, on_comparison}
 use Rattle.syntax_token_machine.proofs.Frames.{on_negation, on_condition, on_expression, on_arguments}
@@ -74,11 +74,6 @@ by_given None x y j e on off = off e
 pub by_else : (x y : Option Stack) (j : Stack) → or_else x y ≡ Some j → (x ≡ Some j → Fit j) → (y ≡ Some j → Fit j) → Fit j
 by_else (Some k) y j e on off = on e
 by_else None y j e on off = off e
-
-by_under : (f : Frame) (x : Option Stack) (j : Stack) → under f x ≡ Some j
-    → ((k : Stack) → x ≡ Some k → Fits false (f ∷ k)) → Fit j
-by_under f None j e h = absurd cc
-by_under f (Some k) j e h = to (f ∷ k) j e (h k refl)
 
 pub nothing : (j : Stack) → None ≡ Some j → Fit j
 nothing j e = absurd cc

@@ -1,25 +1,18 @@
-use Rattle.std.proofs.Common.{◌≡◌, ◌+◌, ◌⊎◌, ◌∷◌, get_or, length, drop, [], Ok, Err, sym, ap, subst, ◌∙◌, arith}
+use Rattle.std.proofs.Common.{◌+◌, ◌∷◌, length, drop, [], Ok, Err, sym, ap, subst, ◌∙◌, arith}
 use Rattle.std.proofs.lemmas.List.{length-drop}
 use Rattle.std.proofs.lemmas.Result.{err_from_is_err_and}
 use Rattle.syntax_lexer.specs.Bytes.{run, is_comment_byte}
 use Rattle.syntax_lexer.specs.Token.{end}
-use Rattle.syntax_lexer.specs.Tokens.{Lexes, put, EndsOnce, line_after}
+use Rattle.syntax_lexer.specs.Tokens.{Lexes, put, EndsOnce}
 use Rattle.syntax_lexer.specs.Results.{source_token, source_tokens}
-use Rattle.syntax_lexer.specs.declared.fault.PlacedFault.{PlacedFault}
-use Rattle.syntax_lexer.specs.FaultNumbers.{no_memory}
-use Rattle.syntax_lexer.specs.Placed.{unplaced, nowhere, IsFaultIn}
 use Rattle.syntax_lexer.proofs.Loop.{puts, puts_push, puts_last, puts_err, meets_either, at_divider}
 use Rattle.syntax_lexer.proofs.Loop.{either_whole, at_comment, at_the_end, ends_once, lexemes_are}
-use Rattle.syntax_lexer.proofs.Lines.{line_next, line_behind_comment}
 use Rattle.syntax_lexer.proofs.source.lex_placed.Goals as goal
 
 pub loop-offset-preserved-then-is_divider : goal.loop-offset-preserved-then-is_divider
 loop-offset-preserved-then-is_divider c = record {
   within = omega arith;
   lines = omega (arith, c.next_line-line.ensures.grows);
-  in_line = line_next c.args.source.now c.loop-offset.offset c.loop-offset-test.true
-      ∙ ap (λ n. line_after n (get_or c.args.source.now c.loop-offset.offset 0)) c.loop-offset.invariant.in_line
-      ∙ sym c.next_line-line.ensures.value;
   rest = λ o h. c.loop-offset.invariant.rest o
       (at_divider c.args.source.now c.loop-offset.offset c.loop-offset.line o c.loop-offset-test.true
       (sym c.is_divider.ensures ∙ c.if-is_divider.true)
@@ -37,9 +30,6 @@ loop-offset-preserved-then-first-eq33 c = record {
         c.args.source.now,
   );
   lines = omega arith;
-  in_line = line_behind_comment c.args.source.now c.loop-offset.offset c.run_length.result c.loop-offset-test.true
-      c.if-first-eq33.true (c.run_length.ensures.value ∙ ap (run is_comment_byte) c.from.ensures)
-      ∙ c.loop-offset.invariant.in_line;
   rest = λ o h. c.loop-offset.invariant.rest o
       (at_comment c.args.source.now c.loop-offset.offset c.loop-offset.line c.run_length.result o
       c.loop-offset-test.true c.if-first-eq33.true
@@ -50,17 +40,10 @@ pub returns-in_err-next-clause-meets : goal.returns-in_err-next-clause-meets
 returns-in_err-next-clause-meets c =
     let p = err_from_is_err_and c.from_residual.result c.from_residual.ensures.1 in
     let e = c.in_err-next.field-0.0 in
-    meets_either (unplaced c.from_residual.result) (λ o. Lexes 0 1 c.args.source.now o) p.0.fault e.fault
-    (ap unplaced p.1) (ap (λ (x : PlacedFault). x.fault) p.2)
-    (either_whole e c.in_err-next.ensures.broken
-    (λ h. subst (Lexes 0 1 c.args.source.now) (puts_err c.loop-offset.tokens.items e.fault)
-    (c.loop-offset.invariant.rest (Err e.fault) h)))
-
-pub returns-in_err-next-clause-stands : goal.returns-in_err-next-clause-stands
-returns-in_err-next-clause-stands c =
-    let p = err_from_is_err_and c.from_residual.result c.from_residual.ensures.1 in
-    rw p.1
-    (subst (λ y. (y ≡ nowhere no_memory) ⊎ IsFaultIn c.args.source.now y) (sym p.2) c.in_err-next.ensures.stands)
+    meets_either c.from_residual.result (λ o. Lexes 0 1 c.args.source.now o) p.0 e p.1 p.2
+    (either_whole c.in_err-next.ensures.broken
+    (λ h. subst (Lexes 0 1 c.args.source.now) (puts_err c.loop-offset.tokens.items e)
+    (c.loop-offset.invariant.rest (Err e) h)))
 
 pub loop-offset-preserved : goal.loop-offset-preserved
 loop-offset-preserved c =
@@ -68,7 +51,6 @@ loop-offset-preserved c =
     record {
       within = c.in_ok-next.ensures.moves.1;
       lines = omega (arith, c.in_ok-next.ensures.moves);
-      in_line = c.in_ok-next.ensures.in_line;
       rest = λ o h. subst (λ ts. Lexes 0 1 c.args.source.now (puts ts o)) (sym q.1)
           (subst (Lexes 0 1 c.args.source.now) (sym (puts_push c.loop-offset.tokens.items q.0 o))
           (c.loop-offset.invariant.rest (put (source_token q.0) o) (q.2 o h)));

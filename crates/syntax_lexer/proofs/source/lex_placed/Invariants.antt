@@ -1,6 +1,5 @@
-use Rattle.std.proofs.Common.{◌≡◌, ◌+◌, ◌-◌, ◌≤◌, length, drop}
+use Rattle.std.proofs.Common.{◌+◌, ◌-◌, ◌≤◌, length, drop}
 use Rattle.syntax_lexer.specs.Tokens.{Lexes, TokenOutcome}
-use Rattle.syntax_lexer.specs.Placed.{line_at}
 use Rattle.syntax_lexer.proofs.Loop.{puts}
 use Rattle.syntax_lexer.proofs.source.lex_placed.Given as goal
 
@@ -8,7 +7,6 @@ abbrev pub invariant-loop-offset : goal.invariant-loop-offset
 invariant-loop-offset l = record {
   within : l.offset ≤ length l.source;
   lines : l.line ≤ l.offset + 1;
-  in_line : line_at l.source l.offset ≡ l.line;
   rest : (o : TokenOutcome) → Lexes l.offset l.line (drop l.offset l.source) o
       → Lexes 0 1 l.source (puts l.tokens.items o);
 }
