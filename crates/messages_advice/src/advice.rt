@@ -1,6 +1,6 @@
 //! Advice, and the order in which it is sought.
 
-use crate::features::{meant_at, meant_by_comment, named_feature};
+use crate::features::{meant_at, meant_by_comment, meant_by_quote, named_feature};
 use crate::loops::{in_loop, late_in_for, misplaced_until};
 use crate::statements::{in_statement, no_statement};
 use crate::switches::{between_signs, in_switch_or_if};
@@ -39,7 +39,9 @@ pub fn advice_at(
     at: usize,
     wanted: Option<&Grouped>,
 ) -> Option<Advice> {
-    let general = meant_by_comment(source, tokens, at).or(written_as_comment(tokens, at));
+    let general = meant_by_comment(source, tokens, at)
+        .or(written_as_comment(tokens, at))
+        .or(meant_by_quote(tokens, at));
     if general.is_some() {
         return general;
     }

@@ -1,12 +1,14 @@
 //! Features of Inform 6 at a token that does not fit.
 
 use messages_contexts::{
-    Definition, around, before, begins_statement, ends_operand, is_after_word, is_name, is_sign,
-    is_text, is_unknown, kind_at,
+    Definition, around, before, begins_statement, ends_operand, is_after_apostrophe, is_after_word,
+    is_name, is_sign, is_text, is_unknown, kind_at,
 };
 use messages_definitions::{Advice, joins_equals, pair_at};
 use messages_expected::Grouped;
-use messages_features::{CONSTANT_EXPRESSIONS, INEQUALITY, LABELS, NEGATION, OTHER_VALUES, named};
+use messages_features::{
+    APOSTROPHES, CONSTANT_EXPRESSIONS, INEQUALITY, LABELS, NEGATION, OTHER_VALUES, named,
+};
 use syntax_lexer::{Kind, Sign, Token, Word};
 
 /// The feature that the token of a number names, if it begins a statement or a directive and no
@@ -89,6 +91,15 @@ pub fn meant_by_comment(source: &[u8], tokens: &[Token<'_>], number: usize) -> O
     }
     if is_negation(bytes) && is_before_operand(tokens, last) {
         Some(Advice::Absent("'!' as an operator", NEGATION))
+    } else {
+        None
+    }
+}
+
+/// The apostrophe that may be meant by the quote before the token of a number.
+pub fn meant_by_quote(tokens: &[Token<'_>], number: usize) -> Option<Advice> {
+    if is_after_apostrophe(tokens, number) {
+        Some(Advice::Absent("an apostrophe in a word", APOSTROPHES))
     } else {
         None
     }

@@ -20,8 +20,8 @@ pub use operands::{begins_expression, ends_operand, is_step, owns_parentheses};
 pub use spelling::{MOST_EDITS, in_small_letters, is_near};
 pub use statements::{
     begins_line, closes_after, closes_after_any, definition_of, has_word_before, has_word_within,
-    is_in_parentheses_of, is_in_routine, is_joined, last_open, last_word, open_parenthesis,
-    start_of, switch_around,
+    is_after_apostrophe, is_in_parentheses_of, is_in_routine, is_joined, last_open, last_word,
+    open_parenthesis, start_of, switch_around,
 };
 pub use tokens::{
     before, begins_statement, behind, divides_at, ends_within, is_after_word, is_any_named,

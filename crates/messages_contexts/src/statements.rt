@@ -2,8 +2,10 @@
 //! place begin a program.
 
 use crate::definitions::{Definition, begun_at};
-use crate::tokens::{before, behind, divides_at, is_any_word, is_sign, is_word, line_of};
-use syntax_lexer::{Sign, Token, Word};
+use crate::tokens::{
+    before, behind, divides_at, is_any_word, is_name, is_sign, is_word, kind_at, line_of,
+};
+use syntax_lexer::{Kind, Sign, Token, Word};
 
 /// The number of the first token of the statement or definition in which the token of a number is:
 /// the one after the nearest `;`, `{` or `}` before it.
@@ -152,4 +154,14 @@ pub fn is_joined(tokens: &[Token<'_>], at: usize) -> bool {
         (Some(last), Some(token)) => last.end() == token.position.offset,
         _ => false,
     }
+}
+
+/// Whether the token of a number is a name that directly follows a word or a character in single
+/// quotes: the second quote may be meant as an apostrophe.
+pub fn is_after_apostrophe(tokens: &[Token<'_>], at: usize) -> bool {
+    let is_quoted = match kind_at(tokens, before(at, 1)) {
+        Kind::DictionaryWord(_) | Kind::Character(_) => true,
+        _ => false,
+    };
+    is_quoted && is_name(tokens, at) && is_joined(tokens, at)
 }

@@ -3,7 +3,7 @@
 use crate::advice::Advice;
 use crate::signs::joins_equals;
 use messages_contexts::{before, is_any_sign, is_name, is_named, is_text, kind_at};
-use messages_features::{ARRAY_VALUES, BUFFERS, CONSTANT_EXPRESSIONS};
+use messages_features::{ARRAY_EXPRESSIONS, ARRAY_VALUES, BUFFERS};
 use syntax_lexer::{Kind, Sign, Token};
 
 const KIND: &str = "write '->' for bytes or '-->' for words after the name, as in 'Array a -> 10;'";
@@ -35,7 +35,7 @@ fn sign_among_values(sign: Sign) -> Option<Advice> {
         )),
         other if joins_equals(other) => Some(Advice::Absent(
             "an expression in an array",
-            CONSTANT_EXPRESSIONS,
+            ARRAY_EXPRESSIONS,
         )),
         _ => None,
     }

@@ -1,12 +1,14 @@
 //! What is told within expressions.
 
 use messages_contexts::{
-    Definition, Known, before, begins_line, behind, closes_after_any, ends_operand, is_any_sign,
-    is_any_word, is_joined, is_name, is_named, is_routine, is_sign, is_text, is_word, kind_at,
-    known_as, open_parenthesis, start_of,
+    Definition, Known, before, begins_line, behind, closes_after_any, divides_at, ends_operand,
+    is_any_sign, is_any_word, is_in_parentheses_of, is_joined, is_name, is_named, is_routine,
+    is_sign, is_text, is_word, kind_at, known_as, open_parenthesis, start_of,
 };
 use messages_definitions::{Advice, first_of, joins_equals};
-use messages_features::{ADDRESSES, ALTERNATIVES, MESSAGES, NESTED_NEGATIONS};
+use messages_features::{
+    ADDRESSES, ALTERNATIVES, MESSAGES, NESTED_NEGATIONS, NO_PARENTS, PARENTS, PARENTS_IN_LOOP,
+};
 use syntax_lexer::{Kind, Sign, Token, Word};
 
 const WHOLE: &str = "numbers are whole: write no point";
@@ -359,6 +361,32 @@ fn text(tokens: &[Token<'_>], at: usize) -> Option<Advice> {
     }
 }
 
+/// The number of the last token before one that compares, tests or divides conditions or statements.
+fn last_test(tokens: &[Token<'_>], at: usize) -> usize {
+    for count in 0..at {
+        let number = before(at, count.saturating_add(1));
+        let is_between = is_any_sign(tokens, number, &[Sign::AndAlso, Sign::OrElse]);
+        if is_between || divides_at(tokens, number) || compares_at(tokens, number) {
+            return number;
+        }
+    }
+    usize::MAX
+}
+
+/// What is told of an `or` that does not fit, the token of a number.
+fn alternative(tokens: &[Token<'_>], at: usize) -> Advice {
+    let test = last_test(tokens, at);
+    if is_word(tokens, test, Word::Notin) {
+        Advice::Absent("'or' after 'notin'", NO_PARENTS)
+    } else if !is_word(tokens, test, Word::In) {
+        Advice::Absent("'or' except after '==' and '~='", ALTERNATIVES)
+    } else if is_in_parentheses_of(tokens, at, Word::Objectloop) {
+        Advice::Absent("'or' after the 'in' of a loop", PARENTS_IN_LOOP)
+    } else {
+        Advice::Absent("'or' after 'in'", PARENTS)
+    }
+}
+
 /// What is told of a token that does not fit in an expression.
 pub fn in_expression(tokens: &[Token<'_>], at: usize) -> Option<Advice> {
     let told = first_of(&[
@@ -376,7 +404,7 @@ pub fn in_expression(tokens: &[Token<'_>], at: usize) -> Option<Advice> {
     if is_any_sign(tokens, at, &[Sign::Arrow, Sign::LongArrow]) {
         arrow(tokens, at)
     } else if is_word(tokens, at, Word::Or) {
-        Some(Advice::Absent("'or' except after '==' and '~='", ALTERNATIVES))
+        Some(alternative(tokens, at))
     } else if compares_at(tokens, at) {
         chained(tokens, at).or(before_operand(tokens, at))
     } else {

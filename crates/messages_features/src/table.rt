@@ -41,16 +41,34 @@ pub const SETTINGS: &Feature = &Feature {
         "default",
         "version",
         "statusline",
-        "lowstring",
         "zcharacter",
-        "stub",
         "message",
         "link",
         "system_file",
         "trace",
-        "dictionary",
         "undef",
     ],
+};
+
+const STUBS: &Feature = &Feature {
+    missing: "`Stub F 2;`",
+    instead: "`[ F a b; rfalse; ];`, a routine that does nothing",
+    section: "",
+    names: &["stub"],
+};
+
+const LOW_STRINGS: &Feature = &Feature {
+    missing: "`Lowstring`",
+    instead: "a routine that prints the text, as in `[ T; print \"text\"; ];`",
+    section: "",
+    names: &["lowstring"],
+};
+
+const DICTIONARY_WORDS: &Feature = &Feature {
+    missing: "`Dictionary 'lamp';`",
+    instead: "the word in single quotes where you use it, as in `with name 'lamp'`",
+    section: "",
+    names: &["dictionary"],
 };
 
 /// `#` before a directive.
@@ -84,6 +102,14 @@ pub const BUFFERS: &Feature = &Feature {
     names: &[],
 };
 
+/// Computed sizes and entries of arrays.
+pub const ARRAY_EXPRESSIONS: &Feature = &Feature {
+    missing: "`Array a -> 4 * size;`",
+    instead: "one value, as in `Array a -> 12;`",
+    section: "",
+    names: &[],
+};
+
 /// What an array does not hold.
 pub const ARRAY_VALUES: &Feature = &Feature {
     missing: "texts, brackets and parentheses in arrays",
@@ -100,12 +126,18 @@ pub const OTHER_VALUES: &Feature = &Feature {
     names: &[],
 };
 
+const RANDOM_NUMBERS: &Feature = &Feature {
+    missing: "`random`",
+    instead: "a routine of your own, such as `Random` in examples/guess.inf",
+    section: "",
+    names: &["random"],
+};
+
 const FUNCTIONS: &Feature = &Feature {
-    missing: "`random`, `children`, `youngest`, `indirect`, `metaclass`",
+    missing: "`children`, `youngest`, `indirect`, `metaclass`",
     instead: "a routine of your own",
     section: "",
     names: &[
-        "random",
         "children",
         "youngest",
         "eldest",
@@ -155,6 +187,30 @@ pub const ALTERNATIVES: &Feature = &Feature {
     names: &[],
 };
 
+/// `or` after `in`.
+pub const PARENTS: &Feature = &Feature {
+    missing: "`x in a or b`",
+    instead: "`parent(x) == a or b`",
+    section: "",
+    names: &[],
+};
+
+/// `or` after `notin`.
+pub const NO_PARENTS: &Feature = &Feature {
+    missing: "`x notin a or b`",
+    instead: "`parent(x) ~= a or b`",
+    section: "",
+    names: &[],
+};
+
+/// `or` after the `in` of an `objectloop`.
+pub const PARENTS_IN_LOOP: &Feature = &Feature {
+    missing: "`objectloop (x in a or b)`",
+    instead: "`objectloop (x in a || x in b)`",
+    section: "",
+    names: &[],
+};
+
 /// Several expressions in one.
 pub const COMMAS: &Feature = &Feature {
     missing: "`for (i = 0, j = 9 : ..`",
@@ -176,6 +232,13 @@ pub const PRINT_FORMS: &Feature = &Feature {
     missing: "`print (name) x`, `print (The) x`, `print (string) x`, `print (Stars) 3`",
     instead: "`(object)` for a short name, `(char)` for a character, or a statement that calls, as `Stars(3);`",
     section: "Statements",
+    names: &[],
+};
+
+const TEXT_STATEMENTS: &Feature = &Feature {
+    missing: "`\"text\", x, \"b\";` as a statement",
+    instead: "`print_ret \"text\", x, \"b\";`",
+    section: "",
     names: &[],
 };
 
@@ -204,6 +267,14 @@ pub const ACCENTS: &Feature = &Feature {
 const CHARACTERS: &Feature = &Feature {
     missing: "`'^'`, `'~'`, `'''`, `'lamps//p'`",
     instead: "94, 126, 39, `'lamps'`",
+    section: "",
+    names: &[],
+};
+
+/// `'` within a dictionary word.
+pub const APOSTROPHES: &Feature = &Feature {
+    missing: "`'miner's'`, which Inform 6 lacks too",
+    instead: "`^` for it, as in `with name 'miner^s'`",
     section: "",
     names: &[],
 };
@@ -314,38 +385,62 @@ pub const ADDRESSES: &Feature = &Feature {
 };
 
 /// The features whose names are directives.
-pub(crate) const DIRECTIVES: [&Feature; 4] = [LIBRARY, CONDITIONS, SETTINGS, CLASSES];
-
-/// The features whose names are in expressions.
-pub(crate) const IN_EXPRESSIONS: [&Feature; 2] = [FUNCTIONS, MESSAGES];
-
-/// The features of directives and values. All features are in this list and the next four.
-pub(crate) const OF_DIRECTIVES: [&Feature; 9] = [
+pub(crate) const DIRECTIVES: [&Feature; 7] = [
     LIBRARY,
     CONDITIONS,
     SETTINGS,
+    STUBS,
+    LOW_STRINGS,
+    DICTIONARY_WORDS,
+    CLASSES,
+];
+
+/// The features whose names are in expressions.
+pub(crate) const IN_EXPRESSIONS: [&Feature; 3] = [RANDOM_NUMBERS, FUNCTIONS, MESSAGES];
+
+/// The features of directives and values. All features are in this list and the next four.
+pub(crate) const OF_DIRECTIVES: [&Feature; 13] = [
+    LIBRARY,
+    CONDITIONS,
+    SETTINGS,
+    STUBS,
+    LOW_STRINGS,
+    DICTIONARY_WORDS,
     DIRECTIVE_SIGN,
     MAIN_LOCALS,
     CONSTANT_EXPRESSIONS,
     BUFFERS,
+    ARRAY_EXPRESSIONS,
     ARRAY_VALUES,
     OTHER_VALUES,
 ];
 
 /// The features of expressions.
-pub(crate) const OF_EXPRESSIONS: [&Feature; 8] = [
+pub(crate) const OF_EXPRESSIONS: [&Feature; 12] = [
+    RANDOM_NUMBERS,
     FUNCTIONS,
     STEPS,
     ASSIGNING_OPERATORS,
     INEQUALITY,
     NEGATION,
     ALTERNATIVES,
+    PARENTS,
+    NO_PARENTS,
+    PARENTS_IN_LOOP,
     COMMAS,
     NESTED_NEGATIONS,
 ];
 
 /// The features of texts and of what is printed.
-pub(crate) const OF_TEXTS: [&Feature; 5] = [PRINT_FORMS, LONG_TEXTS, AT_SIGNS, ACCENTS, CHARACTERS];
+pub(crate) const OF_TEXTS: [&Feature; 7] = [
+    PRINT_FORMS,
+    TEXT_STATEMENTS,
+    LONG_TEXTS,
+    AT_SIGNS,
+    ACCENTS,
+    CHARACTERS,
+    APOSTROPHES,
+];
 
 /// The features of other statements.
 pub(crate) const OF_STATEMENTS: [&Feature; 7] = [

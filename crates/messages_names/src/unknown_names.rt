@@ -6,11 +6,11 @@ use crate::nearest::{nearest, nearest_main, nearest_word};
 use crate::wanted::{Wanted, wanted_in};
 use checker_names::{Binding, Table, find};
 use messages_contexts::{
-    Definition, around, begins_statement, behind, definition_of, first_definition, is_after_word,
-    is_name, is_sign, line_of, text_at,
+    Definition, around, begins_statement, behind, definition_of, first_definition,
+    is_after_apostrophe, is_after_word, is_name, is_sign, line_of, text_at,
 };
 use messages_features::{
-    Absent, CLASSES, Feature, habit_as_name, habit_at_beginning, habit_between, named,
+    APOSTROPHES, Absent, CLASSES, Feature, habit_as_name, habit_at_beginning, habit_between, named,
     named_in_expression,
 };
 use messages_tokens::{Counted, Figure, Quoted, some};
@@ -142,6 +142,9 @@ fn undefined(
     text: &[u8],
 ) -> Result<String, AllocError> {
     let name = Quoted(text);
+    if is_after_apostrophe(tokens, at) {
+        return format!(in alloc; "{}", Absent("an apostrophe in a word", APOSTROPHES));
+    }
     if let Some(instead) = instead_of_joint(tokens, at, text) {
         return format!(in alloc; "unknown name {name}: {instead}");
     }

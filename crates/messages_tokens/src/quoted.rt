@@ -2,7 +2,7 @@
 
 use crate::runs::{Class, byte_of_line, from, front, run_length};
 use crate::told::some;
-use messages_features::ACCENTS;
+use messages_features::{ACCENTS, APOSTROPHES, Absent};
 use std::alloc::{AllocError, Global};
 
 /// What is wrong with a text that is not closed, where so many quotes are before it in its line.
@@ -148,6 +148,34 @@ fn unclosed_word(before: &[u8]) -> &'static str {
     }
 }
 
+/// Whether a single quote is between two letters or digits in the last line of some bytes, and not
+/// in a text: as in `'miner's`.
+fn has_apostrophe(bytes: &[u8]) -> bool {
+    let mut is_in_text = false;
+    let mut is_found = false;
+    for at in 2..bytes.len() {
+        match bytes[at] {
+            b'\n' => {
+                is_in_text = false;
+                is_found = false;
+            }
+            b'"' => is_in_text = !is_in_text,
+            next => {
+                let is_between = bytes[at - 2].is_ascii_alphanumeric()
+                    && bytes[at - 1] == b'\''
+                    && next.is_ascii_alphanumeric();
+                is_found = is_found || is_between && !is_in_text;
+            }
+        }
+    }
+    is_found
+}
+
+/// What is wrong with a quote after an apostrophe in its line.
+fn after_apostrophe(alloc: Global) -> Result<Option<String>, AllocError> {
+    some(format!(in alloc; "{}", Absent("an apostrophe in a word", APOSTROPHES)))
+}
+
 /// What is wrong with a character or a word, from the byte after its quote on.
 fn character_or_word(
     alloc: Global,
@@ -156,6 +184,7 @@ fn character_or_word(
 ) -> Result<Option<String>, AllocError> {
     let length = run_length(Class::Quoted, rest);
     match byte_of_line(rest, length) {
+        None | Some(b'\'') if has_apostrophe(before) => after_apostrophe(alloc),
         None => said(alloc, unclosed_word(before)),
         Some(b'\'') if rest.starts_with(b"''") => {
             said(

@@ -1,6 +1,7 @@
 //! Warnings about a program: what is right by the rules, and is likely a mistake.
 #![tactic(auto)]
 
+mod bodies;
 mod calls;
 mod conditions;
 mod letters;

@@ -11,6 +11,12 @@ pub enum Concern {
     /// The `=` of a condition that is an assignment.
     Assigns,
 
+    /// The `;` that is all of an `if`.
+    EmptyIf,
+
+    /// The `;` that is all that a `while` repeats.
+    EmptyLoop,
+
     /// The name of a local that is never used, and the number of the token that names its routine.
     UnusedLocal(usize),
 

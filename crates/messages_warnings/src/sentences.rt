@@ -49,6 +49,15 @@ fn why_left(tokens: &[Token<'_>], at: usize) -> &'static str {
     }
 }
 
+/// What is said of a `;` after a condition.
+fn of_semicolon(concern: Concern) -> Option<&'static str> {
+    match concern {
+        Concern::EmptyIf => Some("';' ends this 'if' here: what follows is run in any case"),
+        Concern::EmptyLoop => Some("';' ends this 'while' here: what follows is no part of it"),
+        _ => None,
+    }
+}
+
 /// What is said before and after the name of which a warning is, if it needs nothing else.
 fn around_name(concern: Concern) -> Option<(&'static str, &'static str)> {
     match concern {
@@ -66,6 +75,9 @@ impl Display for Sentence<'_, '_> {
         let name = Quoted(text_at(self.tokens, at));
         if let Some((front, rest)) = around_name(self.warning.concern) {
             return write!(f, "{front}{name}{rest}");
+        }
+        if let Some(sentence) = of_semicolon(self.warning.concern) {
+            return f.write_str(sentence);
         }
         match self.warning.concern {
             Concern::UnusedLocal(routine) => {

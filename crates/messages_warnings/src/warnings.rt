@@ -3,6 +3,7 @@
 ghost use Rattle.std.specs.Prelude.{IfOk, length};
 ghost use Rattle.messages_warnings.specs.InOrder.{AreInOrder};
 
+use crate::bodies::mark_empty_bodies;
 use crate::calls::calls_of;
 use crate::conditions::mark_conditions;
 use crate::letters::{Context, Groups, take_definitions, take_routine};
@@ -60,6 +61,7 @@ fn marks_of(alloc: Global, tokens: &[Token<'_>]) -> Result<Marks, AllocError> {
     };
     mark_definitions(tokens, &uses, &mut marks);
     mark_conditions(tokens, &mut marks);
+    mark_empty_bodies(tokens, &mut marks);
     for routine in &routines {
         mark_unreached(tokens, *routine, &mut marks);
         mark_locals(*routine, &uses, &calls.most_arguments, &mut marks);
