@@ -8,7 +8,8 @@ CRATES = TOP / "crates"
 
 
 def faults_of(path):
-    """What is wrong with an edit: each text that it replaces stands once in its file, after the changes before."""
+    """What is wrong with an edit: each text that it replaces is once in its file, after the changes before, and there is
+    such a text."""
     texts, name, old = {}, None, None
     for line in path.read_text().splitlines():
         word, _, rest = line.partition(": ")
@@ -22,6 +23,8 @@ def faults_of(path):
             if times != 1:
                 yield f"{name} has {times} times: {old}"
             texts[name] = texts[name].replace(old, rest)
+    if old is None:
+        yield "it replaces nothing"
 
 
 def check_edits():

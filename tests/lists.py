@@ -8,6 +8,9 @@
 - in docs/PROVING.md the number of crates
 - in docs/DIFFERENCES.md the tables of what is missing and of words of other languages, by those of `messages_features`
 - in the README of `rows` how many rows its file `stdin` has, and each of its parts
+- in docs/READING.md the table of files and lines of the reading list
+- in docs/THEOREM.md and README.md the numbers of lines, of must-fail edits and of crates of the kit, and what proving
+  takes
 
 `./lists` writes them, and `tests/documents` fails where one is stale."""
 
@@ -18,6 +21,9 @@ from pathlib import Path
 TOP = Path(__file__).resolve().parent.parent
 COLUMNS = 100
 ROWS = "rows"
+# The programs of the repository that are installed.
+PROGRAMS = ("inform", "play")
+NUMBERS = ("no", "one", "two", "three", "four", "five", "six", "seven", "eight", "nine", "ten", "eleven", "twelve")
 
 
 class Crates:
@@ -25,7 +31,7 @@ class Crates:
 
     def __init__(self):
         text = (TOP / "crates.txt").read_text()
-        self.parts, self.part_of, self.libraries, self.all_below = {}, {}, {}, {}
+        self.parts, self.part_of, self.libraries, self.all_below, self.of_kit = {}, {}, {}, {}, {}
         for heading, name, libraries in re.findall(r"^(?:# (.*)|(\w+):(.*))$", text, re.M)[1:]:
             if heading:
                 self.parts[heading] = []
@@ -38,6 +44,7 @@ class Crates:
         self.parts[part].append(name)
         self.part_of[name] = part
         self.libraries[name] = [library for library in libraries if library in self.all_below]
+        self.of_kit[name] = [library for library in libraries if library not in self.all_below]
         below = [self.all_below[library] for library in self.libraries[name]]
         self.all_below[name] = set(self.libraries[name]).union(*below)
 
@@ -53,6 +60,14 @@ class Crates:
     def with_above(self, name):
         """A crate, and all that stand on it."""
         return [one for one in self.libraries if one == name or name in self.all_below[one]]
+
+    def of_programs(self):
+        """The programs that are installed, and the crates below them."""
+        return set(PROGRAMS).union(*(self.all_below[name] for name in PROGRAMS))
+
+    def kit_of_programs(self):
+        """The crates of the kit that they use."""
+        return sorted({library for name in self.of_programs() for library in self.of_kit[name]})
 
 
 def wrapped(text, later=""):
@@ -125,9 +140,91 @@ def with_seconds(text, crates):
     sums = [sum(column) for column in zip(*measured.values())]
     rows += [f"| all | {sums[0]} | {sum(map(edits_of, crates.libraries))} | {sums[1]} |", "", ""]
     text = between(text, "by ./lists. -->\n", "<!-- End", "\n".join(rows))
-    built = {"inform", "play"} | crates.all_below["inform"] | crates.all_below["play"]
-    total = sum(measured[name][0] for name in built & set(measured))
-    return re.sub(r"(need, )[\d,]+( seconds of these)", rf"\g<1>{total:,}\2", text)
+    return re.sub(r"(need, )[\d,]+( seconds of these)", rf"\g<1>{seconds_of_build(crates):,}\2", text)
+
+
+def seconds_of_build(crates):
+    """The seconds of what ./build proves."""
+    measured, _ = seconds_of()
+    return sum(measured[name][0] for name in crates.of_programs() & set(measured))
+
+
+def seconds_of_gate():
+    """The seconds of all proofs and edits."""
+    return sum(map(sum, seconds_of()[0].values()))
+
+
+def tens_of_minutes(seconds):
+    """Seconds as minutes, to the nearest ten."""
+    return 10 * round(seconds / 600)
+
+
+def own_lines(text, has_imports=True):
+    """How many lines of a file are not blank, with the imports of definitions or without them."""
+    lines = [line for line in text.splitlines() if line.strip()]
+    return sum(1 for line in lines if has_imports or not re.match(r"\s*(pub )?use ", line))
+
+
+def lines_of(text):
+    """How many lines a file has."""
+    return text.count("\n")
+
+
+def lines_in(folder, ending):
+    """How many lines that are not blank are in such a folder of all crates, to the nearest thousand."""
+    files = (TOP / "crates").glob(f"*/{folder}/**/*.{ending}")
+    return round(sum(own_lines(path.read_text()) for path in files), -3)
+
+
+def reading_list(text):
+    """The reading list of READING.md: the heading of each part, and the texts of its files."""
+    section = text.partition("\n## The reading list\n")[2].partition("\n## ")[0]
+    for part in section.split("\n### ")[1:]:
+        heading, _, rest = part.partition("\n")
+        names = re.findall(r"\(\.\./crates/(\w+/specs/\w+\.antt)\)", rest)
+        yield heading, [(TOP / "crates" / name).read_text() for name in names]
+
+
+def with_reading(text, crates):
+    """READING.md with the table of its list, and how much of it is read."""
+    parts = [(heading, len(texts), sum(map(lines_of, texts))) for heading, texts in reading_list(text)]
+    parts.append(("All", sum(part[1] for part in parts), sum(part[2] for part in parts)))
+    rows = [f"| {heading} | {files} | {lines:,} |" for heading, files, lines in parts]
+    text = between(text, "| Part of the list | Files | Lines |\n|---|---|---|\n", "\n\n", "\n".join(rows))
+    own = sum(own_lines(one, has_imports=False) for _, texts in reading_list(text) for one in texts)
+    return with_figures(text, (
+        (r"\n", f"{own:,}", " of these lines are neither blank nor imports"),
+        ("the contracts of the ", NUMBERS[len(crates.kit_of_programs())], " kit crates that the programs use"),
+    ))
+
+
+def with_figures(text, figures):
+    """A text with each of these figures between the words before it and those after it, which are there once."""
+    for before, figure, after in figures:
+        text, count = re.subn(rf"({before})[\w,]+({after})", rf"\g<1>{figure}\2", text)
+        if count != 1:
+            raise ValueError(f"these words are there {count} times: {before} .. {after}")
+    return text
+
+
+def figures_of_theorem(crates):
+    """The figures of THEOREM.md."""
+    read = [one for _, texts in reading_list((TOP / "docs/READING.md").read_text()) for one in texts]
+    yield "reading list, about ", f"{round(sum(map(lines_of, read)), -2):,}", " lines:"
+    yield r"\| Code with its contracts \| ", f"{lines_in('src', 'rt'):,}", r" \|"
+    yield "in the reading list: ", f"{round(sum(map(own_lines, read)), -3):,}", r"\) \| "
+    yield r"in the reading list: [\d,]+\) \| ", f"{lines_in('specs', 'antt'):,}", r" \|"
+    yield r"\| Proofs \| ", f"{lines_in('proofs', 'antt'):,}", r" \|"
+    yield "in about ", tens_of_minutes(seconds_of_gate()), " minutes of processor time"
+    yield "together with ", sum(map(edits_of, crates.libraries)), " edits of the\ncode"
+    yield "The contracts of the ", NUMBERS[len(crates.kit_of_programs())], " crates of the kit that the programs use"
+
+
+def figures_of_readme(crates):
+    """The figures of README.md."""
+    yield "a virtual machine in ", f"{lines_in('src', 'rt'):,}", " lines of Rust with contracts"
+    yield "bin/inform and bin/play: ", tens_of_minutes(seconds_of_build(crates)), " minutes of processor time"
+    yield "the contracts of ", NUMBERS[len(crates.kit_of_programs())], " of its library crates"
 
 
 def with_costs(text, crates):
@@ -211,6 +308,9 @@ def documents():
         ("docs/COSTS.md", with_seconds),
         ("docs/PROVING.md", with_number),
         ("docs/DIFFERENCES.md", with_features),
+        ("docs/READING.md", with_reading),
+        ("docs/THEOREM.md", lambda text, crates: with_figures(text, figures_of_theorem(crates))),
+        ("README.md", lambda text, crates: with_figures(text, figures_of_readme(crates))),
     ):
         now = (TOP / name).read_text()
         yield TOP / name, now, change(now, crates)
