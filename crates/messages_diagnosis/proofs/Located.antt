@@ -12,7 +12,7 @@ use Rattle.syntax_lexer.specs.declared.token.Position.{Position}
 use Rattle.syntax_lexer.specs.Placed.{IsInLine}
 use Rattle.syntax_lexer.specs.Token.{Lexeme, position_of}
 use Rattle.syntax_lexer.specs.Tokens.{SourceToken, Lexes, number_of}
-use Rattle.syntax_lexer.proofs.Lines.{AllInLine, tokens_in_line}
+use Rattle.syntax_lexer.proofs.Lines.{AllInLine, tokens_in_line, fault_in_line}
 use Rattle.checker_names.specs.declared.breach.Breach.{Breach}
 use Rattle.checker_names.specs.Breaches.{IsAmong}
 use Rattle.checker.specs.Programs.{program_breaches}
@@ -126,12 +126,14 @@ stands_at source f p here at placed = inr (record {
 
 told : (source : List ℕ) (f : PlacedFault) → Stands source f → IsTold source f
 told source f (nowhere u e) = inl (u, e)
-told source f (in_tokens h) = inr (record {
-  at = h.0;
-  offset = h.1;
-  in_line = h.2;
-  placed = not_token h.3 f.fault.number h.4;
-})
+told source f (in_tokens h) =
+    let stands = fault_in_line source f h in
+    inr (record {
+      at = stands.at;
+      offset = stands.offset;
+      in_line = stands.in_line;
+      placed = not_token stands.broken f.fault.number stands.number;
+    })
 told source f (not_in_grammar tokens lexed a ten) =
     stands_at source f (position_of a.token) (token_stands source tokens a.front a.token a.behind lexed a.is) a.stands
     (λ u. not_one_of f.fault.number 10 ten u (omega arith))

@@ -2,6 +2,7 @@
 use Rattle.std.proofs.Common.{◌≡◌, ◌⊎◌, inl, inr, ℕ, ◌<◌, List, [], ◌∷◌, Ok, Err, refl, sym, ap, subst}
 use Rattle.std.specs.Prelude.{◌++◌}
 use Rattle.zcore.specs.declared.header.Version.{Version}
+use Rattle.syntax_lexer.specs.declared.fault.PlacedFault.{PlacedFault}
 use Rattle.syntax_lexer.specs.declared.fault.SourceFault.{SourceFault}
 use Rattle.syntax_lexer.specs.declared.token.Token.{Token}
 use Rattle.syntax_lexer.specs.Token.{lexemes}
@@ -26,11 +27,12 @@ pub without_memory : (limits : Limits) (version : Version) (source : List ℕ) (
     → IsRefused limits version source f
 without_memory limits version source f is = (spec.no_memory is, tt)
 
-pub unlexed : (limits : Limits) (version : Version) (source : List ℕ) (f : SourceFault) → (f ≡ no_memory) ⊎ Lexes 0 1 source (Err f)
+pub unlexed : (limits : Limits) (version : Version) (source : List ℕ) (f : SourceFault)
+    → (f ≡ no_memory) ⊎ ((placed : PlacedFault) × (placed.fault ≡ f) × Lexes 0 1 source (Err placed))
     → IsRefused limits version source f
 unlexed limits version source f answer = elim answer [
   | inl refused ↦ without_memory limits version source f refused
-  | inr lexed ↦ (spec.in_tokens lexed, tt)
+  | inr placed ↦ (spec.in_tokens placed.0 placed.2 placed.1, tt)
 ]
 
 same_lexemes : (ts : List Token) → lexemes_of (source_tokens ts) ≡ lexemes ts

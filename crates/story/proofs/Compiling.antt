@@ -12,7 +12,7 @@ use Rattle.syntax_lexer.specs.declared.fault.PlacedFault.{PlacedFault}
 use Rattle.syntax_lexer.specs.declared.token.Token.{Token}
 use Rattle.syntax_lexer.specs.Token.{lexemes}
 use Rattle.syntax_lexer.specs.Tokens.{Lexes}
-use Rattle.syntax_lexer.specs.Placed.{unplaced}
+use Rattle.syntax_lexer.specs.Placed.{nowhere, unplaced}
 use Rattle.syntax_lexer.specs.Results.{source_tokens}
 use Rattle.syntax_lexer.specs.FaultNumbers.{no_memory}
 use Rattle.syntax_lexer.specs.Printable.{PrintableTokens}
@@ -36,7 +36,6 @@ use Rattle.meaning.specs.Plays.{Plays}
 use Rattle.story_sizes.specs.Laws.{SmallSourcesHaveSmallCode}
 use Rattle.story_sizes.proofs.SizesOfChecked.{small_routines}
 use Rattle.story_file.specs.Layout.{addresses_in, greatest_length, story_of}
-use Rattle.zcore.specs.Layout.{greatest_word}
 use Rattle.story.specs.declared.sized.Limit.{Limit}
 use Rattle.story.specs.Compiled.{IsStoryOfBy, CompilesBy, NumbersKeys}
 use Rattle.story.specs.Large.{checked_fault_by, limits_by}
@@ -57,6 +56,13 @@ pub answered : (limits : Limits) (version : Version) (source : List ℕ) (r : Re
 answered limits version source (Ok bytes) f h refused = absurd h.1
 answered limits version source (Err e) f h refused =
     subst (λ (x : PlacedFault). RefusesBy limits version source x.fault) (sym h.1) refused
+
+pub unlexed : (source : List ℕ) (limits : Limits) (version : Version) (f : PlacedFault)
+    → (f ≡ nowhere no_memory) ⊎ Lexes 0 1 source (Err f) → RefusesBy limits version source f.fault
+unlexed source limits version f answer = elim answer [
+  | inl refused ↦ spec.no_memory (ap (λ (x : PlacedFault). x.fault) refused)
+  | inr lexed ↦ spec.in_tokens f lexed refl
+]
 
 -- Trees
 

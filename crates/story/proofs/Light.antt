@@ -1,5 +1,5 @@
 -- A source that the limit of weight accepts is accepted by that of length, with the same bytes.
-use Rattle.std.proofs.Common.{◌≡◌, ◌⊎◌, inl, inr, ℕ, ◌<◌, ◌≤◌, List, [], length, Some, None, Result, Ok, Err}
+use Rattle.std.proofs.Common.{◌≡◌, ◌⊎◌, inl, inr, ℕ, ◌<◌, ◌≤◌, List, [], Some, None, Result, Ok, Err}
 use Rattle.std.proofs.Common.{refl, sym, ap, ◌∙◌, subst, arith}
 use Rattle.zcore.specs.declared.header.Version.{Version}
 use Rattle.syntax_lexer.specs.declared.fault.SourceFault.{SourceFault}
@@ -8,7 +8,6 @@ use Rattle.syntax_lexer.specs.Token.{Lexeme}
 use Rattle.syntax_lexer.specs.Tokens.{TokenOutcome, Lexes, SourceToken}
 use Rattle.syntax.specs.Tree.{ProgramTree}
 use Rattle.syntax.specs.Grammar.{IsProgram, program_nesting}
-use Rattle.meaning.specs.Places.{routines_place}
 use Rattle.meaning.specs.Resolved.{ProgramOf}
 use Rattle.meaning.specs.Sizes.{greatest_weight}
 use Rattle.checker_names.specs.Breaches.{IsAmong}
@@ -17,10 +16,10 @@ use Rattle.checker.specs.Programs.{file_of, program_breaches, resolve_program, r
 use Rattle.code.specs.HeldProgram.{sizes_of}
 use Rattle.code.specs.Sizes.{routines_size}
 use Rattle.story_sizes.specs.Laws.{CodeIsShort}
-use Rattle.story_file.specs.Layout.{greatest_length, story_of}
-use Rattle.story.specs.Compiled.{CompilesBy, IsStoryOf, IsStoryOfBy}
+use Rattle.story_file.specs.Layout.{story_of}
+use Rattle.story.specs.Compiled.{CompilesBy}
 use Rattle.story.specs.FaultPlaces.{heavy_place}
-use Rattle.story.specs.Large.{length_fault, tree_length_fault}
+use Rattle.story.specs.Large.{tree_length_fault}
 use Rattle.story.specs.Laws.{LightStoriesFit}
 use Rattle.story.specs.Refused.{IsTreeOf, RefusesBy, lexemes_of, tree_size_fault}
 use Rattle.story.specs.Refused as spec
@@ -63,8 +62,8 @@ module _ (one_outcome : (bytes : List ℕ) (o q : TokenOutcome) → Lexes 0 1 by
   refused : (version : Version) → program_breaches p ≡ [] → tree_length_fault version p ≡ None → (f : SourceFault)
       → RefusesBy tree_length_fault version source f → f ≡ no_memory
   refused version lawful sized f (spec.no_memory is) = is
-  refused version lawful sized f (spec.in_tokens lexed) =
-      let one : TokenOutcome = Err f in
+  refused version lawful sized f (spec.in_tokens placed lexed is) =
+      let one : TokenOutcome = Err placed in
       let other : TokenOutcome = Ok tree.tokens in
       let same : one ≡ other = one_outcome source one other lexed tree.lexed in
       absurd cc

@@ -5,7 +5,7 @@ use Rattle.std.specs.Result.{IsErr, IsErrAnd}
 use Rattle.syntax_lexer.specs.declared.fault.PlacedFault.{PlacedFault}
 use Rattle.syntax_lexer.specs.declared.token.Token.{Token}
 use Rattle.syntax_lexer.specs.FaultNumbers.{no_memory}
-use Rattle.syntax_lexer.specs.Placed.{nowhere, IsFaultIn}
+use Rattle.syntax_lexer.specs.Placed.{nowhere}
 use Rattle.syntax_lexer.specs.Results.{source_tokens}
 use Rattle.syntax_lexer.specs.Token.{lexemes}
 use Rattle.syntax_lexer.specs.Tokens.{Lexes}
@@ -30,7 +30,7 @@ stands_answered source (Err e) f h stands = subst (Stands source) (sym h.1) stan
 pub refused_stands : (source : List ℕ) (f : PlacedFault) → f ≡ nowhere no_memory → Stands source f
 refused_stands source f is = subst (Stands source) (sym is) (spec.nowhere (inr (inr refl)) refl)
 
-pub unlexed_stands : (source : List ℕ) (f : PlacedFault) → (f ≡ nowhere no_memory) ⊎ IsFaultIn source f
+pub unlexed_stands : (source : List ℕ) (f : PlacedFault) → (f ≡ nowhere no_memory) ⊎ Lexes 0 1 source (Err f)
     → Stands source f
 unlexed_stands source f answer = elim answer [
   | inl refused ↦ refused_stands source f refused

@@ -1,9 +1,8 @@
 -- Where a source is at fault: the offset of the byte, the token or the name.
-use Rattle.std.specs.Prelude.{◌≡◌, ◌⊎◌, ℕ, List, Option, Some, None, Ok}
+use Rattle.std.specs.Prelude.{◌≡◌, ◌⊎◌, ℕ, List, Option, Some, None, Ok, Err}
 use Rattle.syntax_lexer.specs.declared.fault.PlacedFault.{PlacedFault}
 use Rattle.syntax_lexer.specs.declared.token.Position.{Position}
 use Rattle.syntax_lexer.specs.FaultNumbers as fault_numbers
-use Rattle.syntax_lexer.specs.Placed.{IsFaultIn}
 use Rattle.syntax_lexer.specs.Tokens.{SourceToken, Lexes}
 use Rattle.syntax.specs.Tree.{ProgramTree}
 use Rattle.syntax.specs.Places.{IsFirstUnfit, IsFirstDeep}
@@ -29,7 +28,7 @@ heavy_place p = first_heavy tree_weight tree_name_place (routine_trees p.directi
 -- where the fault of a source stands, by its cause
 pub data Stands (source : List ℕ) (f : PlacedFault) : Type 0 where
   nowhere : IsUnplaced f.fault.number → f.offset ≡ None → Stands source f
-  in_tokens : IsFaultIn source f → Stands source f
+  in_tokens : Lexes 0 1 source (Err f) → Stands source f
   not_in_grammar : (tokens : List SourceToken) → Lexes 0 1 source (Ok tokens)
       → IsFirstUnfit greatest_nesting (lexemes_of tokens) (StandsAt f)
       → f.fault.number ≡ fault_numbers.not_in_grammar → Stands source f

@@ -1,6 +1,7 @@
 -- Which sources have a tree, and why a source is refused.
 use Rattle.std.specs.Prelude.{◌≡◌, ◌≤◌, ◌<◌, ℕ, List, [], map, Option, Some, Ok, Err}
 use Rattle.zcore.specs.declared.header.Version.{Version}
+use Rattle.syntax_lexer.specs.declared.fault.PlacedFault.{PlacedFault}
 use Rattle.syntax_lexer.specs.declared.fault.SourceFault.{SourceFault}
 use Rattle.syntax_lexer.specs.declared.token.Position.{Position}
 use Rattle.syntax_lexer.specs.FaultNumbers as fault_numbers
@@ -51,7 +52,7 @@ tree_size_fault version p =
 -- why a source is refused: the earliest part that finds a fault answers, or a growth of memory was refused
 pub data RefusesBy (limits : Limits) (version : Version) (source : List ℕ) (f : SourceFault) : Type 0 where
   no_memory : f ≡ fault_numbers.no_memory → RefusesBy limits version source f
-  in_tokens : Lexes 0 1 source (Err f) → RefusesBy limits version source f
+  in_tokens : (placed : PlacedFault) → Lexes 0 1 source (Err placed) → placed.fault ≡ f → RefusesBy limits version source f
   not_in_grammar : (tokens : List SourceToken) → Lexes 0 1 source (Ok tokens)
       → ((p : ProgramTree) → IsProgram (lexemes_of tokens) p → ⊥)
       → IsFirstUnfit greatest_nesting (lexemes_of tokens) (λ place. place.line ≡ f.line)

@@ -9,11 +9,18 @@ use Rattle.syntax.proofs.Main.{unplaced_numbers}
 use Rattle.syntax.proofs.Placing.{unfit_as, deep_less}
 use Rattle.story.specs.Large.{limits_by, IsStoryWithin}
 use Rattle.story.specs.Refused.{RefusesBy}
-use Rattle.story.proofs.Compiling.{is_tree, unparsed, unchecked, too_large, answered}
+use Rattle.story.proofs.Compiling.{is_tree, unlexed, unparsed, unchecked, too_large, answered}
 use Rattle.story.proofs.Compiling.{accepted, compiled, light, printable}
 use Rattle.story.proofs.Standing.{stands_answered, refused_stands, unlexed_stands, unparsed_stands, unchecked_stands}
 use Rattle.story.proofs.Standing.{too_large_stands}
 use Rattle.story.proofs.story.compile_in.Goals as goal
+
+pub returns-in_err-tokens-clause-compiles : goal.returns-in_err-tokens-clause-compiles
+returns-in_err-tokens-clause-compiles c =
+    answered (limits_by c.args.limit) c.args.version c.args.source.now c.from_residual.result c.in_err-tokens.field-0.0
+    c.from_residual.ensures
+    (unlexed c.args.source.now (limits_by c.args.limit) c.args.version c.in_err-tokens.field-0.0
+    c.in_err-tokens.ensures.meets)
 
 pub returns-in_err-program-clause-compiles : goal.returns-in_err-program-clause-compiles
 returns-in_err-program-clause-compiles c =
@@ -95,7 +102,7 @@ returns-in-Ok-sized-clause-compiles c =
 pub returns-in_err-tokens-clause-stands : goal.returns-in_err-tokens-clause-stands
 returns-in_err-tokens-clause-stands c =
     stands_answered c.args.source.now c.from_residual.result c.in_err-tokens.field-0.0 c.from_residual.ensures
-    (unlexed_stands c.args.source.now c.in_err-tokens.field-0.0 c.in_err-tokens.ensures.stands)
+    (unlexed_stands c.args.source.now c.in_err-tokens.field-0.0 c.in_err-tokens.ensures.meets)
 
 pub returns-in_err-program-clause-stands : goal.returns-in_err-program-clause-stands
 returns-in_err-program-clause-stands c =
