@@ -4,9 +4,9 @@ use crate::marks::{Concern, Marks};
 use messages_contexts::{before, behind, closes_after, is_sign, is_word};
 use syntax_lexer::{Sign, Token, Word};
 
-/// What is wrong with the `;` of a number: it is all of an `if` that has no `else`, or of a `while`.
-/// In a source that is accepted the parentheses before a `;` are in no others, so all of them
-/// together are read once.
+/// What is said of the `;` that is the token of a number: it is all of an `if` that has no `else`, or
+/// of a `while`. The parentheses that end right before a `;` are in no others, so all these tests
+/// together take time linear in the source.
 fn concern_of(tokens: &[Token<'_>], at: usize) -> Option<Concern> {
     let last = before(at, 1);
     let has_else = is_word(tokens, behind(at, 1), Word::Else);
