@@ -1,16 +1,48 @@
 //! Words of the command line in messages.
 #![tactic(auto)]
 
-ghost use Rattle.std.specs.Prelude.{◌≡◌};
+ghost use Rattle.std.specs.Prelude.{◌≡◌, ◌==◌, ◌||◌, not};
 ghost use Rattle.one_line.specs.Escaped.{is_escaped};
 
 use std::fmt::{self, Display, Formatter};
 
 /// A word of the command line, as a file's name, as a message shows it: on one line, and in the
-/// order of its characters. Those that would break the line, move a terminal's cursor or turn the
-/// direction of what is written are shown as `\n`, `\t`, `\r`, or else as `\x1b` or `\x202e`.
+/// order of its characters. Those that would break the line, move a terminal's cursor, turn the
+/// direction of what is written or hide in it are shown as `\n`, `\t`, `\r`, or else as `\x1b` or
+/// `\x202e`.
 #[derive(Clone, Copy)]
 pub struct OneLine<'a>(pub &'a str);
+
+/// The lines of a text as a terminal shows them: as `OneLine` does, but for the new lines, which stay.
+#[derive(Clone, Copy)]
+pub struct Lines<'a>(pub &'a str);
+
+impl Lines<'_> {
+    /// Whether they are shown as they are.
+    pub fn are_plain(self) -> bool {
+        self.0.chars().all(stays)
+    }
+}
+
+impl Display for Lines<'_> {
+    fn fmt<W: fmt::Write>(&self, f: &mut Formatter<W>) -> fmt::Result {
+        for sign in self.0.chars() {
+            if stays(sign) {
+                f.write_char(sign)?;
+            } else {
+                write_sign(f, sign)?;
+            }
+        }
+        Ok(())
+    }
+}
+
+/// Whether a character of lines is shown as it is.
+fn stays(sign: char) -> bool
+    ensures { result ≡ (sign == 10 || not (is_escaped sign)) }
+{
+    sign == '\n' || !is_escaped(sign)
+}
 
 impl Display for OneLine<'_> {
     fn fmt<W: fmt::Write>(&self, f: &mut Formatter<W>) -> fmt::Result {
@@ -33,7 +65,7 @@ fn write_sign<W: fmt::Write>(f: &mut Formatter<W>, sign: char) -> fmt::Result {
 }
 
 /// Whether a character has no picture of its own: a control character, a separator of lines or
-/// paragraphs, or one that turns the direction of what is written.
+/// paragraphs, one that turns the direction of what is written, or one without width.
 fn is_escaped(sign: char) -> bool
     ensures { result ≡ is_escaped sign }
 {
@@ -41,8 +73,12 @@ fn is_escaped(sign: char) -> bool
         sign,
         '\0'..='\x1F'
             | '\x7F'..='\u{9F}'
+            | '\u{61C}'
+            | '\u{200B}'..='\u{200F}'
             | '\u{2028}'..='\u{2029}'
             | '\u{202A}'..='\u{202E}'
+            | '\u{2060}'..='\u{2064}'
             | '\u{2066}'..='\u{2069}'
+            | '\u{FEFF}'
     )
 }

@@ -1,10 +1,11 @@
 //! What is in story files, without running them.
 
-use crate::{broken, refuse, story_in};
+use crate::names::shown_mark;
+use crate::unread::{Unread, regular_story};
+use crate::{broken, refuse};
 use command_lines::play::{Format, place_of};
 use one_line::OneLine;
 use session::{LoadFault, RunFault};
-use std::fmt::Display;
 use std::io;
 use std::process::ExitCode;
 use survey::{Brief, Columns, Contents, Mode, Survey};
@@ -13,7 +14,8 @@ use survey::{Brief, Columns, Contents, Mode, Survey};
 const REFUSED: u8 = 1;
 
 /// The status of a story that loads and reaches an opcode that the machine does not play, or not
-/// with such operands.
+/// with such operands. That of several files is 7 if some of them have this status and some the
+/// other: it has the bits of both.
 const OUTSIDE: u8 = 6;
 
 /// Takes `--standard` out of the words of a command line that has `--check`, wherever it is before
@@ -32,7 +34,7 @@ pub fn take_mode(given: &mut Vec<String>) -> Mode {
 }
 
 /// Says what is in the file of a name, or whether each of several files loads, a line for each. The
-/// status is the greatest of theirs.
+/// status has the bits of each of theirs.
 pub fn check(rt: &HostRuntime, files: &[&str], mode: Mode, format: Format) -> ExitCode {
     match (files, format) {
         ([file], Format::Words) => check_alone(rt, file, mode),
@@ -40,10 +42,16 @@ pub fn check(rt: &HostRuntime, files: &[&str], mode: Mode, format: Format) -> Ex
     }
 }
 
+/// The name of a file as a message shows it.
+fn shown(file: &str) -> OneLine<'_> {
+    OneLine(shown_mark(file).unwrap_or(file))
+}
+
 /// Says what is in a file.
 fn check_alone(rt: &HostRuntime, file: &str, mode: Mode) -> ExitCode {
-    let Ok(story) = story_in(rt, file) else {
-        return refuse(rt, format_args!("cannot read {}", OneLine(file)));
+    let story = match regular_story(rt, file) {
+        Ok(story) => story,
+        Err(cause) => return refuse(rt, format_args!("cannot read {}{cause}", shown(file))),
     };
     let Ok(survey) = Survey::read(rt.alloc(), story.as_slice(), mode) else {
         return refuse(rt, LoadFault::Memory);
@@ -59,24 +67,25 @@ fn check_alone(rt: &HostRuntime, file: &str, mode: Mode) -> ExitCode {
 
 /// Says in a line for each file whether it loads.
 fn check_each(rt: &HostRuntime, files: &[&str], mode: Mode, format: Format) -> ExitCode {
-    let mut greatest = 0;
+    let mut all = 0;
     for file in files {
         match check_in_line(rt, file, mode, format) {
-            Ok(status) => greatest = greatest.max(status),
+            Ok(status) => all |= status,
             Err(_) => return broken(rt, RunFault::Writing),
         }
     }
-    ExitCode::from(greatest)
+    ExitCode::from(all)
 }
 
 /// Says in a line whether a file loads, and returns its status.
 fn check_in_line(rt: &HostRuntime, file: &str, mode: Mode, format: Format) -> io::Result<u8> {
-    let name = OneLine(file);
-    let Ok(story) = story_in(rt, file) else {
-        return unknown(rt, name, format, "cannot be read");
+    let name = shown(file);
+    let story = match regular_story(rt, file) {
+        Ok(story) => story,
+        Err(cause) => return unread(rt, name, format, cause),
     };
     let Ok(survey) = Survey::read(rt.alloc(), story.as_slice(), mode) else {
-        return unknown(rt, name, format, LoadFault::Memory);
+        return unknown(rt, name, format);
     };
     let status = match &survey.found {
         Ok(contents) => status_of(contents),
@@ -108,17 +117,28 @@ fn print_in_line(
     }
 }
 
-/// Says in a line why nothing is known of a file, and returns the status. The columns after the
-/// cause are empty.
-fn unknown<W: Display + Drop>(
-    rt: &HostRuntime,
-    name: OneLine<'_>,
-    format: Format,
-    why: W,
-) -> io::Result<u8> {
+/// Says in a line why a file is not read, and returns the status. The columns after the cause are
+/// empty.
+fn unread(rt: &HostRuntime, name: OneLine<'_>, format: Format, cause: Unread) -> io::Result<u8> {
     let printed = match format {
-        Format::Words => println!(rt; "{name}: {why}"),
-        Format::Columns => println!(rt; "{name}\t{REFUSED}\t{why}\t\t\t\t\t"),
+        Format::Words => println!(rt; "{name}: cannot be read{cause}"),
+        Format::Columns => {
+            let words = cause.words();
+            println!(rt; "{name}\t{REFUSED}\tcannot be read\t{words}\t\t\t\t\t")
+        }
+    };
+    match printed {
+        Ok(()) => Ok(REFUSED),
+        Err(error) => Err(error),
+    }
+}
+
+/// Says in a line that memory was refused to look at a file, and returns the status.
+fn unknown(rt: &HostRuntime, name: OneLine<'_>, format: Format) -> io::Result<u8> {
+    let fault = LoadFault::Memory;
+    let printed = match format {
+        Format::Words => println!(rt; "{name}: {fault}"),
+        Format::Columns => println!(rt; "{name}\t{REFUSED}\t{fault}\t\t\t\t\t\t"),
     };
     match printed {
         Ok(()) => Ok(REFUSED),

@@ -3,16 +3,21 @@
 
 mod checking;
 mod filling;
+mod names;
 mod place;
 mod reading;
+mod screen;
 mod standing;
 mod terminal;
+mod unread;
 
 ghost use Rattle.command_lines.specs.Range.{IsInRange};
 
 use crate::checking::{check, take_mode};
+use crate::names::{given_words, has_marked};
 use crate::place::{Placed, map_in, rows_in};
 use crate::reading::read_story;
+use crate::screen::Screen;
 use crate::terminal::Transcript;
 use command_lines::play::{Asked, Words, take_format, words_of};
 use map_text::Row;
@@ -21,9 +26,8 @@ use one_line::OneLine;
 use session::{Mode, Place, RunFault, Session, run, status};
 use std::fmt::Display;
 use std::fs::File;
-use std::io::{IsTerminal, Write};
+use std::io::{self, IsTerminal, Write};
 use std::process::ExitCode;
-use std::{env, io};
 use wrapping::Wrapped;
 
 /// The exit status where the story cannot be played.
@@ -35,21 +39,22 @@ const UNKNOWN: u8 = 2;
 /// The exit status where reading or writing failed.
 const BROKEN: u8 = 5;
 
+/// What is said of a command line with a word that is not UTF-8 and names no file to check.
+const UNREADABLE: &str = "cannot read the command line";
+
 fn main(rt: HostRuntime) -> ExitCode {
     let alloc = rt.alloc();
-    let mut given: Vec<String> = match env::args(&rt) {
-        Ok(words) => match words.collect(alloc) {
-            Ok(words) => words,
-            Err(_) => return refuse(&rt, "cannot read the command line"),
-        },
-        Err(_) => return refuse(&rt, "cannot read the command line"),
+    let Some(mut given) = given_words(&rt) else {
+        return refuse(&rt, UNREADABLE);
     };
+    let is_marked = has_marked(&given);
     let format = take_format(&mut given);
     let mode = take_mode(&mut given);
     match words_of(alloc, given.as_slice()) {
+        Ok(Asked::Check(files)) => check(&rt, files.as_slice(), mode, format),
+        _ if is_marked => refuse(&rt, UNREADABLE),
         Ok(Asked::Play(words)) => play(&rt, words),
         Ok(Asked::Explain(name)) => explain(&rt, name),
-        Ok(Asked::Check(files)) => check(&rt, files.as_slice(), mode, format),
         Err(error) => {
             let status = if error.use_stderr() { REFUSED } else { 0 };
             match error.print(&rt) {
@@ -132,10 +137,10 @@ fn play_story(rt: &HostRuntime, words: Words<'_>, story: Vec<u8>, rows: &[Row<'_
         Err(fault) => return refuse(rt, fault),
     };
     let ran = match words.wrap {
-        None => run_to(rt, rt.stdout(), &mut session),
+        None => run_to(rt, rt.stdout(), &mut session, words.map.is_some()),
         Some(columns) => {
             let wrapped = Wrapped::new(rt.alloc(), rt.stdout(), columns as usize);
-            run_to(rt, wrapped, &mut session)
+            run_to(rt, wrapped, &mut session, words.map.is_some())
         }
     };
     if words.why && ran.is_ok() {
@@ -150,14 +155,18 @@ fn play_story(rt: &HostRuntime, words: Words<'_>, story: Vec<u8>, rows: &[Row<'_
 }
 
 /// Plays a session on the lines of standard input. The transcript goes to a writer. A user at a
-/// terminal is told more beside it.
+/// terminal is told more beside it, where no map is given also how to find the line of a runtime
+/// fault.
 fn run_to<W: Write + Drop>(
     rt: &HostRuntime,
     mut writer: W,
     session: &mut Session,
+    is_mapped: bool,
 ) -> Result<Place, RunFault> {
-    if rt.stdin().is_terminal() {
-        let mut transcript = Transcript::new(rt, writer);
+    let is_seen = rt.stdout().is_terminal();
+    if is_seen || rt.stdin().is_terminal() {
+        let screen = Screen::new(rt.alloc(), writer, is_seen);
+        let mut transcript = Transcript::new(rt, screen, is_mapped);
         return run(&mut rt.stdin(), &mut transcript, session);
     }
     run(&mut rt.stdin(), &mut writer, session)

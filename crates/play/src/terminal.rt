@@ -2,6 +2,7 @@
 
 ghost use Rattle.std.specs.Prelude.{◌≡◌};
 
+use crate::screen::show;
 use std::alloc::Global;
 use std::io::{self, IsTerminal, Write};
 
@@ -17,8 +18,18 @@ const NOTICES: [&[u8]; 5] = [
     b"[No memory: line not taken.]\n",
 ];
 
+/// How the text of a runtime fault begins and ends, after which the story quits.
+const FAULT: &[u8] = b"[Fault: ";
+
+const FAULT_END: &[u8] = b"]\n";
+
+/// What a user is told of a runtime fault.
+const LINE_OF_FAULT: &str =
+    "play: --why --map FILE names the line, by the map that inform --map FILE writes";
+
 /// A writer of the transcript, for a user at a terminal. It tells the user more, on standard error;
-/// the transcript is the same. After the first answer that the story is over it says how to end the input. After
+/// the transcript is the same. After the first runtime fault it says how to find its line. If the
+/// input is at a terminal, it says after the first answer that the story is over how to end it. After
 /// another notice it shows the story's last prompt again, if the transcript is at a terminal too.
 #[derive(Drop)]
 pub struct Transcript<'a, W> {
@@ -28,8 +39,11 @@ pub struct Transcript<'a, W> {
     /// Whether the user has not been told how to end the input yet.
     is_waiting: bool,
 
-    /// Whether the user sees the transcript at a terminal.
+    /// Whether the user sees the transcript at a terminal, and types there.
     is_shown: bool,
+
+    /// Whether the user has not been told how to find the line of a runtime fault yet.
+    is_unmapped: bool,
 
     /// What was written last.
     latest: Latest,
@@ -43,6 +57,9 @@ pub struct Transcript<'a, W> {
 enum Latest {
     /// What the story wrote.
     Story,
+
+    /// The same, with a runtime fault at its end.
+    Fault,
 
     /// That the story is over.
     Over,
@@ -61,19 +78,34 @@ fn latest_of(text: &[u8]) -> Latest {
             return Latest::Notice;
         }
     }
-    Latest::Story
+    if ends_with_fault(text) {
+        Latest::Fault
+    } else {
+        Latest::Story
+    }
+}
+
+/// Whether the last line of a text is that of a runtime fault.
+fn ends_with_fault(text: &[u8]) -> bool {
+    match text.strip_suffix(FAULT_END) {
+        Some(text) => last_line(text).starts_with(FAULT),
+        None => false,
+    }
 }
 
 impl<'a, W: Write> Transcript<'a, W> {
-    /// The transcript that a writer is given. Standard input is a terminal.
-    pub fn new(rt: &'a HostRuntime, writer: W) -> Transcript<'a, W>
+    /// The transcript that a writer is given. Standard input or output is a terminal. Says whether a
+    /// map was given.
+    pub fn new(rt: &'a HostRuntime, writer: W, is_mapped: bool) -> Transcript<'a, W>
         ensures { result.writer ≡ writer }
     {
+        let is_typed = rt.stdin().is_terminal();
         Transcript {
             writer,
             rt,
-            is_waiting: true,
-            is_shown: rt.stdout().is_terminal(),
+            is_waiting: is_typed,
+            is_shown: is_typed && rt.stdout().is_terminal(),
+            is_unmapped: !is_mapped,
             latest: Latest::Story,
             prompt: Vec::new(rt.alloc()),
         }
@@ -84,7 +116,7 @@ impl<'a, W: Write> Transcript<'a, W> {
         ensures { self.new.writer ≡ self.old.writer }
     {
         self.latest = latest_of(text);
-        if self.is_shown && matches!(self.latest, Latest::Story) {
+        if self.is_shown && matches!(self.latest, Latest::Story | Latest::Fault) {
             self.prompt.clear();
             let _ = self.prompt.extend_from_slice(last_line(text));
         }
@@ -99,8 +131,12 @@ impl<'a, W: Write> Transcript<'a, W> {
                 self.is_waiting = false;
                 let _ = eprintln!(self.rt; "play: ctrl-D ends the input");
             }
+            Latest::Fault if self.is_unmapped => {
+                self.is_unmapped = false;
+                let _ = eprintln!(self.rt; "{LINE_OF_FAULT}");
+            }
             Latest::Notice if self.is_shown => {
-                let _ = self.rt.stderr().write_all(&self.prompt);
+                let _ = show(self.rt.alloc(), &mut self.rt.stderr(), &self.prompt);
             }
             _ => {}
         }
@@ -122,7 +158,7 @@ impl<W: Write> Write for Transcript<'_, W> {
     ghost contents = { λ transcript. W.contents transcript.writer };
 
     fn write(&mut self, buf: &[u8]) -> io::Result<usize> {
-        if self.is_waiting || self.is_shown {
+        if self.is_waiting || self.is_shown || self.is_unmapped {
             self.note(buf);
         }
         self.writer.write(buf)

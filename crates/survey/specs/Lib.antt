@@ -1,3 +1,2 @@
-pub mod Facts
 pub mod Verdict
 pub mod Noted

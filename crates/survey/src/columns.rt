@@ -1,15 +1,14 @@
 //! A survey as columns of a table.
 
 use crate::contents::Contents;
-use crate::facts::{Facts, Serial};
 use crate::survey::{Survey, write_outside};
 use std::fmt;
-use zcore::Version;
+use survey_headers::{Edition, Serial};
 
-/// A survey as six columns with a tab between two, for programs that read them: `loads`, `needs` or
-/// the cause for which it is refused; the opcodes that it needs beyond the profile, with a comma
-/// between two; the version; the bytes that were read; the release; and the serial number. A column
-/// is empty if there is nothing to say.
+/// A survey as seven columns with a tab between two, for programs that read them: `loads`, `needs`
+/// or the cause for which it is refused; the opcodes that it needs beyond the profile, with a comma
+/// between two; the version; the bytes that were read; the release; the serial number; and the sum
+/// that the header states. A column is empty if there is nothing to say.
 #[derive(Clone, Copy)]
 pub struct Columns<'a>(pub &'a Survey);
 
@@ -20,9 +19,9 @@ impl fmt::Display for Columns<'_> {
             Err(fault) => write!(f, "{fault}\t")?,
         }
         let size = self.0.size;
-        match &self.0.facts {
-            Some(facts) => write_header(f, facts, size),
-            None => write!(f, "\t\t{size}\t\t"),
+        match &self.0.edition {
+            Some(edition) => write_edition(f, edition, size),
+            None => write!(f, "\t\t{size}\t\t\t"),
         }
     }
 }
@@ -37,16 +36,14 @@ fn write_answer<W: fmt::Write>(f: &mut fmt::Formatter<W>, contents: &Contents) -
 }
 
 /// Writes the columns that the header fills, and the bytes that were read among them.
-fn write_header<W: fmt::Write>(
+fn write_edition<W: fmt::Write>(
     f: &mut fmt::Formatter<W>,
-    facts: &Facts,
+    edition: &Edition,
     size: usize,
 ) -> fmt::Result {
-    let version = match facts.version {
-        Version::V5 => 5,
-        Version::V8 => 8,
-    };
-    let release = facts.release;
-    let serial = Serial(facts.serial);
-    write!(f, "\t{version}\t{size}\t{release}\t{serial}")
+    let version = edition.version;
+    let release = edition.release;
+    let serial = Serial(edition.serial);
+    let sum = edition.sum;
+    write!(f, "\t{version}\t{size}\t{release}\t{serial}\t{sum:04X}")
 }

@@ -1,6 +1,7 @@
 //! What a story holds.
 
 ghost use Rattle.std.specs.Prelude.{◌≡◌, ◌≤◌, IfOk, length};
+ghost use Rattle.zcore.specs.Arithmetic.{magnitude};
 ghost use Rattle.zcore.specs.Header.{IsHeaderOf};
 ghost use Rattle.zcore.specs.Layout.{longest_story};
 ghost use Rattle.survey.specs.Verdict.{HasWordsOf};
@@ -18,6 +19,9 @@ use ztext::{MOST_ABBREVIATIONS, read_word};
 /// Document 1.1, section 12.3.2).
 const PROPERTIES: usize = 12;
 
+/// From this word on a signed word is negative (section 2.2).
+const NEGATIVE: u16 = 0x8000;
+
 /// What a story holds that loads. `Display` writes a line for each.
 #[derive(Drop)]
 pub struct Contents {
@@ -25,7 +29,7 @@ pub struct Contents {
     /// it, or to what else the header names behind it.
     pub objects: usize,
 
-    /// How many words the dictionary has.
+    /// How many words the dictionary has, whatever their order.
     pub words: u16,
 
     /// How many abbreviations there are, without those at the end of the table that are all one.
@@ -99,7 +103,7 @@ impl Contents {
         let reached = reach(alloc, story, header, mode)?;
         Ok(Contents {
             objects: count_objects(story, header),
-            words: header.dictionary.entries,
+            words: count_words(header.dictionary.entries),
             abbreviations: count_abbreviations(story, header.abbreviations),
             routines: reached.routines,
             instructions: reached.instructions,
@@ -107,6 +111,18 @@ impl Contents {
             computed: reached.computed,
             outside: reached.outside,
         })
+    }
+}
+
+/// How many words a dictionary has that states this number. A negative number is of words in no order (Z-Machine
+/// Standards Document 1.1, section 15, `tokenise`).
+fn count_words(stated: u16) -> u16
+    ensures { result ≡ magnitude stated }
+{
+    if stated < NEGATIVE {
+        stated
+    } else {
+        stated.wrapping_neg()
     }
 }
 

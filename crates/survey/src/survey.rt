@@ -2,19 +2,20 @@
 
 ghost use Rattle.std.specs.Prelude.{◌≡◌, IfOk, IfSome, IfNone, length};
 ghost use Rattle.zcore.specs.Header.{HasHeader, IsKnownVersion};
-ghost use Rattle.survey.specs.Facts.{IsFactsOf};
+ghost use Rattle.survey_headers.specs.Beginnings.{beginning_of};
+ghost use Rattle.survey_headers.specs.Editions.{HasEdition, IsEditionOf};
+ghost use Rattle.survey_headers.specs.Facts.{IsFactsOf};
+ghost use Rattle.survey_headers.specs.Misplaced.{first_misplaced};
 ghost use Rattle.survey.specs.Verdict.{IsVerdict};
 ghost use Rattle.survey.specs.declared.mode.Mode.TheVariants.{Profile, Standard};
 
-use crate::beginning::Beginning;
 use crate::contents::Contents;
-use crate::facts::Facts;
-use crate::misplaced::{Misplaced, find_misplaced};
 use crate::mode::Mode;
 use crate::outside::Outside;
 use std::alloc::{AllocError, Global};
 use std::fmt;
-use zcore::layout::{HEADER_LENGTH, LONGEST_STORY};
+use survey_headers::{Beginning, Edition, Facts, Misplaced, first_misplaced};
+use zcore::layout::LONGEST_STORY;
 use zcore::{Header, HeaderFault};
 use zcore_standard_loading::load;
 
@@ -33,6 +34,9 @@ pub struct Survey {
 
     /// What it begins like.
     pub beginning: Beginning,
+
+    /// Which edition of which version its header names, where it has one of version 1 to 8.
+    pub edition: Option<Edition>,
 
     /// What its header says, where it has one of version 5 or 8.
     pub facts: Option<Facts>,
@@ -65,6 +69,10 @@ impl Survey {
         ensures facts { IfOk result (λ s. IfSome s.facts (IsFactsOf story.now)) }
         ensures untold { IfOk result
             (λ s. IfNone s.facts (¬ (HasHeader story.now × IsKnownVersion story.now))) }
+        ensures edition { IfOk result (λ s. IfSome s.edition (IsEditionOf story.now)) }
+        ensures unnamed { IfOk result (λ s. IfNone s.edition (¬ HasEdition story.now)) }
+        ensures beginning { IfOk result (λ s. s.beginning ≡ beginning_of story.now) }
+        ensures misplaced { IfOk result (λ s. s.misplaced ≡ first_misplaced story.now) }
     {
         let found = match mode {
             Mode::Profile => read_for_profile(alloc, story)?,
@@ -74,6 +82,7 @@ impl Survey {
             mode,
             size: story.len(),
             beginning: Beginning::read(story),
+            edition: Edition::read(story),
             facts: Facts::read(story),
             misplaced: first_misplaced(story),
             found,
@@ -129,15 +138,6 @@ fn read_copy(alloc: Global, file: Vec<u8>) -> Result<Result<Contents, HeaderFaul
             Ok(Ok(contents))
         }
         Err(fault) => Ok(Err(fault)),
-    }
-}
-
-/// The first address of the header that is wrong, where there is a header.
-fn first_misplaced(story: &[u8]) -> Option<Misplaced> {
-    if story.len() < HEADER_LENGTH {
-        None
-    } else {
-        find_misplaced(story)
     }
 }
 

@@ -1,10 +1,11 @@
 //! What of an instruction the machine refuses.
 
-ghost use Rattle.std.specs.Prelude.{◌≡◌, ◌≤◌, ℕ, List, Some, IfSome, length};
+ghost use Rattle.std.specs.Prelude.{◌≡◌, ◌≤◌, ℕ, List, Some, None, IfSome, length};
 ghost use Rattle.zcore.specs.Instruction.{opcode, opcode_of};
 ghost use Rattle.zcore.specs.Layout.{longest_story};
 ghost use Rattle.survey_opcodes.specs.Lacks.{is_refused, is_said, typed, variable, IsLackOf, IsOperandsLack};
-ghost use Rattle.survey_opcodes.specs.Opcodes.{opcode_at};
+ghost use Rattle.survey_opcodes.specs.Opcodes.{opcode_at, operation_of};
+ghost use Rattle.survey_opcodes.specs.declared.lack.Lack.TheVariants.{Opcode};
 
 use crate::forms::{EXTENDED, SHORT_FORM, SHORT_FORM_0OP, VARIABLE_FORM};
 use crate::given::count_given;
@@ -46,6 +47,7 @@ pub fn lack_at(story: &[u8], at: usize) -> Option<Lack>
     requires { length story.now ≤ longest_story }
     ensures said { is_said result ≡ is_refused (opcode story.now at) }
     ensures lack { IfSome (opcode_at story.now at) (λ x. IfSome result (IsLackOf x)) }
+    ensures unknown { IfSome (opcode_at story.now at) (λ x. operation_of x ≡ None → result ≡ Some Opcode) }
 {
     if story.len() <= at {
         return None;

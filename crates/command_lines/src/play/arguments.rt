@@ -13,7 +13,7 @@ use std::alloc::{AllocError, Global};
 const MORE: &str = "The line /undo takes back the latest turn, and the line /redo does it again.
 At a terminal, ctrl-D ends the input.
 
-With `--format tsv` beside it, --check prints a line of 8 columns for each STORY.
+With `--format tsv` beside it, --check prints a line of 9 columns for each STORY.
 With --standard beside it, --check names the opcodes that --standard does not play.
 
 Example, which keeps the lines and the transcript:

@@ -3,7 +3,7 @@
 ghost use Rattle.std.specs.Prelude.{◌≡◌, ◌%◌, ◌≤◌, IfSome, IfNone, length, take, drop, sum};
 ghost use Rattle.zcore.specs.Header.{HasHeader, IsKnownVersion};
 ghost use Rattle.zcore.specs.Layout.{header_size};
-ghost use Rattle.survey.specs.Facts.{IsFactsOf};
+ghost use Rattle.survey_headers.specs.Facts.{IsFactsOf};
 
 use std::fmt;
 use zcore::Version;
@@ -14,7 +14,7 @@ use zcore::layout::{
 use ztext::read_word;
 
 /// Where the release number stands (Z-Machine Standards Document 1.1, section 11.1).
-const RELEASE_WORD: usize = 0x02;
+pub(crate) const RELEASE_WORD: usize = 0x02;
 
 /// Where the six bytes of the serial number begin.
 const SERIAL: usize = 0x12;
@@ -65,7 +65,7 @@ pub struct Facts {
 
 /// The bytes of a serial number. `Display` writes a full stop for each that does not print.
 #[derive(Clone, Copy)]
-pub(crate) struct Serial(pub [u8; 6]);
+pub struct Serial(pub [u8; 6]);
 
 impl fmt::Display for Serial {
     fn fmt<W: fmt::Write>(&self, f: &mut fmt::Formatter<W>) -> fmt::Result {
@@ -153,7 +153,7 @@ impl Facts {
 }
 
 /// The serial number.
-fn serial_of(story: &[u8]) -> [u8; 6]
+pub(crate) fn serial_of(story: &[u8]) -> [u8; 6]
     requires { header_size ≤ length story.now }
     ensures { result ≡ take 6 (drop 0x12 story.now) }
 {

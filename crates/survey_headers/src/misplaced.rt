@@ -1,7 +1,8 @@
 //! Which address of a header is wrong.
 
-ghost use Rattle.std.specs.Prelude.{◌≤◌, ◌↔◌, IfSome, IsTrue};
-ghost use Rattle.zcore.specs.Header.{HasHeader, IsWithin};
+ghost use Rattle.std.specs.Prelude.{◌≡◌, ◌≤◌, ◌↔◌, IfSome, IsTrue};
+ghost use Rattle.zcore.specs.Header.{HasHeader, IsWithin, abbreviations_of};
+ghost use Rattle.survey_headers.specs.Misplaced.{abbreviations_place, first_in, first_misplaced, lies, place_of};
 
 use std::fmt;
 use zcore::layout::{
@@ -92,24 +93,41 @@ const TABLES: [Table; 7] = [
     Table::Dictionary,
 ];
 
-/// The first address of the header that is misplaced, in the order in which a header is tested.
-pub(crate) fn find_misplaced(story: &[u8]) -> Option<Misplaced>
-    requires { HasHeader story.now }
-    ensures { IfSome result (λ m. ¬ IsWithin m.start m.end m.address m.bytes) }
+/// The first address of the header of a file that is misplaced, in the order in which a header is
+/// tested; none where there is no header.
+pub fn first_misplaced(file: &[u8]) -> Option<Misplaced>
+    ensures first { result ≡ first_misplaced file.now }
+    ensures misplaced { IfSome result (λ m. ¬ IsWithin m.start m.end m.address m.bytes) }
 {
-    for table in &TABLES {
-        let place = place_of(story, *table);
-        if !lies(&place) {
-            return Some(place);
-        }
+    if file.len() < HEADER_LENGTH {
+        None
+    } else {
+        find_in(file, &TABLES)
     }
-    None
+}
+
+/// The first of several tables that is misplaced.
+fn find_in(story: &[u8], tables: &[Table]) -> Option<Misplaced>
+    requires { HasHeader story.now }
+    ensures first { result ≡ first_in story.now tables.now }
+    ensures misplaced { IfSome result (λ m. ¬ IsWithin m.start m.end m.address m.bytes) }
+{
+    let Some((table, others)) = tables.split_first() else {
+        return None;
+    };
+    let place = place_of(story, *table);
+    if lies(&place) {
+        find_in(story, others)
+    } else {
+        Some(place)
+    }
 }
 
 /// Where a table lies, and where it has to lie.
 fn place_of(story: &[u8], table: Table) -> Misplaced
     requires { HasHeader story.now }
-    ensures { result.bytes ≤ 480 }
+    ensures place { result ≡ place_of story.now table }
+    ensures few { result.bytes ≤ 480 }
 {
     let base = usize::from(read_word(story, STATIC_BASE_WORD));
     let length = story.len();
@@ -135,15 +153,15 @@ fn place_of(story: &[u8], table: Table) -> Misplaced
 /// The table of abbreviations. Address 0 stands for none, which lies anywhere.
 fn abbreviations(story: &[u8]) -> Misplaced
     requires { HasHeader story.now }
-    ensures { result.bytes ≤ 480 }
+    ensures place { result ≡ abbreviations_place story.now (abbreviations_of story.now) }
+    ensures few { result.bytes ≤ 480 }
 {
     let address = read_word(story, ABBREVIATIONS_WORD);
-    let bytes = if address == 0 {
-        0
+    let (bytes, start) = if address == 0 {
+        (0, 0)
     } else {
-        2 * MOST_ABBREVIATIONS
+        (2 * MOST_ABBREVIATIONS, HEADER_LENGTH)
     };
-    let start = if address == 0 { 0 } else { HEADER_LENGTH };
     Misplaced {
         table: Table::Abbreviations,
         address,
@@ -156,7 +174,8 @@ fn abbreviations(story: &[u8]) -> Misplaced
 /// Whether a table lies where it has to lie.
 fn lies(place: &Misplaced) -> bool
     requires { place.now.bytes ≤ 480 }
-    ensures { IsTrue result ↔ IsWithin place.now.start place.now.end place.now.address place.now.bytes }
+    ensures value { result ≡ lies place.now }
+    ensures within { IsTrue result ↔ IsWithin place.now.start place.now.end place.now.address place.now.bytes }
 {
     let address = usize::from(place.address);
     place.start <= address && address + place.bytes <= place.end

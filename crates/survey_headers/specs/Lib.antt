@@ -1,0 +1,4 @@
+pub mod Facts
+pub mod Editions
+pub mod Beginnings
+pub mod Misplaced

@@ -1,0 +1,12 @@
+//! What the first bytes of a file say, which may be a story.
+#![tactic(auto)]
+
+mod beginning;
+mod edition;
+mod facts;
+mod misplaced;
+
+pub use beginning::Beginning;
+pub use edition::Edition;
+pub use facts::{Facts, Serial};
+pub use misplaced::{Misplaced, Table, first_misplaced};
