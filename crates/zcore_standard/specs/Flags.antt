@@ -15,16 +15,22 @@ use Rattle.zcore_standard.specs.Streams.{flags_2_low}
 abbrev pub flags_2_high : ℕ
 flags_2_high = 16
 
--- storew to the word, or storeb to one of its bytes
+-- the addresses to which storew and storeb write
+abbrev pub word_address : List ℕ → ℕ
+word_address values = (first values + 2 * second values) % 65536
+
+abbrev pub byte_address : List ℕ → ℕ
+byte_address values = (first values + second values) % 65536
+
+-- a store of the word, or of one of its bytes
 abbrev pub concerns_flags : Operation → List ℕ → Bool
-concerns_flags StoreWord values = (first values + 2 * second values) % 65536 == flags_2_high
-concerns_flags StoreByte values =
-    (first values + second values) % 65536 == flags_2_high || (first values + second values) % 65536 == flags_2_low
+concerns_flags StoreWord values = word_address values == flags_2_high
+concerns_flags StoreByte values = byte_address values == flags_2_high || byte_address values == flags_2_low
 concerns_flags _ values = false
 
 -- the first byte has none of these bits
 abbrev pub has_free_bits : Operation → List ℕ → Bool
-has_free_bits StoreByte values = (first values + second values) % 65536 == flags_2_low
+has_free_bits StoreByte values = byte_address values == flags_2_low
 has_free_bits _ values = true
 
 -- bits 0 to 2 as those of a number
