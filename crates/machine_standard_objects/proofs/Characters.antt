@@ -47,4 +47,4 @@ pub small_character_told : (loaded : Loaded) (r : Result Next End) {s t : Record
 unfolding perform perform_text
 small_character_told loaded r {s} {x = x} here after character sound told =
     told_then _ (told_went _ x (small_value s character sound))
-    (text_told loaded operations.PrintCharacter here after None None (character ∷ []) r refl refl told)
+    (text_told loaded operations.PrintCharacter here after None None (character ∷ []) r refl refl refl told)

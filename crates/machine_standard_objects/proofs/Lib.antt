@@ -1,3 +1,4 @@
 pub mod Stepping
 pub mod Performing
 pub mod Characters
+pub mod Flagging

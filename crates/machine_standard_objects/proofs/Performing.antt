@@ -6,11 +6,13 @@ use Rattle.zcore.specs.declared.instruction.Branch.{Branch}
 use Rattle.zcore.specs.declared.instruction.Operation.{Operation}
 use Rattle.zcore.specs.declared.instruction.Operation.TheVariants as operations
 use Rattle.zcore.specs.declared.next.Next.{Next}
+use Rattle.zcore.specs.declared.operations.OperandCount.{OperandCount}
 use Rattle.zcore.specs.declared.operations.OperandCount.TheVariants as counts
 use Rattle.zcore.specs.Execution.{perform}
 use Rattle.zcore.specs.Operations.{count_of}
 use Rattle.zcore.specs.Objects.{remove_object}
 use Rattle.zcore.specs.State.{State, Out, done}
+use Rattle.zcore_standard.specs.Flags.{concerns_flags, perform_on_flags}
 use Rattle.zcore_standard.specs.Loaded.{Loaded}
 use Rattle.zcore_standard.specs.Nothing.{concerns_nothing, insert_nothing, perform_on_nothing, perform_known}
 use Rattle.zcore_standard.specs.Printing.{is_text, by_alphabets, perform_text, perform_printing}
@@ -20,7 +22,7 @@ use Rattle.machine_frames.specs.Went.{Went, Told}
 use Rattle.machine_frames.specs.declared.end.End.{End}
 use Rattle.machine_frames.proofs.Steps.{went_as, went_still, told_as}
 
--- on object 0, as it prints, and in the profile
+-- on object 0, to Flags 2, as it prints, and in the profile
 
 module _ (loaded : Loaded) (operation : Operation) (here : Next) (after : ℕ) (result : Option ℕ)
     (branch : Option Branch) (values : List ℕ) where
@@ -29,18 +31,28 @@ module _ (loaded : Loaded) (operation : Operation) (here : Next) (after : ℕ) (
   prints = by_alphabets loaded.own_alphabets (perform operation here after result branch values)
       (perform_text loaded operation here after values)
 
+  -- not on object 0
+  abbrev others : Bool → State → Out Next
+  others c = cond c (perform_on_flags operation here after values)
+      (perform_printing loaded operation here after result branch values)
+
   known_is : (s : State) (b : Bool) → concerns_nothing operation values ≡ b
       → perform_known loaded operation here after result branch values s
       ≡ cond b (perform_on_nothing operation here after result branch values)
-      (perform_printing loaded operation here after result branch values) s
+      (others (concerns_flags operation values)) s
   known_is s b e = ap (λ (x : Bool). cond x (perform_on_nothing operation here after result branch values)
-      (perform_printing loaded operation here after result branch values) s) e
+      (others (concerns_flags operation values)) s) e
 
-  printing_is : (s : State) (c : Bool) → concerns_nothing operation values ≡ false → is_text operation ≡ c
+  flags_is : (s : State) (c : Bool) → concerns_nothing operation values ≡ false → concerns_flags operation values ≡ c
+      → perform_known loaded operation here after result branch values s ≡ others c s
+  flags_is s c e f = known_is s false e ∙ ap (λ (x : Bool). others x s) f
+
+  printing_is : (s : State) (d : Bool) → concerns_nothing operation values ≡ false
+      → concerns_flags operation values ≡ false → is_text operation ≡ d
       → perform_known loaded operation here after result branch values s
-      ≡ cond c prints (perform operation here after result branch values) s
-  printing_is s c e f = known_is s false e
-      ∙ ap (λ (x : Bool). cond x prints (perform operation here after result branch values) s) f
+      ≡ cond d prints (perform operation here after result branch values) s
+  printing_is s d e f g = flags_is s false e f
+      ∙ ap (λ (x : Bool). cond x prints (perform operation here after result branch values) s) g
 
   pub nothing_went : {s t : Recording Contents} (r : Result Next End) → concerns_nothing operation values ≡ true
       → Went r s t (perform_on_nothing operation here after result branch values)
@@ -48,24 +60,45 @@ module _ (loaded : Loaded) (operation : Operation) (here : Next) (after : ℕ) (
   nothing_went {s} r e w = went_as r (perform_known loaded operation here after result branch values)
       (λ x. known_is (state_of s.store x) true e) w
 
-  pub known_went : {s t : Recording Contents} (r : Result Next End) → concerns_nothing operation values ≡ false
-      → is_text operation ≡ false → Went r s t (perform operation here after result branch values)
+  pub flags_went : {s t : Recording Contents} (r : Result Next End) → concerns_nothing operation values ≡ false
+      → concerns_flags operation values ≡ true → Went r s t (perform_on_flags operation here after values)
       → Went r s t (perform_known loaded operation here after result branch values)
-  known_went {s} r e f w = went_as r (perform_known loaded operation here after result branch values)
-      (λ x. printing_is (state_of s.store x) false e f) w
+  flags_went {s} r e f w = went_as r (perform_known loaded operation here after result branch values)
+      (λ x. flags_is (state_of s.store x) true e f) w
+
+  pub known_went : {s t : Recording Contents} (r : Result Next End) → concerns_nothing operation values ≡ false
+      → concerns_flags operation values ≡ false → is_text operation ≡ false
+      → Went r s t (perform operation here after result branch values)
+      → Went r s t (perform_known loaded operation here after result branch values)
+  known_went {s} r e f g w = went_as r (perform_known loaded operation here after result branch values)
+      (λ x. printing_is (state_of s.store x) false e f g) w
 
   pub known_told : {s t : Recording Contents} {x y : List ℕ} (r : Result Next End)
-      → concerns_nothing operation values ≡ false → is_text operation ≡ false
+      → concerns_nothing operation values ≡ false → concerns_flags operation values ≡ false
+      → is_text operation ≡ false
       → Told r s x t y (perform operation here after result branch values)
       → Told r s x t y (perform_known loaded operation here after result branch values)
-  known_told {s} {x = x} r e f w = told_as r (perform_known loaded operation here after result branch values)
-      (printing_is (state_of s.store x) false e f) w
+  known_told {s} {x = x} r e f g w = told_as r (perform_known loaded operation here after result branch values)
+      (printing_is (state_of s.store x) false e f g) w
 
   pub text_told : {s t : Recording Contents} {x y : List ℕ} (r : Result Next End)
-      → concerns_nothing operation values ≡ false → is_text operation ≡ true → Told r s x t y prints
+      → concerns_nothing operation values ≡ false → concerns_flags operation values ≡ false
+      → is_text operation ≡ true → Told r s x t y prints
       → Told r s x t y (perform_known loaded operation here after result branch values)
-  text_told {s} {x = x} r e f w = told_as r (perform_known loaded operation here after result branch values)
-      (printing_is (state_of s.store x) true e f) w
+  text_told {s} {x = x} r e f g w = told_as r (perform_known loaded operation here after result branch values)
+      (printing_is (state_of s.store x) true e f g) w
+
+-- which operations do not store to Flags 2
+
+abbrev pub is_several : OperandCount → Bool
+is_several counts.Several = true
+is_several _ = false
+
+pub no_flags : (operation : Operation) (values : List ℕ) → is_several (count_of operation) ≡ false
+    → concerns_flags operation values ≡ false
+no_flags operations.StoreWord values e = absurd (cc)
+no_flags operations.StoreByte values e = absurd (cc)
+no_flags _ values e = refl
 
 -- which operations print no text
 

@@ -1,7 +1,9 @@
 //! A step of an instruction that the profile knows, as the Standard's machine does it: the profile's
-//! step, but operations on objects take object 0, and any ZSCII code is printed.
+//! step, but operations on objects take object 0, bits of Flags 2 can be changed, and any ZSCII code is
+//! printed.
 #![tactic(auto)]
 
+mod flags;
 mod nothing;
 mod perform;
 mod step;

@@ -18,7 +18,7 @@ use zcore::{Branch, Header, Next, Operation};
 const NOTHING: u16 = 0;
 
 /// The value of an operand, 0 where there is none.
-fn value_of(values: &[u16], place: usize) -> u16
+pub(crate) fn value_of(values: &[u16], place: usize) -> u16
     ensures { result ≡ slice_index values.now place }
 {
     if place < values.len() {

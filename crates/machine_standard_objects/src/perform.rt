@@ -1,5 +1,5 @@
 //! What a known instruction does with the values of its operands: what it does in the profile, on
-//! object 0, or where it prints what the profile does not.
+//! object 0, to Flags 2, or where it prints what the profile does not.
 
 ghost use Rattle.std.specs.Prelude.{◌≡◌, ◌≤◌, [], ◌∷◌, None, length};
 ghost use Rattle.zcore.specs.Layout.{longest_story};
@@ -11,6 +11,7 @@ ghost use Rattle.machine_frames.specs.States.{IsStoreOf};
 ghost use Rattle.machine_frames.specs.Went.{Went};
 ghost use Rattle.machine_opcodes.specs.Printed.{HasBegun, Grew, ToldFrom};
 
+use crate::flags::{concerns_flags, perform_on_flags};
 use crate::nothing::{concerns_nothing, perform_on_nothing};
 use journal::Recorded;
 use machine_frames::{End, Store};
@@ -135,6 +136,9 @@ pub(crate) fn several(
 {
     if concerns_nothing(operation, values) {
         return perform_on_nothing(header, store, here, operation, values, ending);
+    }
+    if concerns_flags(operation, values) {
+        return perform_on_flags(store, here, operation, values, ending.after);
     }
     match operation {
         Operation::PrintCharacter => {

@@ -6,10 +6,12 @@ use Rattle.journal.specs.Recording.{Recording}
 use Rattle.zcore.specs.declared.place.Limit.TheVariants as limits
 use Rattle.zcore.specs.declared.place.Place.TheVariants as places
 use Rattle.zcore.specs.State.{Frame, State}
+use Rattle.zcore.specs.Header.{static_base_of}
 use Rattle.zcore.specs.Parts.{spend}
 use Rattle.zcore.specs.Turn.{first_environment}
 use Rattle.ztext.specs.Bytes.{word_at}
 use Rattle.zcore_standard.specs.Flow.{restarted, restart}
+use Rattle.zcore_standard.specs.Fuel.{spend_for}
 use Rattle.zcore.specs.declared.beside.Beside.{Beside}
 use Rattle.zcore_standard.specs.declared.streams.Stream.{Stream}
 use Rattle.zcore_standard.specs.Place.{Here}
@@ -18,12 +20,14 @@ use Rattle.zcore_standard.specs.Streams.{heard_of}
 use Rattle.machine_frames.specs.Contents.{Contents, Wrote, memory_of}
 use Rattle.machine_frames.specs.States.{base_of, frames_of, state_of, IsSound}
 use Rattle.machine_frames.specs.Went.{GoesOn, Told}
+use Rattle.machine_frames.specs.declared.end.End.{End}
 use Rattle.machine_frames.specs.declared.end.End.TheVariants as ends
 use Rattle.machine_frames.proofs.Frames.{pending_same}
 use Rattle.machine_frames.proofs.Kept.{HasFrames, Keeps, keeps_goes_on, keeps_state, memory_kept}
 use Rattle.machine_frames.proofs.Lists.{wrote_memory}
 use Rattle.machine_frames.proofs.Steps.{goes_on_after, told_halt}
 use Rattle.machine_lines.specs.Lines.{Fills, WaitsNoMore}
+use Rattle.machine_opcodes.specs.Says.{Says}
 use Rattle.machine_standard_opcodes.specs.Left.{Empties}
 
 -- the cells of the first record as a story begins
@@ -93,24 +97,34 @@ emptied s m t first waits =
     }
 
 pub begun_anew : (s m t : Recording Contents) (x y : List ℕ) (loaded : Loaded) (here : Here) (address : ℕ)
-    (beside : Beside) (streams : List Stream) → beside ≡ loaded.dice → streams ≡ [] → here.next.fuel ≢ 0 → address ≡ word_at (memory_of s.store) 6 → Fills s m 64 (drop 64 loaded.dynamic)
+    (beside : Beside) (streams : List Stream) (left : ℕ) → beside ≡ loaded.dice → streams ≡ [] → here.next.fuel ≢ 0
+    → Says (Ok left) (spend_for (static_base_of (memory_of s.store)) (here.next.fuel - 1)) → address ≡ word_at (memory_of s.store) 6 → Fills s m 64 (drop 64 loaded.dynamic)
     → Empties m t → y ≡ heard_of here x
     → Told (Ok (record {
-      next = record { program_counter = address; fuel = here.next.fuel - 1 };
+      next = record { program_counter = address; fuel = left };
       beside = beside;
       streams = streams;
       upper = None;
     })) s x t y (restart loaded here)
 unfolding restart spend
-begun_anew s m t x y loaded here address beside streams first none some e f n cut = record {
+begun_anew s m t x y loaded here address beside streams left first none some paid e f n cut = record {
   told = (
     goes_on_after f.goes_on n.goes_on,
     let state : state_of t.store y ≡ restarted loaded here (state_of s.store x) = n.state y
         ∙ ap (λ (z : State). record z { frames = first_environment ∷ []; pending = None }) (f.state y)
         ∙ ap (λ l. record (restarted loaded here (state_of s.store x)) { text = l }) cut in
-        rw (ne_eqb here.next.fuel 0 some, e, state, first, none) refl,
+        rw (ne_eqb here.next.fuel 0 some, paid.said (state_of s.store x), e, state, first, none) refl,
   );
 }
+
+pub unpaid : {e : End} (s : Recording Contents) (x : List ℕ) (loaded : Loaded) (here : Here) → IsSound s.store
+    → here.next.fuel ≢ 0
+    → Says {A = ℕ} (Err e) (spend_for (static_base_of (memory_of s.store)) (here.next.fuel - 1))
+    → Told {A = Here} (Err e) s x s x (restart loaded here)
+unfolding restart spend
+unpaid {e = ends.Stop p} s x loaded here sound some h = told_halt s (restart loaded here) x sound
+    (rw (ne_eqb here.next.fuel 0 some, h.said (state_of s.store x)) refl)
+unpaid {e = ends.Memory} s x loaded here sound some h = absurd h.said
 
 pub no_fuel : (s : Recording Contents) (x : List ℕ) (loaded : Loaded) (here : Here) → IsSound s.store
     → here.next.fuel ≡ 0

@@ -142,9 +142,62 @@ pub added_front : (extra old now : List ℕ) (from i : ℕ) (begun : Begun) → 
     → take (length old) now ≡ old
 added_front extra old now from i begun a = ap (take (length old)) a.text ∙ take-append_seam old a.codes
 
+-- The characters of the first bytes of a text, counted
+
+abbrev pub Counted : List ℕ → ℕ → ℕ → Begun → Type 0
+Counted bytes i count begun =
+    count + length (characters_in begun (drop i bytes)) ≡ length (characters_in between bytes)
+
+pub counted_none : (bytes : List ℕ) → Counted bytes 0 0 between
+counted_none bytes = omega arith
+
+-- a byte that ends a character, and one that does not
+pub counted_whole : (bytes : List ℕ) (i byte count : ℕ) (begun after : Begun) → Counted bytes i count begun
+    → i < length bytes → byte ≡ slice_index bytes i → after ≡ next_byte begun byte → after.more ≡ 0
+    → Counted bytes (i + 1) (count + 1) between
+unfolding characters_in
+counted_whole bytes i byte count begun after h lt is e none =
+    let ends : ((next_byte begun byte).more == 0) ≡ true = eq-eqb _ 0 (ap (λ (x : Begun). x.more) (sym e) ∙ none) in
+    let front : drop i bytes ≡ byte ∷ drop (i + 1) bytes =
+    drop_more bytes i 0 lt ∙ ap (λ b. b ∷ drop (i + 1) bytes) (sym is) in
+    let here : characters_in begun (byte ∷ drop (i + 1) bytes)
+    ≡ (next_byte begun byte).bits ∷ characters_in between (drop (i + 1) bytes) = rw ends refl in
+    omega (arith, h, ap (λ l. length (characters_in begun l)) front, ap length here)
+
+pub counted_later : (bytes : List ℕ) (i byte count : ℕ) (begun after : Begun) → Counted bytes i count begun
+    → i < length bytes → byte ≡ slice_index bytes i → after ≡ next_byte begun byte → after.more ≢ 0
+    → Counted bytes (i + 1) count after
+unfolding characters_in
+counted_later bytes i byte count begun after h lt is e more =
+    let later : ((next_byte begun byte).more == 0) ≡ false =
+    ne_eqb _ 0 (λ n. more (ap (λ (x : Begun). x.more) e ∙ n)) in
+    let front : drop i bytes ≡ byte ∷ drop (i + 1) bytes =
+    drop_more bytes i 0 lt ∙ ap (λ b. b ∷ drop (i + 1) bytes) (sym is) in
+    let here : length (characters_in begun (byte ∷ drop (i + 1) bytes))
+    ≡ length (characters_in (next_byte begun byte) (drop (i + 1) bytes)) = rw later refl in
+    omega (
+      arith,
+      h,
+      ap (λ l. length (characters_in begun l)) front,
+      here,
+      ap (λ x. length (characters_in x (drop (i + 1) bytes))) e,
+    )
+
+pub counted_all : (bytes : List ℕ) (i count : ℕ) (begun : Begun) → Counted bytes i count begun → length bytes ≤ i
+    → count ≡ length (characters_in between bytes)
+unfolding characters_in
+counted_all bytes i count begun h le =
+    let none : length (characters_in begun (drop i bytes)) ≡ 0 =
+    ap (λ l. length (characters_in begun l)) (drop_all i bytes le) in
+    omega (arith, h, none)
+
+-- no character has begun
+pub is_between : IsBegun between
+is_between = record { few = omega arith; whole = omega arith; one = λ h. omega (arith, h); two = λ h. omega (arith, h) }
+
 -- there are no more codes than bytes
 
-fewer_characters : (begun : Begun) (bytes : List ℕ) → length (characters_in begun bytes) ≤ length bytes
+pub fewer_characters : (begun : Begun) (bytes : List ℕ) → length (characters_in begun bytes) ≤ length bytes
 unfolding characters_in
 fewer_characters begun [] = omega arith
 fewer_characters begun (byte ∷ bytes) = elim ((next_byte begun byte).more == 0) as (λ b.

@@ -2,23 +2,26 @@
 use Rattle.std.proofs.Common.{◌≡◌, ◌≢◌, ℕ, ◌+◌, ◌-◌, ◌*◌, ◌/◌, ◌%◌, ◌<◌, ◌≤◌, List, [], ◌∷◌, ◌++◌, length}
 use Rattle.std.proofs.Common.{take, drop}
 use Rattle.std.proofs.Common.{get_or, set, min, refl, ap, sym, ◌∙◌, subst, arith, true, false, slice_index}
-use Rattle.std.proofs.Common.{Result, Ok, Err}
+use Rattle.std.proofs.Common.{Bool, Result, Ok, Err}
 use Rattle.std.specs.List.{insert, remove}
 use Rattle.std.proofs.lemmas.Bool.{lt-ltb, ne_eqb}
-use Rattle.std.proofs.lemmas.List.{drop_all, drop_more, take_all, take-take, length-drop}
+use Rattle.std.proofs.lemmas.List.{drop_all, drop_more, take_all, take-take, length-drop, length-map}
 use Rattle.std.proofs.lemmas.List.{get_or-set_other, length-set, drop-set-add, set-append_left}
 use Rattle.std.proofs.Math.Seq.{drop-append_seam}
 use Rattle.std.specs.Prelude.{OnOk}
 use Rattle.journal.specs.Recording.{Recording}
 use Rattle.zcore.specs.declared.place.Fault.TheVariants as faults
 use Rattle.zcore.specs.declared.place.Place.TheVariants as places
-use Rattle.zcore.specs.State.{State, Out, done, bound}
+use Rattle.zcore.specs.Parts.{test}
+use Rattle.zcore.specs.State.{State, Out, done, bound, ◌>>=◌}
 use Rattle.zcore.specs.Turn.{with_bytes}
 use Rattle.zcore_standard.specs.declared.streams.Stream.{Stream}
-use Rattle.zcore_standard.specs.Place.{Here, past}
+use Rattle.zcore_standard.specs.Fuel.{spend_for}
+use Rattle.zcore_standard.specs.Place.{Here, on}
 use Rattle.zcore_standard.specs.Windows.{settled}
-use Rattle.zcore_standard.specs.Streams.{most_streams, open_stream, open_table, counted, zscii_in, close, close_first}
+use Rattle.zcore_standard.specs.Streams.{most_streams, open_stream, open_table, counted, zscii_in, zscii_of, close, close_first}
 use Rattle.zcore_standard.specs.Streams.{close_all, heard, with_transcript, set_transcript, output_stream}
+use Rattle.zcore_standard.specs.Streams.{characters_in, between, spend_cut, test_table}
 use Rattle.zcore_standard.specs.Words.{are_writable, write_bytes}
 use Rattle.machine_frames.specs.Contents.{Contents, memory_of}
 use Rattle.machine_frames.specs.States.{state_of, IsSound}
@@ -26,10 +29,13 @@ use Rattle.machine_frames.specs.Went.{GoesOn, Went, Told}
 use Rattle.machine_frames.specs.declared.end.End.{End}
 use Rattle.machine_frames.specs.declared.end.End.TheVariants as ends
 use Rattle.machine_frames.proofs.Kept.{Writes, length-memory, writes_goes_on, writes_state}
-use Rattle.machine_frames.proofs.Steps.{goes_on_after, given_up_after, goes_on_still, went_halt, told_halt}
+use Rattle.machine_frames.proofs.Steps.{goes_on_after, given_up_after, goes_on_still, went_halt, told_as, told_halt}
+use Rattle.machine_frames.proofs.Steps.{told_no_further, told_sound, told_still, told_then, told_went}
 use Rattle.machine_lines.specs.Lines.{Filled, Fills}
 use Rattle.machine_lines.proofs.Filling.{filled_then}
+use Rattle.machine_opcodes.specs.Says.{Says}
 use Rattle.machine_opcodes.specs.Seen.{seen}
+use Rattle.machine_opcodes.proofs.Saying.{went_says}
 use Rattle.machine_standard_windows.proofs.TurnTexts.{text_cut, text_behind}
 
 -- a text behind which something was added, and which is then cut
@@ -142,42 +148,70 @@ pub none_closed : (s : Recording Contents) (x extra : List ℕ) (here : Here) (a
 none_closed s x extra here after [] sound e = record { told = (goes_on_still s sound, refl) }
 none_closed s x extra here after (a ∷ others) sound e = absurd (omega (arith, e))
 
-pub first_closed : {s t : Recording Contents} {x y z : List ℕ} (extra : List ℕ) (here : Here) (after : ℕ)
-    (streams left seen : List Stream) (stream d : Stream) (there : Here) → length streams ≢ 0 → seen ≡ streams
-    → stream ≡ get_or seen 0 d → left ≡ remove streams 0
-    → ((u : State) → settled (record (past here after) { streams = left }) (record u { text = y })
-    ≡ done there (record u { text = z }))
-    → Told (Ok tt) s x t y (close extra stream) → Told (Ok there) s x t z (close_first extra here after streams)
-first_closed extra here after [] left seen stream d there some same is rest settles w = absurd (some refl)
-first_closed {s} {t} {x} {y} extra here after (a ∷ others) left seen stream d there some same is rest settles w =
-    let first : stream ≡ a = is ∙ ap (λ l. get_or l 0 d) same in
-    let closes : close extra stream (state_of s.store x) ≡ close extra a (state_of s.store x) =
-    ap (λ c. close extra c (state_of s.store x)) first in
-    record {
-      told = (
-        w.told.0,
-        ap (λ o. bound o (λ _. settled (record (past here after) { streams = others }))) (sym closes ∙ w.told.1)
-            ∙ ap (λ l. settled (record (past here after) { streams = l }) (state_of t.store y)) (sym rest)
-            ∙ settles (state_of t.store y),
-      );
-    }
+-- it was given so many bytes, whatever its characters are
+pub units_of_given : {s : Recording Contents} (r : Result ℕ End) (x given : List ℕ) (stream : Stream) (fuel : ℕ)
+    → IsSound s.store → given ≡ drop stream.from x → Says r (spend_for (length given) fuel)
+    → Told r s x s x (spend_cut stream fuel)
+unfolding spend_cut
+units_of_given {s} r x given stream fuel sound is h =
+    let size : length x - stream.from ≡ length given = sym (ap length is ∙ length-drop stream.from x) in
+    told_as r (spend_cut stream fuel) (ap (λ n. spend_for n fuel (state_of s.store x)) size)
+    (told_went r x (went_says r s sound h))
 
-pub first_stays : {e : End} {s t : Recording Contents} {x y : List ℕ} (extra : List ℕ) (here : Here) (after : ℕ)
+-- it is closed as this one, with others after it
+abbrev pub closing : List ℕ → Here → ℕ → List Stream → Stream → State → Out Here
+closing extra here after others stream = do
+  _ ← test_table extra stream
+  fuel ← spend_cut stream here.next.fuel
+  _ ← close extra stream
+  settled (record (on here (record { program_counter = after; fuel = fuel })) { streams = others })
+
+first_of : {r : Result Here End} {s t : Recording Contents} {x y : List ℕ} (extra : List ℕ) (here : Here) (after : ℕ)
     (streams seen : List Stream) (stream d : Stream) → length streams ≢ 0 → seen ≡ streams → stream ≡ get_or seen 0 d
-    → Told {A = Unit {0}} (Err e) s x t y (close extra stream)
-    → Told {A = Here} (Err e) s x t y (close_first extra here after streams)
-first_stays extra here after [] seen stream d some same is w = absurd (some refl)
-first_stays {e = ends.Memory} extra here after (a ∷ others) seen stream d some same is w = record { told = w.told }
-first_stays {e = ends.Stop p} {s} {t} {x} {y} extra here after (a ∷ others) seen stream d some same is w =
-    let first : stream ≡ a = is ∙ ap (λ l. get_or l 0 d) same in
-    let closes : close extra stream (state_of s.store x) ≡ close extra a (state_of s.store x) =
-    ap (λ c. close extra c (state_of s.store x)) first in
-    record {
-      told = (
-        w.told.0,
-        ap (λ o. bound o (λ _. settled (record (past here after) { streams = others }))) (sym closes ∙ w.told.1),
-      );
-    }
+    → Told r s x t y (closing extra here after (remove streams 0) stream)
+    → Told r s x t y (close_first extra here after streams)
+first_of extra here after [] seen stream d some same is w = absurd (some refl)
+first_of {r} {s} {t} {x} {y} extra here after (a ∷ others) seen stream d some same is w =
+    subst (λ c. Told r s x t y (closing extra here after others c)) (is ∙ ap (λ l. get_or l 0 d) same) w
+
+module _ {s : Recording Contents} {x : List ℕ} (extra : List ℕ) (here : Here) (after : ℕ) (streams seen : List Stream)
+    (stream d : Stream) (some : length streams ≢ 0) (same : seen ≡ streams) (is : stream ≡ get_or seen 0 d) where
+  pub first_unfit : {e : End} → Told {A = Unit {0}} (Err e) s x s x (test_table extra stream)
+      → Told {A = Here} (Err e) s x s x (close_first extra here after streams)
+  first_unfit h = first_of extra here after streams seen stream d some same is (told_no_further _ h)
+
+  pub first_unpaid : {e : End} → Told (Ok tt) s x s x (test_table extra stream)
+      → Told {A = ℕ} (Err e) s x s x (spend_cut stream here.next.fuel)
+      → Told {A = Here} (Err e) s x s x (close_first extra here after streams)
+  first_unpaid fits h = first_of extra here after streams seen stream d some same is
+      (told_then _ fits (told_no_further _ h))
+
+  pub first_stays : {e : End} {t : Recording Contents} {y : List ℕ} {fuel : ℕ}
+      → Told (Ok tt) s x s x (test_table extra stream)
+      → Told (Ok fuel) s x s x (spend_cut stream here.next.fuel)
+      → Told {A = Unit {0}} (Err e) s x t y (close extra stream)
+      → Told {A = Here} (Err e) s x t y (close_first extra here after streams)
+  first_stays fits paid w = first_of extra here after streams seen stream d some same is
+      (told_then _ fits (told_then _ paid (told_no_further _ w)))
+
+  pub first_closed : {t : Recording Contents} {y z : List ℕ} {fuel : ℕ} (left : List Stream) (there : Here)
+      → left ≡ remove streams 0
+      → ((u : State) → settled (record (on here (record { program_counter = after; fuel = fuel })) { streams = left })
+      (record u { text = y }) ≡ done there (record u { text = z }))
+      → Told (Ok tt) s x s x (test_table extra stream)
+      → Told (Ok fuel) s x s x (spend_cut stream here.next.fuel)
+      → Told (Ok tt) s x t y (close extra stream)
+      → Told (Ok there) s x t z (close_first extra here after streams)
+  first_closed {t} {y} {z} {fuel} left there rest settles fits paid w =
+      let settling = λ (l : List Stream).
+      settled (record (on here (record { program_counter = after; fuel = fuel })) { streams = l }) in
+      first_of extra here after streams seen stream d some same is
+      (told_then _ fits (told_then _ paid (told_then _ w (record {
+        told = (
+          goes_on_still t (told_sound w),
+          ap (λ l. settling l (state_of t.store y)) (sym rest) ∙ settles (state_of t.store y),
+        );
+      }))))
 
 -- each
 
@@ -272,6 +306,31 @@ unfolding write_bytes
 table_refused s at characters sound fails =
     let size : length (counted characters) ≡ length characters + 2 = omega arith in
     went_halt s (write_bytes at (counted characters)) sound (λ t. rw (size, fails) refl)
+
+-- what a stream was given fits in its table, or does not
+fits_by : (s : Recording Contents) (extra x given : List ℕ) (stream : Stream) (count : ℕ) (b : Bool)
+    → given ≡ drop stream.from x → count ≡ length (characters_in between given)
+    → b ≡ are_writable (memory_of s.store) stream.table (count + 2)
+    → test_table extra stream (state_of s.store x) ≡ test b faults.Write (state_of s.store x)
+unfolding test_table
+fits_by s extra x given stream count b is many e =
+    let codes : length (zscii_in extra (drop stream.from x)) ≡ count =
+    length-map (characters_in between (drop stream.from x)) (zscii_of extra)
+    ∙ sym (many ∙ ap (λ l. length (characters_in between l)) is) in
+    let size : length (counted (zscii_in extra (drop stream.from x))) ≡ count + 2 = omega (arith, codes) in
+    ap (λ (c : Bool). test c faults.Write (state_of s.store x))
+    (ap (are_writable (memory_of s.store) stream.table) size ∙ sym e)
+
+module _ (s : Recording Contents) (extra x given : List ℕ) (stream : Stream) (count : ℕ) (sound : IsSound s.store)
+    (is : given ≡ drop stream.from x) (many : count ≡ length (characters_in between given)) where
+  pub given_fits : are_writable (memory_of s.store) stream.table (count + 2) ≡ true
+      → Told (Ok tt) s x s x (test_table extra stream)
+  given_fits e = told_still s (test_table extra stream) x sound (fits_by s extra x given stream count true is many (sym e))
+
+  pub given_unfit : are_writable (memory_of s.store) stream.table (count + 2) ≡ false
+      → Told {A = Unit {0}} (Err (ends.Stop (places.Fault faults.Write))) s x s x (test_table extra stream)
+  given_unfit e = told_halt s (test_table extra stream) x sound
+      (fits_by s extra x given stream count false is many (sym e))
 
 -- The transcript
 

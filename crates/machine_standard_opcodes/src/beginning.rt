@@ -17,6 +17,7 @@ use crate::streams::cut_to_heard;
 use journal::{NoMemory, Recorded};
 use machine_frames::layout::{FRAME_COUNT, HEIGHT, MEMORY, NO_VARIABLE, RECORD, RECORDS, WAITING};
 use machine_frames::{End, Store, put_all};
+use machine_standard_texts::spend_for;
 use machine_standard_windows::Around;
 use zcore::layout::HEADER_LENGTH;
 use zcore::{Limit, Next, Place};
@@ -24,7 +25,8 @@ use zcore_standard::Loaded;
 
 /// Begins the story anew: `restart`. Dynamic memory after the header is as it was loaded, the first
 /// environment runs, no line is waited for, window and dice are as at loading, and no stream is
-/// open; what was printed to one or to the upper window is dropped. It takes a unit of fuel.
+/// open; what was printed to one or to the upper window is dropped. It takes a unit of fuel, and more
+/// for the bytes of dynamic memory.
 ///
 /// # Errors
 ///
@@ -48,9 +50,11 @@ pub fn restart(
     if here.fuel == 0 {
         return Err(End::Stop(Place::Limit(Limit::Fuel)));
     }
+    let dynamic = loaded.dynamic();
+    let fuel = spend_for(dynamic.len(), here.fuel - 1)?;
     let memory = store.store().memory();
     let program_counter = memory[6] as u32 * 256 + memory[7] as u32;
-    fill(store, HEADER_LENGTH, after_header(loaded.dynamic()))?;
+    fill(store, HEADER_LENGTH, after_header(dynamic))?;
     empty(store)?;
     cut_to_heard(text, start, around);
     around.beside = loaded.dice();
@@ -58,7 +62,7 @@ pub fn restart(
     around.upper = None;
     Ok(Next {
         program_counter,
-        fuel: here.fuel - 1,
+        fuel,
     })
 }
 

@@ -14,10 +14,11 @@ ghost use Rattle.machine_opcodes.specs.Seen.{seen};
 ghost use Rattle.machine_standard_windows.specs.Around.{place, Keeps};
 
 use crate::beginning::fill;
-use crate::zscii::add_zscii;
+use crate::zscii::{add_zscii, count_characters};
 use journal::{NoMemory, Recorded};
 use machine_frames::layout::MEMORY;
 use machine_frames::{End, Store};
+use machine_standard_texts::spend_for;
 use machine_standard_windows::{Around, cut, drop_upper, settle};
 use zcore::layout::HEADER_LENGTH;
 use zcore::{Fault, Header, Next, Place};
@@ -39,14 +40,15 @@ const NO_TRANSCRIPT: u16 = 0xFFFE;
 const FLAGS_2: usize = 17;
 
 /// Selects or closes a stream of output: `output_stream`. A memory stream that is closed is cut from
-/// the text of the turn, and written to its table as ZSCII. The transcript is always written; a bit
-/// of the header tells whether the story has turned it on.
+/// the text of the turn, and written to its table as ZSCII, which takes fuel for the bytes that are
+/// cut. The transcript is always written; a bit of the header tells whether the story has turned it
+/// on.
 ///
 /// # Errors
 ///
 /// M1 for a memory stream without a table, M12 for a seventeenth, M4 where what a stream was given
-/// does not fit in dynamic memory, after the header. `End::Memory` where memory was refused: the
-/// turn is given up.
+/// does not fit in dynamic memory, after the header, and then the limit of fuel. `End::Memory` where
+/// memory was refused: the turn is given up.
 pub fn output_stream(
     header: &Header,
     store: &mut Recorded<Store>,
@@ -139,7 +141,7 @@ fn open_stream(
 }
 
 /// Closes the innermost stream, if there is one. After the last one the upper window is there if it
-/// is selected. M4.
+/// is selected. M4, then the limit of fuel.
 fn close_first(
     header: &Header,
     store: &mut Recorded<Store>,
@@ -158,18 +160,53 @@ fn close_first(
     ensures text { Keeps start text.old.items text.new.items }
     ensures around { OnErr result (around.new ≡ around.old) }
 {
-    let next = Next {
-        program_counter: after,
-        fuel: here.fuel,
-    };
     if around.streams.as_slice().len() == 0 {
-        return Ok(next);
+        return Ok(Next {
+            program_counter: after,
+            fuel: here.fuel,
+        });
     }
     let stream = around.streams.as_slice()[0];
+    let given = given_to(text, start, stream);
+    test_table(header, store, given, stream)?;
+    let fuel = spend_for(given.len(), here.fuel)?;
     close(header, store, text, start, loaded.characters(), stream)?;
     around.streams.remove(0);
     settle(text, start, around);
-    Ok(next)
+    Ok(Next {
+        program_counter: after,
+        fuel,
+    })
+}
+
+/// What was printed since a stream was opened.
+fn given_to(text: &Vec<u8>, start: usize, stream: Stream) -> &[u8]
+    requires { HasBegun start text.now.items }
+    ensures { result.now ≡ drop stream.from (drop start text.now.items) }
+{
+    let kept = (stream.from as usize).min(text.len() - start);
+    &text[start + kept..]
+}
+
+/// Tests whether what a stream was given fits in its table, and changes nothing. M4.
+fn test_table(
+    header: &Header,
+    store: &Recorded<Store>,
+    given: &[u8],
+    stream: Stream,
+) -> Result<(), End>
+    requires store { IsStoreOf header.now store.now.store }
+    requires few { length given.now ≤ text_limit }
+    ensures { (extra text : List ℕ) → given.now ≡ drop stream.from text
+        → Told result store.now text store.now text (definitions.test_table extra stream) }
+{
+    let _store = store;
+    let count = count_characters(given);
+    if are_writable(header.static_base, stream.table as usize, count + 2) {
+        Ok(())
+    } else {
+        Err(End::Stop(Place::Fault(Fault::Write)))
+    }
 }
 
 /// Closes each of these streams, of which the innermost is first. M4.

@@ -43,6 +43,23 @@ pub(crate) fn add_zscii(text: &mut Vec<u8>, from: usize, extra: &[u16]) -> Resul
     Ok(())
 }
 
+/// How many characters bytes are.
+pub(crate) fn count_characters(bytes: &[u8]) -> usize
+    ensures same { result ≡ length (definitions.characters_in definitions.between bytes.now) }
+    ensures few { result ≤ length bytes.now }
+{
+    let mut begun = BETWEEN;
+    let mut count = 0;
+    for i in 0..bytes.len() {
+        begun = next_byte(begun, bytes[i]);
+        if begun.more == 0 {
+            begun = BETWEEN;
+            count += 1;
+        }
+    }
+    count
+}
+
 /// Adds the code of a character that is whole, and begins another. One that is not whole goes on.
 fn add_whole(text: &mut Vec<u8>, extra: &[u16], begun: Begun) -> Result<Begun, AllocError>
     ensures added { IfOk result

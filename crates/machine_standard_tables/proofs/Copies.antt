@@ -10,6 +10,7 @@ use Rattle.zcore.specs.Arithmetic.{is_negative, magnitude}
 use Rattle.zcore.specs.Header.{static_base_of}
 use Rattle.zcore.specs.Parts.{is_writable}
 use Rattle.zcore.specs.State.{State, Out, done, ◌>>=◌}
+use Rattle.zcore_standard.specs.Fuel.{spend_for}
 use Rattle.zcore_standard.specs.Tables.{are_readable, are_writable, cleared, copied_at_once, copied_forwards}
 use Rattle.zcore_standard.specs.Tables.{copy_table, test_readable, test_writable, write_table}
 use Rattle.machine_frames.specs.Contents.{Contents, memory_of}
@@ -17,8 +18,10 @@ use Rattle.machine_frames.specs.States.{IsSound, state_of}
 use Rattle.machine_frames.specs.Went.{GoesOn, Went}
 use Rattle.machine_frames.specs.declared.end.End.{End}
 use Rattle.machine_frames.proofs.Kept.{length-memory}
-use Rattle.machine_frames.proofs.Steps.{goes_on_still, went_as, went_no_further, went_then}
+use Rattle.machine_frames.proofs.Steps.{goes_on_still, went_as, went_no_further, went_sound, went_then}
 use Rattle.machine_lines.specs.Lines.{Filled}
+use Rattle.machine_opcodes.specs.Says.{Says}
+use Rattle.machine_opcodes.proofs.Saying.{went_says}
 use Rattle.machine_lines.proofs.Filling.{filled_memory, filled_then}
 use Rattle.machine_lines.proofs.Lines.{base_kept}
 use Rattle.machine_standard_tables.proofs.Bytes.{cleared_more, copied_from, forwards_more, forwards_at_once, from_more}
@@ -126,12 +129,18 @@ forwards_on_ok result r t first second count readable down h =
     subst (λ m. OnOk result (Filled r t m)) (at_once (memory_of r.store) first second count readable down) h
 
 -- bytes that were tested get other values
-pub table_written : (s t : Recording Contents) (here : Next) (after at count : ℕ) (f : List ℕ → List ℕ)
-    → Went (Ok tt) s s (test_writable at count) → Filled s t (f (memory_of s.store))
-    → Went (Ok (record here { program_counter = after })) s t (write_table here after at count f)
+pub table_written : (s t : Recording Contents) (here : Next) (after at count fuel : ℕ) (f : List ℕ → List ℕ)
+    → Went (Ok tt) s s (test_writable at count) → Says (Ok fuel) (spend_for count here.fuel)
+    → Filled s t (f (memory_of s.store))
+    → Went (Ok (record { program_counter = after; fuel = fuel })) s t (write_table here after at count f)
 unfolding write_table
-table_written s t here after at count f w h = went_then _ w
-    (record { did = (h.goes_on, λ text. ap (done (record here { program_counter = after })) (sym (h.state text))) })
+table_written s t here after at count fuel f w paid h = went_then _ w
+    (went_then _ (went_says (Ok fuel) s (went_sound w) paid) (record {
+      did = (
+        h.goes_on,
+        λ text. ap (done (record { program_counter = after; fuel = fuel })) (sym (h.state text)),
+      );
+    }))
 
 -- The operation, from its parts
 
@@ -150,6 +159,13 @@ pub table_stops : {e : End} (s : Recording Contents) (here : Next) (after at cou
     → Went {A = Next} (Err e) s s (write_table here after at count f)
 unfolding write_table
 table_stops s here after at count f w = went_no_further _ w
+
+pub table_unpaid : {e : End} (s : Recording Contents) (here : Next) (after at count : ℕ) (f : List ℕ → List ℕ)
+    → Went (Ok tt) s s (test_writable at count) → Says {A = ℕ} (Err e) (spend_for count here.fuel)
+    → Went {A = Next} (Err e) s s (write_table here after at count f)
+unfolding write_table
+table_unpaid s here after at count f w unpaid = went_then _ w
+    (went_no_further _ (went_says (Err _) s (went_sound w) unpaid))
 
 pub clears : {r : Result Next End} {s t : Recording Contents} (here : Next) (after first second size count : ℕ)
     → second ≡ 0 → count ≡ magnitude size

@@ -1,5 +1,5 @@
 -- The search of a table, field by field.
-use Rattle.std.proofs.Common.{◌≡◌, ℕ, suc, ◌+◌, ◌-◌, ◌<◌, ◌≤◌, List, length, refl, ap, ◌∙◌, arith, Bool, true, false}
+use Rattle.std.proofs.Common.{◌≡◌, ℕ, zero, suc, ◌+◌, ◌-◌, ◌<◌, ◌≤◌, List, length, refl, ap, ◌∙◌, arith, Bool, true, false}
 use Rattle.std.proofs.Common.{cond, Option, Some, None, Result, Ok, Err, subst}
 use Rattle.std.specs.Prelude.{◌==◌, ◌&&◌, nat_lt}
 use Rattle.std.proofs.lemmas.Bool.{le-ltb}
@@ -96,6 +96,24 @@ module _ (s : Recording Contents) (form word table count at : ℕ) where
       same t ∙ ap (λ k. find_field form word at k (state_of s.store t)) is ∙ after_field v n w t
       ∙ ap (λ (b : Bool). cond b (done (Some at)) (find_field form word (at + field_length form) n)
       (state_of s.store t)) e
+
+  -- fields of no bytes are all the same one
+  others_alike : (v n : ℕ) → Went (Ok v) s s (read_field form at) → (v == word) ≡ false → field_length form ≡ 0
+      → (t : List ℕ) → find_field form word at n (state_of s.store t) ≡ done None (state_of s.store t)
+  unfolding find_field
+  others_alike v zero w e empty t = refl
+  others_alike v (suc n) w e empty t =
+      let same : at + field_length form ≡ at = omega (arith, empty) in
+      after_field v n w t
+      ∙ ap (λ (b : Bool). cond b (done (Some at)) (find_field form word (at + field_length form) n)
+      (state_of s.store t)) e
+      ∙ ap (λ k. find_field form word k n (state_of s.store t)) same ∙ others_alike v n w e empty t
+
+  pub find_alike : (v rest : ℕ) → FindsFrom s form word table count at rest
+      → Went (Ok v) s s (read_field form at) → (v == word) ≡ false → field_length form ≡ 0
+      → Went (Ok None) s s (find_field form word table count)
+  find_alike v rest same w e empty = went_still s (find_field form word table count) (went_sound w)
+      (λ t. same t ∙ others_alike v rest w e empty t)
 
   -- no field is left
   pub find_none : (rest : ℕ) → rest ≡ 0 → IsSound s.store → FindsFrom s form word table count at rest

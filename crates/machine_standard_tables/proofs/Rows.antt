@@ -10,12 +10,15 @@ use Rattle.journal.specs.Recording.{Recording}
 use Rattle.zcore.specs.declared.next.Next.{Next}
 use Rattle.zcore.specs.Parts.{goes_on}
 use Rattle.zcore_standard.specs.Characters.{print_codes}
+use Rattle.zcore_standard.specs.Fuel.{spend_for}
 use Rattle.zcore_standard.specs.Tables.{are_readable, print_table, row_division, rows, rows_size}
 use Rattle.zcore_standard.specs.Tables.{test_readable}
 use Rattle.machine_frames.specs.Contents.{Contents, memory_of}
 use Rattle.machine_frames.specs.Went.{Told, Went}
 use Rattle.machine_frames.specs.declared.end.End.{End}
-use Rattle.machine_frames.proofs.Steps.{told_as, told_no_further, told_sound, told_still, told_then, told_went, went_no_further}
+use Rattle.machine_frames.proofs.Steps.{told_as, told_no_further, told_sound, told_still, told_then, told_went, went_no_further, went_sound, went_then}
+use Rattle.machine_opcodes.specs.Says.{Says}
+use Rattle.machine_opcodes.proofs.Saying.{went_says}
 use Rattle.machine_standard_texts.proofs.Adding.{codes_two, codes_first}
 use Rattle.machine_standard_tables.proofs.Tests.{readable_each}
 
@@ -148,20 +151,32 @@ module _ {e : End} (s : Recording Contents) where
   table_unread characters x here after text width height skip size is w = told_went _ x
       (went_no_further _ (subst (λ n. Went {A = Unit {0}} (Err e) s s (test_readable text n)) is w))
 
+  pub table_unpaid : (characters x : List ℕ) (here : Next) (after text width height skip size : ℕ)
+      → size ≡ rows_size width height skip → Went (Ok tt) s s (test_readable text size)
+      → Says {A = ℕ} (Err e) (spend_for (width * height) here.fuel)
+      → Told {A = Next} (Err e) s x s x (print_table characters here after text width height skip)
+  unfolding print_table
+  table_unpaid characters x here after text width height skip size is w unpaid = told_went _ x
+      (went_then _ (subst (λ n. Went (Ok tt) s s (test_readable text n)) is w)
+      (went_no_further _ (went_says (Err _) s (went_sound w) unpaid)))
+
 module _ {t : Recording Contents} {x y : List ℕ} (s : Recording Contents) (characters : List ℕ) (here : Next)
-    (after text width height skip size : ℕ) (is : size ≡ rows_size width height skip)
+    (after text width height skip size fuel : ℕ) (is : size ≡ rows_size width height skip)
     (w : Went (Ok tt) s s (test_readable text size)) where
-  pub table_stops : {e : End}
+  pub table_stops : {e : End} → Says (Ok fuel) (spend_for (width * height) here.fuel)
       → Told {A = Unit {0}} (Err e) s x t y (print_codes characters (rows (memory_of s.store) text width skip height))
       → Told {A = Next} (Err e) s x t y (print_table characters here after text width height skip)
   unfolding print_table
-  table_stops h = told_then _ (told_went _ x (subst (λ n. Went (Ok tt) s s (test_readable text n)) is w))
-      (told_no_further (λ _. goes_on after here.fuel) (told_as _ _ refl h))
+  table_stops paid h = told_then _ (told_went _ x (subst (λ n. Went (Ok tt) s s (test_readable text n)) is w))
+      (told_then _ (told_went _ x (went_says (Ok fuel) s (went_sound w) paid))
+      (told_no_further (λ _. goes_on after fuel) (told_as _ _ refl h)))
 
-  pub table_told : Told (Ok tt) s x t y (print_codes characters (rows (memory_of s.store) text width skip height))
-      → Told (Ok (record here { program_counter = after })) s x t y
+  pub table_told : Says (Ok fuel) (spend_for (width * height) here.fuel)
+      → Told (Ok tt) s x t y (print_codes characters (rows (memory_of s.store) text width skip height))
+      → Told (Ok (record { program_counter = after; fuel = fuel })) s x t y
       (print_table characters here after text width height skip)
   unfolding print_table
-  table_told h = told_then _ (told_went _ x (subst (λ n. Went (Ok tt) s s (test_readable text n)) is w))
-      (told_then (λ _. goes_on after here.fuel) (told_as _ _ refl h)
-      (told_still t (goes_on after here.fuel) y (told_sound h) refl))
+  table_told paid h = told_then _ (told_went _ x (subst (λ n. Went (Ok tt) s s (test_readable text n)) is w))
+      (told_then _ (told_went _ x (went_says (Ok fuel) s (went_sound w) paid))
+      (told_then (λ _. goes_on after fuel) (told_as _ _ refl h)
+      (told_still t (goes_on after fuel) y (told_sound h) refl)))

@@ -14,16 +14,17 @@ use journal::{NoMemory, Recorded};
 use machine_frames::layout::MEMORY;
 use machine_frames::{End, Store};
 use machine_opcodes::NEGATIVE;
+use machine_standard_texts::spend_for;
 use zcore::{Header, Next};
 
 /// Copies a table to another: `copy_table`. The size is a signed number of bytes. A negative size
 /// copies forwards, even where this overwrites bytes that are still to be copied; another copies as
-/// if at once. Where the second table is 0, the first is cleared.
+/// if at once. Where the second table is 0, the first is cleared. It takes fuel for its bytes.
 ///
 /// # Errors
 ///
-/// M3 where a byte to copy cannot be read, then M4 where one cannot be written; nothing is written
-/// then. `End::Memory` where memory was refused: the turn is given up.
+/// M3 where a byte to copy cannot be read, then M4 where one cannot be written, then the limit of
+/// fuel; nothing is written then. `End::Memory` where memory was refused: the turn is given up.
 pub fn copy_table(
     header: &Header,
     store: &mut Recorded<Store>,
@@ -36,18 +37,23 @@ pub fn copy_table(
     requires { IsStoreOf header.now store.old.store }
     ensures { Went result store.old store.new (copy_table here after first second size) }
 {
-    let next = Next {
-        program_counter: after,
-        fuel: here.fuel,
-    };
     let count = magnitude(size) as usize;
     if second == 0 {
         test_writable(header, store, first as usize, count)?;
+        let fuel = spend_for(count, here.fuel)?;
         clear(store, first as usize, count)?;
-        return Ok(next);
+        return Ok(Next {
+            program_counter: after,
+            fuel,
+        });
     }
     test_readable(store, first as usize, count)?;
     test_writable(header, store, second as usize, count)?;
+    let fuel = spend_for(count, here.fuel)?;
+    let next = Next {
+        program_counter: after,
+        fuel,
+    };
     if size < NEGATIVE {
         copy_at_once(store, first as usize, second as usize, count)?;
         return Ok(next);

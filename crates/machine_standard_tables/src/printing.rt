@@ -10,16 +10,18 @@ ghost use Rattle.machine_frames.specs.States.{IsSound};
 use crate::testing::test_readable;
 use journal::Recorded;
 use machine_frames::{End, Store};
-use machine_standard_texts::print_code;
+use machine_standard_texts::{print_code, spend_for};
 use zcore::Next;
 use zcore::layout::NEW_LINE;
 
 /// Prints a table of ZSCII codes, with a new line between a row and the next: `print_table`. These are
-/// the characters of the codes from 155 on. Between rows, `skip` bytes are not printed.
+/// the characters of the codes from 155 on. Between rows, `skip` bytes are not printed. It takes fuel
+/// for the characters.
 ///
 /// # Errors
 ///
-/// M3 where a byte to print cannot be read; nothing is printed then. The limit of text.
+/// M3 where a byte to print cannot be read, then the limit of fuel; nothing is printed then. The
+/// limit of text.
 /// `End::Memory` where memory was refused: the turn is given up.
 pub fn print_table(
     store: &mut Recorded<Store>,
@@ -40,10 +42,11 @@ pub fn print_table(
     ensures text { Grew start text.old.items text.new.items }
 {
     test_readable(store, table as usize, rows_size(width, height, skip))?;
+    let fuel = spend_for(width as usize * height as usize, here.fuel)?;
     print_rows(store, text, start, characters, table, width, height, skip)?;
     Ok(Next {
         program_counter: after,
-        fuel: here.fuel,
+        fuel,
     })
 }
 

@@ -2,13 +2,14 @@
 
 ghost use Rattle.std.specs.Prelude.{◌≡◌, ◌<◌, ◌≤◌, OnOk};
 ghost use Rattle.zcore.specs.Layout.{longest_story};
-ghost use Rattle.zcore_standard.specs.Tables.{has_words, read_field, find_field, give_found, scan_table};
+ghost use Rattle.zcore_standard.specs.Tables.{field_length, find_field, give_found, has_words, read_field, scan_table};
 ghost use Rattle.machine_frames.specs.States.{IsSound, IsStoreOf};
 ghost use Rattle.machine_frames.specs.Went.{Went};
 
 use journal::Recorded;
 use machine_frames::{End, Store, read_byte, read_word, store_result, test_result};
 use machine_opcodes::{branch_on, test_branch};
+use machine_standard_texts::spend_for;
 use zcore::layout::READABLE;
 use zcore::{Branch, Fault, Header, Next, Place};
 
@@ -18,11 +19,11 @@ const FIELD_LENGTHS: u16 = 128;
 /// Stores the address of the first field of a table that begins with a word, and branches:
 /// `scan_table`. Where no field does, it stores 0 and does not branch. Bit 7 of `form` says whether
 /// the first word of a field is compared, or its first byte; the seven low bits say how many bytes
-/// a field has.
+/// a field has. It takes fuel for the bytes of all fields.
 ///
 /// # Errors
 ///
-/// M3 where a field that is read is not in readable memory. Then M6 and M4 of the result, and the
+/// The limit of fuel, before the search. M3 where a field that is read is not in readable memory. Then M6 and M4 of the result, and the
 /// faults of the branch. `End::Memory` where memory was refused: the turn is given up.
 pub fn scan_table(
     header: &Header,
@@ -41,8 +42,23 @@ pub fn scan_table(
     ensures { Went result store.old store.new
         (scan_table here after result_variable branch word table count form) }
 {
+    let fuel = spend_for(count as usize * field_length(form), here.fuel)?;
     let found = find_field(store, form, word, table, count)?;
+    let program_counter = here.program_counter;
+    let here = Next {
+        program_counter,
+        fuel,
+    };
     give_found(header, store, here, after, result_variable, branch, found)
+}
+
+/// How many bytes a field has.
+#[inline]
+fn field_length(form: u16) -> usize
+    ensures same { result ≡ field_length form }
+    ensures short { result < 128 }
+{
+    (form % FIELD_LENGTHS) as usize
 }
 
 /// The address of the first of `count` fields that begins with a word. M3.
@@ -56,12 +72,16 @@ fn find_field(
     requires { IsSound store.now.store }
     ensures { Went result store.now store.now (find_field form word table count) }
 {
-    let length = (form % FIELD_LENGTHS) as usize;
+    let length = field_length(form);
     let mut at = table as usize;
     for step in 0..count {
         let value = read_field(store, form, at)?;
         if value == word {
             return Ok(Some(at as u16));
+        }
+        // Fields of no bytes take no fuel; each is the first one.
+        if length == 0 {
+            return Ok(None);
         }
         at += length;
     }

@@ -12,6 +12,7 @@ use Rattle.zcore.specs.State.{Frame, State, done, halt}
 use Rattle.zcore.specs.Turn.{first_environment, first_state}
 use Rattle.zcore_standard.specs.declared.operations.Further.TheVariants.{Piracy, Save, Restore, SaveUndo, RestoreUndo}
 use Rattle.zcore_standard.specs.Flow.{restart, catch, leave_frame, throw, verify}
+use Rattle.zcore_standard.specs.Fuel.{spend_for}
 use Rattle.zcore_standard.specs.Further.{perform_keeping}
 use Rattle.zcore_standard.specs.Place.{Here, plain}
 use Rattle.zcore_standard.specs.Loaded.{Loaded, seeded}
@@ -53,7 +54,7 @@ restarted : restart loaded playing
     (record (first_state (story 5)) { frames = called 70 ∷ first_environment ∷ []; text = 65 ∷ 66 ∷ 67 ∷ [] })
     ≡ done (plain (seeded 12345) (record { program_counter = 66; fuel = 4 }))
     (record (first_state (story 1)) { text = 65 ∷ [] })
-unfolding restart spend
+unfolding restart spend spend_for
 restarted = refl
 
 no_fuel : restart loaded (record playing { next = record here { fuel = 0 } }) (first_state (story 5))

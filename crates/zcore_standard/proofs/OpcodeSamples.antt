@@ -114,6 +114,12 @@ scan : decode_further (at_64 (0xF7 ∷ 0x17 ∷ 1 ∷ 44 ∷ 16 ∷ 4 ∷ 1 ∷ 
 unfolding decode_further types_at result_at branch_after byte large operand operands
 scan = refl
 
+-- sound_effect without operands
+silence : decode_further (at_64 (0xF5 ∷ 0xFF ∷ [])) 64 operations.SoundEffect
+    ≡ Ok (record { operands = []; result = None; branch = None }, 66)
+unfolding decode_further types_at result_at branch_after byte operand operands
+silence = refl
+
 -- M1: log_shift with one operand, and aread without any
 few : decode_further (at_64 (0xBE ∷ 2 ∷ 0x7F ∷ 5 ∷ 0 ∷ [])) 64 operations.LogShift ≡ Err faults.Opcode
 unfolding decode_further types_at byte

@@ -7,11 +7,12 @@ use Rattle.zcore.specs.Parts.{test_result, wait}
 use Rattle.zcore.specs.State.{State, done, halt}
 use Rattle.zcore.specs.Turn.{first_state}
 use Rattle.zcore_standard.specs.declared.streams.Stream.{Stream}
+use Rattle.zcore_standard.specs.Fuel.{spend_for}
 use Rattle.zcore_standard.specs.Loaded.{seeded}
 use Rattle.zcore_standard.specs.Place.{Here, plain}
 use Rattle.zcore_standard.specs.Reading.{test_room, test_slots_or_none, wait_for_line, read_line}
 use Rattle.zcore_standard.specs.Streams.{characters_in, code_among, zscii_in, open_stream, close, close_all, heard}
-use Rattle.zcore_standard.specs.Streams.{set_transcript, output_stream, begin_read}
+use Rattle.zcore_standard.specs.Streams.{test_table, spend_cut, set_transcript, output_stream, begin_read}
 use Rattle.zcore_standard.specs.Unicode.{default_characters}
 use Rattle.zcore_standard.specs.Windows.{settled, show_upper}
 use Rattle.zcore_standard.specs.Words.{write_bytes}
@@ -57,7 +58,7 @@ opened = refl
 
 closed : output_stream [] (with_streams (stream 64 2 ∷ []) 104) 107 (0xFFFD ∷ []) (state 0 empty (codes "abHi!"))
     ≡ done (with_streams [] 107) (state 0 (0 ∷ 3 ∷ codes "Hi!" ++ replicate 3 9) (codes "ab"))
-unfolding output_stream close characters_in write_bytes settled
+unfolding output_stream test_table spend_cut close characters_in write_bytes settled spend_for
 closed = refl
 
 -- the inner one of two; what it was given is not given to the outer one
@@ -66,7 +67,7 @@ inner : output_stream [] (with_streams (stream 72 4 ∷ stream 64 2 ∷ []) 104)
     (record (state 0 empty (codes "abHi")) {
       memory = replicate 15 0 ++ (80 ∷ []) ++ replicate 48 0 ++ replicate 8 9 ++ 0 ∷ 0 ∷ replicate 6 9;
     })
-unfolding output_stream close characters_in write_bytes settled
+unfolding output_stream test_table spend_cut close characters_in write_bytes settled spend_for
 inner = refl
 
 none_to_close : output_stream [] (with_streams [] 104) 107 (0xFFFD ∷ []) (state 0 empty (codes "ab"))
@@ -92,7 +93,7 @@ seventeenth = refl
 
 no_room : output_stream [] (with_streams (stream 77 0 ∷ []) 104) 107 (0xFFFD ∷ []) (state 0 empty (codes "Hi"))
     ≡ halt (places.Fault faults.Write) (state 0 empty (codes "Hi"))
-unfolding output_stream close characters_in write_bytes
+unfolding output_stream test_table characters_in
 no_room = refl
 
 -- what is heard where two streams are open

@@ -10,6 +10,7 @@ use Rattle.zcore.specs.Parts.{take_branch, test_branch, test_taken, test_target}
 use Rattle.zcore.specs.State.{State, done, halt}
 use Rattle.zcore.specs.Turn.{first_environment, first_state}
 use Rattle.zcore_standard.specs.Characters.{print_each}
+use Rattle.zcore_standard.specs.Fuel.{spend_for}
 use Rattle.zcore_standard.specs.Unicode.{default_characters, print_whole}
 use Rattle.zcore_standard.specs.Tables.{find_field, read_field, give_found, scan_table, test_readable, test_writable, copied_forwards}
 use Rattle.zcore_standard.specs.Tables.{write_table, copy_table, rows, print_table}
@@ -78,42 +79,42 @@ branch = Some (record { when = true; offset = 10 })
 
 scans : scan_table at_70 74 (Some 0) branch 9 68 4 0x82 (start words)
     ≡ done (record at_70 { program_counter = 82 }) (pushed words 70)
-unfolding scan_table find_field read_field read_word give_found test_result test_branch test_taken test_target store_result write_variable push branch_on take_branch go
+unfolding scan_table find_field read_field read_word give_found test_result test_branch test_taken test_target store_result write_variable push branch_on take_branch go spend_for
 scans = refl
 
 -- 0 is stored, and the branch is not made
 scans_in_vain : scan_table at_70 74 (Some 0) branch 8 68 4 0x82 (start words)
     ≡ done (record at_70 { program_counter = 74 }) (pushed words 0)
-unfolding scan_table find_field read_field read_word give_found test_result test_branch store_result write_variable push branch_on
+unfolding scan_table find_field read_field read_word give_found test_result test_branch store_result write_variable push branch_on spend_for
 scans_in_vain = refl
 
 abbrev letters : List ℕ
 letters = codes "abcdefghijkl"
 
 clears : copy_table here 106 70 0 3 (start letters) ≡ done there (start (codes "ab" ++ 0 ∷ 0 ∷ 0 ∷ codes "fghijkl"))
-unfolding copy_table write_table test_writable
+unfolding copy_table write_table test_writable spend_for
 clears = refl
 
 clears_negative : copy_table here 106 70 0 65533 (start letters)
     ≡ done there (start (codes "ab" ++ 0 ∷ 0 ∷ 0 ∷ codes "fghijkl"))
-unfolding copy_table write_table test_writable
+unfolding copy_table write_table test_writable spend_for
 clears_negative = refl
 
 copies_up : copy_table here 106 68 70 4 (start letters) ≡ done there (start (codes "ababcdghijkl"))
-unfolding copy_table write_table test_writable test_readable
+unfolding copy_table write_table test_writable test_readable spend_for
 copies_up = refl
 
 copies_down : copy_table here 106 70 68 4 (start letters) ≡ done there (start (codes "cdefefghijkl"))
-unfolding copy_table write_table test_writable test_readable
+unfolding copy_table write_table test_writable test_readable spend_for
 copies_down = refl
 
 -- a negative size fills a table with its beginning
 copies_forwards : copy_table here 106 68 70 65532 (start letters) ≡ done there (start (codes "abababghijkl"))
-unfolding copy_table write_table test_writable test_readable copied_forwards
+unfolding copy_table write_table test_writable test_readable copied_forwards spend_for
 copies_forwards = refl
 
 copies_nothing : copy_table here 106 200 300 0 (start letters) ≡ done there (start letters)
-unfolding copy_table write_table test_writable test_readable
+unfolding copy_table write_table test_writable test_readable spend_for
 copies_nothing = refl
 
 reads_past_the_end : copy_table here 106 81 68 4 (start letters) ≡ halt (places.Fault faults.Read) (start letters)
@@ -122,11 +123,11 @@ reads_past_the_end = refl
 
 writes_past_dynamic_memory : copy_table here 106 68 77 4 (start letters)
     ≡ halt (places.Fault faults.Write) (start letters)
-unfolding copy_table write_table test_writable test_readable
+unfolding copy_table write_table test_writable test_readable spend_for
 writes_past_dynamic_memory = refl
 
 writes_the_header : copy_table here 106 68 63 2 (start letters) ≡ halt (places.Fault faults.Write) (start letters)
-unfolding copy_table write_table test_writable test_readable
+unfolding copy_table write_table test_writable test_readable spend_for
 writes_the_header = refl
 
 abbrev printed : List ℕ → List ℕ → State
@@ -134,19 +135,19 @@ printed table text = record (start table) { text = text }
 
 prints_a_rectangle : print_table default_characters here 106 68 3 2 2 (start letters)
     ≡ done there (printed letters (codes "abc" ++ 10 ∷ codes "fgh"))
-unfolding print_table test_readable rows print_each print_whole
+unfolding print_table test_readable rows print_each print_whole spend_for
 prints_a_rectangle = refl
 
 prints_one_row : print_table default_characters here 106 69 4 1 0 (start letters) ≡ done there (printed letters (codes "bcde"))
-unfolding print_table test_readable rows print_each print_whole
+unfolding print_table test_readable rows print_each print_whole spend_for
 prints_one_row = refl
 
 prints_empty_rows : print_table default_characters here 106 300 0 3 1 (start letters) ≡ done there (printed letters (10 ∷ 10 ∷ []))
-unfolding print_table test_readable rows print_each print_whole
+unfolding print_table test_readable rows print_each print_whole spend_for
 prints_empty_rows = refl
 
 prints_no_row : print_table default_characters here 106 300 7 0 1 (start letters) ≡ done there (start letters)
-unfolding print_table test_readable rows print_each print_whole
+unfolding print_table test_readable rows print_each print_whole spend_for
 prints_no_row = refl
 
 abbrev odd : List ℕ
@@ -154,7 +155,7 @@ odd = 0 ∷ 9 ∷ 11 ∷ 13 ∷ 31 ∷ 127 ∷ 126 ∷ 155 ∷ 0 ∷ 0 ∷ 0 ∷
 
 prints_other_characters : print_table default_characters here 106 68 8 1 0 (start odd)
     ≡ done there (printed odd (32 ∷ 32 ∷ 32 ∷ 10 ∷ 63 ∷ 63 ∷ 126 ∷ 0xC3 ∷ 0xA4 ∷ []))
-unfolding print_table test_readable rows print_each print_whole
+unfolding print_table test_readable rows print_each print_whole spend_for
 prints_other_characters = refl
 
 -- the last row ends after the story, and nothing is printed

@@ -1,19 +1,22 @@
 -- tokenise and encode_text, computed.
 use Rattle.std.proofs.Common.{◌≡◌, List, [], ◌∷◌, ◌++◌, take, drop, refl}
-use Rattle.std.specs.Prelude.{ℕ, codes, replicate}
+use Rattle.std.specs.Prelude.{ℕ, codes, replicate, slice_set}
 use Rattle.zcore.specs.declared.place.Fault.TheVariants as faults
+use Rattle.zcore.specs.declared.place.Limit.TheVariants as limits
+use Rattle.zcore.specs.declared.place.Place.TheVariants as places
 use Rattle.zcore.specs.declared.next.Next.{Next}
 use Rattle.ztext.specs.Words.{packed}
 use Rattle.zcore.specs.Header.{key_at}
 use Rattle.zcore.specs.Cutting.{words_of}
 use Rattle.zcore.specs.Dictionary.{number_of_key, entry_of}
 use Rattle.zcore.specs.Parsing.{first_words}
-use Rattle.zcore.specs.State.{State, done}
+use Rattle.zcore.specs.State.{State, done, halt}
 use Rattle.zcore.specs.Parts.{fault}
 use Rattle.zcore.specs.Turn.{first_state}
+use Rattle.zcore_standard.specs.Fuel.{spend_for}
 use Rattle.zcore_standard.specs.Texts.{default_alphabets, spelling_by}
 use Rattle.zcore_standard.specs.Words.{form_of, entry_with_form, with_slots, test_letters, test_slots, test_dictionary}
-use Rattle.zcore_standard.specs.Words.{form_at, write_bytes, encode_text}
+use Rattle.zcore_standard.specs.Words.{searched_bytes, spend_search, form_at, write_bytes, encode_text}
 
 -- The forms of words (3.7 and 13.3)
 
@@ -71,6 +74,25 @@ in_no_order : take 10 (drop 76 (with_slots default_alphabets (memory_of_text (co
     ≡ 3 ∷ 2 ∷ 0 ∷ 123 ∷ 2 ∷ 2 ∷ 0 ∷ 117 ∷ 4 ∷ 5 ∷ []
 unfolding form_of entry_with_form entry_of first_words words_of number_of_key key_at packed spelling_by
 in_no_order = refl
+
+-- fuel is spent for another dictionary than the story's: two words with two entries of six bytes, and where there is one
+-- slot, one word
+searches_another : searched_bytes (memory_of_text (codes "it take")) 64 76 113 ≡ 24
+unfolding first_words words_of
+searches_another = refl
+
+searches_for_slots : searched_bytes (memory_of_text (codes "it take")) 64 106 113 ≡ 12
+unfolding first_words words_of
+searches_for_slots = refl
+
+searches_its_own : searched_bytes (memory_of_text (codes "it take")) 64 76 100 ≡ 0
+searches_its_own = refl
+
+-- with 22 entries
+searches_more : spend_search 64 76 113 0 (first_state (slice_set (memory_of_text (codes "it take")) 116 0xEA))
+    ≡ halt (places.Limit limits.Fuel) (first_state (slice_set (memory_of_text (codes "it take")) 116 0xEA))
+unfolding spend_search first_words words_of spend_for
+searches_more = refl
 
 -- the memory of the samples, in a state
 abbrev state : State

@@ -8,7 +8,7 @@ use Rattle.zcore.specs.Turn.{StateOfPlay, Whole, Machine, Play, after_step, turn
 use Rattle.zcore.specs.Turn.{first_next, first_state, ended, is_waiting}
 use Rattle.zcore_standard.specs.declared.operations.Further.{Further}
 use Rattle.zcore_standard.specs.Place.{Here, plain, within}
-use Rattle.zcore_standard.specs.Loaded.{Loaded, alphabets_of}
+use Rattle.zcore_standard.specs.Loaded.{Loaded}
 use Rattle.zcore_standard.specs.Operations.{further_at}
 use Rattle.zcore_standard.specs.Instruction.{decode_further}
 use Rattle.zcore_standard.specs.Further.{execute_further}

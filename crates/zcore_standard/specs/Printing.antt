@@ -13,7 +13,7 @@ use Rattle.zcore.specs.Effects.{read_text}
 use Rattle.zcore.specs.Execution.{first, perform}
 use Rattle.zcore.specs.Objects.{test_object, property_table}
 use Rattle.zcore.specs.Parts.{fault, goes_on, give_back, read_byte, test_return, unpacked}
-use Rattle.zcore.specs.State.{State, Out, done, halt, ◌>>=◌}
+use Rattle.zcore.specs.State.{State, Out, halt, ◌>>=◌}
 use Rattle.zcore_standard.specs.Characters.{print_codes}
 use Rattle.zcore_standard.specs.Loaded.{Loaded, alphabets_of}
 use Rattle.zcore_standard.specs.Texts.{codes_at}

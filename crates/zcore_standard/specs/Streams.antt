@@ -9,9 +9,10 @@ use Rattle.zcore.specs.Parts.{fault, test}
 use Rattle.zcore.specs.State.{State, Out, done, ◌>>=◌}
 use Rattle.zcore_standard.specs.declared.streams.Begun.{Begun}
 use Rattle.zcore_standard.specs.declared.streams.Stream.{Stream}
-use Rattle.zcore_standard.specs.Place.{Here, past}
+use Rattle.zcore_standard.specs.Fuel.{spend_for}
+use Rattle.zcore_standard.specs.Place.{Here, on, past}
 use Rattle.zcore_standard.specs.Windows.{lower, settled, show_upper}
-use Rattle.zcore_standard.specs.Words.{write_bytes}
+use Rattle.zcore_standard.specs.Words.{are_writable, write_bytes}
 
 -- From the text of a turn to ZSCII
 
@@ -87,20 +88,35 @@ open_table here after values =
 abbrev pub counted : List ℕ → List ℕ
 counted characters = (length characters / 256) ∷ (length characters % 256) ∷ characters
 
+-- what a stream writes to its table
+abbrev pub written_by : List ℕ → Stream → List ℕ → List ℕ
+written_by extra stream text = counted (zscii_in extra (drop stream.from text))
+
 -- A stream is closed: M4 where its table does not lie in dynamic memory, after the header.
 unfoldable pub close : List ℕ → Stream → State → Out (Unit {0})
 close extra stream = do
-  _ ← (λ s. write_bytes stream.table (counted (zscii_in extra (drop stream.from s.text))) s)
+  _ ← (λ s. write_bytes stream.table (written_by extra stream s.text) s)
   (λ s. done tt (record s { text = take stream.from s.text }))
+
+-- whether it can be closed
+unfoldable pub test_table : List ℕ → Stream → State → Out (Unit {0})
+test_table extra stream s =
+    test (are_writable s.memory stream.table (length (written_by extra stream s.text))) faults.Write s
+
+-- units for the bytes that are cut from the text
+unfoldable pub spend_cut : Stream → ℕ → State → Out ℕ
+spend_cut stream fuel s = spend_for (length s.text - stream.from) fuel s
 
 -- the innermost stream is closed, if there is one
 abbrev pub close_first : List ℕ → Here → ℕ → List Stream → State → Out Here
 close_first extra here after [] = done (past here after)
 close_first extra here after (stream ∷ streams) = do
+  _ ← test_table extra stream
+  fuel ← spend_cut stream here.next.fuel
   _ ← close extra stream
-  settled (record (past here after) { streams = streams })
+  settled (record (on here (record { program_counter = after; fuel = fuel })) { streams = streams })
 
--- each stream is closed, the innermost first
+-- each stream is closed, the innermost first; this costs no fuel
 unfoldable pub close_all : List ℕ → List Stream → State → Out (Unit {0})
 close_all extra [] = done tt
 close_all extra (stream ∷ streams) = do

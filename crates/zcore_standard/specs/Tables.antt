@@ -14,6 +14,7 @@ use Rattle.zcore.specs.Parts.{branch_on}
 use Rattle.zcore.specs.State.{State, Out, done, ◌>>=◌}
 use Rattle.zcore.specs.Turn.{with_bytes}
 use Rattle.zcore_standard.specs.Characters.{print_codes}
+use Rattle.zcore_standard.specs.Fuel.{spend_for}
 
 -- Tests of all the bytes of a table
 
@@ -62,8 +63,9 @@ give_found here after result branch found = do
 
 unfoldable pub scan_table : Next → ℕ → Option ℕ → Option Branch → ℕ → ℕ → ℕ → ℕ → State → Out Next
 scan_table here after result branch word table count form = do
+  fuel ← spend_for (count * field_length form) here.fuel
   found ← find_field form word table count
-  give_found here after result branch found
+  give_found (record here { fuel = fuel }) after result branch found
 
 -- copy_table
 
@@ -85,7 +87,8 @@ cleared memory at count = with_bytes memory at (replicate count 0)
 unfoldable pub write_table : Next → ℕ → ℕ → ℕ → (List ℕ → List ℕ) → State → Out Next
 write_table here after at count written = do
   _ ← test_writable at count
-  (λ s. goes_on after here.fuel (record s { memory = written s.memory }))
+  fuel ← spend_for count here.fuel
+  (λ s. goes_on after fuel (record s { memory = written s.memory }))
 
 -- Where the second table is 0, the first is cleared. Otherwise it is copied to the second. A negative size copies
 -- forwards, even where this overwrites bytes that are still to be copied. Another size copies as if at once.
@@ -121,5 +124,6 @@ rows_size width height skip = if width == 0 || height == 0 then 0 else (height -
 unfoldable pub print_table : List ℕ → Next → ℕ → ℕ → ℕ → ℕ → ℕ → State → Out Next
 print_table characters here after text width height skip = do
   _ ← test_readable text (rows_size width height skip)
+  fuel ← spend_for (width * height) here.fuel
   _ ← (λ s. print_codes characters (rows s.memory text width skip height) s)
-  goes_on after here.fuel
+  goes_on after fuel

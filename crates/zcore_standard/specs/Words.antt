@@ -5,14 +5,15 @@ use Rattle.std.specs.Prelude.{List, [], ◌∷◌, ◌++◌, length, take, repli
 use Rattle.zcore.specs.declared.next.Next.{Next}
 use Rattle.zcore.specs.declared.place.Fault.TheVariants as faults
 use Rattle.ztext.specs.Words.{packed}
-use Rattle.zcore.specs.Header.{dictionary_of, static_base_of, static_end}
+use Rattle.zcore.specs.Header.{dictionary_of, entry_length_of, static_base_of, static_end}
 use Rattle.zcore.specs.Layout.{header_size}
 use Rattle.zcore.specs.Cutting.{Word}
-use Rattle.zcore.specs.Dictionary.{number_of_key, entry_of, is_dictionary}
+use Rattle.zcore.specs.Dictionary.{number_of_key, entries_in, entry_of, is_dictionary}
 use Rattle.zcore.specs.Parsing.{first_words}
 use Rattle.zcore.specs.State.{State, Out, done, ◌>>=◌}
 use Rattle.zcore.specs.Parts.{test, fault, goes_on}
 use Rattle.zcore.specs.Turn.{with_bytes}
+use Rattle.zcore_standard.specs.Fuel.{spend_for}
 use Rattle.zcore_standard.specs.Texts.{spelled_by}
 
 -- whether so many bytes from an address on can be read
@@ -86,14 +87,26 @@ unfoldable pub fill_slots : List ℕ → ℕ → ℕ → ℕ → ℕ → State �
 fill_slots alphabets text parse dictionary flag s = done tt
     (record s { memory = with_slots alphabets s.memory text parse (dictionary_for s.memory dictionary) flag })
 
+-- with how many bytes of entries the words that have slots are compared; the story's dictionary costs nothing
+abbrev pub searched_bytes : List ℕ → ℕ → ℕ → ℕ → ℕ
+searched_bytes memory text parse dictionary =
+    if dictionary == dictionary_of memory then 0
+    else entries_in memory dictionary * entry_length_of memory dictionary
+    * length (first_words memory dictionary (letters_in memory text) (slice_index memory parse))
+
+unfoldable pub spend_search : ℕ → ℕ → ℕ → ℕ → State → Out ℕ
+spend_search text parse dictionary fuel s =
+    spend_for (searched_bytes s.memory text parse (dictionary_for s.memory dictionary)) fuel s
+
 -- all its tests come before a byte is written
 unfoldable pub tokenise : List ℕ → Next → ℕ → ℕ → ℕ → ℕ → ℕ → State → Out Next
 tokenise alphabets here after text parse dictionary flag = do
   _ ← test_letters text
   _ ← test_slots parse
   _ ← test_dictionary dictionary
+  fuel ← spend_search text parse dictionary here.fuel
   _ ← fill_slots alphabets text parse dictionary flag
-  goes_on after here.fuel
+  goes_on after fuel
 
 -- encode_text
 

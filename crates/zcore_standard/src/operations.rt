@@ -145,7 +145,7 @@ impl Further {
             Further::BufferMode => plain(OperandCount::Several, 18, 1, 1),
             Further::OutputStream => plain(OperandCount::Several, 19, 1, 2),
             Further::InputStream => plain(OperandCount::Several, 20, 1, 1),
-            Further::SoundEffect => plain(OperandCount::Several, 21, 1, 4),
+            Further::SoundEffect => plain(OperandCount::Several, 21, 0, 4),
             Further::ReadChar => storing(OperandCount::Several, 22, 0, 3),
             Further::ScanTable => finding(OperandCount::Several, 23, 3, 4),
             Further::Tokenise => plain(OperandCount::Several, 27, 2, 4),

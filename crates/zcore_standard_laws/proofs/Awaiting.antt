@@ -13,7 +13,6 @@ use Rattle.zcore.specs.State.{Frame, Pending, State, Out, done, halt, bound, wor
 use Rattle.zcore.specs.Layout.{stack_size}
 use Rattle.zcore.proofs.KeepingReads.{chosen, done_state, never}
 use Rattle.zcore.proofs.WaitingTests.{WaitsWell, Waits, waits_test, waits_test_result}
-use Rattle.zcore_standard_laws.specs.Laws.{is_done}
 use Rattle.zcore_standard.specs.Place.{Here, within}
 use Rattle.zcore_standard.specs.Reading.{has_room, test_room, has_slots_or_none, test_slots_or_none, wait_for_line}
 use Rattle.zcore_standard.specs.Reading.{wait_for_key, read_line, read_key, can_take}
@@ -23,16 +22,20 @@ use Rattle.zcore_standard_laws.proofs.WindowFacts.{FallsFrom}
 
 -- It never goes on
 
+abbrev is_done : {H : Type 0} → Out H → Bool
+is_done (done next s) = true
+is_done (halt place s) = false
+
 pub neither : {P : Type 0} (b : Bool) → b ≡ false → b ≡ true → P
 neither true e f = absurd (cc)
 neither false e f = absurd (cc)
 
-pub not_done : {A B : Type 0} (o : Out A) (k : A → State → Out B) → ((a : A) (t : State) → is_done (k a t) ≡ false)
+not_done : {A B : Type 0} (o : Out A) (k : A → State → Out B) → ((a : A) (t : State) → is_done (k a t) ≡ false)
     → is_done (bound o k) ≡ false
 not_done (done a s) k not = not a s
 not_done (halt place s) k not = refl
 
-pub wait_not_done : (pending : Pending) (s : State) → is_done (wait pending s) ≡ false
+wait_not_done : (pending : Pending) (s : State) → is_done (wait pending s) ≡ false
 unfolding wait
 wait_not_done pending s = refl
 

@@ -1,6 +1,6 @@
 -- Each further operation makes the profile's weight fall where its step goes on.
 use Rattle.std.proofs.Common.{◌≡◌, ℕ, ◌+◌, ◌-◌, ◌<◌, ◌≤◌, List, [], ◌∷◌, length, refl, ap, ◌∙◌, arith}
-use Rattle.std.proofs.Common.{slice_index, slice_index_or, Bool, true, false, Option}
+use Rattle.std.proofs.Common.{slice_index, slice_index_or, Bool, true, Option}
 use Rattle.std.specs.Prelude.{◌&&◌, nat_le, nat_lt}
 use Rattle.std.proofs.lemmas.Bool.{and_parts, ltb-true}
 use Rattle.std.proofs.lemmas.List.{length-drop}

@@ -1,5 +1,6 @@
 pub mod PrintedCodes
 pub mod PlainLines
+pub mod FuelFacts
 pub mod TableFacts
 pub mod WordFacts
 pub mod WindowFacts
@@ -7,6 +8,7 @@ pub mod StreamFacts
 pub mod Awaiting
 pub mod Falling
 pub mod Objects
+pub mod FlagsFacts
 pub mod Printing
 pub mod Known
 pub mod Refusing

@@ -34,11 +34,11 @@ use Rattle.zcore_standard_laws.specs.Laws.{is_fault, ends_in_fault}
 
 -- A part that ends a turn only by a fault
 
-abbrev goes_on_or_faults : {A : Type 0} → Out A → Bool
+abbrev pub goes_on_or_faults : {A : Type 0} → Out A → Bool
 goes_on_or_faults (done a s) = true
 goes_on_or_faults (halt place s) = is_fault place
 
-abbrev OnlyFaults : {A : Type 0} → (State → Out A) → Type 0
+abbrev pub OnlyFaults : {A : Type 0} → (State → Out A) → Type 0
 OnlyFaults f = (s : State) → goes_on_or_faults (f s) ≡ true
 
 bound_faults : {A B : Type 0} (o : Out A) (k : A → State → Out B) → goes_on_or_faults o ≡ true
@@ -50,12 +50,12 @@ then_faults : {A B : Type 0} (f : State → Out A) (k : A → State → Out B) �
     → ((a : A) → OnlyFaults (k a)) → OnlyFaults (f >>= k)
 then_faults f k one rest s = bound_faults (f s) k (one s) rest
 
-either_faults : {A : Type 0} (b : Bool) (o p : Out A) → goes_on_or_faults o ≡ true → goes_on_or_faults p ≡ true
+pub either_faults : {A : Type 0} (b : Bool) (o p : Out A) → goes_on_or_faults o ≡ true → goes_on_or_faults p ≡ true
     → goes_on_or_faults (cond b o p) ≡ true
 either_faults true o p v w = v
 either_faults false o p v w = w
 
-test_faults : (b : Bool) (cause : Fault) → OnlyFaults (test b cause)
+pub test_faults : (b : Bool) (cause : Fault) → OnlyFaults (test b cause)
 test_faults true cause s = refl
 test_faults false cause s = refl
 
@@ -177,7 +177,7 @@ only false e = e
 is_0 : (n : ℕ) → (n == 0 || false) ≡ true → n ≡ 0
 is_0 n e = eqb-true n 0 (only (n == 0) e)
 
-one : {P : Type 0} (a b : Bool) → (a ≡ true → P) → (b ≡ true → P) → (a || b) ≡ true → P
+pub one : {P : Type 0} (a b : Bool) → (a ≡ true → P) → (b ≡ true → P) → (a || b) ≡ true → P
 one true b v w e = v refl
 one false b v w e = w e
 

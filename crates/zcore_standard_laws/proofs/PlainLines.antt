@@ -1,13 +1,13 @@
 -- Lines of ASCII are given as they are typed, and their capitals become small as in the profile.
-use Rattle.std.proofs.Common.{◌≡◌, ℕ, zero, suc, ◌<◌, ◌≤◌, List, [], ◌∷◌, map, take, refl, ap, sym, ◌∙◌, arith, true, false}
-use Rattle.std.specs.Prelude.{◌&&◌, ◌==◌, nat_lt, if◌then◌else◌}
+use Rattle.std.proofs.Common.{◌≡◌, ℕ, zero, suc, ◌<◌, ◌≤◌, List, [], ◌∷◌, map, take, refl, ap, ◌∙◌, arith, true}
+use Rattle.std.specs.Prelude.{nat_lt}
 use Rattle.std.specs.List.{list_all}
 use Rattle.std.specs.Str.{IsAscii, chars, is_utf8}
 use Rattle.std.proofs.lemmas.Bool.{and_parts, leb-true, ne_eqb}
 use Rattle.std.proofs.lemmas.Bool.Decides.{nat_tests}
 use Rattle.std.proofs.lemmas.Str.{IsUtf8-from_ascii, chars-IsAscii, is_utf8-from_IsUtf8}
 use Rattle.ztext.specs.Text.{lower_case}
-use Rattle.zcore_standard.specs.Input.{is_typed, can_be_typed, codes_typed, small, text_typed}
+use Rattle.zcore_standard.specs.Input.{codes_typed, small, text_typed}
 use Rattle.zcore_standard.specs.Streams.{zscii_of}
 use Rattle.zcore_standard.specs.Unicode.{is_ascii}
 
@@ -25,15 +25,6 @@ plain_is_ascii (byte ∷ bytes) h (suc i) = plain_is_ascii bytes (and_parts _ _ 
 
 plain_utf8 : (line : List ℕ) → list_all is_ascii line ≡ true → is_utf8 line ≡ true
 plain_utf8 line h = is_utf8-from_IsUtf8 line (IsUtf8-from_ascii line (plain_is_ascii line h))
-
-each_typed : (extra line : List ℕ) → list_all is_ascii line ≡ true → list_all (is_typed extra) line ≡ true
-each_typed extra [] h = refl
-each_typed extra (byte ∷ bytes) h =
-    let one : is_ascii byte ≡ true = (and_parts _ _ h).0 in
-    rw one (each_typed extra bytes (and_parts _ _ h).1)
-
-pub plain_typed : (extra line : List ℕ) → list_all is_ascii line ≡ true → can_be_typed extra line ≡ true
-plain_typed extra line h = rw (plain_utf8 line h, chars-IsAscii line (plain_is_ascii line h)) (each_typed extra line h)
 
 below : (n m : ℕ) → n < m → nat_lt n m ≡ true
 below n m h = grind (arith, nat_tests)

@@ -1,7 +1,7 @@
 -- `aread` with two operands is the same instruction in the profile and here.
 use Rattle.std.proofs.Common.{◌≡◌, ℕ, ◌+◌, ◌<◌, List, [], ◌∷◌, length, refl, ap, sym, ◌∙◌, Bool, true, false}
 use Rattle.std.proofs.Common.{arith, slice_index, slice_index_or, Option, Some, None, Result, Ok, Err}
-use Rattle.std.specs.Prelude.{◌&&◌, ◌||◌, nat_le}
+use Rattle.std.specs.Prelude.{◌==◌, ◌&&◌, ◌||◌, nat_le, not}
 use Rattle.std.specs.Option.{is_none}
 use Rattle.std.proofs.lemmas.Bool.{and_parts, leb-true}
 use Rattle.zcore.specs.declared.instruction.Operand.{Operand}
@@ -15,21 +15,22 @@ use Rattle.zcore.specs.Instruction.{Opcode, operands, variable_types, given_type
 use Rattle.zcore.specs.Instruction.{result_variable, branch}
 use Rattle.zcore.specs.Execution.{perform, execute, step, read}
 use Rattle.zcore.specs.Parts.{is_code, operand_values, test, is_text_buffer, test_text_buffer, is_parse_buffer}
-use Rattle.zcore.specs.Parts.{test_parse_buffer, test_result}
-use Rattle.zcore.specs.State.{State, Out, done, halt, bound}
+use Rattle.zcore.specs.Parts.{test_parse_buffer, can_store_in, test_result, wait}
+use Rattle.zcore.specs.State.{Frame, Pending, State, Out, done, halt, bound}
 use Rattle.zcore.proofs.Ahead as ahead
 use Rattle.zcore_standard.specs.declared.operations.Further.TheVariants.{Read}
 use Rattle.zcore_standard.specs.declared.streams.Stream.{Stream}
 use Rattle.zcore_standard.specs.Place.{Here, within, is_none_open}
 use Rattle.zcore_standard.specs.Loaded.{Loaded}
-use Rattle.zcore_standard_laws.specs.Laws.{ends_in_fault, is_done, is_plain, closes_none}
+use Rattle.zcore_standard_laws.specs.Laws.{is_fault, ends_in_fault, waits, is_plain, closes_none}
 use Rattle.zcore_standard.specs.Instruction.{types_at, counted, result_at, branch_after, decode_further}
 use Rattle.zcore_standard.specs.Further.{perform_further, execute_further}
 use Rattle.zcore_standard.specs.Reading.{has_room, test_room, has_slots_or_none, test_slots_or_none, wait_for_line}
 use Rattle.zcore_standard.specs.Reading.{read_line}
 use Rattle.zcore_standard.specs.Windows.{show_upper}
 use Rattle.zcore_standard.specs.Streams.{close_all, begin_read}
-use Rattle.zcore_standard_laws.proofs.Awaiting.{neither, not_done, wait_not_done, room_of_text, slots_of_parse}
+use Rattle.zcore_standard_laws.proofs.Awaiting.{neither, room_of_text, slots_of_parse}
+use Rattle.zcore_standard_laws.proofs.Objects.{goes_on_or_faults, OnlyFaults, either_faults, test_faults}
 use Rattle.zcore_standard_laws.proofs.Refusing.{IsReadByte, is_no_some, opcode_is}
 
 -- the opcode as the profile reads it
@@ -154,65 +155,37 @@ line_waits here after result text parse s plays =
     tested_alike (is_parse_buffer s.memory parse) (has_slots_or_none s.memory parse) faults.Buffer s _ _
     (slots_of_parse s.memory parse) plays (λ _. refl))
 
--- where no stream is open and the upper window is not there, nothing comes before the wait
-plain_read : (extra : List ℕ) (here : Here) (after : ℕ) (result : Option ℕ) (text parse : ℕ) (s : State)
-    → here.streams ≡ [] → here.upper ≡ None
-    → read_line extra here after result text parse s ≡ within here (wait_for_line after result text parse s)
-unfolding read_line begin_read close_all show_upper
-plain_read extra here after result text parse s e f = rw (e, f) refl
+-- where it meets no fault, the profile's waits
 
--- and the profile meets no fault
-line_read : (extra : List ℕ) (here : Here) (after : ℕ) (result : Option ℕ) (text parse : ℕ) (s : State)
-    → IsPlain here → ends_in_fault (read here.next after result text parse s) ≡ false
-    → read_line extra here after result text parse s ≡ within here (read here.next after result text parse s)
-line_read extra here after result text parse s bare plays =
-    plain_read extra here after result text parse s bare.streams bare.upper
-    ∙ ap (within here) (line_waits here.next after result text parse s plays)
+waits_unless : {A : Type 0} (o : Out A) (k : A → State → Out Next) → goes_on_or_faults o ≡ true
+    → ((a : A) (t : State) → ends_in_fault (k a t) ≡ false → waits (k a t) ≡ true)
+    → ends_in_fault (bound o k) ≡ false → waits (bound o k) ≡ true
+waits_unless (done a s) k e rest plays = rest a s plays
+waits_unless (halt place s) k e rest plays = neither (is_fault place) plays e
 
--- the same after a part, whatever it came to
-after_alike : {A : Type 0} (here : Here) (o : Out A) (k : A → State → Out Here) (m : A → State → Out Next)
-    → ends_in_fault (bound o m) ≡ false
-    → ((a : A) (t : State) → ends_in_fault (m a t) ≡ false → k a t ≡ within here (m a t))
-    → bound o k ≡ within here (bound o m)
-after_alike here (done a s) k m plays same = same a s plays
-after_alike here (halt place s) k m plays same = refl
+storing_faults : (variable : ℕ) (s : State) (fs : List Frame) → goes_on_or_faults (can_store_in variable s fs) ≡ true
+storing_faults variable s [] = refl
+storing_faults variable s (f ∷ fs) =
+    either_faults (variable == 0) _ _ (test_faults _ faults.StackFull s) (test_faults _ faults.Write s)
 
-executes_alike : (loaded : Loaded) (here : Here) (s : State) (given : List Operand) (result : Option ℕ) (after : ℕ)
-    → IsPlain here
-    → ends_in_fault (execute here.next
-    (Ok (record { operation = operations.Read; operands = given; result = result; branch = None }, after)) s) ≡ false
-    → execute_further loaded Read here (Ok (record { operands = given; result = result; branch = None }, after)) s
-    ≡ within here (execute here.next
-    (Ok (record { operation = operations.Read; operands = given; result = result; branch = None }, after)) s)
-unfolding perform perform_further
-executes_alike loaded here s given result after bare plays =
-    after_alike here (operand_values given s) _ _ plays (λ values t plays.
-    line_read loaded.characters here after result (slice_index values 0) (slice_index_or values 1 0) t bare plays)
+result_faults : (result : Option ℕ) → OnlyFaults (test_result result)
+unfolding test_result
+result_faults None s = refl
+result_faults (Some variable) s = storing_faults variable s s.frames
 
--- `aread` never goes on
+is_wait : (pending : Pending) (s : State) → waits (wait pending s) ≡ true
+unfolding wait
+is_wait pending s = refl
 
-read_not_done : (here : Next) (after : ℕ) (result : Option ℕ) (text_buffer parse_buffer : ℕ) (s : State)
-    → is_done (read here after result text_buffer parse_buffer s) ≡ false
-unfolding read
-read_not_done here after result text_buffer parse_buffer s =
-    not_done (test_text_buffer text_buffer s) _ (λ _ t.
-    not_done (test_parse_buffer parse_buffer t) _ (λ _ u.
-    not_done (test_result result u) _ (λ _ v. wait_not_done _ v)))
+read_waits : (here : Next) (after : ℕ) (result : Option ℕ) (text parse : ℕ) (s : State)
+    → ends_in_fault (read here after result text parse s) ≡ false → waits (read here after result text parse s) ≡ true
+unfolding read test_text_buffer test_parse_buffer
+read_waits here after result text parse s =
+    waits_unless _ _ (test_faults (is_text_buffer s.memory text) faults.Buffer s) (λ _ t.
+    waits_unless _ _ (test_faults (is_parse_buffer t.memory parse) faults.Buffer t) (λ _ u.
+    waits_unless _ _ (result_faults result u) (λ _ v _. is_wait _ v)))
 
-execute_not_done : (here : Next) (s : State) (given : List Operand) (result : Option ℕ) (after : ℕ)
-    → is_done (execute here
-    (Ok (record { operation = operations.Read; operands = given; result = result; branch = None }, after)) s) ≡ false
-unfolding perform
-execute_not_done here s given result after = not_done (operand_values given s) _ (λ values t.
-    read_not_done here after result (slice_index values 0) (slice_index values 1) t)
-
-steps_as : (here : Next) (s : State) (r : Result (profile.Instruction × ℕ) Fault)
-    → is_code s.memory here.program_counter ≡ true → decode s.memory here.program_counter ≡ r
-    → step here s ≡ execute here r s
-unfolding step
-steps_as here s r code e = rw (code, e) refl
-
--- no stream is open, and the upper window is not there
+-- then no stream is open, and the upper window is not there
 
 one_of : (a b : Bool) → b ≡ false → (a || b) ≡ true → a ≡ true
 one_of true b e f = refl
@@ -222,11 +195,58 @@ none_open : (streams : List Stream) → is_none_open streams ≡ true → stream
 none_open [] e = refl
 none_open (stream ∷ streams) e = absurd (cc)
 
-plain_place : (here : Here) (o : Out Next) → closes_none here o ≡ true → is_done o ≡ false → IsPlain here
-plain_place here o quiet not =
-    let parts = and_parts (is_none_open here.streams) (is_none here.upper) (one_of (is_plain here) (is_done o) not
-    quiet) in
+plain_place : (here : Here) (o : Out Next) → closes_none here o ≡ true → waits o ≡ true → IsPlain here
+plain_place here o quiet is =
+    let parts = and_parts (is_none_open here.streams) (is_none here.upper)
+    (one_of (is_plain here) (not (waits o)) (ap not is) quiet) in
     record { streams = none_open here.streams parts.0; upper = is_no_some here.upper parts.1 }
+
+-- and nothing comes before the wait
+plain_read : (extra : List ℕ) (here : Here) (after : ℕ) (result : Option ℕ) (text parse : ℕ) (s : State)
+    → here.streams ≡ [] → here.upper ≡ None
+    → read_line extra here after result text parse s ≡ within here (wait_for_line after result text parse s)
+unfolding read_line begin_read close_all show_upper
+plain_read extra here after result text parse s e f = rw (e, f) refl
+
+line_read : (extra : List ℕ) (here : Here) (after : ℕ) (result : Option ℕ) (text parse : ℕ) (s : State)
+    → ends_in_fault (read here.next after result text parse s) ≡ false
+    → closes_none here (read here.next after result text parse s) ≡ true
+    → read_line extra here after result text parse s ≡ within here (read here.next after result text parse s)
+line_read extra here after result text parse s plays quiet =
+    let bare = plain_place here (read here.next after result text parse s) quiet
+    (read_waits here.next after result text parse s plays) in
+    plain_read extra here after result text parse s bare.streams bare.upper
+    ∙ ap (within here) (line_waits here.next after result text parse s plays)
+
+-- the same after a part, whatever it came to
+after_alike : {A : Type 0} (here : Here) (o : Out A) (k : A → State → Out Here) (m : A → State → Out Next)
+    → ends_in_fault (bound o m) ≡ false → closes_none here (bound o m) ≡ true
+    → ((a : A) (t : State) → ends_in_fault (m a t) ≡ false → closes_none here (m a t) ≡ true
+    → k a t ≡ within here (m a t))
+    → bound o k ≡ within here (bound o m)
+after_alike here (done a s) k m plays quiet same = same a s plays quiet
+after_alike here (halt place s) k m plays quiet same = refl
+
+-- `aread` with these operands, in the profile
+abbrev reads : Here → List Operand → Option ℕ → ℕ → State → Out Next
+reads here given result after = execute here.next
+    (Ok (record { operation = operations.Read; operands = given; result = result; branch = None }, after))
+
+executes_alike : (loaded : Loaded) (here : Here) (s : State) (given : List Operand) (result : Option ℕ) (after : ℕ)
+    → ends_in_fault (reads here given result after s) ≡ false
+    → closes_none here (reads here given result after s) ≡ true
+    → execute_further loaded Read here (Ok (record { operands = given; result = result; branch = None }, after)) s
+    ≡ within here (reads here given result after s)
+unfolding perform perform_further
+executes_alike loaded here s given result after plays quiet =
+    after_alike here (operand_values given s) _ _ plays quiet (λ values t plays quiet.
+    line_read loaded.characters here after result (slice_index values 0) (slice_index_or values 1 0) t plays quiet)
+
+steps_as : (here : Next) (s : State) (r : Result (profile.Instruction × ℕ) Fault)
+    → is_code s.memory here.program_counter ≡ true → decode s.memory here.program_counter ≡ r
+    → step here s ≡ execute here r s
+unfolding step
+steps_as here s r code e = rw (code, e) refl
 
 read_by : (loaded : Loaded) (here : Here) (s : State) (r : Result (profile.Instruction × ℕ) Fault)
     → is_code s.memory here.next.program_counter ≡ true → here.next.program_counter < length s.memory
@@ -240,10 +260,9 @@ read_by loaded here s (Ok x) code inside is e plays quiet =
     let at = here.next.program_counter in
     let a = reads_alike s.memory at x inside is e in
     let steps = steps_as here.next s _ code a.plain in
-    let bare = plain_place here (step here.next s) quiet
-    (ap is_done steps ∙ execute_not_done here.next s a.given a.result a.after) in
     ap (λ r. execute_further loaded Read here r s) a.further
-    ∙ executes_alike loaded here s a.given a.result a.after bare (sym (ap ends_in_fault steps) ∙ plays)
+    ∙ executes_alike loaded here s a.given a.result a.after (sym (ap ends_in_fault steps) ∙ plays)
+    (sym (ap (closes_none here) steps) ∙ quiet)
     ∙ sym (ap (within here) steps)
 
 -- where the profile meets no fault, and closes no stream and shows no window, `aread` is the same here

@@ -8,6 +8,7 @@ use Rattle.zcore.specs.declared.place.Fault.TheVariants as faults
 use Rattle.zcore.specs.declared.next.Next.{Next}
 use Rattle.zcore.specs.Instruction.{byte, operands, variable_types, given_types, branch_at}
 use Rattle.zcore.specs.State.{State, Out, done, halt}
+use Rattle.zcore.specs.Header.{static_base_of}
 use Rattle.zcore.specs.Layout.{header_size}
 use Rattle.zcore.specs.Parts.{operand_values, spend}
 use Rattle.zcore.proofs.Ahead as ahead
@@ -25,9 +26,11 @@ use Rattle.zcore_standard.specs.Instruction.{Instruction, typed, types_at, count
 use Rattle.zcore_standard.specs.Instruction.{decode_further}
 use Rattle.zcore_standard.specs.Dice.{rolled, random}
 use Rattle.zcore_standard.specs.Flow.{restart}
+use Rattle.zcore_standard.specs.Fuel.{spend_for}
 use Rattle.zcore_standard.specs.Further.{perform_keeping, perform_further, execute_further}
 use Rattle.zcore_standard.specs.Nothing.{step_known}
 use Rattle.zcore_standard.specs.Machine.{chosen, standard_step}
+use Rattle.zcore_standard_laws.proofs.FuelFacts.{keeps_spend_for, spend_for_leaves}
 use Rattle.zcore_standard_laws.proofs.Falling.{perform_keeping_falls}
 use Rattle.zcore_standard_laws.proofs.Known.{step_known_falls}
 use Rattle.zcore_standard_laws.proofs.Awaiting.{read_line_falls, read_key_falls}
@@ -66,21 +69,26 @@ LighterFrom here f = (s t : State) (next : Here) → here.next.program_counter <
 lighter_from : (here : Here) (f : State → Out Here) → FallsFrom here f → LighterFrom here f
 lighter_from here f falls s t next inside h = (falls s t next inside h).lighter
 
--- restart: a unit is spent, and one frame is left
+-- restart: a unit is spent, or more, and one frame is left
 restart_lighter : (loaded : Loaded) (here : Here) → LighterFrom here (restart loaded here)
 unfolding restart
 restart_lighter loaded here s t next inside h =
     let p = both (spend here.next.fuel s) _ next t h in
     let less = spend_less here.next.fuel s p.between p.value p.first in
     let one = keeps_spend here.next.fuel s p.between p.value p.first in
-    let v = done_value _ next _ t p.second in
-    let w = done_state _ next _ t p.second in
+    let bytes = static_base_of p.between.memory in
+    let q = both (spend_for bytes p.value p.between) _ next t p.second in
+    let few = spend_for_leaves bytes p.value p.between q.between q.value q.first in
+    let two = keeps_spend_for bytes p.value p.between q.between q.value q.first in
+    let v = done_value _ next _ t q.second in
+    let w = done_state _ next _ t q.second in
     let memory : length t.memory ≡ length s.memory =
     ap (λ (x : State). length x.memory) w
-    ∙ length-with_bytes p.between.memory header_size (drop header_size loaded.dynamic) ∙ one.memory in
+    ∙ length-with_bytes q.between.memory header_size (drop header_size loaded.dynamic) ∙ two.memory ∙ one.memory in
     let frames : length t.frames ≡ 1 = ap (λ (x : State). length x.frames) w in
-    let fuel : next.next.fuel ≡ p.value = ap (λ (x : Here). x.next.fuel) v in
-    parts.spent_lighter here.next next.next s t memory (omega (arith, frames)) (rw fuel less) (λ _. omega (arith, frames))
+    let fuel : next.next.fuel ≡ q.value = ap (λ (x : Here). x.next.fuel) v in
+    parts.spent_lighter here.next next.next s t memory (omega (arith, frames)) (omega (arith, fuel, few, less))
+    (λ _. omega (arith, frames))
 
 keeping_falls : (loaded : Loaded) (operation : Further) (here : Here) (after : ℕ) (result : Option ℕ)
     (branch : Option Branch) (values : List ℕ) → here.next.program_counter < after

@@ -1,21 +1,22 @@
--- output_stream makes the weight of a turn fall, and never waits; so does what a read does first.
-use Rattle.std.proofs.Common.{ℕ, ◌+◌, ◌*◌, ◌/◌, ◌<◌, List, [], ◌∷◌, length, slice_index, drop, refl}
+-- output_stream makes the weight of a turn fall, and never waits; nor does what a read does first.
+use Rattle.std.proofs.Common.{ℕ, ◌+◌, ◌-◌, ◌*◌, ◌/◌, ◌<◌, List, [], ◌∷◌, length, slice_index, refl}
 use Rattle.std.proofs.Common.{arith}
 use Rattle.std.specs.Prelude.{◌==◌, nat_lt}
 use Rattle.std.proofs.lemmas.List.{length-set}
 use Rattle.zcore.specs.declared.place.Fault.TheVariants as faults
 use Rattle.zcore.specs.declared.place.Place.TheVariants as places
 use Rattle.zcore.specs.Parts.{fault, test}
-use Rattle.zcore.proofs.KeepingReads.{Keeps, alike_same, done_alike, never}
-use Rattle.zcore.proofs.KeepingReads.{both, keeps_then, keeps_done, keeps_test}
+use Rattle.zcore.proofs.KeepingReads.{Keeps, alike_same, alike_then, done_alike, never}
+use Rattle.zcore.proofs.KeepingReads.{both, keeps_then, keeps_test}
 use Rattle.zcore.proofs.FallsOfParts.{falls_alike}
 use Rattle.zcore.proofs.WaitingTests.{Waits, waits_done, waits_fault, waits_then, waits_chosen, waits_test}
 use Rattle.zcore_standard.specs.declared.streams.Stream.{Stream}
-use Rattle.zcore_standard.specs.Place.{Here, past}
-use Rattle.zcore_standard.specs.Streams.{zscii_in, most_streams, open_stream, counted, close, close_first, close_all}
-use Rattle.zcore_standard.specs.Streams.{flags_2_low, set_transcript, closing, output_stream, begin_read}
+use Rattle.zcore_standard.specs.Place.{Here, on, past}
+use Rattle.zcore_standard.specs.Streams.{most_streams, open_stream, written_by, close, test_table, spend_cut, close_first}
+use Rattle.zcore_standard.specs.Streams.{close_all, flags_2_low, set_transcript, closing, output_stream, begin_read}
+use Rattle.zcore_standard_laws.proofs.FuelFacts.{LeavesOf, keeps_spend_for, spend_for_leaves, waits_spend_for, falls_less}
 use Rattle.zcore_standard_laws.proofs.WindowFacts.{FallsFrom, moves, either_falls, done_falls, settled_falls}
-use Rattle.zcore_standard_laws.proofs.WindowFacts.{keeps_show_upper, waits_settled, waits_show_upper}
+use Rattle.zcore_standard_laws.proofs.WindowFacts.{waits_settled, waits_show_upper}
 use Rattle.zcore_standard_laws.proofs.WordFacts.{keeps_write_bytes, waits_write_bytes}
 
 -- Parts keep the lengths of the memory and of the list of frames
@@ -23,15 +24,20 @@ use Rattle.zcore_standard_laws.proofs.WordFacts.{keeps_write_bytes, waits_write_
 keeps_close : (extra : List ℕ) (stream : Stream) → Keeps (close extra stream)
 unfolding close
 keeps_close extra stream =
-    keeps_then _ _ (λ s t a h. keeps_write_bytes stream.table
-    (counted (zscii_in extra (drop stream.from s.text))) s t a h)
+    keeps_then _ _ (λ s t a h. keeps_write_bytes stream.table (written_by extra stream s.text) s t a h)
     (λ _ s t a h. done_alike tt a s t _ (record { memory = refl; frames = refl }) h)
 
-keeps_close_all : (extra : List ℕ) (streams : List Stream) → Keeps (close_all extra streams)
-unfolding close_all
-keeps_close_all extra [] = keeps_done tt
-keeps_close_all extra (stream ∷ streams) =
-    keeps_then _ _ (keeps_close extra stream) (λ _. keeps_close_all extra streams)
+keeps_test_table : (extra : List ℕ) (stream : Stream) → Keeps (test_table extra stream)
+unfolding test_table
+keeps_test_table extra stream s t a h = keeps_test _ faults.Write s t a h
+
+keeps_spend_cut : (stream : Stream) (fuel : ℕ) → Keeps (spend_cut stream fuel)
+unfolding spend_cut
+keeps_spend_cut stream fuel s t a h = keeps_spend_for (length s.text - stream.from) fuel s t a h
+
+spend_cut_leaves : (stream : Stream) (fuel : ℕ) → LeavesOf fuel (spend_cut stream fuel)
+unfolding spend_cut
+spend_cut_leaves stream fuel s t left h = spend_for_leaves (length s.text - stream.from) fuel s t left h
 
 -- The weight falls
 
@@ -49,11 +55,19 @@ close_falls : (extra : List ℕ) (here : Here) (after : ℕ) (streams : List Str
     → FallsFrom here (close_first extra here after streams)
 close_falls extra here after [] ahead = done_falls here (past here after) after refl ahead
 close_falls extra here after (stream ∷ streams) ahead = λ s t next inside h.
-    let p = both (close extra stream s) _ next t h in
-    let alike = keeps_close extra stream s p.between p.value p.first in
-    falls_alike here.next next.next s p.between t alike
-    (settled_falls here (record (past here after) { streams = streams }) after refl ahead p.between t next
-    (omega (arith, alike.memory)) p.second)
+    let p = both (test_table extra stream s) _ next t h in
+    let q = both (spend_cut stream here.next.fuel p.between) _ next t p.second in
+    let r = both (close extra stream q.between) _ next t q.second in
+    let one = keeps_test_table extra stream s p.between p.value p.first in
+    let two = keeps_spend_cut stream here.next.fuel p.between q.between q.value q.first in
+    let three = keeps_close extra stream q.between r.between r.value r.first in
+    let alike = alike_then s p.between r.between one (alike_then p.between q.between r.between two three) in
+    let lighter : Here = on here (record here.next { fuel = q.value }) in
+    falls_alike here.next next.next s r.between t alike
+    (falls_less here.next next.next q.value r.between t
+    (spend_cut_leaves stream here.next.fuel p.between q.between q.value q.first)
+    (settled_falls lighter (record (past lighter after) { streams = streams }) after refl ahead r.between t next
+    (omega (arith, inside, alike.memory)) r.second))
 
 transcript_falls : (here : Here) (after bit : ℕ) → here.next.program_counter < after
     → FallsFrom here (set_transcript here after bit)
@@ -84,8 +98,8 @@ output_stream_falls extra here after values ahead =
 waits_close : (extra : List ℕ) (stream : Stream) → Waits (close extra stream)
 unfolding close
 waits_close extra stream =
-    waits_then _ _ (λ s t h. waits_write_bytes stream.table
-    (counted (zscii_in extra (drop stream.from s.text))) s t h) (λ _ s t h. waits_done tt _ t h)
+    waits_then _ _ (λ s t h. waits_write_bytes stream.table (written_by extra stream s.text) s t h)
+    (λ _ s t h. waits_done tt _ t h)
 
 waits_close_all : (extra : List ℕ) (streams : List Stream) → Waits (close_all extra streams)
 unfolding close_all
@@ -99,12 +113,22 @@ waits_open here after table =
     waits_then _ _ (waits_test (nat_lt (length here.streams) most_streams) faults.Buffer)
     (λ _ s t h. waits_done _ s t h)
 
+waits_test_table : (extra : List ℕ) (stream : Stream) → Waits (test_table extra stream)
+unfolding test_table
+waits_test_table extra stream s t h = waits_test _ faults.Write s t h
+
+waits_spend_cut : (stream : Stream) (fuel : ℕ) → Waits (spend_cut stream fuel)
+unfolding spend_cut
+waits_spend_cut stream fuel s t h = waits_spend_for (length s.text - stream.from) fuel s t h
+
 waits_close_first : (extra : List ℕ) (here : Here) (after : ℕ) (streams : List Stream)
     → Waits (close_first extra here after streams)
 waits_close_first extra here after [] = waits_done (past here after)
 waits_close_first extra here after (stream ∷ streams) =
+    waits_then _ _ (waits_test_table extra stream) (λ _.
+    waits_then _ _ (waits_spend_cut stream here.next.fuel) (λ left.
     waits_then _ _ (waits_close extra stream)
-    (λ _. waits_settled (record (past here after) { streams = streams }))
+    (λ _. waits_settled (record (on here (record { program_counter = after; fuel = left })) { streams = streams }))))
 
 waits_transcript : (here : Here) (after bit : ℕ) → Waits (set_transcript here after bit)
 unfolding set_transcript
@@ -124,11 +148,6 @@ waits_output_stream extra here after values =
     (waits_done (past here after)))))
 
 -- A read
-
-pub keeps_begin_read : (extra : List ℕ) (here : Here) → Keeps (begin_read extra here)
-unfolding begin_read
-keeps_begin_read extra here =
-    keeps_then _ _ (keeps_close_all extra here.streams) (λ _. keeps_show_upper here)
 
 pub waits_begin_read : (extra : List ℕ) (here : Here) → Waits (begin_read extra here)
 unfolding begin_read

@@ -1,5 +1,5 @@
 -- The opcodes on tables make the weight of a turn fall, and none of them ends a turn by waiting.
-use Rattle.std.proofs.Common.{◌≡◌, ℕ, zero, suc, ◌+◌, ◌<◌, List, [], ◌∷◌, length, set, replicate, refl, ◌∙◌, take, drop}
+use Rattle.std.proofs.Common.{◌≡◌, ℕ, zero, suc, ◌+◌, ◌*◌, ◌<◌, List, [], ◌∷◌, length, set, replicate, refl, ◌∙◌, take, drop}
 use Rattle.std.proofs.Common.{slice_index, Option, Some, None, Bool, true, false, cond}
 use Rattle.std.specs.Prelude.{◌==◌}
 use Rattle.std.specs.Option.{is_some, unwrap_or}
@@ -20,6 +20,7 @@ use Rattle.zcore.proofs.WaitingEffects.{waits_branch_on, waits_test_branch}
 use Rattle.zcore_standard.specs.Tables.{are_readable, are_writable, test_readable, test_writable, has_words, field_length}
 use Rattle.zcore_standard.specs.Tables.{read_field, find_field, give_found, scan_table, copied_forwards, copied_at_once}
 use Rattle.zcore_standard.specs.Tables.{write_table, copy_table, rows, rows_size, print_table}
+use Rattle.zcore_standard_laws.proofs.FuelFacts.{keeps_spend_for, spend_for_leaves, waits_spend_for, falls_spent}
 use Rattle.zcore_standard_laws.proofs.PrintedCodes.{keeps_print_codes, waits_print_codes}
 
 -- Tests
@@ -68,8 +69,10 @@ pub scan_table_falls : (here : Next) (after : ℕ) (result : Option ℕ) (branch
     → FallsFrom here (scan_table here after result branch word table count form)
 unfolding scan_table
 scan_table_falls here after result branch word table count form ahead =
-    falls_then here _ _ (keeps_find_field form word table count)
-    (λ found. give_found_falls here after result branch found ahead)
+    let bytes = count * field_length form in
+    falls_spent here _ _ (keeps_spend_for bytes here.fuel) (spend_for_leaves bytes here.fuel) (λ left.
+    falls_then (record here { fuel = left }) _ _ (keeps_find_field form word table count)
+    (λ found. give_found_falls (record here { fuel = left }) after result branch found ahead))
 
 waits_read_field : (form at : ℕ) → Waits (read_field form at)
 unfolding read_field
@@ -96,7 +99,9 @@ pub waits_scan_table : (here : Next) (after : ℕ) (result : Option ℕ) (branch
     (word table count form : ℕ) → Waits (scan_table here after result branch word table count form)
 unfolding scan_table
 waits_scan_table here after result branch word table count form =
-    waits_then _ _ (waits_find_field form word table count) (λ found. waits_give_found here after result branch found)
+    waits_then _ _ (waits_spend_for (count * field_length form) here.fuel) (λ left.
+    waits_then _ _ (waits_find_field form word table count)
+    (λ found. waits_give_found (record here { fuel = left }) after result branch found))
 
 -- copy_table
 
@@ -119,11 +124,13 @@ write_table_falls : (here : Next) (after at count : ℕ) (written : List ℕ →
     → FallsFrom here (write_table here after at count written)
 unfolding write_table
 write_table_falls here after at count written long ahead =
-    falls_then here _ _ (keeps_test_writable at count) (λ _ s t next inside h.
+    falls_then here _ _ (keeps_test_writable at count) (λ _.
+    falls_spent here _ _ (keeps_spend_for count here.fuel) (spend_for_leaves count here.fuel) (λ left s t next inside h.
+    let lighter : Next = record here { fuel = left } in
     let u : State = record s { memory = written s.memory } in
     let same : length u.memory ≡ length s.memory = long s.memory in
-    falls_alike here next s u t (record { memory = same; frames = refl })
-    (goes_on_falls here after ahead u t next (rw same inside) h))
+    falls_alike lighter next s u t (record { memory = same; frames = refl })
+    (goes_on_falls lighter after ahead u t next (rw same inside) h)))
 
 length_chosen : (b : Bool) (l m memory : List ℕ) → length l ≡ length memory → length m ≡ length memory
     → length (cond b l m) ≡ length memory
@@ -148,7 +155,8 @@ waits_write_table : (here : Next) (after at count : ℕ) (written : List ℕ →
     → Waits (write_table here after at count written)
 unfolding write_table
 waits_write_table here after at count written =
-    waits_then _ _ (waits_test_writable at count) (λ _ s t h. waits_goes_on after here.fuel _ t h)
+    waits_then _ _ (waits_test_writable at count) (λ _.
+    waits_then _ _ (waits_spend_for count here.fuel) (λ left s t h. waits_goes_on after left _ t h))
 
 pub waits_copy_table : (here : Next) (after first second size : ℕ) → Waits (copy_table here after first second size)
 unfolding copy_table
@@ -164,14 +172,17 @@ pub print_table_falls : (characters : List ℕ) (here : Next) (after text width 
 unfolding print_table
 print_table_falls characters here after text width height skip ahead =
     falls_then here _ _ (keeps_test_readable text (rows_size width height skip)) (λ _.
-    falls_then here _ _
+    falls_spent here _ _ (keeps_spend_for (width * height) here.fuel) (spend_for_leaves (width * height) here.fuel)
+    (λ left.
+    falls_then (record here { fuel = left }) _ _
     (λ s t a h. keeps_print_codes characters (rows s.memory text width skip height) s t a h)
-    (λ _. goes_on_falls here after ahead))
+    (λ _. goes_on_falls (record here { fuel = left }) after ahead)))
 
 pub waits_print_table : (characters : List ℕ) (here : Next) (after text width height skip : ℕ)
     → Waits (print_table characters here after text width height skip)
 unfolding print_table
 waits_print_table characters here after text width height skip =
     waits_then _ _ (waits_test_readable text (rows_size width height skip)) (λ _.
+    waits_then _ _ (waits_spend_for (width * height) here.fuel) (λ left.
     waits_then _ _ (λ s t h. waits_print_codes characters (rows s.memory text width skip height) s t h)
-    (λ _. waits_goes_on after here.fuel))
+    (λ _. waits_goes_on after left)))

@@ -8,6 +8,7 @@ use Rattle.zcore.specs.declared.place.Fault.TheVariants as faults
 use Rattle.zcore.specs.declared.place.Limit.TheVariants as limits
 use Rattle.zcore.specs.declared.place.Place.TheVariants as places
 use Rattle.zcore.specs.declared.next.Next.{Next}
+use Rattle.zcore.specs.Header.{static_base_of}
 use Rattle.zcore.specs.State.{Frame, State, Out, halt}
 use Rattle.zcore.specs.Parts.{test, is_writable, is_code, can_store, returning, spend}
 use Rattle.zcore.specs.Effects.{give_result}
@@ -29,6 +30,7 @@ use Rattle.zcore_standard.specs.Screen.{get_cursor, set_font}
 use Rattle.zcore_standard.specs.Further.{perform_keeping, perform_further, execute_further, words_of_table, one_row}
 use Rattle.zcore_standard.specs.Nothing.{step_known}
 use Rattle.zcore_standard.specs.Machine.{chosen, standard_step}
+use Rattle.zcore_standard_laws.proofs.FuelFacts.{waits_spend_for}
 use Rattle.zcore_standard_laws.proofs.Known.{waits_step_known}
 use Rattle.zcore_standard_laws.proofs.TableFacts.{waits_scan_table, waits_copy_table, waits_print_table}
 use Rattle.zcore_standard_laws.proofs.WordFacts.{waits_tokenise, waits_encode_text}
@@ -180,7 +182,9 @@ waits_spend fuel s t h = waits_either (fuel == 0) _ _ t (waits_limit limits.Fuel
 
 waits_restart : (loaded : Loaded) (here : Here) → Waits (restart loaded here)
 unfolding restart
-waits_restart loaded here = waits_then _ _ (waits_spend here.next.fuel) (λ fuel s t h. waits_done _ _ t h)
+waits_restart loaded here =
+    waits_then _ _ (waits_spend here.next.fuel) (λ fuel.
+    waits_then _ _ (λ s t h. waits_spend_for (static_base_of s.memory) fuel s t h) (λ _ s t h. waits_done _ _ t h))
 
 waits_keeping : (loaded : Loaded) (operation : Further) (here : Here) (after : ℕ) (result : Option ℕ)
     (branch : Option Branch) (values : List ℕ)

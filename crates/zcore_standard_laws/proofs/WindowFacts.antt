@@ -140,26 +140,6 @@ split_window_falls here after lines ahead =
     either_falls (lines == 0) here _ _ (erase_upper_falls here after ahead)
     (done_falls here (past here after) after refl ahead)
 
--- A read
-
-keeps_either : (b : Bool) (f g : State → Out (Unit {0})) → Keeps f → Keeps g → Keeps (cond b f g)
-keeps_either true f g v w = v
-keeps_either false f g v w = w
-
-keeps_show_text : (upper : Upper) → Keeps (show_text upper)
-unfolding show_text
-keeps_show_text upper = keeps_redraw (λ s. with_upper upper s.text)
-
-keeps_show : (upper : Option Upper) (window : ℕ) → Keeps (show_in upper window)
-keeps_show None window = keeps_done tt
-keeps_show (Some upper) window =
-    keeps_either (window == 0) _ _ (λ s t a h. done_alike tt a s t _ (record { memory = refl; frames = refl }) h)
-    (keeps_show_text upper)
-
-pub keeps_show_upper : (here : Here) → Keeps (show_upper here)
-unfolding show_upper
-keeps_show_upper here = keeps_show here.upper here.beside.window
-
 -- Nothing waits
 
 waits_redraw : (text : State → List ℕ) → Waits (λ s. redraw (text s) s)

@@ -12,7 +12,8 @@ use Rattle.zcore.proofs.WaitingTests.{Waits, waits_done, waits_fault, waits_then
 use Rattle.zcore.proofs.WaitingParts.{waits_goes_on}
 use Rattle.zcore_standard.specs.Words.{dictionary_for, letters_in, slots_bytes, with_slots}
 use Rattle.zcore_standard.specs.Words.{test_letters, test_slots, test_dictionary, fill_slots, tokenise}
-use Rattle.zcore_standard.specs.Words.{form_at, write_bytes, encode_text}
+use Rattle.zcore_standard.specs.Words.{searched_bytes, spend_search, form_at, write_bytes, encode_text}
+use Rattle.zcore_standard_laws.proofs.FuelFacts.{LeavesOf, keeps_spend_for, spend_for_leaves, waits_spend_for, falls_spent}
 
 -- bytes that are written leave the memory as long
 pub length-with_bytes : (memory : List ℕ) (at : ℕ) (bytes : List ℕ) → length (with_bytes memory at bytes) ≡ length memory
@@ -30,6 +31,16 @@ keeps_test_slots parse s t a h = keeps_test _ faults.Buffer s t a h
 keeps_test_dictionary : (dictionary : ℕ) → Keeps (test_dictionary dictionary)
 unfolding test_dictionary
 keeps_test_dictionary dictionary s t a h = keeps_test _ faults.Read s t a h
+
+keeps_spend_search : (text parse dictionary fuel : ℕ) → Keeps (spend_search text parse dictionary fuel)
+unfolding spend_search
+keeps_spend_search text parse dictionary fuel s t a h =
+    keeps_spend_for (searched_bytes s.memory text parse (dictionary_for s.memory dictionary)) fuel s t a h
+
+spend_search_leaves : (text parse dictionary fuel : ℕ) → LeavesOf fuel (spend_search text parse dictionary fuel)
+unfolding spend_search
+spend_search_leaves text parse dictionary fuel s t left h =
+    spend_for_leaves (searched_bytes s.memory text parse (dictionary_for s.memory dictionary)) fuel s t left h
 
 length-with_slots : (alphabets : List ℕ) (memory : List ℕ) (text parse dictionary flag : ℕ)
     → length (with_slots alphabets memory text parse dictionary flag) ≡ length memory
@@ -58,7 +69,10 @@ tokenise_falls alphabets here after text parse dictionary flag past =
     falls_then here _ _ (keeps_test_letters text) (λ _.
     falls_then here _ _ (keeps_test_slots parse) (λ _.
     falls_then here _ _ (keeps_test_dictionary dictionary) (λ _.
-    falls_then here _ _ (keeps_fill_slots alphabets text parse dictionary flag) (λ _. goes_on_falls here after past))))
+    falls_spent here _ _ (keeps_spend_search text parse dictionary here.fuel)
+    (spend_search_leaves text parse dictionary here.fuel) (λ left.
+    falls_then (record here { fuel = left }) _ _ (keeps_fill_slots alphabets text parse dictionary flag)
+    (λ _. goes_on_falls (record here { fuel = left }) after past)))))
 
 pub encode_text_falls : (alphabets : List ℕ) (here : Next) (after text count from coded : ℕ) → here.program_counter < after
     → FallsFrom here (encode_text alphabets here after text count from coded)
@@ -79,6 +93,11 @@ waits_test_dictionary : (dictionary : ℕ) → Waits (test_dictionary dictionary
 unfolding test_dictionary
 waits_test_dictionary dictionary s t h = waits_test _ faults.Read s t h
 
+waits_spend_search : (text parse dictionary fuel : ℕ) → Waits (spend_search text parse dictionary fuel)
+unfolding spend_search
+waits_spend_search text parse dictionary fuel s t h =
+    waits_spend_for (searched_bytes s.memory text parse (dictionary_for s.memory dictionary)) fuel s t h
+
 waits_fill_slots : (alphabets : List ℕ) (text parse dictionary flag : ℕ) → Waits (fill_slots alphabets text parse dictionary flag)
 unfolding fill_slots
 waits_fill_slots alphabets text parse dictionary flag s t h = waits_done tt _ t h
@@ -98,7 +117,8 @@ waits_tokenise alphabets here after text parse dictionary flag =
     waits_then _ _ (waits_test_letters text) (λ _.
     waits_then _ _ (waits_test_slots parse) (λ _.
     waits_then _ _ (waits_test_dictionary dictionary) (λ _.
-    waits_then _ _ (waits_fill_slots alphabets text parse dictionary flag) (λ _. waits_goes_on after here.fuel))))
+    waits_then _ _ (waits_spend_search text parse dictionary here.fuel) (λ left.
+    waits_then _ _ (waits_fill_slots alphabets text parse dictionary flag) (λ _. waits_goes_on after left)))))
 
 pub waits_encode_text : (alphabets : List ℕ) (here : Next) (after text count from coded : ℕ)
     → Waits (encode_text alphabets here after text count from coded)

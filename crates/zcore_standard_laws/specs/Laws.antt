@@ -11,7 +11,7 @@ use Rattle.zcore.specs.declared.place.Place.{Place}
 use Rattle.zcore.specs.declared.place.Place.TheVariants as places
 use Rattle.zcore.specs.Execution.{step}
 use Rattle.zcore.specs.Parts.{is_text_buffer}
-use Rattle.zcore.specs.Turn.{StateOfPlay, Whole, TurnsBy, turn_from, turn_on, plays, plays_of}
+use Rattle.zcore.specs.Turn.{StateOfPlay, Whole, TurnsBy, turn_from, turn_on, is_waiting, plays, plays_of}
 use Rattle.zcore_standard.specs.Place.{Here, within, is_none_open}
 use Rattle.zcore_standard.specs.Loaded.{Loaded}
 use Rattle.zcore_standard.specs.Unicode.{is_ascii}
@@ -36,20 +36,20 @@ abbrev pub ends_in_fault : {H : Type 0} → Out H → Bool
 ends_in_fault (done next s) = false
 ends_in_fault (halt place s) = is_fault place
 
-abbrev pub is_done : {H : Type 0} → Out H → Bool
-is_done (done next s) = true
-is_done (halt place s) = false
+abbrev pub waits : {H : Type 0} → Out H → Bool
+waits (done next s) = false
+waits (halt place s) = is_waiting place
 
 -- no stream is open, and the upper window is not there
 abbrev pub is_plain : Here → Bool
 is_plain here = is_none_open here.streams && is_none here.upper
 
--- a step that ends the turn closes no stream, and shows or drops no text of the upper window
+-- a step that waits closes no stream, and shows or drops no text of the upper window
 abbrev pub closes_none : Here → Out Next → Bool
-closes_none here o = is_plain here || is_done o
+closes_none here o = is_plain here || not (waits o)
 
 -- A step of the profile that meets no fault is the Standard's step, and leaves windows, dice and streams as they are.
--- It may be no `aread` with a stream open or the upper window there, which the profile does not have.
+-- It does not wait with a stream open or the upper window there, which the profile does not have.
 abbrev pub KeepsWhatTheProfileSteps : Type 0
 KeepsWhatTheProfileSteps =
     (loaded : Loaded) (here : Here) (s : State) → loaded.own_alphabets ≡ None

@@ -10,7 +10,7 @@ pub fn every_standard_turn_ends()
 {}
 
 /// A step of the profile's machine that meets no fault is the Standard's step, and leaves windows,
-/// dice and streams as they are. It is no `aread` while a stream is open or the upper window is there,
+/// dice and streams as they are. It does not wait while a stream is open or the upper window is there,
 /// which the profile does not have.
 pub fn keeps_what_the_profile_steps()
     ensures { KeepsWhatTheProfileSteps }

@@ -11,10 +11,9 @@ use Rattle.zcore.specs.Header.{HasHeader, IsKnownVersion, IsWithin, HasDictionar
 use Rattle.zcore.specs.Header.{static_base_of, globals_of, defaults_of, abbreviations_of, dictionary_of, first_instruction_of}
 use Rattle.zcore.specs.Layout.{header_size, globals_size, defaults_size, longest_story}
 use Rattle.zcore.specs.Parts.{scale_in, with_word}
-use Rattle.zcore.specs.Turn.{Play, with_bytes}
+use Rattle.zcore.specs.Turn.{with_bytes}
 use Rattle.zcore_standard_loading.specs.declared.loading.LoadedStory.{LoadedStory}
 use Rattle.zcore_standard.specs.Loaded.{Loaded, seeded}
-use Rattle.zcore_standard.specs.Machine.{by_standard}
 use Rattle.zcore_standard.specs.Unicode.{default_characters}
 
 -- The story in its file (11.1.6)
@@ -211,7 +210,3 @@ loaded_of file seed = record {
   characters = characters_of (memory_for file);
   own_alphabets = own_alphabets_of (memory_for file);
 }
-
--- a file as it is played with a seed, with so much fuel for each turn
-abbrev pub plays_file : List ℕ → ℕ → ℕ → Play
-plays_file file seed fuel = by_standard (loaded_of file seed) (memory_for file) fuel

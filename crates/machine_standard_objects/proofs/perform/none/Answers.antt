@@ -2,7 +2,7 @@ use Rattle.std.proofs.Common.{ℕ, [], ap, Option, None}
 use Rattle.zcore.specs.declared.instruction.Branch.{Branch}
 use Rattle.zcore.specs.Execution.{perform}
 use Rattle.zcore_standard.specs.Printing.{is_text, perform_text}
-use Rattle.machine_standard_objects.proofs.Performing.{known_told, text_told, none_plain, without_none}
+use Rattle.machine_standard_objects.proofs.Performing.{known_told, text_told, is_several, no_flags, none_plain, without_none}
 use Rattle.machine_standard_objects.proofs.perform.none.Goals as goal
 
 pub returns-in-Print-clause-told : goal.returns-in-Print-clause-told
@@ -12,7 +12,8 @@ returns-in-Print-clause-told c =
     let none : Option ℕ = None in
     let stays : Option Branch = None in
     text_told c.args.loaded.now c.args.operation c.args.here c.args.after none stays [] _
-    (without_none c.args.operation [] c.requires.count) (ap is_text e) (rw e c.print_inline.ensures.told)
+    (without_none c.args.operation [] c.requires.count)
+    (no_flags c.args.operation [] (ap is_several c.requires.count)) (ap is_text e) (rw e c.print_inline.ensures.told)
 
 pub returns-in-PrintReturn-clause-told : goal.returns-in-PrintReturn-clause-told
 unfolding perform perform_text
@@ -21,7 +22,8 @@ returns-in-PrintReturn-clause-told c =
     let none : Option ℕ = None in
     let stays : Option Branch = None in
     text_told c.args.loaded.now c.args.operation c.args.here c.args.after none stays [] _
-    (without_none c.args.operation [] c.requires.count) (ap is_text e) (rw e c.print_return.ensures.told)
+    (without_none c.args.operation [] c.requires.count)
+    (no_flags c.args.operation [] (ap is_several c.requires.count)) (ap is_text e) (rw e c.print_return.ensures.told)
 
 pub returns-in_default-clause-told : goal.returns-in_default-clause-told
 returns-in_default-clause-told c =
@@ -29,5 +31,6 @@ returns-in_default-clause-told c =
     let stays : Option Branch = None in
     known_told c.args.loaded.now c.args.operation c.args.here c.args.after none stays [] _
     (without_none c.args.operation [] c.requires.count)
+    (no_flags c.args.operation [] (ap is_several c.requires.count))
     (none_plain c.args.operation c.requires.count c.in_default.not-Print c.in_default.not-PrintReturn)
     c.perform_none.ensures.told

@@ -1,5 +1,5 @@
-use Rattle.std.proofs.Common.{[], ◌∷◌, sym, ◌∙◌}
-use Rattle.machine_standard_objects.proofs.Performing.{nothing_went, known_went, two_plain}
+use Rattle.std.proofs.Common.{[], ◌∷◌, ap, sym, ◌∙◌}
+use Rattle.machine_standard_objects.proofs.Performing.{nothing_went, known_went, is_several, no_flags, two_plain}
 use Rattle.machine_standard_objects.proofs.perform.two.Goals as goal
 
 pub returns-then-concerns_nothing : goal.returns-then-concerns_nothing
@@ -10,5 +10,5 @@ returns-then-concerns_nothing c = λ loaded. nothing_went loaded c.args.operatio
 pub returns : goal.returns
 returns c = λ loaded. known_went loaded c.args.operation c.args.here c.args.ending.after
     c.args.ending.result c.args.ending.branch (c.args.x ∷ c.args.y ∷ []) _
-    (sym c.concerns_nothing.ensures ∙ c.if-concerns_nothing.false) (two_plain c.args.operation c.requires.count)
+    (sym c.concerns_nothing.ensures ∙ c.if-concerns_nothing.false) (no_flags c.args.operation _ (ap is_several c.requires.count)) (two_plain c.args.operation c.requires.count)
     c.perform_two.ensures

@@ -5,8 +5,8 @@ use Rattle.machine_frames.specs.Contents.{memory_of}
 use Rattle.machine_lines.specs.Lines.{Fills}
 use Rattle.machine_frames.proofs.Kept.{length-memory}
 use Rattle.machine_standard_windows.specs.Around.{place}
-use Rattle.machine_standard_opcodes.proofs.Anew.{no_fuel, begun_anew}
-use Rattle.machine_standard_windows.proofs.TurnTexts.{keeps_still}
+use Rattle.machine_standard_opcodes.proofs.Anew.{no_fuel, begun_anew, unpaid}
+use Rattle.machine_standard_windows.proofs.TurnTexts.{keeps_still, told_seen_err}
 use Rattle.machine_standard_opcodes.proofs.beginning.restart.Goals as goal
 
 pub returns-then-here-eq0-clause-told : goal.returns-then-here-eq0-clause-told
@@ -15,6 +15,14 @@ returns-then-here-eq0-clause-told c = no_fuel _ _ c.args.loaded.now (place c.arg
 
 pub returns-then-here-eq0-clause-text : goal.returns-then-here-eq0-clause-text
 returns-then-here-eq0-clause-text c = keeps_still _ _ c.requires.text
+
+pub returns-in_err-fuel-clause-told : goal.returns-in_err-fuel-clause-told
+returns-in_err-fuel-clause-told c = told_seen_err (place c.args.around.now) _ c.from_residual.ensures.1
+    (unpaid _ _ c.args.loaded.now (place c.args.around.now c.args.here) c.requires.sound c.if-here-eq0.false
+    (rw (ap length c.dynamic-dynamic.ensures ∙ c.requires.dynamic) at c.in_err-fuel.ensures))
+
+pub returns-in_err-fuel-clause-text : goal.returns-in_err-fuel-clause-text
+returns-in_err-fuel-clause-text c = keeps_still _ _ c.requires.text
 
 pub bounds-memory-6 : goal.bounds-memory-6
 bounds-memory-6 c =
@@ -28,11 +36,11 @@ bounds-memory-7 c =
 
 pub fill-requires-clause-room : goal.fill-requires-clause-room
 fill-requires-clause-room c =
-    let long = ap length c.after_header.ensures ∙ length-drop 64 c.dynamic.result.now in
+    let long = ap length c.after_header.ensures ∙ length-drop 64 c.dynamic-dynamic.result.now in
     omega (
       arith,
       long,
-      ap length c.dynamic.ensures,
+      ap length c.dynamic-dynamic.ensures,
       c.requires.dynamic,
       length-memory c.args.store.now.store c.requires.sound,
       c.requires.sound.static_base,
@@ -42,7 +50,9 @@ pub returns-clause-told : goal.returns-clause-told
 returns-clause-told c =
     let memory = c.memory-memory.ensures ∙ ap memory_of c.store.ensures in
     begun_anew c.args.store.now c.fill.new.store c.empty.new.store _ _ c.args.loaded.now
-    (place c.args.around.now c.args.here) _ c.dice-around.result c.clear.new.self.items c.dice-around.ensures
-    c.clear.ensures c.if-here-eq0.false (ap (λ m. word_at m 6) memory) (subst (λ bytes. Fills c.args.store.now c.fill.new.store 64 bytes)
-    (c.after_header.ensures ∙ ap (drop 64) c.dynamic.ensures) c.in_ok-fill.ensures.filled) c.in_ok-empty.ensures.emptied
+    (place c.args.around.now c.args.here) _ c.dice-around.result c.clear.new.self.items _ c.dice-around.ensures
+    c.clear.ensures c.if-here-eq0.false
+    (rw (ap length c.dynamic-dynamic.ensures ∙ c.requires.dynamic) at c.in_ok-fuel.ensures)
+    (ap (λ m. word_at m 6) memory) (subst (λ bytes. Fills c.args.store.now c.fill.new.store 64 bytes)
+    (c.after_header.ensures ∙ ap (drop 64) c.dynamic-dynamic.ensures) c.in_ok-fill.ensures.filled) c.in_ok-empty.ensures.emptied
     (c.cut_to_heard.ensures.heard c.args.here)
