@@ -6,7 +6,7 @@ ghost use Rattle.zcore.specs.Layout.{longest_story};
 ghost use Rattle.survey_opcodes.specs.Lacks.{is_refused};
 ghost use Rattle.survey_opcodes.specs.Further.{IsFurtherLack, further_of};
 ghost use Rattle.survey_opcodes.specs.Opcodes.{opcode_at, operation_of};
-ghost use Rattle.survey_opcodes.specs.declared.lack.Lack.TheVariants.{Opcode};
+ghost use Rattle.survey_opcodes.specs.declared.lack.Lack.TheVariants as lacks;
 
 use crate::further::further_of;
 use crate::given::count_given;
@@ -23,7 +23,7 @@ pub fn standard_lack_at(story: &[u8], at: usize) -> Option<Lack>
     requires { length story.now ≤ longest_story }
     ensures kept { is_refused (opcode story.now at) ≡ false → result ≡ None }
     ensures unknown { IfSome (opcode_at story.now at)
-        (λ x. operation_of x ≡ None → further_of x ≡ None → result ≡ Some Opcode) }
+        (λ x. operation_of x ≡ None → further_of x ≡ None → result ≡ Some lacks.Opcode) }
 {
     let lack = lack_at(story, at)?;
     match further_of(Opcode::read(story, at)?) {
