@@ -8,6 +8,31 @@ use Rattle.zcore.specs.Cutting.{Word, words_of}
 use Rattle.zcore.specs.Parsing.{separators_of, first_words}
 use Rattle.zcore_standard.specs.Words.{entry_with_form, slot_bytes, slots_bytes}
 
+module _ (memory : List ℕ) (dictionary : ℕ) (letters : List ℕ) (most : ℕ) where
+  -- the words so far and those of the words that are left for which there is room are as many as all
+  abbrev pub Counts : ℕ → List Word → Type 0
+  Counts count words =
+      count + length (take (most - count) words) ≡ length (first_words memory dictionary letters most)
+
+  pub count_begins : (words : List Word) → words ≡ words_of (separators_of memory dictionary) letters → Counts 0 words
+  unfolding first_words
+  count_begins words e =
+      let z : most - 0 ≡ most = omega arith in
+      let n : (k : ℕ) → 0 + k ≡ k = λ k. omega arith in
+      n (length (take (most - 0) words)) ∙ ap (λ k. length (take k words)) z ∙ ap (λ ws. length (take most ws)) e
+
+  pub count_goes_on : (count : ℕ) (words rest : List Word) (w : Word) → Counts count words → count < most
+      → words ≡ w ∷ rest → Counts (count + 1) rest
+  count_goes_on count words rest w h lt e =
+      let left : most - count ≡ suc (most - (count + 1)) = omega (arith, lt) in
+      let those : take (most - count) words ≡ w ∷ take (most - (count + 1)) rest = ap (λ k. take k words) left
+      ∙ ap (take (suc (most - (count + 1)))) e in
+      omega (arith, ap length those, h)
+
+  pub count_ends : (count : ℕ) (words : List Word) → Counts count words → take (most - count) words ≡ []
+      → count ≡ length (first_words memory dictionary letters most)
+  count_ends count words h none = omega (arith, ap length none, h)
+
 module _ (alphabets : List ℕ) (memory : List ℕ) (dictionary flag : ℕ) (letters : List ℕ) (most at : ℕ) where
   abbrev slots_from : ℕ → List Word → List ℕ
   slots_from count words = slots_bytes alphabets memory dictionary flag (at + 4 * count) (take (most - count) words)
@@ -17,19 +42,18 @@ module _ (alphabets : List ℕ) (memory : List ℕ) (dictionary flag : ℕ) (let
   Parses bytes count words =
       (take (4 * count) bytes ++ slots_from count words
       ≡ slots_bytes alphabets memory dictionary flag at (first_words memory dictionary letters most))
-      × (count + length (take (most - count) words) ≡ length (first_words memory dictionary letters most))
+      × Counts memory dictionary letters most count words
 
   pub parse_begins : (bytes : List ℕ) (words : List Word) → words ≡ words_of (separators_of memory dictionary) letters
       → Parses bytes 0 words
   unfolding first_words
   parse_begins bytes words e =
       let z : most - 0 ≡ most = omega arith in
-      let here : at + 4 * 0 ≡ at = omega arith in
-      let n : (k : ℕ) → 0 + k ≡ k = λ k. omega arith in (
+      let here : at + 4 * 0 ≡ at = omega arith in (
         ap (λ a. slots_bytes alphabets memory dictionary flag a (take (most - 0) words)) here
             ∙ ap (λ k. slots_bytes alphabets memory dictionary flag at (take k words)) z
             ∙ ap (λ ws. slots_bytes alphabets memory dictionary flag at (take most ws)) e,
-        n (length (take (most - 0) words)) ∙ ap (λ k. length (take k words)) z ∙ ap (λ ws. length (take most ws)) e,
+        count_begins memory dictionary letters most words e,
       )
 
   pub parse_goes_on : (bytes new : List ℕ) (count : ℕ) (words rest : List Word) (w : Word) → Parses bytes count words
@@ -50,7 +74,7 @@ module _ (alphabets : List ℕ) (memory : List ℕ) (dictionary flag : ℕ) (let
             (slots_bytes alphabets memory dictionary flag (at + 4 * count + 4) more)
             ∙ ap (λ ws. take (4 * count) bytes ++ slots_bytes alphabets memory dictionary flag (at + 4 * count) ws) (sym those)
             ∙ h.0,
-        omega (arith, ap length those, h.1),
+        count_goes_on memory dictionary letters most count words rest w h.1 lt e,
       )
 
   -- there is no room for more, or no word is left
@@ -58,7 +82,7 @@ module _ (alphabets : List ℕ) (memory : List ℕ) (dictionary flag : ℕ) (let
       → take (most - count) words ≡ [] → (count ≡ length (first_words memory dictionary letters most))
       × (take (4 * count) bytes ≡ slots_bytes alphabets memory dictionary flag at (first_words memory dictionary letters most))
   parse_ends bytes count words h none = (
-    omega (arith, ap length none, h.1),
+    count_ends memory dictionary letters most count words h.1 none,
     sym (append-nil (take (4 * count) bytes))
         ∙ ap (λ ws. take (4 * count) bytes ++ slots_bytes alphabets memory dictionary flag (at + 4 * count) ws) (sym none) ∙ h.0,
   )

@@ -2,25 +2,28 @@
 use Rattle.std.proofs.Common.{◌≡◌, ℕ, ◌+◌, ◌*◌, ◌≤◌, List, ◌∷◌, length, refl, ap, sym, ◌∙◌, subst, arith, true, false, Ok, Err}
 use Rattle.std.proofs.Common.{slice_index, Result}
 use Rattle.std.specs.Prelude.{OnOk}
-use Rattle.std.proofs.lemmas.Bool.{and_parts, leb-true}
+use Rattle.std.proofs.lemmas.Bool.{and_parts, eq-eqb, leb-true, ne_eqb}
 use Rattle.journal.specs.Recording.{Recording}
 use Rattle.zcore.specs.declared.next.Next.{Next}
 use Rattle.zcore.specs.declared.place.Fault.TheVariants as faults
 use Rattle.zcore.specs.declared.place.Place.TheVariants as places
-use Rattle.zcore.specs.Dictionary.{is_dictionary}
-use Rattle.zcore.specs.Header.{static_base_of}
+use Rattle.zcore.specs.Dictionary.{entries_in, is_dictionary}
+use Rattle.zcore.specs.Header.{HasDictionaryHead, dictionary_of, entry_length_of, first_entry, static_base_of, static_end}
 use Rattle.zcore.specs.Parsing.{first_words}
-use Rattle.zcore.specs.State.{done}
+use Rattle.zcore.specs.State.{State, Out, done}
 use Rattle.zcore.specs.Turn.{with_bytes}
 use Rattle.zcore_standard.specs.Words.{dictionary_for, letters_in, has_letters, has_slots}
 use Rattle.zcore_standard.specs.Words.{slots_bytes, with_slots, test_letters, test_slots, test_dictionary, fill_slots}
-use Rattle.zcore_standard.specs.Words.{tokenise}
+use Rattle.zcore_standard.specs.Words.{searched_bytes, spend_search, tokenise}
+use Rattle.zcore_standard.specs.Fuel.{spend_for}
 use Rattle.machine_frames.specs.Contents.{Contents, memory_of}
-use Rattle.machine_frames.specs.States.{IsSound}
+use Rattle.machine_frames.specs.States.{IsSound, state_of}
 use Rattle.machine_frames.specs.Went.{Went}
+use Rattle.machine_frames.specs.declared.end.End.{End}
 use Rattle.machine_frames.specs.declared.end.End.TheVariants as ends
 use Rattle.machine_frames.proofs.Steps.{went_halt}
 use Rattle.machine_lines.specs.Lines.{Filled, Fills}
+use Rattle.machine_opcodes.specs.Says.{Says}
 
 pub record HasSlots (memory : List ℕ) (parse : ℕ) : Type 0 where
   pub past : 64 ≤ parse
@@ -55,6 +58,25 @@ slots_filled r t alphabets memory letters bytes dictionary flag text parse count
     subst (Filled r t) memories filled
 slots_filled r t alphabets memory letters bytes dictionary flag text parse count (Err e) is part number each filled = tt
 
+-- What a search takes
+
+pub head_of : (memory : List ℕ) (dictionary : ℕ) → is_dictionary memory dictionary ≡ true
+    → HasDictionaryHead memory dictionary
+head_of memory dictionary h = leb-true (first_entry memory dictionary) (static_end memory) (and_parts _ _ h).0
+
+module _ (memory letters : List ℕ) (text parse dictionary : ℕ) where
+  pub own_searched : dictionary ≡ dictionary_of memory → searched_bytes memory text parse dictionary ≡ 0
+  own_searched own = rw (eq-eqb dictionary (dictionary_of memory) own) refl
+
+  pub other_searched : (bytes count : ℕ) → (dictionary ≡ dictionary_of memory → ⊥)
+      → bytes ≡ entries_in memory dictionary * entry_length_of memory dictionary → letters ≡ letters_in memory text
+      → count ≡ length (first_words memory dictionary letters (slice_index memory parse))
+      → bytes * count ≡ searched_bytes memory text parse dictionary
+  other_searched bytes count other all part many =
+      let words : count ≡ length (first_words memory dictionary (letters_in memory text) (slice_index memory parse)) =
+      many ∙ ap (λ l. length (first_words memory dictionary l (slice_index memory parse))) part in
+      rw (ne_eqb dictionary (dictionary_of memory) other, all, words) refl
+
 module _ (s : Recording Contents) (alphabets : List ℕ) (here : Next) (after text parse dictionary flag : ℕ) where
   abbrev memory : List ℕ
   memory = memory_of s.store
@@ -80,16 +102,36 @@ module _ (s : Recording Contents) (alphabets : List ℕ) (here : Next) (after te
   no_dictionary sound letters slots none = went_halt s (tokenise alphabets here after text parse dictionary flag) sound
       (λ t. rw (letters, slots, none) refl)
 
-  pub tokens_filled : (t : Recording Contents) → has_letters memory text ≡ true → has_slots memory parse ≡ true
-      → is_dictionary memory (dictionary_for memory dictionary) ≡ true
+  -- how much fuel the search takes
+  abbrev pub searching : State → Out ℕ
+  searching = spend_for (searched_bytes memory text parse (dictionary_for memory dictionary)) here.fuel
+
+  pub search_as : {r : Result ℕ End} (read : List ℕ) (named : ℕ) → read ≡ memory
+      → named ≡ dictionary_for memory dictionary
+      → Says r (spend_for (searched_bytes read text parse named) here.fuel) → Says r searching
+  search_as {r} read named is e h =
+      subst (λ d. Says r (spend_for (searched_bytes memory text parse d) here.fuel)) e
+      (subst (λ k. Says r (spend_for (searched_bytes k text parse named) here.fuel)) is h)
+
+  pub search_unpaid : {e : End} → IsSound s.store → has_letters memory text ≡ true → has_slots memory parse ≡ true
+      → is_dictionary memory (dictionary_for memory dictionary) ≡ true → Says {A = ℕ} (Err e) searching
+      → Went {A = Next} (Err e) s s (tokenise alphabets here after text parse dictionary flag)
+  unfolding tokenise test_letters test_slots test_dictionary spend_search
+  search_unpaid {e = ends.Stop p} sound letters slots some unpaid =
+      went_halt s (tokenise alphabets here after text parse dictionary flag) sound
+      (λ t. rw (letters, slots, some, unpaid.said (state_of s.store t)) refl)
+  search_unpaid {e = ends.Memory} sound letters slots some unpaid = absurd unpaid.said
+
+  pub tokens_filled : (t : Recording Contents) (fuel : ℕ) → has_letters memory text ≡ true → has_slots memory parse ≡ true
+      → is_dictionary memory (dictionary_for memory dictionary) ≡ true → Says (Ok fuel) searching
       → Filled s t (with_slots alphabets memory text parse (dictionary_for memory dictionary) flag)
-      → Went (Ok (record { program_counter = after; fuel = here.fuel })) s t
+      → Went (Ok (record { program_counter = after; fuel = fuel })) s t
       (tokenise alphabets here after text parse dictionary flag)
-  unfolding tokenise test_letters test_slots test_dictionary fill_slots
-  tokens_filled t letters slots some filled = record {
+  unfolding tokenise test_letters test_slots test_dictionary spend_search fill_slots
+  tokens_filled t fuel letters slots some paid filled = record {
     did = (
       filled.goes_on,
-      λ x. rw (letters, slots, some)
-          (ap (λ y. done (record { program_counter = after; fuel = here.fuel }) y) (sym (filled.state x))),
+      λ x. rw (letters, slots, some, paid.said (state_of s.store x))
+          (ap (λ y. done (record { program_counter = after; fuel = fuel }) y) (sym (filled.state x))),
     );
   }

@@ -1,33 +1,41 @@
 //! The words of a text in memory (Z-Machine Standards Document 1.1, section 15, `tokenise`).
 
-ghost use Rattle.std.specs.Prelude.{◌≡◌, ◌≤◌, true, length, OnOk, OnErr};
+ghost use Rattle.std.specs.Prelude.{◌≡◌, ◌≤◌, ◌<◌, ◌*◌, true, length, OnOk, OnErr};
+ghost use Rattle.zcore.specs.Arithmetic.{magnitude};
 ghost use Rattle.zcore.specs.Dictionary as dictionaries;
-ghost use Rattle.zcore.specs.Header.{dictionary_of, static_base_of};
+ghost use Rattle.zcore.specs.Header.{HasDictionaryHead, dictionary_of, entry_length_of, static_base_of};
+ghost use Rattle.zcore_standard.specs.Fuel.{spend_for};
 ghost use Rattle.zcore_standard.specs.Words as definitions;
 ghost use Rattle.zcore_standard.specs.Loaded.{alphabets_of};
 ghost use Rattle.machine_frames.specs.Contents.{memory_of};
 ghost use Rattle.machine_frames.specs.States.{IsStoreOf};
 ghost use Rattle.machine_frames.specs.Went.{GivenUp, Went};
 ghost use Rattle.machine_lines.specs.Lines.{Filled};
+ghost use Rattle.machine_opcodes.specs.Says.{Says};
 
 use crate::fill::{are_writable, fill_counted};
-use crate::slots::{SLOTS_LENGTH, Search, slots};
+use crate::slots::{SLOTS_LENGTH, Search, count_words, slots};
 use journal::{NoMemory, Recorded};
 use machine_frames::{End, Store};
+use machine_standard_texts::spend_for;
 use tables::is_dictionary;
 use zcore::layout::READABLE;
 use zcore::{Fault, Header, Next, Place};
 use zcore_standard::Loaded;
 
+/// From this number on, the number of entries is negative: they are in no order.
+const NO_ORDER: u16 = 32_768;
+
 /// Cuts the letters of a text buffer into words, looks them up, and fills the slots of a parse
 /// buffer: `tokenise`. Dictionary 0 is the story's. With the flag (not 0) a word that is not found
-/// leaves its slot as it is. Letters are looked up as they are: capitals stay capitals.
+/// leaves its slot as it is. Letters are looked up as they are: capitals stay capitals. The search of
+/// another dictionary than the story's takes fuel.
 ///
 /// # Errors
 ///
 /// M3 where the letters do not end in readable memory; then M12 where the slots are not in dynamic
-/// memory after the header; then M3 where the dictionary cannot be read. `End::Memory` where memory
-/// was refused: the turn is given up.
+/// memory after the header; then M3 where the dictionary cannot be read; then the limit of fuel.
+/// `End::Memory` where memory was refused: the turn is given up.
 pub fn tokenise(
     header: &Header,
     loaded: &Loaded,
@@ -54,11 +62,62 @@ pub fn tokenise(
     if !is_dictionary(memory, search.dictionary) {
         return Err(End::Stop(Place::Fault(Fault::Read)));
     }
+    let fuel = spend_search(header, memory, search.dictionary, text, parse, here.fuel)?;
     fill_slots(header, loaded, store, search, text, parse)?;
     Ok(Next {
         program_counter: after,
-        fuel: here.fuel,
+        fuel,
     })
+}
+
+/// The fuel that is left after a search: each word that has a slot is compared with the entries of the
+/// dictionary. The story's costs nothing. The limit of fuel.
+fn spend_search(
+    header: &Header,
+    memory: &[u8],
+    dictionary: u16,
+    text: u16,
+    parse: u16,
+    fuel: u32,
+) -> Result<u32, End>
+    requires own { header.now.dictionary.address ≡ dictionary_of memory.now }
+    requires letters { definitions.has_letters memory.now text ≡ true }
+    requires slots { parse < length memory.now }
+    requires dictionary { dictionaries.is_dictionary memory.now dictionary ≡ true }
+    ensures { Says result
+        (spend_for (definitions.searched_bytes memory.now text parse dictionary) fuel) }
+{
+    if dictionary == header.dictionary.address {
+        return spend_for(0, fuel);
+    }
+    let slots = memory[parse as usize];
+    let words = count_words(memory, dictionary, letters_in(memory, text), slots);
+    spend_for(entry_bytes(memory, dictionary) * words as usize, fuel)
+}
+
+/// How many bytes the entries of a dictionary have.
+fn entry_bytes(memory: &[u8], dictionary: u16) -> usize
+    requires { HasDictionaryHead memory.now dictionary }
+    ensures same { result ≡ dictionaries.entries_in memory.now dictionary
+        * entry_length_of memory.now dictionary }
+    ensures few { result ≤ 32768 * 255 }
+{
+    let start = dictionary as usize;
+    let length = start + 1 + memory[start] as usize;
+    let count = memory[length + 1] as u16 * 256 + memory[length + 2] as u16;
+    magnitude(count) as usize * memory[length] as usize
+}
+
+/// How many entries a number states: a negative number is of entries in no order.
+fn magnitude(count: u16) -> u16
+    ensures same { result ≡ magnitude count }
+    ensures few { result ≤ 32768 }
+{
+    if count < NO_ORDER {
+        count
+    } else {
+        count.wrapping_neg()
+    }
 }
 
 /// How words are looked up in the dictionary that an operand names: 0 is the story's.

@@ -63,6 +63,22 @@ pub(crate) fn slots(
     count
 }
 
+/// How many words of a text have slots, where there are so many of these.
+pub(crate) fn count_words(memory: &[u8], dictionary: u16, letters: &[u8], most: u8) -> u8
+    requires { HasDictionaryHead memory.now dictionary }
+    ensures { result ≡ length (first_words memory.now dictionary letters.now most) }
+{
+    let mut words = cut_line(letters, separators(memory, dictionary));
+    let mut count = 0;
+    while count < most {
+        match words.next() {
+            Some(_) => count += 1,
+            None => break,
+        }
+    }
+    count
+}
+
 /// The bytes that a dictionary names as separators.
 fn separators(memory: &[u8], dictionary: u16) -> &[u8]
     requires { HasDictionaryHead memory.now dictionary }

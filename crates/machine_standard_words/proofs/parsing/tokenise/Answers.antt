@@ -1,10 +1,13 @@
-use Rattle.std.proofs.Common.{ap, ◌∙◌, sym, subst}
+use Rattle.std.proofs.Common.{◌≡◌, true, ap, arith, length, ◌∙◌, sym, subst}
 use Rattle.zcore.specs.Dictionary.{is_dictionary}
+use Rattle.zcore.specs.Header.{dictionary_of}
 use Rattle.zcore_standard.specs.Words.{has_letters, has_slots, dictionary_for, with_slots}
 use Rattle.zcore_standard.specs.Loaded.{alphabets_of}
 use Rattle.machine_frames.specs.Contents.{memory_of}
+use Rattle.machine_frames.proofs.Kept.{length-memory}
+use Rattle.machine_frames.proofs.Steps.{went_err}
 use Rattle.machine_lines.specs.Lines.{Filled}
-use Rattle.machine_standard_words.proofs.Tokens.{no_letters, no_slots, no_dictionary, tokens_filled}
+use Rattle.machine_standard_words.proofs.Tokens.{no_letters, no_slots, no_dictionary, search_as, search_unpaid, slots_numbers, tokens_filled}
 use Rattle.machine_standard_words.proofs.parsing.tokenise.Goals as goal
 
 pub returns-then-not-has_letters : goal.returns-then-not-has_letters
@@ -34,6 +37,35 @@ returns-then-not-is_dictionary c =
     (sym (ap (is_dictionary m) named) ∙ sym (ap (λ m. is_dictionary m c.search_for-search.result.dictionary) is)
     ∙ sym c.is_dictionary.ensures ∙ c.if-not-is_dictionary.true)
 
+pub spend_search-requires-clause-own : goal.spend_search-requires-clause-own
+spend_search-requires-clause-own c =
+    c.requires.headed.dictionary ∙ sym (ap dictionary_of (c.memory-memory.ensures ∙ ap memory_of c.store.ensures))
+
+pub spend_search-requires-clause-slots : goal.spend_search-requires-clause-slots
+spend_search-requires-clause-slots c =
+    let s = c.args.store.now.store in
+    let is = c.memory-memory.ensures ∙ ap memory_of c.store.ensures in
+    let slots : has_slots (memory_of s) c.args.parse ≡ true = sym (ap (λ m. has_slots m c.args.parse) is)
+    ∙ sym c.has_slots.ensures ∙ c.if-not-has_slots.false in
+    let h = slots_numbers (memory_of s) c.args.parse slots in
+    omega (arith, h.room, ap length is, length-memory s c.requires.sound, c.requires.sound.static_base)
+
+pub returns-in_err-fuel : goal.returns-in_err-fuel
+returns-in_err-fuel c =
+    let s = c.args.store.now in
+    let m = memory_of s.store in
+    let is = c.memory-memory.ensures ∙ ap memory_of c.store.ensures in
+    let named = c.search_for-search.ensures.dictionary m c.requires.headed.dictionary in
+    went_err _ c.from_residual.ensures.1
+    (search_unpaid s (alphabets_of c.args.loaded.now) c.args.here c.args.after c.args.text c.args.parse c.args.dictionary c.args.flag
+    c.requires.sound
+    (sym (ap (λ m. has_letters m c.args.text) is) ∙ sym c.has_letters.ensures ∙ c.if-not-has_letters.false)
+    (sym (ap (λ m. has_slots m c.args.parse) is) ∙ sym c.has_slots.ensures ∙ c.if-not-has_slots.false)
+    (sym (ap (is_dictionary m) named) ∙ sym (ap (λ m. is_dictionary m c.search_for-search.result.dictionary) is)
+    ∙ sym c.is_dictionary.ensures ∙ c.if-not-is_dictionary.false)
+    (search_as s (alphabets_of c.args.loaded.now) c.args.here c.args.after c.args.text c.args.parse c.args.dictionary c.args.flag
+    _ _ is named c.in_err-fuel.ensures))
+
 pub returns : goal.returns
 returns c =
     let s = c.args.store.now in
@@ -41,11 +73,13 @@ returns c =
     let m = memory_of s.store in
     let is = c.memory-memory.ensures ∙ ap memory_of c.store.ensures in
     let named = c.search_for-search.ensures.dictionary m c.requires.headed.dictionary in
-    tokens_filled s (alphabets_of c.args.loaded.now) c.args.here c.args.after c.args.text c.args.parse c.args.dictionary c.args.flag t
+    tokens_filled s (alphabets_of c.args.loaded.now) c.args.here c.args.after c.args.text c.args.parse c.args.dictionary c.args.flag t _
     (sym (ap (λ m. has_letters m c.args.text) is) ∙ sym c.has_letters.ensures ∙ c.if-not-has_letters.false)
     (sym (ap (λ m. has_slots m c.args.parse) is) ∙ sym c.has_slots.ensures ∙ c.if-not-has_slots.false)
     (sym (ap (is_dictionary m) named) ∙ sym (ap (λ m. is_dictionary m c.search_for-search.result.dictionary) is)
     ∙ sym c.is_dictionary.ensures ∙ c.if-not-is_dictionary.false)
+    (search_as s (alphabets_of c.args.loaded.now) c.args.here c.args.after c.args.text c.args.parse c.args.dictionary c.args.flag
+    _ _ is named c.in_ok-fuel.ensures)
     (subst (λ f. Filled s t (with_slots (alphabets_of c.args.loaded.now) m c.args.text c.args.parse (dictionary_for m c.args.dictionary) f))
     c.search_for-search.ensures.flag
     (subst (λ d. Filled s t (with_slots (alphabets_of c.args.loaded.now) m c.args.text c.args.parse d c.search_for-search.result.flag)) named
