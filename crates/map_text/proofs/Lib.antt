@@ -4,3 +4,4 @@ pub mod Ascending
 pub mod Lines
 pub mod Rounds
 mod Samples
+mod HeadingSamples

@@ -1,3 +1,4 @@
 pub mod Text
 pub mod Reading
+pub mod Heading
 pub mod Found

@@ -7,7 +7,7 @@ use crate::row::Row;
 use std::alloc::AllocError;
 
 /// The last hexadecimal digit of a number.
-fn digit(number: u32) -> u8
+pub fn digit(number: u32) -> u8
     ensures { result ≡ spec.digit (number % 16) }
 {
     let value = (number % 16) as u8;
