@@ -1,9 +1,10 @@
 //! The map of a source.
 
-ghost use Rattle.std.specs.Prelude.{◌≤◌, map, IfOk};
-ghost use Rattle.meaning.specs.Views.{title_of};
+ghost use Rattle.std.specs.Prelude.{◌≡◌, ◌≤◌, ℕ, map, IfOk};
+ghost use Rattle.meaning.specs.Views.{program_of, title_of};
 ghost use Rattle.map_text.specs.Text.{row_of, Ascend};
 ghost use Rattle.map_lines.specs.Rows.{address_at, AreOf, IsMapOf, IsMapOfSource};
+ghost use Rattle.map_lines.specs.Rows as spec;
 
 use crate::cursor::Cursor;
 use crate::routine::put_routine;
@@ -23,7 +24,9 @@ const START_LENGTH: usize = 4;
 
 /// The first address at or after another to which a packed address leads.
 fn aligned(version: Version, at: usize) -> usize
-    ensures { address_at at 0 ≤ address_at result 0 }
+    ensures later { address_at at 0 ≤ address_at result 0 }
+    ensures same { (x : ℕ) → address_at at 0 ≡ address_at x 0
+        → address_at result 0 ≡ address_at (spec.aligned version x) 0 }
 {
     let scale = version.scale() as usize;
     let last = at.saturating_add(scale - 1);
@@ -38,7 +41,8 @@ fn rows_of<'a>(
     version: Version,
     place: usize,
 ) -> Result<Vec<Row<'a>>, AllocError>
-    ensures routines { IfOk result (λ v. AreOf (map title_of checked.now.routines) (map row_of v.items)) }
+    ensures routines { IfOk result (λ v. AreOf version (program_of checked.now) place 0
+        (map title_of checked.now.routines) (map row_of v.items)) }
     ensures ascend { IfOk result (λ v. Ascend 0 (map row_of v.items)) }
 {
     let sizes = program_sizes(checked);
@@ -68,7 +72,8 @@ fn text_of_rows<'a>(
     version: Version,
     story: &[u8],
 ) -> Result<Vec<u8>, AllocError>
-    ensures { IfOk result (λ text. IsMapOf (map title_of checked.now.routines) text.items) }
+    ensures { IfOk result (λ text. IsMapOf version (program_of checked.now) story.now
+        (map title_of checked.now.routines) text.items) }
 {
     let place = word_in(story, HIGH_MEMORY_WORD) as usize + START_LENGTH;
     let rows = rows_of(alloc, checked, tokens, version, place)?;
@@ -88,7 +93,7 @@ pub fn map_of(
     version: Version,
     story: &[u8],
 ) -> Result<Vec<u8>, SourceFault>
-    ensures { IfOk result (λ text. IsMapOfSource source.now text.items) }
+    ensures { IfOk result (λ text. IsMapOfSource source.now version story.now text.items) }
 {
     let tokens = lex(alloc, source)?;
     let program = parse(alloc, &tokens)?;

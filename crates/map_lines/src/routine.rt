@@ -6,7 +6,7 @@ ghost use Rattle.meaning.specs.Views.{program_of, title_of};
 ghost use Rattle.code.specs.Written.{AreSizesOf};
 ghost use Rattle.code_instructions.specs.Places.{place_in};
 ghost use Rattle.map_text.specs.Text as text;
-ghost use Rattle.map_lines.specs.Rows.{address_at, AddsMarks, AddsRoutine};
+ghost use Rattle.map_lines.specs.Rows.{address_at, lefts_at, AddsMarks, AddsRoutine};
 
 use crate::cursor::Cursor;
 use crate::mark::Mark;
@@ -46,8 +46,9 @@ fn left_of_routine<'b>(
 ) -> Result<Vec<usize>, AllocError>
     requires routine { number < length checked.now.routines }
     requires sizes { AreSizesOf sizes.now (program_of checked.now) }
-    ensures { IfOk result (λ v. (m n : ℕ) → m ≤ n
+    ensures rise { IfOk result (λ v. (m n : ℕ) → m ≤ n
         → place_in (reverse v.items) m ≤ place_in (reverse v.items) n) }
+    ensures left { IfOk result (λ v. reverse v.items ≡ lefts_at (program_of checked.now) number) }
 {
     match routine_code(alloc, checked, sizes, number) {
         Ok(code) => Ok(code.into_left()),
@@ -84,9 +85,9 @@ fn put_marks<'a>(
     marks: &[Mark],
 ) -> Result<(), AllocError>
     requires { (m n : ℕ) → m ≤ n → place_in (reverse left.now) m ≤ place_in (reverse left.now) n }
-    ensures { OnOk result (AddsMarks beginning.entry.address rows.old.items rows.new.items
-        (length marks.now) (address_at beginning.entry.address
-        (place_in (reverse left.now) NO_ITEM + 1))) }
+    ensures { OnOk result (AddsMarks beginning.entry.name.text.now (reverse left.now)
+        beginning.entry.address rows.old.items rows.new.items (length marks.now)
+        (address_at beginning.entry.address (place_in (reverse left.now) NO_ITEM + 1))) }
 {
     let mut item: usize = 0;
     for mark in marks {
@@ -115,8 +116,8 @@ pub fn put_routine<'a, 'b>(
     requires routine { number < length checked.now.routines }
     requires sizes { AreSizesOf sizes.now (program_of checked.now) }
     ensures { IfOk result (λ end. (r : CheckedRoutine) → Some r ≡ slice_get checked.now.routines number
-        → AddsRoutine (title_of r) address (map text.row_of rows.old.items)
-        (map text.row_of rows.new.items) end) }
+        → AddsRoutine (title_of r) (lefts_at (program_of checked.now) number) address
+        (map text.row_of rows.old.items) (map text.row_of rows.new.items) end) }
 {
     let routine = checked.routine(number);
     let name = routine.name;
