@@ -1,6 +1,7 @@
 -- The story begins anew.
-use Rattle.std.proofs.Common.{◌≡◌, ◌≢◌, ℕ, ◌-◌, List, [], ◌∷◌, drop, None, Ok, Err, refl}
-use Rattle.std.proofs.Common.{ap, ◌∙◌, arith, slice_index}
+use Rattle.std.proofs.Common.{◌≡◌, ◌≢◌, ℕ, ◌+◌, ◌-◌, ◌*◌, ◌/◌, ◌%◌, List, [], ◌∷◌, drop, None, Result, Ok, Err, refl}
+use Rattle.std.proofs.Common.{ap, ◌∙◌, arith, set, slice_index, subst, tt, Unit}
+use Rattle.std.specs.Prelude.{OnOk}
 use Rattle.std.proofs.lemmas.Bool.{ne_eqb, eq-eqb}
 use Rattle.journal.specs.Recording.{Recording}
 use Rattle.zcore.specs.declared.place.Limit.TheVariants as limits
@@ -8,8 +9,9 @@ use Rattle.zcore.specs.declared.place.Place.TheVariants as places
 use Rattle.zcore.specs.State.{Frame, State}
 use Rattle.zcore.specs.Header.{static_base_of}
 use Rattle.zcore.specs.Parts.{spend}
-use Rattle.zcore.specs.Turn.{first_environment}
+use Rattle.zcore.specs.Turn.{first_environment, with_bytes}
 use Rattle.ztext.specs.Bytes.{word_at}
+use Rattle.zcore_standard.specs.Flags.{with_kept_bits}
 use Rattle.zcore_standard.specs.Flow.{restarted, restart}
 use Rattle.zcore_standard.specs.Fuel.{spend_for}
 use Rattle.zcore.specs.declared.beside.Beside.{Beside}
@@ -26,9 +28,11 @@ use Rattle.machine_frames.proofs.Frames.{pending_same}
 use Rattle.machine_frames.proofs.Kept.{HasFrames, Keeps, keeps_goes_on, keeps_state, memory_kept}
 use Rattle.machine_frames.proofs.Lists.{wrote_memory}
 use Rattle.machine_frames.proofs.Steps.{goes_on_after, told_halt}
-use Rattle.machine_lines.specs.Lines.{Fills, WaitsNoMore}
+use Rattle.machine_lines.specs.Lines.{Filled, Fills, WaitsNoMore}
+use Rattle.machine_lines.proofs.Filling.{filled_then}
 use Rattle.machine_opcodes.specs.Says.{Says}
 use Rattle.machine_standard_opcodes.specs.Left.{Empties}
+use Rattle.machine_standard_opcodes.proofs.Cuts.{flags_filled}
 
 -- the cells of the first record as a story begins
 first_frame : (c d : List ℕ) → Wrote c d 16 (0 ∷ 0 ∷ 0 ∷ 0 ∷ 0 ∷ 0 ∷ 256 ∷ [])
@@ -96,9 +100,33 @@ emptied s m t first waits =
       state = λ text. waits.state text ∙ ap (λ (x : State). record x { pending = None }) (first.1 text);
     }
 
+-- memory as a story begins anew, before its header is read
+abbrev loaded_memory : Loaded → List ℕ → List ℕ
+loaded_memory loaded memory = with_kept_bits loaded.dynamic (with_bytes memory 64 (drop 64 loaded.dynamic))
+
+-- Flags 2 as it was loaded, but for bits 0 and 1
+pub flags_restored : {E : Type 0} (r : Result (Unit {0}) E) (s t : Recording Contents) (flags : ℕ) (dynamic : List ℕ)
+    → IsSound s.store → flags ≡ slice_index (memory_of s.store) 17
+    → OnOk r (t.store.cells ≡ set s.store.cells 72576 (slice_index dynamic 17 / 4 * 4 + flags % 4))
+    → t.store.fixed ≡ s.store.fixed → OnOk r (t.beginning ≡ s.beginning)
+    → OnOk r (Filled s t (with_kept_bits dynamic (memory_of s.store)))
+flags_restored (Ok a) s t flags dynamic sound is cells fixed beginning =
+    let low = slice_index dynamic 17 / 4 * 4 in
+    subst (λ f. Filled s t (set (memory_of s.store) 17 (low + f % 4))) is
+    (flags_filled s t (low + flags % 4) sound cells fixed beginning)
+flags_restored (Err e) s t flags dynamic sound is cells fixed beginning = tt
+
+-- dynamic memory was filled as it was loaded, and then Flags 2
+pub memory_restored : (s m t : Recording Contents) (loaded : Loaded) → Fills s m 64 (drop 64 loaded.dynamic)
+    → Filled m t (with_kept_bits loaded.dynamic (memory_of m.store))
+    → Filled s t (loaded_memory loaded (memory_of s.store))
+memory_restored s m t loaded =
+    filled_then s m t (with_bytes (memory_of s.store) 64 (drop 64 loaded.dynamic)) (with_kept_bits loaded.dynamic)
+
 pub begun_anew : (s m t : Recording Contents) (x y : List ℕ) (loaded : Loaded) (here : Here) (address : ℕ)
     (beside : Beside) (streams : List Stream) (left : ℕ) → beside ≡ loaded.dice → streams ≡ [] → here.next.fuel ≢ 0
-    → Says (Ok left) (spend_for (static_base_of (memory_of s.store)) (here.next.fuel - 1)) → address ≡ word_at (memory_of s.store) 6 → Fills s m 64 (drop 64 loaded.dynamic)
+    → Says (Ok left) (spend_for (static_base_of (memory_of s.store)) (here.next.fuel - 1))
+    → address ≡ word_at (memory_of s.store) 6 → Filled s m (loaded_memory loaded (memory_of s.store))
     → Empties m t → y ≡ heard_of here x
     → Told (Ok (record {
       next = record { program_counter = address; fuel = left };

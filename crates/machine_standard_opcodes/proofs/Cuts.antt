@@ -340,11 +340,10 @@ flags_dropped c fixed v inside =
     ap (λ x. x ++ fixed) (drop-set-add 72559 c 17 v)
     ∙ sym (set-append_left (drop 72559 c) fixed 17 v (omega (arith, length-drop 72559 c)))
 
-pub transcript_told : (s t : Recording Contents) (flags bit v : ℕ) → IsSound s.store
-    → flags ≡ slice_index (memory_of s.store) 17 → v ≡ flags / 2 * 2 + bit
-    → t.store.cells ≡ set s.store.cells 72576 v → t.store.fixed ≡ s.store.fixed → t.beginning ≡ s.beginning
-    → Filled s t (with_transcript (memory_of s.store) bit)
-transcript_told s t flags bit v sound is e cells fixed beginning =
+-- the second byte of Flags 2 was written
+pub flags_filled : (s t : Recording Contents) (v : ℕ) → IsSound s.store → t.store.cells ≡ set s.store.cells 72576 v
+    → t.store.fixed ≡ s.store.fixed → t.beginning ≡ s.beginning → Filled s t (set (memory_of s.store) 17 v)
+flags_filled s t v sound cells fixed beginning =
     let c = s.store.cells in
     let m = memory_of s.store in
     let w : Writes s t (set m 17 v) = record {
@@ -361,9 +360,16 @@ transcript_told s t flags bit v sound is e cells fixed beginning =
       fixed = fixed;
       beginning = beginning;
     } in
+    record { goes_on = writes_goes_on s t _ sound w; state = λ text. writes_state s t _ text sound w }
+
+pub transcript_told : (s t : Recording Contents) (flags bit v : ℕ) → IsSound s.store
+    → flags ≡ slice_index (memory_of s.store) 17 → v ≡ flags / 2 * 2 + bit
+    → t.store.cells ≡ set s.store.cells 72576 v → t.store.fixed ≡ s.store.fixed → t.beginning ≡ s.beginning
+    → Filled s t (with_transcript (memory_of s.store) bit)
+transcript_told s t flags bit v sound is e cells fixed beginning =
+    let m = memory_of s.store in
     let same : set m 17 v ≡ with_transcript m bit = ap (set m 17) (e ∙ ap (λ f. f / 2 * 2 + bit) is) in
-    subst (Filled s t) same
-    (record { goes_on = writes_goes_on s t _ sound w; state = λ text. writes_state s t _ text sound w })
+    subst (Filled s t) same (flags_filled s t v sound cells fixed beginning)
 
 pub transcript_as : {E : Type 0} (r : Result (Unit {0}) E) (s t : Recording Contents) (flags bit : ℕ) → IsSound s.store
     → flags ≡ slice_index (memory_of s.store) 17

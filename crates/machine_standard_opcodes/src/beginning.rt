@@ -3,17 +3,18 @@
 ghost use Rattle.std.specs.Prelude.{◌≡◌, ◌≤◌, ◌+◌, length, drop, OnOk, OnErr};
 ghost use Rattle.zcore.specs.Header.{static_base_of};
 ghost use Rattle.zcore.specs.Layout.{header_size};
+ghost use Rattle.zcore_standard.specs.Flags.{with_kept_bits};
 ghost use Rattle.zcore_standard.specs.Flow as definitions;
 ghost use Rattle.machine_frames.specs.Contents.{memory_of};
 ghost use Rattle.machine_frames.specs.States.{IsSound};
 ghost use Rattle.machine_frames.specs.Went.{GivenUp};
-ghost use Rattle.machine_lines.specs.Lines.{Fills};
+ghost use Rattle.machine_lines.specs.Lines.{Filled, Fills};
 ghost use Rattle.machine_opcodes.specs.Printed.{HasBegun, ToldFrom};
 ghost use Rattle.machine_opcodes.specs.Seen.{seen};
 ghost use Rattle.machine_standard_windows.specs.Around.{place, Keeps};
 ghost use Rattle.machine_standard_opcodes.specs.Left.{Empties};
 
-use crate::streams::cut_to_heard;
+use crate::streams::{FLAGS_2, cut_to_heard};
 use journal::{NoMemory, Recorded};
 use machine_frames::layout::{FRAME_COUNT, HEIGHT, MEMORY, NO_VARIABLE, RECORD, RECORDS, WAITING};
 use machine_frames::{End, Store, put_all};
@@ -23,8 +24,8 @@ use zcore::layout::HEADER_LENGTH;
 use zcore::{Limit, Next, Place};
 use zcore_standard::Loaded;
 
-/// Begins the story anew: `restart`. Dynamic memory after the header is as it was loaded, the first
-/// environment runs, no line is waited for, window and dice are as at loading, and no stream is
+/// Begins the story anew: `restart`. Dynamic memory after the header is as it was loaded, and so is
+/// Flags 2 but for bits 0 and 1, the first environment runs, no line is waited for, window and dice are as at loading, and no stream is
 /// open; what was printed to one or to the upper window is dropped. It takes a unit of fuel, and more
 /// for the bytes of dynamic memory.
 ///
@@ -55,6 +56,7 @@ pub fn restart(
     let memory = store.store().memory();
     let program_counter = memory[6] as u32 * 256 + memory[7] as u32;
     fill(store, HEADER_LENGTH, after_header(dynamic))?;
+    restore_flags(store, dynamic)?;
     empty(store)?;
     cut_to_heard(text, start, around);
     around.beside = loaded.dice();
@@ -64,6 +66,20 @@ pub fn restart(
         program_counter,
         fuel,
     })
+}
+
+/// Brings Flags 2 back as it was loaded, but for bits 0 and 1, which stay (section 6.1.3). Bits 0 to 2
+/// alone can have changed, and all are in the second byte.
+fn restore_flags(store: &mut Recorded<Store>, dynamic: &[u8]) -> Result<(), NoMemory>
+    requires sound { IsSound store.old.store }
+    requires header { header_size ≤ length dynamic.now }
+    ensures restored { OnOk result (Filled store.old store.new
+        (with_kept_bits dynamic.now (memory_of store.old.store))) }
+    ensures given_up { OnErr result (GivenUp store.old store.new) }
+{
+    let loaded = dynamic[FLAGS_2];
+    let flags = store.store().byte(FLAGS_2);
+    store.put(MEMORY + FLAGS_2, (loaded / 4 * 4 + flags % 4) as u16)
 }
 
 /// Memory from the end of the header on.

@@ -37,7 +37,7 @@ const TRANSCRIPT: u16 = 2;
 const NO_TRANSCRIPT: u16 = 0xFFFE;
 
 /// The byte of the header in which bit 0 tells whether the transcript is on (section 7.4).
-const FLAGS_2: usize = 17;
+pub(crate) const FLAGS_2: usize = 17;
 
 /// Selects or closes a stream of output: `output_stream`. A memory stream that is closed is cut from
 /// the text of the turn, and written to its table as ZSCII, which takes fuel for the bytes that are

@@ -11,6 +11,7 @@ use Rattle.zcore.specs.Parts.{take_branch, branch_on}
 use Rattle.zcore.specs.State.{Frame, State, done, halt}
 use Rattle.zcore.specs.Turn.{first_environment, first_state}
 use Rattle.zcore_standard.specs.declared.operations.Further.TheVariants.{Piracy, Save, Restore, SaveUndo, RestoreUndo}
+use Rattle.zcore_standard.specs.Flags.{with_kept_bits}
 use Rattle.zcore_standard.specs.Flow.{restart, catch, leave_frame, throw, verify}
 use Rattle.zcore_standard.specs.Fuel.{spend_for}
 use Rattle.zcore_standard.specs.Further.{perform_keeping}
@@ -56,6 +57,17 @@ restarted : restart loaded playing
     (record (first_state (story 1)) { text = 65 ∷ [] })
 unfolding restart spend spend_for
 restarted = refl
+
+-- a story that was loaded with no bit of Flags 2 has set bits 0 to 2: the first two stay
+abbrev flagged : ℕ → List ℕ
+flagged flags = replicate 17 0 ++ (flags ∷ []) ++ replicate 46 0
+
+kept_flags : with_kept_bits (flagged 0) (flagged 7) ≡ flagged 3
+kept_flags = refl
+
+-- as loaded: 01010100
+loaded_flags : with_kept_bits (flagged 0x54) (flagged 0x51) ≡ flagged 0x55
+loaded_flags = refl
 
 no_fuel : restart loaded (record playing { next = record here { fuel = 0 } }) (first_state (story 5))
     ≡ halt (places.Limit limits.Fuel) (first_state (story 5))

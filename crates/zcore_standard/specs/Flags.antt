@@ -37,6 +37,11 @@ has_free_bits _ values = true
 abbrev pub with_free_bits : List ℕ → ℕ → List ℕ
 with_free_bits memory number = slice_set memory flags_2_low (slice_index memory flags_2_low / 8 * 8 + number % 8)
 
+-- Of the word, bits 0 and 1 alone outlive a restart (section 6.1.3). The others are as they were loaded.
+abbrev pub with_kept_bits : List ℕ → List ℕ → List ℕ
+with_kept_bits loaded memory =
+    slice_set memory flags_2_low (slice_index loaded flags_2_low / 4 * 4 + slice_index memory flags_2_low % 4)
+
 -- such a store
 unfoldable pub perform_on_flags : Operation → Next → ℕ → List ℕ → State → Out Next
 perform_on_flags operation here after values s = goes_on after here.fuel (record s {

@@ -1,7 +1,8 @@
 -- A step of the Standard's machine makes the profile's weight fall.
-use Rattle.std.proofs.Common.{◌≡◌, ℕ, ◌+◌, ◌<◌, ◌≤◌, ◌/◌, ◌%◌, List, [], length, drop, refl, ap, sym, ◌∙◌, arith}
+use Rattle.std.proofs.Common.{◌≡◌, ℕ, ◌+◌, ◌*◌, ◌<◌, ◌≤◌, ◌/◌, ◌%◌, List, [], length, drop, refl, ap, sym, ◌∙◌, arith}
 use Rattle.std.proofs.Common.{slice_index, slice_index_or, Bool, false, Option, Some, None, Result, Ok, Err}
 use Rattle.std.specs.Prelude.{◌==◌, nat_lt}
+use Rattle.std.proofs.lemmas.List.{length-set}
 use Rattle.zcore.specs.declared.instruction.Branch.{Branch}
 use Rattle.zcore.specs.declared.place.Fault.{Fault}
 use Rattle.zcore.specs.declared.place.Fault.TheVariants as faults
@@ -11,6 +12,7 @@ use Rattle.zcore.specs.State.{State, Out, done, halt}
 use Rattle.zcore.specs.Header.{static_base_of}
 use Rattle.zcore.specs.Layout.{header_size}
 use Rattle.zcore.specs.Parts.{operand_values, spend}
+use Rattle.zcore.specs.Turn.{with_bytes}
 use Rattle.zcore.proofs.Ahead as ahead
 use Rattle.zcore.proofs.Keeping.{spend_less, keeps_spend}
 use Rattle.zcore.proofs.KeepingReads.{done_state, done_value, never, both, keeps_operand_values}
@@ -83,7 +85,9 @@ restart_lighter loaded here s t next inside h =
     let v = done_value _ next _ t q.second in
     let w = done_state _ next _ t q.second in
     let memory : length t.memory ≡ length s.memory =
+    let begun = with_bytes q.between.memory header_size (drop header_size loaded.dynamic) in
     ap (λ (x : State). length x.memory) w
+    ∙ length-set begun 17 (slice_index loaded.dynamic 17 / 4 * 4 + slice_index begun 17 % 4)
     ∙ length-with_bytes q.between.memory header_size (drop header_size loaded.dynamic) ∙ two.memory ∙ one.memory in
     let frames : length t.frames ≡ 1 = ap (λ (x : State). length x.frames) w in
     let fuel : next.next.fuel ≡ q.value = ap (λ (x : Here). x.next.fuel) v in

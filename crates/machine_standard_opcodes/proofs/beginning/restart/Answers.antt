@@ -2,10 +2,11 @@ use Rattle.std.proofs.Common.{◌∙◌, ap, drop, length, subst, arith}
 use Rattle.std.proofs.lemmas.List.{length-drop}
 use Rattle.ztext.specs.Bytes.{word_at}
 use Rattle.machine_frames.specs.Contents.{memory_of}
-use Rattle.machine_lines.specs.Lines.{Fills}
+use Rattle.zcore_standard.specs.Flags.{with_kept_bits}
+use Rattle.machine_lines.specs.Lines.{Filled, Fills}
 use Rattle.machine_frames.proofs.Kept.{length-memory}
 use Rattle.machine_standard_windows.specs.Around.{place}
-use Rattle.machine_standard_opcodes.proofs.Anew.{no_fuel, begun_anew, unpaid}
+use Rattle.machine_standard_opcodes.proofs.Anew.{no_fuel, begun_anew, memory_restored, unpaid}
 use Rattle.machine_standard_windows.proofs.TurnTexts.{keeps_still, told_seen_err}
 use Rattle.machine_standard_opcodes.proofs.beginning.restart.Goals as goal
 
@@ -49,10 +50,16 @@ fill-requires-clause-room c =
 pub returns-clause-told : goal.returns-clause-told
 returns-clause-told c =
     let memory = c.memory-memory.ensures ∙ ap memory_of c.store.ensures in
-    begun_anew c.args.store.now c.fill.new.store c.empty.new.store _ _ c.args.loaded.now
+    begun_anew c.args.store.now c.restore_flags.new.store c.empty.new.store _ _ c.args.loaded.now
     (place c.args.around.now c.args.here) _ c.dice-around.result c.clear.new.self.items _ c.dice-around.ensures
     c.clear.ensures c.if-here-eq0.false
     (rw (ap length c.dynamic-dynamic.ensures ∙ c.requires.dynamic) at c.in_ok-fuel.ensures)
-    (ap (λ m. word_at m 6) memory) (subst (λ bytes. Fills c.args.store.now c.fill.new.store 64 bytes)
-    (c.after_header.ensures ∙ ap (drop 64) c.dynamic-dynamic.ensures) c.in_ok-fill.ensures.filled) c.in_ok-empty.ensures.emptied
+    (ap (λ m. word_at m 6) memory)
+    (memory_restored c.args.store.now c.fill.new.store c.restore_flags.new.store c.args.loaded.now
+    (subst (λ bytes. Fills c.args.store.now c.fill.new.store 64 bytes)
+    (c.after_header.ensures ∙ ap (drop 64) c.dynamic-dynamic.ensures) c.in_ok-fill.ensures.filled)
+    (subst (λ bytes. Filled c.fill.new.store c.restore_flags.new.store
+    (with_kept_bits bytes (memory_of c.fill.new.store.store))) c.dynamic-dynamic.ensures
+    c.in_ok-restore_flags.ensures.restored))
+    c.in_ok-empty.ensures.emptied
     (c.cut_to_heard.ensures.heard c.args.here)
