@@ -1,6 +1,6 @@
 -- The story begins anew.
 use Rattle.std.proofs.Common.{◌≡◌, ◌≢◌, ℕ, ◌+◌, ◌-◌, ◌*◌, ◌/◌, ◌%◌, List, [], ◌∷◌, drop, None, Result, Ok, Err, refl}
-use Rattle.std.proofs.Common.{ap, ◌∙◌, arith, set, slice_index, subst, tt, Unit}
+use Rattle.std.proofs.Common.{ap, ◌∙◌, arith, set, slice_index, subst}
 use Rattle.std.specs.Prelude.{OnOk}
 use Rattle.std.proofs.lemmas.Bool.{ne_eqb, eq-eqb}
 use Rattle.journal.specs.Recording.{Recording}
