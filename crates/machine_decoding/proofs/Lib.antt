@@ -1,0 +1,4 @@
+pub mod Decoding
+pub mod OperandsRead
+pub mod TypesGiven
+pub mod FirstBytes

@@ -1,0 +1,3 @@
+pub mod Seen
+pub mod Decoded
+pub mod Forms
