@@ -3,12 +3,14 @@
 #![tactic(auto)]
 
 mod cells;
+mod overwrites;
 mod packing;
 mod record;
 mod recorded;
 
 pub use cells::Cells;
-pub use journal_pages::PAGE;
+pub use journal_pages::{PAGE, PageFlags};
+pub use overwrites::Overwrites;
 pub use packing::WORD_PAGES;
 pub use record::{Record, swap_back, swap_forward};
 pub use recorded::{NoMemory, Recorded};

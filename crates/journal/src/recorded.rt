@@ -1,14 +1,15 @@
 //! A store whose writes are recorded by pages, turn by turn.
 
-ghost use Rattle.std.specs.Prelude.{◌≡◌, ◌≢◌, ◌+◌, ◌*◌, ◌/◌, ◌^◌, ◌<◌, ◌≤◌, true, false, [], ◌∷◌, ◌++◌, map, length, take, AllPairs, slice_index, slice_set, OnOk, OnErr, IsOk};
+ghost use Rattle.std.specs.Prelude.{◌≡◌, ◌≢◌, ◌+◌, ◌*◌, ◌/◌, ◌^◌, ◌<◌, ◌≤◌, true, false, [], ◌∷◌, ◌++◌, map, length, take, AllPairs, Bool, List, slice_index, slice_set, OnOk, OnErr, IsOk};
 ghost use Rattle.std.specs.Borrow.{sem, Lends};
 ghost use Rattle.journal.specs.contracts.recorded.Recorded.{the_row};
 ghost use Rattle.journal.specs.Recording.{IsNothingKept};
 ghost use Rattle.journal_pages.specs.Swap.{back, entry_cells, entry_values};
-ghost use Rattle.journal_pages.specs.Pages.{HoldWords, IsAdded, IsMarked, KeepsCells, keeps, page_values, put_run, with_page, whole_page};
+ghost use Rattle.journal_pages.specs.Pages.{HoldWords, IsAdded, IsMarked, KeepsCells, WritesKept, keeps, page_values, put_run, with_page, whole_page};
 ghost use Rattle.journal.specs.Stores.{FitsIn, IsPageWithin, Writes, begun, kept_cells};
 
 use crate::cells::Cells;
+use crate::overwrites::Overwrites;
 use crate::packing::{PAGE_BYTES, WORD_PAGES, read_bytes, read_words};
 use crate::record::{Record, go_back, page_size};
 use journal_pages::{PAGE, PageFlags, PageList};
@@ -217,6 +218,24 @@ impl<C: Cells> Recorded<C> {
         ensures { result ≡ keeps self.now.kept page }
     {
         self.flags.is_set(page)
+    }
+
+    /// Lends the store to a run of writes that go only to cells of pages that the turn keeps. After it the
+    /// turn is as if each of them had been a `put`. It takes no memory.
+    #[inline(always)]
+    pub fn lend<W: Overwrites<C>>(&mut self, run: &mut W)
+        requires { (flags : List Bool) → IsMarked flags self.old.kept
+            → W.asks run.old self.old.store flags }
+        ensures does { (flags : List Bool) × IsMarked flags self.old.kept
+            × W.does run.old self.old.store flags run.new self.new.store }
+        ensures only { WritesKept (keeps self.old.kept) (C.cells self.old.store)
+            (C.cells self.new.store) }
+        ensures kept { self.new.kept ≡ self.old.kept }
+        ensures beginning { self.new.beginning ≡ self.old.beginning }
+        ensures bounds { C.bounds self.new.store ≡ C.bounds self.old.store }
+        ensures fixed { C.fixed self.new.store ≡ C.fixed self.old.store }
+    {
+        run.overwrite(&mut self.store, &self.flags);
     }
 
     /// Tells the store of a place, of which it may remember what saves time when it is met again.

@@ -11,7 +11,7 @@ use Rattle.std.proofs.lemmas.List.Folds.{list_any-append, list_any_at}
 use Rattle.journal_pages.specs.Pages.{IsMarked, keeps}
 use Rattle.journal_pages.proofs.Pages.{false_if, not_both, or_false, or_true}
 
-flag_in : (flags : List Bool) (p : ℕ) → get_or flags p false ≡ true → p < length flags
+pub flag_in : (flags : List Bool) (p : ℕ) → get_or flags p false ≡ true → p < length flags
 flag_in [] p h = absurd (cc)
 flag_in (f ∷ fs) zero h = omega arith
 flag_in (f ∷ fs) (suc p) h = omega (arith, flag_in fs p h)

@@ -9,3 +9,4 @@ pub mod PackedSwaps
 pub mod Runs
 pub mod Held
 pub mod HandedOut
+pub mod Lending

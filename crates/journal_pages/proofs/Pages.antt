@@ -57,7 +57,7 @@ back_present c [] = refl
 back_present c (a ∷ cs) = ap (λ z. slice_set z a (slice_index c a)) (back_present c cs) ∙ set-get_or c a 0
 
 -- going back from two stores that differ in one cell gives two that differ in no other
-back_off : (c : List ℕ) (es : List (ℕ × ℕ)) (i v w : ℕ)
+pub back_off : (c : List ℕ) (es : List (ℕ × ℕ)) (i v w : ℕ)
     → set (back (set c i v) es).cells i w ≡ set (back c es).cells i w
 back_off c [] i v w = set-set c i v w
 back_off c (e ∷ es) i v w =
@@ -94,7 +94,7 @@ pub cells_of-push : (n : ℕ) (pages : List ℕ) (p : ℕ)
 cells_of-push n pages p = flat_map-append (page_cells n) pages (p ∷ [])
     ∙ ap (λ (t : List ℕ). cells_of n pages ++ t) (append-nil (page_cells n p))
 
-in_run : (a m i : ℕ) → a ≤ i → i < a + m → list_any (eqb i) (range_with_len a m) ≡ true
+pub in_run : (a m i : ℕ) → a ≤ i → i < a + m → list_any (eqb i) (range_with_len a m) ≡ true
 in_run a m i low high =
     let here : i - a < m = omega arith in
     let j : ℕ = i - a in

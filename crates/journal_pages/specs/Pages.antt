@@ -1,7 +1,7 @@
 -- The pages of a store: page p has the cells 64p to 64p + 63, as far as the store goes.
 use Rattle.std.specs.Prelude.{◌≡◌, ℕ, ◌+◌, ◌-◌, ◌*◌, ◌/◌, ◌<◌, ◌≤◌, min, nat_lt, Bool, true, false, eqb, List, [], ◌∷◌}
 use Rattle.std.specs.Prelude.{◌++◌, length, map, take, drop, slice_index, slice_index_or, if◌then◌else◌}
-use Rattle.std.specs.List.{All, IsDistinct, flat_map, list_any, range_with_len, zip}
+use Rattle.std.specs.List.{All, IsDistinct, filter, flat_map, list_any, range_with_len, zip}
 use Rattle.journal_pages.specs.Swap.{Fits}
 
 -- how many cells a page has, where the store goes on behind it
@@ -130,3 +130,21 @@ pub record IsHeld (n : ℕ) (bounds : ℕ → ℕ) (flags : List Bool) (pages pa
   pub paged : IsPaged n pages packed
   pub fits : Fits n bounds (entries_of n pages packed)
   pub marked : IsMarked flags pages
+
+-- whether flags mark a page
+abbrev pub is_flagged : List Bool → ℕ → Bool
+is_flagged flags p = slice_index_or flags p false
+
+-- the pages that flags mark
+abbrev pub flagged : List Bool → List ℕ
+flagged flags = filter (is_flagged flags) (range_with_len 0 (length flags))
+
+-- only cells of pages that are kept may have other values than before
+pub record WritesKept (is_kept : ℕ → Bool) (was now : List ℕ) : Type 0 where
+  pub size : length now ≡ length was
+  pub others : (i : ℕ) → is_kept (i / whole_page) ≡ false → slice_index now i ≡ slice_index was i
+
+-- cells with 0 in place of each whose page is kept: so much of them stays as long as no other page is written
+unfoldable pub outside : (ℕ → Bool) → List ℕ → List ℕ
+outside is_kept cells =
+    map (λ i. if is_kept (i / whole_page) then 0 else slice_index cells i) (range_with_len 0 (length cells))

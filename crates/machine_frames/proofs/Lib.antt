@@ -12,3 +12,5 @@ pub mod Entering
 pub mod Leaving
 pub mod Beginning
 pub mod Exchanging
+pub mod Lending
+pub mod Loans

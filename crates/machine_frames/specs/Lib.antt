@@ -4,3 +4,5 @@ pub mod States
 pub mod Running
 pub mod Went
 pub mod Playing
+pub mod Lending
+pub mod Loans

@@ -4,7 +4,9 @@
 mod calls;
 mod cells;
 mod end;
+mod in_place;
 pub mod layout;
+mod lent;
 mod memory;
 mod operands;
 mod results;
@@ -18,6 +20,8 @@ pub use calls::{
 };
 pub use cells::{beside, cell, long, program_counter, put_all, set_beside, set_program_counter};
 pub use end::End;
+pub use in_place::{StepsInPlace, run_in_place};
+pub use lent::Lent;
 pub use memory::{
     is_readable, is_readable_word, is_writable, is_writable_word, read_byte, read_word, write_byte,
     write_word,
