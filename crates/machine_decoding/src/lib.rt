@@ -7,9 +7,9 @@ pub mod first_bytes;
 mod instruction;
 
 pub use decode::{
-    LARGE, OMITTED, OPERANDS, SMALL, TYPES, VARIABLE, byte_operand, far_jump, long_form,
-    no_operand_form, read_byte, read_each, read_types, several_operand_form, short_form,
-    two_operand_form,
+    BRANCH_ON_TRUE, LARGE, OFFSETS, OMITTED, ONE_BYTE_BRANCH, OPERANDS, SMALL, TYPES, VARIABLE,
+    byte_operand, far_jump, long_form, no_operand_form, read_byte, read_each, read_types,
+    several_operand_form, short_form, two_operand_form,
 };
 pub use ending::Ending;
 pub use instruction::{Instruction, Operands, decode_instruction};

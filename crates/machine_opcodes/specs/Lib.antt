@@ -1,4 +1,3 @@
 pub mod Fronts
 pub mod Printed
 pub mod Says
-pub mod Seen

@@ -4,7 +4,6 @@
 
 mod arithmetic;
 mod calls;
-mod ending;
 mod jumps;
 mod lines;
 mod memory;
@@ -17,9 +16,9 @@ pub use arithmetic::{
     NEGATIVE, divide, equals_any, give_result, modulo, quotient, remainder, signed_less,
 };
 pub use calls::{call_packed, give_back, return_popped, unpacked};
-pub use ending::Ending;
 pub use jumps::{branch_on, branch_target, check_argument_count, jump, test_branch};
 pub use lines::read;
+pub use machine_decoding::Ending;
 pub use memory::{load_byte, load_word, store_byte, store_word, word_address};
 pub use printing::{
     print_address, print_character, print_characters, print_inline, print_number, print_packed,

@@ -18,7 +18,7 @@ use Rattle.machine_frames.specs.States.{IsSound}
 use Rattle.machine_frames.specs.Went.{Went, Told}
 use Rattle.machine_frames.specs.declared.end.End.{End}
 use Rattle.machine_frames.proofs.Steps.{told_went, told_then, went_still}
-use Rattle.machine_steps.specs.Decoded.{completed, plain}
+use Rattle.machine_decoding.specs.Decoded.{completed, plain}
 use Rattle.machine_steps.proofs.Stepping.{one_value}
 use Rattle.machine_standard_objects.proofs.Performing.{text_told}
 use Rattle.std.proofs.Common.{Result}

@@ -34,7 +34,7 @@ use Rattle.machine_frames.proofs.Steps.{told_no_further, told_sound, told_still,
 use Rattle.machine_lines.specs.Lines.{Filled, Fills}
 use Rattle.machine_lines.proofs.Filling.{filled_then}
 use Rattle.machine_opcodes.specs.Says.{Says}
-use Rattle.machine_opcodes.specs.Seen.{seen}
+use Rattle.machine_decoding.specs.Seen.{seen}
 use Rattle.machine_opcodes.proofs.Saying.{went_says}
 use Rattle.machine_standard_windows.proofs.TurnTexts.{text_cut, text_behind}
 

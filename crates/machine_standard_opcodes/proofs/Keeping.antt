@@ -11,7 +11,7 @@ use Rattle.machine_frames.specs.Contents.{Contents}
 use Rattle.machine_frames.specs.Went.{Went, Told}
 use Rattle.machine_frames.specs.declared.end.End.{End}
 use Rattle.machine_frames.specs.declared.end.End.TheVariants as ends
-use Rattle.machine_opcodes.specs.Seen.{seen}
+use Rattle.machine_decoding.specs.Seen.{seen}
 
 -- a part of the profile's machine, with all else as it is
 pub went_within : {s t : Recording Contents} (r : Result Next End) (there : Here) (f : State → Out Next) → Went r s t f

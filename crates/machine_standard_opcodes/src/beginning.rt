@@ -10,7 +10,7 @@ ghost use Rattle.machine_frames.specs.States.{IsSound};
 ghost use Rattle.machine_frames.specs.Went.{GivenUp};
 ghost use Rattle.machine_lines.specs.Lines.{Filled, Fills};
 ghost use Rattle.machine_opcodes.specs.Printed.{HasBegun, ToldFrom};
-ghost use Rattle.machine_opcodes.specs.Seen.{seen};
+ghost use Rattle.machine_decoding.specs.Seen.{seen};
 ghost use Rattle.machine_standard_windows.specs.Around.{place, Keeps};
 ghost use Rattle.machine_standard_opcodes.specs.Left.{Empties};
 

@@ -10,7 +10,7 @@ ghost use Rattle.machine_frames.specs.States.{IsSound, IsStoreOf};
 ghost use Rattle.machine_frames.specs.Went.{GivenUp, Went, Told};
 ghost use Rattle.machine_lines.specs.Lines.{Filled};
 ghost use Rattle.machine_opcodes.specs.Printed.{HasBegun, ToldFrom};
-ghost use Rattle.machine_opcodes.specs.Seen.{seen};
+ghost use Rattle.machine_decoding.specs.Seen.{seen};
 ghost use Rattle.machine_standard_windows.specs.Around.{place, Keeps};
 
 use crate::beginning::fill;

@@ -16,7 +16,7 @@ use Rattle.machine_frames.specs.States.{state_of, IsSound}
 use Rattle.machine_frames.specs.Went.{Went, Told}
 use Rattle.machine_frames.specs.declared.end.End.{End}
 use Rattle.machine_frames.proofs.Steps.{told_as, told_went, told_still}
-use Rattle.machine_opcodes.specs.Seen.{seen}
+use Rattle.machine_decoding.specs.Seen.{seen}
 use Rattle.machine_standard_opcodes.proofs.Keeping.{told_within}
 use Rattle.machine_standard_steps.specs.Kinds.{does_nothing, is_on_windows, gives_word, branches, prints, is_quiet}
 use Rattle.machine_standard_steps.specs.Kinds.{GivesWord}

@@ -25,7 +25,7 @@ use Rattle.machine_frames.specs.Went.{Went, Told}
 use Rattle.machine_frames.specs.declared.end.End.{End}
 use Rattle.machine_frames.specs.declared.end.End.TheVariants as ends
 use Rattle.machine_frames.proofs.Steps.{went_no_further, told_as, told_went, told_then, told_halt}
-use Rattle.machine_opcodes.specs.Seen.{seen}
+use Rattle.machine_decoding.specs.Seen.{seen}
 use Rattle.machine_standard_windows.specs.Around.{place}
 use Rattle.machine_standard_windows.specs.declared.around.Around.{Around}
 use Rattle.machine_standard_opcodes.proofs.Keeping.{told_within}

@@ -3,7 +3,7 @@
 ghost use Rattle.std.specs.Prelude.{◌≡◌, ◌≤◌, ◌<◌, ◌+◌, length, take, IfOk};
 ghost use Rattle.zcore.specs.Instruction as known;
 ghost use Rattle.zcore.specs.Layout.{longest_story};
-ghost use Rattle.machine_opcodes.specs.Seen.{seen};
+ghost use Rattle.machine_decoding.specs.Seen.{seen};
 ghost use Rattle.zcore_standard.specs.Operations as table;
 ghost use Rattle.zcore_standard.specs.Instruction as definitions;
 ghost use Rattle.machine_standard_steps.specs.Endings.{ends};

@@ -11,7 +11,7 @@ ghost use Rattle.zcore_standard.specs.Tables as tables;
 ghost use Rattle.machine_frames.specs.Contents.{memory_of};
 ghost use Rattle.machine_frames.specs.States.{IsSound, IsStoreOf};
 ghost use Rattle.machine_opcodes.specs.Printed.{HasBegun, Grew, ToldFrom};
-ghost use Rattle.machine_opcodes.specs.Seen.{seen};
+ghost use Rattle.machine_decoding.specs.Seen.{seen};
 ghost use Rattle.machine_standard_windows.specs.Around.{place, Keeps};
 ghost use Rattle.machine_standard_steps.specs.Kinds.{is_on_windows};
 

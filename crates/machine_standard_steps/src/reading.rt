@@ -8,7 +8,7 @@ ghost use Rattle.zcore.specs.declared.next.Next as next;
 ghost use Rattle.zcore_standard.specs.Reading as definitions;
 ghost use Rattle.machine_frames.specs.States.{IsStoreOf};
 ghost use Rattle.machine_opcodes.specs.Printed.{HasBegun, ToldFrom};
-ghost use Rattle.machine_opcodes.specs.Seen.{seen};
+ghost use Rattle.machine_decoding.specs.Seen.{seen};
 ghost use Rattle.machine_standard_windows.specs.Around.{place, Keeps};
 
 use crate::effects::value_or;

@@ -10,7 +10,7 @@ ghost use Rattle.zcore_standard.specs.Operations.{further_at};
 ghost use Rattle.machine_frames.specs.Contents.{memory_of};
 ghost use Rattle.machine_frames.specs.States.{state_of, IsStoreOf};
 ghost use Rattle.machine_opcodes.specs.Printed.{HasBegun, ToldFrom};
-ghost use Rattle.machine_opcodes.specs.Seen.{seen};
+ghost use Rattle.machine_decoding.specs.Seen.{seen};
 ghost use Rattle.machine_standard_windows.specs.Around.{place, Keeps};
 
 use crate::decode::decode_further;

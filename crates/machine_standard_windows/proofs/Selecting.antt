@@ -19,7 +19,7 @@ use Rattle.machine_frames.specs.States.{IsSound}
 use Rattle.machine_frames.specs.Went.{Told}
 use Rattle.machine_frames.specs.declared.end.End.{End}
 use Rattle.machine_frames.proofs.Steps.{goes_on_still, told_no_further, told_sound, told_still, told_then}
-use Rattle.machine_opcodes.specs.Seen.{seen}
+use Rattle.machine_decoding.specs.Seen.{seen}
 use Rattle.machine_standard_windows.specs.Around.{place}
 use Rattle.machine_standard_windows.specs.Drawn.{Redraws}
 use Rattle.machine_standard_windows.specs.declared.around.Around.{Around}

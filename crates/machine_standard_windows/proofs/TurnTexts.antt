@@ -13,7 +13,7 @@ use Rattle.machine_frames.specs.Contents.{Contents}
 use Rattle.machine_frames.specs.Went.{Told}
 use Rattle.machine_frames.specs.declared.end.End.{End}
 use Rattle.machine_opcodes.specs.Printed.{HasBegun, Grew}
-use Rattle.machine_opcodes.specs.Seen.{seen}
+use Rattle.machine_decoding.specs.Seen.{seen}
 use Rattle.machine_standard_windows.specs.Around.{Keeps}
 
 pub keeps_still : (start : ℕ) (x : List ℕ) → HasBegun start x → Keeps start x x

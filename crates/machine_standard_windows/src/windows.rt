@@ -5,7 +5,7 @@ ghost use Rattle.std.specs.Prelude.{◌≡◌, ◌≤◌, ◌<◌, ◌+◌, ◌+
 ghost use Rattle.zcore_standard.specs.Windows as definitions;
 ghost use Rattle.machine_frames.specs.States.{IsSound};
 ghost use Rattle.machine_opcodes.specs.Printed.{HasBegun, ToldFrom};
-ghost use Rattle.machine_opcodes.specs.Seen.{seen};
+ghost use Rattle.machine_decoding.specs.Seen.{seen};
 ghost use Rattle.machine_standard_windows.specs.Around.{place, Keeps};
 ghost use Rattle.machine_standard_windows.specs.Drawn as drawings;
 ghost use Rattle.machine_standard_windows.specs.Drawn.{Redraws, Bounds, Way, Apart};

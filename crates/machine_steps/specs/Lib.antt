@@ -1,3 +1,1 @@
-pub mod Decoded
-pub mod Forms
 pub mod Kinds

@@ -2,13 +2,12 @@
 //! effect.
 #![tactic(auto)]
 
-mod decode;
 pub mod first_bytes;
 mod inside;
 mod instruction;
 mod perform;
 
-pub use decode::{
+pub use machine_decoding::{
     LARGE, OMITTED, OPERANDS, SMALL, TYPES, VARIABLE, byte_operand, far_jump, long_form,
     no_operand_form, read_byte, read_each, read_types, several_operand_form, short_form,
     two_operand_form,

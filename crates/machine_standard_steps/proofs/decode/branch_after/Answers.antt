@@ -1,6 +1,6 @@
 use Rattle.std.proofs.Common.{refl, sym}
 use Rattle.zcore_standard.specs.Instruction.{branch_after}
-use Rattle.machine_steps.proofs.Decoding.{seen_err}
+use Rattle.machine_decoding.proofs.Decoding.{seen_err}
 use Rattle.machine_standard_steps.proofs.decode.branch_after.Goals as goal
 
 pub returns-in_err-branch-clause-branch : goal.returns-in_err-branch-clause-branch

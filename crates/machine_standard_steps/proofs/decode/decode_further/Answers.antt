@@ -1,5 +1,5 @@
 use Rattle.std.proofs.Common.{arith, inl, inr}
-use Rattle.machine_steps.proofs.Decoding.{seen_err}
+use Rattle.machine_decoding.proofs.Decoding.{seen_err}
 use Rattle.machine_standard_steps.proofs.Decoding.{decoded_types, decoded_counted, decoded_operands, decoded_ending}
 use Rattle.machine_standard_steps.proofs.Decoding.{decoded_whole, Typed}
 use Rattle.machine_standard_steps.proofs.decode.decode_further.Goals as goal

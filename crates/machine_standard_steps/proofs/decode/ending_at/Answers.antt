@@ -1,5 +1,5 @@
 use Rattle.std.proofs.Common.{refl, sym}
-use Rattle.machine_steps.proofs.Decoding.{seen_err}
+use Rattle.machine_decoding.proofs.Decoding.{seen_err}
 use Rattle.machine_standard_steps.proofs.decode.ending_at.Goals as goal
 
 pub returns-in_err-result-clause-ending : goal.returns-in_err-result-clause-ending

@@ -1,6 +1,6 @@
 use Rattle.std.proofs.Common.{refl, sym}
 use Rattle.zcore_standard.specs.Instruction.{result_at}
-use Rattle.machine_steps.proofs.Decoding.{seen_err}
+use Rattle.machine_decoding.proofs.Decoding.{seen_err}
 use Rattle.machine_standard_steps.proofs.decode.result_at.Goals as goal
 
 pub returns-in_err-read_byte-clause-variable : goal.returns-in_err-read_byte-clause-variable
