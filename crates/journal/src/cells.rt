@@ -110,4 +110,16 @@ pub trait Cells {
     fn learn(&mut self, _place: usize)
         ensures { self.new ≡ self.old }
     {}
+
+    /// Tells the store of code at an address, in a routine of so many locals, which it may decode.
+    /// What the store holds stays the same.
+    fn learn_code(&mut self, _at: usize, _locals: u8)
+        ensures { self.new ≡ self.old }
+    {}
+
+    /// Tells the store of a unit of decoded code that leads to code which it may decode. What the
+    /// store holds stays the same.
+    fn follow_code(&mut self, _unit: usize)
+        ensures { self.new ≡ self.old }
+    {}
 }

@@ -246,6 +246,22 @@ impl<C: Cells> Recorded<C> {
         self.store.learn(place);
     }
 
+    /// Tells the store of code at an address, in a routine of so many locals, which it may decode.
+    /// Nothing is written and nothing kept.
+    pub fn learn_code(&mut self, at: usize, locals: u8)
+        ensures { self.new ≡ self.old }
+    {
+        self.store.learn_code(at, locals);
+    }
+
+    /// Tells the store of a unit of decoded code that leads to code which it may decode. Nothing is
+    /// written and nothing kept.
+    pub fn follow_code(&mut self, unit: usize)
+        ensures { self.new ≡ self.old }
+    {
+        self.store.follow_code(unit);
+    }
+
     /// Keeps a page that is not kept yet. At `Err` nothing has changed.
     #[cold]
     #[inline(never)]

@@ -14,3 +14,4 @@ pub mod Beginning
 pub mod Exchanging
 pub mod Lending
 pub mod Loans
+pub mod Remembering

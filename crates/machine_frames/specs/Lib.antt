@@ -6,3 +6,4 @@ pub mod Went
 pub mod Playing
 pub mod Lending
 pub mod Loans
+pub mod Remembered

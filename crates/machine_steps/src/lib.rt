@@ -7,13 +7,13 @@ mod inside;
 mod instruction;
 mod perform;
 
+pub use inside::{branch_inside, branching_inside, result_inside};
+pub use instruction::{operand_values, step};
 pub use machine_decoding::{
     LARGE, OMITTED, OPERANDS, SMALL, TYPES, VARIABLE, byte_operand, far_jump, long_form,
     no_operand_form, read_byte, read_each, read_types, several_operand_form, short_form,
     two_operand_form,
 };
-pub use inside::{branch_inside, branching_inside, result_inside};
-pub use instruction::{operand_values, step};
 pub use perform::{
     condition_of, perform_many, perform_none, perform_one, perform_several, perform_two, word_of,
 };
