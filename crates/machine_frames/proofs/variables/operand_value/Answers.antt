@@ -1,7 +1,7 @@
 use Rattle.std.proofs.Common.{refl}
 use Rattle.zcore.specs.Parts.{operand_value}
 use Rattle.machine_frames.proofs.Steps.{went_still}
-use Rattle.machine_frames.proofs.operands.operand_value.Goals as goal
+use Rattle.machine_frames.proofs.variables.operand_value.Goals as goal
 
 pub returns-in-Large : goal.returns-in-Large
 unfolding operand_value

@@ -2,7 +2,7 @@ use Rattle.std.proofs.Common.{◌<◌, ◌≤◌, ◌+◌, ◌-◌, Some, refl, 
 use Rattle.machine_frames.specs.States.{frame_count, height_of}
 use Rattle.machine_frames.proofs.Storing.{stack_full, stack_room, local_missing, local_there, global_there, count_there}
 use Rattle.machine_frames.proofs.Storing.{test_result_halts, test_result_done}
-use Rattle.machine_frames.proofs.results.test_result.Goals as goal
+use Rattle.machine_frames.proofs.variables.test_result.Goals as goal
 
 pub returns-then-height-eq-STACK_SIZE : goal.returns-then-height-eq-STACK_SIZE
 returns-then-height-eq-STACK_SIZE c =

@@ -3,7 +3,7 @@ use Rattle.machine_frames.specs.States.{frame_count, height_of, base_of}
 use Rattle.machine_frames.proofs.Frames.{stacked_below}
 use Rattle.machine_frames.proofs.Storing.{stack_full, stack_room, local_missing, local_there, global_there, base_there}
 use Rattle.machine_frames.proofs.Storing.{count_there, caller_halts, caller_done}
-use Rattle.machine_frames.proofs.results.test_caller.Goals as goal
+use Rattle.machine_frames.proofs.variables.test_caller.Goals as goal
 
 pub returns-then-long-eq-STACK_SIZE : goal.returns-then-long-eq-STACK_SIZE
 returns-then-long-eq-STACK_SIZE c =

@@ -1,7 +1,7 @@
 use Rattle.std.proofs.Common.{refl}
 use Rattle.zcore.specs.Parts.{store_result}
 use Rattle.machine_frames.proofs.Steps.{went_still}
-use Rattle.machine_frames.proofs.results.store_result.Goals as goal
+use Rattle.machine_frames.proofs.variables.store_result.Goals as goal
 
 pub returns-in-None : goal.returns-in-None
 unfolding store_result
