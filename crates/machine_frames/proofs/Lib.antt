@@ -13,5 +13,5 @@ pub mod Leaving
 pub mod Beginning
 pub mod Exchanging
 pub mod Lending
-pub mod Loans
 pub mod Remembering
+pub mod Loans

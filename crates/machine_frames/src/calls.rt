@@ -12,9 +12,9 @@ use crate::layout::{
     ARGUMENT_COUNT, FRAME_COUNT, HEIGHT, NO_VARIABLE, RECORD, RECORD_COUNT, RECORDS, RESULT,
     RETURN, STACK, STACK_SIZE,
 };
-use crate::results::test_caller;
 use crate::stack::{height, running};
 use crate::store::Store;
+use crate::variables::test_caller;
 use journal::Recorded;
 use zcore::layout::HEADER_LENGTH;
 use zcore::{Fault, Limit, Place};

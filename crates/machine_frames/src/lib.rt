@@ -8,8 +8,6 @@ mod in_place;
 pub mod layout;
 mod lent;
 mod memory;
-mod operands;
-mod results;
 mod stack;
 mod store;
 mod variables;
@@ -26,10 +24,9 @@ pub use memory::{
     is_readable, is_readable_word, is_writable, is_writable_word, read_byte, read_word, write_byte,
     write_word,
 };
-pub use operands::operand_value;
-pub use results::{store_result, test_result};
 pub use stack::{pop, push, top};
 pub use store::Store;
 pub use variables::{
-    global_address, read_in_place, read_variable, test_pull, write_in_place, write_variable,
+    global_address, operand_value, read_in_place, read_variable, store_result, test_pull,
+    test_result, write_in_place, write_variable,
 };

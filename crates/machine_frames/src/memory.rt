@@ -86,8 +86,7 @@ pub fn read_word(store: &Recorded<Store>, at: usize) -> Result<u16, End>
 ///
 /// # Errors
 ///
-/// M4 below 64 and from static base on. `End::Memory` where memory was refused: the turn is given
-/// up.
+/// M4 below 64 and from static base on. `End::Memory` where memory was refused: the turn is given up.
 #[inline]
 pub fn write_byte(
     header: &Header,

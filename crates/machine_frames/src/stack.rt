@@ -36,8 +36,7 @@ pub(crate) fn height(store: &Recorded<Store>) -> usize
 ///
 /// # Errors
 ///
-/// M6 where all stacks hold 65,536 words. `End::Memory` where memory was refused: the turn is given
-/// up.
+/// M6 where all stacks hold 65,536 words. `End::Memory` where memory was refused: the turn is given up.
 #[inline]
 pub fn push(store: &mut Recorded<Store>, word: u16) -> Result<(), End>
     requires { IsSound store.old.store }

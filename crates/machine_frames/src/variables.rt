@@ -1,19 +1,19 @@
-//! Variables: the stack, locals and globals.
+//! Variables: the stack, locals and globals. Operands, which may name one, and results, which go to one.
 
-ghost use Rattle.std.specs.Prelude.{◌≡◌, ◌<◌, ◌≤◌, ◌+◌, ◌-◌, ◌*◌, ◌^◌, IfSome, IfNone};
-ghost use Rattle.machine_frames.specs.Running.{running_locals, IsLocalCell};
-ghost use Rattle.machine_frames.specs.States.{IsSound, IsStoreOf};
+ghost use Rattle.std.specs.Prelude.{◌≡◌, ◌<◌, ◌≤◌, ◌+◌, ◌-◌, ◌*◌, ◌^◌, IfSome, IfNone, drop, slice_index};
+ghost use Rattle.machine_frames.specs.Running.{running_locals, running_record, IsLocalCell};
+ghost use Rattle.machine_frames.specs.States.{frame_count, IsSound, IsStoreOf};
 ghost use Rattle.machine_frames.specs.Went.{Went};
 ghost use Rattle.zcore.specs.Parts.{read_local, write_local, read_global, write_global, read_variable, write_variable, read_in_place, write_in_place, test_pull};
+ghost use Rattle.zcore.specs.Parts.{can_store, operand_value, test_result, store_result};
 
 use crate::cells::{cell, long};
 use crate::end::End;
-use crate::layout::{LOCAL_COUNT, MEMORY, STACK};
-use crate::results::test_result;
+use crate::layout::{LOCAL_COUNT, MEMORY, RECORD, STACK, STACK_SIZE};
 use crate::stack::{bottom, height, pop, push, running, set_top, top};
 use crate::store::Store;
 use journal::Recorded;
-use zcore::{Fault, Header, Place};
+use zcore::{Fault, Header, Operand, Place};
 
 /// The cell of a local of the running frame, from 0, if it has so many.
 #[inline(always)]
@@ -174,6 +174,28 @@ pub fn write_in_place(
     }
 }
 
+/// The value of an operand.
+///
+/// # Errors
+///
+/// M5 where the stack is empty, M3 where the frame has not such a local. `End::Memory` where memory
+/// was refused: the turn is given up.
+#[inline(always)]
+pub fn operand_value(
+    header: &Header,
+    store: &mut Recorded<Store>,
+    operand: Operand,
+) -> Result<u16, End>
+    requires { IsStoreOf header.now store.old.store }
+    ensures { Went result store.old store.new (operand_value operand) }
+{
+    match operand {
+        Operand::Large(word) => Ok(word),
+        Operand::Small(byte) => Ok(byte as u16),
+        Operand::Variable(variable) => read_variable(header, store, variable),
+    }
+}
+
 /// Tests whether a word that is taken from the stack can then be stored in a variable in place, and
 /// changes nothing.
 ///
@@ -192,4 +214,88 @@ pub fn test_pull(store: &Recorded<Store>, variable: u8) -> Result<(), End>
         return Err(End::Stop(Place::Fault(Fault::StackEmpty)));
     }
     Ok(())
+}
+
+/// Tests whether a result can be stored, and changes nothing.
+///
+/// # Errors
+///
+/// M6 where the stack is full, M4 where the frame has not such a local.
+#[inline(always)]
+pub fn test_result(store: &Recorded<Store>, result_variable: Option<u8>) -> Result<(), End>
+    requires { IsSound store.now.store }
+    ensures { Went result store.now store.now (test_result result_variable) }
+{
+    match result_variable {
+        None => Ok(()),
+        Some(variable) => match variable {
+            0 => {
+                if height(store) == STACK_SIZE {
+                    return Err(End::Stop(Place::Fault(Fault::StackFull)));
+                }
+                Ok(())
+            }
+            1..16 => {
+                if variable as u16 > cell(store, running(store) + LOCAL_COUNT) {
+                    return Err(End::Stop(Place::Fault(Fault::Write)));
+                }
+                Ok(())
+            }
+            _ => Ok(()),
+        },
+    }
+}
+
+/// Stores a result, which was tested before.
+///
+/// # Errors
+///
+/// M6 and M4, where it was not tested. `End::Memory` where memory was refused: the turn is given up.
+#[inline(always)]
+pub fn store_result(
+    header: &Header,
+    store: &mut Recorded<Store>,
+    result_variable: Option<u8>,
+    word: u16,
+) -> Result<(), End>
+    requires { IsStoreOf header.now store.old.store }
+    ensures { Went result store.old store.new (store_result result_variable word) }
+{
+    match result_variable {
+        None => Ok(()),
+        Some(variable) => write_variable(header, store, variable, word),
+    }
+}
+
+/// Tests whether a result can be stored in the frame below the running one, whose record begins at
+/// a cell.
+#[inline]
+pub(crate) fn test_caller(
+    store: &Recorded<Store>,
+    at: usize,
+    result_variable: Option<u8>,
+) -> Result<(), End>
+    requires sound { IsSound store.now.store }
+    requires called { 1 < frame_count (slice_index store.now.store.cells) }
+    requires running { at ≡ running_record store.now.store }
+    ensures { Went result store.now store.now (λ s. can_store result_variable (drop 1 s.frames) s) }
+{
+    match result_variable {
+        None => Ok(()),
+        Some(variable) => match variable {
+            0 => {
+                if long(store, at) as usize == STACK_SIZE {
+                    return Err(End::Stop(Place::Fault(Fault::StackFull)));
+                }
+                Ok(())
+            }
+            1..16 => {
+                if variable as u16 > cell(store, at - RECORD + LOCAL_COUNT) {
+                    return Err(End::Stop(Place::Fault(Fault::Write)));
+                }
+                Ok(())
+            }
+            _ => Ok(()),
+        },
+    }
 }

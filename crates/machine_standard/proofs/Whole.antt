@@ -27,7 +27,7 @@ use Rattle.machine_frames.specs.States.{state_of, IsSound, program_counter_of, b
 use Rattle.machine_frames.specs.Went.{GoesOn}
 use Rattle.machine_frames.proofs.Steps.{store_after, goes_on_still}
 use Rattle.machine_lines.proofs.Lines.{base_kept}
-use Rattle.machine_quick_steps.specs.Passed.{Passed}
+use Rattle.machine_arms.specs.Passed.{Passed}
 use Rattle.machine.proofs.Turning.{stops_whole}
 use Rattle.machine_standard_windows.specs.Around.{place, Keeps}
 use Rattle.machine_standard_windows.specs.declared.around.Around.{Around}
