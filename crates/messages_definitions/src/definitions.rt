@@ -1,219 +1,197 @@
-//! What is told within definitions, those of objects and arrays apart.
+//! What is told within definitions.
 
 use crate::advice::Advice;
-use crate::arrays::in_array;
-use crate::objects::in_object;
-use crate::signs::joins_equals;
+use crate::places::Place;
+use crate::rules::Say::{Absent, Do, Nothing};
+use crate::rules::{Rule, rules};
 use messages_contexts::{
-    Definition, before, begins_line, begun_at, behind, definition_of, is_any_sign, is_joined,
-    is_name, is_named, is_sign, is_text, is_word, kind_at, start_of, text_at,
+    Definition, before, begins_line, begun_at, behind, definition_of, has_word_within, is_sign,
+    is_word, start_of,
 };
-use messages_features::{CONSTANT_EXPRESSIONS, OTHER_VALUES, habit_at_beginning};
-use syntax_lexer::{Kind, Sign, Token, Word};
+use messages_features::{
+    ARRAY_EXPRESSIONS, ARRAY_VALUES, BUFFERS, CLASSES, CONSTANT_EXPRESSIONS, MESSAGES, OTHER_VALUES,
+};
+use syntax_lexer::{Sign, Token, Word};
 
-/// What is told of a sign in the head of a routine.
-fn sign_in_head(sign: Sign) -> Option<Advice> {
-    match sign {
-        Sign::Comma => Some(Advice::Do("list the locals with nothing between, as in '[ R a b;'")),
-        Sign::OpenParenthesis => Some(Advice::Do(
-            "list the locals without parentheses, as in '[ R a b;'",
-        )),
-        Sign::OpenBrace => Some(Advice::Do("write ';' there: a routine is '[ R a b; .. ];'")),
-        Sign::Colon => Some(Advice::Do("write ';' in its place, as in '[ R a b;'")),
-        Sign::OpenBracket => Some(Advice::Do("remove it: one '[' is enough")),
-        Sign::Assign => Some(Advice::Do(
-            "a local begins as 0 or as an argument: assign to it in the routine",
-        )),
-        _ => None,
-    }
-}
+const EACH: &str = "write a definition of its own for each";
 
-/// Whether a `]` is before the first `;` from the token of a number on.
-fn is_in_brackets(tokens: &[Token<'_>], start: usize) -> bool {
-    for number in start..tokens.len() {
-        if is_sign(tokens, number, Sign::Semicolon) {
-            return false;
-        }
-        if is_sign(tokens, number, Sign::CloseBracket) {
-            return true;
-        }
-    }
-    false
-}
+const WITH: &str = "write 'with' before the properties";
 
-/// What is told of a token in the head of a routine that begins with the token of another number. A
-/// sign after the first token of a line is in a statement, before which `;` is missing.
-fn in_head(tokens: &[Token<'_>], start: usize, at: usize) -> Option<Advice> {
-    if is_in_brackets(tokens, start) {
-        return Some(Advice::Do("a comment begins with '!', and a routine is '[ R a b; .. ];'"));
-    }
-    let is_in_statement = begins_line(tokens, at) || begins_line(tokens, before(at, 1));
-    match kind_at(tokens, at) {
-        Kind::Sign(sign) if !is_in_statement || matches!(sign, Sign::OpenBrace) => {
-            sign_in_head(sign)
-        }
-        _ => None,
-    }
-}
+/// What is told among abbreviations.
+static ABBREVIATIONS: &[Rule] = rules! {
+    Here[Is Name DictionaryWord Character] Here[not BeginsLine] => Do("write the texts in double quotes"),
+};
 
-/// Whether a second thing is meant to be defined by the token of a number: a name in the same line,
-/// or `,`.
-fn goes_on(tokens: &[Token<'_>], at: usize) -> bool {
-    is_sign(tokens, at, Sign::Comma) || is_name(tokens, at) && !begins_line(tokens, at)
-}
+/// What is told in any definition.
+static ANY: &[Rule] = rules! {
+    Here[Sign Minus Dot] Here[Joined] Next[Joined] Last[Is Name] Next[Is Name]
+        => Do("a name has letters, digits and '_' only"),
+    Last[First] Here[Is Number] | Last[First] Here[Sign Semicolon Assign] => Do("write a name before it"),
+    Last[First] First[not Word Object] Here[Is Text DictionaryWord Character]
+        => Do("write the name without quotes"),
+};
 
-/// Whether the token of a number is in the line of the one before it and no sign.
-fn is_value_beside(tokens: &[Token<'_>], at: usize) -> bool {
-    match kind_at(tokens, at) {
-        Kind::Sign(sign) => matches!(sign, Sign::Assign | Sign::Minus | Sign::Colon),
-        _ => !begins_line(tokens, at),
-    }
-}
+/// What is told in the head of a routine. A sign after the first token of a line is in a statement,
+/// before which `;` is missing.
+static ROUTINE: &[Rule] = rules! {
+    Here[InBrackets] => Do("a comment begins with '!', and a routine is '[ R a b; .. ];'"),
+    Here[Sign OpenBrace] => Do("write ';' there: a routine is '[ R a b; .. ];'"),
+    Here[BeginsLine] | Last[BeginsLine] => Nothing,
+    Here[Sign Comma] => Do("list the locals with nothing between, as in '[ R a b;'"),
+    Here[Sign OpenParenthesis] => Do("list the locals without parentheses, as in '[ R a b;'"),
+    Here[Sign Colon] => Do("write ';' in its place, as in '[ R a b;'"),
+    Here[Sign OpenBracket] => Do("remove it: one '[' is enough"),
+    Here[Sign Assign] => Do("a local begins as 0 or as an argument: assign to it in the routine"),
+};
 
 /// What is told in the definition of an attribute.
-fn in_attribute(tokens: &[Token<'_>], at: usize) -> Option<Advice> {
-    if is_named(tokens, at, b"alias") {
-        Some(Advice::Do("an attribute has one name: leave 'alias' out"))
-    } else if goes_on(tokens, at) {
-        Some(Advice::Do("write an 'Attribute' of its own for each"))
-    } else if is_name(tokens, before(at, 1)) && is_value_beside(tokens, at) {
-        Some(Advice::Do("an attribute has no value: objects have it after 'has', or by 'give'"))
-    } else {
-        None
-    }
-}
+static ATTRIBUTE: &[Rule] = rules! {
+    Here[Named b"alias"] => Do("an attribute has one name: leave 'alias' out"),
+    Here[Sign Comma] | Here[Is Name] Here[not BeginsLine] => Do("write an 'Attribute' of its own for each"),
+    Last[Is Name] Here[Sign Assign Minus Colon] | Last[Is Name] Here[not Is Sign] Here[not BeginsLine]
+        => Do("an attribute has no value: objects have it after 'has', or by 'give'"),
+};
 
-/// Whether the token of a number is a sign that is written before the value of a property.
-fn is_before_value(tokens: &[Token<'_>], at: usize) -> bool {
-    match kind_at(tokens, at) {
-        Kind::Sign(sign) => matches!(
-            sign,
-            Sign::Assign | Sign::Colon | Sign::Arrow | Sign::LongArrow | Sign::OpenParenthesis
-        ),
-        _ => false,
-    }
-}
-
-/// What is told in the definition of a property that begins with the token of a number.
-fn in_property(tokens: &[Token<'_>], start: usize, at: usize) -> Option<Advice> {
-    if is_named(tokens, before(at, 1), b"alias") {
-        Some(Advice::Do("a property has one name: leave 'alias' out"))
-    } else if is_named(tokens, behind(start, 1), b"long") {
-        Some(Advice::Do("leave 'long' out: write the name right after 'Property'"))
-    } else if goes_on(tokens, at) {
-        Some(Advice::Do("write a 'Property' of its own for each"))
-    } else if is_before_value(tokens, at) {
-        Some(Advice::Do(
-            "write the value after the name with nothing between, as in 'Property p 5;'",
-        ))
-    } else if is_text(tokens, at) {
-        Some(Advice::Do("a property has no text: print it in a routine with a 'switch'"))
-    } else if behind(start, 3) <= at && is_value_beside(tokens, at) {
-        Some(Advice::Do("a property begins as one value: an object gives it more after 'with'"))
-    } else {
-        None
-    }
-}
-
-/// What a definition of a value is of, in a sentence that it cannot be computed.
-fn computed(what: Definition) -> &'static str {
-    match what {
-        Definition::Global => "an expression as the value of a Global",
-        _ => "an expression as the value of a Constant",
-    }
-}
-
-/// What is told after the `=` of a Global or a Constant.
-fn after_equals(tokens: &[Token<'_>], at: usize, what: Definition) -> Option<Advice> {
-    let last = before(at, 1);
-    match kind_at(tokens, at) {
-        Kind::Name(_) if is_sign(tokens, last, Sign::Minus) => {
-            Some(Advice::Do("write the negative value itself, as in 'Constant low = -5;'"))
-        }
-        Kind::Name(_) if !begins_line(tokens, at) => {
-            Some(Advice::Do("write a definition of its own for each"))
-        }
-        Kind::Number(_) | Kind::Character(_) | Kind::DictionaryWord(_)
-            if !begins_line(tokens, at) => {
-            Some(Advice::Do("one value is enough: write an 'Array' for several"))
-        }
-        Kind::Sign(sign) => sign_after_equals(sign, what, is_name(tokens, last)),
-        _ => None,
-    }
-}
-
-/// What is told of a sign after the value of a Global or a Constant, which may be a name.
-fn sign_after_equals(sign: Sign, what: Definition, is_after_name: bool) -> Option<Advice> {
-    match sign {
-        Sign::Comma => Some(Advice::Do("write a definition of its own for each")),
-        Sign::OpenParenthesis if is_after_name => Some(Advice::Do(
-            "the value is fixed before the story runs: assign what a routine returns in a routine",
-        )),
-        Sign::OpenParenthesis
-        | Sign::OpenBracket
-        | Sign::OpenBrace
-        | Sign::Dot
-        | Sign::Arrow
-        | Sign::LongArrow => Some(Advice::Absent(computed(what), CONSTANT_EXPRESSIONS)),
-        other if joins_equals(other) => {
-            Some(Advice::Absent(computed(what), CONSTANT_EXPRESSIONS))
-        }
-        _ => None,
-    }
-}
-
-/// What is told of a sign right after the name of a Global or a Constant.
-fn sign_after_name(sign: Sign, what: Definition) -> Option<Advice> {
-    match sign {
-        Sign::Comma => Some(Advice::Do("write a definition of its own for each")),
-        Sign::Equal | Sign::Colon => Some(Advice::Do("write '='")),
-        Sign::OpenBracket | Sign::Arrow | Sign::LongArrow => {
-            Some(Advice::Do("write 'Array a -> 10;' for 10 bytes, or '-->' for 10 words"))
-        }
-        Sign::Semicolon if matches!(what, Definition::Constant) => {
-            Some(Advice::Absent("a Constant without a value", CONSTANT_EXPRESSIONS))
-        }
-        _ => None,
-    }
-}
+/// What is told in the definition of a property.
+static PROPERTY: &[Rule] = rules! {
+    Last[Named b"alias"] => Do("a property has one name: leave 'alias' out"),
+    Second[Named b"long"] => Do("leave 'long' out: write the name right after 'Property'"),
+    Here[Sign Comma] | Here[Is Name] Here[not BeginsLine] => Do("write a 'Property' of its own for each"),
+    Here[Sign Assign Colon Arrow LongArrow OpenParenthesis]
+        => Do("write the value after the name with nothing between, as in 'Property p 5;'"),
+    Here[Is Text] => Do("a property has no text: print it in a routine with a 'switch'"),
+    Last[First] | SecondLast[First] => Nothing,
+    Here[Sign Minus] | Here[not Is Sign] Here[not BeginsLine]
+        => Do("a property begins as one value: an object gives it more after 'with'"),
+};
 
 /// What is told right after the name of a Global or a Constant.
-fn after_name(tokens: &[Token<'_>], at: usize, what: Definition) -> Option<Advice> {
-    match kind_at(tokens, at) {
-        Kind::Sign(sign) => sign_after_name(sign, what),
-        Kind::Text(_) => Some(Advice::Absent("a text as a value", OTHER_VALUES)),
-        Kind::Name(_) if begins_line(tokens, at) => None,
-        Kind::Name(_) if habit_at_beginning(text_at(tokens, before(at, 1))).is_some() => {
-            Some(Advice::Do("no type is written: leave the word before it out"))
-        }
-        Kind::Name(_) if matches!(what, Definition::Global) => {
-            Some(Advice::Do("write a 'Global' of its own for each, and '=' before a value"))
-        }
-        Kind::Name(_) => Some(Advice::Do("write '=' before the value")),
-        _ => None,
-    }
-}
+static AFTER_NAME: &[Rule] = rules! {
+    Here[Sign Comma] => Do(EACH),
+    Here[Sign Equal Colon] => Do("write '='"),
+    Here[Sign OpenBracket Arrow LongArrow] => Do("write 'Array a -> 10;' for 10 bytes, or '-->' for 10 words"),
+    Here[Sign Semicolon] First[Word Constant] => Absent("a Constant without a value", CONSTANT_EXPRESSIONS),
+    Here[Is Text] => Absent("a text as a value", OTHER_VALUES),
+    Here[not Is Name] | Here[BeginsLine] => Nothing,
+    Last[Foreign] => Do("no type is written: leave the word before it out"),
+    First[Word Global] => Do("write a 'Global' of its own for each, and '=' before a value"),
+    => Do("write '=' before the value"),
+};
 
-/// What is told in the definition of a Global or a Constant that begins with the token of a number.
-fn in_value(tokens: &[Token<'_>], start: usize, at: usize, what: Definition) -> Option<Advice> {
-    if before(at, 2) == start {
-        after_name(tokens, at, what)
-    } else if before(at, 3) >= start && before(at, 3) < at {
-        after_equals(tokens, at, what)
+/// What is told after the `=` of a Global or a Constant.
+static AFTER_EQUALS: &[Rule] = rules! {
+    Last[First] => Nothing,
+    Here[Is Name] Last[Sign Minus] => Do("write the negative value itself, as in 'Constant low = -5;'"),
+    Here[Is Name] Here[not BeginsLine] | Here[Sign Comma] => Do(EACH),
+    Here[Value] Here[not BeginsLine] => Do("one value is enough: write an 'Array' for several"),
+    Here[Sign OpenParenthesis] Last[Is Name]
+        => Do("the value is fixed before the story runs: assign what a routine returns in a routine"),
+    Here[not Operator] Here[not Sign OpenParenthesis OpenBracket OpenBrace Dot Arrow LongArrow] => Nothing,
+    First[Word Global] => Absent("an expression as the value of a Global", CONSTANT_EXPRESSIONS),
+    => Absent("an expression as the value of a Constant", CONSTANT_EXPRESSIONS),
+};
+
+/// What is told in the definition of an array.
+static ARRAY: &[Rule] = rules! {
+    Last[First] Here[Sign Arrow LongArrow] => Do("write the name before it"),
+    Last[First] => Nothing,
+    SecondLast[First] Last[Is Name] Here[Named b"buffer"] => Absent("'buffer'", BUFFERS),
+    SecondLast[First] Last[Is Name]
+        => Do("write '->' for bytes or '-->' for words after the name, as in 'Array a -> 10;'"),
+    Here[Is Text] => Absent("a text in an array", ARRAY_VALUES),
+    Here[Sign Comma] => Do("list the values with nothing between"),
+    Here[Opening] => Absent("a bracket in an array", ARRAY_VALUES),
+    Here[Sign Assign] => Do("list the values after the '->' or '-->', with nothing between"),
+    Here[Operator] => Absent("an expression in an array", ARRAY_EXPRESSIONS),
+};
+
+/// What is told among the attributes of an object.
+static ATTRIBUTES: &[Rule] = rules! {
+    Here[Sign Comma] Next[Word With] | Here[Sign Comma Assign] Last[Word Has] => Nothing,
+    Here[Sign Comma] => Do("list the attributes with nothing between"),
+    Here[Word Hasnt] Last[Named b"and"]
+        => Do("leave 'and hasnt ..' out: an object has only the attributes that are listed"),
+    Here[Sign Tilde Not Minus] | Here[Word Hasnt]
+        => Do("leave it out: an object has only the attributes that are listed"),
+    Here[Sign Assign Colon] | Here[Word True False] | Here[Is Number]
+        => Do("an attribute has no value: list its name alone"),
+    Here[Opening] => Do("list the attributes without brackets"),
+    Here[Word Has] => Do("remove it: one 'has' is enough"),
+    Here[Is DictionaryWord Character Text] Last[Word Has] => Do("write the attributes without quotes"),
+    Here[Is DictionaryWord Text] => Do("write 'with' and a property before values, and 'has' after them"),
+};
+
+/// What is told among the properties of an object.
+static PROPERTIES: &[Rule] = rules! {
+    Here[Is Text] Last[Word With] => Do("write the short name right after the name, before 'with'"),
+    Here[Is Text] Last[Named b"name"] | Here[Is Text] Here[InNames]
+        => Do("write the words in single quotes, as in 'with name 'lamp''"),
+    Here[Is Text] => Absent("a text as the value of a property", OTHER_VALUES),
+    Here[Word With] Last[Sign Comma] => Do("remove it: one 'with' is enough"),
+    Here[Word With] Last[not Word With] => Do("write ',' in its place: one 'with' is enough"),
+    Here[Word Hasnt] => Do("write 'has', and only the attributes that the object has"),
+    Here[Sign Assign Colon Arrow] => Do("write the values right after the property, with nothing between"),
+    Here[Sign OpenBracket] => Absent("a routine as a value", MESSAGES),
+    Here[Sign OpenParenthesis OpenBrace] => Do("write the values right after the property, without brackets"),
+    Here[Operator] Last[Is Number] => Absent("an expression in an object", CONSTANT_EXPRESSIONS),
+    Here[Operator] | Here[Value] Last[Sign Comma] => Do("list the values of a property with nothing between"),
+    Here[Is Name] Last[Named b"and"] => Do("write ',' in the place of 'and'"),
+    Here[Value] Last[Word With] => Do("write a property before the values, as in 'with name 'lamp''"),
+    // Where the value of a property is missing.
+    Here[not Word Has] Here[not Sign Semicolon Comma] => Nothing,
+    Last[Sign Comma] => Do("remove the ',' before it"),
+    Last[Named b"and"] => Do("leave the 'and' before it out"),
+    Last[not Given] => Nothing,
+    Last[Attribute] => Do("write 'has' before the attribute"),
+    => Do("give the property a value, as in 'with p 0'"),
+};
+
+/// What is told in the head of an object: its name, its short name and its parent.
+static HEAD: &[Rule] = rules! {
+    Last[Named b"class"] Last[Unknown] | Here[Named b"class"] Here[Unknown] => Absent("'class'", CLASSES),
+    Here[Is Text] Last[Sign Comma Assign] | Here[Sign Assign Colon]
+        => Do("write the short name right after the name, with nothing between"),
+    Here[Is Text] SecondLast[Is Text] => Do(WITH),
+    Here[Is Text] Last[Is Text] => Do("an object has one short name: remove it"),
+    Here[Is Text] Last[Unknown] => Do("a name is one word: join its parts by '_'"),
+    Here[Is Text] Last[Is Name] => Do("write the short name before the parent"),
+    Here[Value] Last[Property] | Here[Value] Last[Is Text] | Here[Value] SecondLast[Is Text] => Do(WITH),
+    Here[Quoted] => Do("write the short name in double quotes"),
+    Here[Sign Arrow] => Do("write the arrows before the name"),
+    Here[Opening] => Do("write properties after 'with' and attributes after 'has'"),
+    Here[Word In To] => Do("write the parent right after the short name, with nothing between"),
+    // A name after another one, after the short name or after a `,`.
+    Here[not Is Name] | Last[Is Name] Here[BeginsLine] | Last[not Is Name Text] Last[not Sign Comma] => Nothing,
+    Here[Attribute] | Last[Attribute] => Do("write 'has' before the attributes"),
+    Here[Property] | Last[Property] => Do(WITH),
+    Last[Unknown] | Last[Is Name] Here[Unknown]
+        => Do("an object has one name of one word, a text in double quotes and a parent, in this order"),
+    Last[Is Name] | Here[Unknown] => Do(WITH),
+    => Do("write arrows or a parent, not both"),
+};
+
+/// What is told in the place of an object's name.
+static NAME_OF_OBJECT: &[Rule] = rules! {
+    Here[Is Text] => Do("write a name for the source before it, as in 'Object bag \"bag\"'"),
+    Here[Quoted] => Do("write a name for the source, and then the short name in double quotes"),
+    Here[Word With Has] | Here[Sign Semicolon] => Do("write the name of the object before it"),
+    Here[Sign LongArrow] => Do("write '->' for each step inside"),
+    Here[Sign Minus Decrement Greater Assign] => Do("write '->' without blanks, or the name alone"),
+    Here[Opening] => Do("write the name right after 'Object', without brackets"),
+};
+
+/// The rules of the part of an object, which begins with the token of a number, before another.
+fn rules_of_object(tokens: &[Token<'_>], start: usize, at: usize) -> &'static [Rule] {
+    let last = before(at, 1);
+    if is_word(tokens, last, Word::Object) || is_sign(tokens, last, Sign::Arrow) {
+        NAME_OF_OBJECT
+    } else if has_word_within(tokens, start, at, Word::Has) {
+        ATTRIBUTES
+    } else if has_word_within(tokens, start, at, Word::With) {
+        PROPERTIES
     } else {
-        None
+        HEAD
     }
-}
-
-/// Whether the token of a number is a sign that is meant as a part of a name, as in `my-name`.
-fn is_in_name(tokens: &[Token<'_>], at: usize) -> bool {
-    let next = at.saturating_add(1);
-    let is_sign_of_name = is_any_sign(tokens, at, &[Sign::Minus, Sign::Dot]);
-    is_sign_of_name
-        && is_name(tokens, before(at, 1))
-        && is_joined(tokens, at)
-        && is_joined(tokens, next)
-        && is_name(tokens, next)
 }
 
 /// Whether another definition begins with the token of a number, the first of its line. `[` before
@@ -224,58 +202,24 @@ fn begins_another(tokens: &[Token<'_>], at: usize) -> bool {
         && !is_sign(tokens, behind(at, 1), Sign::Semicolon)
 }
 
-/// Whether the token of a number may be after the name of a definition.
-fn is_after_name(tokens: &[Token<'_>], at: usize) -> bool {
-    match kind_at(tokens, at) {
-        Kind::Number(_) => true,
-        _ => is_any_sign(tokens, at, &[Sign::Semicolon, Sign::Assign]),
-    }
-}
-
-/// Whether the token of a number is a word or a text in the place of a name.
-fn is_quoted_name(tokens: &[Token<'_>], at: usize, what: Definition) -> bool {
-    match kind_at(tokens, at) {
-        Kind::Text(_) | Kind::DictionaryWord(_) | Kind::Character(_) => {
-            !matches!(what, Definition::Object)
-        }
-        _ => false,
-    }
-}
-
-/// What is told among abbreviations.
-fn in_abbreviations(tokens: &[Token<'_>], at: usize) -> Option<Advice> {
-    match kind_at(tokens, at) {
-        Kind::Name(_) | Kind::DictionaryWord(_) | Kind::Character(_) if !begins_line(tokens, at) =>
-            { Some(Advice::Do("write the texts in double quotes")) }
-        _ => None,
-    }
-}
-
 /// What is told of a token that does not fit in a definition.
 pub fn in_definition(tokens: &[Token<'_>], at: usize) -> Option<Advice> {
+    let place = Place::at(tokens, at);
     let start = start_of(tokens, at);
     if is_word(tokens, start, Word::Abbreviate) {
-        return in_abbreviations(tokens, at);
+        return place.told(ABBREVIATIONS);
     }
     let what = definition_of(tokens, at)?;
     if begins_another(tokens, at) {
         return None;
     }
-    if is_in_name(tokens, at) {
-        return Some(Advice::Do("a name has letters, digits and '_' only"));
-    }
-    if before(at, 1) == start && is_after_name(tokens, at) {
-        return Some(Advice::Do("write a name before it"));
-    }
-    if before(at, 1) == start && is_quoted_name(tokens, at, what) {
-        return Some(Advice::Do("write the name without quotes"));
-    }
-    match what {
-        Definition::Routine => in_head(tokens, start, at),
-        Definition::Attribute => in_attribute(tokens, at),
-        Definition::Property => in_property(tokens, start, at),
-        Definition::Array => in_array(tokens, start, at),
-        Definition::Object => in_object(tokens, start, at),
-        Definition::Global | Definition::Constant => in_value(tokens, start, at, what),
-    }
+    place.told(ANY).or(place.told(match what {
+        Definition::Routine => ROUTINE,
+        Definition::Attribute => ATTRIBUTE,
+        Definition::Property => PROPERTY,
+        Definition::Array => ARRAY,
+        Definition::Object => rules_of_object(tokens, start, at),
+        _ if before(at, 2) == start => AFTER_NAME,
+        _ => AFTER_EQUALS,
+    }))
 }

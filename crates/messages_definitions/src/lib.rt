@@ -3,10 +3,10 @@
 #![tactic(auto)]
 
 mod advice;
-mod arrays;
 mod definitions;
 mod habits;
-mod objects;
+mod places;
+mod rules;
 mod signs;
 
 pub use advice::{Advice, first_of};
