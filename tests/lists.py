@@ -4,7 +4,7 @@
   on and those that stand on it; of each, only those with no other between them
 - in docs/ARCHITECTURE.md the crates by their parts, each with the first line of its README
 - in docs/CHANGING.md the crates by their parts, and the table of what a change costs: how many crates, and minutes
-- in docs/COSTS.md the table of the gate, by the seconds in seconds.txt
+- in docs/COSTS.md the seconds of the gate, by seconds.txt
 - in docs/PROVING.md the number of crates
 - in docs/DIFFERENCES.md the tables of what is missing and of words of other languages, by those of `messages_features`
 - in the README of `rows` how many rows its file `stdin` has, and each of its parts
@@ -117,12 +117,9 @@ def between(text, first, last, new):
 
 
 def seconds_of():
-    """What seconds.txt has of each crate: the seconds of its proof and of its edits, or the crate that has them."""
-    text = (TOP / "seconds.txt").read_text()
-    measured = {}
-    for name, proof, edits in re.findall(r"^(\w+): (\d+) (\d+)$", text, re.M):
-        measured[name] = int(proof), int(edits)
-    return measured, dict(re.findall(r"^(\w+): ([a-z]\w*)$", text, re.M))
+    """What seconds.txt has of each crate: the seconds of its proof and of its edits."""
+    rows = re.findall(r"^(\w+): (\d+) (\d+)$", (TOP / "seconds.txt").read_text(), re.M)
+    return {name: (int(proof), int(edits)) for name, proof, edits in rows}
 
 
 def edits_of(name):
@@ -131,27 +128,25 @@ def edits_of(name):
 
 
 def with_seconds(text, crates):
-    """COSTS.md with the table of the gate, and the seconds of what ./build proves."""
-    measured, parts = seconds_of()
-    rows = ["", "| Crate | Proof, seconds | Edits | Seconds of edits |", "|---|---|---|---|"]
-    for name in crates.libraries:
-        proof, edits = measured.get(name, (f"part of `{parts[name]}`" if name in parts else "", 0))
-        rows.append(f"| `{name}` | {proof} | {edits_of(name) or ''} | {edits or ''} |")
-    sums = [sum(column) for column in zip(*measured.values())]
-    rows += [f"| all | {sums[0]} | {sum(map(edits_of, crates.libraries))} | {sums[1]} |", "", ""]
-    text = between(text, "by ./lists. -->\n", "<!-- End", "\n".join(rows))
-    return re.sub(r"(need, )[\d,]+( seconds of these)", rf"\g<1>{seconds_of_build(crates):,}\2", text)
+    """COSTS.md with the seconds of all proofs and edits, and of what ./build proves."""
+    proofs, edits = (sum(column) for column in zip(*seconds_of().values()))
+    return with_figures(text, (
+        (r"\| Checks of all crates \| ", f"{proofs:,}", r" \|"),
+        (r"\n\| ", sum(map(edits_of, crates.libraries)), r" must-fail edits"),
+        (r"must-fail edits \| ", f"{edits:,}", r" \|"),
+        (r"proves \| ", f"{seconds_of_build(crates):,}", r" \|"),
+    ))
 
 
 def seconds_of_build(crates):
     """The seconds of what ./build proves."""
-    measured, _ = seconds_of()
+    measured = seconds_of()
     return sum(measured[name][0] for name in crates.of_programs() & set(measured))
 
 
 def seconds_of_gate():
     """The seconds of all proofs and edits."""
-    return sum(map(sum, seconds_of()[0].values()))
+    return sum(map(sum, seconds_of().values()))
 
 
 def tens_of_minutes(seconds):
@@ -229,7 +224,7 @@ def figures_of_readme(crates):
 
 def with_costs(text, crates):
     """CHANGING.md with the numbers of the table of what a change costs."""
-    measured, _ = seconds_of()
+    measured = seconds_of()
 
     def row(found):
         above = crates.with_above(found["name"])
