@@ -3,7 +3,7 @@
 - in the README of a crate the paragraph that begins with `Stage:`: its part of crates.txt, the crates that it stands
   on and those that stand on it; of each, only those with no other between them
 - in docs/ARCHITECTURE.md the crates by their parts, each with the first line of its README
-- in docs/CHANGING.md the crates by their parts, and the table of what a change costs: how many crates, and minutes
+- in docs/CHANGING.md the table of what a change costs: how many crates, and minutes
 - in docs/COSTS.md the seconds of the gate, by seconds.txt
 - in docs/PROVING.md the number of crates
 - in docs/DIFFERENCES.md the tables of what is missing and of words of other languages, by those of `messages_features`
@@ -234,14 +234,6 @@ def with_costs(text, crates):
     return re.sub(r"^\| (?P<names>`(?P<name>\w+)`.*?) \| \d+ \| \d+ \|", row, text, flags=re.M)
 
 
-def with_map(text, crates):
-    """CHANGING.md with the crates by their parts."""
-    lines = []
-    for part, names in crates.parts.items():
-        lines.append(wrapped(f"- *{part}*: {', '.join(f'`{name}`' for name in names)}", "  "))
-    return between(text, "<!-- From crates.txt, by ./lists. -->\n", "<!-- End. -->", "\n".join(lines) + "\n")
-
-
 def with_number(text, crates):
     """PROVING.md with the number of crates."""
     return re.sub(r"\d+( crates in which every function is proved)", rf"{len(crates.libraries)}\1", text)
@@ -299,7 +291,7 @@ def documents():
         yield readme_of(name), now, with_rows(wanted) if name == ROWS else wanted
     for name, change in (
         ("docs/ARCHITECTURE.md", with_crates),
-        ("docs/CHANGING.md", lambda text, crates: with_costs(with_map(text, crates), crates)),
+        ("docs/CHANGING.md", with_costs),
         ("docs/COSTS.md", with_seconds),
         ("docs/PROVING.md", with_number),
         ("docs/DIFFERENCES.md", with_features),
