@@ -2,7 +2,7 @@
 
 - in the README of a crate the paragraph that begins with `Stage:`: its part of crates.txt, the crates that it stands
   on and those that stand on it; of each, only those with no other between them
-- in docs/ARCHITECTURE.md the crates by their parts, each with the first line of its README
+- in docs/ARCHITECTURE.md the crates by their parts
 - in docs/CHANGING.md the table of what a change costs: how many crates, and minutes
 - in docs/COSTS.md the seconds of the gate, by seconds.txt
 - in docs/PROVING.md the number of crates
@@ -80,11 +80,6 @@ def readme_of(name):
     return TOP / "crates" / name / "README.md"
 
 
-def title_of(name):
-    """What the first line of a crate's README says it is."""
-    return readme_of(name).read_text().partition("\n")[0].partition(": ")[2]
-
-
 def linked(names):
     """Links from the README of a crate to those of others."""
     return ", ".join(f"[`{name}`](../{name}/README.md)" for name in names) or "nothing"
@@ -103,11 +98,11 @@ def with_stage(text, crates, name):
 
 def with_crates(text, crates):
     """ARCHITECTURE.md with the crates by their parts."""
-    lines = []
+    lines = [""]
     for part, names in crates.parts.items():
-        lines.append(f"\n### {part}\n")
-        lines += [wrapped(f"- [`{name}`](../crates/{name}/README.md): {title_of(name)}", "  ") for name in names]
-    return between(text, "## Crates\n", "\n## ", "\n".join(lines) + "\n")
+        links = ", ".join(f"[`{name}`](../crates/{name}/README.md)" for name in names)
+        lines.append(wrapped(f"- *{part}*: {links}", "  "))
+    return between(text, "<!-- From crates.txt, by ./lists. -->\n", "<!-- End. -->", "\n".join(lines) + "\n\n")
 
 
 def between(text, first, last, new):
