@@ -252,6 +252,7 @@ def features(name):
     table = (TOP / f"crates/messages_features/src/{name}.rt").read_text()
     for feature in re.findall(r"= &Feature \{(.*?)\n\};", table, re.S):
         missing, instead, section = (field_of(feature, field) for field in ("missing", "instead", "section"))
+        instead = "leave it out" if instead == "nothing" else instead
         instead = re.sub(r"(examples/(\w+)\.inf)", r"[\2](../\1)", instead)
         yield missing, instead, f"[{section}](#{section.lower()})" if section else ""
 
