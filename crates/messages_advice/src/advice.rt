@@ -5,9 +5,11 @@ use crate::loops::{in_loop, late_in_for, misplaced_until};
 use crate::statements::{in_statement, no_statement};
 use crate::switches::{between_signs, in_switch_or_if};
 use messages_contexts::{is_in_routine, is_named, start_of};
-use messages_definitions::{Advice, first_of, habit_at, in_definition, written_as_comment};
+use messages_definitions::{
+    Advice, absent_form, first_of, habit_at, in_definition, in_expression, in_print, items_beside,
+    written_as_comment,
+};
 use messages_expected::Grouped;
-use messages_expressions::{absent_form, in_expression, in_print, items_beside};
 use syntax_lexer::Token;
 
 /// What is told of a token in a routine.

@@ -2,13 +2,12 @@
 
 use messages_contexts::{
     Definition, Known, before, begins_line, begins_statement, begun_at, behind, closes_after,
-    definition_of, ends_operand, has_word_before, has_word_within, is_any_sign, is_any_word,
-    is_attribute, is_name, is_named, is_routine, is_sign, is_step, is_unknown, is_word, kind_at,
-    known_as, last_open, last_word, start_of,
+    closes_after_any, definition_of, ends_operand, has_word_before, has_word_within, is_any_sign,
+    is_any_word, is_attribute, is_name, is_named, is_routine, is_sign, is_step, is_unknown,
+    is_word, kind_at, known_as, last_open, last_word, open_parenthesis, start_of,
 };
 use messages_definitions::{Advice, first_of, is_article};
 use messages_expected::Grouped;
-use messages_expressions::{closes_condition, is_enclosed, word_after_dot};
 use messages_features::{LIBRARY, SETTINGS};
 use syntax_lexer::{Kind, Sign, Token, Word};
 
@@ -187,17 +186,31 @@ fn is_after_parentheses_of(tokens: &[Token<'_>], at: usize) -> bool {
     is_operator && closes_condition(tokens, before(at, 1))
 }
 
+/// Whether the token of a number is the `)` of a condition or of a loop.
+pub fn closes_condition(tokens: &[Token<'_>], at: usize) -> bool {
+    const WORDS: [Word; 5] = [
+        Word::If,
+        Word::While,
+        Word::For,
+        Word::Objectloop,
+        Word::Switch,
+    ];
+    closes_after_any(tokens, at, &WORDS)
+}
+
+/// Whether the token of a number is in parentheses.
+fn is_enclosed(tokens: &[Token<'_>], at: usize) -> bool {
+    open_parenthesis(tokens, at).is_some()
+}
+
 /// What is told of a reserved word after the first words of a statement, which are meant after it.
 fn after_first(tokens: &[Token<'_>], at: usize) -> Option<Advice> {
     let last = before(at, 1);
     let is_late = is_word(tokens, at, Word::If) && ends_operand(tokens, last);
     if is_late && is_assigned(tokens, at) {
-        return Some(Advice::Do("write 'if' and its condition before the statement"));
-    }
-    let is_object = is_name(tokens, last) && begins_statement(tokens, last);
-    match kind_at(tokens, at) {
-        Kind::Reserved(word) if is_object && begins_statement_with(word) => word_after_dot(word),
-        _ => None,
+        Some(Advice::Do("write 'if' and its condition before the statement"))
+    } else {
+        None
     }
 }
 

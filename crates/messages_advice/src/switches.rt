@@ -1,12 +1,11 @@
 //! What is told within a `switch` and an `if`.
 
-use crate::statements::begins_statement_with;
+use crate::statements::{begins_statement_with, closes_condition};
 use messages_contexts::{
     before, behind, is_any_sign, is_joined, is_name, is_routine, is_sign, is_text, is_unknown,
     is_word, kind_at, known_as, last_open, start_of, switch_around,
 };
 use messages_definitions::{Advice, pair_at};
-use messages_expressions::closes_condition;
 use messages_features::LABELS;
 use syntax_lexer::{Kind, Sign, Token, Word};
 

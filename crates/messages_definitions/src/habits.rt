@@ -3,7 +3,7 @@
 use crate::advice::Advice;
 use crate::places::Place;
 use crate::rules::Say::{Beginning, Between, Do, Operand};
-use crate::rules::{Rule, Spot, rules};
+use crate::rules::{Spot, Step, rules};
 use messages_contexts::{is_any_named, is_unknown};
 use syntax_lexer::Token;
 
@@ -14,31 +14,31 @@ pub fn is_article(tokens: &[Token<'_>], at: usize) -> bool {
 }
 
 /// What is told of words of other languages.
-static HABITS: &[Rule] = rules! {
+static HABITS: &[Step] = rules! {
     // The head of a routine, as `int main()`.
     Third[Sign OpenParenthesis] Second[Is Name] Here[not InRoutine] First[Foreign] First[Unknown]
         => Do("write '[ R a b; .. ];' for a routine"),
     // `is` before a word that tests.
-    Here[Named b"is" b"are"] Here[Unknown] Next[Named b"not"] SecondNext[Word In] => Do("write 'notin' alone"),
-    Here[Named b"is" b"are"] Here[Unknown] Next[Named b"not"] SecondNext[Word Has] => Do("write 'hasnt' alone"),
-    Here[Named b"is" b"are"] Here[Unknown] Next[Word In] => Do("write 'in' alone"),
-    Here[Named b"is" b"are"] Here[Unknown] Next[Word Has] => Do("write 'has' alone"),
-    Here[Named b"is" b"are"] Here[Unknown] Next[Named b"not"] SecondNext[Word Notin Hasnt Provides]
-        | Here[Named b"is" b"are"] Here[Unknown] Next[Word Notin Hasnt Provides]
+    Here[Named "is are"] Here[Unknown] Next[Named "not"] SecondNext[Word In] => Do("write 'notin' alone"),
+    Here[Named "is are"] Here[Unknown] Next[Named "not"] SecondNext[Word Has] => Do("write 'hasnt' alone"),
+    Here[Named "is are"] Here[Unknown] Next[Word In] => Do("write 'in' alone"),
+    Here[Named "is are"] Here[Unknown] Next[Word Has] => Do("write 'has' alone"),
+    Here[Named "is are"] Here[Unknown] Next[Named "not"] SecondNext[Word Notin Hasnt Provides]
+        | Here[Named "is are"] Here[Unknown] Next[Word Notin Hasnt Provides]
         => Do("leave 'is' out: the word after it is enough"),
-    Here[Named b"is" b"are"] Here[Unknown] Next[Is Name] Next[not Named b"not"] => Between(Spot::Next),
+    Here[Named "is are"] Here[Unknown] Next[Is Name] Next[not Named "not"] => Between(Spot::Next),
     // A word or a sign that negates, and a word that assigns.
-    Last[Named b"not"] Last[Unknown] Here[Word In] | Here[Sign Tilde Not] Next[Word In] => Do("write 'notin'"),
-    Last[Named b"not"] Last[Unknown] Here[Word Has] | Here[Sign Tilde Not] Next[Word Has] => Do("write 'hasnt'"),
-    Last[First] Here[Named b"is" b"equals" b"becomes"] Here[Unknown] => Do("write '=' to assign"),
+    Last[Named "not"] Last[Unknown] Here[Word In] | Here[Sign Tilde Not] Next[Word In] => Do("write 'notin'"),
+    Last[Named "not"] Last[Unknown] Here[Word Has] | Here[Sign Tilde Not] Next[Word Has] => Do("write 'hasnt'"),
+    Last[First] Here[Named "is equals becomes"] Here[Unknown] => Do("write '=' to assign"),
     // One word that is written as two.
-    Here[Named b"line"] Last[Named b"new"] => Do("write 'new_line;'"),
-    Last[Named b"ret"] SecondLast[Word Print] => Do("write 'print_ret' as one word"),
-    Here[Word Object] Next[Named b"loop"] => Do("write 'objectloop' as one word"),
+    Here[Named "line"] Last[Named "new"] => Do("write 'new_line;'"),
+    Last[Named "ret"] SecondLast[Word Print] => Do("write 'print_ret' as one word"),
+    Here[Word Object] Next[Named "loop"] => Do("write 'objectloop' as one word"),
     // `not in`, `not has` and `has not`.
-    Here[Named b"not"] Here[Unknown] Next[Word In] => Do("write 'notin'"),
-    Here[Named b"not"] Here[Unknown] Next[Word Has] | Here[Named b"not"] Here[Unknown] Last[Word Has]
-        | Last[Named b"not"] Last[Unknown] SecondLast[Word Has] => Do("write 'hasnt'"),
+    Here[Named "not"] Here[Unknown] Next[Word In] => Do("write 'notin'"),
+    Here[Named "not"] Here[Unknown] Next[Word Has] | Here[Named "not"] Here[Unknown] Last[Word Has]
+        | Last[Named "not"] Last[Unknown] SecondLast[Word Has] => Do("write 'hasnt'"),
     // Words between operands; conditions in parentheses of their own are read as a call.
     Here[Continues] => Between(Spot::Here),
     Last[Continues] => Between(Spot::Last),

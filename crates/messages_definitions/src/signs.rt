@@ -3,14 +3,14 @@
 use crate::advice::Advice;
 use crate::places::Place;
 use crate::rules::Say::{Absent, Do, Nothing};
-use crate::rules::{Rule, rules};
+use crate::rules::{Step, rules};
 use messages_features::{ASSIGNING_OPERATORS, SUPERCLASSES};
 use syntax_lexer::{Sign, Token};
 
 /// What is told of signs that are meant to begin a comment: `//` or `/*`, and where a statement
 /// begins `(*`, `--` with a blank after it, a `;` that begins a line and ends nothing, with more
 /// after it, or a `{` that begins a line, with an unknown name after it.
-static COMMENTS: &[Rule] = rules! {
+static COMMENTS: &[Step] = rules! {
     Here[Joined] Last[Sign Slash] Here[Sign Slash Star]
         | Here[Joined] Last[Sign OpenParenthesis] Here[Sign Star] Last[First]
         | Next[Joined] Here[Sign Slash] Next[Sign Slash Star]
@@ -25,10 +25,10 @@ static COMMENTS: &[Rule] = rules! {
 
 /// What is told of two signs that are one in another language, but for `= =` outside parentheses and
 /// `<<` that begins an action.
-static PAIRS: &[Rule] = rules! {
+static PAIRS: &[Step] = rules! {
     Last[not Is Sign] | Here[not Is Sign] => Nothing,
-    Last[Sign Assign] Here[Sign Assign] Here[not Enclosed] | Last[Sign Less] Last[First] => Nothing,
-    Last[Sign Slash] Here[Sign Assign] Here[Within If] => Do("write '~='"),
+    Last[Sign Assign] Here[Sign Assign] Open[not Sign OpenParenthesis] | Last[Sign Less] Last[First] => Nothing,
+    Last[Sign Slash] Here[Sign Assign] BeforeOpen[Word If] => Do("write '~='"),
     // Side by side.
     Here[Joined] Last[Sign Equal] Here[Sign Assign] => Do("write '=='"),
     Here[Joined] Last[Sign NotEqual] Here[Sign Assign] | Here[Joined] Last[Sign Less] Here[Sign Greater]
