@@ -1,5 +1,7 @@
 //! The tokens around a place, each by its number.
 
+use crate::kinds;
+use crate::kinds::{Kinds, is_of};
 use syntax_lexer::{Kind, Sign, Token, Word};
 
 /// What the token of a number is; the end of the source where there is none.
@@ -114,28 +116,19 @@ pub fn line_of(tokens: &[Token<'_>], at: usize) -> usize {
     }
 }
 
-/// Whether a statement ends or begins with a sign.
-fn divides(sign: Sign) -> bool {
-    matches!(sign, Sign::Semicolon | Sign::OpenBrace | Sign::CloseBrace)
-}
-
 /// Whether a statement ends or begins with the token of a number.
 pub fn divides_at(tokens: &[Token<'_>], at: usize) -> bool {
-    match kind_at(tokens, at) {
-        Kind::Sign(sign) => divides(sign),
-        _ => false,
-    }
+    is_of(tokens, at, kinds!(Is Divider))
 }
 
 /// Whether the token of a number may begin a statement or a directive: it is the first of the
 /// source, or after the end of a statement, of a list of cases, of a condition, or of the first half
 /// of an `if` or a `do`.
 pub fn begins_statement(tokens: &[Token<'_>], at: usize) -> bool {
-    let last = before(at, 1);
-    at == 0
-        || divides_at(tokens, last)
-        || is_any_sign(tokens, last, &[Sign::Colon, Sign::CloseParenthesis])
-        || is_any_word(tokens, last, &[Word::Else, Word::Do])
+    const ENDS: Kinds = kinds!(
+        Sign Semicolon OpenBrace CloseBrace Colon CloseParenthesis, Word Else Do
+    );
+    at == 0 || is_of(tokens, before(at, 1), ENDS)
 }
 
 /// The bytes of the token of a number. None if there is no such token.

@@ -5,11 +5,10 @@ use crate::misspelt::misspelt;
 use crate::repairs::{Change, Trial};
 use messages_advice::{advice_at, late_advice_at};
 use messages_contexts::{
-    Definition, around, before, begins_line, begun_at, behind, definition_of, divides_at,
+    Advice, Definition, around, before, begins_line, begun_at, behind, definition_of, divides_at,
     ends_within, is_after_word, is_any_word, is_behind_has, is_sign, is_text, is_unknown, is_word,
     kind_at, last_open, last_word, open_parenthesis, owns_parentheses, start_of, switch_around,
 };
-use messages_definitions::Advice;
 use messages_expected::Grouped;
 use syntax::{Kind, Sign, Token, Word};
 

@@ -1,20 +1,19 @@
-//! Words of other languages at a token that does not fit.
+//! Features of Inform 6 and words of other languages at a token that does not fit.
 
-use crate::advice::Advice;
-use crate::places::Place;
-use crate::rules::Say::{Beginning, Between, Do, Operand};
-use crate::rules::{Spot, Step, rules};
-use messages_contexts::{is_any_named, is_unknown};
-use syntax_lexer::Token;
+use messages_contexts::Say::{Beginning, Between, Do, Inform, Nothing, Operand};
+use messages_contexts::{Spot, Step, rules};
 
-/// Whether the token of a number is an article, and no name that is defined.
-pub fn is_article(tokens: &[Token<'_>], at: usize) -> bool {
-    const ARTICLES: [&[u8]; 3] = [b"the", b"a", b"an"];
-    is_any_named(tokens, at, &ARTICLES) && is_unknown(tokens, at)
-}
+/// What is told of a word of Inform 6 that begins a statement or a directive. `endif` in a routine is
+/// of other languages too.
+pub static FEATURES: &[Step] = rules! {
+    Here[InRoutine] Here[Named "endif"] | Here[InRoutine] First[Named "endif"] => Nothing,
+    Here[BeginsStatement] => Inform(Spot::Here),
+    Last[BeginsStatement] => Inform(Spot::Last),
+};
 
-/// What is told of words of other languages.
-static HABITS: &[Step] = rules! {
+/// What is told of the words of other languages in the statement, the definition or the block of a
+/// token that does not fit.
+pub static HABITS: &[Step] = rules! {
     // The head of a routine, as `int main()`.
     Third[Sign OpenParenthesis] Second[Is Name] Here[not InRoutine] First[Foreign] First[Unknown]
         => Do("write '[ R a b; .. ];' for a routine"),
@@ -51,9 +50,3 @@ static HABITS: &[Step] = rules! {
     => Operand(Spot::Here),
     => Operand(Spot::Last),
 };
-
-/// What is told of the words of other languages in the statement, the definition or the block of a
-/// token that does not fit.
-pub fn habit_at(tokens: &[Token<'_>], at: usize) -> Option<Advice> {
-    Place::at(tokens, at).told(HABITS)
-}

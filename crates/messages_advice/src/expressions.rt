@@ -1,19 +1,16 @@
 //! What is told within expressions.
 
-use crate::advice::Advice;
-use crate::places::Place;
-use crate::rules::Say::{Absent, Do, Nothing};
-use crate::rules::{Step, rules};
+use messages_contexts::Say::{Absent, Do, Nothing};
+use messages_contexts::{Step, rules};
 use messages_features::{
     ADDRESSES, ALTERNATIVES, MESSAGES, NESTED_NEGATIONS, NO_PARENTS, PARENTS, PARENTS_IN_LOOP,
 };
-use syntax_lexer::Token;
 
 const WHOLE: &str = "numbers are whole: write no point";
 
 /// What is told of a `[` in a statement, or a `{` with no blank after a name: a `[` that begins a line
 /// may begin the next routine.
-static INDEXES: &[Step] = rules! {
+pub static INDEXES: &[Step] = rules! {
     Here[not Sign OpenBracket OpenBrace] | Here[Sign OpenBracket] Here[BeginsLine] => Nothing,
     Here[Sign OpenBrace] Here[not Joined] | Here[Sign OpenBrace] Last[not Is Name] => Nothing,
     Last[Sign Arrow LongArrow] => Do("write the index right after the arrow, as in 'a->0'"),
@@ -27,7 +24,7 @@ static INDEXES: &[Step] = rules! {
 };
 
 /// What is told of a reserved word after a `.`, or after a name that begins a statement.
-static WORDS_OF_OBJECTS: &[Step] = rules! {
+pub static WORDS_OF_OBJECTS: &[Step] = rules! {
     Last[Sign Dot] Here[Is Reserved] Here[BeginsLine] => Do("write ';' in the place of the '.' before it"),
     Last[not Is Name, Sign Dot] | Last[Is Name] Last[not BeginsStatement] | Here[BeginsLine] => Nothing,
     Here[Word Move] => Do("write 'move a to b;'"),
@@ -42,7 +39,7 @@ static WORDS_OF_OBJECTS: &[Step] = rules! {
 
 /// What is told of a token in the place of a name, of a part of a number and of what is after a
 /// property.
-static PARTS: &[Step] = rules! {
+pub static PARTS: &[Step] = rules! {
     Last[Sign Dot, Word Has Hasnt Provides] Here[Is Text DictionaryWord Character]
         => Do("write the name without quotes"),
     Last[Sign Dot, Word Has Hasnt Provides] Here[Sign OpenParenthesis] => Do("write the name without parentheses"),
@@ -60,41 +57,30 @@ static PARTS: &[Step] = rules! {
 };
 
 /// What is told of an arrow, of an `or` and of a comparison after another one.
-static OPERATORS: &[Step] = rules! {
+pub static OPERATORS: &[Step] = rules! {
     Here[Sign Arrow LongArrow] SecondLast[Sign Arrow LongArrow]
         => Do("put the index in parentheses, as in 'a->(b->c)'"),
     Here[Sign Arrow LongArrow] Last[Sign CloseParenthesis]
         => Do("an entry is one of an array by its name, as in 'a->i'"),
     Here[Sign Arrow LongArrow] => Nothing,
-    Here[Word Or] Here[After (Word Notin) (TestEnd)] => Absent("'or' after 'notin'", NO_PARENTS),
-    Here[Word Or] Here[not After (Word In) (TestEnd)] => Absent("'or' except after '==' and '~='", ALTERNATIVES),
+    Here[Word Or] Here[After (Word Notin) (Is TestEnd)] => Absent("'or' after 'notin'", NO_PARENTS),
+    Here[Word Or] Here[not After (Word In) (Is TestEnd)] => Absent("'or' except after '==' and '~='", ALTERNATIVES),
     Here[Word Or] BeforeOpen[Word Objectloop] => Absent("'or' after the 'in' of a loop", PARENTS_IN_LOOP),
     Here[Word Or] => Absent("'or' after 'in'", PARENTS),
-    Here[not Comparison] | Here[not Outside (Comparison) (ConditionEnd)] => Nothing,
+    Here[not Is Comparison] | Here[not Outside (Is Comparison) (Is ConditionEnd)] => Nothing,
     Next[Word True False] => Do("leave it out: what is before it is true or false itself, as 'lamp has lit'"),
-    Here[Outside (Word Or) (Comparison)] => Do("write '||' between conditions: 'or' is between values"),
+    Here[Outside (Word Or) (Is Comparison)] => Do("write '||' between conditions: 'or' is between values"),
     => Do("write '&&' between two comparisons, as in 'a < b && b < c'"),
 };
 
 /// What is told of a sign before an operand.
-static BEFORE_OPERANDS: &[Step] = rules! {
+pub static BEFORE_OPERANDS: &[Step] = rules! {
     Last[EndsOperand] => Nothing,
-    Here[Comparison] Last[Sign OpenParenthesis AndAlso OrElse]
-        | Here[Comparison] Last[Sign Colon] Open[Sign OpenParenthesis]
+    Here[Is Comparison] Last[Sign OpenParenthesis AndAlso OrElse]
+        | Here[Is Comparison] Last[Sign Colon] Open[Sign OpenParenthesis]
         => Do("a value is missing before it"),
     Here[Sign Plus] => Do("write the number without '+'"),
     Here[Sign Ampersand Star] => Do("there are no pointers: write 'a->0' or 'a-->0' for an entry of an array"),
-    Here[Sign Not Tilde] Last[Operator] | Here[Sign Not Tilde] Last[Comparison]
+    Here[Sign Not Tilde] Last[Is Operator] | Here[Sign Not Tilde] Last[Is Comparison]
         => Absent("a negation as an operand", NESTED_NEGATIONS),
 };
-
-/// What is told of a token that does not fit in an expression.
-pub fn in_expression(tokens: &[Token<'_>], at: usize) -> Option<Advice> {
-    Place::at(tokens, at).first_told(&[
-        INDEXES,
-        WORDS_OF_OBJECTS,
-        PARTS,
-        OPERATORS,
-        BEFORE_OPERANDS,
-    ])
-}

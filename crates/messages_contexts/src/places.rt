@@ -1,161 +1,67 @@
 //! A place in a source, and the first rule that holds there.
 
 use crate::advice::Advice;
-use crate::rules::{Class, Kinds, Say, Spot, Step, Test};
-use messages_contexts::{
-    Known, before, begins_line, begins_statement, behind, ends_operand, is_joined, is_named,
-    is_property, is_sign, is_unknown, kind_at, known_as, last_open, open_parenthesis, start_of,
-    text_at,
+use crate::definitions::is_unknown;
+use crate::kinds::{has, is_of};
+use crate::objects::is_property;
+use crate::operands::ends_operand;
+use crate::rules::{Say, Spot, Step, Test};
+use crate::statements::{
+    begins_line, group_at, is_joined, last_open, open_parenthesis, start_of, switch_around,
 };
-use messages_features::{Feature, habit_as_operand, habit_at_beginning, habit_between};
-use syntax_lexer::{Kind, Sign, Token};
+use crate::tokens::{before, begins_statement, behind, text_at};
+use crate::walks::{
+    begins_two_commas, bytes_after, count_of, ends_else, is_after, is_case, is_in_brackets,
+    is_in_constant, is_in_names, is_inequality, is_known, is_listed, is_negation, last_do,
+};
+use messages_features::{Feature, habit_as_operand, habit_at_beginning, habit_between, named};
+use syntax_lexer::{Sign, Token};
 
 /// A place in a source: the token of a number, which does not fit. The other numbers are of tokens
 /// too; of none where there is none.
 #[derive(Clone, Copy)]
 pub struct Place<'t, 's> {
+    source: &'t [u8],
     tokens: &'t [Token<'s>],
     at: usize,
+    /// What is expected at the place.
+    wants: u64,
     /// The first of the statement or the definition around the place.
     start: usize,
     /// The `(` that is open at the place.
     open: usize,
     /// The `(` of the parentheses that end right before the place.
     group: usize,
-}
-
-/// Whether a member is in a set.
-fn has(set: u64, member: u8) -> bool {
-    set.wrapping_shr(u32::from(member)) & 1 == 1
-}
-
-/// The kind of a token, without what it holds.
-fn class_of(kind: Kind<'_>) -> Class {
-    match kind {
-        Kind::Name(_) => Class::Name,
-        Kind::Number(_) => Class::Number,
-        Kind::Text(_) => Class::Text,
-        Kind::Character(_) => Class::Character,
-        Kind::DictionaryWord(_) => Class::DictionaryWord,
-        Kind::Reserved(_) => Class::Reserved,
-        Kind::Sign(_) => Class::Sign,
-        Kind::End => Class::End,
-    }
-}
-
-/// Whether the token of a number is of a kind in a set.
-fn is_of(tokens: &[Token<'_>], number: usize, kinds: Kinds) -> bool {
-    let kind = kind_at(tokens, number);
-    has(kinds.classes, class_of(kind) as u8)
-        || match kind {
-            Kind::Sign(sign) => has(kinds.signs, sign as u8),
-            Kind::Reserved(word) => has(kinds.words, word as u8),
-            _ => false,
-        }
-}
-
-/// Whether the token of a number is one of some names, with a space between two of them.
-fn is_listed(tokens: &[Token<'_>], number: usize, names: &str) -> bool {
-    for name in names.split(' ') {
-        if is_named(tokens, number, name.as_bytes()) {
-            return true;
-        }
-    }
-    false
-}
-
-/// Whether the token of a number is a name that a definition gives, of what is in a set.
-fn is_known(tokens: &[Token<'_>], number: usize, set: u64) -> bool {
-    match known_as(tokens, number) {
-        Some(Known::File(what)) => has(set, what as u8),
-        _ => false,
-    }
-}
-
-/// Whether the token of a number is the `)` of parentheses after a token of a kind in a set.
-fn closes(tokens: &[Token<'_>], number: usize, kinds: Kinds) -> bool {
-    is_of(tokens, before(group_at(tokens, number), 1), kinds)
-}
-
-/// The number of the `(` of the parentheses that end with the token of a number.
-fn group_at(tokens: &[Token<'_>], close: usize) -> usize {
-    if is_sign(tokens, close, Sign::CloseParenthesis) {
-        last_open(tokens, close, Sign::OpenParenthesis, Sign::CloseParenthesis).unwrap_or(
-            usize::MAX,
-        )
-    } else {
-        usize::MAX
-    }
-}
-
-/// How many brackets are closed before the token of a number, of so many after it.
-fn closed_before(tokens: &[Token<'_>], number: usize, closed: usize) -> usize {
-    match kind_at(tokens, number) {
-        Kind::Sign(Sign::CloseParenthesis | Sign::CloseBrace) => closed.saturating_add(1),
-        Kind::Sign(Sign::OpenParenthesis | Sign::OpenBrace) => closed.saturating_sub(1),
-        _ => closed,
-    }
-}
-
-/// Whether the nearest token before that of a number that is of a kind in one of two sets is in the
-/// first. What is in parentheses or blocks of their own may be left out.
-fn is_after(tokens: &[Token<'_>], at: usize, kinds: Kinds, ends: Kinds, is_outside: bool) -> bool {
-    let mut closed: usize = 0;
-    for count in 0..at {
-        let number = before(at, count.saturating_add(1));
-        if closed == 0 && is_of(tokens, number, kinds) {
-            return true;
-        }
-        if closed == 0 && is_of(tokens, number, ends) {
-            return false;
-        }
-        if is_outside {
-            closed = closed_before(tokens, number, closed);
-        }
-    }
-    false
-}
-
-/// Whether a `]` is before the first `;` from the token of a number on.
-fn is_in_brackets(tokens: &[Token<'_>], start: usize) -> bool {
-    for number in start..tokens.len() {
-        if is_sign(tokens, number, Sign::Semicolon) {
-            return false;
-        }
-        if is_sign(tokens, number, Sign::CloseBracket) {
-            return true;
-        }
-    }
-    false
-}
-
-/// Whether the token of a number is among the values of the property `name`.
-fn is_in_names(tokens: &[Token<'_>], at: usize) -> bool {
-    for count in 0..at {
-        let number = before(at, count.saturating_add(1));
-        if is_property(tokens, number) {
-            return is_named(tokens, number, b"name");
-        }
-        if is_sign(tokens, number, Sign::Semicolon) {
-            return false;
-        }
-    }
-    false
+    /// The `{` that is open at the place.
+    brace: usize,
+    /// The last `do` before the place, or the `[` of its routine.
+    last_do: usize,
 }
 
 impl<'t, 's> Place<'t, 's> {
-    /// The place at the token of a number.
-    pub fn at(tokens: &'t [Token<'s>], at: usize) -> Self {
+    /// The place at the token of a number, where something is expected.
+    pub fn new(source: &'t [u8], tokens: &'t [Token<'s>], at: usize, wants: u64) -> Self {
         let start = start_of(tokens, at);
         let open = open_parenthesis(tokens, at).unwrap_or(usize::MAX);
         let group = group_at(tokens, before(at, 1));
+        let brace = last_open(tokens, at, Sign::OpenBrace, Sign::CloseBrace).unwrap_or(usize::MAX);
+        let last_do = last_do(tokens, at);
         Self {
+            source,
             tokens,
             at,
+            wants,
             start,
             open,
             group,
+            brace,
+            last_do,
         }
+    }
+
+    /// The place at the next token.
+    pub fn next(self) -> Self {
+        Self::new(self.source, self.tokens, behind(self.at, 1), self.wants)
     }
 
     /// The number of the token at a spot; a number of none where there is none.
@@ -168,6 +74,7 @@ impl<'t, 's> Place<'t, 's> {
             Spot::Here => self.at,
             Spot::Next => behind(self.at, 1),
             Spot::SecondNext => behind(self.at, 2),
+            Spot::ThirdNext => behind(self.at, 3),
             Spot::BeforeEnd => before(self.start, 2),
             Spot::End => before(self.start, 1),
             Spot::First => self.start,
@@ -176,6 +83,10 @@ impl<'t, 's> Place<'t, 's> {
             Spot::Open => self.open,
             Spot::BeforeOpen => before(self.open, 1),
             Spot::Caller => before(self.group, 1),
+            Spot::Brace => self.brace,
+            Spot::BeforeDo => before(self.last_do, 1),
+            Spot::Do => self.last_do,
+            Spot::AfterDo => behind(self.last_do, 1),
         }
     }
 
@@ -196,11 +107,30 @@ impl<'t, 's> Place<'t, 's> {
             Test::First => number == self.start,
             Test::Continues => number < tokens.len() && start_of(tokens, number) < number,
             Test::EndsOperand => ends_operand(tokens, number),
-            Test::Closes(kinds) => closes(tokens, number, kinds),
+            Test::Closes(kinds) => is_of(tokens, before(group_at(tokens, number), 1), kinds),
             Test::After(kinds, ends) => is_after(tokens, number, kinds, ends, false),
             Test::Outside(kinds, ends) => is_after(tokens, number, kinds, ends, true),
+            Test::Among(kinds) => count_of(tokens, number, self.at, kinds) > 0,
+            Test::Twice(kinds) => count_of(tokens, number, self.at, kinds) > 1,
+            Test::InSwitch => number < tokens.len() && switch_around(tokens, number).is_some(),
+            Test::BeforeNegation => is_negation(bytes_after(self.source, tokens, number)),
+            Test::BeforeInequality => is_inequality(bytes_after(self.source, tokens, number)),
+            _ => self.is_in(test),
+        }
+    }
+
+    /// Whether the place passes a test, whatever the spot.
+    fn is_in(self, test: Test) -> bool {
+        let tokens = self.tokens;
+        match test {
+            Test::Wants(want) => has(self.wants, want as u8),
             Test::InBrackets => is_in_brackets(tokens, self.start),
             Test::InNames => is_in_names(tokens, self.at),
+            Test::InCase => is_case(tokens, self.start, self.at),
+            Test::InConstant => is_in_constant(tokens, self.at),
+            Test::TwoCommas => begins_two_commas(tokens, self.at),
+            Test::AfterElse => ends_else(tokens, before(self.at, 1)),
+            _ => false,
         }
     }
 
@@ -226,12 +156,14 @@ impl<'t, 's> Place<'t, 's> {
             Say::Absent(name, feature) => Some(Advice::Absent(name, feature)),
             Say::Between(spot) => self.word(spot, habit_between(self.text(spot))),
             Say::Beginning(spot) => self.word(spot, habit_at_beginning(self.text(spot))),
+            Say::Inform(spot) => self.word(spot, named(self.text(spot))),
             Say::Operand(spot) => self.word(spot, habit_as_operand(self.text(spot))),
         }
     }
 
-    /// What is told by the first rule that holds and tells something, or ends the table.
-    pub fn told(self, steps: &'static [Step]) -> Option<Advice> {
+    /// What is told by the first rule that holds and tells something, or ends the table; none if no
+    /// rule holds.
+    fn answer(self, steps: &'static [Step]) -> Option<Option<Advice>> {
         let mut holds = true;
         let mut is_any = false;
         for step in steps {
@@ -245,7 +177,7 @@ impl<'t, 's> Place<'t, 's> {
                 Step::Say(say) if is_any => {
                     let told = self.told_by(say);
                     if told.is_some() || matches!(say, Say::Nothing) {
-                        return told;
+                        return Some(told);
                     }
                     is_any = false;
                 }
@@ -253,6 +185,16 @@ impl<'t, 's> Place<'t, 's> {
             }
         }
         None
+    }
+
+    /// What is told by a table.
+    pub fn told(self, steps: &'static [Step]) -> Option<Advice> {
+        self.answer(steps).unwrap_or(None)
+    }
+
+    /// Whether a rule of a table holds that tells nothing.
+    pub fn holds(self, steps: &'static [Step]) -> bool {
+        self.answer(steps).is_some()
     }
 
     /// What is told by the first of some tables that tells something.
