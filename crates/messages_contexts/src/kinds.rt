@@ -33,8 +33,8 @@ macro_rules! kinds {
     (($($class:ident)*) ($($sign:ident)*) ($($word:ident)*)) => {
         $crate::Kinds {
             classes: 0 $(| 1 << $crate::Class::$class as u64)*,
-            signs: 0 $(| 1 << syntax_lexer::Sign::$sign as u64)*,
-            words: 0 $(| 1 << syntax_lexer::Word::$word as u64)*,
+            signs: 0 $(| 1 << $crate::Sign::$sign as u64)*,
+            words: 0 $(| 1 << $crate::Word::$word as u64)*,
         }
     };
     (Is Value) => { $crate::kinds!(Is Number Character DictionaryWord) };

@@ -31,8 +31,9 @@ pub use statements::{
     begins_line, closes_after, definition_of, is_after_apostrophe, is_in_routine, is_joined,
     last_open, last_word, open_parenthesis, start_of, switch_around,
 };
+pub use syntax_lexer::{Sign, Word};
 pub use tokens::{
-    before, begins_statement, behind, divides_at, ends_within, is_after_word, is_any_named,
-    is_any_sign, is_any_word, is_name, is_named, is_sign, is_text, is_word, kind_at, line_of,
-    text_at,
+    before, begins_statement, behind, divides_at, ends_within, is_after_word, is_name, is_named,
+    is_sign, is_text, is_word, kind_at, line_of, text_at,
 };
+pub use walks::{is_in_names, is_listed};

@@ -28,42 +28,6 @@ pub fn is_word(tokens: &[Token<'_>], at: usize, word: Word) -> bool {
     }
 }
 
-/// Whether the token of a number is one of some signs.
-pub fn is_any_sign(tokens: &[Token<'_>], at: usize, signs: &[Sign]) -> bool {
-    match kind_at(tokens, at) {
-        Kind::Sign(found) => has_sign(signs, found),
-        _ => false,
-    }
-}
-
-/// Whether the token of a number is one of some reserved words.
-pub fn is_any_word(tokens: &[Token<'_>], at: usize, words: &[Word]) -> bool {
-    match kind_at(tokens, at) {
-        Kind::Reserved(found) => has_word(words, found),
-        _ => false,
-    }
-}
-
-/// Whether a sign is one of some.
-fn has_sign(signs: &[Sign], found: Sign) -> bool {
-    for sign in signs {
-        if *sign as u8 == found as u8 {
-            return true;
-        }
-    }
-    false
-}
-
-/// Whether a reserved word is one of some.
-fn has_word(words: &[Word], found: Word) -> bool {
-    for word in words {
-        if *word as u8 == found as u8 {
-            return true;
-        }
-    }
-    false
-}
-
 /// Whether the token of a number is a name.
 pub fn is_name(tokens: &[Token<'_>], at: usize) -> bool {
     match kind_at(tokens, at) {
@@ -86,16 +50,6 @@ pub fn is_named(tokens: &[Token<'_>], at: usize, text: &[u8]) -> bool {
         Some(token) => token.text.eq_ignore_ascii_case(text),
         None => false,
     }
-}
-
-/// Whether the token of a number is one of these names: capital and small letters are the same.
-pub fn is_any_named(tokens: &[Token<'_>], at: usize, texts: &[&[u8]]) -> bool {
-    for text in texts {
-        if is_named(tokens, at, text) {
-            return true;
-        }
-    }
-    false
 }
 
 /// The number of the token that stands so many before one; a number of none where none does.
