@@ -25,11 +25,11 @@ use Rattle.checker_objects.specs.Objects.{object_trees}
 use Rattle.checker.specs.Programs.{limit_breaches, locals_breaches, directive_breaches, directives_breaches, main_key}
 use Rattle.checker.specs.Programs.{first_routine, position_or, main_breaches, has_text, abbreviation_breaches}
 use Rattle.checker.specs.Programs.{abbreviations_breaches, program_breaches, routine_trees}
-use Rattle.messages_breaches.proofs.Sounds.{Sounds, nothing, one, join, if_then, Stand, first, after}
-use Rattle.messages_breaches.proofs.Names.{EachName, twice_sounds}
-use Rattle.messages_breaches.proofs.Values.{initial_sounds, named_sounds}
-use Rattle.messages_breaches.proofs.Directives.{EachText, EachObject, DirectiveAt, directive_in, texts_in}
-use Rattle.messages_breaches.proofs.Objects.{array_values_sounds, object_sounds, standing_sounds}
+use Rattle.messages_diagnosis.proofs.Sounds.{Sounds, nothing, one, join, if_then, Stand, first, after}
+use Rattle.messages_diagnosis.proofs.Names.{EachName, twice_sounds}
+use Rattle.messages_diagnosis.proofs.Values.{initial_sounds, named_sounds}
+use Rattle.messages_diagnosis.proofs.Directives.{EachText, EachObject, DirectiveAt, directive_in, texts_in}
+use Rattle.messages_diagnosis.proofs.Objects.{array_values_sounds, object_sounds, standing_sounds}
 
 module _ (P : Position → Type 0) where
   -- ---- directives

@@ -16,9 +16,9 @@ use Rattle.checker_names.specs.declared.binding.Binding.{Binding}
 use Rattle.checker_names.specs.declared.breach.Breach.{Breach}
 use Rattle.checker_names.specs.Names.{name_of, is_place}
 use Rattle.checker_values.specs.Expressions.{breaches, all_breaches, left_breaches, assigned_breaches, count}
-use Rattle.messages_breaches.proofs.Sounds.{Sounds, nothing, one, join, Stand, first, after}
-use Rattle.messages_breaches.proofs.Names.{value_sounds, call_sounds, array_sounds, property_sounds, tested_sounds}
-use Rattle.messages_breaches.proofs.Names.{target_sounds}
+use Rattle.messages_diagnosis.proofs.Sounds.{Sounds, nothing, one, join, Stand, first, after}
+use Rattle.messages_diagnosis.proofs.Names.{value_sounds, call_sounds, array_sounds, property_sounds, tested_sounds}
+use Rattle.messages_diagnosis.proofs.Names.{target_sounds}
 
 module _ (P : Position → Type 0) (look : List ℕ → Option Binding) where
   -- an expression, with the tokens behind it; and the name that it is, if it is one

@@ -16,10 +16,10 @@ use Rattle.syntax_directives.specs.Grammar.{texts_stop, texts_next}
 use Rattle.meaning.specs.declared.around.Around.{Around}
 use Rattle.checker_names.specs.declared.binding.Binding.{Binding}
 use Rattle.checker_statements.specs.Statements.{statements_breaches}
-use Rattle.messages_breaches.proofs.Sounds.{Sounds, Stand, first, after}
-use Rattle.messages_breaches.proofs.Names.{EachName}
-use Rattle.messages_breaches.proofs.Values.{KnownAt, OptionalAt, known_K}
-use Rattle.messages_breaches.proofs.Statements.{sound_Ss}
+use Rattle.messages_diagnosis.proofs.Sounds.{Sounds, Stand, first, after}
+use Rattle.messages_diagnosis.proofs.Names.{EachName}
+use Rattle.messages_diagnosis.proofs.Values.{KnownAt, OptionalAt, known_K}
+use Rattle.messages_diagnosis.proofs.Statements.{sound_Ss}
 
 module _ (P : Position → Type 0) where
   abbrev pub EachPosition : List Position → Type 0

@@ -15,7 +15,7 @@ use Rattle.checker_values.specs.Literals.{constant_breaches, later_breaches, ear
 use Rattle.checker_statements.specs.Statements.{loop_breaches}
 use Rattle.checker_statements.specs.Buffers.{is_of_bytes, is_array, buffer_breaches, same_breaches}
 use Rattle.checker_objects.specs.Objects.{parent_breaches}
-use Rattle.messages_breaches.proofs.Sounds.{Sounds, nothing, one, join, if_then}
+use Rattle.messages_diagnosis.proofs.Sounds.{Sounds, nothing, one, join, if_then}
 
 module _ {P : Position → Type 0} (p : Position) (h : P p) where
   pub value_sounds : (o : Option Binding) → Sounds P (value_breaches p o)

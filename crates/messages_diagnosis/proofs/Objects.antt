@@ -21,11 +21,11 @@ use Rattle.checker_objects.specs.Objects as objects
 use Rattle.checker_objects.specs.Objects.{Open, excess_breaches, value_breaches, provided_breaches, property_name}
 use Rattle.checker_objects.specs.Objects.{given_breaches, short_breaches, object_breaches, above_of, opened, is_next}
 use Rattle.checker_objects.specs.Objects.{arrow_breaches, named_parent_breaches, standing_from}
-use Rattle.messages_breaches.proofs.Sounds.{Sounds, nothing, one, join, if_then}
-use Rattle.messages_breaches.proofs.Names.{EachName, repeated_each, attribute_sounds, property_sounds, parent_sounds}
-use Rattle.messages_breaches.proofs.Values.{literal_sounds}
-use Rattle.messages_breaches.proofs.Directives.{EachPosition, EachValue, TextAt, NameAt, EachProperty, ObjectAt}
-use Rattle.messages_breaches.proofs.Directives.{EachObject}
+use Rattle.messages_diagnosis.proofs.Sounds.{Sounds, nothing, one, join, if_then}
+use Rattle.messages_diagnosis.proofs.Names.{EachName, repeated_each, attribute_sounds, property_sounds, parent_sounds}
+use Rattle.messages_diagnosis.proofs.Values.{literal_sounds}
+use Rattle.messages_diagnosis.proofs.Directives.{EachPosition, EachValue, TextAt, NameAt, EachProperty, ObjectAt}
+use Rattle.messages_diagnosis.proofs.Directives.{EachObject}
 
 module _ (P : Position → Type 0) (whole : Table) where
   -- ---- arrays

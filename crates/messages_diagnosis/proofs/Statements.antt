@@ -24,10 +24,10 @@ use Rattle.checker_values.specs.Temporaries.{need}
 use Rattle.checker_statements.specs.Statements.{room_breaches, outside_breaches, whole_breaches, part_breaches}
 use Rattle.checker_statements.specs.Statements.{heading_need, item_breaches, flag_breaches, move_need}
 use Rattle.checker_statements.specs.Statements.{statement_breaches, statements_breaches, cases_breaches}
-use Rattle.messages_breaches.proofs.Sounds.{Sounds, nothing, one, join, if_then, Stand, first, after}
-use Rattle.messages_breaches.proofs.Names.{attribute_sounds, loop_sounds, buffer_sounds, same_sounds}
-use Rattle.messages_breaches.proofs.Expressions.{sound_E, sound_E1, sound_E3}
-use Rattle.messages_breaches.proofs.Values.{sound_Ranges}
+use Rattle.messages_diagnosis.proofs.Sounds.{Sounds, nothing, one, join, if_then, Stand, first, after}
+use Rattle.messages_diagnosis.proofs.Names.{attribute_sounds, loop_sounds, buffer_sounds, same_sounds}
+use Rattle.messages_diagnosis.proofs.Expressions.{sound_E, sound_E1, sound_E3}
+use Rattle.messages_diagnosis.proofs.Values.{sound_Ranges}
 
 module _ (P : Position → Type 0) where
   room_sounds : (p : Position) → P p → (n : ℕ) → Sounds P (room_breaches p n)

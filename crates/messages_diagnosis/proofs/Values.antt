@@ -11,8 +11,8 @@ use Rattle.checker_names.specs.declared.binding.Binding.{Binding}
 use Rattle.checker_names.specs.Names.{Table, key_of, in_table}
 use Rattle.checker_values.specs.Literals.{literal_breaches, initial_breaches, named_breaches}
 use Rattle.checker_statements.specs.Statements.{known_breaches, range_breaches}
-use Rattle.messages_breaches.proofs.Sounds.{Sounds, nothing, join, Stand, first, after}
-use Rattle.messages_breaches.proofs.Names.{constant_sounds, earlier_sounds}
+use Rattle.messages_diagnosis.proofs.Sounds.{Sounds, nothing, join, Stand, first, after}
+use Rattle.messages_diagnosis.proofs.Names.{constant_sounds, earlier_sounds}
 
 module _ (P : Position → Type 0) where
   -- where the name is that a value may be
