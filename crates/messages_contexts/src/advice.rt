@@ -14,13 +14,3 @@ pub enum Advice {
     /// What to write, or to leave out.
     Do(&'static str),
 }
-
-/// The first of these that is told.
-pub fn first_of(told: &[Option<Advice>]) -> Option<Advice> {
-    for advice in told {
-        if advice.is_some() {
-            return *advice;
-        }
-    }
-    None
-}

@@ -1,16 +1,13 @@
 //! Signs of other languages, which are written with two or three signs of this one.
 
-use crate::advice::Advice;
-use crate::places::Place;
-use crate::rules::Say::{Absent, Do, Nothing};
-use crate::rules::{Rule, rules};
+use messages_contexts::Say::{Absent, Do, Nothing};
+use messages_contexts::{Step, rules};
 use messages_features::{ASSIGNING_OPERATORS, SUPERCLASSES};
-use syntax_lexer::{Sign, Token};
 
 /// What is told of signs that are meant to begin a comment: `//` or `/*`, and where a statement
 /// begins `(*`, `--` with a blank after it, a `;` that begins a line and ends nothing, with more
 /// after it, or a `{` that begins a line, with an unknown name after it.
-static COMMENTS: &[Rule] = rules! {
+pub static COMMENTS: &[Step] = rules! {
     Here[Joined] Last[Sign Slash] Here[Sign Slash Star]
         | Here[Joined] Last[Sign OpenParenthesis] Here[Sign Star] Last[First]
         | Next[Joined] Here[Sign Slash] Next[Sign Slash Star]
@@ -18,17 +15,17 @@ static COMMENTS: &[Rule] = rules! {
         | First[Sign Decrement] Second[not Joined] Second[not BeginsLine]
         | Here[Sign Semicolon] Here[BeginsLine] Next[not BeginsLine] Here[First]
         | End[Sign Semicolon] End[BeginsLine] First[not BeginsLine] BeforeEnd[Is End]
-        | End[Sign Semicolon] End[BeginsLine] First[not BeginsLine] BeforeEnd[Divider]
-        | End[Sign OpenBrace] End[BeginsLine] First[not BeginsLine] BeforeEnd[Divider] First[Unknown]
+        | End[Sign Semicolon] End[BeginsLine] First[not BeginsLine] BeforeEnd[Is Divider]
+        | End[Sign OpenBrace] End[BeginsLine] First[not BeginsLine] BeforeEnd[Is Divider] First[Unknown]
         => Do("a comment begins with '!'"),
 };
 
 /// What is told of two signs that are one in another language, but for `= =` outside parentheses and
 /// `<<` that begins an action.
-static PAIRS: &[Rule] = rules! {
+pub static PAIRS: &[Step] = rules! {
     Last[not Is Sign] | Here[not Is Sign] => Nothing,
-    Last[Sign Assign] Here[Sign Assign] Here[not Enclosed] | Last[Sign Less] Last[First] => Nothing,
-    Last[Sign Slash] Here[Sign Assign] Here[Within If] => Do("write '~='"),
+    Last[Sign Assign] Here[Sign Assign] Open[not Sign OpenParenthesis] | Last[Sign Less] Last[First] => Nothing,
+    Last[Sign Slash] Here[Sign Assign] BeforeOpen[Word If] => Do("write '~='"),
     // Side by side.
     Here[Joined] Last[Sign Equal] Here[Sign Assign] => Do("write '=='"),
     Here[Joined] Last[Sign NotEqual] Here[Sign Assign] | Here[Joined] Last[Sign Less] Here[Sign Greater]
@@ -47,34 +44,10 @@ static PAIRS: &[Rule] = rules! {
     Here[Sign Assign] Last[Sign Less] => Do("write '<=' without a blank"),
     Here[Sign Assign] Last[Sign Greater] => Do("write '>=' without a blank"),
     Here[Sign Assign] Last[Sign Tilde] => Do("write '~=' without a blank"),
-    Here[Sign Assign] Last[Operator] => Absent("an operator with '='", ASSIGNING_OPERATORS),
+    Here[Sign Assign] Last[Is Operator] => Absent("an operator with '='", ASSIGNING_OPERATORS),
     Last[Sign Ampersand] Here[Sign Ampersand] => Do("write '&&' without a blank"),
     Last[Sign Bar] Here[Sign Bar] => Do("write '||' without a blank"),
     Last[Sign Minus] Here[Sign Greater] => Do("write '->' without a blank"),
     Last[Sign Minus] Here[Sign Arrow] | Last[Sign Decrement] Here[Sign Greater]
         => Do("write '-->' without a blank"),
 };
-
-/// What is told of signs that are meant to begin a comment at the token of a number.
-pub fn written_as_comment(tokens: &[Token<'_>], at: usize) -> Option<Advice> {
-    Place::at(tokens, at).told(COMMENTS)
-}
-
-/// What is told of the token of a number and the one before it, if both are signs.
-pub fn pair_at(tokens: &[Token<'_>], at: usize) -> Option<Advice> {
-    Place::at(tokens, at).told(PAIRS)
-}
-
-/// Whether a sign is an operator that other languages join with `=`.
-pub fn joins_equals(sign: Sign) -> bool {
-    matches!(
-        sign,
-        Sign::Plus
-            | Sign::Minus
-            | Sign::Star
-            | Sign::Slash
-            | Sign::Percent
-            | Sign::Ampersand
-            | Sign::Bar
-    )
-}
