@@ -2,9 +2,9 @@
 
 - in the README of a crate the paragraph that begins with `Stage:`: its part of crates.txt, the crates that it stands
   on and those that stand on it; of each, only those with no other between them
-- in docs/ARCHITECTURE.md the crates by their parts, each with the first line of its README
-- in docs/CHANGING.md the crates by their parts, and the table of what a change costs: how many crates, and minutes
-- in docs/COSTS.md the table of the gate, by the seconds in seconds.txt
+- in docs/ARCHITECTURE.md the crates by their parts
+- in docs/CHANGING.md the table of what a change costs: how many crates, and minutes
+- in docs/COSTS.md the seconds of the gate, by seconds.txt
 - in docs/PROVING.md the number of crates
 - in docs/DIFFERENCES.md the tables of what is missing and of words of other languages, by those of `messages_features`
 - in the README of `rows` how many rows its file `stdin` has, and each of its parts
@@ -80,11 +80,6 @@ def readme_of(name):
     return TOP / "crates" / name / "README.md"
 
 
-def title_of(name):
-    """What the first line of a crate's README says it is."""
-    return readme_of(name).read_text().partition("\n")[0].partition(": ")[2]
-
-
 def linked(names):
     """Links from the README of a crate to those of others."""
     return ", ".join(f"[`{name}`](../{name}/README.md)" for name in names) or "nothing"
@@ -103,11 +98,11 @@ def with_stage(text, crates, name):
 
 def with_crates(text, crates):
     """ARCHITECTURE.md with the crates by their parts."""
-    lines = []
+    lines = [""]
     for part, names in crates.parts.items():
-        lines.append(f"\n### {part}\n")
-        lines += [wrapped(f"- [`{name}`](../crates/{name}/README.md): {title_of(name)}", "  ") for name in names]
-    return between(text, "## Crates\n", "\n## ", "\n".join(lines) + "\n")
+        links = ", ".join(f"[`{name}`](../crates/{name}/README.md)" for name in names)
+        lines.append(wrapped(f"- *{part}*: {links}", "  "))
+    return between(text, "<!-- From crates.txt, by ./lists. -->\n", "<!-- End. -->", "\n".join(lines) + "\n\n")
 
 
 def between(text, first, last, new):
@@ -117,12 +112,9 @@ def between(text, first, last, new):
 
 
 def seconds_of():
-    """What seconds.txt has of each crate: the seconds of its proof and of its edits, or the crate that has them."""
-    text = (TOP / "seconds.txt").read_text()
-    measured = {}
-    for name, proof, edits in re.findall(r"^(\w+): (\d+) (\d+)$", text, re.M):
-        measured[name] = int(proof), int(edits)
-    return measured, dict(re.findall(r"^(\w+): ([a-z]\w*)$", text, re.M))
+    """What seconds.txt has of each crate: the seconds of its proof and of its edits."""
+    rows = re.findall(r"^(\w+): (\d+) (\d+)$", (TOP / "seconds.txt").read_text(), re.M)
+    return {name: (int(proof), int(edits)) for name, proof, edits in rows}
 
 
 def edits_of(name):
@@ -131,27 +123,25 @@ def edits_of(name):
 
 
 def with_seconds(text, crates):
-    """COSTS.md with the table of the gate, and the seconds of what ./build proves."""
-    measured, parts = seconds_of()
-    rows = ["", "| Crate | Proof, seconds | Edits | Seconds of edits |", "|---|---|---|---|"]
-    for name in crates.libraries:
-        proof, edits = measured.get(name, (f"part of `{parts[name]}`" if name in parts else "", 0))
-        rows.append(f"| `{name}` | {proof} | {edits_of(name) or ''} | {edits or ''} |")
-    sums = [sum(column) for column in zip(*measured.values())]
-    rows += [f"| all | {sums[0]} | {sum(map(edits_of, crates.libraries))} | {sums[1]} |", "", ""]
-    text = between(text, "by ./lists. -->\n", "<!-- End", "\n".join(rows))
-    return re.sub(r"(need, )[\d,]+( seconds of these)", rf"\g<1>{seconds_of_build(crates):,}\2", text)
+    """COSTS.md with the seconds of all proofs and edits, and of what ./build proves."""
+    proofs, edits = (sum(column) for column in zip(*seconds_of().values()))
+    return with_figures(text, (
+        (r"\| Checks of all crates \| ", f"{proofs:,}", r" \|"),
+        (r"\n\| ", sum(map(edits_of, crates.libraries)), r" must-fail edits"),
+        (r"must-fail edits \| ", f"{edits:,}", r" \|"),
+        (r"proves \| ", f"{seconds_of_build(crates):,}", r" \|"),
+    ))
 
 
 def seconds_of_build(crates):
     """The seconds of what ./build proves."""
-    measured, _ = seconds_of()
+    measured = seconds_of()
     return sum(measured[name][0] for name in crates.of_programs() & set(measured))
 
 
 def seconds_of_gate():
     """The seconds of all proofs and edits."""
-    return sum(map(sum, seconds_of()[0].values()))
+    return sum(map(sum, seconds_of().values()))
 
 
 def tens_of_minutes(seconds):
@@ -229,7 +219,7 @@ def figures_of_readme(crates):
 
 def with_costs(text, crates):
     """CHANGING.md with the numbers of the table of what a change costs."""
-    measured, _ = seconds_of()
+    measured = seconds_of()
 
     def row(found):
         above = crates.with_above(found["name"])
@@ -237,14 +227,6 @@ def with_costs(text, crates):
         return f"| {found['names']} | {len(above)} | {minutes} |"
 
     return re.sub(r"^\| (?P<names>`(?P<name>\w+)`.*?) \| \d+ \| \d+ \|", row, text, flags=re.M)
-
-
-def with_map(text, crates):
-    """CHANGING.md with the crates by their parts."""
-    lines = []
-    for part, names in crates.parts.items():
-        lines.append(wrapped(f"- *{part}*: {', '.join(f'`{name}`' for name in names)}", "  "))
-    return between(text, "<!-- From crates.txt, by ./lists. -->\n", "<!-- End. -->", "\n".join(lines) + "\n")
 
 
 def with_number(text, crates):
@@ -270,6 +252,7 @@ def features(name):
     table = (TOP / f"crates/messages_features/src/{name}.rt").read_text()
     for feature in re.findall(r"= &Feature \{(.*?)\n\};", table, re.S):
         missing, instead, section = (field_of(feature, field) for field in ("missing", "instead", "section"))
+        instead = "leave it out" if instead == "nothing" else instead
         instead = re.sub(r"(examples/(\w+)\.inf)", r"[\2](../\1)", instead)
         yield missing, instead, f"[{section}](#{section.lower()})" if section else ""
 
@@ -304,7 +287,7 @@ def documents():
         yield readme_of(name), now, with_rows(wanted) if name == ROWS else wanted
     for name, change in (
         ("docs/ARCHITECTURE.md", with_crates),
-        ("docs/CHANGING.md", lambda text, crates: with_costs(with_map(text, crates), crates)),
+        ("docs/CHANGING.md", with_costs),
         ("docs/COSTS.md", with_seconds),
         ("docs/PROVING.md", with_number),
         ("docs/DIFFERENCES.md", with_features),

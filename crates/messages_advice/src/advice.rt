@@ -1,34 +1,75 @@
 //! Advice, and the order in which it is sought.
 
-use crate::features::{meant_at, meant_by_comment, meant_by_quote, named_feature};
-use crate::loops::{in_loop, late_in_for, misplaced_until};
-use crate::statements::{in_statement, no_statement};
-use crate::switches::{between_signs, in_switch_or_if};
-use messages_contexts::{is_in_routine, is_named, start_of};
-use messages_definitions::{Advice, first_of, habit_at, in_definition, written_as_comment};
+use crate::definitions::in_definition;
+use crate::expressions::{BEFORE_OPERANDS, INDEXES, OPERATORS, PARTS, WORDS_OF_OBJECTS};
+use crate::features::{MEANT, NEGATIONS, QUOTES};
+use crate::habits::{FEATURES, HABITS};
+use crate::late::{NAMES_BESIDE, NO_DIRECTIVES, OTHERS, VALUES_ALONE};
+use crate::loops::{FOR_LOOPS, LATE_LOOPS, OTHER_LOOPS, UNTIL};
+use crate::prints::{FORMS, FORMS_OF_ITEMS, ITEMS, ITEMS_BESIDE, WITHOUT_PRINT};
+use crate::signs::{COMMENTS, PAIRS};
+use crate::statements::{BEGINNINGS, OBJECT_STATEMENTS, WHOLE_STATEMENTS};
+use crate::switches::{CASES, COLONS, ELSES, NO_PAIRS, VALUES_OF_CASES};
+use messages_contexts::{Advice, Place, Want, is_in_routine};
 use messages_expected::Grouped;
-use messages_expressions::{absent_form, in_expression, in_print, items_beside};
-use syntax_lexer::Token;
+use syntax_lexer::{Sign, Token, Word};
 
-/// What is told of a token in a routine.
-fn in_routine(tokens: &[Token<'_>], at: usize, wanted: Option<&Grouped>) -> Option<Advice> {
-    first_of(&[
-        between_signs(tokens, at),
-        in_loop(tokens, at, wanted),
-        in_switch_or_if(tokens, at),
-        in_print(tokens, at),
-        in_expression(tokens, at),
-        in_statement(tokens, at),
-    ])
+/// A set of one member if something is expected, and else of none.
+fn wants(want: Want, is_expected: bool) -> u64 {
+    u64::from(is_expected).wrapping_shl(u32::from(want as u8))
 }
 
-/// What is told of words of Inform 6 and of other languages in a routine. `endif` is one of both.
-fn within(tokens: &[Token<'_>], at: usize) -> Option<Advice> {
-    if is_named(tokens, at, b"endif") || is_named(tokens, start_of(tokens, at), b"endif") {
-        habit_at(tokens, at)
+/// What of these kinds is expected.
+fn wants_of(wanted: Option<&Grouped>) -> u64 {
+    let Some(grouped) = wanted else {
+        return 0;
+    };
+    wants(Want::Until, grouped.is_only_word(Word::Until))
+        | wants(Want::Name, grouped.is_only_name())
+        | wants(Want::Value, grouped.has_value())
+        | wants(Want::Text, grouped.has_text())
+        | wants(Want::Operator, grouped.has_operator())
+        | wants(Want::Directive, grouped.has_directive())
+        | wants(Want::End, grouped.has_alone(Sign::Semicolon))
+}
+
+/// What is told of the token at a place and the one before it, if both are signs.
+fn of_pair(place: Place<'_, '_>) -> Option<Advice> {
+    place.told(PAIRS)
+}
+
+/// What is told of two signs side by side that are one in another language: of the token at a place
+/// and the one before it or after it.
+fn between_signs(place: Place<'_, '_>) -> Option<Advice> {
+    if place.holds(NO_PAIRS) {
+        None
     } else {
-        named_feature(tokens, at).or(habit_at(tokens, at))
+        of_pair(place).or(of_pair(place.next()))
     }
+}
+
+/// What is told of a token in a routine.
+fn in_routine(place: Place<'_, '_>) -> Option<Advice> {
+    between_signs(place).or(place.first_told(&[
+        UNTIL,
+        FOR_LOOPS,
+        OTHER_LOOPS,
+        ELSES,
+        CASES,
+        VALUES_OF_CASES,
+        COLONS,
+        WITHOUT_PRINT,
+        ITEMS,
+        FORMS_OF_ITEMS,
+        INDEXES,
+        WORDS_OF_OBJECTS,
+        PARTS,
+        OPERATORS,
+        BEFORE_OPERANDS,
+        WHOLE_STATEMENTS,
+        BEGINNINGS,
+        OBJECT_STATEMENTS,
+    ]))
 }
 
 /// What is wrong at the token of a number that does not fit, in the place of which these kinds are
@@ -39,37 +80,30 @@ pub fn advice_at(
     at: usize,
     wanted: Option<&Grouped>,
 ) -> Option<Advice> {
-    let general = meant_by_comment(source, tokens, at)
-        .or(written_as_comment(tokens, at))
-        .or(meant_by_quote(tokens, at));
-    if general.is_some() {
-        return general;
+    let place = Place::new(source, tokens, at, wants_of(wanted));
+    let told = place
+        .first_told(&[NEGATIONS, COMMENTS, QUOTES])
+        .or(in_definition(place))
+        .or(place.first_told(&[FORMS, FEATURES, HABITS]));
+    if told.is_some() {
+        return told;
     }
-    if let Some(told) = in_definition(tokens, at) {
-        return Some(told);
-    }
-    let is_within = is_in_routine(tokens, at);
-    let named = if is_within {
-        absent_form(tokens, at).or(within(tokens, at))
+    let told = if is_in_routine(tokens, at) {
+        in_routine(place)
     } else {
-        named_feature(tokens, at).or(habit_at(tokens, at))
+        None
     };
-    if named.is_some() {
-        return named;
-    }
-    if is_within {
-        in_routine(tokens, at, wanted).or(meant_at(tokens, at, wanted))
-    } else {
-        meant_at(tokens, at, wanted)
-    }
+    told.or(of_pair(place)).or(place.told(MEANT))
 }
 
 /// What is wrong at a token that does not fit, and for which no small change would do.
 pub fn late_advice_at(tokens: &[Token<'_>], at: usize, wanted: Option<&Grouped>) -> Option<Advice> {
-    first_of(&[
-        misplaced_until(tokens, at),
-        late_in_for(tokens, at),
-        items_beside(tokens, at),
-        no_statement(tokens, at, wanted),
+    Place::new(b"", tokens, at, wants_of(wanted)).first_told(&[
+        LATE_LOOPS,
+        ITEMS_BESIDE,
+        NO_DIRECTIVES,
+        NAMES_BESIDE,
+        VALUES_ALONE,
+        OTHERS,
     ])
 }

@@ -3,8 +3,14 @@
 #![tactic(auto)]
 
 mod advice;
+mod definitions;
+mod expressions;
 mod features;
+mod habits;
+mod late;
 mod loops;
+mod prints;
+mod signs;
 mod statements;
 mod switches;
 

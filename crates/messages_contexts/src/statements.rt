@@ -2,9 +2,7 @@
 //! place begin a program.
 
 use crate::definitions::{Definition, begun_at};
-use crate::tokens::{
-    before, behind, divides_at, is_any_word, is_name, is_sign, is_word, kind_at, line_of,
-};
+use crate::tokens::{before, behind, divides_at, is_name, is_sign, is_word, kind_at, line_of};
 use syntax_lexer::{Kind, Sign, Token, Word};
 
 /// The number of the first token of the statement or definition in which the token of a number is:
@@ -75,28 +73,20 @@ pub fn open_parenthesis(tokens: &[Token<'_>], at: usize) -> Option<usize> {
     }
 }
 
-/// Whether the token of a number is in the parentheses of a reserved word.
-pub fn is_in_parentheses_of(tokens: &[Token<'_>], at: usize, word: Word) -> bool {
-    match open_parenthesis(tokens, at) {
-        Some(open) => is_word(tokens, before(open, 1), word),
-        None => false,
+/// The number of the `(` of the parentheses that end with the token of a number.
+pub fn group_at(tokens: &[Token<'_>], close: usize) -> usize {
+    if is_sign(tokens, close, Sign::CloseParenthesis) {
+        last_open(tokens, close, Sign::OpenParenthesis, Sign::CloseParenthesis).unwrap_or(
+            usize::MAX,
+        )
+    } else {
+        usize::MAX
     }
 }
 
 /// Whether the token of a number is a `)` whose `(` is after a reserved word.
 pub fn closes_after(tokens: &[Token<'_>], at: usize, word: Word) -> bool {
-    closes_after_any(tokens, at, &[word])
-}
-
-/// Whether the token of a number is a `)` whose `(` is after one of some reserved words.
-pub fn closes_after_any(tokens: &[Token<'_>], at: usize, words: &[Word]) -> bool {
-    if !is_sign(tokens, at, Sign::CloseParenthesis) {
-        return false;
-    }
-    match last_open(tokens, at, Sign::OpenParenthesis, Sign::CloseParenthesis) {
-        Some(open) => is_any_word(tokens, before(open, 1), words),
-        None => false,
-    }
+    is_word(tokens, before(group_at(tokens, at), 1), word)
 }
 
 /// The number of the `{` of the `switch` whose cases are around the token of a number, with no other
@@ -122,30 +112,6 @@ pub fn last_word(tokens: &[Token<'_>], at: usize, word: Word) -> Option<usize> {
         }
     }
     None
-}
-
-/// Whether one of some reserved words is before the token of a number in its statement.
-pub fn has_word_before(tokens: &[Token<'_>], at: usize, words: &[Word]) -> bool {
-    for count in 0..at {
-        let number = before(at, count.saturating_add(1));
-        if is_any_word(tokens, number, words) {
-            return true;
-        }
-        if divides_at(tokens, number) {
-            return false;
-        }
-    }
-    false
-}
-
-/// Whether a reserved word is among the tokens from one number to another.
-pub fn has_word_within(tokens: &[Token<'_>], from: usize, to: usize, word: Word) -> bool {
-    for number in from..to {
-        if is_word(tokens, number, word) {
-            return true;
-        }
-    }
-    false
 }
 
 /// Whether the token of a number directly follows the one before it.

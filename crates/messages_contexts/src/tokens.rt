@@ -1,5 +1,7 @@
 //! The tokens around a place, each by its number.
 
+use crate::kinds;
+use crate::kinds::{Kinds, is_of};
 use syntax_lexer::{Kind, Sign, Token, Word};
 
 /// What the token of a number is; the end of the source where there is none.
@@ -26,42 +28,6 @@ pub fn is_word(tokens: &[Token<'_>], at: usize, word: Word) -> bool {
     }
 }
 
-/// Whether the token of a number is one of some signs.
-pub fn is_any_sign(tokens: &[Token<'_>], at: usize, signs: &[Sign]) -> bool {
-    match kind_at(tokens, at) {
-        Kind::Sign(found) => has_sign(signs, found),
-        _ => false,
-    }
-}
-
-/// Whether the token of a number is one of some reserved words.
-pub fn is_any_word(tokens: &[Token<'_>], at: usize, words: &[Word]) -> bool {
-    match kind_at(tokens, at) {
-        Kind::Reserved(found) => has_word(words, found),
-        _ => false,
-    }
-}
-
-/// Whether a sign is one of some.
-fn has_sign(signs: &[Sign], found: Sign) -> bool {
-    for sign in signs {
-        if *sign as u8 == found as u8 {
-            return true;
-        }
-    }
-    false
-}
-
-/// Whether a reserved word is one of some.
-fn has_word(words: &[Word], found: Word) -> bool {
-    for word in words {
-        if *word as u8 == found as u8 {
-            return true;
-        }
-    }
-    false
-}
-
 /// Whether the token of a number is a name.
 pub fn is_name(tokens: &[Token<'_>], at: usize) -> bool {
     match kind_at(tokens, at) {
@@ -86,16 +52,6 @@ pub fn is_named(tokens: &[Token<'_>], at: usize, text: &[u8]) -> bool {
     }
 }
 
-/// Whether the token of a number is one of these names: capital and small letters are the same.
-pub fn is_any_named(tokens: &[Token<'_>], at: usize, texts: &[&[u8]]) -> bool {
-    for text in texts {
-        if is_named(tokens, at, text) {
-            return true;
-        }
-    }
-    false
-}
-
 /// The number of the token that stands so many before one; a number of none where none does.
 pub fn before(at: usize, count: usize) -> usize {
     at.checked_sub(count).unwrap_or(usize::MAX)
@@ -114,28 +70,19 @@ pub fn line_of(tokens: &[Token<'_>], at: usize) -> usize {
     }
 }
 
-/// Whether a statement ends or begins with a sign.
-fn divides(sign: Sign) -> bool {
-    matches!(sign, Sign::Semicolon | Sign::OpenBrace | Sign::CloseBrace)
-}
-
 /// Whether a statement ends or begins with the token of a number.
 pub fn divides_at(tokens: &[Token<'_>], at: usize) -> bool {
-    match kind_at(tokens, at) {
-        Kind::Sign(sign) => divides(sign),
-        _ => false,
-    }
+    is_of(tokens, at, kinds!(Is Divider))
 }
 
 /// Whether the token of a number may begin a statement or a directive: it is the first of the
 /// source, or after the end of a statement, of a list of cases, of a condition, or of the first half
 /// of an `if` or a `do`.
 pub fn begins_statement(tokens: &[Token<'_>], at: usize) -> bool {
-    let last = before(at, 1);
-    at == 0
-        || divides_at(tokens, last)
-        || is_any_sign(tokens, last, &[Sign::Colon, Sign::CloseParenthesis])
-        || is_any_word(tokens, last, &[Word::Else, Word::Do])
+    const ENDS: Kinds = kinds!(
+        Sign Semicolon OpenBrace CloseBrace Colon CloseParenthesis, Word Else Do
+    );
+    at == 0 || is_of(tokens, before(at, 1), ENDS)
 }
 
 /// The bytes of the token of a number. None if there is no such token.

@@ -16,8 +16,8 @@ use Rattle.syntax_lexer.proofs.Lines.{AllInLine, tokens_in_line, fault_in_line}
 use Rattle.checker_names.specs.declared.breach.Breach.{Breach}
 use Rattle.checker_names.specs.Breaches.{IsAmong}
 use Rattle.checker.specs.Programs.{program_breaches}
-use Rattle.messages_breaches.proofs.Sounds.{is_rule, EachSounds, EachStands, Stand}
-use Rattle.messages_breaches.proofs.Programs.{breaches_stand, heavy_stands}
+use Rattle.messages_diagnosis.proofs.Sounds.{is_rule, EachSounds, EachStands, Stand}
+use Rattle.messages_diagnosis.proofs.Programs.{breaches_stand, heavy_stands}
 use Rattle.messages_places.specs.declared.diagnosis.Diagnosis.{Diagnosis}
 use Rattle.messages_places.specs.declared.place.Place.{Place}
 use Rattle.story.specs.Refused.{lexemes_of, tree_weight}

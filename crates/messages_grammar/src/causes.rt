@@ -5,11 +5,11 @@ use crate::misspelt::misspelt;
 use crate::repairs::{Change, Trial};
 use messages_advice::{advice_at, late_advice_at};
 use messages_contexts::{
-    Definition, around, before, begins_line, begun_at, behind, definition_of, divides_at,
-    ends_within, is_after_word, is_any_word, is_behind_has, is_sign, is_text, is_unknown, is_word,
-    kind_at, last_open, last_word, open_parenthesis, owns_parentheses, start_of, switch_around,
+    Advice, Definition, Kinds, around, before, begins_line, begun_at, behind, definition_of,
+    divides_at, ends_within, is_after_word, is_behind_has, is_of, is_sign, is_text, is_unknown,
+    is_word, kinds, last_open, last_word, open_parenthesis, owns_parentheses, start_of,
+    switch_around,
 };
-use messages_definitions::Advice;
 use messages_expected::Grouped;
 use syntax::{Kind, Sign, Token, Word};
 
@@ -143,59 +143,32 @@ fn is_late_with(tokens: &[Token<'_>], number: usize) -> bool {
     is_word(tokens, with, Word::With) && is_after_has(tokens, number)
 }
 
-/// Whether a sign closes what another opens.
-fn closes(sign: Sign) -> bool {
-    matches!(
-        sign,
-        Sign::CloseParenthesis | Sign::CloseBrace | Sign::CloseBracket
-    )
-}
-
-/// Whether the token of a number closes what a sign opens.
-fn closes_at(tokens: &[Token<'_>], number: usize) -> bool {
-    match kind_at(tokens, number) {
-        Kind::Sign(sign) => closes(sign),
-        _ => false,
-    }
-}
-
 /// Whether the token of a number is the same as the one before it. Signs that close are not asked
 /// for: of two of them both may be right, and one that opens may be missing.
 fn is_repeated(tokens: &[Token<'_>], number: usize) -> bool {
+    const CLOSING: Kinds = kinds!(Sign CloseParenthesis CloseBrace CloseBracket);
     match (tokens.get(before(number, 1)), tokens.get(number)) {
-        (Some(last), Some(token)) => last.text == token.text && !closes_at(tokens, number),
+        (Some(last), Some(token)) => last.text == token.text && !is_of(tokens, number, CLOSING),
         _ => false,
     }
-}
-
-/// Whether a reserved word opens parentheses and is nowhere else.
-fn opens_parentheses(word: Word) -> bool {
-    matches!(word, Word::Parent | Word::Child | Word::Sibling)
 }
 
 /// Whether the token of a number may have been meant as a name, where the one after it does not
 /// fit: it is a word that opens parentheses alone, or a value is assigned to it.
 fn may_be_meant(tokens: &[Token<'_>], number: usize) -> bool {
-    match kind_at(tokens, number) {
-        Kind::Reserved(word) => {
-            opens_parentheses(word) || is_sign(tokens, behind(number, 1), Sign::Assign)
-        }
-        _ => false,
-    }
+    is_of(tokens, number, kinds!(Word Parent Child Sibling))
+        || is_reserved(tokens, number) && is_sign(tokens, behind(number, 1), Sign::Assign)
 }
 
 /// Whether the token of a number is a reserved word.
 fn is_reserved(tokens: &[Token<'_>], number: usize) -> bool {
-    match kind_at(tokens, number) {
-        Kind::Reserved(_) => true,
-        _ => false,
-    }
+    is_of(tokens, number, kinds!(Is Reserved))
 }
 
 /// Whether the token of a number is `(char` or `(object`, as a form of `print` begins.
 fn begins_form(tokens: &[Token<'_>], number: usize) -> bool {
     is_sign(tokens, before(number, 1), Sign::OpenParenthesis)
-        && is_any_word(tokens, number, &[Word::Char, Word::Object])
+        && is_of(tokens, number, kinds!(Word Char Object))
 }
 
 /// Whether the token of a number is a reserved word that may have been meant as a name: it has no
@@ -298,16 +271,8 @@ fn unended_line(trial: &mut Trial<'_, '_>, number: usize) -> Option<usize> {
 
 /// Whether the token of a number may be one too many: a sign, or a reserved word that is no value.
 pub fn may_be_extra(tokens: &[Token<'_>], number: usize) -> bool {
-    match kind_at(tokens, number) {
-        Kind::Sign(_) => true,
-        Kind::Reserved(word) => !is_value(word),
-        _ => false,
-    }
-}
-
-/// Whether a reserved word is a value.
-fn is_value(word: Word) -> bool {
-    matches!(word, Word::True | Word::False | Word::Nothing)
+    is_of(tokens, number, kinds!(Is Sign Reserved))
+        && !is_of(tokens, number, kinds!(Word True False Nothing))
 }
 
 /// Which sign may be missing, if one may, or else whether the token of a number is one too many.

@@ -3,8 +3,8 @@
 use crate::causes::{Cause, END_OF_ROUTINE, SEMICOLON, SIGNS, is_likely, may_be_extra};
 use crate::repairs::{Change, Trial};
 use messages_contexts::{
-    Definition, before, begins_line, begun_at, behind, definition_of, is_any_word, is_in_routine,
-    is_sign, kind_at, start_of,
+    Definition, Kinds, before, begins_line, begun_at, behind, definition_of, is_in_routine, is_of,
+    is_sign, kinds, start_of,
 };
 use syntax::{Kind, Sign, Token, Word};
 
@@ -46,9 +46,8 @@ fn with_sign(trial: &mut Trial<'_, '_>, number: usize) -> Option<Cause> {
 
 /// A sign with which the tokens are a program in the place of that of a number.
 fn other_sign(trial: &mut Trial<'_, '_>, number: usize) -> Option<Sign> {
-    match kind_at(trial.tokens, number) {
-        Kind::Sign(_) => {}
-        _ => return None,
+    if !is_of(trial.tokens, number, kinds!(Is Sign)) {
+        return None;
     }
     for sign in &OTHERS {
         let may_be = !matches!(sign, Sign::Equal) || is_sign(trial.tokens, number, Sign::Assign);
@@ -105,11 +104,10 @@ fn ends_line(tokens: &[Token<'_>], number: usize) -> bool {
 
 /// Whether the token of a number is after a word that parentheses follow.
 fn is_after_condition(tokens: &[Token<'_>], number: usize) -> bool {
-    let last = before(number, 1);
-    is_any_word(
+    is_of(
         tokens,
-        last,
-        &[Word::If, Word::While, Word::Until, Word::Switch],
+        before(number, 1),
+        kinds!(Word If While Until Switch),
     )
 }
 
@@ -130,24 +128,12 @@ fn is_extra(trial: &mut Trial<'_, '_>, number: usize) -> bool {
 /// Whether the token of a number may be one too many before one that does not fit: a sign that
 /// divides or encloses, or a word that begins a part of an object.
 fn may_be_left_out(tokens: &[Token<'_>], number: usize) -> bool {
-    match kind_at(tokens, number) {
-        Kind::Sign(sign) => matches!(
-            sign,
-            Sign::Comma
-                | Sign::Semicolon
-                | Sign::Colon
-                | Sign::OpenParenthesis
-                | Sign::CloseParenthesis
-                | Sign::OpenBrace
-                | Sign::CloseBrace
-                | Sign::CloseBracket
-        ),
-        Kind::Reserved(word) => {
-            matches!(word, Word::With | Word::Has)
-                && matches!(definition_of(tokens, number), Some(Definition::Object))
-        }
-        _ => false,
-    }
+    const SIGNS: Kinds = kinds!(
+        Sign Comma Semicolon Colon OpenParenthesis CloseParenthesis OpenBrace CloseBrace CloseBracket
+    );
+    is_of(tokens, number, SIGNS)
+        || is_of(tokens, number, kinds!(Word With Has))
+            && matches!(definition_of(tokens, number), Some(Definition::Object))
 }
 
 /// The cause of a token that does not fit, and has a number, by another way to write what is before

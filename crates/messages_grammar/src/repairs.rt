@@ -1,6 +1,6 @@
 //! Changes at a token that does not fit, which are tried with the parser.
 
-use messages_contexts::is_any_sign;
+use messages_contexts::{is_of, kinds};
 use std::alloc::{AllocError, Global};
 use syntax::{Kind, Sign, Token, discard, parse_placed};
 use syntax_lexer::NO_MEMORY;
@@ -93,7 +93,7 @@ fn is_after(tokens: &[Token<'_>], offset: usize, number: usize) -> bool {
 /// token of a number on: the first `;` or `{`, or the last token.
 fn end_from(tokens: &[Token<'_>], number: usize) -> usize {
     for at in number..tokens.len() {
-        if is_any_sign(tokens, at, &[Sign::Semicolon, Sign::OpenBrace]) {
+        if is_of(tokens, at, kinds!(Sign Semicolon OpenBrace)) {
             return at;
         }
     }

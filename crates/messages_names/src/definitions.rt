@@ -2,31 +2,16 @@
 
 use crate::wanted::{Wanted, is_in_case, wanted_in};
 use messages_contexts::{
-    Definition, around, before, behind, is_after_word, is_any_named, is_any_sign, is_any_word,
-    is_joined, is_name, is_named, is_property, is_sign, is_unknown, is_word, text_at,
+    Definition, around, before, behind, is_after_word, is_in_names, is_joined, is_listed, is_name,
+    is_named, is_of, is_property, is_sign, is_unknown, kinds, text_at,
 };
 use messages_tokens::{Cut, Quoted};
 use std::alloc::{AllocError, Global};
 use syntax::{Sign, Token, Word};
 
-/// Whether the token of a number is among the values of the property `name`.
-fn is_word_of_object(tokens: &[Token<'_>], at: usize) -> bool {
-    for count in 1..at {
-        let number = before(at, count);
-        if is_property(tokens, number) {
-            return is_named(tokens, number, b"name");
-        }
-        if is_sign(tokens, number, Sign::Semicolon) {
-            return false;
-        }
-    }
-    false
-}
-
 /// Whether the token of a number is compared with what is before it.
 pub fn is_compared(tokens: &[Token<'_>], at: usize) -> bool {
-    let last = before(at, 1);
-    is_any_sign(tokens, last, &[Sign::Equal, Sign::NotEqual]) || is_word(tokens, last, Word::Or)
+    is_of(tokens, before(at, 1), kinds!(Sign Equal NotEqual, Word Or))
 }
 
 /// Whether the token of a number may be meant as a dictionary word: a value of `name` of an object.
@@ -35,7 +20,7 @@ pub fn may_be_word(tokens: &[Token<'_>], at: usize) -> bool {
         Some(found) => {
             matches!(found.what, Definition::Object)
                 && !is_property(tokens, at)
-                && is_word_of_object(tokens, at)
+                && is_in_names(tokens, at)
         }
         None => false,
     }
@@ -65,9 +50,9 @@ fn may_be_local(tokens: &[Token<'_>], at: usize) -> bool {
 fn is_item(tokens: &[Token<'_>], at: usize) -> bool {
     let last = before(at, 1);
     let next = behind(at, 1);
-    let begins = is_any_word(tokens, last, &[Word::Print, Word::PrintRet])
+    let begins = is_of(tokens, last, kinds!(Word Print PrintRet))
         || is_sign(tokens, last, Sign::Comma) && is_after_word(tokens, at, Word::Print);
-    begins && is_any_sign(tokens, next, &[Sign::Comma, Sign::Semicolon])
+    begins && is_of(tokens, next, kinds!(Sign Comma Semicolon))
 }
 
 /// What to write, before and after a name.
@@ -123,8 +108,7 @@ fn form_of(tokens: &[Token<'_>], at: usize, wanted: Wanted) -> Option<Form> {
 
 /// Whether the token of a number is a word that Inform 6 has before the name of a property.
 fn is_of_property(tokens: &[Token<'_>], at: usize) -> bool {
-    const WORDS: [&[u8]; 2] = [b"long", b"additive"];
-    is_any_named(tokens, at, &WORDS)
+    is_listed(tokens, at, "long additive")
 }
 
 /// What is wrong with a name that has `-` within it, the token of a number.

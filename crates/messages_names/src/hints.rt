@@ -4,13 +4,13 @@ use crate::definitions::is_compared;
 use crate::kinds::is_variable;
 use crate::wanted::{Wanted, is_in_case};
 use checker_names::Binding;
-use messages_contexts::{Definition, before, definition_of, is_any_word, is_word};
+use messages_contexts::{Definition, before, definition_of, is_of, is_word, kinds};
 use syntax::{Token, Word};
 
 /// What to write where an attribute is wanted.
 fn for_attribute(tokens: &[Token<'_>], at: usize, binding: Binding) -> Option<&'static str> {
     let last = before(at, 1);
-    let is_tested = is_any_word(tokens, last, &[Word::Has, Word::Hasnt]);
+    let is_tested = is_of(tokens, last, kinds!(Word Has Hasnt));
     let is_in_object = definition_of(tokens, at).is_some();
     match binding {
         Binding::Property(_) if is_in_object => Some("write it after 'with', with a value"),

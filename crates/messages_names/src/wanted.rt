@@ -1,11 +1,11 @@
 //! What is wanted in the place of a name (E23). The tokens are those of a program.
 
 use messages_contexts::{
-    Defined, Definition, before, begins_expression, behind, divides_at, ends_operand,
-    is_after_word, is_behind_has, is_parent, is_property, is_sign, is_step, is_word, kind_at,
+    Defined, Definition, Kinds, before, begins_expression, behind, divides_at, ends_operand,
+    is_after_word, is_behind_has, is_of, is_parent, is_property, is_sign, is_step, is_word, kinds,
     owns_parentheses,
 };
-use syntax::{Kind, Sign, Token, Word};
+use syntax::{Sign, Token, Word};
 
 /// What is wanted in the place of a name.
 #[derive(Clone, Copy)]
@@ -103,73 +103,41 @@ pub fn is_read(tokens: &[Token<'_>], at: usize) -> bool {
     is_word(tokens, before(at, 1), Word::Read) || is_word(tokens, before(at, 2), Word::Read)
 }
 
-/// What is wanted behind a reserved word, if it tells.
-fn wanted_behind_word(word: Word) -> Option<Wanted> {
-    match word {
-        Word::Provides => Some(Wanted::Property),
-        Word::Has => Some(Wanted::Attribute),
-        Word::Hasnt => Some(Wanted::Attribute),
-        _ => None,
-    }
-}
-
-/// Whether a property is wanted behind a sign.
-fn asks_property(sign: Sign) -> bool {
-    matches!(sign, Sign::Dot | Sign::DotHash | Sign::DotAmpersand)
-}
-
-/// What is wanted behind the token of a number, if it tells.
+/// What is wanted after the token of a number, if it tells.
 fn wanted_behind(tokens: &[Token<'_>], at: usize) -> Option<Wanted> {
-    match kind_at(tokens, at) {
-        Kind::Sign(sign) => {
-            if asks_property(sign) {
-                Some(Wanted::Property)
-            } else {
-                None
-            }
-        }
-        Kind::Reserved(word) => wanted_behind_word(word),
-        _ => None,
-    }
-}
-
-/// What is wanted before a sign, if it tells.
-fn wanted_before(sign: Sign) -> Option<Wanted> {
-    match sign {
-        Sign::OpenParenthesis => Some(Wanted::Routine),
-        Sign::Arrow => Some(Wanted::Array),
-        Sign::LongArrow => Some(Wanted::Array),
-        _ => None,
+    if is_of(
+        tokens,
+        at,
+        kinds!(Sign Dot DotHash DotAmpersand, Word Provides),
+    ) {
+        Some(Wanted::Property)
+    } else if is_of(tokens, at, kinds!(Word Has Hasnt)) {
+        Some(Wanted::Attribute)
+    } else {
+        None
     }
 }
 
 /// What is wanted before the token of a number, if it tells.
-fn wanted_before_token(tokens: &[Token<'_>], at: usize) -> Option<Wanted> {
-    match kind_at(tokens, at) {
-        Kind::Sign(sign) => wanted_before(sign),
-        _ => None,
+fn wanted_before(tokens: &[Token<'_>], at: usize) -> Option<Wanted> {
+    if is_sign(tokens, at, Sign::OpenParenthesis) {
+        Some(Wanted::Routine)
+    } else if is_of(tokens, at, kinds!(Sign Arrow LongArrow)) {
+        Some(Wanted::Array)
+    } else {
+        None
     }
 }
 
-/// Whether a case of a `switch` may have the token of a number among its values.
-fn may_be_in_case(tokens: &[Token<'_>], at: usize) -> bool {
-    match kind_at(tokens, at) {
-        Kind::Sign(sign) => matches!(sign, Sign::Comma | Sign::Minus),
-        Kind::Reserved(word) => {
-            matches!(word, Word::To | Word::True | Word::False | Word::Nothing)
-        }
-        Kind::Name(_) => true,
-        Kind::Number(_) => true,
-        Kind::Character(_) => true,
-        Kind::DictionaryWord(_) => true,
-        _ => false,
-    }
-}
+/// What a case of a `switch` may have among its values.
+const IN_CASES: Kinds = kinds!(
+    Is Name Number Character DictionaryWord, Sign Comma Minus, Word To True False Nothing
+);
 
 /// Whether a `:` ends the values among which a name is.
 fn is_before_colon(tokens: &[Token<'_>], at: usize) -> bool {
     for number in at..tokens.len() {
-        if !may_be_in_case(tokens, number) {
+        if !is_of(tokens, number, IN_CASES) {
             return is_sign(tokens, number, Sign::Colon);
         }
     }
@@ -199,7 +167,7 @@ pub fn is_in_case(tokens: &[Token<'_>], at: usize) -> bool {
 /// What is wanted in an expression where a name stands. A variable that cannot stand as a value
 /// stands in a case.
 fn wanted_in_expression(tokens: &[Token<'_>], at: usize, variable: bool) -> Wanted {
-    match wanted_before_token(tokens, behind(at, 1)) {
+    match wanted_before(tokens, behind(at, 1)) {
         Some(wanted) => wanted,
         None => {
             if is_target(tokens, at) {

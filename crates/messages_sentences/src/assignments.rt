@@ -2,8 +2,8 @@
 
 use checker_names::{Binding, Table};
 use messages_contexts::{
-    Defined, before, begins_expression, behind, is_any_sign, is_any_word, is_name, is_sign,
-    is_step, is_word, last_word, open_parenthesis, text_at,
+    Defined, Kinds, before, begins_expression, behind, is_name, is_of, is_sign, is_step, is_word,
+    kinds, last_word, open_parenthesis, text_at,
 };
 use messages_names::{binding_in, is_variable, kind_of};
 use messages_tokens::Quoted;
@@ -54,31 +54,20 @@ fn needed(tokens: &[Token<'_>], at: usize) -> &'static str {
 /// Whether the token of a number is where a comparison may be meant: in the parentheses of a
 /// condition.
 fn may_compare(tokens: &[Token<'_>], at: usize) -> bool {
+    const OPENERS: Kinds = kinds!(Sign OpenParenthesis, Word If While Until For);
     match open_parenthesis(tokens, at) {
-        Some(open) => {
-            let last = before(open, 1);
-            is_any_word(
-                tokens,
-                last,
-                &[Word::If, Word::While, Word::Until, Word::For],
-            ) || is_sign(tokens, last, Sign::OpenParenthesis)
-        }
+        Some(open) => is_of(tokens, before(open, 1), OPENERS),
         None => false,
     }
 }
 
 /// Whether the token of a number steps a property or an entry of an array.
 fn steps_part(tokens: &[Token<'_>], at: usize) -> bool {
+    const PARTS: Kinds = kinds!(Sign Dot Arrow LongArrow);
     is_step(tokens, at)
-        && (is_any_sign(
-            tokens,
-            before(at, 2),
-            &[Sign::Dot, Sign::Arrow, Sign::LongArrow],
-        ) || is_any_sign(
-            tokens,
-            behind(at, 2),
-            &[Sign::Dot, Sign::Arrow, Sign::LongArrow],
-        ) || is_sign(tokens, before(at, 1), Sign::CloseParenthesis))
+        && (is_of(tokens, before(at, 2), PARTS)
+            || is_of(tokens, behind(at, 2), PARTS)
+            || is_sign(tokens, before(at, 1), Sign::CloseParenthesis))
 }
 
 /// What to write where a sign is not beside a name alone, the token of a number.

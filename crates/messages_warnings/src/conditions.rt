@@ -1,12 +1,12 @@
 //! Conditions that are assignments.
 
 use crate::marks::{Concern, Marks};
-use messages_contexts::{behind, is_any_word, is_sign, is_word};
+use messages_contexts::{behind, is_of, is_sign, is_word, kinds};
 use syntax_lexer::{Sign, Token, Word};
 
 /// Whether a condition in parentheses follows the token of a number.
 fn has_condition(tokens: &[Token<'_>], at: usize) -> bool {
-    is_any_word(tokens, at, &[Word::If, Word::While, Word::Until])
+    is_of(tokens, at, kinds!(Word If While Until))
 }
 
 /// How many parentheses are open after the token of a number, where so many were before it.

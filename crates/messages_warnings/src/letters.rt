@@ -5,7 +5,7 @@ use crate::numbers::{NONE, has_flag, number_at, set_flag};
 use crate::routines::Routine;
 use crate::statements::{begins_in_list, is_case};
 use messages_contexts::{
-    before, behind, is_any_sign, is_any_word, is_name, is_named, is_sign, is_word, kind_at,
+    Kinds, before, behind, is_name, is_named, is_of, is_sign, is_word, kind_at, kinds,
 };
 use std::alloc::{AllocError, Global};
 use syntax_lexer::{Kind, Sign, Token, Word};
@@ -14,7 +14,7 @@ use syntax_lexer::{Kind, Sign, Token, Word};
 const NAME: &[u8] = b"name";
 
 /// The operators after which a value is compared.
-const EQUALITIES: [Sign; 2] = [Sign::Equal, Sign::NotEqual];
+const EQUALITIES: Kinds = kinds!(Sign Equal NotEqual);
 
 /// A letter that is written as a character, and the group of values to which it belongs.
 #[derive(Clone, Copy)]
@@ -123,7 +123,7 @@ fn group_of(
 /// such a list, whose last value so far has a number.
 fn is_compared(tokens: &[Token<'_>], at: usize, last: usize) -> bool {
     let operator = before(at, 1);
-    is_any_sign(tokens, operator, &EQUALITIES)
+    is_of(tokens, operator, EQUALITIES)
         || is_word(tokens, operator, Word::Or) && before(at, 2) == last
 }
 
@@ -137,7 +137,7 @@ fn take_compared(
     let mut group = NONE;
     let mut last = NONE;
     for at in routine.body..routine.end {
-        if is_any_sign(tokens, at, &EQUALITIES) {
+        if is_of(tokens, at, EQUALITIES) {
             group = group_of(tokens, context, before(at, 1), at, groups);
         } else if is_compared(tokens, at, last) {
             let Ok(()) = groups.take(tokens, at, group) else {
@@ -226,7 +226,7 @@ pub fn take_routine(
 
 /// Whether the values of an array or of a property begin after the token of a number.
 fn begins_list(tokens: &[Token<'_>], at: usize) -> bool {
-    is_any_word(tokens, at, &[Word::Array, Word::With]) || is_sign(tokens, at, Sign::Comma)
+    is_of(tokens, at, kinds!(Sign Comma, Word Array With))
 }
 
 /// Takes the values in the definitions from one token to another, which are no routines.

@@ -2,7 +2,7 @@
 
 use crate::marks::{Concern, Warning};
 use crate::warnings::warnings_of;
-use messages_contexts::{before, is_any_sign, is_name, kind_at, line_of, text_at};
+use messages_contexts::{before, is_name, is_of, kind_at, kinds, line_of, text_at};
 use messages_tokens::Quoted;
 use std::alloc::{AllocError, Global};
 use std::fmt::{self, Display, Formatter};
@@ -19,7 +19,7 @@ struct Sentence<'t, 'a> {
 /// its left side.
 fn name_set<'a>(tokens: &[Token<'a>], at: usize) -> Option<&'a [u8]> {
     let name = before(at, 1);
-    let is_alone = is_any_sign(tokens, before(at, 2), &[Sign::OpenParenthesis, Sign::Colon]);
+    let is_alone = is_of(tokens, before(at, 2), kinds!(Sign OpenParenthesis Colon));
     if is_alone && is_name(tokens, name) {
         Some(text_at(tokens, name))
     } else {

@@ -3,7 +3,7 @@
 use crate::loops::Around;
 use crate::numbers::{NONE, number_at};
 use crate::routines::Routine;
-use messages_contexts::{before, behind, is_any_sign, is_sign, is_word};
+use messages_contexts::{before, behind, is_sign, is_step, is_word};
 use std::alloc::{AllocError, Global};
 use syntax_lexer::{Sign, Token, Word};
 
@@ -23,15 +23,9 @@ pub struct FirstUse {
 /// Whether a value is assigned to an operand from one token to another, or it is stepped. Steps
 /// count as assignments: to count from 0 on is no mistake.
 fn is_changed(tokens: &[Token<'_>], first: usize, last: usize) -> bool {
-    is_any_sign(
-        tokens,
-        behind(last, 1),
-        &[Sign::Assign, Sign::Increment, Sign::Decrement],
-    ) || is_any_sign(
-        tokens,
-        before(first, 1),
-        &[Sign::Increment, Sign::Decrement],
-    )
+    is_sign(tokens, behind(last, 1), Sign::Assign)
+        || is_step(tokens, behind(last, 1))
+        || is_step(tokens, before(first, 1))
 }
 
 /// Whether a name is the variable of an `objectloop`.

@@ -1,0 +1,210 @@
+//! A place in a source, and the first rule that holds there.
+
+use crate::advice::Advice;
+use crate::definitions::is_unknown;
+use crate::kinds::{has, is_of};
+use crate::objects::is_property;
+use crate::operands::ends_operand;
+use crate::rules::{Say, Spot, Step, Test};
+use crate::statements::{
+    begins_line, group_at, is_joined, last_open, open_parenthesis, start_of, switch_around,
+};
+use crate::tokens::{before, begins_statement, behind, text_at};
+use crate::walks::{
+    begins_two_commas, bytes_after, count_of, ends_else, is_after, is_case, is_in_brackets,
+    is_in_constant, is_in_names, is_inequality, is_known, is_listed, is_negation, last_do,
+};
+use messages_features::{Feature, habit_as_operand, habit_at_beginning, habit_between, named};
+use syntax_lexer::{Sign, Token};
+
+/// A place in a source: the token of a number, which does not fit. The other numbers are of tokens
+/// too; of none where there is none.
+#[derive(Clone, Copy)]
+pub struct Place<'t, 's> {
+    source: &'t [u8],
+    tokens: &'t [Token<'s>],
+    at: usize,
+    /// What is expected at the place.
+    wants: u64,
+    /// The first of the statement or the definition around the place.
+    start: usize,
+    /// The `(` that is open at the place.
+    open: usize,
+    /// The `(` of the parentheses that end right before the place.
+    group: usize,
+    /// The `{` that is open at the place.
+    brace: usize,
+    /// The last `do` before the place, or the `[` of its routine.
+    last_do: usize,
+}
+
+impl<'t, 's> Place<'t, 's> {
+    /// The place at the token of a number, where something is expected.
+    pub fn new(source: &'t [u8], tokens: &'t [Token<'s>], at: usize, wants: u64) -> Self {
+        let start = start_of(tokens, at);
+        let open = open_parenthesis(tokens, at).unwrap_or(usize::MAX);
+        let group = group_at(tokens, before(at, 1));
+        let brace = last_open(tokens, at, Sign::OpenBrace, Sign::CloseBrace).unwrap_or(usize::MAX);
+        let last_do = last_do(tokens, at);
+        Self {
+            source,
+            tokens,
+            at,
+            wants,
+            start,
+            open,
+            group,
+            brace,
+            last_do,
+        }
+    }
+
+    /// The place at the next token.
+    pub fn next(self) -> Self {
+        Self::new(self.source, self.tokens, behind(self.at, 1), self.wants)
+    }
+
+    /// The number of the token at a spot; a number of none where there is none.
+    fn number(self, spot: Spot) -> usize {
+        match spot {
+            Spot::FourthLast => before(self.at, 4),
+            Spot::ThirdLast => before(self.at, 3),
+            Spot::SecondLast => before(self.at, 2),
+            Spot::Last => before(self.at, 1),
+            Spot::Here => self.at,
+            Spot::Next => behind(self.at, 1),
+            Spot::SecondNext => behind(self.at, 2),
+            Spot::ThirdNext => behind(self.at, 3),
+            Spot::BeforeEnd => before(self.start, 2),
+            Spot::End => before(self.start, 1),
+            Spot::First => self.start,
+            Spot::Second => behind(self.start, 1),
+            Spot::Third => behind(self.start, 2),
+            Spot::Open => self.open,
+            Spot::BeforeOpen => before(self.open, 1),
+            Spot::Caller => before(self.group, 1),
+            Spot::Brace => self.brace,
+            Spot::BeforeDo => before(self.last_do, 1),
+            Spot::Do => self.last_do,
+            Spot::AfterDo => behind(self.last_do, 1),
+        }
+    }
+
+    /// Whether the token at a spot, or the place, passes a test.
+    fn passes(self, spot: Spot, test: Test) -> bool {
+        let tokens = self.tokens;
+        let number = self.number(spot).min(tokens.len());
+        match test {
+            Test::Kind(kinds) => is_of(tokens, number, kinds),
+            Test::Named(names) => is_listed(tokens, number, names),
+            Test::Unknown => is_unknown(tokens, number),
+            Test::Known(set) => is_known(tokens, number, set),
+            Test::Given => is_property(tokens, number),
+            Test::Foreign => habit_at_beginning(text_at(tokens, number)).is_some(),
+            Test::BeginsLine => begins_line(tokens, number),
+            Test::BeginsStatement => begins_statement(tokens, number),
+            Test::Joined => is_joined(tokens, number),
+            Test::First => number == self.start,
+            Test::Continues => number < tokens.len() && start_of(tokens, number) < number,
+            Test::EndsOperand => ends_operand(tokens, number),
+            Test::Closes(kinds) => is_of(tokens, before(group_at(tokens, number), 1), kinds),
+            Test::After(kinds, ends) => is_after(tokens, number, kinds, ends, false),
+            Test::Outside(kinds, ends) => is_after(tokens, number, kinds, ends, true),
+            Test::Among(kinds) => count_of(tokens, number, self.at, kinds) > 0,
+            Test::Twice(kinds) => count_of(tokens, number, self.at, kinds) > 1,
+            Test::InSwitch => number < tokens.len() && switch_around(tokens, number).is_some(),
+            Test::BeforeNegation => is_negation(bytes_after(self.source, tokens, number)),
+            Test::BeforeInequality => is_inequality(bytes_after(self.source, tokens, number)),
+            _ => self.is_in(test),
+        }
+    }
+
+    /// Whether the place passes a test, whatever the spot.
+    fn is_in(self, test: Test) -> bool {
+        let tokens = self.tokens;
+        match test {
+            Test::Wants(want) => has(self.wants, want as u8),
+            Test::InBrackets => is_in_brackets(tokens, self.start),
+            Test::InNames => is_in_names(tokens, self.at),
+            Test::InCase => is_case(tokens, self.start, self.at),
+            Test::InConstant => is_in_constant(tokens, self.at),
+            Test::TwoCommas => begins_two_commas(tokens, self.at),
+            Test::AfterElse => ends_else(tokens, before(self.at, 1)),
+            _ => false,
+        }
+    }
+
+    /// The bytes of the token at a spot.
+    fn text(self, spot: Spot) -> &'s [u8] {
+        text_at(self.tokens, self.number(spot))
+    }
+
+    /// The word of another language at a spot, if no definition gives its name.
+    fn word(self, spot: Spot, feature: Option<&'static Feature>) -> Option<Advice> {
+        let number = self.number(spot);
+        match feature {
+            Some(feature) if is_unknown(self.tokens, number) => Some(Advice::Word(number, feature)),
+            _ => None,
+        }
+    }
+
+    /// What is told by a rule that holds.
+    fn told_by(self, say: Say) -> Option<Advice> {
+        match say {
+            Say::Nothing => None,
+            Say::Do(text) => Some(Advice::Do(text)),
+            Say::Absent(name, feature) => Some(Advice::Absent(name, feature)),
+            Say::Between(spot) => self.word(spot, habit_between(self.text(spot))),
+            Say::Beginning(spot) => self.word(spot, habit_at_beginning(self.text(spot))),
+            Say::Inform(spot) => self.word(spot, named(self.text(spot))),
+            Say::Operand(spot) => self.word(spot, habit_as_operand(self.text(spot))),
+        }
+    }
+
+    /// What is told by the first rule that holds and tells something, or ends the table; none if no
+    /// rule holds.
+    fn answer(self, steps: &'static [Step]) -> Option<Option<Advice>> {
+        let mut holds = true;
+        let mut is_any = false;
+        for step in steps {
+            match *step {
+                Step::Is(spot, test) => holds = holds && self.passes(spot, test),
+                Step::Not(spot, test) => holds = holds && !self.passes(spot, test),
+                Step::Or => {
+                    is_any = is_any || holds;
+                    holds = true;
+                }
+                Step::Say(say) if is_any => {
+                    let told = self.told_by(say);
+                    if told.is_some() || matches!(say, Say::Nothing) {
+                        return Some(told);
+                    }
+                    is_any = false;
+                }
+                Step::Say(_) => {}
+            }
+        }
+        None
+    }
+
+    /// What is told by a table.
+    pub fn told(self, steps: &'static [Step]) -> Option<Advice> {
+        self.answer(steps).unwrap_or(None)
+    }
+
+    /// Whether a rule of a table holds that tells nothing.
+    pub fn holds(self, steps: &'static [Step]) -> bool {
+        self.answer(steps).is_some()
+    }
+
+    /// What is told by the first of some tables that tells something.
+    pub fn first_told(self, tables: &[&'static [Step]]) -> Option<Advice> {
+        for steps in tables {
+            let told = self.told(*steps);
+            if told.is_some() {
+                return told;
+            }
+        }
+        None
+    }
+}
