@@ -105,26 +105,23 @@ fn in_program(
 ) -> Result<Further, AllocError> {
     let mut further = Further::none(alloc);
     let mut known = first;
-    for _ in 0..MOST_SHOWN {
-        match next_breach(alloc, program, known) {
-            Ok(Some(next)) => {
-                known = next.breach;
-                let Ok(()) = further.shown.push(located(source, placed(known))) else {
-                    return Err(AllocError);
-                };
-            }
-            Ok(None) => return Ok(further),
-            Err(refused) => return Err(refused),
-        }
-    }
-    match next_breach(alloc, program, known) {
-        Ok(Some(next)) => {
+    for shown in 0..MOST_SHOWN + 1 {
+        let Ok(found) = next_breach(alloc, program, known) else {
+            return Err(AllocError);
+        };
+        let Some(next) = found else {
+            return Ok(further);
+        };
+        if shown == MOST_SHOWN {
             further.more = next.count;
-            Ok(further)
+            return Ok(further);
         }
-        Ok(None) => Ok(further),
-        Err(refused) => Err(refused),
+        known = next.breach;
+        let Ok(()) = further.shown.push(located(source, placed(known))) else {
+            return Err(AllocError);
+        };
     }
+    Ok(further)
 }
 
 /// The fault of a broken rule, with its place.
