@@ -12,4 +12,4 @@ pub use decode::{
     several_operand_form, short_form, two_operand_form,
 };
 pub use ending::Ending;
-pub use instruction::{Instruction, Operands, decode_instruction};
+pub use instruction::{Instruction, NO_INSTRUCTION, Operands, decode_instruction, decode_into};
