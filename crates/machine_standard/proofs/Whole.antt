@@ -80,7 +80,7 @@ none_there : {A : Type 0} (o : Option A) → is_some o ≡ false → o ≡ None
 none_there None e = refl
 none_there (Some x) e = absurd (cc)
 
--- quick steps, where the story has no alphabets of its own
+-- steps by units, where the story has no alphabets of its own
 pub quickly_ahead : {E : Type 0} (s t : Recording Contents) (r : Result Next E) (loaded : Loaded) (first : Next)
     → is_some loaded.own_alphabets ≡ false → IfOk r (λ here. Passed first s here t)
     → IfOk r (λ here. Ahead loaded first s here t)
