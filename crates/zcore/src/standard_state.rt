@@ -4,7 +4,7 @@
 /// selected window and the random number generator. The machine of the profile has neither, and
 /// leaves each field 0.
 #[derive(Clone, Copy, Debug, PartialEq, Eq)]
-pub struct Beside {
+pub struct StandardState {
     /// The selected window: 0 for the lower, 1 for the upper (Z-Machine Standards Document 1.1,
     /// section 8.7.2).
     pub window: u16,
