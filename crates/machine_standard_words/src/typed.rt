@@ -15,7 +15,7 @@ use crate::fill::fill_counted;
 use crate::slots::{SLOTS_LENGTH, Search, slots};
 use journal::{NoMemory, Recorded};
 use machine_frames::Store;
-use machine_standard_input::put_small_letters;
+use crate::lines::put_small_letters;
 use zcore::Header;
 use zcore_standard::Loaded;
 

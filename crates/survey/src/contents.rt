@@ -7,7 +7,7 @@ ghost use Rattle.zcore.specs.Layout.{longest_story};
 ghost use Rattle.survey.specs.Verdict.{HasWordsOf};
 
 use crate::mode::Mode;
-use crate::outside::Outside;
+use crate::unplayed::Unplayed;
 use crate::reach::reach;
 use std::alloc::{AllocError, Global};
 use std::fmt;
@@ -50,15 +50,15 @@ pub struct Contents {
 
     /// Each opcode among them that this machine does not play, or not with such operands, and then
     /// those in routines to which no direct call leads.
-    pub outside: Vec<Outside>,
+    pub unplayed: Vec<Unplayed>,
 }
 
 impl fmt::Display for Contents {
     fn fmt<W: fmt::Write>(&self, f: &mut fmt::Formatter<W>) -> fmt::Result {
         write_counts(f, self)?;
         let refusal = self.mode.refusal();
-        for outside in &self.outside {
-            writeln!(f, "{refusal}: {outside}")?;
+        for unplayed in &self.unplayed {
+            writeln!(f, "{refusal}: {unplayed}")?;
         }
         if self.computed {
             f.write_str("computed calls are not followed\n")
@@ -109,7 +109,7 @@ impl Contents {
             instructions: reached.instructions,
             mode,
             computed: reached.computed,
-            outside: reached.outside,
+            unplayed: reached.unplayed,
         })
     }
 }
