@@ -5,13 +5,14 @@ use Rattle.zcore.specs.declared.next.Next.{Next}
 use Rattle.zcore.specs.Effects.{give_result}
 use Rattle.zcore.specs.Parts.{branch_on}
 use Rattle.zcore_standard.specs.declared.operations.StandardOperation.{StandardOperation}
-use Rattle.zcore_standard.specs.declared.operations.StandardOperation.TheVariants.{ShowStatus, Verify, Piracy, SetColour}
-use Rattle.zcore_standard.specs.declared.operations.StandardOperation.TheVariants.{SplitWindow, SetWindow, EraseWindow, EraseLine}
-use Rattle.zcore_standard.specs.declared.operations.StandardOperation.TheVariants.{SetCursor, SetTextStyle, BufferMode}
-use Rattle.zcore_standard.specs.declared.operations.StandardOperation.TheVariants.{InputStream}
-use Rattle.zcore_standard.specs.declared.operations.StandardOperation.TheVariants.{SoundEffect, Save, Restore, LogShift}
-use Rattle.zcore_standard.specs.declared.operations.StandardOperation.TheVariants.{ArtShift, SetFont, SaveUndo, RestoreUndo}
-use Rattle.zcore_standard.specs.declared.operations.StandardOperation.TheVariants.{PrintTable, PrintUnicode, CheckUnicode}
+use Rattle.zcore_standard.specs.declared.operations.StandardOperation.TheVariants.{ShowStatus, Verify, Piracy}
+use Rattle.zcore_standard.specs.declared.operations.StandardOperation.TheVariants.{SetColour, SplitWindow, SetWindow}
+use Rattle.zcore_standard.specs.declared.operations.StandardOperation.TheVariants.{EraseWindow, EraseLine, SetCursor}
+use Rattle.zcore_standard.specs.declared.operations.StandardOperation.TheVariants.{SetTextStyle, BufferMode}
+use Rattle.zcore_standard.specs.declared.operations.StandardOperation.TheVariants.{InputStream, SoundEffect, Save}
+use Rattle.zcore_standard.specs.declared.operations.StandardOperation.TheVariants.{Restore, LogShift, ArtShift, SetFont}
+use Rattle.zcore_standard.specs.declared.operations.StandardOperation.TheVariants.{SaveUndo, RestoreUndo, PrintTable}
+use Rattle.zcore_standard.specs.declared.operations.StandardOperation.TheVariants.{PrintUnicode, CheckUnicode}
 use Rattle.zcore_standard.specs.declared.operations.StandardOperation.TheVariants.{SetTrueColour}
 use Rattle.zcore_standard.specs.Loaded.{Loaded}
 use Rattle.zcore_standard.specs.Performing.{perform_keeping}

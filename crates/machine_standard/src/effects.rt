@@ -19,7 +19,7 @@ use machine_standard_opcodes::{catch, get_cursor, throw};
 use machine_standard_tables::{copy_table, scan_table};
 use machine_standard_words::{encode_text, tokenise};
 use zcore::{Fault, Header, Next, Place};
-use zcore_standard::{StandardOperation, Loaded};
+use zcore_standard::{Loaded, StandardOperation};
 
 /// What `scan_table` looks for where its form is left out: words in a table of words.
 const WORDS_OF_TABLE: u16 = 0x82;

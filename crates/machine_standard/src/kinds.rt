@@ -6,7 +6,7 @@ ghost use Rattle.zcore_standard.specs.Operations.{row_of};
 ghost use Rattle.machine_standard.specs.Kinds.{does_nothing, is_on_windows, gives_word, branches, GivesWord, BranchesBy};
 
 use machine_standard_opcodes::{abilities, font_of, shifted, shifted_with_sign};
-use zcore_standard::{StandardOperation, Loaded};
+use zcore_standard::{Loaded, StandardOperation};
 
 /// What `save`, `restore` and `restore_undo` answer, which fail.
 const FAILED: u16 = 0;
@@ -37,7 +37,10 @@ pub(crate) fn is_on_windows(operation: StandardOperation) -> bool
 {
     matches!(
         operation,
-        StandardOperation::SetWindow | StandardOperation::SetCursor | StandardOperation::EraseWindow | StandardOperation::SplitWindow
+        StandardOperation::SetWindow
+            | StandardOperation::SetCursor
+            | StandardOperation::EraseWindow
+            | StandardOperation::SplitWindow
     )
 }
 
@@ -48,7 +51,8 @@ pub(crate) fn word_of(loaded: &Loaded, operation: StandardOperation, values: &[u
     ensures none { IfNone result (gives_word operation ≡ false) }
 {
     match operation {
-        StandardOperation::Save | StandardOperation::Restore | StandardOperation::RestoreUndo => Some(FAILED),
+        StandardOperation::Save | StandardOperation::Restore | StandardOperation::RestoreUndo =>
+            Some(FAILED),
         StandardOperation::SaveUndo => Some(HAS_NO_UNDO),
         StandardOperation::LogShift => Some(shifted(values[0], values[1])),
         StandardOperation::ArtShift => Some(shifted_with_sign(values[0], values[1])),

@@ -25,7 +25,7 @@ use machine_standard_opcodes::{output_stream, print_unicode, random, restart};
 use machine_standard_tables::print_table;
 use machine_standard_windows::{TurnState, erase_window, set_cursor, set_window, split_window};
 use zcore::{Header, Next};
-use zcore_standard::{StandardOperation, Loaded};
+use zcore_standard::{Loaded, StandardOperation};
 
 /// The rows of a table that is printed, where their number is left out.
 const ONE_ROW: u16 = 1;
@@ -70,7 +70,9 @@ pub(crate) fn perform_further(
                 values[0],
             )
         }
-        StandardOperation::Read => read_line(header, store, text, start, loaded, turn, values, ending),
+        StandardOperation::Read => read_line(
+            header, store, text, start, loaded, turn, values, ending,
+        ),
         StandardOperation::ReadChar => read_key(header, store, text, start, loaded, turn, ending),
         StandardOperation::OutputStream => output_stream(
             header,
@@ -116,7 +118,9 @@ fn perform_on_windows(
     };
     match operation {
         StandardOperation::SetWindow => set_window(store, text, start, turn, next, values[0]),
-        StandardOperation::SetCursor => { set_cursor(store, text, start, turn, next, values[0], values[1]) }
+        StandardOperation::SetCursor => {
+            set_cursor(store, text, start, turn, next, values[0], values[1])
+        }
         StandardOperation::EraseWindow => {
             erase_window(text, start, turn, values[0]);
             Ok(next)
@@ -164,8 +168,12 @@ fn perform_keeping(
         return branch_on(header, store, here, after, ending.branch, holds);
     }
     match operation {
-        StandardOperation::PrintUnicode => print_unicode(store, text, start, here, after, values[0]),
-        StandardOperation::PrintTable => print_rows(store, text, start, loaded, here, after, values),
+        StandardOperation::PrintUnicode => print_unicode(
+            store, text, start, here, after, values[0],
+        ),
+        StandardOperation::PrintTable => print_rows(
+            store, text, start, loaded, here, after, values,
+        ),
         _ => perform_quietly(header, store, loaded, here, operation, values, ending),
     }
 }

@@ -260,7 +260,7 @@ fn close(
     }
 }
 
-/// Writes the ZSCII codes of the bytes of a text from one on to a table. The text has them behind
+/// Writes the ZSCII codes of the bytes of a text from one on to a table. The text has them after
 /// it then, whole or in part. M4.
 fn write_zscii(
     header: &Header,

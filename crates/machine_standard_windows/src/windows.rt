@@ -10,9 +10,9 @@ ghost use Rattle.machine_standard_windows.specs.TurnState.{place, Keeps};
 ghost use Rattle.machine_standard_windows.specs.Drawn as drawings;
 ghost use Rattle.machine_standard_windows.specs.Drawn.{Redraws, Bounds, Way, Apart};
 
-use crate::turn_state::{TurnState, LOWER, UPPER};
 use crate::lines::{bare_length, count_new_lines, missing_lines, width};
 use crate::texts::cut;
+use crate::turn_state::{LOWER, TurnState, UPPER};
 use journal::Recorded;
 use machine_frames::{End, Store};
 use std::alloc::AllocError;
@@ -278,7 +278,7 @@ fn row_of(upper: Upper, text: &[u8], start: usize) -> usize
     upper.row as usize + count_new_lines(&text[at..])
 }
 
-/// The newlines and the spaces that take the cursor to a column, behind a text that has no spaces
+/// The newlines and the spaces that take the cursor to a column, after a text that has no spaces
 /// at its end.
 fn way_to(is_in_row: bool, column: usize, bare: &[u8]) -> (usize, usize)
     requires { 1 ≤ column }

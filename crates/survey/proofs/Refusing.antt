@@ -1,6 +1,7 @@
 -- What the machine decodes at an address, by the first byte there.
-use Rattle.std.proofs.Common.{◌≡◌, ℕ, arith, true, false, Some, None, ◌%◌, ◌/◌, ◌≤◌, ◌+◌, ◌<◌, List, [], ◌∷◌, length, refl}
-use Rattle.std.proofs.Common.{◌≢◌, sym, ◌∙◌, ◌⊎◌, inl, inr, Option, Result, Ok, Err, Bool, cond, not, slice_index, take}
+use Rattle.std.proofs.Common.{◌≡◌, ℕ, arith, true, false, Some, None, ◌%◌, ◌/◌, ◌≤◌, ◌+◌, ◌<◌, List, [], ◌∷◌, length}
+use Rattle.std.proofs.Common.{refl, ◌≢◌, sym, ◌∙◌, ◌⊎◌, inl, inr, Option, Result, Ok, Err, Bool, cond, not, slice_index}
+use Rattle.std.proofs.Common.{take}
 use Rattle.std.specs.Prelude.{nat_lt, if◌then◌else◌}
 use Rattle.std.proofs.lemmas.List.{length-take-le}
 use Rattle.std.proofs.lemmas.Bool.{lt-ltb, le-ltb, ne_eqb, cases_lt}
@@ -11,7 +12,7 @@ use Rattle.ztext.specs.Results.{◌>>=◌}
 use Rattle.zcore.specs.declared.operations.OpcodeRow.{OpcodeRow}
 use Rattle.zcore.specs.declared.place.Fault.{Fault}
 use Rattle.zcore.specs.declared.place.Fault.TheVariants as faults
-use Rattle.zcore_standard.specs.Instruction.{types_at, counted}
+use Rattle.zcore_standard.specs.Instruction.{types_at, row_types, counted}
 use Rattle.zcore_standard.specs.Opcodes.{plain}
 use Rattle.zcore_standard.specs.Operations.{profile_of}
 use Rattle.survey.specs.declared.refusal.Refusal.{Refusal}
@@ -210,10 +211,6 @@ known story at operation lt other e = known_by story at operation lt other e (ca
     (cases_lt (slice_index story at) 176) (cases_lt (slice_index story at) 192)
 
 -- The operands of an opcode with a row
-
--- the types of operands at an address, as the row's opcode has them
-abbrev pub row_types : List ℕ → ℕ → OpcodeRow → Result (List ℕ × ℕ) Fault
-row_types story at row = types_at story (nat_lt 4 row.most_operands) (slice_index story at) at
 
 refused_unless : {X : Type 0} (b : Bool) (x : X) → is_refused (cond b (Ok x) (Err faults.Opcode)) ≡ not b
 refused_unless true x = refl

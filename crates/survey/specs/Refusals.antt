@@ -1,5 +1,5 @@
 -- What of an instruction a machine refuses with M1.
-use Rattle.std.specs.Prelude.{◌≡◌, ◌&&◌, ℕ, nat_le, nat_lt, Bool, true, false, List, slice_index, Option, Some, None}
+use Rattle.std.specs.Prelude.{◌≡◌, ◌&&◌, ℕ, nat_le, Bool, true, false, List, Option, Some, None}
 use Rattle.std.specs.Prelude.{Result, Ok, Err}
 use Rattle.zcore.specs.declared.place.Fault.{Fault}
 use Rattle.zcore.specs.declared.place.Fault.TheVariants as faults
@@ -8,7 +8,7 @@ use Rattle.zcore.specs.declared.operations.OpcodeRow.{OpcodeRow}
 use Rattle.zcore.specs.Operations.{row_of}
 use Rattle.ztext.specs.Results.{◌>>=◌}
 use Rattle.zcore_standard.specs.declared.opcode.Opcode.{Opcode}
-use Rattle.zcore_standard.specs.Instruction.{types_at, counted}
+use Rattle.zcore_standard.specs.Instruction.{row_types, counted}
 use Rattle.zcore_standard.specs.Operations.{profile_of}
 use Rattle.survey.specs.declared.refusal.Refusal.{Refusal}
 use Rattle.survey.specs.declared.refusal.Refusal.TheVariants as refusals
@@ -28,8 +28,7 @@ takes row count = nat_le row.least_operands count && nat_le count row.most_opera
 
 -- the types of the operands at an address, as many as the opcode's row says
 abbrev pub counted_at : List ℕ → ℕ → OpcodeRow → Result (List ℕ × ℕ) Fault
-counted_at story at row =
-    types_at story (nat_lt 4 row.most_operands) (slice_index story at) at >>= λ types. counted row types
+counted_at story at row = row_types story at row >>= λ types. counted row types
 
 -- what can be refused of the operands of an opcode with a row: a number that it does not take, or a gap
 abbrev pub IsOperandsRefusal : OpcodeRow → Refusal → Type 0

@@ -7,8 +7,8 @@ ghost use Rattle.zcore.specs.Layout.{longest_story};
 ghost use Rattle.survey.specs.Verdict.{HasWordsOf};
 
 use crate::mode::Mode;
-use crate::unplayed::Unplayed;
 use crate::reach::reach;
+use crate::unplayed::Unplayed;
 use std::alloc::{AllocError, Global};
 use std::fmt;
 use zcore::Header;
@@ -25,8 +25,8 @@ const NEGATIVE: u16 = 0x8000;
 /// What a story holds that loads. `Display` writes a line for each.
 #[derive(Drop)]
 pub struct Contents {
-    /// How many objects there are, as far as the table goes: to the first property table behind
-    /// it, or to what else the header names behind it.
+    /// How many objects there are, as far as the table goes: to the first property table after
+    /// it, or to what else the header names after it.
     pub objects: usize,
 
     /// How many words the dictionary has, whatever their order.
@@ -142,7 +142,7 @@ fn count_objects(story: &[u8], header: &Header) -> usize {
     0
 }
 
-/// An end of the table, or an address behind an entry that is nearer.
+/// An end of the table, or an address after an entry that is nearer.
 fn nearer(entry: usize, end: usize, address: u16) -> usize
     ensures { result ≤ end }
 {

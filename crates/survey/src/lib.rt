@@ -14,6 +14,6 @@ mod unplayed;
 pub use columns::Columns;
 pub use contents::Contents;
 pub use mode::Mode;
-pub use refusal::Refusal;
+pub use refusal::{Refusal, profile_refusal_at, standard_refusal_at};
 pub use survey::{Brief, Survey};
 pub use unplayed::Unplayed;

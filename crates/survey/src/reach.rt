@@ -16,7 +16,7 @@ use zcore::layout::{HEADER_LENGTH, MOST_LOCALS};
 use zcore::{Header, Operand, Version};
 use zcore_standard::{Flow, Opcode, Row};
 
-/// Behind the last routine no other is looked for so many bytes away: instructions that are never
+/// After the last routine no other is looked for so many bytes away: instructions that are never
 /// run may stand between two.
 const MOST_BETWEEN: usize = 16;
 
@@ -60,7 +60,7 @@ struct Walk {
     /// Those of the bytes of instructions and texts that were passed.
     covered: Vec<bool>,
 
-    /// The address behind the last of those.
+    /// The address after the last of those.
     end: usize,
 
     /// Whether what is looked at now was found by a sweep.
@@ -147,7 +147,7 @@ impl Walk {
     }
 
     /// Looks at the routines to which no direct call leads. They begin at packed addresses between
-    /// what was passed, and behind it as long as one follows another closely.
+    /// what was passed, and after it as long as one follows another closely.
     fn sweep(&mut self, story: &[u8], sweep: &mut Sweep) -> Result<(), AllocError>
         requires { length story.now ≤ longest_story }
     {
@@ -315,7 +315,7 @@ impl Walk {
     }
 
     /// Passes a text, which ends with the first word whose top bit is set (section 3.2), and says
-    /// where the instruction after it begins. Behind a word that was passed before nothing new is
+    /// where the instruction after it begins. After a word that was passed before nothing new is
     /// reached.
     fn text_end(&mut self, story: &[u8], from: usize) -> Option<usize> {
         let mut at = from;

@@ -13,9 +13,6 @@ use std::fmt;
 use zcore::{Fault, OpcodeRow};
 use zcore_standard::{EXTENDED, Opcode, types_at};
 
-/// A byte has so many types of operands (Z-Machine Standards Document 1.1, section 4.4.3).
-const TYPES_IN_A_BYTE: usize = 4;
-
 /// What of an instruction the machine refuses with M1. `Display` writes what is said after the
 /// opcode: nothing, ` with 4 operands`, or ` with an operand after an omitted one`.
 #[derive(Clone, Copy, PartialEq, Eq)]
@@ -44,7 +41,7 @@ impl fmt::Display for Refusal {
 /// What of the instruction at an address the profile's machine refuses with M1. `None` where it
 /// refuses nothing, and where the story does not have the bytes of the opcode and of the operands'
 /// types.
-pub(crate) fn profile_refusal_at(story: &[u8], at: usize) -> Option<Refusal>
+pub fn profile_refusal_at(story: &[u8], at: usize) -> Option<Refusal>
     requires { length story.now ≤ longest_story }
     ensures said { is_said result ≡ is_refused (opcode story.now at) }
     ensures refusal { IfSome (opcode_at story.now at) (λ x. IfSome result (IsProfileRefusal x)) }
@@ -68,7 +65,7 @@ pub(crate) fn profile_refusal_at(story: &[u8], at: usize) -> Option<Refusal>
 /// it plays too, and an operation that the profile does not have with as many operands as the
 /// Standard lets it have. `None` where it refuses nothing, and where the story does not have the
 /// bytes of the opcode and of the operands' types.
-pub(crate) fn standard_refusal_at(story: &[u8], at: usize) -> Option<Refusal>
+pub fn standard_refusal_at(story: &[u8], at: usize) -> Option<Refusal>
     requires { length story.now ≤ longest_story }
     ensures kept { is_refused (opcode story.now at) ≡ false → result ≡ None }
     ensures unknown { IfSome (opcode_at story.now at) (λ x. table.profile_of x ≡ None
@@ -88,8 +85,7 @@ fn operands_refusal(story: &[u8], at: usize, row: OpcodeRow) -> Option<Refusal>
     ensures said { is_said result ≡ is_refused (counted_at story.now at row) }
     ensures refusal { IfSome result (IsOperandsRefusal row) }
 {
-    let more = TYPES_IN_A_BYTE < row.most_operands;
-    match types_at(story, more, story[at], at) {
+    match types_at(story, at, row) {
         Ok((_, count, _)) => count_refusal(row, count),
         Err(Fault::Opcode) => Some(Refusal::Gap),
         Err(_) => None,

@@ -38,11 +38,7 @@ pub(crate) fn successors_at(story: &[u8], at: usize, row: Row) -> Option<Success
     let Ok((count, ending)) = decode_any(story, at, row.shape, &mut operands) else {
         return None;
     };
-    let first = if count == 0 {
-        None
-    } else {
-        Some(operands[0])
-    };
+    let first = if count == 0 { None } else { Some(operands[0]) };
     let branch = match ending.branch {
         Some(branch) => Some(branch.offset),
         None => None,

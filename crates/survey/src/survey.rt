@@ -19,7 +19,7 @@ use zcore::layout::LONGEST_STORY;
 use zcore::{Header, HeaderFault};
 use zcore_standard_loading::load;
 
-/// So many bytes no story has with the filling behind it.
+/// So many bytes no story has with the filling after it.
 const TOO_LONG: usize = LONGEST_STORY + 512;
 
 /// What is found of a file without running it. `Display` writes a line for each fact, and the last

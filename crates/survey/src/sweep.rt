@@ -34,7 +34,7 @@ impl Sweep {
 
     /// Whether a routine may begin at an address, of a story of which some bytes were passed before:
     /// instructions that the Standard names follow one another up to one that does not go on with the
-    /// next, and no branch leads behind it.
+    /// next, and no branch leads after it.
     pub(crate) fn finds_routine(&mut self, story: &[u8], covered: &[bool], at: usize) -> bool
         requires short { length story.now ≤ longest_story }
         requires at { at < length story.now }

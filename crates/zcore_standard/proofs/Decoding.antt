@@ -1,7 +1,7 @@
 -- The instruction of an opcode by its row, part by part.
 use Rattle.std.proofs.Common.{◌≡◌, ◌<◌, ◌≤◌, ◌⊎◌, inl, inr, ℕ, Bool, true, false, List, length, take, refl, ap, sym}
-use Rattle.std.proofs.Common.{◌∙◌, slice_index, Option, Result, Ok, Err}
-use Rattle.std.specs.Prelude.{◌&&◌, nat_lt}
+use Rattle.std.proofs.Common.{◌∙◌, Option, Result, Ok, Err}
+use Rattle.std.specs.Prelude.{◌&&◌}
 use Rattle.std.proofs.lemmas.Bool.{le-leb, lt-leb}
 use Rattle.std.proofs.lemmas.List.{length-take-le}
 use Rattle.ztext.specs.Results.{◌>>=◌}
@@ -11,7 +11,7 @@ use Rattle.zcore.specs.declared.operations.OpcodeRow.{OpcodeRow}
 use Rattle.zcore.specs.declared.place.Fault.{Fault}
 use Rattle.zcore.specs.declared.place.Fault.TheVariants as faults
 use Rattle.zcore.specs.Instruction.{operands}
-use Rattle.zcore_standard.specs.Instruction.{Instruction, types_at, counted, result_at, branch_after, decode_row}
+use Rattle.zcore_standard.specs.Instruction.{Instruction, row_types, counted, result_at, branch_after, decode_row}
 use Rattle.zcore_standard.specs.Endings.{ends}
 
 -- an instruction with what follows its operands
@@ -36,10 +36,6 @@ counted_ok : (row : OpcodeRow) (types : List ℕ) (count after : ℕ) → count 
 counted_ok row types count after le least most =
     let long : length (take count types) ≡ count = length-take-le count types le in
     rw (long, le-leb row.least_operands count least, le-leb count row.most_operands most) refl
-
--- the types of the operands, in two bytes of variable form where the row says so
-abbrev pub row_types : List ℕ → ℕ → OpcodeRow → Result (List ℕ × ℕ) Fault
-row_types memory at row = types_at memory (nat_lt 4 row.most_operands) (slice_index memory at) at
 
 pub decoded_types : (memory : List ℕ) (at : ℕ) (row : OpcodeRow) (e : Fault)
     → Err e ≡ row_types memory at row → Err e ≡ decode_row memory at row

@@ -9,17 +9,18 @@ use Rattle.zcore.specs.Parts.{fault, operand_values, goes_on, branch_on}
 use Rattle.zcore.specs.Effects.{give_result}
 use Rattle.zcore.specs.Execution.{first, second, third}
 use Rattle.zcore_standard.specs.declared.operations.StandardOperation.{StandardOperation}
-use Rattle.zcore_standard.specs.declared.operations.StandardOperation.TheVariants.{Restart, Catch, ShowStatus, Verify, Piracy}
-use Rattle.zcore_standard.specs.declared.operations.StandardOperation.TheVariants.{SetColour, Throw, Read, Random, SplitWindow}
-use Rattle.zcore_standard.specs.declared.operations.StandardOperation.TheVariants.{SetWindow, EraseWindow, EraseLine, SetCursor}
+use Rattle.zcore_standard.specs.declared.operations.StandardOperation.TheVariants.{Restart, Catch, ShowStatus, Verify}
+use Rattle.zcore_standard.specs.declared.operations.StandardOperation.TheVariants.{Piracy, SetColour, Throw, Read}
+use Rattle.zcore_standard.specs.declared.operations.StandardOperation.TheVariants.{Random, SplitWindow, SetWindow}
+use Rattle.zcore_standard.specs.declared.operations.StandardOperation.TheVariants.{EraseWindow, EraseLine, SetCursor}
 use Rattle.zcore_standard.specs.declared.operations.StandardOperation.TheVariants.{GetCursor, SetTextStyle, BufferMode}
-use Rattle.zcore_standard.specs.declared.operations.StandardOperation.TheVariants.{OutputStream, InputStream, SoundEffect}
-use Rattle.zcore_standard.specs.declared.operations.StandardOperation.TheVariants.{ReadChar}
-use Rattle.zcore_standard.specs.declared.operations.StandardOperation.TheVariants.{ScanTable, Tokenise, EncodeText}
-use Rattle.zcore_standard.specs.declared.operations.StandardOperation.TheVariants.{CopyTable, PrintTable, Save, Restore}
-use Rattle.zcore_standard.specs.declared.operations.StandardOperation.TheVariants.{LogShift, ArtShift, SetFont, SaveUndo}
-use Rattle.zcore_standard.specs.declared.operations.StandardOperation.TheVariants.{RestoreUndo, PrintUnicode, CheckUnicode}
-use Rattle.zcore_standard.specs.declared.operations.StandardOperation.TheVariants.{SetTrueColour}
+use Rattle.zcore_standard.specs.declared.operations.StandardOperation.TheVariants.{OutputStream, InputStream}
+use Rattle.zcore_standard.specs.declared.operations.StandardOperation.TheVariants.{SoundEffect, ReadChar, ScanTable}
+use Rattle.zcore_standard.specs.declared.operations.StandardOperation.TheVariants.{Tokenise, EncodeText, CopyTable}
+use Rattle.zcore_standard.specs.declared.operations.StandardOperation.TheVariants.{PrintTable, Save, Restore, LogShift}
+use Rattle.zcore_standard.specs.declared.operations.StandardOperation.TheVariants.{ArtShift, SetFont, SaveUndo}
+use Rattle.zcore_standard.specs.declared.operations.StandardOperation.TheVariants.{RestoreUndo, PrintUnicode}
+use Rattle.zcore_standard.specs.declared.operations.StandardOperation.TheVariants.{CheckUnicode, SetTrueColour}
 use Rattle.zcore_standard.specs.Place.{Here, past, within}
 use Rattle.zcore_standard.specs.Loaded.{Loaded, alphabets_of}
 use Rattle.zcore_standard.specs.Instruction.{Instruction}

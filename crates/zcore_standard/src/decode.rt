@@ -21,13 +21,29 @@ use zcore::{Branch, Fault, OpcodeRow, Operand};
 /// A byte has so many types of operands (section 4.4.3).
 const TYPES_IN_A_BYTE: usize = 4;
 
-/// The types of the operands of an instruction whose first byte is given, how many there are, and
-/// the address of the first operand. In variable form they are in two bytes if there are more.
+/// The types of the operands of the instruction at an address whose opcode has this row, how many
+/// there are, and the address of the first operand.
 ///
 /// # Errors
 ///
 /// M1 where an operand is given after an omitted one; M2 where the types lie outside the story.
 pub fn types_at(
+    story: &[u8],
+    at: usize,
+    row: OpcodeRow,
+) -> Result<([u8; OPERANDS], usize, usize), Fault>
+    requires short { length story.now ≤ longest_story }
+    requires within { at < length story.now }
+    ensures types { seen (λ x. (take x.1 x.0, x.2)) result ≡ definitions.row_types story.now at row }
+    ensures few { IfOk result (λ x. x.1 ≤ OPERANDS) }
+    ensures within { IfOk result (λ x. x.2 ≤ length story.now) }
+{
+    read_by_form(story, has_more_types(row), story[at], at)
+}
+
+/// The same, where the first byte was read. In variable form the types are in two bytes if there may
+/// be more.
+fn read_by_form(
     story: &[u8],
     more: bool,
     first: u8,
@@ -67,7 +83,9 @@ fn short_types(first: u8) -> ([u8; OPERANDS], usize)
     let x = first / SHORT_OPCODE_NUMBERS % TYPES;
     let count = if x == OMITTED { 0 } else { 1 };
     (
-        [x, OMITTED, OMITTED, OMITTED, OMITTED, OMITTED, OMITTED, OMITTED],
+        [
+            x, OMITTED, OMITTED, OMITTED, OMITTED, OMITTED, OMITTED, OMITTED,
+        ],
         count,
     )
 }
@@ -145,7 +163,7 @@ pub fn decode_row(
     ensures within { IfOk result (λ x. x.1.after ≤ length story.now) }
     ensures size { length operands.new ≡ OPERANDS }
 {
-    let (types, count, after) = types_at(story, has_more_types(row), story[at], at)?;
+    let (types, count, after) = types_at(story, at, row)?;
     if count < row.least_operands || row.most_operands < count {
         return Err(Fault::Opcode);
     }
@@ -171,7 +189,7 @@ pub fn decode_any(
     ensures within { IfOk result (λ x. x.1.after ≤ length story.now) }
     ensures size { length operands.new ≡ OPERANDS }
 {
-    let (types, count, after) = types_at(story, has_more_types(row), story[at], at)?;
+    let (types, count, after) = types_at(story, at, row)?;
     let after = read_each(story, &types, count, after, operands)?;
     let ending = ending_at(story, row, after)?;
     Ok((count, ending))

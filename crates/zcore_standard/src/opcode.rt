@@ -1,7 +1,7 @@
 //! The opcode of an instruction, by its first bytes (Z-Machine Standards Document 1.1, section 4.3).
 
-ghost use Rattle.std.specs.Prelude.{◌≡◌};
-ghost use Rattle.zcore_standard.specs.Opcodes.{opcode_at, opcode_of, plain};
+ghost use Rattle.std.specs.Prelude.{◌≡◌, ◌<◌, length};
+ghost use Rattle.zcore_standard.specs.Opcodes.{opcode_at, opcode_of, extended, plain};
 
 use machine_decoding::first_bytes::{
     OPCODE_NUMBERS, SHORT_FORM, SHORT_FORM_0OP, SHORT_OPCODE_NUMBERS, VARIABLE_FORM,
@@ -64,13 +64,10 @@ impl Opcode {
             return None;
         }
         let first = story[at];
-        if first != EXTENDED {
-            return Some(Opcode::plain(first));
+        if first == EXTENDED {
+            return extended(story, at);
         }
-        if story.len() <= at + 1 {
-            return None;
-        }
-        Some(Opcode::of_bytes(first, story[at + 1]))
+        Some(Opcode::plain(first))
     }
 
     /// The opcode that two bytes begin. The second counts only in an extended opcode.
@@ -109,4 +106,19 @@ impl Opcode {
             number: first % numbers,
         }
     }
+}
+
+/// The opcode at an address whose first byte begins an extended one.
+fn extended(story: &[u8], at: usize) -> Option<Opcode>
+    requires { at < length story.now }
+    ensures { result ≡ extended story.now at }
+{
+    let second = at + 1;
+    if story.len() <= second {
+        return None;
+    }
+    Some(Opcode {
+        numbering: Numbering::Extended,
+        number: story[second],
+    })
 }

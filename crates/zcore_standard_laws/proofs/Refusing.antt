@@ -17,13 +17,15 @@ use Rattle.zcore.specs.State.{State, halt}
 use Rattle.zcore.specs.Parts.{is_code}
 use Rattle.zcore.specs.Execution.{step}
 use Rattle.zcore_standard.specs.declared.operations.StandardOperation.{StandardOperation}
-use Rattle.zcore_standard.specs.declared.operations.StandardOperation.TheVariants.{Restart, Catch, ShowStatus, Verify, Piracy}
-use Rattle.zcore_standard.specs.declared.operations.StandardOperation.TheVariants.{SetColour, Throw, Read, Random, SplitWindow}
-use Rattle.zcore_standard.specs.declared.operations.StandardOperation.TheVariants.{SetWindow, EraseWindow, EraseLine, SetCursor}
+use Rattle.zcore_standard.specs.declared.operations.StandardOperation.TheVariants.{Restart, Catch, ShowStatus, Verify}
+use Rattle.zcore_standard.specs.declared.operations.StandardOperation.TheVariants.{Piracy, SetColour, Throw, Read}
+use Rattle.zcore_standard.specs.declared.operations.StandardOperation.TheVariants.{Random, SplitWindow, SetWindow}
+use Rattle.zcore_standard.specs.declared.operations.StandardOperation.TheVariants.{EraseWindow, EraseLine, SetCursor}
 use Rattle.zcore_standard.specs.declared.operations.StandardOperation.TheVariants.{GetCursor, SetTextStyle, BufferMode}
-use Rattle.zcore_standard.specs.declared.operations.StandardOperation.TheVariants.{OutputStream, InputStream, SoundEffect}
-use Rattle.zcore_standard.specs.declared.operations.StandardOperation.TheVariants.{ReadChar, ScanTable, Tokenise, EncodeText}
-use Rattle.zcore_standard.specs.declared.operations.StandardOperation.TheVariants.{CopyTable, PrintTable}
+use Rattle.zcore_standard.specs.declared.operations.StandardOperation.TheVariants.{OutputStream, InputStream}
+use Rattle.zcore_standard.specs.declared.operations.StandardOperation.TheVariants.{SoundEffect, ReadChar, ScanTable}
+use Rattle.zcore_standard.specs.declared.operations.StandardOperation.TheVariants.{Tokenise, EncodeText, CopyTable}
+use Rattle.zcore_standard.specs.declared.operations.StandardOperation.TheVariants.{PrintTable}
 use Rattle.zcore_standard.specs.Operations.{row_of, numbered, no_operand, two_operand, of_bytes}
 use Rattle.zcore_standard.specs.declared.opcode.Opcode.{Opcode}
 use Rattle.zcore_standard.specs.Operations.{further_at, standard_of}

@@ -25,7 +25,7 @@ use Rattle.zcore_standard.specs.Place.{Here, on, within}
 use Rattle.zcore_standard.specs.Loaded.{Loaded}
 use Rattle.zcore_standard.specs.Operations.{row_of, further_at}
 use Rattle.zcore_standard.specs.Instruction.{Instruction, typed, types_at, counted, result_at, branch_after}
-use Rattle.zcore_standard.specs.Instruction.{decode_row, short_types}
+use Rattle.zcore_standard.specs.Instruction.{decode_row, row_types, short_types}
 use Rattle.zcore.specs.declared.operations.OpcodeRow.{OpcodeRow}
 use Rattle.zcore_standard.specs.Dice.{rolled, random}
 use Rattle.zcore_standard.specs.Flow.{restart}
@@ -125,7 +125,7 @@ perform_further_lighter loaded operations.SplitWindow here after result branch v
 perform_further_lighter loaded operation here after result branch values past = lighter_from here _
     (keeping_falls loaded operation here after result branch values past)
 
--- The address after an instruction lies behind its own
+-- The address after an instruction lies after its own
 
 typed_ahead : (memory : List ℕ) (more : Bool) (at : ℕ) (x : List ℕ × ℕ) → typed memory more at ≡ Ok x → at ≤ x.1
 typed_ahead memory more at x h =
@@ -193,7 +193,7 @@ decode_row_ahead : (memory : List ℕ) (at : ℕ) (row : OpcodeRow) (x : Instruc
     → decode_row memory at row ≡ Ok x → at < x.1
 unfolding decode_row
 decode_row_ahead memory at row x h =
-    let p = ahead.read (types_at memory (nat_lt 4 row.most_operands) (slice_index memory at) at) _ x h in
+    let p = ahead.read (row_types memory at row) _ x h in
     let c = ahead.read (counted row p.value) _ x p.second in
     let q = ahead.read (operands memory c.value.0 c.value.1) _ x c.second in
     let r = ahead.read (result_at memory row.has_result q.value.1) _ x q.second in

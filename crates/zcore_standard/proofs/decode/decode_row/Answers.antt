@@ -6,7 +6,7 @@ use Rattle.zcore_standard.proofs.decode.decode_row.Goals as goal
 
 pub returns-in_err-types-clause-instruction : goal.returns-in_err-types-clause-instruction
 returns-in_err-types-clause-instruction c = seen_err _ _ _ _ c.from_residual.ensures.1
-    (decoded_types c.args.story.now c.args.at c.args.row c.in_err-types.ensures.types)
+    (decoded_types c.args.story.now c.args.at c.args.row _ c.in_err-types.ensures.types)
 
 pub returns-then-count-row-clause-instruction : goal.returns-then-count-row-clause-instruction
 returns-then-count-row-clause-instruction c = decoded_counted c.args.story.now c.args.at c.args.row
