@@ -1,7 +1,7 @@
 //! The table of opcodes (Z-Machine Standards Document 1.1, section 14): a row for each opcode of
 //! versions 1 to 8, but for those of version 6 alone.
 
-ghost use Rattle.std.specs.Prelude.{◌≡◌, None};
+ghost use Rattle.std.specs.Prelude.{◌≡◌, ◌≤◌, None, IfSome};
 ghost use Rattle.zcore_standard.specs.Operations as table;
 ghost use Rattle.zcore_standard.specs.Rows.{standard_in, with_row};
 
@@ -328,9 +328,11 @@ macro_rules! older_row {
 impl Opcode {
     /// The row that the opcode has in a version of the story file. `None` where that version does not
     /// have it.
-    pub fn row(self, version: u8) -> Option<Row> {
+    pub fn row(self, version: u8) -> Option<Row>
+        ensures { IfSome result (λ row. (row.since ≤ version) × (version ≤ row.until)) }
+    {
         match self.last_row() {
-            Some(row) if row.since <= version => Some(row),
+            Some(row) if row.since <= version && version <= row.until => Some(row),
             _ => self.older_row(version),
         }
     }
@@ -376,7 +378,9 @@ impl Opcode {
     }
 
     /// Its row in a version up to 4, where it did something else.
-    fn older_row(self, version: u8) -> Option<Row> {
+    fn older_row(self, version: u8) -> Option<Row>
+        ensures { IfSome result (λ row. (row.since ≤ version) × (version ≤ row.until)) }
+    {
         older_opcodes!(self, version);
         None
     }
