@@ -209,25 +209,3 @@ pub known : (story : List ℕ) (at : ℕ) (operation : Operation) → at < lengt
     → Some operation ≡ profile_of (plain (slice_index story at)) → AreAlike story at operation
 known story at operation lt other e = known_by story at operation lt other e (cases_lt (slice_index story at) 128)
     (cases_lt (slice_index story at) 176) (cases_lt (slice_index story at) 192)
-
--- The operands of an opcode with a row
-
-refused_unless : {X : Type 0} (b : Bool) (x : X) → is_refused (cond b (Ok x) (Err faults.Opcode)) ≡ not b
-refused_unless true x = refl
-refused_unless false x = refl
-
-pub counted_said : (story : List ℕ) (at : ℕ) (row : OpcodeRow) (types : List ℕ) (count after : ℕ)
-    (refusal : Option Refusal) → count ≤ length types → Ok (take count types, after) ≡ row_types story at row
-    → is_said refusal ≡ not (takes row count) → is_said refusal ≡ is_refused (counted_at story at row)
-counted_said story at row types count after refusal few e says =
-    let long : length (take count types) ≡ count = length-take-le count types few in
-    rw (sym e, long) (says ∙ sym (refused_unless (takes row count) (take count types, after)))
-
-pub fault_said : (story : List ℕ) (at : ℕ) (row : OpcodeRow) (fault : Fault) → Err fault ≡ row_types story at row
-    → is_refused (counted_at story at row) ≡ is_refused (let r : Result ℕ Fault = Err fault in r)
-fault_said story at row faults.Opcode e = rw (sym e) refl
-fault_said story at row _ e = rw (sym e) refl
-
-pub other_fault : (fault : Fault) → fault ≢ faults.Opcode → false ≡ is_refused (let r : Result ℕ Fault = Err fault in r)
-other_fault faults.Opcode n = absurd (n refl)
-other_fault _ n = refl
