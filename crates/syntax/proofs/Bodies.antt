@@ -9,14 +9,14 @@ use Rattle.syntax_statements.specs.Tree.{StatementTree}
 use Rattle.syntax_statements.specs.Views.{trees_of}
 use Rattle.syntax_statements.specs.Nesting.{begins_statement, begins_in_case}
 use Rattle.syntax_statements.specs.Parse.{one_case, cases}
-use Rattle.syntax_token_machine.proofs.Frames.{Stack, token, value, upper_left, ranges_left, statement}
-use Rattle.syntax_token_machine.proofs.Frames.{statements_left, cases_left, body_left}
-use Rattle.syntax_token_machine.proofs.Machine.{shift}
-use Rattle.syntax_token_machine.proofs.Machine.{accepts, stop}
-use Rattle.syntax_places.proofs.After.{Follows, no_effect, follows_read, follows_then, past, as_long_follow}
-use Rattle.syntax_places.proofs.After.{repeated_follow}
-use Rattle.syntax_places.proofs.Either.{splits}
-use Rattle.syntax_places.proofs.Values.{ranges_follow}
+use Rattle.syntax.proofs.Frames.{Stack, token, value, upper_left, ranges_left, statement}
+use Rattle.syntax.proofs.Frames.{statements_left, cases_left, body_left}
+use Rattle.syntax.proofs.Machine.{shift}
+use Rattle.syntax.proofs.Machine.{accepts, stop}
+use Rattle.syntax.proofs.After.{Follows, no_effect, follows_read, follows_then, past, as_long_follow}
+use Rattle.syntax.proofs.After.{repeated_follow}
+use Rattle.syntax.proofs.Either.{splits}
+use Rattle.syntax.proofs.Values.{ranges_follow}
 
 -- a statement more, or what stands behind
 more : (k : Stack) (ts : List Lexeme) → stop false (statements_left ∷ k) ts

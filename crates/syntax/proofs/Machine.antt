@@ -9,23 +9,23 @@ use Rattle.syntax_parsing.specs.Parse.{is_sign, is_word}
 use Rattle.syntax_expression_parts.specs.Operators.{logical, comparing, equating, containing, testing, adding, scaling}
 use Rattle.syntax_expression_parts.specs.Operators.{stepping, indexing}
 use Rattle.syntax_expression_parts.specs.Parse.{is_name}
-use Rattle.syntax_token_machine.proofs.Frames.{Frame, Stack, given, or_else, less, on_primary, on_unary, on_indexed}
-use Rattle.syntax_token_machine.proofs.Frames.{on_complement, on_product, on_sum, on_comparison, on_negation}
-use Rattle.syntax_token_machine.proofs.Frames.{on_condition, on_expression, on_arguments, on_number, on_value}
-use Rattle.syntax_token_machine.proofs.Frames.{on_flag, on_text, on_item, on_cast, on_statement, in_case, on_case}
-use Rattle.syntax_token_machine.proofs.Frames.{on_minus, on_kind, on_object, on_end, on_entries, token, word}
-use Rattle.syntax_token_machine.proofs.Frames.{any_name, any_text, number_left, last, close, primary, unary, indexed}
-use Rattle.syntax_token_machine.proofs.Frames.{complement, product, sum, comparison, negation, condition, expression}
-use Rattle.syntax_token_machine.proofs.Frames.{arguments, name_behind, array_behind, properties_left, suffix_left}
-use Rattle.syntax_token_machine.proofs.Frames.{owned_left, scale_left, add_left, compare_left, or_left, logic_left}
-use Rattle.syntax_token_machine.proofs.Frames.{assign_left, arguments_left, set, need, value, upper_left, ranges_left}
-use Rattle.syntax_token_machine.proofs.Frames.{flag, flags_left, item, items_left, cast_behind, optional}
-use Rattle.syntax_token_machine.proofs.Frames.{optional_effect, loop, returned, statement, statements_left, else_left}
-use Rattle.syntax_token_machine.proofs.Frames.{cases_left, otherwise_left, body_left, case_behind, minus_behind}
-use Rattle.syntax_token_machine.proofs.Frames.{names_left, values_left, value_left, initial_left, array_kind}
-use Rattle.syntax_token_machine.proofs.Frames.{object_heading, arrows_left, short_left, parent_left}
-use Rattle.syntax_token_machine.proofs.Frames.{properties_behind, attributes_left, with_or_has, property_or_has}
-use Rattle.syntax_token_machine.proofs.Frames.{props_left, texts_left, entries_left}
+use Rattle.syntax.proofs.Frames.{Frame, Stack, given, or_else, less, on_primary, on_unary, on_indexed}
+use Rattle.syntax.proofs.Frames.{on_complement, on_product, on_sum, on_comparison, on_negation}
+use Rattle.syntax.proofs.Frames.{on_condition, on_expression, on_arguments, on_number, on_value}
+use Rattle.syntax.proofs.Frames.{on_flag, on_text, on_item, on_cast, on_statement, in_case, on_case}
+use Rattle.syntax.proofs.Frames.{on_minus, on_kind, on_object, on_end, on_entries, token, word}
+use Rattle.syntax.proofs.Frames.{any_name, any_text, number_left, last, close, primary, unary, indexed}
+use Rattle.syntax.proofs.Frames.{complement, product, sum, comparison, negation, condition, expression}
+use Rattle.syntax.proofs.Frames.{arguments, name_behind, array_behind, properties_left, suffix_left}
+use Rattle.syntax.proofs.Frames.{owned_left, scale_left, add_left, compare_left, or_left, logic_left}
+use Rattle.syntax.proofs.Frames.{assign_left, arguments_left, set, need, value, upper_left, ranges_left}
+use Rattle.syntax.proofs.Frames.{flag, flags_left, item, items_left, cast_behind, optional}
+use Rattle.syntax.proofs.Frames.{optional_effect, loop, returned, statement, statements_left, else_left}
+use Rattle.syntax.proofs.Frames.{cases_left, otherwise_left, body_left, case_behind, minus_behind}
+use Rattle.syntax.proofs.Frames.{names_left, values_left, value_left, initial_left, array_kind}
+use Rattle.syntax.proofs.Frames.{object_heading, arrows_left, short_left, parent_left}
+use Rattle.syntax.proofs.Frames.{properties_behind, attributes_left, with_or_has, property_or_has}
+use Rattle.syntax.proofs.Frames.{props_left, texts_left, entries_left}
 
 -- ---- one token
 

@@ -6,19 +6,19 @@ use Rattle.syntax_lexer.specs.declared.token.Sign.TheVariants as s
 use Rattle.syntax_lexer.specs.declared.token.Word.TheVariants as w
 use Rattle.syntax_lexer.specs.Token.{Lexeme, name, number, text, reserved, sign, end}
 use Rattle.syntax_parsing.specs.Parse.{head}
-use Rattle.syntax_token_machine.proofs.Frames.{Frame, token, word, any_name, any_text, number_left, last, close}
-use Rattle.syntax_token_machine.proofs.Frames.{primary, unary, indexed, complement, product, sum, comparison}
-use Rattle.syntax_token_machine.proofs.Frames.{negation, condition, expression, arguments, name_behind, array_behind}
-use Rattle.syntax_token_machine.proofs.Frames.{properties_left, suffix_left, owned_left, scale_left, add_left}
-use Rattle.syntax_token_machine.proofs.Frames.{compare_left, or_left, logic_left, assign_left, arguments_left, set}
-use Rattle.syntax_token_machine.proofs.Frames.{need, value, upper_left, ranges_left, flag, flags_left, item}
-use Rattle.syntax_token_machine.proofs.Frames.{items_left}
-use Rattle.syntax_token_machine.proofs.Frames.{cast_behind, optional, optional_effect, loop, returned, statement}
-use Rattle.syntax_token_machine.proofs.Frames.{statements_left, else_left, cases_left, otherwise_left, body_left}
-use Rattle.syntax_token_machine.proofs.Frames.{case_behind, minus_behind, names_left, values_left, value_left}
-use Rattle.syntax_token_machine.proofs.Frames.{initial_left, array_kind, object_heading, arrows_left, short_left}
-use Rattle.syntax_token_machine.proofs.Frames.{parent_left, properties_behind, attributes_left, with_or_has}
-use Rattle.syntax_token_machine.proofs.Frames.{property_or_has, props_left, texts_left, entries_left, Stack, less}
+use Rattle.syntax.proofs.Frames.{Frame, token, word, any_name, any_text, number_left, last, close}
+use Rattle.syntax.proofs.Frames.{primary, unary, indexed, complement, product, sum, comparison}
+use Rattle.syntax.proofs.Frames.{negation, condition, expression, arguments, name_behind, array_behind}
+use Rattle.syntax.proofs.Frames.{properties_left, suffix_left, owned_left, scale_left, add_left}
+use Rattle.syntax.proofs.Frames.{compare_left, or_left, logic_left, assign_left, arguments_left, set}
+use Rattle.syntax.proofs.Frames.{need, value, upper_left, ranges_left, flag, flags_left, item}
+use Rattle.syntax.proofs.Frames.{items_left}
+use Rattle.syntax.proofs.Frames.{cast_behind, optional, optional_effect, loop, returned, statement}
+use Rattle.syntax.proofs.Frames.{statements_left, else_left, cases_left, otherwise_left, body_left}
+use Rattle.syntax.proofs.Frames.{case_behind, minus_behind, names_left, values_left, value_left}
+use Rattle.syntax.proofs.Frames.{initial_left, array_kind, object_heading, arrows_left, short_left}
+use Rattle.syntax.proofs.Frames.{parent_left, properties_behind, attributes_left, with_or_has}
+use Rattle.syntax.proofs.Frames.{property_or_has, props_left, texts_left, entries_left, Stack, less}
 
 abbrev pub anywhere : Position
 anywhere = record { offset = 0; line = 0 }

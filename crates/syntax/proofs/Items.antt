@@ -11,13 +11,13 @@ use Rattle.syntax_expressions.specs.Parse.{nested, expression}
 use Rattle.syntax_statement_parts.specs.Tree.{PrintItemTree, number_item, character_item, object_item}
 use Rattle.syntax_statement_parts.specs.Grammar.{has_effect}
 use Rattle.syntax_statement_parts.specs.Parse.{cast, value, item, items}
-use Rattle.syntax_token_machine.proofs.Frames.{Stack, token, set, items_left, less}
-use Rattle.syntax_token_machine.proofs.Machine.{shift, accepts, stop}
-use Rattle.syntax_token_machine.proofs.Frames as frame
-use Rattle.syntax_places.proofs.After.{Follows, no_effect, follows_read, follows_deep, follows_as, follows_then}
-use Rattle.syntax_places.proofs.After.{list_follows}
-use Rattle.syntax_places.proofs.Expressions.{expression_follows}
-use Rattle.syntax_places.proofs.After.{longer, past, set_goes}
+use Rattle.syntax.proofs.Frames.{Stack, token, set, items_left, less}
+use Rattle.syntax.proofs.Machine.{shift, accepts, stop}
+use Rattle.syntax.proofs.Frames as frame
+use Rattle.syntax.proofs.After.{Follows, no_effect, follows_read, follows_deep, follows_as, follows_then}
+use Rattle.syntax.proofs.After.{list_follows}
+use Rattle.syntax.proofs.Expressions.{expression_follows}
+use Rattle.syntax.proofs.After.{longer, past, set_goes}
 
 number_follows : (d : ℕ) (k : Stack) (p : Position) (ts : List Lexeme)
     → Follows (stop false (frame.expression ∷ set false ∷ k) ts) no_effect k (tail ts)

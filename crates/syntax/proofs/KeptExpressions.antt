@@ -7,20 +7,20 @@ use Rattle.syntax_lexer.specs.Token.{Lexeme, name, number, text, character, dict
 use Rattle.syntax_parsing.specs.Parse.{is_sign}
 use Rattle.syntax_expression_parts.specs.Operators.{stepping, prefixes, relating_word}
 use Rattle.syntax_expression_parts.specs.Parse.{word_value}
-use Rattle.syntax_token_machine.proofs.Frames.{Frame, token, close}
-use Rattle.syntax_token_machine.proofs.Frames.{primary, unary, complement}
-use Rattle.syntax_token_machine.proofs.Frames.{negation, expression, name_behind, array_behind}
-use Rattle.syntax_token_machine.proofs.Frames.{properties_left, suffix_left, owned_left, scale_left, add_left}
-use Rattle.syntax_token_machine.proofs.Frames.{compare_left, logic_left, assign_left, arguments_left, set}
-use Rattle.syntax_token_machine.proofs.Frames.{need}
-use Rattle.syntax_token_machine.proofs.Frames.{cases_left}
-use Rattle.syntax_token_machine.proofs.Frames.{Stack, given}
-use Rattle.syntax_token_machine.proofs.Frames.{or_else, less, on_word, on_atom, on_primary, on_unary}
-use Rattle.syntax_token_machine.proofs.Frames.{on_unindexed}
-use Rattle.syntax_token_machine.proofs.Frames.{on_indexed, on_complement, on_product, on_sum, on_comparison}
-use Rattle.syntax_token_machine.proofs.Frames.{on_negation, on_condition, on_expression, on_arguments}
-use Rattle.syntax_token_machine.proofs.Words.{words, ends_expression, ends_operand, Ends}
-use Rattle.syntax_token_machine.proofs.Words.{Place, lends, Fits}
+use Rattle.syntax.proofs.Frames.{Frame, token, close}
+use Rattle.syntax.proofs.Frames.{primary, unary, complement}
+use Rattle.syntax.proofs.Frames.{negation, expression, name_behind, array_behind}
+use Rattle.syntax.proofs.Frames.{properties_left, suffix_left, owned_left, scale_left, add_left}
+use Rattle.syntax.proofs.Frames.{compare_left, logic_left, assign_left, arguments_left, set}
+use Rattle.syntax.proofs.Frames.{need}
+use Rattle.syntax.proofs.Frames.{cases_left}
+use Rattle.syntax.proofs.Frames.{Stack, given}
+use Rattle.syntax.proofs.Frames.{or_else, less, on_word, on_atom, on_primary, on_unary}
+use Rattle.syntax.proofs.Frames.{on_unindexed}
+use Rattle.syntax.proofs.Frames.{on_indexed, on_complement, on_product, on_sum, on_comparison}
+use Rattle.syntax.proofs.Frames.{on_negation, on_condition, on_expression, on_arguments}
+use Rattle.syntax.proofs.StackWords.{words, ends_expression, ends_operand, Ends}
+use Rattle.syntax.proofs.StackWords.{Place, lends, Fits}
 
 -- ---- stacks in parts
 

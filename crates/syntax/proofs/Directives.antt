@@ -12,20 +12,20 @@ use Rattle.syntax_directives.specs.Tree.{DirectiveTree, global, property}
 use Rattle.syntax_directives.specs.Parse.{kind, array_behind, abbreviate_behind, ended, global_behind}
 use Rattle.syntax_directives.specs.Parse.{constant_behind, attribute_behind, property_behind, worded, routine_at}
 use Rattle.syntax_directives.specs.Parse.{directive}
-use Rattle.syntax_token_machine.proofs.Frames.{Stack, token, any_name, any_text, texts_left, names_left, value}
-use Rattle.syntax_token_machine.proofs.Frames.{values_left}
-use Rattle.syntax_token_machine.proofs.Frames.{value_left, initial_left, array_kind, statements_left, on_entry}
-use Rattle.syntax_token_machine.proofs.Machine.{shift}
-use Rattle.syntax_token_machine.proofs.Machine.{accepts, stop}
-use Rattle.syntax_places.proofs.After.{Follows, no_effect, onward, follows_read, follows_unfit, follows_as}
-use Rattle.syntax_places.proofs.After.{follows_then}
-use Rattle.syntax_places.proofs.After.{follows_by}
-use Rattle.syntax_places.proofs.Expressions.{name_follows}
-use Rattle.syntax_places.proofs.Values.{value_follows}
-use Rattle.syntax_places.proofs.Rows.{names_follow, values_follow, texts_follow}
-use Rattle.syntax_places.proofs.After.{longer, past}
-use Rattle.syntax_places.proofs.Statements.{statements_follow}
-use Rattle.syntax_places.proofs.Objects.{object_follows}
+use Rattle.syntax.proofs.Frames.{Stack, token, any_name, any_text, texts_left, names_left, value}
+use Rattle.syntax.proofs.Frames.{values_left}
+use Rattle.syntax.proofs.Frames.{value_left, initial_left, array_kind, statements_left, on_entry}
+use Rattle.syntax.proofs.Machine.{shift}
+use Rattle.syntax.proofs.Machine.{accepts, stop}
+use Rattle.syntax.proofs.After.{Follows, no_effect, onward, follows_read, follows_unfit, follows_as}
+use Rattle.syntax.proofs.After.{follows_then}
+use Rattle.syntax.proofs.After.{follows_by}
+use Rattle.syntax.proofs.Expressions.{name_follows}
+use Rattle.syntax.proofs.Values.{value_follows}
+use Rattle.syntax.proofs.Rows.{names_follow, values_follow, texts_follow}
+use Rattle.syntax.proofs.After.{longer, past}
+use Rattle.syntax.proofs.Statements.{statements_follow}
+use Rattle.syntax.proofs.Objects.{object_follows}
 
 ended_follows : (x : DirectiveTree) (b : Bool) (k : Stack) (ts : List Lexeme)
     → Follows (stop b (token s.Semicolon ∷ k) ts) no_effect k ts (ended x ts)

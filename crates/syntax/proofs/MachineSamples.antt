@@ -5,9 +5,9 @@ use Rattle.syntax_lexer.specs.declared.token.Sign.TheVariants as s
 use Rattle.syntax_lexer.specs.declared.token.Word.{Word}
 use Rattle.syntax_lexer.specs.declared.token.Word.TheVariants as w
 use Rattle.syntax_lexer.specs.Token.{Lexeme, name, number, text, reserved, sign, end}
-use Rattle.syntax_token_machine.proofs.Frames.{less}
-use Rattle.syntax_token_machine.proofs.Machine.{shift, accepts, stop, file}
-use Rattle.syntax_token_machine.proofs.Words.{anywhere}
+use Rattle.syntax.proofs.Frames.{less}
+use Rattle.syntax.proofs.Machine.{shift, accepts, stop, file}
+use Rattle.syntax.proofs.StackWords.{anywhere}
 
 abbrev x : Lexeme
 x = name [] anywhere

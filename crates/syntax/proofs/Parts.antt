@@ -13,14 +13,14 @@ use Rattle.syntax_expressions.specs.Parse.{nested, expression}
 use Rattle.syntax_statement_parts.specs.Grammar.{has_effect, effect_or_none}
 use Rattle.syntax_statement_parts.specs.Parse.{enclosed_condition, optional, optional_effect, heading, heading_in}
 use Rattle.syntax_statement_parts.specs.Parse.{enclosed_heading, looped, looped_in, enclosed_loop}
-use Rattle.syntax_token_machine.proofs.Frames.{Stack, token, need}
-use Rattle.syntax_token_machine.proofs.Machine.{shift, accepts, stop}
-use Rattle.syntax_token_machine.proofs.Frames as frame
-use Rattle.syntax_places.proofs.After.{Follows, no_effect, onward, follows_read, follows_unfit, follows_deep}
-use Rattle.syntax_places.proofs.After.{follows_as}
-use Rattle.syntax_places.proofs.After.{follows_then, follows_by, follows_expect}
-use Rattle.syntax_places.proofs.After.{blind, longer, past}
-use Rattle.syntax_places.proofs.Expressions.{expression_follows, condition_follows, whole_follows}
+use Rattle.syntax.proofs.Frames.{Stack, token, need}
+use Rattle.syntax.proofs.Machine.{shift, accepts, stop}
+use Rattle.syntax.proofs.Frames as frame
+use Rattle.syntax.proofs.After.{Follows, no_effect, onward, follows_read, follows_unfit, follows_deep}
+use Rattle.syntax.proofs.After.{follows_as}
+use Rattle.syntax.proofs.After.{follows_then, follows_by, follows_expect}
+use Rattle.syntax.proofs.After.{blind, longer, past}
+use Rattle.syntax.proofs.Expressions.{expression_follows, condition_follows, whole_follows}
 
 -- ---- conditions
 

@@ -9,8 +9,8 @@ use Rattle.syntax_lexer.specs.Token.{Lexeme}
 use Rattle.syntax_parsing.specs.Stop.{Stop, unfit, deep}
 use Rattle.syntax_parsing.specs.Parse.{Parse, ◌>>=◌, head, tail, is_sign, is_word, expect, expect_word, further, list}
 use Rattle.syntax_parsing.specs.Parse.{as_long, repeated}
-use Rattle.syntax_token_machine.proofs.Frames.{Frame, token, word, set, Stack, given}
-use Rattle.syntax_token_machine.proofs.Machine.{shift, accepts, go_on, stop}
+use Rattle.syntax.proofs.Frames.{Frame, token, word, set, Stack, given}
+use Rattle.syntax.proofs.Machine.{shift, accepts, go_on, stop}
 
 abbrev Held : {A : Type 0} → Option ℕ → (A → Bool) → Stack → List Lexeme → Result (A × List Lexeme) Stop → Type 0
 Held x effect k ts (Ok r) = (x ≡ stop (effect r.0) k r.1) × (length r.1 ≤ length ts)

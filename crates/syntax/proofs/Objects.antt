@@ -12,16 +12,16 @@ use Rattle.syntax_expression_parts.specs.Parse.{expect_name}
 use Rattle.syntax_directives.specs.Parse.{names, arrow, arrows, short, parent, object_heading, behind_comma, prop}
 use Rattle.syntax_directives.specs.Parse.{lists_further, next_prop, props, properties, some_names, attributes}
 use Rattle.syntax_directives.specs.Parse.{object_behind}
-use Rattle.syntax_token_machine.proofs.Frames.{Stack, token, word, any_name, short_left, parent_left}
-use Rattle.syntax_token_machine.proofs.Frames.{properties_behind, attributes_left}
-use Rattle.syntax_token_machine.proofs.Frames.{props_left}
-use Rattle.syntax_token_machine.proofs.Frames.{names_left, value, values_left}
-use Rattle.syntax_token_machine.proofs.Machine.{shift, accepts, stop}
-use Rattle.syntax_token_machine.proofs.Frames as frame
-use Rattle.syntax_places.proofs.After.{Follows, no_effect, onward, follows_read, follows_unfit, follows_as}
-use Rattle.syntax_places.proofs.After.{follows_then, follows_twice, follows_expect, longer, past, as_long_follow}
-use Rattle.syntax_places.proofs.Expressions.{name_follows}
-use Rattle.syntax_places.proofs.Rows.{names_follow, values_follow, arrows_follow}
+use Rattle.syntax.proofs.Frames.{Stack, token, word, any_name, short_left, parent_left}
+use Rattle.syntax.proofs.Frames.{properties_behind, attributes_left}
+use Rattle.syntax.proofs.Frames.{props_left}
+use Rattle.syntax.proofs.Frames.{names_left, value, values_left}
+use Rattle.syntax.proofs.Machine.{shift, accepts, stop}
+use Rattle.syntax.proofs.Frames as frame
+use Rattle.syntax.proofs.After.{Follows, no_effect, onward, follows_read, follows_unfit, follows_as}
+use Rattle.syntax.proofs.After.{follows_then, follows_twice, follows_expect, longer, past, as_long_follow}
+use Rattle.syntax.proofs.Expressions.{name_follows}
+use Rattle.syntax.proofs.Rows.{names_follow, values_follow, arrows_follow}
 
 -- ---- heads
 

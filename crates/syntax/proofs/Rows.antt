@@ -11,15 +11,15 @@ use Rattle.syntax_expression_parts.specs.Parse.{is_name, expect_name}
 use Rattle.syntax_statement_parts.specs.Parse as parts
 use Rattle.syntax_statement_parts.specs.Parse.{begins_flag, flags, begins_value}
 use Rattle.syntax_directives.specs.Parse.{names, placed, values, arrow, is_text, one_text, texts}
-use Rattle.syntax_token_machine.proofs.Frames.{token, any_name, any_text, flag, flags_left, names_left, value}
-use Rattle.syntax_token_machine.proofs.Frames.{values_left, arrows_left}
-use Rattle.syntax_token_machine.proofs.Frames.{texts_left, Stack}
-use Rattle.syntax_token_machine.proofs.Machine.{shift, accepts, stop}
-use Rattle.syntax_places.proofs.After.{Follows, no_effect, onward, follows_read, follows_unfit, follows_as, shorter}
-use Rattle.syntax_places.proofs.After.{follows_then}
-use Rattle.syntax_places.proofs.After.{follows_by, follows_expect, repeated_follow}
-use Rattle.syntax_places.proofs.Expressions.{name_follows}
-use Rattle.syntax_places.proofs.Values.{value_follows}
+use Rattle.syntax.proofs.Frames.{token, any_name, any_text, flag, flags_left, names_left, value}
+use Rattle.syntax.proofs.Frames.{values_left, arrows_left}
+use Rattle.syntax.proofs.Frames.{texts_left, Stack}
+use Rattle.syntax.proofs.Machine.{shift, accepts, stop}
+use Rattle.syntax.proofs.After.{Follows, no_effect, onward, follows_read, follows_unfit, follows_as, shorter}
+use Rattle.syntax.proofs.After.{follows_then}
+use Rattle.syntax.proofs.After.{follows_by, follows_expect, repeated_follow}
+use Rattle.syntax.proofs.Expressions.{name_follows}
+use Rattle.syntax.proofs.Values.{value_follows}
 
 -- ---- names
 

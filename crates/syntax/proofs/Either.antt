@@ -8,9 +8,9 @@ use Rattle.syntax_lexer.specs.Token.{Lexeme, name, number, character, dictionary
 use Rattle.syntax_parsing.specs.Parse.{head}
 use Rattle.syntax_statement_parts.specs.Nesting.{goes_on_in_case, begins_case}
 use Rattle.syntax_statements.specs.Nesting.{begins_statement, begins_in_case}
-use Rattle.syntax_token_machine.proofs.Frames.{token, upper_left, ranges_left, statement, cases_left, body_left}
-use Rattle.syntax_token_machine.proofs.Frames.{case_behind, Stack, less}
-use Rattle.syntax_token_machine.proofs.Machine.{shift, accepts, stop}
+use Rattle.syntax.proofs.Frames.{token, upper_left, ranges_left, statement, cases_left, body_left}
+use Rattle.syntax.proofs.Frames.{case_behind, Stack, less}
+use Rattle.syntax.proofs.Machine.{shift, accepts, stop}
 
 -- behind a value, over the rest of the statement that it begins
 behind : (n : ℕ) (j k : Stack) (m : List Lexeme) → less n j ≡ k → stop false (case_behind n ∷ j) m

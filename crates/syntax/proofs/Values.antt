@@ -8,12 +8,12 @@ use Rattle.syntax_lexer.specs.Token.{Lexeme, name, number, character, dictionary
 use Rattle.syntax_parsing.specs.Parse.{◌>>=◌, head, tail, is_sign, is_word}
 use Rattle.syntax_statement_parts.specs.Tree.{LiteralTree, RangeTree}
 use Rattle.syntax_statement_parts.specs.Parse.{negative_on, known_value, range, ranges}
-use Rattle.syntax_token_machine.proofs.Frames.{value, number_left, upper_left, ranges_left, Stack}
-use Rattle.syntax_token_machine.proofs.Machine.{shift, accepts}
-use Rattle.syntax_token_machine.proofs.Machine.{stop}
-use Rattle.syntax_places.proofs.After.{Follows, no_effect, onward, follows_read, follows_unfit, follows_as, shorter}
-use Rattle.syntax_places.proofs.After.{follows_then}
-use Rattle.syntax_places.proofs.After.{follows_by, list_follows}
+use Rattle.syntax.proofs.Frames.{value, number_left, upper_left, ranges_left, Stack}
+use Rattle.syntax.proofs.Machine.{shift, accepts}
+use Rattle.syntax.proofs.Machine.{stop}
+use Rattle.syntax.proofs.After.{Follows, no_effect, onward, follows_read, follows_unfit, follows_as, shorter}
+use Rattle.syntax.proofs.After.{follows_then}
+use Rattle.syntax.proofs.After.{follows_by, list_follows}
 
 -- the number behind `-`
 negative_follows : (k : Stack) (ts : List Lexeme)

@@ -3,11 +3,11 @@ use Rattle.std.proofs.Common.{◌≡◌, ℕ, Bool, true, false, cond, List, [],
 use Rattle.std.proofs.Common.{sym, ap, ◌∙◌}
 use Rattle.syntax_lexer.specs.declared.token.Position.{Position}
 use Rattle.syntax_lexer.specs.Token.{Lexeme, end}
-use Rattle.syntax_token_machine.proofs.Frames.{Frame, last, Stack}
-use Rattle.syntax_token_machine.proofs.Machine.{on, stays_away, effect, shift, accepts, go_on, stop}
-use Rattle.syntax_token_machine.proofs.Machine.{Refuses}
-use Rattle.syntax_token_machine.proofs.Words.{Place, lends, Fits}
-use Rattle.syntax_token_machine.proofs.Kept.{kept}
+use Rattle.syntax.proofs.Frames.{Frame, last, Stack}
+use Rattle.syntax.proofs.Machine.{on, stays_away, effect, shift, accepts, go_on, stop}
+use Rattle.syntax.proofs.Machine.{Refuses}
+use Rattle.syntax.proofs.StackWords.{Place, lends, Fits}
+use Rattle.syntax.proofs.Kept.{kept}
 
 -- The tokens before the place and from there on, so many, and the stack there, which refuses them.
 pub record Stopped (k : Stack) (ts : List Lexeme) (left : ℕ) : Type 0 where

@@ -9,33 +9,33 @@ use Rattle.syntax_parsing.specs.Parse.{is_sign, is_word}
 use Rattle.syntax_expression_parts.specs.Operators.{logical, comparing, equating, containing, testing, adding, scaling}
 use Rattle.syntax_expression_parts.specs.Operators.{stepping, indexing}
 use Rattle.syntax_expression_parts.specs.Parse.{is_name}
-use Rattle.syntax_token_machine.proofs.Frames.{Frame, token, word, any_name, any_text, number_left, last, close}
-use Rattle.syntax_token_machine.proofs.Frames.{primary, unary, indexed, complement, product, sum, comparison}
-use Rattle.syntax_token_machine.proofs.Frames.{negation, condition, expression, arguments, name_behind, array_behind}
-use Rattle.syntax_token_machine.proofs.Frames.{properties_left, suffix_left, owned_left, scale_left, add_left}
-use Rattle.syntax_token_machine.proofs.Frames.{compare_left, or_left, logic_left, assign_left, arguments_left, set}
-use Rattle.syntax_token_machine.proofs.Frames.{need, value, upper_left, ranges_left, flag, flags_left, item}
-use Rattle.syntax_token_machine.proofs.Frames.{items_left}
-use Rattle.syntax_token_machine.proofs.Frames.{cast_behind, optional, optional_effect, loop, returned, statement}
-use Rattle.syntax_token_machine.proofs.Frames.{statements_left, else_left, cases_left, otherwise_left, body_left}
-use Rattle.syntax_token_machine.proofs.Frames.{case_behind, minus_behind, names_left, values_left, value_left}
-use Rattle.syntax_token_machine.proofs.Frames.{initial_left, array_kind, object_heading, arrows_left, short_left}
-use Rattle.syntax_token_machine.proofs.Frames.{parent_left, properties_behind, attributes_left, with_or_has}
-use Rattle.syntax_token_machine.proofs.Frames.{property_or_has, props_left, texts_left, entries_left, Stack}
-use Rattle.syntax_token_machine.proofs.Frames.{less}
-use Rattle.syntax_token_machine.proofs.Frames.{on_expression, on_number}
-use Rattle.syntax_token_machine.proofs.Frames.{on_value, on_flag, on_text, on_item, on_cast, on_statement, in_case}
-use Rattle.syntax_token_machine.proofs.Frames.{on_case, on_minus, on_kind, on_object, on_entry, on_end, on_entries}
-use Rattle.syntax_token_machine.proofs.Machine.{on}
-use Rattle.syntax_token_machine.proofs.Machine.{effect, shift, file}
-use Rattle.syntax_token_machine.proofs.Words.{anywhere, words, next, ends_expression, ends_list, ends_statements}
-use Rattle.syntax_token_machine.proofs.Words.{Ends}
-use Rattle.syntax_token_machine.proofs.Words.{rest_of_effect, Place, lends, Fits}
-use Rattle.syntax_token_machine.proofs.KeptExpressions.{Fit, raised, with_effect, less_fits, over_cases, to, by_if}
-use Rattle.syntax_token_machine.proofs.KeptExpressions.{by_given, by_else, nothing, primary_kept, unary_kept}
-use Rattle.syntax_token_machine.proofs.KeptExpressions.{indexed_kept, complement_kept, product_kept, sum_kept}
-use Rattle.syntax_token_machine.proofs.KeptExpressions.{comparison_kept, negation_kept, condition_kept}
-use Rattle.syntax_token_machine.proofs.KeptExpressions.{expression_kept, arguments_kept}
+use Rattle.syntax.proofs.Frames.{Frame, token, word, any_name, any_text, number_left, last, close}
+use Rattle.syntax.proofs.Frames.{primary, unary, indexed, complement, product, sum, comparison}
+use Rattle.syntax.proofs.Frames.{negation, condition, expression, arguments, name_behind, array_behind}
+use Rattle.syntax.proofs.Frames.{properties_left, suffix_left, owned_left, scale_left, add_left}
+use Rattle.syntax.proofs.Frames.{compare_left, or_left, logic_left, assign_left, arguments_left, set}
+use Rattle.syntax.proofs.Frames.{need, value, upper_left, ranges_left, flag, flags_left, item}
+use Rattle.syntax.proofs.Frames.{items_left}
+use Rattle.syntax.proofs.Frames.{cast_behind, optional, optional_effect, loop, returned, statement}
+use Rattle.syntax.proofs.Frames.{statements_left, else_left, cases_left, otherwise_left, body_left}
+use Rattle.syntax.proofs.Frames.{case_behind, minus_behind, names_left, values_left, value_left}
+use Rattle.syntax.proofs.Frames.{initial_left, array_kind, object_heading, arrows_left, short_left}
+use Rattle.syntax.proofs.Frames.{parent_left, properties_behind, attributes_left, with_or_has}
+use Rattle.syntax.proofs.Frames.{property_or_has, props_left, texts_left, entries_left, Stack}
+use Rattle.syntax.proofs.Frames.{less}
+use Rattle.syntax.proofs.Frames.{on_expression, on_number}
+use Rattle.syntax.proofs.Frames.{on_value, on_flag, on_text, on_item, on_cast, on_statement, in_case}
+use Rattle.syntax.proofs.Frames.{on_case, on_minus, on_kind, on_object, on_entry, on_end, on_entries}
+use Rattle.syntax.proofs.Machine.{on}
+use Rattle.syntax.proofs.Machine.{effect, shift, file}
+use Rattle.syntax.proofs.StackWords.{anywhere, words, next, ends_expression, ends_list, ends_statements}
+use Rattle.syntax.proofs.StackWords.{Ends}
+use Rattle.syntax.proofs.StackWords.{rest_of_effect, Place, lends, Fits}
+use Rattle.syntax.proofs.KeptExpressions.{Fit, raised, with_effect, less_fits, over_cases, to, by_if}
+use Rattle.syntax.proofs.KeptExpressions.{by_given, by_else, nothing, primary_kept, unary_kept}
+use Rattle.syntax.proofs.KeptExpressions.{indexed_kept, complement_kept, product_kept, sum_kept}
+use Rattle.syntax.proofs.KeptExpressions.{comparison_kept, negation_kept, condition_kept}
+use Rattle.syntax.proofs.KeptExpressions.{expression_kept, arguments_kept}
 
 -- ---- what statements are made of
 

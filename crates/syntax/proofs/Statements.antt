@@ -19,21 +19,21 @@ use Rattle.syntax_statements.specs.Parse.{ended, line_read, printed, returned, g
 use Rattle.syntax_statements.specs.Parse.{braced}
 use Rattle.syntax_statements.specs.Parse.{otherwise, choice, repetition, until, iteration, traversal, selection}
 use Rattle.syntax_statements.specs.Parse.{statement_over, inside, braces, bodies, statement, statements}
-use Rattle.syntax_token_machine.proofs.Frames.{Stack, token, word, any_name, need, item, items_left, flag}
-use Rattle.syntax_token_machine.proofs.Frames.{flags_left}
-use Rattle.syntax_token_machine.proofs.Frames.{statements_left, else_left, cases_left, otherwise_left, body_left}
-use Rattle.syntax_token_machine.proofs.Machine.{shift, accepts, stop}
-use Rattle.syntax_token_machine.proofs.Frames as frame
-use Rattle.syntax_places.proofs.After.{Follows, no_effect, onward, follows_read, follows_unfit, follows_deep}
-use Rattle.syntax_places.proofs.After.{follows_as}
-use Rattle.syntax_places.proofs.After.{follows_then, follows_by}
-use Rattle.syntax_places.proofs.Expressions.{expression_follows, name_follows}
-use Rattle.syntax_places.proofs.Rows.{flags_follow}
-use Rattle.syntax_places.proofs.After.{longer, past, past_word}
-use Rattle.syntax_places.proofs.Parts.{enclosed_follows, need_follows, enclosed_heading_follows}
-use Rattle.syntax_places.proofs.Parts.{enclosed_loop_follows}
-use Rattle.syntax_places.proofs.Items.{items_follow}
-use Rattle.syntax_places.proofs.Bodies.{no_statement, statements_go, body_goes, cases_follow}
+use Rattle.syntax.proofs.Frames.{Stack, token, word, any_name, need, item, items_left, flag}
+use Rattle.syntax.proofs.Frames.{flags_left}
+use Rattle.syntax.proofs.Frames.{statements_left, else_left, cases_left, otherwise_left, body_left}
+use Rattle.syntax.proofs.Machine.{shift, accepts, stop}
+use Rattle.syntax.proofs.Frames as frame
+use Rattle.syntax.proofs.After.{Follows, no_effect, onward, follows_read, follows_unfit, follows_deep}
+use Rattle.syntax.proofs.After.{follows_as}
+use Rattle.syntax.proofs.After.{follows_then, follows_by}
+use Rattle.syntax.proofs.Expressions.{expression_follows, name_follows}
+use Rattle.syntax.proofs.Rows.{flags_follow}
+use Rattle.syntax.proofs.After.{longer, past, past_word}
+use Rattle.syntax.proofs.Parts.{enclosed_follows, need_follows, enclosed_heading_follows}
+use Rattle.syntax.proofs.Parts.{enclosed_loop_follows}
+use Rattle.syntax.proofs.Items.{items_follow}
+use Rattle.syntax.proofs.Bodies.{no_statement, statements_go, body_goes, cases_follow}
 
 -- ---- statements that no other stands in
 

@@ -26,22 +26,22 @@ use Rattle.syntax_expressions.specs.Parse.{stepped, unary_on, entry, owned, unin
 use Rattle.syntax_expressions.specs.Parse.{compared, compared_on, equated, equated_on, contained_on, negated, assigned}
 use Rattle.syntax_expressions.specs.Parse.{assignment, called, nested}
 use Rattle.syntax_statement_parts.specs.Grammar.{has_effect}
-use Rattle.syntax_token_machine.proofs.Frames.{Frame, token, any_name, close, primary, unary, indexed, complement}
-use Rattle.syntax_token_machine.proofs.Frames.{product, sum}
-use Rattle.syntax_token_machine.proofs.Frames.{comparison, negation, condition, expression, arguments, name_behind}
-use Rattle.syntax_token_machine.proofs.Frames.{array_behind}
-use Rattle.syntax_token_machine.proofs.Frames.{properties_left, suffix_left, owned_left, scale_left, add_left}
-use Rattle.syntax_token_machine.proofs.Frames.{compare_left, or_left}
-use Rattle.syntax_token_machine.proofs.Frames.{logic_left, assign_left, arguments_left, set, Stack, given}
-use Rattle.syntax_token_machine.proofs.Frames.{on_unindexed}
-use Rattle.syntax_token_machine.proofs.Machine.{shift, accepts}
-use Rattle.syntax_token_machine.proofs.Frames.{less}
-use Rattle.syntax_token_machine.proofs.Machine.{stop}
-use Rattle.syntax_places.proofs.After.{Follows, no_effect, onward, follows_read, follows_unfit, follows_deep}
-use Rattle.syntax_places.proofs.After.{follows_as, shorter}
-use Rattle.syntax_places.proofs.After.{follows_then, follows_by, follows_given, follows_if, set_goes, follows_set}
-use Rattle.syntax_places.proofs.After.{follows_made}
-use Rattle.syntax_places.proofs.After.{follows_expect, list_follows, stops_alike}
+use Rattle.syntax.proofs.Frames.{Frame, token, any_name, close, primary, unary, indexed, complement}
+use Rattle.syntax.proofs.Frames.{product, sum}
+use Rattle.syntax.proofs.Frames.{comparison, negation, condition, expression, arguments, name_behind}
+use Rattle.syntax.proofs.Frames.{array_behind}
+use Rattle.syntax.proofs.Frames.{properties_left, suffix_left, owned_left, scale_left, add_left}
+use Rattle.syntax.proofs.Frames.{compare_left, or_left}
+use Rattle.syntax.proofs.Frames.{logic_left, assign_left, arguments_left, set, Stack, given}
+use Rattle.syntax.proofs.Frames.{on_unindexed}
+use Rattle.syntax.proofs.Machine.{shift, accepts}
+use Rattle.syntax.proofs.Frames.{less}
+use Rattle.syntax.proofs.Machine.{stop}
+use Rattle.syntax.proofs.After.{Follows, no_effect, onward, follows_read, follows_unfit, follows_deep}
+use Rattle.syntax.proofs.After.{follows_as, shorter}
+use Rattle.syntax.proofs.After.{follows_then, follows_by, follows_given, follows_if, set_goes, follows_set}
+use Rattle.syntax.proofs.After.{follows_made}
+use Rattle.syntax.proofs.After.{follows_expect, list_follows, stops_alike}
 
 -- ---- names, and what stands behind an object
 
