@@ -16,7 +16,7 @@ ghost use Rattle.code.specs.Written.{AreSizesOf};
 use crate::backward::{back_size, is_near};
 use crate::fault::CodeFault;
 use crate::item::put_item;
-use crate::settled::{after, between, front, is_settled, size_between};
+use crate::settled::{between, is_settled, size_between};
 use code_encoding::{Addresses, BranchUse, Part, Sizes, branches, lay_out};
 use code_instructions::{label_size, offset_of, place, target_of};
 use code_items::{Item, routine_items};
@@ -24,6 +24,7 @@ use meaning::Checked;
 use std::alloc::{AllocError, Global};
 use std::marker::Model;
 use std::mem::forget;
+use syntax_lexer::{from, front};
 
 /// Memory that is needed while the code of a routine is made, for one routine after another.
 #[derive(Drop)]
@@ -133,7 +134,7 @@ fn put_parts(
         kept.extend_from_slice(between(&scratch.bytes, start, before))?;
         start = scratch.bytes.len();
     }
-    kept.extend_from_slice(after(&scratch.bytes, start))?;
+    kept.extend_from_slice(from(&scratch.bytes, start))?;
     Ok(())
 }
 
@@ -195,7 +196,7 @@ fn put_items(
         bytes.extend_from_slice(front(rest, run))?;
         let offset = offset_of(near, left, number, item);
         put_item(bytes, alloc, sizes, addresses, offset, item)?;
-        rest = after(rest, run);
+        rest = from(rest, run);
         start = number + 1;
     }
     bytes.extend_from_slice(rest)?;

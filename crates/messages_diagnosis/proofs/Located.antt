@@ -135,10 +135,10 @@ told source f (in_tokens h) =
       placed = not_token stands.broken f.fault.number stands.number;
     })
 told source f (not_in_grammar tokens lexed a ten) =
-    stands_at source f (position_of a.token) (token_stands source tokens a.front a.token a.behind lexed a.is) a.stands
+    stands_at source f (position_of a.token) (token_stands source tokens a.front a.token a.after lexed a.is) a.stands
     (λ u. not_one_of f.fault.number 10 ten u (omega arith))
 told source f (too_deep tokens lexed a five) =
-    stands_at source f (position_of a.token) (token_stands source tokens a.front a.token a.behind lexed a.is) a.stands
+    stands_at source f (position_of a.token) (token_stands source tokens a.front a.token a.after lexed a.is) a.stands
     (λ u. not_one_of f.fault.number 5 five u (omega arith))
 told source f (rule_broken p tree h) =
     let sounds = breaches_stand (InLine source) tree.parsed (tokens_stand source tree.tokens tree.lexed) in

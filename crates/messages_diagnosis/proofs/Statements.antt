@@ -15,8 +15,8 @@ use Rattle.syntax_statements.specs.Grammar.{s_if_else, s_while, s_do, s_for, s_s
 use Rattle.syntax_statements.specs.Grammar.{s_return_value, s_rtrue, s_rfalse, s_quit, s_read, s_give, s_move, s_remove}
 use Rattle.syntax_statements.specs.Grammar.{s_objectloop, s_effect, IsSs, ss_stop, ss_next, IsCases, cases_none}
 use Rattle.syntax_statements.specs.Grammar.{cases_default, cases_next}
-use Rattle.meaning.specs.declared.around.Around.{Around}
-use Rattle.meaning.specs.Around.{in_loop, in_switch}
+use Rattle.meaning.specs.declared.enclosure.Enclosure.{Enclosure}
+use Rattle.meaning.specs.Enclosure.{in_loop, in_switch}
 use Rattle.meaning.specs.Limits.{most_temporaries}
 use Rattle.checker_names.specs.declared.binding.Binding.{Binding}
 use Rattle.checker_values.specs.Expressions.{breaches}
@@ -110,15 +110,15 @@ module _ (P : Position → Type 0) where
 
     -- whatever is around it
     pub record StatementSound (x : StatementTree) (r : List Lexeme) : Type 0 where
-      pub sounds : (around : Around) → Sounds P (statement_breaches look around x)
+      pub sounds : (around : Enclosure) → Sounds P (statement_breaches look around x)
       pub rest : Stand P r
 
     pub record StatementsSound (xs : StatementTrees) (r : List Lexeme) : Type 0 where
-      pub sounds : (around : Around) → Sounds P (statements_breaches look around xs)
+      pub sounds : (around : Enclosure) → Sounds P (statements_breaches look around xs)
       pub rest : Stand P r
 
     pub record CasesSound (cs : CaseTrees) (r : List Lexeme) : Type 0 where
-      pub sounds : (around : Around) → Sounds P (cases_breaches look around cs)
+      pub sounds : (around : Enclosure) → Sounds P (cases_breaches look around cs)
       pub rest : Stand P r
 
     mutual

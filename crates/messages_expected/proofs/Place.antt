@@ -35,6 +35,6 @@ one_token f g t u b d e fits gits never other = go (splits f (t ∷ b) g u d e)
 pub one_place : (most : ℕ) (ts : List Lexeme) (kinds : List TokenKind) (offset : ℕ) (a : AreExpected ts kinds)
     → IsFirstUnfit most ts (λ p. p.offset ≡ offset) → (position_of a.token).offset ≡ offset
 one_place most ts kinds offset a h =
-    let same = one_token a.front h.front a.token h.token a.behind h.behind (sym a.is ∙ h.is) a.fits h.fits a.does_not
+    let same = one_token a.front h.front a.token h.token a.after h.after (sym a.is ∙ h.is) a.fits h.fits a.does_not
     h.does_not in
     ap (λ t. (position_of t).offset) same ∙ h.stands

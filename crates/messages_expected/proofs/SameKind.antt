@@ -181,8 +181,8 @@ reached (t ∷ front) back k h e = go (λ j. reached front back j) (shift false 
     go again None a e = absurd cc
     go again (Some j) a e = one_more k j t front a (again j (kept false false k j t a h) e)
 
-behind : (front : List Lexeme) → Begins front → Behind file front
-behind front a =
+after : (front : List Lexeme) → Begins front → Behind file front
+after front a =
     let read : program (program_nesting a.1) (front ++ a.0) ≡ Ok a.1 = within (program_nesting a.1) a.2 (omega arith) in
     reached front a.0 file file_fits (program_taken (program_nesting a.1) (front ++ a.0) a.1 read)
 
@@ -206,7 +206,7 @@ prefix xs ys a = (ys ++ a.0, a.1, subst (λ ts. IsProgram ts a.1) (append_assoc 
 pub same_kind : (front : List Lexeme) (t u : Lexeme) → kind_of t ≡ kind_of u → Begins (front ++ t ∷ [])
     → Begins (front ++ u ∷ [])
 same_kind front t u e a =
-    let h = behind front (prefix front (t ∷ []) a) in
+    let h = after front (prefix front (t ∷ []) a) in
     go h (shift false h.stack u) refl
   where
     go : (h : Behind file front) → (o : Option Stack) → shift false h.stack u ≡ o → Begins (front ++ u ∷ [])

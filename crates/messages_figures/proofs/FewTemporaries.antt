@@ -10,8 +10,8 @@ use Rattle.syntax_statements.specs.Tree as trees
 use Rattle.syntax_statements.specs.Tree.{StatementTree, StatementTrees, CaseTrees}
 use Rattle.syntax_directives.specs.Tree.{DirectiveTree, global, constant, array, attribute, property, object, routine}
 use Rattle.syntax.specs.Tree.{ProgramTree}
-use Rattle.meaning.specs.declared.around.Around.{Around}
-use Rattle.meaning.specs.Around.{in_loop, in_switch, outside}
+use Rattle.meaning.specs.declared.enclosure.Enclosure.{Enclosure}
+use Rattle.meaning.specs.Enclosure.{in_loop, in_switch, outside}
 use Rattle.checker_names.specs.declared.binding.Binding.{Binding}
 use Rattle.checker_names.specs.declared.breach.Breach.{Breach}
 use Rattle.checker_names.specs.declared.counts.Counts.{Counts}
@@ -60,7 +60,7 @@ module _ (look : List ℕ → Option Binding) where
   before_few p e xs h all = All-cons HasFew (p, need e) xs (few p (need e) (breaches look e) h) all
 
   mutual
-    statement_few : (around : Around) (x : StatementTree) → statement_breaches look around x ≡ []
+    statement_few : (around : Enclosure) (x : StatementTree) → statement_breaches look around x ≡ []
         → All HasFew (statement_needs x)
     statement_few around trees.empty h = All-nil HasFew
     statement_few around (trees.block xs) h = statements_few around xs h
@@ -130,7 +130,7 @@ module _ (look : List ℕ → Option Binding) where
         (statement_few in_loop x (right_empty own inside rest))
     statement_few around (trees.effect p e) h = whole_few p e h
 
-    statements_few : (around : Around) (xs : StatementTrees) → statements_breaches look around xs ≡ []
+    statements_few : (around : Enclosure) (xs : StatementTrees) → statements_breaches look around xs ≡ []
         → All HasFew (statements_needs xs)
     statements_few around trees.stop h = All-nil HasFew
     statements_few around (trees.next x xs) h =
@@ -139,7 +139,7 @@ module _ (look : List ℕ → Option Binding) where
         All-append HasFew (statement_needs x) (statements_needs xs) (statement_few around x (left_empty first rest h))
         (statements_few around xs (right_empty first rest h))
 
-    cases_few : (around : Around) (cs : CaseTrees) → cases_breaches look around cs ≡ [] → All HasFew (cases_needs cs)
+    cases_few : (around : Enclosure) (cs : CaseTrees) → cases_breaches look around cs ≡ [] → All HasFew (cases_needs cs)
     cases_few around trees.no_case h = All-nil HasFew
     cases_few around (trees.default_case xs) h = statements_few around xs h
     cases_few around (trees.case gs xs cs) h =

@@ -13,7 +13,7 @@ ghost use Rattle.checker_statements.specs.Walk.{need_of_heading};
 ghost use Rattle.messages_figures.specs.Walk.{raised_all, up_to};
 
 use crate::sought::{Sought, least_of, raise, wants};
-use checker_statements::{fits_in, left_behind};
+use checker_statements::{fits_in, room_after};
 use checker_values::{both_fit, fits};
 use syntax_lexer::Position;
 use syntax_statement_parts::Heading;
@@ -54,11 +54,11 @@ fn all_four(first: bool, second: bool, third: bool, fourth: bool) -> bool
 fn heading_fits(heading: &Heading<'_>, room: u8) -> bool
     ensures { result ≡ nat_le (need_of_heading (heading_tree heading.now)) room }
 {
-    let second = left_behind(&heading.before, room);
-    let third = left_behind(&heading.test, second);
+    let second = room_after(&heading.before, room);
+    let third = room_after(&heading.test, second);
     let first_fits = fits_in(&heading.before, room);
     let second_fits = fits_in(&heading.test, second);
-    let third_fits = fits_in(&heading.behind, third);
+    let third_fits = fits_in(&heading.after, third);
     let has_room = room >= 1;
     all_four(has_room, first_fits, second_fits, third_fits)
 }

@@ -90,15 +90,15 @@ pub fn compile_for(alloc: Global, source: &[u8], version: Version) -> Result<Sto
 }
 
 // The trees are not needed any more.
-fn leave(checked: Checked<'_>, program: Program<'_>, disposal: Disposal) {
+fn dispose(checked: Checked<'_>, program: Program<'_>, disposal: Disposal) {
     match disposal {
         Disposal::GivenBack => {
             checker::discard(checked);
             syntax::discard(program);
         }
         Disposal::Left => {
-            checker::leave(checked);
-            syntax::leave(program);
+            checker::leave_to_system(checked);
+            syntax::leave_to_system(program);
         }
     }
 }
@@ -134,7 +134,7 @@ fn compile_in(
         }
     };
     let found = story_by(alloc, &checked, version, limit, disposal);
-    leave(checked, program, disposal);
+    dispose(checked, program, disposal);
     let sized = found?;
     match sized {
         Ok(bytes) => Ok(Story::of_bytes(bytes)),

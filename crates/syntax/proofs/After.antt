@@ -28,7 +28,7 @@ pub record Follows {A : Type 0} (x : Option ℕ) (effect : A → Bool) (k : Stac
 abbrev pub no_effect : {A : Type 0} → A → Bool
 no_effect a = false
 
--- what the machine answers behind a token
+-- what the machine answers after a token
 abbrev pub onward : List Lexeme → Option Stack → Option ℕ
 onward m o = go_on (λ j. stop false j m) (suc (length m)) o
 
@@ -110,7 +110,7 @@ pub follows_if : {A : Type 0} {effect : A → Bool} {k : Stack} {ts : List Lexem
 follows_if true X Y on off = on refl
 follows_if false X Y on off = off refl
 
--- the bit is set behind it
+-- the bit is set after it
 pub set_goes : (b v : Bool) (k : Stack) (ts : List Lexeme) → stop b (set v ∷ k) ts ≡ stop v k ts
 unfolding stop shift accepts
 set_goes b v k [] = refl
@@ -139,7 +139,7 @@ unfolding stop shift accepts
 blind c b k [] = refl
 blind c b k (t ∷ m) = refl
 
--- behind a sign that must come
+-- after a sign that must come
 pub follows_expect : {A : Type 0} {e : A → Bool} {k : Stack} (c : Sign) (b : Bool) (j : Stack) (ts : List Lexeme)
     (f : List Lexeme → Result (A × List Lexeme) Stop)
     → ((r : List Lexeme) → length r ≤ length (tail ts) → Follows (stop false j r) e k r (f r))
@@ -153,7 +153,7 @@ follows_expect {A} {e} {k} c b j (t ∷ m) f next = go (is_sign c t)
     go true = next m (omega arith)
     go false = follows_unfit refl
 
--- the same of all tokens, and behind a word
+-- the same of all tokens, and after a word
 pub past : {A : Type 0} {e : A → Bool} {k : Stack} (c : Sign) (b : Bool) (j : Stack) (ts : List Lexeme)
     (f : List Lexeme → Result (A × List Lexeme) Stop) → ((r : List Lexeme) → Follows (stop false j r) e k r (f r))
     → Follows (stop b (token c ∷ j) ts) e k ts (expect c ts >>= f)
@@ -173,7 +173,7 @@ past_word {A} {e} {k} w b j (t ∷ m) f next = go (is_word w t)
 
 -- ---- lists and loops
 
--- Items as long as the tokens begin one, with j on the stack where one more may come, i where one comes, and k behind
+-- Items as long as the tokens begin one, with j on the stack where one more may come, i where one comes, and k after
 -- them.
 module _ {A : Type 0} (item : Parse A) (begins : List Lexeme → Bool) (i j k : Stack)
     (reads : (ts : List Lexeme) → Follows (stop false i ts) no_effect j (tail ts) (item ts))

@@ -18,7 +18,7 @@ use Rattle.syntax.proofs.After.{repeated_follow}
 use Rattle.syntax.proofs.Either.{splits}
 use Rattle.syntax.proofs.Values.{ranges_follow}
 
--- a statement more, or what stands behind
+-- a statement more, or what follows
 more : (k : Stack) (ts : List Lexeme) → stop false (statements_left ∷ k) ts
     ≡ cond (begins_statement (head ts)) (stop false (statement ∷ statements_left ∷ k) ts) (stop false k ts)
 unfolding stop shift accepts begins_statement
@@ -66,11 +66,11 @@ module _ (inside : Parse StatementTree) (reads : (k : Stack) (ts : List Lexeme)
 
 -- ---- cases
 
--- the ranges of a case and its colon, over its statements and the cases behind it
+-- the ranges of a case and its colon, over its statements and the cases after it
 abbrev case_begun : Stack → Stack
 case_begun k = value ∷ upper_left ∷ ranges_left ∷ token s.Colon ∷ body_left ∷ cases_left ∷ k
 
--- a case more, or what stands behind
+-- a case more, or what follows
 more_cases : (k : Stack) (ts : List Lexeme) → stop false (cases_left ∷ k) ts
     ≡ cond (begins_value (head ts)) (stop false (case_begun k) ts) (stop false k ts)
 unfolding stop shift accepts

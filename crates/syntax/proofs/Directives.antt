@@ -9,8 +9,8 @@ use Rattle.syntax_trees.specs.Tree.{NameTree}
 use Rattle.syntax_parsing.specs.Parse.{◌>>=◌, tail, head, is_sign, is_word}
 use Rattle.syntax_statement_parts.specs.Parse.{known_value, begins_value}
 use Rattle.syntax_directives.specs.Tree.{DirectiveTree, global, property}
-use Rattle.syntax_directives.specs.Parse.{kind, array_behind, abbreviate_behind, ended, global_behind}
-use Rattle.syntax_directives.specs.Parse.{constant_behind, attribute_behind, property_behind, worded, routine_at}
+use Rattle.syntax_directives.specs.Parse.{kind, array_after, abbreviate_after, ended, global_after}
+use Rattle.syntax_directives.specs.Parse.{constant_after, attribute_after, property_after, worded, routine_at}
 use Rattle.syntax_directives.specs.Parse.{directive}
 use Rattle.syntax.proofs.Frames.{Stack, token, any_name, any_text, texts_left, names_left, value}
 use Rattle.syntax.proofs.Frames.{values_left}
@@ -33,8 +33,8 @@ unfolding ended
 ended_follows x b k ts = past s.Semicolon b k ts _ (λ r. follows_read x r refl (omega arith))
 
 pub abbreviate_follows : (k : Stack) (ts : List Lexeme)
-    → Follows (stop false (any_text ∷ texts_left ∷ token s.Semicolon ∷ k) ts) no_effect k ts (abbreviate_behind ts)
-unfolding abbreviate_behind
+    → Follows (stop false (any_text ∷ texts_left ∷ token s.Semicolon ∷ k) ts) no_effect k ts (abbreviate_after ts)
+unfolding abbreviate_after
 abbreviate_follows k ts = longer ts (follows_then _ (texts_follow (token s.Semicolon ∷ k) ts)
     (λ xs r h. past s.Semicolon false k r _ (λ u. follows_read xs u refl (omega arith))))
 
@@ -53,8 +53,8 @@ kind_follows k _ = follows_unfit refl
 
 array_follows : (k : Stack) (ts : List Lexeme)
     → Follows (stop false (any_name ∷ array_kind ∷ value ∷ values_left ∷ token s.Semicolon ∷ k) ts) no_effect k ts
-    (array_behind ts)
-unfolding array_behind
+    (array_after ts)
+unfolding array_after
 array_follows k ts = longer ts (follows_then _ (name_follows false _ ts)
     (λ n r a. longer r (follows_then _ (kind_follows _ r)
     (λ c u b. longer u (follows_then _ (values_follow _ u)
@@ -74,21 +74,21 @@ initial_follows n k (t ∷ m) = follows_by (onward m) (is_sign s.Assign t) _ _
     (λ is. ended_follows _ false k (t ∷ m))
 
 global_follows : (k : Stack) (ts : List Lexeme)
-    → Follows (stop false (any_name ∷ initial_left ∷ token s.Semicolon ∷ k) ts) no_effect k ts (global_behind ts)
-unfolding global_behind
+    → Follows (stop false (any_name ∷ initial_left ∷ token s.Semicolon ∷ k) ts) no_effect k ts (global_after ts)
+unfolding global_after
 global_follows k ts = longer ts (follows_then _ (name_follows false _ ts) (λ n r h. initial_follows n k r))
 
 constant_follows : (k : Stack) (ts : List Lexeme)
     → Follows (stop false (any_name ∷ token s.Assign ∷ value ∷ token s.Semicolon ∷ k) ts) no_effect k ts
-    (constant_behind ts)
-unfolding constant_behind
+    (constant_after ts)
+unfolding constant_after
 constant_follows k ts = longer ts (follows_then _ (name_follows false _ ts)
     (λ n r a. past s.Assign false _ r _
     (λ m. longer m (follows_then _ (value_follows false _ m) (λ x u b. ended_follows _ false k u)))))
 
 attribute_follows : (k : Stack) (ts : List Lexeme)
-    → Follows (stop false (any_name ∷ token s.Semicolon ∷ k) ts) no_effect k ts (attribute_behind ts)
-unfolding attribute_behind
+    → Follows (stop false (any_name ∷ token s.Semicolon ∷ k) ts) no_effect k ts (attribute_after ts)
+unfolding attribute_after
 attribute_follows k ts = longer ts (follows_then _ (name_follows false _ ts) (λ n r h. ended_follows _ false k r))
 
 -- a value, or none
@@ -114,8 +114,8 @@ default_follows n k ts = follows_as {us = ts} (one_value (token s.Semicolon ∷ 
     (λ is. ended_follows _ false k ts))
 
 property_follows : (k : Stack) (ts : List Lexeme)
-    → Follows (stop false (any_name ∷ value_left ∷ token s.Semicolon ∷ k) ts) no_effect k ts (property_behind ts)
-unfolding property_behind
+    → Follows (stop false (any_name ∷ value_left ∷ token s.Semicolon ∷ k) ts) no_effect k ts (property_after ts)
+unfolding property_after
 property_follows k ts = longer ts (follows_then _ (name_follows false _ ts) (λ n r h. default_follows n k r))
 
 -- ---- routines

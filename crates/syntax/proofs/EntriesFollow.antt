@@ -47,7 +47,7 @@ on_ends k [] g = refl
 on_ends k (end p ∷ m) g = refl
 on_ends k (_ ∷ m) g = absurd cc
 
--- ---- behind the entries
+-- ---- after the entries
 
 some_unfit : (m n : ℕ) → unread m ≡ unread n → Some m ≡ Some n
 some_unfit m n e = cc

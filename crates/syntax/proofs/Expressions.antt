@@ -28,8 +28,8 @@ use Rattle.syntax_expressions.specs.Parse.{assignment, called, nested}
 use Rattle.syntax_statement_parts.specs.Grammar.{has_effect}
 use Rattle.syntax.proofs.Frames.{Frame, token, any_name, close, primary, unary, indexed, complement}
 use Rattle.syntax.proofs.Frames.{product, sum}
-use Rattle.syntax.proofs.Frames.{comparison, negation, condition, expression, arguments, name_behind}
-use Rattle.syntax.proofs.Frames.{array_behind}
+use Rattle.syntax.proofs.Frames.{comparison, negation, condition, expression, arguments, name_after}
+use Rattle.syntax.proofs.Frames.{array_after}
 use Rattle.syntax.proofs.Frames.{properties_left, suffix_left, owned_left, scale_left, add_left}
 use Rattle.syntax.proofs.Frames.{compare_left, or_left}
 use Rattle.syntax.proofs.Frames.{logic_left, assign_left, arguments_left, set, Stack, given}
@@ -43,7 +43,7 @@ use Rattle.syntax.proofs.After.{follows_then, follows_by, follows_given, follows
 use Rattle.syntax.proofs.After.{follows_made}
 use Rattle.syntax.proofs.After.{follows_expect, list_follows, stops_alike}
 
--- ---- names, and what stands behind an object
+-- ---- names, and what follows an object
 
 pub name_follows : (b : Bool) (k : Stack) (ts : List Lexeme)
     → Follows (stop b (any_name ∷ k) ts) no_effect k (tail ts) (expect_name ts)
@@ -111,7 +111,7 @@ module _ (operator : Lexeme → Option Binary) (operand : Parse ExpressionTree) 
       (chain_follows n k (binary o e a) r (omega (arith, le, h))))))
       (λ is. follows_read e (t ∷ m) refl (omega arith)))
 
--- ---- behind `)`
+-- ---- after `)`
 
 -- an expression in parentheses has the effect of what they enclose
 close_follows : (b : Bool) (k : Stack) (ts : List Lexeme) {A : Type 0} {g : A → Bool} {j : Stack}
@@ -160,7 +160,7 @@ pub record Inner (below : Level → ℕ → Parse ExpressionTree) : Type 0 where
 
 module _ (below : Level → ℕ → Parse ExpressionTree) (inner : Inner below) where
   after_name_follows : (k : Stack) (n : NameTree) (ts : List Lexeme)
-      → Follows (stop false (name_behind ∷ k) ts) has_effect k ts (after_name below n ts)
+      → Follows (stop false (name_after ∷ k) ts) has_effect k ts (after_name below n ts)
   unfolding stop shift accepts after_name
   after_name_follows k n [] = follows_read (named n) [] refl (omega arith)
   after_name_follows k n (t ∷ m) = follows_by (onward m) (is_sign s.OpenParenthesis t) _ _
@@ -254,13 +254,13 @@ module _ (below : Level → ℕ → Parse ExpressionTree) (inner : Inner below) 
       (λ is. unary_follows k (t ∷ m))
       (λ is. follows_then _ (primary_follows (owned_left ∷ k) (t ∷ m)) (λ a r h. owned_follows k a r))
 
-  -- behind a name
-  behind_name : (k : Stack) (n : List ℕ) (p : Position) (m : List Lexeme)
-      → Follows (stop false (array_behind ∷ properties_left ∷ owned_left ∷ k) m) has_effect k m
+  -- after a name
+  past_name : (k : Stack) (n : List ℕ) (p : Position) (m : List Lexeme)
+      → Follows (stop false (array_after ∷ properties_left ∷ owned_left ∷ k) m) has_effect k m
       (parse.indexed below (name n p ∷ m))
   unfolding stop shift accepts parse.indexed array_at less
-  behind_name k n p [] = unindexed_follows k (name n p) []
-  behind_name k n p (u ∷ m) =
+  past_name k n p [] = unindexed_follows k (name n p) []
+  past_name k n p (u ∷ m) =
       follows_given (onward m) (indexing u) (λ o. indexed_on below (name n p ∷ u ∷ m) (array_of (name n p) o))
       (λ width is. follows_made false (λ a. index (record { text = n; position = p }) width a) (λ a. refl)
       (follows_as refl (omega (arith, shorter m)) (unary_follows (set false ∷ k) m)))
@@ -270,7 +270,7 @@ module _ (below : Level → ℕ → Parse ExpressionTree) (inner : Inner below) 
       → Follows (stop false (indexed ∷ k) ts) has_effect k (tail ts) (parse.indexed below ts)
   unfolding stop shift accepts parse.indexed array_at unindexed
   indexed_follows k [] = follows_then _ (primary_follows (owned_left ∷ k) []) (λ a r h. owned_follows k a r)
-  indexed_follows k (name n p ∷ m) = behind_name k n p m
+  indexed_follows k (name n p ∷ m) = past_name k n p m
   indexed_follows k (t ∷ m) = unindexed_follows k t m
 
   complemented_follows : (k : Stack) (ts : List Lexeme)

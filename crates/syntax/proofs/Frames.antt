@@ -10,7 +10,7 @@ use Rattle.syntax_parsing.specs.Parse.{is_sign}
 use Rattle.syntax_expression_parts.specs.Operators.{stepping, prefixes, relating_word}
 use Rattle.syntax_expression_parts.specs.Parse.{word_value, is_name}
 
--- What is still to come. A frame that is `left` or `behind` something may stay away.
+-- What is still to come. A frame that is `left` or `after` something may stay away.
 pub data Frame : Type 0 where
   -- one token
   token : Sign → Frame
@@ -33,8 +33,8 @@ pub data Frame : Type 0 where
   condition : Frame
   expression : Frame
   arguments : Frame
-  name_behind : Frame
-  array_behind : Frame
+  name_after : Frame
+  array_after : Frame
   properties_left : Frame
   suffix_left : Frame
   owned_left : Frame
@@ -56,8 +56,8 @@ pub data Frame : Type 0 where
   flags_left : Frame
   item : Frame
   items_left : Frame
-  -- behind the parenthesis of an item, over the rest of it as an expression
-  cast_behind : Frame
+  -- after the parenthesis of an item, over the rest of it as an expression
+  cast_after : Frame
   -- an expression, where that sign is not the next token
   optional : Sign → Frame
   optional_effect : Sign → Frame
@@ -69,12 +69,12 @@ pub data Frame : Type 0 where
   else_left : Frame
   cases_left : Frame
   otherwise_left : Frame
-  -- the statements of a case, over the cases behind it
+  -- the statements of a case, over the cases after it
   body_left : Frame
-  -- behind a value, or behind `-`, with which a statement of a case or the next case begins, over the rest of that
+  -- after a value, or after `-`, with which a statement of a case or the next case begins, over the rest of that
   -- statement: so many frames
-  case_behind : ℕ → Frame
-  minus_behind : Frame
+  case_after : ℕ → Frame
+  minus_after : Frame
   -- directives
   names_left : Frame
   values_left : Frame
@@ -85,9 +85,9 @@ pub data Frame : Type 0 where
   arrows_left : Frame
   short_left : Frame
   parent_left : Frame
-  properties_behind : Frame
+  properties_after : Frame
   attributes_left : Frame
-  -- behind a comma, over the attributes: `with` or `has`; a property or `has`
+  -- after a comma, over the attributes: `with` or `has`; a property or `has`
   with_or_has : Frame
   property_or_has : Frame
   props_left : Frame
@@ -118,7 +118,7 @@ less zero k = k
 less (suc n) [] = []
 less (suc n) (f ∷ k) = less n k
 
--- ---- expressions, over what stands behind them
+-- ---- expressions, over what follows them
 
 abbrev pub on_word : Word → Stack → Option Stack
 on_word w k =
@@ -130,7 +130,7 @@ on_atom (number n p) k = Some k
 on_atom (character c p) k = Some k
 on_atom (dictionary_word f p) k = Some k
 on_atom (reserved w p) k = on_word w k
-on_atom (name n p) k = Some (name_behind ∷ k)
+on_atom (name n p) k = Some (name_after ∷ k)
 on_atom (sign s.OpenParenthesis p) k = Some (expression ∷ close ∷ k)
 on_atom _ k = None
 
@@ -146,7 +146,7 @@ abbrev pub on_unindexed : Lexeme → Stack → Option Stack
 on_unindexed t k = if prefixes t then on_unary t k else on_primary t (owned_left ∷ k)
 
 abbrev pub on_indexed : Lexeme → Stack → Option Stack
-on_indexed (name n p) k = Some (array_behind ∷ properties_left ∷ owned_left ∷ k)
+on_indexed (name n p) k = Some (array_after ∷ properties_left ∷ owned_left ∷ k)
 on_indexed t k = on_unindexed t k
 
 abbrev pub on_complement : Lexeme → Stack → Option Stack
@@ -201,7 +201,7 @@ on_text _ k = None
 
 abbrev pub on_item : Lexeme → Stack → Option Stack
 on_item (text bytes p) k = Some k
-on_item (sign s.OpenParenthesis p) k = under cast_behind (on_expression (sign s.OpenParenthesis p) (set false ∷ k))
+on_item (sign s.OpenParenthesis p) k = under cast_after (on_expression (sign s.OpenParenthesis p) (set false ∷ k))
 on_item t k = on_expression t (set false ∷ k)
 
 abbrev pub on_cast : Lexeme → Stack → Option Stack → Option Stack
@@ -214,7 +214,7 @@ on_cast _ k other = other
 abbrev pub enclosed : Stack → Stack
 enclosed k = token s.OpenParenthesis ∷ expression ∷ token s.CloseParenthesis ∷ k
 
--- the parts of a `for`, with the parenthesis behind them
+-- the parts of a `for`, with the parenthesis after them
 abbrev pub heading : Stack → Stack
 heading k = optional_effect s.Colon ∷ token s.Colon ∷ optional s.Colon ∷ token s.Colon
     ∷ optional_effect s.CloseParenthesis ∷ token s.CloseParenthesis ∷ k
@@ -248,26 +248,26 @@ on_statement t k = on_expression t (need ∷ token s.Semicolon ∷ k)
 
 -- a statement of a case that begins as a case does
 abbrev pub in_case : Lexeme → Option Stack → Option Stack
-in_case (number n p) other = under (case_behind 10) other
-in_case (character c p) other = under (case_behind 10) other
-in_case (dictionary_word f p) other = under (case_behind 10) other
-in_case (reserved w.True p) other = under (case_behind 10) other
-in_case (reserved w.False p) other = under (case_behind 10) other
-in_case (reserved w.Nothing p) other = under (case_behind 10) other
-in_case (name n p) other = under (case_behind 11) other
-in_case (sign s.Minus p) other = under minus_behind other
+in_case (number n p) other = under (case_after 10) other
+in_case (character c p) other = under (case_after 10) other
+in_case (dictionary_word f p) other = under (case_after 10) other
+in_case (reserved w.True p) other = under (case_after 10) other
+in_case (reserved w.False p) other = under (case_after 10) other
+in_case (reserved w.Nothing p) other = under (case_after 10) other
+in_case (name n p) other = under (case_after 11) other
+in_case (sign s.Minus p) other = under minus_after other
 in_case _ other = other
 
--- behind a value: the rest of a case, or other
+-- after a value: the rest of a case, or other
 abbrev pub on_case : Lexeme → Stack → Option Stack → Option Stack
 on_case (sign s.Comma p) k other = Some (value ∷ upper_left ∷ ranges_left ∷ token s.Colon ∷ body_left ∷ k)
 on_case (sign s.Colon p) k other = Some (body_left ∷ k)
 on_case (reserved w.To p) k other = Some (value ∷ ranges_left ∷ token s.Colon ∷ body_left ∷ k)
 on_case _ k other = other
 
--- behind `-`: a number is a value
+-- after `-`: a number is a value
 abbrev pub on_minus : Lexeme → Option Stack → Option Stack
-on_minus (number n p) other = under (case_behind 11) other
+on_minus (number n p) other = under (case_after 11) other
 on_minus _ other = other
 
 -- ---- directives
@@ -292,7 +292,7 @@ on_entry (reserved w.Array p) k = Some (any_name ∷ array_kind ∷ value ∷ va
 on_entry (reserved w.Attribute p) k = Some (any_name ∷ token s.Semicolon ∷ k)
 on_entry (reserved w.Property p) k = Some (any_name ∷ value_left ∷ token s.Semicolon ∷ k)
 on_entry (reserved w.Object p) k =
-    Some (object_heading ∷ properties_behind ∷ attributes_left ∷ token s.Semicolon ∷ k)
+    Some (object_heading ∷ properties_after ∷ attributes_left ∷ token s.Semicolon ∷ k)
 on_entry (sign s.OpenBracket p) k =
     Some (any_name ∷ names_left ∷ token s.Semicolon ∷ statements_left ∷ token s.CloseBracket ∷ token s.Semicolon ∷ k)
 on_entry _ k = None

@@ -25,7 +25,7 @@ number_follows : (d : ℕ) (k : Stack) (p : Position) (ts : List Lexeme)
 number_follows d k p ts = follows_then _ (expression_follows d false (set false ∷ k) ts)
     (λ e r h. follows_read (number_item p e) r (set_goes (has_effect e) false k r) (omega arith))
 
--- behind `(char` and `(object`
+-- after `(char` and `(object`
 cast_follows : (d : ℕ) (k : Stack) (make : Position → ExpressionTree → PrintItemTree) (t u : Lexeme) (m : List Lexeme)
     → Follows (stop false (token s.CloseParenthesis ∷ frame.expression ∷ set false ∷ k) m) no_effect k m
     (cast d make (t ∷ u ∷ m))

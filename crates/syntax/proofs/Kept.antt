@@ -11,16 +11,16 @@ use Rattle.syntax_expression_parts.specs.Operators.{stepping, indexing}
 use Rattle.syntax_expression_parts.specs.Parse.{is_name}
 use Rattle.syntax.proofs.Frames.{Frame, token, word, any_name, any_text, number_left, last, close}
 use Rattle.syntax.proofs.Frames.{primary, unary, indexed, complement, product, sum, comparison}
-use Rattle.syntax.proofs.Frames.{negation, condition, expression, arguments, name_behind, array_behind}
+use Rattle.syntax.proofs.Frames.{negation, condition, expression, arguments, name_after, array_after}
 use Rattle.syntax.proofs.Frames.{properties_left, suffix_left, owned_left, scale_left, add_left}
 use Rattle.syntax.proofs.Frames.{compare_left, or_left, logic_left, assign_left, arguments_left, set}
 use Rattle.syntax.proofs.Frames.{need, value, upper_left, ranges_left, flag, flags_left, item}
 use Rattle.syntax.proofs.Frames.{items_left}
-use Rattle.syntax.proofs.Frames.{cast_behind, optional, optional_effect, loop, returned, statement}
+use Rattle.syntax.proofs.Frames.{cast_after, optional, optional_effect, loop, returned, statement}
 use Rattle.syntax.proofs.Frames.{statements_left, else_left, cases_left, otherwise_left, body_left}
-use Rattle.syntax.proofs.Frames.{case_behind, minus_behind, names_left, values_left, value_left}
+use Rattle.syntax.proofs.Frames.{case_after, minus_after, names_left, values_left, value_left}
 use Rattle.syntax.proofs.Frames.{initial_left, array_kind, object_heading, arrows_left, short_left}
-use Rattle.syntax.proofs.Frames.{parent_left, properties_behind, attributes_left, with_or_has}
+use Rattle.syntax.proofs.Frames.{parent_left, properties_after, attributes_left, with_or_has}
 use Rattle.syntax.proofs.Frames.{property_or_has, props_left, texts_left, entries_left, Stack}
 use Rattle.syntax.proofs.Frames.{less}
 use Rattle.syntax.proofs.Frames.{on_expression, on_number}
@@ -68,7 +68,7 @@ item_kept : (t : Lexeme) (k j : Stack) → on_item t k ≡ Some j → Ends ends_
 unfolding Fits words
 item_kept (text b p) k j e o h = to k j e h
 item_kept (sign s.OpenParenthesis p) k j e o h =
-    to (cast_behind ∷ expression ∷ close ∷ properties_left ∷ owned_left ∷ scale_left ∷ add_left ∷ compare_left
+    to (cast_after ∷ expression ∷ close ∷ properties_left ∷ owned_left ∷ scale_left ∷ add_left ∷ compare_left
     ∷ logic_left ∷ assign_left ∷ set false ∷ k) j e
     ((k, refl), (refl, (refl, (refl, (refl, (refl, (refl, (refl, (refl, (o, (tt, h)))))))))))
 item_kept (name n p) k j e o h = expression_kept (name n p) (set false ∷ k) j e o (tt, h)
@@ -209,7 +209,7 @@ case_kept (name n p) k i j other e is h again = again e
 case_kept (number n p) k i j other e is h again = again e
 case_kept _ k i j other e is h again = again e
 
--- behind `-`, over the operand
+-- after `-`, over the operand
 minus_kept : (t : Lexeme) (b : Bool) (k i j : Stack) → on_minus t (shift b k t) ≡ Some j
     → k ≡ unary ∷ set false ∷ rest_of_effect (cases_left ∷ i) → Fits false k → (shift b k t ≡ Some j → Fit j) → Fit j
 unfolding Fits words shift less
@@ -319,9 +319,9 @@ turn_kept negation c b t k j e o h again = negation_kept t k j e o h
 turn_kept condition c b t k j e o h again = condition_kept t k j e o h
 turn_kept expression c b t k j e o h again = expression_kept t k j e o h
 turn_kept arguments c b t k j e o h again = arguments_kept t k j e h
-turn_kept name_behind c b t k j e o h again = by_if (is_sign s.OpenParenthesis t) _ _ j e
+turn_kept name_after c b t k j e o h again = by_if (is_sign s.OpenParenthesis t) _ _ j e
     (λ is. to (arguments ∷ set true ∷ k) j is (tt, (tt, raised false k h))) again
-turn_kept array_behind c b t k j e o h again = by_given (indexing t) _ _ j e (λ is. indexed_array k j o.0 is o.1 h)
+turn_kept array_after c b t k j e o h again = by_given (indexing t) _ _ j e (λ is. indexed_array k j o.0 is o.1 h)
     (λ is. by_if (is_sign s.OpenParenthesis t) _ _ j is
     (λ has. to (arguments ∷ set true ∷ k) j has (tt, (tt, raised false k h))) again)
 turn_kept properties_left c b t k j e o h again = by_if (is_sign s.Dot t) _ _ j e
@@ -362,7 +362,7 @@ turn_kept flags_left c b t k j e o h again =
 turn_kept item c b t k j e o h again = item_kept t k j e o h
 turn_kept items_left c b t k j e o h again = by_if (is_sign s.Comma t) _ _ j e
     (λ is. to (item ∷ items_left ∷ k) j is (listed (items_left ∷ k) o, (o, h))) again
-turn_kept cast_behind c b t k j e o h again = cast_kept t k o.0 j _ e o.1 (raised false k h) again
+turn_kept cast_after c b t k j e o h again = cast_kept t k o.0 j _ e o.1 (raised false k h) again
 turn_kept (optional s) c b t k j e o h again = by_if (is_sign s t) _ _ j e again
     (λ is. expression_kept t k j is (before_sign k o.1.0 s o.1.1 o.0) (raised false k h))
 turn_kept (optional_effect s) c b t k j e o h again = by_if (is_sign s t) _ _ j e again
@@ -384,9 +384,9 @@ turn_kept otherwise_left c b t k j e o h again = by_if (is_word w.Default t) _ _
     (λ is. to (token s.Colon ∷ statements_left ∷ k) j is (tt, (o, h))) again
 turn_kept body_left c b t k j e o h again = by_else (in_case t (on_statement t (body_left ∷ k))) _ j e
     (λ is. in_case_kept t k o.0 j is o.1 h) again
-turn_kept (case_behind n) c b t k j e o h again =
+turn_kept (case_after n) c b t k j e o h again =
     case_kept t (less n k) o.0.0 j _ e o.0.1 (over_cases (less n k) o.0.0 o.0.1 (less_fits n false k h)) again
-turn_kept minus_behind c b t k j e o h again = minus_kept t b k o.0 j e o.1 h again
+turn_kept minus_after c b t k j e o h again = minus_kept t b k o.0 j e o.1 h again
 turn_kept names_left c b t k j e o h again =
     by_if (is_name t) _ _ j e (λ is. to (names_left ∷ k) j is (o, h)) again
 turn_kept values_left c b t k j e o h again =
@@ -400,7 +400,7 @@ turn_kept arrows_left c b t k j e o h again =
     by_if (is_sign s.Arrow t) _ _ j e (λ is. to (arrows_left ∷ k) j is (o, h)) again
 turn_kept short_left c b t k j e o h again = by_else (on_text t k) _ j e (λ is. text_kept t k j is h) again
 turn_kept parent_left c b t k j e o h again = by_if (is_name t) _ _ j e (λ is. to k j is h) again
-turn_kept properties_behind c b t k j e o h again = by_if (is_word w.With t) _ _ j e
+turn_kept properties_after c b t k j e o h again = by_if (is_word w.With t) _ _ j e
     (λ is. to (any_name ∷ value ∷ values_left ∷ props_left ∷ k) j is (tt, (tt, (o, (o, h)))))
     (λ is. by_if (is_sign s.Comma t) _ _ j is (λ has. to (with_or_has ∷ k) j has (o, h)) again)
 turn_kept attributes_left c b t k j e o h again = by_if (is_word w.Has t) _ _ j e

@@ -9,7 +9,7 @@ use Rattle.syntax_expression_parts.specs.Operators.{stepping, prefixes, relating
 use Rattle.syntax_expression_parts.specs.Parse.{word_value}
 use Rattle.syntax.proofs.Frames.{Frame, token, close}
 use Rattle.syntax.proofs.Frames.{primary, unary, complement}
-use Rattle.syntax.proofs.Frames.{negation, expression, name_behind, array_behind}
+use Rattle.syntax.proofs.Frames.{negation, expression, name_after, array_after}
 use Rattle.syntax.proofs.Frames.{properties_left, suffix_left, owned_left, scale_left, add_left}
 use Rattle.syntax.proofs.Frames.{compare_left, logic_left, assign_left, arguments_left, set}
 use Rattle.syntax.proofs.Frames.{need}
@@ -92,7 +92,7 @@ atom_kept (number n p) k j e o h = to k j e h
 atom_kept (character c p) k j e o h = to k j e h
 atom_kept (dictionary_word f p) k j e o h = to k j e h
 atom_kept (reserved w p) k j e o h = word_kept w k j e o h
-atom_kept (name n p) k j e o h = to (name_behind ∷ k) j e (o, h)
+atom_kept (name n p) k j e o h = to (name_after ∷ k) j e (o, h)
 atom_kept (sign s.OpenParenthesis p) k j e o h = to (expression ∷ close ∷ k) j e (refl, (o, h))
 atom_kept _ k j e o h = absurd cc
 
@@ -114,7 +114,7 @@ unindexed_kept t k j e o h = by_if (prefixes t) _ _ j e (λ is. unary_kept t k j
 pub indexed_kept : (t : Lexeme) (k j : Stack) → on_indexed t k ≡ Some j → Ends ends_operand k → Fit k → Fit j
 unfolding Fits words
 indexed_kept (name n p) k j e o h =
-    to (array_behind ∷ properties_left ∷ owned_left ∷ k) j e ((k, refl), (o, (o, h)))
+    to (array_after ∷ properties_left ∷ owned_left ∷ k) j e ((k, refl), (o, (o, h)))
 indexed_kept (number n p) k j e o h = unindexed_kept (number n p) k j e o h
 indexed_kept (text b p) k j e o h = unindexed_kept (text b p) k j e o h
 indexed_kept (character c p) k j e o h = unindexed_kept (character c p) k j e o h

@@ -16,20 +16,20 @@ use Rattle.syntax.proofs.Frames.{on_flag, on_text, on_item, on_cast, on_statemen
 use Rattle.syntax.proofs.Frames.{on_minus, on_kind, on_object, on_end, on_entries, token, word}
 use Rattle.syntax.proofs.Frames.{any_name, any_text, number_left, last, close, primary, unary, indexed}
 use Rattle.syntax.proofs.Frames.{complement, product, sum, comparison, negation, condition, expression}
-use Rattle.syntax.proofs.Frames.{arguments, name_behind, array_behind, properties_left, suffix_left}
+use Rattle.syntax.proofs.Frames.{arguments, name_after, array_after, properties_left, suffix_left}
 use Rattle.syntax.proofs.Frames.{owned_left, scale_left, add_left, compare_left, or_left, logic_left}
 use Rattle.syntax.proofs.Frames.{assign_left, arguments_left, set, need, value, upper_left, ranges_left}
-use Rattle.syntax.proofs.Frames.{flag, flags_left, item, items_left, cast_behind, optional}
+use Rattle.syntax.proofs.Frames.{flag, flags_left, item, items_left, cast_after, optional}
 use Rattle.syntax.proofs.Frames.{optional_effect, loop, returned, statement, statements_left, else_left}
-use Rattle.syntax.proofs.Frames.{cases_left, otherwise_left, body_left, case_behind, minus_behind}
+use Rattle.syntax.proofs.Frames.{cases_left, otherwise_left, body_left, case_after, minus_after}
 use Rattle.syntax.proofs.Frames.{names_left, values_left, value_left, initial_left, array_kind}
 use Rattle.syntax.proofs.Frames.{object_heading, arrows_left, short_left, parent_left}
-use Rattle.syntax.proofs.Frames.{properties_behind, attributes_left, with_or_has, property_or_has}
+use Rattle.syntax.proofs.Frames.{properties_after, attributes_left, with_or_has, property_or_has}
 use Rattle.syntax.proofs.Frames.{props_left, texts_left, entries_left}
 
 -- ---- one token
 
--- the stack behind it, by the first frame, the effect, what stands under the frame, and what comes where the frame
+-- the stack after it, by the first frame, the effect, what stands under the frame, and what comes where the frame
 -- stays away
 abbrev pub on : Frame → Bool → Lexeme → Stack → Option Stack → Option Stack
 on (token s) b t k other = if is_sign s t then Some k else None
@@ -50,8 +50,8 @@ on negation b t k other = on_negation t k
 on condition b t k other = on_condition t k
 on expression b t k other = on_expression t k
 on arguments b t k other = on_arguments t k
-on name_behind b t k other = if is_sign s.OpenParenthesis t then Some (arguments ∷ set true ∷ k) else other
-on array_behind b t k other =
+on name_after b t k other = if is_sign s.OpenParenthesis t then Some (arguments ∷ set true ∷ k) else other
+on array_after b t k other =
     given (indexing t) (Some (unary ∷ set false ∷ less 2 k))
     (if is_sign s.OpenParenthesis t then Some (arguments ∷ set true ∷ k) else other)
 on properties_left b t k other = if is_sign s.Dot t then Some (any_name ∷ properties_left ∷ k) else other
@@ -80,7 +80,7 @@ on flag b t k other = on_flag t k
 on flags_left b t k other = or_else (on_flag t (flags_left ∷ k)) other
 on item b t k other = on_item t k
 on items_left b t k other = if is_sign s.Comma t then Some (item ∷ items_left ∷ k) else other
-on cast_behind b t k other = on_cast t k other
+on cast_after b t k other = on_cast t k other
 on (optional s) b t k other = if is_sign s t then other else on_expression t k
 on (optional_effect s) b t k other = if is_sign s t then other else on_expression t (need ∷ k)
 on loop b t k other = if is_name t then on_condition t k else None
@@ -92,8 +92,8 @@ on cases_left b t k other =
     or_else (on_value t (upper_left ∷ ranges_left ∷ token s.Colon ∷ body_left ∷ cases_left ∷ k)) other
 on otherwise_left b t k other = if is_word w.Default t then Some (token s.Colon ∷ statements_left ∷ k) else other
 on body_left b t k other = or_else (in_case t (on_statement t (body_left ∷ k))) other
-on (case_behind n) b t k other = on_case t (less n k) other
-on minus_behind b t k other = on_minus t other
+on (case_after n) b t k other = on_case t (less n k) other
+on minus_after b t k other = on_minus t other
 on names_left b t k other = if is_name t then Some (names_left ∷ k) else other
 on values_left b t k other = or_else (on_value t (values_left ∷ k)) other
 on value_left b t k other = or_else (on_value t k) other
@@ -103,7 +103,7 @@ on object_heading b t k other = on_object t k
 on arrows_left b t k other = if is_sign s.Arrow t then Some (arrows_left ∷ k) else other
 on short_left b t k other = or_else (on_text t k) other
 on parent_left b t k other = if is_name t then Some k else other
-on properties_behind b t k other =
+on properties_after b t k other =
     if is_word w.With t then Some (any_name ∷ value ∷ values_left ∷ props_left ∷ k)
     else if is_sign s.Comma t then Some (with_or_has ∷ k) else other
 on attributes_left b t k other =

@@ -99,12 +99,12 @@ object : left
 unfolding stop shift accepts
 object = refl
 
--- object x, ; behind the comma
+-- object x, ; after the comma
 comma : left (wd w.Object ∷ x ∷ sg s.Comma ∷ sg s.Semicolon ∷ last ∷ []) ≡ Some 2
 unfolding stop shift accepts
 comma = refl
 
--- nothing comes behind the end
-behind_end : left (last ∷ x ∷ []) ≡ Some 1
+-- nothing comes after the end
+after_end : left (last ∷ x ∷ []) ≡ Some 1
 unfolding stop shift accepts
-behind_end = refl
+after_end = refl

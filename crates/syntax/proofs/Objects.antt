@@ -9,11 +9,11 @@ use Rattle.syntax_lexer.specs.Token.{Lexeme, name, text, reserved, sign}
 use Rattle.syntax_parsing.specs.Stop.{unfit}
 use Rattle.syntax_parsing.specs.Parse.{tail, head, is_word, expect, as_long, repeated}
 use Rattle.syntax_expression_parts.specs.Parse.{expect_name}
-use Rattle.syntax_directives.specs.Parse.{names, arrow, arrows, short, parent, object_heading, behind_comma, prop}
+use Rattle.syntax_directives.specs.Parse.{names, arrow, arrows, short, parent, object_heading, past_comma, prop}
 use Rattle.syntax_directives.specs.Parse.{lists_further, next_prop, props, properties, some_names, attributes}
-use Rattle.syntax_directives.specs.Parse.{object_behind}
+use Rattle.syntax_directives.specs.Parse.{object_after}
 use Rattle.syntax.proofs.Frames.{Stack, token, word, any_name, short_left, parent_left}
-use Rattle.syntax.proofs.Frames.{properties_behind, attributes_left}
+use Rattle.syntax.proofs.Frames.{properties_after, attributes_left}
 use Rattle.syntax.proofs.Frames.{props_left}
 use Rattle.syntax.proofs.Frames.{names_left, value, values_left}
 use Rattle.syntax.proofs.Machine.{shift, accepts, stop}
@@ -66,7 +66,7 @@ some_names_follow k (name n p ∷ m) = follows_as {us = m} refl (omega arith)
 some_names_follow k (text n p ∷ m) = follows_unfit refl
 some_names_follow k _ = follows_unfit refl
 
--- behind a comma
+-- after a comma
 has_follows : (k : Stack) (m : List Lexeme)
     → Follows (stop false (word w.Has ∷ any_name ∷ names_left ∷ k) m) no_effect k m
     (if is_word w.Has (head m) then some_names (tail m) else Err (unfit (length m)))
@@ -81,7 +81,7 @@ has_follows k (t ∷ m) = go (is_word w.Has t)
 
 attributes_follow : (k : Stack) (ts : List Lexeme)
     → Follows (stop false (attributes_left ∷ k) ts) no_effect k ts (attributes ts)
-unfolding stop shift accepts attributes behind_comma
+unfolding stop shift accepts attributes past_comma
 attributes_follow k [] = follows_read [] [] refl (omega arith)
 attributes_follow k (sign s.Comma p ∷ m) = follows_as {us = m} refl (omega arith) (has_follows k m)
 attributes_follow k (reserved w.Has p ∷ m) = follows_as {us = m} refl (omega arith) (some_names_follow k m)
@@ -128,9 +128,9 @@ props_follow k ts = longer ts (follows_then _ (prop_follows (props_left ∷ attr
     (λ xs u g. follows_read _ u refl (omega arith))))
 
 properties_follow : (k : Stack) (ts : List Lexeme)
-    → Follows (stop false (properties_behind ∷ attributes_left ∷ k) ts) no_effect (attributes_left ∷ k) ts
+    → Follows (stop false (properties_after ∷ attributes_left ∷ k) ts) no_effect (attributes_left ∷ k) ts
     (properties ts)
-unfolding stop shift accepts properties behind_comma
+unfolding stop shift accepts properties past_comma
 properties_follow k [] = follows_read [] [] refl (omega arith)
 properties_follow k (sign s.Comma p ∷ []) = follows_read [] _ refl (omega arith)
 properties_follow k (sign s.Comma p ∷ reserved w.With q ∷ m) =
@@ -143,9 +143,9 @@ properties_follow k (name n p ∷ m) = follows_read [] _ refl (omega arith)
 properties_follow k _ = follows_read [] _ refl (omega arith)
 
 pub object_follows : (k : Stack) (ts : List Lexeme)
-    → Follows (stop false (frame.object_heading ∷ properties_behind ∷ attributes_left ∷ token s.Semicolon ∷ k) ts)
-    no_effect k ts (object_behind ts)
-unfolding object_behind
+    → Follows (stop false (frame.object_heading ∷ properties_after ∷ attributes_left ∷ token s.Semicolon ∷ k) ts)
+    no_effect k ts (object_after ts)
+unfolding object_after
 object_follows k ts = follows_then _ (head_follows _ ts)
     (λ h r a. follows_then _ (properties_follow _ r)
     (λ xs u b. follows_then _ (attributes_follow _ u)

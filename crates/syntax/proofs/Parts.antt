@@ -1,4 +1,4 @@
--- What stands in parentheses behind the words of statements: conditions, the parts of a `for`, and what an
+-- What stands in parentheses after the words of statements: conditions, the parts of a `for`, and what an
 -- `objectloop` goes over.
 use Rattle.std.proofs.Common.{ℕ, zero, suc, Bool, true, false, cond, List, [], ◌∷◌, length, Some, None}
 use Rattle.std.proofs.Common.{Result, Ok, Err, refl, arith}

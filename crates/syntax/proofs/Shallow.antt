@@ -18,7 +18,7 @@ use Rattle.syntax_statement_parts.specs.Grammar.{IsOptional, optional_none, opti
 use Rattle.syntax_statement_parts.specs.Nesting.{DeepItem, deep_item_parenthesis, deep_item_character}
 use Rattle.syntax_statement_parts.specs.Nesting.{deep_item_object_parenthesis, deep_item_object, deep_item_number}
 use Rattle.syntax_statement_parts.specs.Nesting.{DeepItems, deep_items_first, deep_items_next, DeepHeading}
-use Rattle.syntax_statement_parts.specs.Nesting.{deep_heading_before, deep_heading_test, deep_heading_behind}
+use Rattle.syntax_statement_parts.specs.Nesting.{deep_heading_before, deep_heading_test, deep_heading_after}
 use Rattle.syntax_statements.specs.Nesting.{DeepS, deep_s_brace, deep_s_block, deep_s_print, deep_s_print_ret}
 use Rattle.syntax_statements.specs.Nesting.{deep_s_if, deep_s_if_condition, deep_s_if_then, deep_s_if_else}
 use Rattle.syntax_statements.specs.Nesting.{deep_s_while, deep_s_while_condition, deep_s_while_do, deep_s_do_begins}
@@ -99,7 +99,7 @@ mutual
   shallow_Arguments (deep_arguments_first x) = shallow_E x
   shallow_Arguments (deep_arguments_next a x) = omega (arith, short_E a, shallow_Arguments x)
 
--- ---- statements: a brace opens a nesting, and so does the statement behind it
+-- ---- statements: a brace opens a nesting, and so does the statement after it
 
 shallow_Item : {n : ℕ} {ts u : List Lexeme} → DeepItem n ts u → n ≤ length ts
 shallow_Item deep_item_parenthesis = omega arith
@@ -119,7 +119,7 @@ short_Optional (optional_some a) = omega (arith, short_E a)
 shallow_Heading : {n : ℕ} {ts u : List Lexeme} → DeepHeading n ts u → n ≤ length ts
 shallow_Heading (deep_heading_before x) = shallow_E x
 shallow_Heading (deep_heading_test a o x) = omega (arith, short_Optional a, shallow_E x)
-shallow_Heading (deep_heading_behind a o b x) = omega (arith, short_Optional a, short_Optional b, shallow_E x)
+shallow_Heading (deep_heading_after a o b x) = omega (arith, short_Optional a, short_Optional b, shallow_E x)
 
 mutual
   pub shallow_S : {n : ℕ} {ts u : List Lexeme} → DeepS n ts u → n ≤ 2 * length ts

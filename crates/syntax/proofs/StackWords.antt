@@ -8,16 +8,16 @@ use Rattle.syntax_lexer.specs.Token.{Lexeme, name, number, text, reserved, sign,
 use Rattle.syntax_parsing.specs.Parse.{head}
 use Rattle.syntax.proofs.Frames.{Frame, token, word, any_name, any_text, number_left, last, close}
 use Rattle.syntax.proofs.Frames.{primary, unary, indexed, complement, product, sum, comparison}
-use Rattle.syntax.proofs.Frames.{negation, condition, expression, arguments, name_behind, array_behind}
+use Rattle.syntax.proofs.Frames.{negation, condition, expression, arguments, name_after, array_after}
 use Rattle.syntax.proofs.Frames.{properties_left, suffix_left, owned_left, scale_left, add_left}
 use Rattle.syntax.proofs.Frames.{compare_left, or_left, logic_left, assign_left, arguments_left, set}
 use Rattle.syntax.proofs.Frames.{need, value, upper_left, ranges_left, flag, flags_left, item}
 use Rattle.syntax.proofs.Frames.{items_left}
-use Rattle.syntax.proofs.Frames.{cast_behind, optional, optional_effect, loop, returned, statement}
+use Rattle.syntax.proofs.Frames.{cast_after, optional, optional_effect, loop, returned, statement}
 use Rattle.syntax.proofs.Frames.{statements_left, else_left, cases_left, otherwise_left, body_left}
-use Rattle.syntax.proofs.Frames.{case_behind, minus_behind, names_left, values_left, value_left}
+use Rattle.syntax.proofs.Frames.{case_after, minus_after, names_left, values_left, value_left}
 use Rattle.syntax.proofs.Frames.{initial_left, array_kind, object_heading, arrows_left, short_left}
-use Rattle.syntax.proofs.Frames.{parent_left, properties_behind, attributes_left, with_or_has}
+use Rattle.syntax.proofs.Frames.{parent_left, properties_after, attributes_left, with_or_has}
 use Rattle.syntax.proofs.Frames.{property_or_has, props_left, texts_left, entries_left, Stack, less}
 
 abbrev pub anywhere : Position
@@ -70,9 +70,9 @@ words (f ∷ k) = word_of f ++ words k
 abbrev pub next : Stack → Lexeme
 next k = head (words k)
 
--- ---- what must come behind what may stay away
+-- ---- what must come after what may stay away
 
--- behind an expression: what nothing in it takes
+-- after an expression: what nothing in it takes
 abbrev pub ends_expression : Lexeme → Bool
 ends_expression (sign s.CloseParenthesis _) = true
 ends_expression (sign s.Semicolon _) = true
@@ -81,7 +81,7 @@ ends_expression (reserved w.To _) = true
 ends_expression (name _ _) = true
 ends_expression _ = false
 
--- behind an operand: the same, or an assignment
+-- after an operand: the same, or an assignment
 abbrev pub ends_operand : Lexeme → Bool
 ends_operand (sign s.Assign _) = true
 ends_operand (sign s.CloseParenthesis _) = true
@@ -91,14 +91,14 @@ ends_operand (reserved w.To _) = true
 ends_operand (name _ _) = true
 ends_operand _ = false
 
--- behind a list of items
+-- after a list of items
 abbrev pub ends_list : Lexeme → Bool
 ends_list (sign s.CloseParenthesis _) = true
 ends_list (sign s.Semicolon _) = true
 ends_list (sign s.Colon _) = true
 ends_list _ = false
 
--- behind a statement
+-- after a statement
 abbrev pub ends_statements : Lexeme → Bool
 ends_statements (sign s.CloseBrace _) = true
 ends_statements (sign s.CloseBracket _) = true
@@ -108,14 +108,14 @@ ends_statements _ = false
 abbrev pub Ends : (Lexeme → Bool) → Stack → Type 0
 Ends closes k = closes (next k) ≡ true
 
--- the rest of a statement of a case behind its first operand, from the operators that bind tightest on
+-- the rest of a statement of a case after its first operand, from the operators that bind tightest on
 abbrev pub rest_of_effect : Stack → Stack
 rest_of_effect k =
     scale_left ∷ add_left ∷ compare_left ∷ logic_left ∷ assign_left ∷ need ∷ token s.Semicolon ∷ body_left ∷ k
 
 -- what stands under a frame; c: the frame above gives it an effect
 abbrev pub Place : Bool → Frame → Stack → Type 0
--- nothing comes behind the end of a source
+-- nothing comes after the end of a source
 Place c last k = k ≡ []
 Place c close k = Ends ends_operand k
 Place c primary k = Ends ends_operand k
@@ -128,8 +128,8 @@ Place c comparison k = Ends ends_operand k
 Place c negation k = Ends ends_operand k
 Place c condition k = Ends ends_operand k
 Place c expression k = Ends ends_expression k
-Place c name_behind k = Ends ends_operand k
-Place c array_behind k = (j : Stack) × (k ≡ properties_left ∷ owned_left ∷ j)
+Place c name_after k = Ends ends_operand k
+Place c array_after k = (j : Stack) × (k ≡ properties_left ∷ owned_left ∷ j)
 Place c properties_left k = Ends ends_operand k
 Place c suffix_left k = Ends ends_operand k
 Place c owned_left k = Ends ends_operand k
@@ -146,7 +146,7 @@ Place c ranges_left k = Ends ends_list k
 Place c flags_left k = Ends ends_list k
 Place c item k = Ends ends_expression k
 Place c items_left k = Ends ends_list k
-Place c cast_behind k = (j : Stack)
+Place c cast_after k = (j : Stack)
     × (k ≡ expression ∷ close ∷ properties_left ∷ owned_left ∷ scale_left ∷ add_left ∷ compare_left ∷ logic_left
     ∷ assign_left ∷ set false ∷ j)
 Place c (optional s) k = (ends_expression (sign s anywhere) ≡ true) × ((j : Stack) × (k ≡ token s ∷ j))
@@ -158,8 +158,8 @@ Place c else_left k = Ends ends_statements k
 Place c cases_left k = Ends ends_statements k
 Place c otherwise_left k = Ends ends_statements k
 Place c body_left k = (j : Stack) × (k ≡ cases_left ∷ j)
-Place c (case_behind n) k = ((j : Stack) × (less n k ≡ cases_left ∷ j)) × (next k ≡ sign s.Assign anywhere)
-Place c minus_behind k = (j : Stack) × (k ≡ unary ∷ set false ∷ rest_of_effect (cases_left ∷ j))
+Place c (case_after n) k = ((j : Stack) × (less n k ≡ cases_left ∷ j)) × (next k ≡ sign s.Assign anywhere)
+Place c minus_after k = (j : Stack) × (k ≡ unary ∷ set false ∷ rest_of_effect (cases_left ∷ j))
 Place c names_left k = Ends ends_list k
 Place c values_left k = Ends ends_list k
 Place c value_left k = Ends ends_list k
@@ -168,7 +168,7 @@ Place c object_heading k = Ends ends_list k
 Place c arrows_left k = (j : Stack) × (k ≡ any_name ∷ j)
 Place c short_left k = Ends ends_list k
 Place c parent_left k = Ends ends_list k
-Place c properties_behind k = Ends ends_list k
+Place c properties_after k = Ends ends_list k
 Place c attributes_left k = Ends ends_list k
 Place c with_or_has k = Ends ends_list k
 Place c property_or_has k = Ends ends_list k

@@ -81,7 +81,7 @@ end_turn : (f : Frame) (c b : Bool) (p : Position) (k : Stack) (other : Option S
 end_turn last c b p k other j e o again = sym (jump k j e) ∙ o
 end_turn f c b p k other j e o again = passed (stays_away f b) (on f b (end p) k other) other j refl e again
 
--- nothing is to come behind the end of a source
+-- nothing is to come after the end of a source
 pub at_end : (c b : Bool) (k j : Stack) (p : Position) → Fits c k → shift b k (end p) ≡ Some j → j ≡ []
 unfolding Fits shift
 at_end c b [] j p h e = absurd cc

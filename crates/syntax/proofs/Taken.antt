@@ -11,16 +11,16 @@ use Rattle.syntax_lexer.specs.Token.{Lexeme, name, reserved, sign}
 use Rattle.syntax_parsing.specs.Parse.{head, sign_number, word_number, is_sign, is_word}
 use Rattle.syntax.proofs.Frames.{Frame, token, word, any_name, any_text, number_left, last, close}
 use Rattle.syntax.proofs.Frames.{primary, unary, indexed, complement, product, sum, comparison}
-use Rattle.syntax.proofs.Frames.{negation, condition, expression, arguments, name_behind, array_behind}
+use Rattle.syntax.proofs.Frames.{negation, condition, expression, arguments, name_after, array_after}
 use Rattle.syntax.proofs.Frames.{properties_left, suffix_left, owned_left, scale_left, add_left}
 use Rattle.syntax.proofs.Frames.{compare_left, or_left, logic_left, assign_left, arguments_left, set}
 use Rattle.syntax.proofs.Frames.{need, value, upper_left, ranges_left, flag, flags_left, item}
 use Rattle.syntax.proofs.Frames.{items_left}
-use Rattle.syntax.proofs.Frames.{cast_behind, optional, optional_effect, loop, returned, statement}
+use Rattle.syntax.proofs.Frames.{cast_after, optional, optional_effect, loop, returned, statement}
 use Rattle.syntax.proofs.Frames.{statements_left, else_left, cases_left, otherwise_left, body_left}
-use Rattle.syntax.proofs.Frames.{case_behind, minus_behind, names_left, values_left, value_left}
+use Rattle.syntax.proofs.Frames.{case_after, minus_after, names_left, values_left, value_left}
 use Rattle.syntax.proofs.Frames.{initial_left, array_kind, object_heading, arrows_left, short_left}
-use Rattle.syntax.proofs.Frames.{parent_left, properties_behind, attributes_left, with_or_has}
+use Rattle.syntax.proofs.Frames.{parent_left, properties_after, attributes_left, with_or_has}
 use Rattle.syntax.proofs.Frames.{property_or_has, props_left, texts_left, entries_left, Stack}
 use Rattle.syntax.proofs.Machine.{on, effect, shift, accepts, go_on, stop}
 use Rattle.syntax.proofs.StackWords.{anywhere, word_of, words, ends_expression, ends_operand, ends_list}
@@ -39,8 +39,8 @@ never e = absurd cc
 
 -- at the end of an operand, of a list, of statements
 abbrev tails : Frame → Bool
-tails name_behind = true
-tails array_behind = true
+tails name_after = true
+tails array_after = true
 tails properties_left = true
 tails suffix_left = true
 tails owned_left = true
@@ -63,7 +63,7 @@ lists value_left = true
 lists initial_left = true
 lists short_left = true
 lists parent_left = true
-lists properties_behind = true
+lists properties_after = true
 lists attributes_left = true
 lists props_left = true
 lists texts_left = true
@@ -79,27 +79,27 @@ bodies _ = false
 
 module _ (b : Bool) (k : Stack) (p : Position) (other : Option Stack) where
   tail_at_assign : (f : Frame) → on f b (sign s.Assign p) k other ≡ cond (tails f) other (on f b (sign s.Assign p) k other)
-  tail_at_assign name_behind = refl
+  tail_at_assign name_after = refl
   tail_at_assign _ = refl
 
   tail_at_parenthesis : (f : Frame) → on f b (sign s.CloseParenthesis p) k other ≡ cond (tails f) other (on f b (sign s.CloseParenthesis p) k other)
-  tail_at_parenthesis name_behind = refl
+  tail_at_parenthesis name_after = refl
   tail_at_parenthesis _ = refl
 
   tail_at_semicolon : (f : Frame) → on f b (sign s.Semicolon p) k other ≡ cond (tails f) other (on f b (sign s.Semicolon p) k other)
-  tail_at_semicolon name_behind = refl
+  tail_at_semicolon name_after = refl
   tail_at_semicolon _ = refl
 
   tail_at_colon : (f : Frame) → on f b (sign s.Colon p) k other ≡ cond (tails f) other (on f b (sign s.Colon p) k other)
-  tail_at_colon name_behind = refl
+  tail_at_colon name_after = refl
   tail_at_colon _ = refl
 
   tail_at_to : (f : Frame) → on f b (reserved w.To p) k other ≡ cond (tails f) other (on f b (reserved w.To p) k other)
-  tail_at_to name_behind = refl
+  tail_at_to name_after = refl
   tail_at_to _ = refl
 
   tail_at_name : (n : List ℕ) (f : Frame) → on f b (name n p) k other ≡ cond (tails f) other (on f b (name n p) k other)
-  tail_at_name n name_behind = refl
+  tail_at_name n name_after = refl
   tail_at_name n _ = refl
 
   list_at_parenthesis : (f : Frame) → on f b (sign s.CloseParenthesis p) k other ≡ cond (lists f) other (on f b (sign s.CloseParenthesis p) k other)
@@ -198,12 +198,12 @@ module _ (b : Bool) (k : Stack) where
   set_away c [] = refl
   set_away c (t ∷ m) = refl
 
-  case_away : (n : ℕ) (ts : List Lexeme) → head ts ≡ sign s.Assign anywhere → stop b (case_behind n ∷ k) ts ≡ stop b k ts
+  case_away : (n : ℕ) (ts : List Lexeme) → head ts ≡ sign s.Assign anywhere → stop b (case_after n ∷ k) ts ≡ stop b k ts
   unfolding stop shift accepts
   case_away n [] e = absurd cc
   case_away n (t ∷ m) e = rw e refl
 
--- ---- behind an operand
+-- ---- after an operand
 
 module _ (k : Stack) (ts : List Lexeme) (o : ends_operand (head ts) ≡ true) where
   after_primary : stop false (properties_left ∷ k) ts ≡ stop false k ts
@@ -268,12 +268,12 @@ needed_taken c b k e has again =
 cast_away : (b : Bool) (k i : Stack)
     → k ≡ expression ∷ close ∷ properties_left ∷ owned_left ∷ scale_left ∷ add_left ∷ compare_left ∷ logic_left
     ∷ assign_left ∷ set false ∷ i
-    → stop b (cast_behind ∷ k) (words k) ≡ stop b k (words k)
+    → stop b (cast_after ∷ k) (words k) ≡ stop b k (words k)
 unfolding stop shift accepts words
 cast_away b k i is = rw is refl
 
 minus_away : (b : Bool) (k i : Stack) → k ≡ unary ∷ set false ∷ rest_of_effect (cases_left ∷ i)
-    → stop b (minus_behind ∷ k) (words k) ≡ stop b k (words k)
+    → stop b (minus_after ∷ k) (words k) ≡ stop b k (words k)
 unfolding stop shift accepts words
 minus_away b k i is = rw is refl
 
@@ -337,7 +337,7 @@ turn_taken negation c b k o h has again = after_comparison k (words k) o ∙ aga
 turn_taken condition c b k o h has again = after_condition k (words k) o ∙ again false never
 turn_taken expression c b k o h has again = assigned_taken k o again
 turn_taken assign_left c b k o h has again = assigned_taken k o again
-turn_taken name_behind c b k o h has again = tail_away name_behind b k (words k) refl o ∙ again b never
+turn_taken name_after c b k o h has again = tail_away name_after b k (words k) refl o ∙ again b never
 turn_taken properties_left c b k o h has again = tail_away properties_left b k (words k) refl o ∙ again b never
 turn_taken suffix_left c b k o h has again = tail_away suffix_left b k (words k) refl o ∙ again b never
 turn_taken owned_left c b k o h has again = tail_away owned_left b k (words k) refl o ∙ again b never
@@ -346,8 +346,8 @@ turn_taken add_left c b k o h has again = tail_away add_left b k (words k) refl 
 turn_taken compare_left c b k o h has again = tail_away compare_left b k (words k) refl o ∙ again b never
 turn_taken or_left c b k o h has again = tail_away or_left b k (words k) refl o ∙ again b never
 turn_taken logic_left c b k o h has again = tail_away logic_left b k (words k) refl o ∙ again b never
-turn_taken array_behind c b k o h has again =
-    tail_away array_behind b k (words k) refl (array_ends k o.0 o.1 h) ∙ again b never
+turn_taken array_after c b k o h has again =
+    tail_away array_after b k (words k) refl (array_ends k o.0 o.1 h) ∙ again b never
 turn_taken arguments_left c b k o h has again = list_away arguments_left b k (words k) refl o ∙ again b never
 turn_taken upper_left c b k o h has again = list_away upper_left b k (words k) refl o ∙ again b never
 turn_taken ranges_left c b k o h has again = list_away ranges_left b k (words k) refl o ∙ again b never
@@ -359,7 +359,7 @@ turn_taken value_left c b k o h has again = list_away value_left b k (words k) r
 turn_taken initial_left c b k o h has again = list_away initial_left b k (words k) refl o ∙ again b never
 turn_taken short_left c b k o h has again = list_away short_left b k (words k) refl o ∙ again b never
 turn_taken parent_left c b k o h has again = list_away parent_left b k (words k) refl o ∙ again b never
-turn_taken properties_behind c b k o h has again = list_away properties_behind b k (words k) refl o ∙ again b never
+turn_taken properties_after c b k o h has again = list_away properties_after b k (words k) refl o ∙ again b never
 turn_taken attributes_left c b k o h has again = list_away attributes_left b k (words k) refl o ∙ again b never
 turn_taken props_left c b k o h has again = list_away props_left b k (words k) refl o ∙ again b never
 turn_taken texts_left c b k o h has again = list_away texts_left b k (words k) refl o ∙ again b never
@@ -370,14 +370,14 @@ turn_taken otherwise_left c b k o h has again = body_away otherwise_left b k (wo
 turn_taken body_left c b k o h has again = body_away body_left b k (words k) refl (cases_end k o.0 o.1 h) ∙ again b never
 turn_taken (set v) c b k o h has again = set_away b k v (words k) ∙ again v (λ e. e)
 turn_taken need c b k o h has again = needed_taken c b k o.0 has again
-turn_taken cast_behind c b k o h has again = cast_away b k o.0 o.1 ∙ again b never
+turn_taken cast_after c b k o h has again = cast_away b k o.0 o.1 ∙ again b never
 turn_taken (optional s) c b k o h has again = optional_away b k o.1.0 s o.1.1 ∙ again b never
 turn_taken (optional_effect s) c b k o h has again = effect_away b k o.1.0 s o.1.1 ∙ again b never
 turn_taken loop c b k o h has again =
-    tail_away array_behind false (properties_left ∷ owned_left ∷ scale_left ∷ add_left ∷ compare_left ∷ logic_left ∷ k)
+    tail_away array_after false (properties_left ∷ owned_left ∷ scale_left ∷ add_left ∷ compare_left ∷ logic_left ∷ k)
     (words k) refl o ∙ after_condition k (words k) o ∙ again false never
-turn_taken (case_behind n) c b k o h has again = case_away b k n (words k) o.1 ∙ again b never
-turn_taken minus_behind c b k o h has again = minus_away b k o.0 o.1 ∙ again b never
+turn_taken (case_after n) c b k o h has again = case_away b k n (words k) o.1 ∙ again b never
+turn_taken minus_after c b k o h has again = minus_away b k o.0 o.1 ∙ again b never
 turn_taken object_heading c b k o h has again =
     list_away short_left false (parent_left ∷ k) (words k) refl o ∙ list_away parent_left false k (words k) refl o
     ∙ again false never

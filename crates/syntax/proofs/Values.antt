@@ -15,7 +15,7 @@ use Rattle.syntax.proofs.After.{Follows, no_effect, onward, follows_read, follow
 use Rattle.syntax.proofs.After.{follows_then}
 use Rattle.syntax.proofs.After.{follows_by, list_follows}
 
--- the number behind `-`
+-- the number after `-`
 negative_follows : (k : Stack) (ts : List Lexeme)
     → Follows (stop false (number_left ∷ k) ts) no_effect k ts (negative_on (head ts) ts)
 unfolding stop shift accepts
@@ -38,7 +38,7 @@ value_follows b k (name n p ∷ m) = follows_read _ m refl (omega arith)
 value_follows b k (sign s.Minus p ∷ m) = negative_follows k m
 value_follows b k _ = follows_unfit refl
 
--- what may stand behind the lower value of a range
+-- what may follow the lower value of a range
 upper_follows : (k : Stack) (low : LiteralTree) (ts : List Lexeme)
     → Follows {A = RangeTree} (stop false (upper_left ∷ k) ts) no_effect k ts
     (if is_word w.To (head ts)

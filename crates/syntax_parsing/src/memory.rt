@@ -7,8 +7,8 @@
 
 ghost use Rattle.std.specs.Prelude.{◌≡◌, ◌<◌, IfErr, IfOk, [], ◌∷◌, ◌++◌, vec_capacity, vec_len};
 
+use crate::error::ParseError;
 use std::alloc::Global;
-use syntax_parsing::ParseError;
 
 /// The value in a box.
 pub fn in_box<T: Drop>(alloc: Global, value: T) -> Result<Box<T>, ParseError>

@@ -10,7 +10,8 @@ use std::alloc::{AllocError, Global};
 /// # Errors
 ///
 /// `AllocError` where memory is refused. The value is dropped.
-pub fn in_box<T: Drop>(alloc: Global, value: T) -> Result<Box<T>, AllocError>
+#[inline(never)]
+pub fn in_box<T: Drop>(value: T, alloc: Global) -> Result<Box<T>, AllocError>
     ensures { IfOk result (λ x. x.value ≡ value) }
 {
     Ok(Box::new(alloc, value)?)

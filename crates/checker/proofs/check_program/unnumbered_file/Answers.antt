@@ -5,7 +5,7 @@ use Rattle.syntax_directives.specs.Views.{directive_tree}
 use Rattle.syntax.specs.Views.{program_tree}
 use Rattle.checker_names.specs.Names.{table_of}
 use Rattle.checker.proofs.Numbered.{none_numbered}
-use Rattle.checker.proofs.check_program.unnumbered.Goals as goal
+use Rattle.checker.proofs.check_program.unnumbered_file.Goals as goal
 
 pub returns : goal.returns
 returns c =

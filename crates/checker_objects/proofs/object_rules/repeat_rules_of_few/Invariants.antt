@@ -3,9 +3,9 @@ use Rattle.std.specs.Prelude.{map}
 use Rattle.syntax_trees.specs.Views.{name_tree}
 use Rattle.checker_names.specs.Names.{repeated_breaches}
 use Rattle.checker_names.specs.Noted.{noted}
-use Rattle.checker_objects.proofs.object_rules.repeated_few.Given as goal
+use Rattle.checker_objects.proofs.object_rules.repeat_rules_of_few.Given as goal
 
 abbrev pub invariant-loop-number : goal.invariant-loop-number
 invariant-loop-number l =
-    noted l.least (repeated_breaches (map name_tree (take l.number l.names)) (map name_tree (drop l.number l.names)))
-    ≡ noted l.fn.least (repeated_breaches [] (map name_tree l.names))
+    noted l.tally (repeated_breaches (map name_tree (take l.number l.names)) (map name_tree (drop l.number l.names)))
+    ≡ noted l.fn.tally (repeated_breaches [] (map name_tree l.names))
