@@ -8,7 +8,7 @@
 - in docs/PROVING.md the number of crates
 - in docs/DIFFERENCES.md the tables of what is missing and of words of other languages, by those of `messages_features`
 - in the README of `rows` how many rows its file `stdin` has, and each of its parts
-- in docs/READING.md the table of files and lines of the reading list
+- in docs/READING.md the table of files and lines of the reading list, and the number of crates of the kit
 - in docs/THEOREM.md and README.md the numbers of lines, of must-fail edits and of crates of the kit, and what proving
   takes
 
@@ -200,14 +200,12 @@ def with_figures(text, figures):
 def figures_of_theorem(crates):
     """The figures of THEOREM.md."""
     read = [one for _, texts in reading_list((TOP / "docs/READING.md").read_text()) for one in texts]
-    yield "reading list, about ", f"{round(sum(map(lines_of, read)), -2):,}", " lines:"
     yield r"\| Code with its contracts \| ", f"{lines_in('src', 'rt'):,}", r" \|"
     yield "in the reading list: ", f"{round(sum(map(own_lines, read)), -3):,}", r"\) \| "
     yield r"in the reading list: [\d,]+\) \| ", f"{lines_in('specs', 'antt'):,}", r" \|"
     yield r"\| Proofs \| ", f"{lines_in('proofs', 'antt'):,}", r" \|"
     yield "in about ", tens_of_minutes(seconds_of_gate()), " minutes of processor time"
     yield "together with ", sum(map(edits_of, crates.libraries)), " edits of the\ncode"
-    yield "The contracts of the ", NUMBERS[len(crates.kit_of_programs())], " crates of the kit that the programs use"
 
 
 def figures_of_readme(crates):
