@@ -151,7 +151,7 @@ case_length test ns when offset =
 pub case_some : (test : Test) (ns : List ℕ) (when : Bool) → 1 ≤ length (bytes_of_all (case_code test ns when 2))
 case_some test ns when = omega (arith, labelled_length (test_operation test) (compared ns) when 2)
 
--- a branch by an object likewise, behind its tests
+-- a branch by an object likewise, after its tests
 pub label_length : (a b : Addresses) (objects : ℕ) (o : items.Operand) (before : List Instruction) (op : Operation)
     (os : List Operand) (when : Bool) (offset : ℕ)
     → length (bytes_of_all (pulled_into 0 o ++ (tests_in 0 a causes.NotAnObject 1 (objects + 1) o

@@ -64,7 +64,7 @@ module _ (c : Running) where
   pub scratch_in : (fuel : ℕ) (memory : List ℕ) → Scratch c memory → Scratch (refuel fuel) memory
   scratch_in fuel memory s = record { ground = s.ground; stored = s.stored; kept = s.kept }
 
-  -- The instructions of the loop, behind the one that sets its variable
+  -- The instructions of the loop, after the one that sets its variable
 
   abbrev same_test : Instruction
   same_test = branching operations.JumpIfEqual (Variable 251 ∷ Variable 250 ∷ []) true 11

@@ -28,7 +28,7 @@ module _ (c : Running) where
 
   -- Tests before a fault
 
-  -- what is behind the fault, or the fault
+  -- what is after the fault, or the fault
   abbrev pub Passed : Bool → Cause → List PropertyTable → List ℕ → List ℕ → List ℕ → ℕ → List Instruction → Type 0
   Passed true cause tables before rest memory q is = Works c tables before rest memory q is
   Passed false cause tables before rest memory q is = FailsWith c cause before

@@ -100,7 +100,7 @@ dictionary_held =
       numbers = λ key. refl;
     }
 
--- its objects stand behind the defaults of properties
+-- its objects stand after the defaults of properties
 objects_held : HoldsRows story objects defaults
 unfolding bytes_of encoded encoded_with packed spelling_of
 objects_held = record { stand = refl; above = leb-true _ _ refl; below = leb-true _ _ refl }

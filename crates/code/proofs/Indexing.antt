@@ -118,7 +118,7 @@ module _ (c : Running) where
       (variable_held c r.memory x r.scratch is).reads
       (λ memory scratch same _. (variable_held c memory x scratch is).reads) size followed))
 
-  -- a number whose tests stand before what is done, which is then behind their fault
+  -- a number whose tests stand before what is done, which is then after their fault
   number_labelled : (cause : Cause) (n : ℕ) (act : Operand → List Instruction) (before rest other : List ℕ) (b : Bool)
       → (r : Reached c before rest other ((if b then [] else fail (fault_address a cause)) ++ act (constant n)))
       → r.q + length (flat_map bytes_of ((if b then [] else fail (fault_address a cause)) ++ act (constant n)))

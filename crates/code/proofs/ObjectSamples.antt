@@ -59,7 +59,7 @@ in_pushed : item_bytes sizes a 65 (is_in pushed pushed false 9)
 unfolding bytes_of
 in_pushed = refl
 
--- print_paddr; quit; and the branch behind
+-- print_paddr; quit; and the branch after
 in_none : branched (is_in (number 4) (variable y) true 9) ≡ 141 ∷ 2 ∷ 4 ∷ 186 ∷ 38 ∷ 4 ∷ 2 ∷ 202 ∷ []
 unfolding bytes_of
 in_none = refl

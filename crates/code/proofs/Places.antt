@@ -25,7 +25,7 @@ first_is : (xs : List ℕ) → first xs ≡ slice_index xs 0
 first_is [] = refl
 first_is (x ∷ xs) = refl
 
--- the part of a number, and what there is behind it
+-- the part of a number, and what there is after it
 record Split (k : ℕ) (ps : List Part) (n : ℕ) (x : Part) : Type 0 where
   rest : List ℕ
   here : slice_index (lefts k ps) n ≡ part_size (k + n) x rest + slice_index (lefts k ps) (suc n)
@@ -120,7 +120,7 @@ module _ (sizes : Sizes) where
           let low = rises is target (n + 1) (omega (arith, h)) in
           omega (arith, there, low)
 
-  -- the next item stands behind an item's bytes
+  -- the next item stands after an item's bytes
   pub next_place : (a : Addresses) (is : List Item) (n : ℕ) (i : Item) → slice_get is n ≡ Some i
       → place_of sizes is (n + 1)
       ≡ place_of sizes is n + length (item_bytes sizes a (offset_of (is_near sizes is) (place_of sizes is) n i) i)

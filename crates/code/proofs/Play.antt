@@ -39,7 +39,7 @@ pub record PlaysAs (full : ℕ) (here : Next) (s : State) (w : World) (outcome :
   pub texts : outcome.texts ≡ w.texts ++ map (λ (v : Whole). v.text) (whole ∷ plays_from full whole w.lines)
   pub place : outcome.place ≡ last_place (whole ∷ plays_from full whole w.lines)
 
--- these are the arrays of the source: they stand one behind another, behind the globals and below the objects
+-- these are the arrays of the source: they stand one after another, after the globals and below the objects
 pub record HoldsArrays (story : List ℕ) (a : Addresses) (arrays : List (List ℕ)) (memory : List ℕ) : Type 0 where
   pub first : ℕ
   pub above : globals_of story + 480 ≤ first

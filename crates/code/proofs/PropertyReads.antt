@@ -137,7 +137,7 @@ module _ (c : Running) where
         (λ after. refl) (omega arith) (omega arith) (omega (arith, next.end, followed))
         (first_held m from_here zero_test (counting n d t.operand) next.held))
 
-    -- what stands behind it
+    -- what stands after it
     last_held : (w : ℕ) → Works c read_tables before rest (with_variable t.reached.memory 249 w) from_here
         (then_read t.operand)
         → Holds m (from_here + 3 + 11) (flat_map bytes_of (last_read n d t.operand ∷ []))

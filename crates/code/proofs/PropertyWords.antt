@@ -37,7 +37,7 @@ use Rattle.code.proofs.Pulling.{opens, pulls, works_at}
 module _ (c : Running) where
   open c use {story, a, p, accepted, holds, full, m, count, counts, routine, place, callers, locals, world, good}
 
-  -- what is done behind the test of the object
+  -- what is done after the test of the object
   abbrev loading : ℕ → items.Operand → Destination → Operand → List Instruction
   loading q i d x =
       provided a x q ++ (tested_word a (assigned_word i)

@@ -100,7 +100,7 @@ abbrev pub words_in : ℕ → ℕ
 words_in size = (size - 2) / 4
 
 -- an array for letters and an array for words: each by its size and its address. Byte 1 of the first is cleared, since
--- `aread` would go on behind the letters that stand there (section 15); its result is 13, and goes to a temporary.
+-- `aread` would go on after the letters that stand there (section 15); its result is 13, and goes to a temporary.
 abbrev pub line_code : ℕ → ℕ → List Instruction
 line_code text parse =
     plain StoreByte (Large text ∷ Small 1 ∷ Small 0 ∷ [])

@@ -149,7 +149,7 @@ front_reversed xs k m e =
     ap (λ l. reverse (take m l)) whole ∙ ap (λ i. reverse (take i (reverse (drop k xs) ++ reverse (take k xs)))) n
     ∙ ap reverse (take-append_seam (reverse (drop k xs)) (reverse (take k xs))) ∙ reverse-reverse (drop k xs)
 
--- what is behind a part
+-- what is after a part
 pub behind : (parts : List Part) (left : List ℕ) (number : ℕ) → left ≡ reverse (lefts 0 parts) → number < length parts
     → reverse (take (length parts - number) left) ≡ lefts (number + 1) (drop (number + 1) parts)
 behind parts left number is h =

@@ -28,7 +28,7 @@ abbrev pub first : List ℕ → ℕ
 first [] = 0
 first (n ∷ ns) = n
 
--- The offset of a branch ahead. `rest` tells how many bytes there are from each part behind the branch on to the end,
+-- The offset of a branch ahead. `rest` tells how many bytes there are from each part after the branch on to the end,
 -- and the branch leads over so many of these parts. One that led nowhere ahead would have offset 2, and one past the
 -- end lead to the end.
 abbrev pub offset_over : ℕ → List ℕ → ℕ

@@ -74,10 +74,10 @@ fn label_size(form: Form) -> usize
     }
 }
 
-/// How many bytes there are on to the end behind so many parts, where `left` tells how many there
-/// are from each part on, the end's first. Behind the end there are none.
+/// How many bytes there are on to the end after so many parts, where `left` tells how many there
+/// are from each part on, the end's first. After the end there are none.
 #[tactic(auto, using(crate::proofs::Offsets::turned, crate::proofs::Offsets::turned_past))]
-fn left_behind(left: &[usize], over: usize) -> usize
+fn left_after(left: &[usize], over: usize) -> usize
     ensures { result ≡ slice_index (reverse left.now) over }
 {
     if over < left.len() {
@@ -88,17 +88,17 @@ fn left_behind(left: &[usize], over: usize) -> usize
 }
 
 /// The offset of a branch over so many parts, where `left` tells how many bytes there are from each
-/// part behind it on to the end, the end's first.
+/// part after it on to the end, the end's first.
 #[tactic(auto, using(crate::proofs::Offsets::first_is))]
 fn offset_over(left: &[usize], over: usize) -> usize
     requires { first (reverse left.now) < bytes_limit }
     ensures { result ≡ offset_over over (reverse left.now) }
 {
-    let end = left_behind(left, 0);
-    OFFSET_BASE + end.saturating_sub(left_behind(left, over))
+    let end = left_after(left, 0);
+    OFFSET_BASE + end.saturating_sub(left_after(left, over))
 }
 
-/// How many bytes a part has, where `left` tells how many there are from each part behind it on to
+/// How many bytes a part has, where `left` tells how many there are from each part after it on to
 /// the end, the end's first.
 fn size_of(part: Part, left: &[usize], number: usize) -> usize
     requires small { first (reverse left.now) < bytes_limit }
@@ -153,9 +153,9 @@ pub fn branches(alloc: Global, parts: &[Part], left: &[usize]) -> Result<Vec<Bra
     let mut found = Vec::new(alloc);
     for number in 0..parts.len() {
         if let Some(target) = parts[number].target {
-            let behind = &left[..parts.len() - number];
+            let after = &left[..parts.len() - number];
             let over = target.saturating_sub(number).saturating_sub(1);
-            let offset = offset_over(behind, over);
+            let offset = offset_over(after, over);
             found.push(BranchUse {
                 form: form_for(offset),
                 offset,

@@ -17,5 +17,5 @@ pub use instruction::{
 };
 pub use layout::{BranchUse, Form, Part, TWO_BYTE_LIMIT, branches, lay_out};
 pub use operands::{
-    constant, in_place, named_second, put_named, put_takes, result_in, variable_number,
+    constant, in_place, name_second, put_named, put_takes, result_in, variable_number,
 };

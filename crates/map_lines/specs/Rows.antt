@@ -29,7 +29,7 @@ Title = NameTree × ℕ
 
 -- the address of a row so many bytes after a place; it has 32 bits
 abbrev pub address_at : ℕ → ℕ → ℕ
-address_at place behind = min (place + behind) (2 ^ 32 - 1)
+address_at place after = min (place + after) (2 ^ 32 - 1)
 
 -- the first address at or after another to which a packed address leads
 abbrev pub aligned : Version → ℕ → ℕ

@@ -1,4 +1,4 @@
--- What is behind a part of a directive weighs no more than what begins with that part.
+-- What is after a part of a directive weighs no more than what begins with that part.
 use Rattle.std.proofs.Common.{◌≤◌, List, Option, arith}
 use Rattle.syntax_lexer.specs.declared.token.Position.{Position}
 use Rattle.syntax_lexer.specs.Token.{Lexeme}

@@ -1,4 +1,4 @@
--- How many bytes the tests of an operand have, with what is done behind them.
+-- How many bytes the tests of an operand have, with what is done after them.
 use Rattle.std.proofs.Common.{◌≡◌, ◌≤◌, ◌+◌, ℕ, Bool, true, false, List, [], ◌∷◌, ◌++◌, length, refl, ap, arith}
 use Rattle.std.proofs.Common.{length-append}
 use Rattle.std.specs.Prelude.{nat_lt, if◌then◌else◌}

@@ -150,7 +150,7 @@ property_word_few objects q o i d =
       object_few objects o act 42 (loaded_few q (assigned_word i) (result_in d) (word_in_few 1 i)),
     )
 
--- a word is stored behind the tests, and goes on
+-- a word is stored after the tests, and goes on
 written_few : (i word : Operand) (d : Destination) → length (operand_bytes word) ≤ 2
     → length (bytes_of_all (plain operations.StoreWord (Variable (temporary 2) ∷ i ∷ word ∷ []) ∷ passed_on d word))
     ≤ 10 + length (operand_bytes i)

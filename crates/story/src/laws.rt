@@ -1,11 +1,16 @@
 //! Laws of stories. The functions do nothing: each carries a law as its contract.
 
+ghost use Rattle.syntax_lexer.specs.Printable.{PrintableTokens};
+ghost use Rattle.syntax.specs.Laws.{PrintableTrees};
+ghost use Rattle.checker.specs.Laws.{AcceptedPrograms, PrintablePrograms};
+ghost use Rattle.code.specs.Laws.{CodePlays};
 ghost use Rattle.story.specs.CodeSizes.{CodeIsShort, SmallSourcesHaveSmallCode};
 ghost use Rattle.story.specs.Laws.{LightStoriesFit, StoriesAreShort, StoriesHold};
 
-use checker::accepted_programs;
-use syntax::one_tree;
-use syntax_lexer::one_outcome;
+use checker::{accepted_programs, printable_programs};
+use code::code_plays;
+use syntax::{one_tree, printable_trees};
+use syntax_lexer::{one_outcome, printable_tokens};
 
 /// The code of a program is no longer than its source weighs, whatever the names of the source
 /// stand for, however many objects it has, and whatever its abbreviations are: each routine has at
@@ -46,4 +51,23 @@ pub fn light_stories_fit()
     code_is_short();
     one_outcome();
     one_tree();
+}
+
+/// The laws by which the story of an accepted source is read, and does what the source means.
+pub(crate) fn laws()
+    ensures accepted { AcceptedPrograms }
+    ensures tokens { PrintableTokens }
+    ensures trees { PrintableTrees }
+    ensures programs { PrintablePrograms }
+    ensures small { SmallSourcesHaveSmallCode }
+    ensures hold { StoriesHold }
+    ensures plays { CodePlays }
+{
+    accepted_programs();
+    printable_tokens();
+    printable_trees();
+    printable_programs();
+    small_sources_have_small_code();
+    stories_hold();
+    code_plays();
 }

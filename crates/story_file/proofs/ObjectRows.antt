@@ -37,7 +37,7 @@ passed_by p o x xs i which follows =
       | inr e ↦ ap (behind_in (o + suc i)) (if_other x.parent p (o ∷ rest) rest e) ∙ later
     ]
 
--- the one behind an object is the first of those that follow it
+-- the one after an object is the first of those that follow it
 pub behind_is : (p o : ℕ) (xs : List ObjectOf) (i : ℕ) → i < length xs
     → (slice_index_or xs i no_object).parent ≡ p
     → behind_in (o + i) (standing_in p o xs) ≡ first_of (standing_in p (o + i + 1) (drop (i + 1) xs))

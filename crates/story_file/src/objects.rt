@@ -84,7 +84,10 @@ fn sibling(objects: &[CheckedObject<'_>], links: &Links, index: usize) -> u16
 }
 
 /// The numbers and words of properties.
-fn copied(alloc: Global, properties: &[(u8, Vec<u16>)]) -> Result<Vec<(u8, Vec<u16>)>, AllocError>
+fn copy_properties(
+    alloc: Global,
+    properties: &[(u8, Vec<u16>)],
+) -> Result<Vec<(u8, Vec<u16>)>, AllocError>
     ensures { IfOk result (λ v. map property_of v.items ≡ map property_of properties.now) }
 {
     let mut copies = Vec::new(alloc);
@@ -113,7 +116,7 @@ fn row(
     let Ok(name) = characters(alloc, object.name) else {
         return Err(AllocError);
     };
-    let Ok(properties) = copied(alloc, &object.properties) else {
+    let Ok(properties) = copy_properties(alloc, &object.properties) else {
         return Err(AllocError);
     };
     let attributes = [

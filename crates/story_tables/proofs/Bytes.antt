@@ -42,7 +42,7 @@ pub word_same : (old new : List ℕ) (at : ℕ) → slice_index new at ≡ slice
 word_same old new at high low =
     ap (λ x. x * 256 + slice_index new (at + 1)) high ∙ ap (λ x. slice_index old at * 256 + x) low
 
--- what lies behind an address is the same
+-- what lies after an address is the same
 pub drop_same : (old new : List ℕ) (k : ℕ) → length new ≡ length old
     → ((q : ℕ) → k ≤ q → slice_index new q ≡ slice_index old q) → drop k new ≡ drop k old
 drop_same old new k long same =

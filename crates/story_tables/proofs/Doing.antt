@@ -23,7 +23,7 @@ pub does_then : {A B : Type 0} {a : A} {b : B} {s t u : State} {f : State → Ou
     → Acts f a s t → Acts (k a) b t u → Acts (f >>= k) b s u
 does_then k p q = record { is = ap (λ x. bound x k) p.is ∙ q.is }
 
--- a part that is done, and what comes behind it
+-- a part that is done, and what comes after it
 pub then_is : {A B : Type 0} {a : A} {s t : State} {f : State → Out A} (k : A → State → Out B) → Acts f a s t
     → (f >>= k) s ≡ k a t
 then_is k p = ap (λ x. bound x k) p.is

@@ -1,4 +1,4 @@
--- Property tables that stand in memory one behind another.
+-- Property tables that stand in memory one after another.
 use Rattle.std.proofs.Common.{◌≡◌, ◌+◌, ◌-◌, ◌*◌, ◌≤◌, ◌<◌, ℕ, zero, suc, List, [], ◌∷◌, ◌++◌, length, slice_index}
 use Rattle.std.proofs.Common.{slice_index_or, ◌∙◌, arith, subst, Some}
 use Rattle.std.specs.Prelude.{take}

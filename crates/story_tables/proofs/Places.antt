@@ -91,7 +91,7 @@ place_room n m c table i =
     let before : place_of (defaults_of m) c + 1 < static_base_of m = omega (arith, p.1, e.1) in
     record { past = omega (arith, p.0, e.0); before = before; inside = omega arith; low = omega arith }
 
--- no write behind the header moves the entries
+-- no write after the header moves the entries
 pub header_kept : (m : List ℕ) (at word k : ℕ) → 64 ≤ at → k < 63 → word_at (with_word m at word) k ≡ word_at m k
 header_kept m at word k past low = word_other m at word k (inl (omega arith))
 

@@ -172,7 +172,7 @@ table_with q i v t ws is lt =
     ∙ sym (with_behind front (name ++ list) (length name + k) v)
     ∙ ap (λ n. with_word (table_bytes t) n v) place
 
--- Tables one behind another
+-- Tables one after another
 
 pub tables_with : (p v : ℕ) (new : PropertyTable) (tables : List PropertyTable) (k : ℕ) → k < length tables
     → table_bytes new ≡ with_word (table_bytes (slice_index_or tables k no_table)) p v

@@ -43,7 +43,7 @@ key_of_entry story at key six h =
 abbrev pub AreKeys : List (List ℕ) → Type 0
 AreKeys keys = AllByRecursion (λ (k : List ℕ). length k ≡ 6) keys
 
--- the entries, one behind another
+-- the entries, one after another
 entries_read : (story : List ℕ) (keys : List (List ℕ)) (at : ℕ) → AreKeys keys
     → Holds story at (flat_map entry_bytes keys)
     → (k : ℕ) → k < length keys → key_at story (at + k * 9) ≡ slice_index (map number_of_key keys) k

@@ -1,5 +1,5 @@
 -- The objects of a running source in the memory of a story that runs: entries with their links and attributes, and
--- behind them the property tables, one behind another (Z-Machine Standards Document 1.1, section 12).
+-- after them the property tables, one after another (Z-Machine Standards Document 1.1, section 12).
 use Rattle.std.specs.Prelude.{◌≡◌, ◌+◌, ◌-◌, ◌*◌, ◌<◌, ◌≤◌, ℕ, List, length, map, drop, slice_index, option_map}
 use Rattle.std.specs.List.{All, flat_map}
 use Rattle.ztext.specs.Bytes.{word_at}
@@ -20,7 +20,7 @@ pub record HasEntries (n : ℕ) (memory : List ℕ) : Type 0 where
   pub inside : static_base_of memory ≤ length memory
   pub low : static_base_of memory ≤ 65535
 
--- the property tables of so many objects stand behind their entries
+-- the property tables of so many objects stand after their entries
 abbrev pub tables_base : ℕ → List ℕ → ℕ
 tables_base n memory = defaults_of memory + defaults_size + object_entry_size * n
 
@@ -60,7 +60,7 @@ pub record KeepsRest (old new : List ℕ) : Type 0 where
   pub before : (q : ℕ) → q < defaults_of old → slice_index new q ≡ slice_index old q
   pub behind : drop (static_base_of old) new ≡ drop (static_base_of old) old
 
--- bytes below the region of objects may differ, behind the header, and no others
+-- bytes below the region of objects may differ, after the header, and no others
 pub record KeepsRegion (old new : List ℕ) : Type 0 where
   pub size : length new ≡ length old
   pub header : (q : ℕ) → q < header_size → slice_index new q ≡ slice_index old q

@@ -71,7 +71,7 @@ table_of row = record { name = row.name; properties = row.properties }
 abbrev pub entry_bytes : RowOf → ℕ → List ℕ
 entry_bytes row at = row.attributes ++ word row.parent ++ word row.sibling ++ word row.child ++ word at
 
--- entries whose property tables stand one behind the other from an address on
+-- entries whose property tables stand one after the other from an address on
 abbrev pub entries_bytes : ℕ → List RowOf → List ℕ
 entries_bytes at [] = []
 entries_bytes at (row ∷ rows) = entry_bytes row at ++ entries_bytes (at + length (table_bytes (table_of row))) rows

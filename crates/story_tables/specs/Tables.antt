@@ -21,7 +21,7 @@ size_bytes x = sizes x.0 (length x.1)
 abbrev pub property_bytes : ℕ × List ℕ → List ℕ
 property_bytes x = size_bytes x ++ flat_map word x.1
 
--- the properties, and the zero byte behind them
+-- the properties, and the zero byte after them
 abbrev pub list_bytes : List (ℕ × List ℕ) → List ℕ
 list_bytes [] = 0 ∷ []
 list_bytes (x ∷ xs) = property_bytes x ++ list_bytes xs

@@ -12,8 +12,8 @@ const SPACE: u8 = b' ';
 /// What ends a line.
 const NEW_LINE: u8 = b'\n';
 
-/// Breaks the lines of a text at words: a new line takes the place of each space behind which the
-/// next word would end after the last of so many columns. The text begins behind so many columns of
+/// Breaks the lines of a text at words: a new line takes the place of each space after which the
+/// next word would end after the last of so many columns. The text begins after so many columns of
 /// its first line. Says how many columns its last line has. Only a line of a single word is wider
 /// than asked for. It takes no memory, and time linear in the text.
 pub fn break_lines(text: &mut [u8], columns: usize, begun: usize) -> usize

@@ -8,8 +8,8 @@ use Rattle.code_encoding.proofs.Offsets.{all_found}
 use Rattle.code_encoding.proofs.layout.branches.Goals.{in-Some+in_ok-push, in_default}
 use Rattle.code_encoding.proofs.layout.branches.Goals as goal
 
-pub slice_bounds-behind-length : goal.slice_bounds-behind-length
-slice_bounds-behind-length c =
+pub slice_bounds-after-length : goal.slice_bounds-after-length
+slice_bounds-after-length c =
     let l = left_length c.args.parts.now c.args.left.now c.requires.left in
     omega (arith, l, length-take (length c.args.parts.now - c.loop-number.number) c.args.left.now)
 

@@ -1,6 +1,6 @@
 use Rattle.code_drafts.specs.Code.{as_operand}
 use Rattle.code_encoding.proofs.Naming.{two_named}
-use Rattle.code_encoding.proofs.operands.named_second.Goals as goal
+use Rattle.code_encoding.proofs.operands.name_second.Goals as goal
 
 pub returns : goal.returns
 returns c =

@@ -3,7 +3,7 @@ use Rattle.std.proofs.lemmas.List.{with_items_is}
 use Rattle.code_drafts.specs.declared.item.Item as code
 use Rattle.code_drafts.specs.Code.{items_of}
 use Rattle.code_drafts.specs.Writing.{in_order}
-use Rattle.code_drafts.proofs.draft.in_order.Goals as goal
+use Rattle.code_drafts.proofs.draft.into_items.Goals as goal
 
 pub returns : goal.returns
 returns c =

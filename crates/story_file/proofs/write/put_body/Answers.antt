@@ -10,7 +10,7 @@ use Rattle.story_file.specs.Layout.{fault_texts, packed_addresses, addresses_fro
 use Rattle.story_file.specs.Written.{bytes_in, codes_in, end_from, packed_from}
 use Rattle.story_file.proofs.Laid.{packed_within, packed_counted, packed_are, found_at, codes_counted, codes_ready}
 use Rattle.story_file.proofs.Laid.{addresses_are, arrays_within, body_laid, sizes_of_texts}
-use Rattle.story_file.proofs.write.body_of.Goals as goal
+use Rattle.story_file.proofs.write.put_body.Goals as goal
 
 pub packed_addresses-requires : goal.packed_addresses-requires
 packed_addresses-requires c =
@@ -112,7 +112,7 @@ returns c =
     let printed : map bytes_in c.deref-5.result.now ≡ fault_texts =
     ap (λ (xs : List (Vec ℕ)). map bytes_in xs) c.deref-5.ensures.value ∙ c.in-Ok.ensures in
     body_laid c.args.version p c.args.codes.now a (map bytes_in c.deref-5.result.now)
-    c.new-body.result.items c.put_low.new.bytes.items c.put_routines.new.body.items c.put_texts.new.body.items
+    c.args.story.now.items c.put_low.new.bytes.items c.put_routines.new.story.items c.put_texts.new.story.items
     c.index.result.now c.requires.fits.accepted.defaults.0
-    again printed addresses main c.new-body.ensures.items c.in-Ok-put_low.ensures c.in-Ok-put_routines.ensures
+    again printed addresses main c.requires.header c.in-Ok-put_low.ensures c.in-Ok-put_routines.ensures
     c.in-Ok-put_texts.ensures
