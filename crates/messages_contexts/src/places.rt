@@ -14,7 +14,7 @@ use crate::walks::{
     begins_two_commas, bytes_after, count_of, ends_else, is_after, is_case, is_in_brackets,
     is_in_constant, is_in_names, is_inequality, is_known, is_listed, is_negation, last_do,
 };
-use messages_features::{Feature, habit_as_operand, habit_at_beginning, habit_between, named};
+use messages_parts::{Feature, habit_as_operand, habit_at_beginning, habit_between, named};
 use syntax_lexer::{Sign, Token};
 
 /// A place in a source: the token of a number, which does not fit. The other numbers are of tokens

@@ -10,7 +10,7 @@ use messages_contexts::{
     is_word, kinds, last_open, last_word, open_parenthesis, owns_parentheses, start_of,
     switch_around,
 };
-use messages_expected::Grouped;
+use messages_tokens::Grouped;
 use syntax::{Kind, Sign, Token, Word};
 
 /// What may be the cause of a token that does not fit.

@@ -9,7 +9,7 @@ use messages_contexts::{
     Definition, around, begins_statement, behind, definition_of, first_definition,
     is_after_apostrophe, is_after_word, is_name, is_sign, line_of, text_at,
 };
-use messages_features::{
+use messages_parts::{
     APOSTROPHES, Absent, CLASSES, Feature, habit_as_name, habit_at_beginning, habit_between, named,
     named_in_expression,
 };

@@ -5,7 +5,7 @@ use crate::kinds::{array_kind, binding_in, is_variable, kind_of};
 use crate::wanted::{Wanted, is_read, wanted_in};
 use checker_names::{Binding, Table};
 use messages_contexts::{Defined, Definition, may_lack_comma, may_lack_has};
-use messages_features::{Instead, OTHER_VALUES};
+use messages_parts::{Instead, OTHER_VALUES};
 use messages_tokens::{Quoted, some};
 use std::alloc::{AllocError, Global};
 use syntax::{ArrayKind, Token};

@@ -2,8 +2,8 @@
 
 use crate::rules::{Told, at_place, program_sentence};
 use meaning::greatest_weight;
-use messages_figures::{Limit, MOST_TABLE_BYTES, greatest_length, measure};
-use messages_places::{Diagnosis, Place};
+use messages_diagnosis::{Limit, MOST_TABLE_BYTES, greatest_length, measure};
+use messages_parts::{Diagnosis, Place};
 use messages_tokens::{Figure, some, source_sentence};
 use std::alloc::{AllocError, Global};
 use syntax_directives::weight_of;

@@ -2,7 +2,7 @@
 
 use checker::next_breach;
 use checker_names::Breach;
-use messages_places::{Diagnosis, located};
+use messages_parts::{Diagnosis, located};
 use std::alloc::{AllocError, Global};
 use syntax::{Program, Token, discard, parse};
 use syntax_lexer::{NO_MEMORY, PlacedFault, Position, SourceFault, lex};

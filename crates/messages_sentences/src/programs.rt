@@ -1,7 +1,7 @@
 //! Programs that are read for what they tell, and dropped.
 
 use checker_names::{Table, tabulate};
-use messages_figures::temporaries_at;
+use messages_diagnosis::temporaries_at;
 use std::alloc::{AllocError, Global};
 use syntax::{Token, discard, parse};
 use syntax_lexer::NO_MEMORY;
