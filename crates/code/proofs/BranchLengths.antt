@@ -12,8 +12,8 @@ use Rattle.zcore.specs.Operations.{count_of, has_more_types}
 use Rattle.zcore.specs.Operations as numbers
 use Rattle.zcore.specs.Instruction.{Instruction}
 use Rattle.zcore.specs.InstructionBytes.{opcode_bytes, operand_bytes, branch_bytes, bytes_of}
-use Rattle.code_branch_forms.specs.declared.layout.Form.TheVariants as form
-use Rattle.code_branch_forms.specs.Layout.{form_for, size_with}
+use Rattle.code_encoding.specs.declared.layout.Form.TheVariants as form
+use Rattle.code_encoding.specs.Layout.{form_for, size_with}
 use Rattle.code_drafts.specs.Items.{Test}
 use Rattle.code_drafts.specs.Items as items
 use Rattle.meaning.specs.declared.cause.Cause.TheVariants as causes

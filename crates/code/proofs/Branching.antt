@@ -19,7 +19,7 @@ use Rattle.code_items.specs.Stack as stack
 use Rattle.code_encoding.specs.Instructions.{operands, takes, top, most_tested}
 use Rattle.code_instructions.specs.Instructions.{ahead_limit, labelled, test_operation, ordered_code, turned}
 use Rattle.code_instructions.specs.Instructions.{are_both_pushed, tested_code, branch_code}
-use Rattle.code_selection.specs.ItemBytes.{text_bytes}
+use Rattle.code.specs.ItemBytes.{text_bytes}
 use Rattle.code.specs.Bytes.{place_of}
 use Rattle.code.specs.HeldProgram.{sizes_of}
 use Rattle.code.proofs.Behind.{Holds}

@@ -26,7 +26,7 @@ use Rattle.code_encoding.specs.Instructions.{plain, branching, operands, takes, 
 use Rattle.code_instructions.specs.Instructions.{labelled_below, back_limit, test_operation, ordered_below, turned}
 use Rattle.code_instructions.specs.Instructions.{are_both_pushed, tested_below, branch_below}
 use Rattle.code_instructions.specs.Places.{back_offset}
-use Rattle.code_selection.specs.ItemBytes.{text_bytes}
+use Rattle.code.specs.ItemBytes.{text_bytes}
 use Rattle.code.specs.Bytes.{place_of, code_size, is_near}
 use Rattle.code.specs.HeldProgram.{sizes_of}
 use Rattle.code.proofs.Behind.{Holds}

@@ -14,12 +14,12 @@ use Rattle.zcore.specs.Parts.{operand_value}
 use Rattle.zcore.specs.State.{done}
 use Rattle.zcore.specs.Execution.{perform, give_result}
 use Rattle.meaning.specs.declared.cause.Cause.TheVariants as causes
-use Rattle.code_object_memory.specs.Region.{tables_base}
-use Rattle.code_object_memory.specs.Tables.{words_place, PropertyTable}
+use Rattle.story_tables.specs.Region.{tables_base}
+use Rattle.story_tables.specs.Tables.{words_place, PropertyTable}
 use Rattle.code_encoding.specs.Addresses.{fault_address}
 use Rattle.code_encoding.specs.Instructions.{giving, branching, fail}
 use Rattle.code_objects.specs.ObjectCode.{length_at, tested_single, tested_word, behind_operand}
-use Rattle.code_selection.specs.ItemCode.{is_entry}
+use Rattle.code.specs.ItemCode.{is_entry}
 use Rattle.code.proofs.Memory.{word_of, with_variable}
 use Rattle.code.proofs.Parts.{machine as at_words}
 use Rattle.code.proofs.Steps.{point, one_operand, two_operands, small_value, variable_value}

@@ -11,7 +11,7 @@ use Rattle.zcore.specs.State.{State, done}
 use Rattle.zcore.specs.Parts.{operand_values, branch_on}
 use Rattle.zcore.specs.Execution.{perform}
 use Rattle.meaning.specs.declared.cause.Cause.{Cause}
-use Rattle.code_object_memory.specs.Tables.{PropertyTable}
+use Rattle.story_tables.specs.Tables.{PropertyTable}
 use Rattle.code_encoding.specs.Addresses.{fault_address}
 use Rattle.code_encoding.specs.Instructions.{branching, fail}
 use Rattle.code.proofs.Behind.{Holds, holds_append}

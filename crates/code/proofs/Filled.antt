@@ -26,7 +26,7 @@ use Rattle.code_items.specs.Laws.{ItemsFollow, ItemsAreWithin}
 use Rattle.meaning.specs.Plays.{Plays}
 use Rattle.syntax_lexer.specs.Printable.{IsPrintable}
 use Rattle.meaning.specs.Printable.{IsPrintableItem, IsPrintableRoutine, HasPrintableTexts}
-use Rattle.code_object_memory.specs.Laws.{HoldsRows}
+use Rattle.story_tables.specs.Laws.{HoldsRows}
 use Rattle.code.specs.HeldProgram.{sizes_of, offset_in, HoldsRoutine, HoldsText, HoldsProgram, fault_line}
 use Rattle.code.proofs.Leading.{code_plays_by}
 use Rattle.code.proofs.Stories.{a, table, main, sum_of_two, defaults, box, ball, objects, program, story, greeting}

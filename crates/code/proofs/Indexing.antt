@@ -14,7 +14,7 @@ use Rattle.code_drafts.specs.Items as items
 use Rattle.code_encoding.specs.Addresses.{fault_address}
 use Rattle.code_encoding.specs.Instructions.{constant, pull, fail, number_of, pulled_into, word_in, aside_variable}
 use Rattle.code_instructions.specs.Instructions.{tested_between, is_between}
-use Rattle.code_selection.specs.ItemCode.{is_entry, at_index, tested_index}
+use Rattle.code.specs.ItemCode.{is_entry, at_index, tested_index}
 use Rattle.code_objects.specs.ObjectCode.{at_tested, tests_in}
 use Rattle.code.proofs.Behind.{holds_append}
 use Rattle.code.proofs.Play.{Leads, HoldsAside}

@@ -10,8 +10,8 @@ use Rattle.zcore.specs.Parts.{unpacked}
 use Rattle.zcore.specs.State.{Frame, State, done}
 use Rattle.zcore.specs.Execution.{step}
 use Rattle.zcore.specs.Turn.{Whole, Turns, turn_from, turn_on, is_waiting, first_environment, plays_from, last_place}
-use Rattle.code_object_memory.specs.Region.{HasObjects}
-use Rattle.code_object_memory.specs.Tables.{PropertyTable}
+use Rattle.story_tables.specs.Region.{HasObjects}
+use Rattle.story_tables.specs.Tables.{PropertyTable}
 use Rattle.meaning.specs.Objects.{Objects}
 use Rattle.meaning.specs.Resolved.{ProgramOf}
 use Rattle.meaning.specs.World.{Outcome, World}

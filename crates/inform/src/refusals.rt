@@ -1,12 +1,12 @@
 //! Why and where a source is refused, on standard error.
 
-use command_lines::inform::Words;
 use messages_diagnosis::{Diagnosis, Limit, Shown};
 use messages_sentences::{further_rules, message_of};
-use one_line::OneLine;
 use std::alloc::AllocError;
 use std::process::ExitCode;
 use syntax_lexer::SourceFault;
+use terminal::OneLine;
+use terminal::inform::Words;
 
 /// The exit status where the source is refused.
 const REFUSED: u8 = 1;

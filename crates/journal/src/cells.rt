@@ -1,7 +1,7 @@
 //! What a store has to offer for its writes to be recorded.
 
 ghost use Rattle.std.specs.Prelude.{◌≡◌, ℕ, ◌+◌, ◌*◌, ◌^◌, ◌<◌, ◌≤◌, List, length, slice_set, slice_index};
-ghost use Rattle.journal_pages.specs.Pages.{AreWithin, HoldWords, HoldsBytes, put_run, run_of, whole_page, word_pages};
+ghost use Rattle.journal_pages.specs.Pages.{AreWithin, HoldsBytes, put_run, run_of, whole_page, word_pages};
 
 /// A store of numbered cells. Each holds a number from 0 to a bound of its own, at most 65,535.
 /// How many cells there are, and their bounds, stay the same under every write. Behind the first
@@ -38,40 +38,6 @@ pub trait Cells {
         requires cell { i < length (cells self.old) }
         requires within { v ≤ bounds self.old i }
         ensures cells { cells self.new ≡ slice_set (cells self.old) i v }
-        ensures bounds { bounds self.new ≡ bounds self.old }
-        ensures fixed { fixed self.new ≡ fixed self.old };
-
-    /// Writes a word into a cell that may hold any, and changes nothing else: the store need not ask
-    /// which cell it is.
-    fn put_word(&mut self, i: usize, v: u16)
-        requires cell { i < length (cells self.old) }
-        requires word { bounds self.old i ≡ 65535 }
-        ensures cells { cells self.new ≡ slice_set (cells self.old) i v }
-        ensures bounds { bounds self.new ≡ bounds self.old }
-        ensures fixed { fixed self.new ≡ fixed self.old };
-
-    /// Writes bytes into a cell and the next, which hold bytes, and changes nothing else. A store
-    /// that keeps such cells next to each other may write both at once.
-    fn put_two_bytes(&mut self, i: usize, high: u8, low: u8)
-        requires cells { i + 1 < length (cells self.old) }
-        requires short { i + 1 < 2 ^ 64 }
-        requires bytes { (bounds self.old i ≡ 255) × (bounds self.old (i + 1) ≡ 255) }
-        ensures cells { cells self.new
-            ≡ slice_set (slice_set (cells self.old) i high) (i + 1) low }
-        ensures bounds { bounds self.new ≡ bounds self.old }
-        ensures fixed { fixed self.new ≡ fixed self.old }
-    {
-        self.put(i, high as u16);
-        self.put(i + 1, low as u16);
-    }
-
-    /// Writes words, at least one, into cells that follow each other and may hold any, and changes
-    /// nothing else.
-    fn put_words(&mut self, first: usize, values: &[u16])
-        requires some { 0 < length values.now }
-        requires cells { first + length values.now ≤ length (cells self.old) }
-        requires words { HoldWords (bounds self.old) first (length values.now) }
-        ensures cells { cells self.new ≡ put_run (cells self.old) first values.now }
         ensures bounds { bounds self.new ≡ bounds self.old }
         ensures fixed { fixed self.new ≡ fixed self.old };
 

@@ -5,7 +5,7 @@ ghost use Rattle.std.specs.Borrow.{sem, Lends};
 ghost use Rattle.journal.specs.contracts.recorded.Recorded.{the_row};
 ghost use Rattle.journal.specs.Recording.{IsNothingKept};
 ghost use Rattle.journal_pages.specs.Swap.{back, entry_cells, entry_values};
-ghost use Rattle.journal_pages.specs.Pages.{HoldWords, IsAdded, IsMarked, KeepsCells, WritesKept, keeps, page_values, put_run, with_page, whole_page};
+ghost use Rattle.journal_pages.specs.Pages.{IsAdded, IsMarked, WritesKept, keeps, page_values, with_page, whole_page};
 ghost use Rattle.journal.specs.Stores.{FitsIn, IsPageWithin, Writes, begun, kept_cells};
 
 use crate::cells::Cells;
@@ -120,98 +120,7 @@ impl<C: Cells> Recorded<C> {
         Ok(())
     }
 
-    /// Writes a value, which is within the cell's bound, into a cell if the turn keeps the cell's
-    /// page, and says whether it does. It takes no memory and keeps no page: where it answers
-    /// `false`, nothing has changed.
-    #[inline(always)]
-    pub fn put_kept(&mut self, cell: usize, value: u16) -> bool
-        requires cell { cell < length (C.cells self.old.store) }
-        requires within { value ≤ C.bounds self.old.store cell }
-        ensures sure { result ≡ keeps self.old.kept (cell / whole_page) }
-        ensures same { result ≡ false → self.new ≡ self.old }
-        ensures cells { result ≡ true → Writes C.Cells self.old.store self.new.store cell value }
-        ensures kept { self.new.kept ≡ self.old.kept }
-        ensures beginning { self.new.beginning ≡ self.old.beginning }
-        ensures bounds { C.bounds self.new.store ≡ C.bounds self.old.store }
-        ensures fixed { C.fixed self.new.store ≡ C.fixed self.old.store }
-    {
-        if !self.is_kept(cell / PAGE) {
-            return false;
-        }
-        self.overwrite(cell, value);
-        true
-    }
-
-    /// Writes a value, which is within the cell's bound, into a cell of a page that the turn keeps.
-    /// It takes no memory.
-    #[inline(always)]
-    pub fn overwrite(&mut self, cell: usize, value: u16)
-        requires cell { cell < length (C.cells self.old.store) }
-        requires within { value ≤ C.bounds self.old.store cell }
-        requires kept { keeps self.old.kept (cell / whole_page) ≡ true }
-        ensures cells { Writes C.Cells self.old.store self.new.store cell value }
-        ensures kept { self.new.kept ≡ self.old.kept }
-        ensures beginning { self.new.beginning ≡ self.old.beginning }
-        ensures bounds { C.bounds self.new.store ≡ C.bounds self.old.store }
-        ensures fixed { C.fixed self.new.store ≡ C.fixed self.old.store }
-    {
-        self.store.put(cell, value);
-    }
-
-    /// Writes a word into a cell that may hold any, of a page that the turn keeps. It takes no
-    /// memory.
-    #[inline(always)]
-    pub fn overwrite_word(&mut self, cell: usize, value: u16)
-        requires cell { cell < length (C.cells self.old.store) }
-        requires word { C.bounds self.old.store cell ≡ 65535 }
-        requires kept { keeps self.old.kept (cell / whole_page) ≡ true }
-        ensures cells { Writes C.Cells self.old.store self.new.store cell value }
-        ensures kept { self.new.kept ≡ self.old.kept }
-        ensures beginning { self.new.beginning ≡ self.old.beginning }
-        ensures bounds { C.bounds self.new.store ≡ C.bounds self.old.store }
-        ensures fixed { C.fixed self.new.store ≡ C.fixed self.old.store }
-    {
-        self.store.put_word(cell, value);
-    }
-
-    /// Writes bytes into a cell and the next, which hold bytes, of pages that the turn keeps. It
-    /// takes no memory.
-    #[inline(always)]
-    pub fn overwrite_two_bytes(&mut self, cell: usize, high: u8, low: u8)
-        requires cells { cell + 1 < length (C.cells self.old.store) }
-        requires short { cell + 1 < 2 ^ 64 }
-        requires bytes { (C.bounds self.old.store cell ≡ 255)
-            × (C.bounds self.old.store (cell + 1) ≡ 255) }
-        requires kept { KeepsCells self.old.kept cell 2 }
-        ensures cells { C.cells self.new.store
-            ≡ slice_set (slice_set (C.cells self.old.store) cell high) (cell + 1) low }
-        ensures kept { self.new.kept ≡ self.old.kept }
-        ensures beginning { self.new.beginning ≡ self.old.beginning }
-        ensures bounds { C.bounds self.new.store ≡ C.bounds self.old.store }
-        ensures fixed { C.fixed self.new.store ≡ C.fixed self.old.store }
-    {
-        self.store.put_two_bytes(cell, high, low);
-    }
-
-    /// Writes words, at least one, into cells that follow each other and may hold any, of pages that
-    /// the turn keeps. It takes no memory.
-    #[inline(always)]
-    pub fn overwrite_words(&mut self, first: usize, values: &[u16])
-        requires some { 0 < length values.now }
-        requires cells { first + length values.now ≤ length (C.cells self.old.store) }
-        requires words { HoldWords (C.bounds self.old.store) first (length values.now) }
-        requires kept { KeepsCells self.old.kept first (length values.now) }
-        ensures cells { C.cells self.new.store
-            ≡ put_run (C.cells self.old.store) first values.now }
-        ensures kept { self.new.kept ≡ self.old.kept }
-        ensures beginning { self.new.beginning ≡ self.old.beginning }
-        ensures bounds { C.bounds self.new.store ≡ C.bounds self.old.store }
-        ensures fixed { C.fixed self.new.store ≡ C.fixed self.old.store }
-    {
-        self.store.put_words(first, values);
-    }
-
-    /// Whether the turn keeps a page: `put` then takes no memory there, and `put_kept` writes. Page
+    /// Whether the turn keeps a page: `put` then takes no memory there. Page
     /// n has the cells from `PAGE` times n on.
     #[inline(always)]
     pub fn is_kept(&self, page: usize) -> bool

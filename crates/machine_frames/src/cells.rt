@@ -2,13 +2,13 @@
 
 ghost use Rattle.std.specs.Prelude.{◌≡◌, ◌<◌, ◌≤◌, ◌+◌, length, slice_index, OnOk, OnErr};
 ghost use Rattle.machine_frames.specs.Layout.{words_before_memory};
-ghost use Rattle.machine_frames.specs.States.{long_at, two_cells, program_counter_of, beside_of, IsSound};
-ghost use Rattle.machine_frames.specs.Went.{Abandons, GivenUp, KeepsBeside, KeepsCounter, Puts};
+ghost use Rattle.machine_frames.specs.States.{long_at, two_cells, program_counter_of, standard_state_of, IsSound};
+ghost use Rattle.machine_frames.specs.Went.{Abandons, GivenUp, KeepsStandardState, KeepsCounter, Puts};
 
 use crate::layout::{COUNTER, INTERVAL, PROGRAM_COUNTER, RANDOM, WINDOW};
 use crate::store::Store;
 use journal::{Cells, NoMemory, Recorded};
-use zcore::Beside;
+use zcore::StandardState;
 
 /// The value of a cell before dynamic memory.
 #[inline(always)]
@@ -89,11 +89,11 @@ pub fn set_program_counter(
 
 /// The window and the random number generator, as the registers hold them between turns.
 #[inline]
-pub fn beside(store: &Recorded<Store>) -> Beside
+pub fn standard_state(store: &Recorded<Store>) -> StandardState
     requires { IsSound store.now.store }
-    ensures { result ≡ beside_of (slice_index store.now.store.cells) }
+    ensures { result ≡ standard_state_of (slice_index store.now.store.cells) }
 {
-    Beside {
+    StandardState {
         window: cell(store, WINDOW),
         random: long(store, RANDOM),
         interval: cell(store, INTERVAL),
@@ -108,15 +108,15 @@ pub fn beside(store: &Recorded<Store>) -> Beside
 ///
 /// Memory was refused.
 #[inline(always)]
-pub fn set_beside(store: &mut Recorded<Store>, kept: Beside) -> Result<(), NoMemory>
+pub fn set_standard_state(store: &mut Recorded<Store>, kept: StandardState) -> Result<(), NoMemory>
     requires { IsSound store.old.store }
-    ensures kept { OnOk result (KeepsBeside store.old store.new kept) }
+    ensures kept { OnOk result (KeepsStandardState store.old store.new kept) }
     ensures given_up { OnErr result (GivenUp store.old store.new) }
 {
-    if beside(store) == kept {
+    if standard_state(store) == kept {
         return Ok(());
     }
-    write_beside(store, kept)
+    write_standard_state(store, kept)
 }
 
 /// Writes the window and the random number generator to their registers.
@@ -124,9 +124,9 @@ pub fn set_beside(store: &mut Recorded<Store>, kept: Beside) -> Result<(), NoMem
 /// # Errors
 ///
 /// Memory was refused.
-fn write_beside(store: &mut Recorded<Store>, kept: Beside) -> Result<(), NoMemory>
+fn write_standard_state(store: &mut Recorded<Store>, kept: StandardState) -> Result<(), NoMemory>
     requires { IsSound store.old.store }
-    ensures kept { OnOk result (KeepsBeside store.old store.new kept) }
+    ensures kept { OnOk result (KeepsStandardState store.old store.new kept) }
     ensures given_up { OnErr result (GivenUp store.old store.new) }
 {
     let high = (kept.random / 65_536) as u16;

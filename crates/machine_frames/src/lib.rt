@@ -16,7 +16,9 @@ pub use calls::{
     enter, has_argument, is_code, leave, test_calls, test_return, test_routine, variable_cell,
     variable_in,
 };
-pub use cells::{beside, cell, long, program_counter, put_all, set_beside, set_program_counter};
+pub use cells::{
+    cell, long, program_counter, put_all, set_program_counter, set_standard_state, standard_state,
+};
 pub use end::End;
 pub use in_place::{StepsInPlace, run_in_place};
 pub use lent::Lent;

@@ -15,7 +15,7 @@ use Rattle.zcore_standard.specs.Reading.{result_given, standard_given}
 use Rattle.zcore_standard_laws.proofs.Awaiting.{waits_right}
 use Rattle.machine_frames.specs.Contents.{Contents}
 use Rattle.machine_frames.specs.Playing.{FollowsBy}
-use Rattle.machine_frames.specs.States.{state_of, pending_of, program_counter_of, beside_of}
+use Rattle.machine_frames.specs.States.{state_of, pending_of, program_counter_of, standard_state_of}
 use Rattle.machine_standard_words.specs.Taking.{CanBeGiven}
 use Rattle.machine_standard.specs.Playing.{AnswersStandard}
 use Rattle.machine_standard.proofs.Whole.{right_after}
@@ -24,10 +24,10 @@ use Rattle.machine_standard.proofs.Whole.{right_after}
 pub answers_on : {E : Type 0} (loaded : Loaded) (result : Result Place E) (line : List ℕ) (s : Contents) (fuel : ℕ)
     (p : Pending) (first : Next) (t : State) (whole : Place → Whole) → pending_of (slice_index s.cells) ≡ Some p
     → standard_given loaded p line fuel (state_of s []) ≡ done first t
-    → IfOk result (λ place. TurnsBy (standard loaded) (begins (beside_of (slice_index s.cells)) first) t (whole place))
+    → IfOk result (λ place. TurnsBy (standard loaded) (begins (standard_state_of (slice_index s.cells)) first) t (whole place))
     → IfOk result (λ place. AnswersStandard loaded line s fuel (whole place))
 answers_on loaded (Ok place) line s fuel p first t whole waits e turn =
-    let kept = beside_of (slice_index s.cells) in
+    let kept = standard_state_of (slice_index s.cells) in
     let waited : Next = record { program_counter = program_counter_of (slice_index s.cells); fuel = fuel } in (
       p,
       waits,
@@ -42,11 +42,11 @@ pub answers_stop : (loaded : Loaded) (line : List ℕ) (s m : Contents) (fuel co
     (whole : Whole) → pending_of (slice_index s.cells) ≡ Some p
     → standard_given loaded p line fuel (state_of s []) ≡ halt place (state_of m [])
     → counter ≡ program_counter_of (slice_index s.cells)
-    → whole ≡ standard_ended (begins (beside_of (slice_index s.cells))
+    → whole ≡ standard_ended (begins (standard_state_of (slice_index s.cells))
     (record { program_counter = counter; fuel = fuel })) place (state_of m [])
     → AnswersStandard loaded line s fuel whole
 answers_stop loaded line s m fuel counter p place whole waits e is h =
-    let kept = beside_of (slice_index s.cells) in
+    let kept = standard_state_of (slice_index s.cells) in
     let waited : Next = record { program_counter = program_counter_of (slice_index s.cells); fuel = fuel } in
     let g : whole ≡ standard_ended (begins kept waited) place (state_of m []) = h
     ∙ ap (λ n. standard_ended (begins kept (record { program_counter = n; fuel = fuel })) place (state_of m [])) is in (

@@ -1,7 +1,7 @@
 -- The machine and the store of a story that was loaded.
 use Rattle.std.proofs.Common.{◌≡◌, ◌≤◌, ℕ, Bool, List, [], length, take, ap, sym, ◌∙◌, subst, arith, Ok, Option}
 use Rattle.std.proofs.lemmas.List.{length-take-le}
-use Rattle.zcore.specs.declared.beside.Beside.{Beside}
+use Rattle.zcore.specs.declared.standard_state.StandardState.{StandardState}
 use Rattle.zcore.specs.declared.header.Header.{Header}
 use Rattle.zcore.specs.Header.{static_base_of}
 use Rattle.zcore.specs.Layout.{longest_story}
@@ -33,7 +33,7 @@ headed_by memory header p = record {
 }
 
 -- what loading fixes, part by part
-abbrev pub made : List ℕ → Beside → Bool → List ℕ → Option (List ℕ) → Loaded
+abbrev pub made : List ℕ → StandardState → Bool → List ℕ → Option (List ℕ) → Loaded
 made dynamic dice right characters own = record {
   dynamic = dynamic;
   dice = dice;
@@ -42,7 +42,7 @@ made dynamic dice right characters own = record {
   own_alphabets = own;
 }
 
-pub loaded_as : (x : Loaded) (d dynamic c characters : List ℕ) (b dice : Beside) (right : Bool)
+pub loaded_as : (x : Loaded) (d dynamic c characters : List ℕ) (b dice : StandardState) (right : Bool)
     (o own : Option (List ℕ)) → x ≡ made d b right c o → d ≡ dynamic → b ≡ dice → c ≡ characters → o ≡ own
     → x ≡ made dynamic dice right characters own
 loaded_as x d dynamic c characters b dice right o own e f g h i = e

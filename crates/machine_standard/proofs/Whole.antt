@@ -4,7 +4,7 @@ use Rattle.std.proofs.Common.{subst, arith, slice_index, Result, Ok, Err, Bool, 
 use Rattle.std.specs.Prelude.{◌==◌, ◌||◌, if◌then◌else◌, IfOk, OnOk}
 use Rattle.std.proofs.lemmas.List.{drop-append-le, drop_all, take_all}
 use Rattle.journal.specs.Recording.{Recording}
-use Rattle.zcore.specs.declared.beside.Beside.{Beside}
+use Rattle.zcore.specs.declared.standard_state.StandardState.{StandardState}
 use Rattle.zcore.specs.declared.next.Next.{Next}
 use Rattle.zcore.specs.declared.place.Place.{Place}
 use Rattle.zcore.specs.declared.place.Place.TheVariants as places
@@ -14,7 +14,7 @@ use Rattle.zcore.specs.Turn.{Reaches, ReachesBy, TurnsBy, Whole, ended, first_ne
 use Rattle.zcore_standard_laws.specs.Laws.{ends_in_fault, is_plain, closes_none}
 use Rattle.zcore_standard.specs.Place.{Here, plain, within}
 use Rattle.zcore_standard.specs.Loaded.{Loaded}
-use Rattle.zcore_standard.specs.Machine.{standard, standard_step, standard_ended, shown, with_beside, begins}
+use Rattle.zcore_standard.specs.Machine.{standard, standard_step, standard_ended, shown, with_standard_state, begins}
 use Rattle.zcore_standard.specs.Reading.{can_take}
 use Rattle.zcore_standard.specs.Windows.{begun_at, lower}
 use Rattle.zcore_standard.specs.Streams.{heard_of}
@@ -23,7 +23,7 @@ use Rattle.zcore_standard_laws.proofs.Awaiting.{WaitsRight}
 use Rattle.zcore_standard_laws.proofs.Waiting.{standard_step_waits}
 use Rattle.machine_frames.specs.Contents.{Contents, memory_of}
 use Rattle.machine_frames.specs.Playing.{StopsBy, IsOpening, IsWaiting, whole_of}
-use Rattle.machine_frames.specs.States.{state_of, IsSound, program_counter_of, beside_of}
+use Rattle.machine_frames.specs.States.{state_of, IsSound, program_counter_of, standard_state_of}
 use Rattle.machine_frames.specs.Went.{GoesOn}
 use Rattle.machine_frames.proofs.Steps.{store_after, goes_on_still}
 use Rattle.machine_lines.proofs.Lines.{base_kept}
@@ -132,13 +132,13 @@ stops_around loaded {first} {s} {t} {here} {p} a b e h =
     subst (λ x. StopsBy (standard_step loaded) first s (place x here) p t) (sym e) h
 
 -- where a turn begins
-pub begun_place : (around : Around) (beside : Beside) (next : Next) → around.beside ≡ beside
-    → around.streams.items ≡ [] → around.upper ≡ (if beside.window == 0 then None else Some (begun_at 0))
-    → place around next ≡ begins beside next
-begun_place around beside next e f g =
-    ap (λ b. let h : Here = record (place around next) { beside = b } in h) e
-    ∙ ap (λ l. let h : Here = record (place around next) { beside = beside; streams = l } in h) f
-    ∙ ap (λ u. let h : Here = record (plain beside next) { upper = u } in h) g
+pub begun_place : (around : Around) (standard_state : StandardState) (next : Next) → around.standard_state ≡ standard_state
+    → around.streams.items ≡ [] → around.upper ≡ (if standard_state.window == 0 then None else Some (begun_at 0))
+    → place around next ≡ begins standard_state next
+begun_place around standard_state next e f g =
+    ap (λ b. let h : Here = record (place around next) { standard_state = b } in h) e
+    ∙ ap (λ l. let h : Here = record (place around next) { standard_state = standard_state; streams = l } in h) f
+    ∙ ap (λ u. let h : Here = record (plain standard_state next) { upper = u } in h) g
 
 -- The text of a turn
 
@@ -161,16 +161,16 @@ lower_nothing : (b : Bool) → lower (cond b None (Some (begun_at 0))) [] ≡ []
 lower_nothing true = refl
 lower_nothing false = refl
 
-shown_nothing : (beside : Beside) (next : Next) (end : Place) → shown (begins beside next) end [] ≡ []
-shown_nothing beside next places.Waiting = refl
-shown_nothing beside next places.Quit = lower_nothing (beside.window == 0)
-shown_nothing beside next (places.Limit limit) = lower_nothing (beside.window == 0)
-shown_nothing beside next (places.Fault cause) = lower_nothing (beside.window == 0)
+shown_nothing : (standard_state : StandardState) (next : Next) (end : Place) → shown (begins standard_state next) end [] ≡ []
+shown_nothing standard_state next places.Waiting = refl
+shown_nothing standard_state next places.Quit = lower_nothing (standard_state.window == 0)
+shown_nothing standard_state next (places.Limit limit) = lower_nothing (standard_state.window == 0)
+shown_nothing standard_state next (places.Fault cause) = lower_nothing (standard_state.window == 0)
 
-ended_nothing : (beside : Beside) (next : Next) (end : Place) (m : Contents)
-    → standard_ended (begins beside next) end (state_of m []) ≡ with_beside beside (ended next end (state_of m []))
-ended_nothing beside next end m =
-    ap (λ l. with_beside beside (ended next end (state_of m l))) (shown_nothing beside next end)
+ended_nothing : (standard_state : StandardState) (next : Next) (end : Place) (m : Contents)
+    → standard_ended (begins standard_state next) end (state_of m []) ≡ with_standard_state standard_state (ended next end (state_of m []))
+ended_nothing standard_state next end m =
+    ap (λ l. with_standard_state standard_state (ended next end (state_of m l))) (shown_nothing standard_state next end)
 
 -- The end of a turn
 
@@ -179,7 +179,7 @@ pub standard_whole : (loaded : Loaded) (first : Here) (around : Around) (here : 
     (m n : Contents) (x z y : List ℕ) (long : ℕ)
     → StopsBy (standard_step loaded) first s (place around here) end (state_of m (drop long x))
     → ((l : List ℕ) → state_of n l ≡ state_of m l) → program_counter_of (slice_index n.cells) ≡ here.program_counter
-    → beside_of (slice_index n.cells) ≡ around.beside → drop long z ≡ shown (place around here) end (drop long x)
+    → standard_state_of (slice_index n.cells) ≡ around.standard_state → drop long z ≡ shown (place around here) end (drop long x)
     → y ≡ z ++ notice end → long ≤ length z
     → TurnsBy (standard loaded) first s (whole_of n end (drop long y))
 standard_whole loaded first around here end s m n x z y long h same counter kept cut text le =
@@ -212,19 +212,19 @@ standard_waits loaded first here end s m n text stops same e =
     (stops.stops ∙ ap (λ p. halt p (state_of m text)) e)) same
 
 -- a line that ends the turn at once
-pub stopped_standard : (m n : Contents) (beside : Beside) (fuel counter : ℕ) (end : Place) (x y : List ℕ)
+pub stopped_standard : (m n : Contents) (standard_state : StandardState) (fuel counter : ℕ) (end : Place) (x y : List ℕ)
     → ((l : List ℕ) → state_of n l ≡ state_of m l) → program_counter_of (slice_index n.cells) ≡ counter
-    → beside_of (slice_index n.cells) ≡ beside → y ≡ x ++ notice end
+    → standard_state_of (slice_index n.cells) ≡ standard_state → y ≡ x ++ notice end
     → whole_of n end (drop (length x) y)
-    ≡ standard_ended (begins beside (record { program_counter = counter; fuel = fuel })) end (state_of m [])
-stopped_standard m n beside fuel counter end x y same kept rest text =
-    let here : Here = begins beside (record { program_counter = counter; fuel = fuel }) in
+    ≡ standard_ended (begins standard_state (record { program_counter = counter; fuel = fuel })) end (state_of m [])
+stopped_standard m n standard_state fuel counter end x y same kept rest text =
+    let here : Here = begins standard_state (record { program_counter = counter; fuel = fuel }) in
     let d : drop (length x) y ≡ notice end = ap (drop (length x)) text
     ∙ drop-append-le (length x) x (notice end) (omega arith)
     ∙ ap (λ l. l ++ notice end) (drop_all (length x) x (omega arith)) in
-    let f : whole_of n end (drop (length x) y) ≡ with_beside beside (ended here.next end (state_of n [])) =
+    let f : whole_of n end (drop (length x) y) ≡ with_standard_state standard_state (ended here.next end (state_of n [])) =
     rw (d, kept, rest) refl in
-    f ∙ sym (ended_nothing beside here.next end n) ∙ ap (standard_ended here end) (same [])
+    f ∙ sym (ended_nothing standard_state here.next end n) ∙ ap (standard_ended here end) (same [])
 
 -- the opening
 opens : (loaded : Loaded) (s : Contents) (fuel : ℕ) (first : Next) (memory : List ℕ) (whole : Whole) → IsOpening s
@@ -235,7 +235,7 @@ opens loaded s fuel first memory whole begin is e h =
     (e ∙ ap (λ m. first_next m fuel) is)
     (subst (λ t. TurnsBy (standard loaded) (begins loaded.dice first) t whole) begin.first h)
 
-pub opens_standard : {E : Type 0} (result : Result Place E) (loaded : Loaded) (s : Contents) (fuel : ℕ) (dice : Beside)
+pub opens_standard : {E : Type 0} (result : Result Place E) (loaded : Loaded) (s : Contents) (fuel : ℕ) (dice : StandardState)
     (first : Next) (memory : List ℕ) (whole : Place → Whole) → dice ≡ loaded.dice → IsOpening s
     → memory ≡ memory_of s → first ≡ first_next memory fuel
     → IfOk result (λ place. TurnsBy (standard loaded) (begins dice first) (state_of s []) (whole place))

@@ -10,7 +10,7 @@ use Rattle.zcore_standard.specs.Machine.{standard, standard_step, standard_ended
 use Rattle.machine_frames.specs.Contents.{Contents, memory_of}
 use Rattle.zcore_standard.specs.Reading.{standard_given}
 use Rattle.machine_frames.specs.Playing.{FollowsBy, IsOpening}
-use Rattle.machine_frames.specs.States.{state_of, pending_of, program_counter_of, beside_of}
+use Rattle.machine_frames.specs.States.{state_of, pending_of, program_counter_of, standard_state_of}
 use Rattle.machine_frames.specs.Went.{GoesOn}
 use Rattle.machine_standard_windows.specs.Around.{place}
 use Rattle.machine_standard_windows.specs.declared.around.Around.{Around}
@@ -25,7 +25,7 @@ OpensStandard loaded s fuel whole =
 -- store keeps.
 abbrev pub AnswersStandard : Loaded → List ℕ → Contents → ℕ → Whole → Type 0
 AnswersStandard loaded line s fuel whole =
-    let kept = beside_of (slice_index s.cells) in
+    let kept = standard_state_of (slice_index s.cells) in
     let waited : Next = record { program_counter = program_counter_of (slice_index s.cells); fuel = fuel } in
     (pending : Pending)
     × (pending_of (slice_index s.cells) ≡ Some pending)

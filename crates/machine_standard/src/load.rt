@@ -10,7 +10,7 @@ use crate::turn::StandardMachine;
 use machine_frames::Store;
 use std::alloc::{AllocError, Global};
 use thiserror::Error;
-use zcore::{Beside, Header, HeaderFault};
+use zcore::{Header, HeaderFault, StandardState};
 use zcore_standard::Loaded;
 use zcore_standard_loading::{LoadedStory, characters_of, load, own_alphabets_of};
 
@@ -83,10 +83,10 @@ fn front(alloc: Global, memory: &[u8], count: usize) -> Result<Vec<u8>, AllocErr
 }
 
 /// Window 0, and the dice of a seed.
-fn seeded(seed: u32) -> Beside
+fn seeded(seed: u32) -> StandardState
     ensures { result ≡ seeded seed }
 {
-    Beside {
+    StandardState {
         window: 0,
         random: seed,
         interval: 0,

@@ -14,7 +14,7 @@ use Rattle.ztext.specs.Bytes.{word_at}
 use Rattle.zcore_standard.specs.Flags.{with_kept_bits}
 use Rattle.zcore_standard.specs.Flow.{restarted, restart}
 use Rattle.zcore_standard.specs.Fuel.{spend_for}
-use Rattle.zcore.specs.declared.beside.Beside.{Beside}
+use Rattle.zcore.specs.declared.standard_state.StandardState.{StandardState}
 use Rattle.zcore_standard.specs.declared.streams.Stream.{Stream}
 use Rattle.zcore_standard.specs.Place.{Here}
 use Rattle.zcore_standard.specs.Loaded.{Loaded}
@@ -124,18 +124,18 @@ memory_restored s m t loaded =
     filled_then s m t (with_bytes (memory_of s.store) 64 (drop 64 loaded.dynamic)) (with_kept_bits loaded.dynamic)
 
 pub begun_anew : (s m t : Recording Contents) (x y : List ℕ) (loaded : Loaded) (here : Here) (address : ℕ)
-    (beside : Beside) (streams : List Stream) (left : ℕ) → beside ≡ loaded.dice → streams ≡ [] → here.next.fuel ≢ 0
+    (standard_state : StandardState) (streams : List Stream) (left : ℕ) → standard_state ≡ loaded.dice → streams ≡ [] → here.next.fuel ≢ 0
     → Says (Ok left) (spend_for (static_base_of (memory_of s.store)) (here.next.fuel - 1))
     → address ≡ word_at (memory_of s.store) 6 → Filled s m (loaded_memory loaded (memory_of s.store))
     → Empties m t → y ≡ heard_of here x
     → Told (Ok (record {
       next = record { program_counter = address; fuel = left };
-      beside = beside;
+      standard_state = standard_state;
       streams = streams;
       upper = None;
     })) s x t y (restart loaded here)
 unfolding restart spend
-begun_anew s m t x y loaded here address beside streams left first none some paid e f n cut = record {
+begun_anew s m t x y loaded here address standard_state streams left first none some paid e f n cut = record {
   told = (
     goes_on_after f.goes_on n.goes_on,
     let state : state_of t.store y ≡ restarted loaded here (state_of s.store x) = n.state y

@@ -1,7 +1,7 @@
 -- Parts of the profile's machine, with what this machine keeps besides.
 use Rattle.std.proofs.Common.{◌≡◌, ℕ, List, ap, subst, Option, Result, Ok, Err}
 use Rattle.journal.specs.Recording.{Recording}
-use Rattle.zcore.specs.declared.beside.Beside.{Beside}
+use Rattle.zcore.specs.declared.standard_state.StandardState.{StandardState}
 use Rattle.zcore.specs.declared.next.Next.{Next}
 use Rattle.zcore.specs.Effects.{give_result}
 use Rattle.zcore.specs.State.{State, Out}
@@ -28,10 +28,10 @@ told_within (Err (ends.Stop p)) there f w = record { told = (w.told.0, ap (withi
 
 -- random, with the number and the dice that were rolled
 pub random_went : {s t : Recording Contents} (r : Result Next End) (here : Here) (after : ℕ) (result : Option ℕ)
-    (range : ℕ) (x : ℕ × Beside) → x ≡ rolled range here.beside → Went r s t (give_result here.next after result x.0)
-    → Went (seen (on (record here { beside = x.1 })) r) s t (random here after result range)
+    (range : ℕ) (x : ℕ × StandardState) → x ≡ rolled range here.standard_state → Went r s t (give_result here.next after result x.0)
+    → Went (seen (on (record here { standard_state = x.1 })) r) s t (random here after result range)
 unfolding random
 random_went {s} {t} r here after result range x e w =
-    subst (λ (y : ℕ × Beside). Went (seen (on (record here { beside = x.1 })) r) s t
-    (λ z. within (record here { beside = y.1 }) (give_result here.next after result y.0 z))) e
-    (went_within r (record here { beside = x.1 }) (give_result here.next after result x.0) w)
+    subst (λ (y : ℕ × StandardState). Went (seen (on (record here { standard_state = x.1 })) r) s t
+    (λ z. within (record here { standard_state = y.1 }) (give_result here.next after result y.0 z))) e
+    (went_within r (record here { standard_state = x.1 }) (give_result here.next after result x.0) w)

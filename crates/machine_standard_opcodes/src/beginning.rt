@@ -59,7 +59,7 @@ pub fn restart(
     restore_flags(store, dynamic)?;
     empty(store)?;
     cut_to_heard(text, start, around);
-    around.beside = loaded.dice();
+    around.standard_state = loaded.dice();
     around.streams.clear();
     around.upper = None;
     Ok(Next {

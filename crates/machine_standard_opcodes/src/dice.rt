@@ -11,7 +11,7 @@ use journal::Recorded;
 use machine_frames::{End, Store};
 use machine_opcodes::{NEGATIVE, give_result};
 use machine_standard_windows::Around;
-use zcore::{Beside, Header, Next};
+use zcore::{Header, Next, StandardState};
 
 /// The generator takes 32 bits to so many times themselves and one more.
 const FACTOR: u64 = 22_695_477;
@@ -36,7 +36,7 @@ fn stirred(random: u32) -> u32
 }
 
 /// A number of a positive range, and the dice after it.
-fn thrown(range: u16, dice: Beside) -> (u16, Beside)
+fn thrown(range: u16, dice: StandardState) -> (u16, StandardState)
     requires some { 1 ≤ range }
     requires positive { range < 32768 }
     ensures { result ≡ definitions.thrown range dice }
@@ -53,10 +53,10 @@ fn thrown(range: u16, dice: Beside) -> (u16, Beside)
 }
 
 /// What is kept beside the state, with other dice.
-fn with_dice(kept: Beside, random: u32, interval: u16, counter: u16) -> Beside
+fn with_dice(kept: StandardState, random: u32, interval: u16, counter: u16) -> StandardState
     ensures { result ≡ record kept { random = random; interval = interval; counter = counter } }
 {
-    Beside {
+    StandardState {
         window: kept.window,
         random,
         interval,
@@ -67,7 +67,7 @@ fn with_dice(kept: Beside, random: u32, interval: u16, counter: u16) -> Beside
 /// What `random` answers for a signed range, and the dice after it. A positive range gives a number
 /// from 1 to the range. 0 gives 0 and ends counting. A negative range gives 0, and the dice count
 /// up to it, or begin with it from 1,000 on.
-fn rolled(range: u16, dice: Beside) -> (u16, Beside)
+fn rolled(range: u16, dice: StandardState) -> (u16, StandardState)
     ensures { result ≡ definitions.rolled range dice }
 {
     if range == 0 {
@@ -104,10 +104,10 @@ pub fn random(
         (definitions.random (place around.old here) after result_variable range) }
     ensures around { OnErr result (around.new ≡ around.old) }
 {
-    let (number, dice) = rolled(range, around.beside);
+    let (number, dice) = rolled(range, around.standard_state);
     match give_result(header, store, here, after, result_variable, number) {
         Ok(next) => {
-            around.beside = dice;
+            around.standard_state = dice;
             Ok(next)
         }
         Err(end) => Err(end),

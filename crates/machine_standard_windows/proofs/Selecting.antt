@@ -63,32 +63,32 @@ settles_open start around x some next s =
     settled_open (place around next) around.streams.items (record s { text = drop start x }) refl some
 
 pub settles_lower : (start : ℕ) (around : Around) (x y : List ℕ) → length around.streams.items ≡ 0
-    → around.beside.window ≡ 0 → drop start y ≡ lower around.upper (drop start x)
+    → around.standard_state.window ≡ 0 → drop start y ≡ lower around.upper (drop start x)
     → Redraws start around (record around { upper = None }) x y settled
 settles_lower start around x y none e cut next s =
     let first = settled_shut (place around next) (record s { text = drop start x }) none in
     let second : settled_in [] (place around next) (record s { text = drop start x })
     ≡ done (record (place around next) { upper = None }) (record s { text = lower around.upper (drop start x) }) =
-    rw (eq-eqb around.beside.window 0 e) refl in
+    rw (eq-eqb around.standard_state.window 0 e) refl in
     first ∙ second ∙ ap (λ l. done (record (place around next) { upper = None }) (record s { text = l })) (sym cut)
 
 pub settles_begun : (start from : ℕ) (fresh : Upper) (around : Around) (x : List ℕ) → length around.streams.items ≡ 0
-    → around.beside.window ≢ 0 → around.upper ≡ None → fresh ≡ begun_at from → from ≡ length (drop start x)
+    → around.standard_state.window ≢ 0 → around.upper ≡ None → fresh ≡ begun_at from → from ≡ length (drop start x)
     → Redraws start around (record around { upper = Some fresh }) x x settled
 settles_begun start from fresh around x none not e new long next s =
     let first = settled_shut (place around next) (record s { text = drop start x }) none in
     let second : settled_in [] (place around next) (record s { text = drop start x })
     ≡ done (record (place around next) { upper = Some fresh }) (record s { text = drop start x }) =
-    rw (ne_eqb around.beside.window 0 not, e, new, long) refl in
+    rw (ne_eqb around.standard_state.window 0 not, e, new, long) refl in
     first ∙ second
 
 pub settles_on : (start : ℕ) (around : Around) (upper : Upper) (x : List ℕ) → length around.streams.items ≡ 0
-    → around.beside.window ≢ 0 → around.upper ≡ Some upper → Redraws start around around x x settled
+    → around.standard_state.window ≢ 0 → around.upper ≡ Some upper → Redraws start around around x x settled
 settles_on start around upper x none not e next s =
     let first = settled_shut (place around next) (record s { text = drop start x }) none in
     let second : settled_in [] (place around next) (record s { text = drop start x })
     ≡ done (record (place around next) { upper = Some upper }) (record s { text = drop start x }) =
-    rw (ne_eqb around.beside.window 0 not, e) refl in
+    rw (ne_eqb around.standard_state.window 0 not, e) refl in
     first ∙ second
     ∙ ap (λ u. done (record (place around next) { upper = u }) (record s { text = drop start x })) (sym e)
 

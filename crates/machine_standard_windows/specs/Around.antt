@@ -6,7 +6,7 @@ use Rattle.zcore_standard.specs.Place.{Here}
 use Rattle.machine_standard_windows.specs.declared.around.Around.{Around}
 
 abbrev pub place : Around → Next → Here
-place around next = record { next = next; beside = around.beside; streams = around.streams.items; upper = around.upper }
+place around next = record { next = next; standard_state = around.standard_state; streams = around.streams.items; upper = around.upper }
 
 -- what was printed before the turn stands, and the turn has printed no more than it may
 pub record Keeps (start : ℕ) (was now : List ℕ) : Type 0 where

@@ -4,7 +4,7 @@ ghost use Rattle.std.specs.Prelude.{◌≡◌, ◌==◌, if◌then◌else◌, []
 ghost use Rattle.zcore_standard.specs.Windows.{begun_at};
 
 use arrayvec::ArrayVec;
-use zcore::Beside;
+use zcore::StandardState;
 use zcore_standard::{Stream, Upper};
 
 /// How many streams may be open at once.
@@ -20,7 +20,7 @@ pub(crate) const UPPER: u16 = 1;
 #[derive(Drop)]
 pub struct Around {
     /// What is kept between turns: the window and the dice.
-    pub beside: Beside,
+    pub standard_state: StandardState,
 
     /// The open memory streams, the innermost first.
     pub streams: ArrayVec<Stream, MOST_STREAMS>,
@@ -32,12 +32,12 @@ pub struct Around {
 impl Around {
     /// What goes with the place where a turn begins: no stream is open, and the upper window is
     /// there, empty, if it is selected.
-    pub fn new(beside: Beside) -> Around
-        ensures beside { result.beside ≡ beside }
+    pub fn new(standard_state: StandardState) -> Around
+        ensures standard_state { result.standard_state ≡ standard_state }
         ensures streams { result.streams.items ≡ [] }
-        ensures upper { result.upper ≡ (if beside.window == 0 then None else Some (begun_at 0)) }
+        ensures upper { result.upper ≡ (if standard_state.window == 0 then None else Some (begun_at 0)) }
     {
-        let upper = match beside.window {
+        let upper = match standard_state.window {
             LOWER => None,
             _ => Some(Upper {
                 from: 0,
@@ -46,7 +46,7 @@ impl Around {
             }),
         };
         Around {
-            beside,
+            standard_state,
             streams: ArrayVec::new(),
             upper,
         }

@@ -63,7 +63,7 @@ pub fn set_window(
         }
         Some(upper) => {
             let moved = put_cursor(store, text, start, upper, 1, 1)?;
-            around.beside.window = UPPER;
+            around.standard_state.window = UPPER;
             around.upper = Some(moved);
             Ok(next)
         }
@@ -77,7 +77,7 @@ fn select_lower(text: &mut Vec<u8>, start: usize, around: &mut Around)
         (λ here. definitions.set_window here 0) }
     ensures text { Keeps start text.old.items text.new.items }
 {
-    around.beside.window = LOWER;
+    around.standard_state.window = LOWER;
     settle(text, start, around);
 }
 
@@ -88,7 +88,7 @@ fn begin_upper(text: &mut Vec<u8>, start: usize, around: &mut Around)
         (λ here. definitions.settled (definitions.with_window here 1)) }
     ensures text { Keeps start text.old.items text.new.items }
 {
-    around.beside.window = UPPER;
+    around.standard_state.window = UPPER;
     settle(text, start, around);
 }
 
@@ -103,7 +103,7 @@ pub fn settle(text: &mut Vec<u8>, start: usize, around: &mut Around)
     if around.streams.as_slice().len() != 0 {
         return;
     }
-    if around.beside.window == LOWER {
+    if around.standard_state.window == LOWER {
         drop_upper(text, start, around.upper);
         around.upper = None;
         return;
@@ -370,7 +370,7 @@ pub fn show_upper(
 {
     match around.upper {
         None => Ok(()),
-        Some(upper) => show_or_drop(store, text, start, upper, around.beside.window),
+        Some(upper) => show_or_drop(store, text, start, upper, around.standard_state.window),
     }
 }
 

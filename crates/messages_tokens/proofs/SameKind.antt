@@ -7,10 +7,10 @@ use Rattle.syntax_lexer.specs.declared.token.Sign.TheVariants as s
 use Rattle.syntax_lexer.specs.declared.token.Word.{Word}
 use Rattle.syntax_lexer.specs.declared.token.Word.TheVariants as w
 use Rattle.syntax_lexer.specs.Token.{Lexeme, name, number, text, character, dictionary_word, reserved, sign, end}
-use Rattle.syntax_token_machine.proofs.Frames.{Frame, token, Stack}
-use Rattle.syntax_token_machine.proofs.Machine.{on, effect, shift, go_on, stop, file}
-use Rattle.syntax_token_machine.proofs.Words.{Fits}
-use Rattle.syntax_token_machine.proofs.Kept.{kept, file_fits}
+use Rattle.syntax.proofs.Frames.{Frame, token, Stack}
+use Rattle.syntax.proofs.Machine.{on, effect, shift, go_on, stop, file}
+use Rattle.syntax.proofs.StackWords.{Fits}
+use Rattle.syntax.proofs.Kept.{kept, file_fits}
 use Rattle.syntax.specs.Grammar.{IsProgram, program_nesting}
 use Rattle.syntax.specs.Parse.{program}
 use Rattle.syntax.specs.Places.{Begins}

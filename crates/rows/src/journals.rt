@@ -55,14 +55,6 @@ impl Cells for Words {
         self.values[i] = v;
     }
 
-    fn put_word(&mut self, i: usize, v: u16) {
-        self.values[i] = v;
-    }
-
-    fn put_words(&mut self, first: usize, values: &[u16]) {
-        self.values[first..first + values.len()].copy_from_slice(values);
-    }
-
     fn exchange_bytes(&mut self, _page: usize, _values: &mut [u8]) {
         // So few cells have no page of bytes: there is no value to exchange.
         let _len = self.values.len();

@@ -17,7 +17,7 @@ use Rattle.machine.specs.Loaded.{IsLoaded}
 use Rattle.machine.specs.declared.turn.Machine.{Machine}
 use Rattle.zcore.specs.declared.header.Header.{Header}
 use Rattle.zcore.specs.Header.{static_base_of}
-use Rattle.zcore.specs.declared.beside.Beside.{Beside}
+use Rattle.zcore.specs.declared.standard_state.StandardState.{StandardState}
 use Rattle.zcore.specs.Turn.{TurnsBy}
 use Rattle.zcore_standard.specs.Loaded.{Loaded}
 use Rattle.zcore_standard.specs.Machine.{standard, standard_turn, standard_pending, standard_opening, standard_turn_on}
@@ -102,19 +102,19 @@ unfolding standard_opening
 opens_standard loaded s fuel whole h =
     standard_turn_is loaded (begins loaded.dice (first_next (memory_of s) fuel)) (first_state (memory_of s)) whole h
 
-follows_standard : (loaded : Loaded) (beside : Beside) (o : Out Next) (stop : Place → State → Whole) (whole : Whole)
-    → FollowsBy (λ next t w. TurnsBy (standard loaded) (begins beside next) t w) o stop whole
-    → after_step o (λ next t. standard_turn loaded (begins beside next) t) (λ place t. Some (stop place t)) ≡ Some whole
-follows_standard loaded beside (done next t) stop whole h = standard_turn_is loaded (begins beside next) t whole h
-follows_standard loaded beside (halt place t) stop whole h = ap (λ (w : Whole). Some w) (sym h)
+follows_standard : (loaded : Loaded) (standard_state : StandardState) (o : Out Next) (stop : Place → State → Whole) (whole : Whole)
+    → FollowsBy (λ next t w. TurnsBy (standard loaded) (begins standard_state next) t w) o stop whole
+    → after_step o (λ next t. standard_turn loaded (begins standard_state next) t) (λ place t. Some (stop place t)) ≡ Some whole
+follows_standard loaded standard_state (done next t) stop whole h = standard_turn_is loaded (begins standard_state next) t whole h
+follows_standard loaded standard_state (halt place t) stop whole h = ap (λ (w : Whole). Some w) (sym h)
 
 answers_standard : (loaded : Loaded) (line : List ℕ) (s : Contents) (fuel : ℕ) (whole : Whole)
     → AnswersStandard loaded line s fuel whole → standard_turn_on loaded line fuel (play_of s) ≡ Some whole
 unfolding standard_turn_on
 answers_standard loaded line s fuel whole h =
     ap (λ p. standard_pending loaded p line fuel (play_of s)) h.1
-    ∙ follows_standard loaded (play_of s).beside (standard_given loaded h.0 line fuel (resumed (play_of s)))
-    (standard_ended (begins (play_of s).beside (record { program_counter = (play_of s).program_counter; fuel = fuel })))
+    ∙ follows_standard loaded (play_of s).standard_state (standard_given loaded h.0 line fuel (resumed (play_of s)))
+    (standard_ended (begins (play_of s).standard_state (record { program_counter = (play_of s).program_counter; fuel = fuel })))
     whole h.2
 
 -- a machine of the whole Standard that was loaded

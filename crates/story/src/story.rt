@@ -7,14 +7,13 @@ ghost use Rattle.story.specs.Compiled.{Compiles, CompilesBy};
 ghost use Rattle.story.specs.FaultPlaces.{Stands};
 ghost use Rattle.story.specs.Large.{limits_by};
 
-use crate::laws::{stories_are_short, stories_hold};
+use crate::laws::{small_sources_have_small_code, stories_are_short, stories_hold};
 use crate::sized::{Limit, story_by};
 use checker::{accepted_programs, check_placed, printable_programs};
 use code::{Disposal, code_plays};
 use meaning::Checked;
 use std::alloc::Global;
 use std::marker::Model;
-use story_sizes::small_sources_have_small_code;
 use syntax::{Program, parse_placed, printable_trees};
 use syntax_lexer::{PlacedFault, SourceFault, lex_placed, printable_tokens};
 use zcore::Version;

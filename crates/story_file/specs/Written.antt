@@ -12,7 +12,7 @@ use Rattle.meaning.specs.Resolved.{RoutineOf, ProgramOf}
 use Rattle.meaning.specs.Accepted.{IsAccepted}
 use Rattle.meaning.specs.Printable.{HasPrintableTexts}
 use Rattle.code_items.specs.Statements.{routine_items}
-use Rattle.code_object_memory.specs.Laws.{AreProper}
+use Rattle.story_tables.specs.Laws.{AreProper}
 use Rattle.code_encoding.specs.Addresses.{Addresses, Sizes}
 use Rattle.code.specs.Bytes.{code_size, code_bytes}
 use Rattle.code.specs.HeldProgram.{sizes_of}

@@ -6,13 +6,13 @@ use Rattle.syntax_lexer.specs.Token.{Lexeme, lexemes, end, position_of}
 use Rattle.syntax_lexer.specs.Tokens.{EndsOnce}
 use Rattle.syntax_parsing.specs.Stop.{Stop, unfit, deep}
 use Rattle.syntax_parsing.specs.Errors.{place_of}
-use Rattle.syntax_token_machine.proofs.Frames.{Stack}
-use Rattle.syntax_token_machine.proofs.Machine.{shift, accepts, stop, go_on, Refuses, file}
-use Rattle.syntax_token_machine.proofs.Words.{Fits, words}
-use Rattle.syntax_token_machine.proofs.Kept.{kept, file_fits}
-use Rattle.syntax_token_machine.proofs.Taken.{taken}
-use Rattle.syntax_token_machine.proofs.Stopped.{Stopped, stopped, at_end}
-use Rattle.syntax_places.proofs.Shallow.{shallow_Directive}
+use Rattle.syntax.proofs.Frames.{Stack}
+use Rattle.syntax.proofs.Machine.{shift, accepts, stop, go_on, Refuses, file}
+use Rattle.syntax.proofs.StackWords.{Fits, words}
+use Rattle.syntax.proofs.Kept.{kept, file_fits}
+use Rattle.syntax.proofs.Taken.{taken}
+use Rattle.syntax.proofs.Stopped.{Stopped, stopped, at_end}
+use Rattle.syntax.proofs.Shallow.{shallow_Directive}
 use Rattle.syntax.specs.Tree.{ProgramTree}
 use Rattle.syntax.specs.Grammar.{IsProgram, program_nesting}
 use Rattle.syntax.specs.Nesting.{DeepEntries, deep_entries_first, deep_entries_next}

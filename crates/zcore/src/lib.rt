@@ -1,7 +1,6 @@
 //! The header of a story file, and the definitions of the machine that runs it.
 #![tactic(auto)]
 
-mod beside;
 mod header;
 mod instruction;
 mod laws;
@@ -9,14 +8,15 @@ pub mod layout;
 mod next;
 mod operations;
 mod place;
+mod standard_state;
 
-pub use beside::Beside;
 pub use header::{Dictionary, Header, HeaderFault, Version};
 pub use instruction::{Branch, Operand, Operation};
 pub use laws::{every_turn_ends, instructions_decode};
 pub use next::Next;
 pub use operations::{OpcodeRow, OperandCount};
 pub use place::{Fault, Limit, Place};
+pub use standard_state::StandardState;
 // texts, by the names under which the crates above know them
 pub use ztext::{MOST_ABBREVIATIONS, TextFault, spelling_length, words_for};
 pub use ztext_coding::{

@@ -1,6 +1,6 @@
 -- random, computed.
 use Rattle.std.proofs.Common.{◌≡◌, ℕ, [], ◌∷◌, Some, refl}
-use Rattle.zcore.specs.declared.beside.Beside.{Beside}
+use Rattle.zcore.specs.declared.standard_state.StandardState.{StandardState}
 use Rattle.zcore.specs.declared.place.Fault.TheVariants as faults
 use Rattle.zcore.specs.declared.place.Place.TheVariants as places
 use Rattle.zcore.specs.Effects.{give_result}
@@ -23,7 +23,7 @@ one : rolled 1 (seeded 12345) ≡ (1, seeded 1002789326)
 one = refl
 
 -- random -3 counts 1, 2, 3, 1
-abbrev counting : ℕ → Beside
+abbrev counting : ℕ → StandardState
 counting n = record { window = 0; random = 12345; interval = 3; counter = n }
 
 counts : rolled 0xFFFD (seeded 12345) ≡ (0, counting 0)

@@ -44,7 +44,7 @@ with_frames frames = record (first_state (story 1)) { frames = frames }
 abbrev playing : Here
 playing = record {
   next = here;
-  beside = record { window = 1; random = 7; interval = 3; counter = 2 };
+  standard_state = record { window = 1; random = 7; interval = 3; counter = 2 };
   streams = record { table = 64; from = 2 } ∷ [];
   upper = Some (record { from = 1; mark = 1; row = 1 });
 }

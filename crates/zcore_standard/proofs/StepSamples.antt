@@ -44,7 +44,7 @@ abbrev a_roll : List ℕ
 a_roll = 0xE7 ∷ 0x7F ∷ 100 ∷ 0 ∷ []
 
 roll : (loaded : Loaded) → standard_step loaded (at 64) (story a_roll)
-    ≡ done (record (at 68) { beside = seeded 1002789326 }) (with_word a_roll 2)
+    ≡ done (record (at 68) { standard_state = seeded 1002789326 }) (with_word a_roll 2)
 unfolding standard_step decode_further types_at result_at branch_after byte operand operands operand_values operand_value perform_further random give_result test_result store_result write_variable push
 roll loaded = refl
 

@@ -19,7 +19,7 @@ use Rattle.zcore_standard.specs.Windows.{show_upper}
 abbrev here : ℕ → List Stream → Option Upper → Here
 here window streams upper = record {
   next = record { program_counter = 100; fuel = 5 };
-  beside = record (seeded 12345) { window = window };
+  standard_state = record (seeded 12345) { window = window };
   streams = streams;
   upper = upper;
 }

@@ -1,6 +1,6 @@
 -- random (Z-Machine Standards Document 1.1, sections 2.4 and 15). The numbers are those of the interpreter Frotz.
 use Rattle.std.specs.Prelude.{◌==◌, ◌+◌, ◌*◌, ◌/◌, ◌%◌, ℕ, nat_lt, if◌then◌else◌, Option}
-use Rattle.zcore.specs.declared.beside.Beside.{Beside}
+use Rattle.zcore.specs.declared.standard_state.StandardState.{StandardState}
 use Rattle.zcore.specs.Arithmetic.{is_negative, magnitude}
 use Rattle.zcore.specs.Effects.{give_result}
 use Rattle.zcore.specs.State.{State, Out}
@@ -11,7 +11,7 @@ abbrev pub stirred : ℕ → ℕ
 stirred random = (random * 22695477 + 1) % 4294967296
 
 -- A number from 1 to the range, and the dice after it. While the dice count, the interval is not 0.
-abbrev pub thrown : ℕ → Beside → ℕ × Beside
+abbrev pub thrown : ℕ → StandardState → ℕ × StandardState
 thrown range dice =
     if dice.interval == 0
     then (1 + stirred dice.random / 65536 % 32768 % range, record dice { random = stirred dice.random })
@@ -23,7 +23,7 @@ counts_from = 1000
 
 -- What `random` answers, and the dice after it. Range 0 ends counting; a negative range sets the generator, or begins
 -- to count.
-abbrev pub rolled : ℕ → Beside → ℕ × Beside
+abbrev pub rolled : ℕ → StandardState → ℕ × StandardState
 rolled range dice =
     if range == 0 then (0, record dice { interval = 0; counter = 0 })
     else (if is_negative range then (
@@ -33,5 +33,5 @@ rolled range dice =
 
 unfoldable pub random : Here → ℕ → Option ℕ → ℕ → State → Out Here
 random here after result range s =
-    within (record here { beside = (rolled range here.beside).1 })
-    (give_result here.next after result (rolled range here.beside).0 s)
+    within (record here { standard_state = (rolled range here.standard_state).1 })
+    (give_result here.next after result (rolled range here.standard_state).0 s)

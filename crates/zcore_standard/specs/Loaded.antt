@@ -1,14 +1,14 @@
 -- What loading fixes for all turns of the Standard's machine.
 use Rattle.std.specs.Prelude.{ℕ, Bool, List, Option}
 use Rattle.std.specs.Option.{unwrap_or}
-use Rattle.zcore.specs.declared.beside.Beside.{Beside}
+use Rattle.zcore.specs.declared.standard_state.StandardState.{StandardState}
 use Rattle.zcore_standard.specs.Texts.{default_alphabets}
 
 pub record Loaded : Type 0 where
   -- dynamic memory as `restart` restores it
   pub dynamic : List ℕ
   -- the window and the dice as the opening and `restart` find them
-  pub dice : Beside
+  pub dice : StandardState
   -- whether the file has the sum that its header states, as `verify` tells
   pub is_sum_right : Bool
   -- the characters of the ZSCII codes from 155 on, as Unicode (3.8.5)
@@ -21,5 +21,5 @@ abbrev pub alphabets_of : Loaded → List ℕ
 alphabets_of loaded = unwrap_or loaded.own_alphabets default_alphabets
 
 -- window 0, and the dice of a seed
-abbrev pub seeded : ℕ → Beside
+abbrev pub seeded : ℕ → StandardState
 seeded seed = record { window = 0; random = seed; interval = 0; counter = 0 }

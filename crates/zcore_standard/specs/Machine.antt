@@ -2,7 +2,7 @@
 use Rattle.std.specs.Prelude.{◌==◌, ℕ, if◌then◌else◌, List, Option, Some, None}
 use Rattle.zcore.specs.declared.next.Next.{Next}
 use Rattle.zcore.specs.declared.place.Place.{Place}
-use Rattle.zcore.specs.declared.beside.Beside.{Beside}
+use Rattle.zcore.specs.declared.standard_state.StandardState.{StandardState}
 use Rattle.zcore.specs.State.{Pending, State, Out}
 use Rattle.zcore.specs.Turn.{StateOfPlay, Whole, Machine, Play, after_step, turn_by, weight, resumed}
 use Rattle.zcore.specs.Turn.{first_next, first_state, ended, is_waiting}
@@ -26,8 +26,8 @@ unfoldable pub standard_step : Loaded → Here → State → Out Here
 standard_step loaded here s = chosen loaded (further_at s.memory here.next.program_counter) here s
 
 -- a whole state as the profile leaves it, but with a window and dice
-abbrev pub with_beside : Beside → Whole → Whole
-with_beside beside whole = record whole { state = record whole.state { beside = beside } }
+abbrev pub with_standard_state : StandardState → Whole → Whole
+with_standard_state standard_state whole = record whole { state = record whole.state { standard_state = standard_state } }
 
 -- The text that a turn shows of what it has printed. A read has closed its streams, and has shown the upper window or
 -- dropped its text; at any other end what went to streams and to that window is dropped.
@@ -37,7 +37,7 @@ shown here place text = if is_waiting place then text else heard_of here text
 -- window and dice last from turn to turn
 abbrev pub standard_ended : Here → Place → State → Whole
 standard_ended here place s =
-    with_beside here.beside (ended here.next place (record s { text = shown here place s.text }))
+    with_standard_state here.standard_state (ended here.next place (record s { text = shown here place s.text }))
 
 -- the machine of a story that was loaded so
 abbrev pub standard : Loaded → Machine Here
@@ -48,9 +48,9 @@ unfoldable pub standard_turn : Loaded → Here → State → Option Whole
 standard_turn loaded here s = turn_by (standard loaded) (weight here.next s) here s
 
 -- where a turn begins: no stream is open, and the upper window is there, empty, if it is selected
-abbrev pub begins : Beside → Next → Here
-begins beside next =
-    record (plain beside next) { upper = if beside.window == 0 then None else Some (begun_at 0) }
+abbrev pub begins : StandardState → Next → Here
+begins standard_state next =
+    record (plain standard_state next) { upper = if standard_state.window == 0 then None else Some (begun_at 0) }
 
 -- The opening of a story, as its memory is after loading.
 unfoldable pub standard_opening : Loaded → List ℕ → ℕ → Option Whole
@@ -61,9 +61,9 @@ abbrev pub standard_pending : Loaded → Option Pending → List ℕ → ℕ →
 standard_pending loaded None line fuel play = None
 standard_pending loaded (Some pending) line fuel play =
     after_step (standard_given loaded pending line fuel (resumed play))
-    (λ next s. standard_turn loaded (begins play.beside next) s)
+    (λ next s. standard_turn loaded (begins play.standard_state next) s)
     (λ place s. Some (standard_ended
-    (begins play.beside (record { program_counter = play.program_counter; fuel = fuel })) place s))
+    (begins play.standard_state (record { program_counter = play.program_counter; fuel = fuel })) place s))
 
 -- the turn of a line from a state of play that waits for one
 unfoldable pub standard_turn_on : Loaded → List ℕ → ℕ → StateOfPlay → Option Whole

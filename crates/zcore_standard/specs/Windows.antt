@@ -110,7 +110,7 @@ or_begun (Some upper) place = upper
 
 abbrev pub settled_in : List Stream → Here → State → Out Here
 settled_in [] here =
-    if here.beside.window == 0
+    if here.standard_state.window == 0
     then (λ s. done (record here { upper = None }) (record s { text = lower here.upper s.text }))
     else (λ s. done (record here { upper = Some (or_begun here.upper (length s.text)) }) s)
 settled_in (stream ∷ streams) here = done here
@@ -120,7 +120,7 @@ unfoldable pub settled : Here → State → Out Here
 settled here = settled_in here.streams here
 
 abbrev pub with_window : Here → ℕ → Here
-with_window here window = record here { beside = record here.beside { window = window } }
+with_window here window = record here { standard_state = record here.standard_state { window = window } }
 
 -- the upper window is selected: where it is there, its cursor goes to the first place (8.7.2)
 abbrev pub select_upper : Option Upper → Here → State → Out Here
@@ -171,4 +171,4 @@ show_in (Some upper) window =
 
 -- a read in the upper window shows its text, and one in the lower window drops it
 unfoldable pub show_upper : Here → State → Out (Unit {0})
-show_upper here = show_in here.upper here.beside.window
+show_upper here = show_in here.upper here.standard_state.window

@@ -5,7 +5,7 @@ ghost use Rattle.std.specs.Option.{is_some};
 ghost use Rattle.zcore_standard.specs.Loaded.{alphabets_of};
 
 use std::marker::Model;
-use zcore::Beside;
+use zcore::StandardState;
 
 /// The three alphabets of a story that has none of its own (Z-Machine Standards Document 1.1, section
 /// 3.5.3). In the third, the first two places stand for an escape and a new line.
@@ -16,7 +16,7 @@ static DEFAULT_ALPHABETS: [u8; 78] =
 #[derive(Drop)]
 pub struct Loaded {
     dynamic: Vec<u8>,
-    dice: Beside,
+    dice: StandardState,
     is_sum_right: bool,
     characters: Vec<u16>,
     own_alphabets: Option<[u8; 78]>,
@@ -42,7 +42,7 @@ impl Loaded {
     /// alphabets, if it has them.
     pub fn new(
         dynamic: Vec<u8>,
-        dice: Beside,
+        dice: StandardState,
         is_sum_right: bool,
         characters: Vec<u16>,
         own_alphabets: Option<[u8; 78]>,
@@ -72,7 +72,7 @@ impl Loaded {
     }
 
     /// The window and the dice as the story finds them when it begins.
-    pub fn dice(&self) -> Beside
+    pub fn dice(&self) -> StandardState
         ensures { result ≡ self.now.dice }
     {
         self.dice

@@ -59,8 +59,8 @@ random_falls : (here : Here) (after : ℕ) (result : Option ℕ) (range : ℕ)
     → here.next.program_counter < after → FallsFrom here (random here after result range)
 unfolding random
 random_falls here after result range past =
-    within_falls here (record here { beside = (rolled range here.beside).1 }) _
-    (give_result_falls here.next after result (rolled range here.beside).0 past)
+    within_falls here (record here { standard_state = (rolled range here.standard_state).1 }) _
+    (give_result_falls here.next after result (rolled range here.standard_state).0 past)
 
 -- A part that ends a step: where it goes on, the weight falls. A story that restarts goes on at the place that its
 -- header then names, which may be any.

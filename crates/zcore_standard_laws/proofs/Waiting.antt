@@ -172,9 +172,9 @@ waits_within here f w s t h = w s t (halt_within here (f s) t h)
 waits_random : (here : Here) (after : ℕ) (result : Option ℕ) (range : ℕ) → Waits (random here after result range)
 unfolding random
 waits_random here after result range =
-    waits_within (record here { beside = (rolled range here.beside).1 })
-    (give_result here.next after result (rolled range here.beside).0)
-    (waits_give_result here.next after result (rolled range here.beside).0)
+    waits_within (record here { standard_state = (rolled range here.standard_state).1 })
+    (give_result here.next after result (rolled range here.standard_state).0)
+    (waits_give_result here.next after result (rolled range here.standard_state).0)
 
 waits_spend : (fuel : ℕ) → Waits (spend fuel)
 unfolding spend

@@ -93,7 +93,7 @@ set_cursor_falls here after row column ahead =
 settled_in_falls : (here there : Here) (after : ℕ) (streams : List Stream) → IsPast here after there
     → here.next.program_counter < after → FallsFrom here (settled_in streams there)
 settled_in_falls here there after [] is ahead =
-    either_falls (there.beside.window == 0) here _ _ (text_falls here _ after _ is ahead)
+    either_falls (there.standard_state.window == 0) here _ _ (text_falls here _ after _ is ahead)
     (λ s t next inside h. moves here _ after s s t next (alike_same s s refl) is ahead inside h)
 settled_in_falls here there after (stream ∷ streams) is ahead = done_falls here there after is ahead
 
@@ -167,7 +167,7 @@ waits_set_cursor here row column =
 
 waits_settled_in : (streams : List Stream) (here : Here) → Waits (settled_in streams here)
 waits_settled_in [] here =
-    waits_chosen (here.beside.window == 0) _ _ (λ s t h. waits_done _ _ t h) (λ s t h. waits_done _ s t h)
+    waits_chosen (here.standard_state.window == 0) _ _ (λ s t h. waits_done _ _ t h) (λ s t h. waits_done _ s t h)
 waits_settled_in (stream ∷ streams) here = waits_done here
 
 pub waits_settled : (here : Here) → Waits (settled here)
@@ -213,4 +213,4 @@ waits_show (Some upper) window =
 
 pub waits_show_upper : (here : Here) → Waits (show_upper here)
 unfolding show_upper
-waits_show_upper here = waits_show here.upper here.beside.window
+waits_show_upper here = waits_show here.upper here.standard_state.window

@@ -5,7 +5,7 @@ use Rattle.std.specs.Prelude.{◌≡◌, ◌&&◌, ◌||◌, ℕ, Bool, true, fa
 use Rattle.std.specs.List.{list_all}
 use Rattle.std.specs.Option.{is_none}
 use Rattle.zcore.specs.State.{State, Out, done, halt}
-use Rattle.zcore.specs.declared.beside.Beside.{Beside}
+use Rattle.zcore.specs.declared.standard_state.StandardState.{StandardState}
 use Rattle.zcore.specs.declared.next.Next.{Next}
 use Rattle.zcore.specs.declared.place.Place.{Place}
 use Rattle.zcore.specs.declared.place.Place.TheVariants as places
@@ -16,7 +16,7 @@ use Rattle.zcore_standard.specs.Place.{Here, within, is_none_open}
 use Rattle.zcore_standard.specs.Loaded.{Loaded}
 use Rattle.zcore_standard.specs.Unicode.{is_ascii}
 use Rattle.zcore_standard.specs.Machine.{standard, standard_step, standard_turn, standard_turn_on, begins, by_standard}
-use Rattle.zcore_standard.specs.Machine.{with_beside}
+use Rattle.zcore_standard.specs.Machine.{with_standard_state}
 
 -- a turn ends in a whole state, in this one only, and within its weight
 pub record EndsOneWay (loaded : Loaded) (here : Here) (s : State) : Type 0 where
@@ -60,9 +60,9 @@ KeepsWhatTheProfileSteps =
 -- frames, place and program counter, and with the window and the dice that it began with.
 abbrev pub KeepsWhatTheProfilePlays : Type 0
 KeepsWhatTheProfilePlays =
-    (loaded : Loaded) (beside : Beside) (next : Next) (s : State) (whole : Whole) → loaded.own_alphabets ≡ None
-    → beside.window ≡ 0 → turn_from next s ≡ Some whole → is_fault whole.place ≡ false
-    → standard_turn loaded (begins beside next) s ≡ Some (with_beside beside whole)
+    (loaded : Loaded) (standard_state : StandardState) (next : Next) (s : State) (whole : Whole) → loaded.own_alphabets ≡ None
+    → standard_state.window ≡ 0 → turn_from next s ≡ Some whole → is_fault whole.place ≡ false
+    → standard_turn loaded (begins standard_state next) s ≡ Some (with_standard_state standard_state whole)
 
 -- A line is waited for as the profile does it: no letter is left over in the text buffer, which is after the header.
 abbrev pub WaitsAsTheProfile : StateOfPlay → Type 0
@@ -77,9 +77,9 @@ is_plain_line line = list_all is_ascii line
 abbrev pub KeepsWhatTheProfileAnswers : Type 0
 KeepsWhatTheProfileAnswers =
     (loaded : Loaded) (line : List ℕ) (fuel : ℕ) (play : StateOfPlay) (whole : Whole) → loaded.own_alphabets ≡ None
-    → is_plain_line line ≡ true → play.beside.window ≡ 0 → WaitsAsTheProfile play
+    → is_plain_line line ≡ true → play.standard_state.window ≡ 0 → WaitsAsTheProfile play
     → turn_on line fuel play ≡ Some whole → is_fault whole.place ≡ false
-    → standard_turn_on loaded line fuel play ≡ Some (with_beside play.beside whole)
+    → standard_turn_on loaded line fuel play ≡ Some (with_standard_state play.standard_state whole)
 
 -- no turn of these ends in a fault
 abbrev pub have_no_fault : List Whole → Bool
@@ -90,4 +90,4 @@ abbrev pub KeepsWhatTheProfileRuns : Type 0
 KeepsWhatTheProfileRuns =
     (loaded : Loaded) (story : List ℕ) (fuel : ℕ) (lines : List (List ℕ)) → loaded.own_alphabets ≡ None
     → loaded.dice.window ≡ 0 → list_all is_plain_line lines ≡ true → have_no_fault (plays story fuel lines) ≡ true
-    → plays_of (by_standard loaded story fuel) lines ≡ map (with_beside loaded.dice) (plays story fuel lines)
+    → plays_of (by_standard loaded story fuel) lines ≡ map (with_standard_state loaded.dice) (plays story fuel lines)

@@ -38,12 +38,12 @@ returns c =
     let stops = subst (λ first. StopsBy (standard_step c.args.self.now.loaded) first (state_of c.args.store.now.store [])
     (place c.run.new.around c.in_ok-here.here) c.in_ok-here.place
     (state_of c.run.new.store.store (drop (length c.args.text.now.items) c.run.new.text.items)))
-    (begun_place _ c.args.kept c.args.first c.new-around.ensures.beside c.new-around.ensures.streams
+    (begun_place _ c.args.kept c.args.first c.new-around.ensures.standard_state c.new-around.ensures.streams
     c.new-around.ensures.upper) r.stops in
     record {
       whole = standard_whole c.args.self.now.loaded _ c.run.new.around c.in_ok-here.here c.in_ok-here.place _
           c.run.new.store.store c.end.new.store.store c.run.new.text.items c.cut_to_shown.new.text.items
-          c.end.new.text.items (length c.args.text.now.items) stops e.kept.1 e.kept.2 e.beside
+          c.end.new.text.items (length c.args.text.now.items) stops e.kept.1 e.kept.2 e.standard_state
           (rw long at c.cut_to_shown.ensures.shown c.in_ok-here.here) e.text all.begun;
       waits = λ waits. standard_waits c.args.self.now.loaded _ (place c.run.new.around c.in_ok-here.here)
           c.in_ok-here.place _ c.run.new.store.store c.end.new.store.store _ r.stops e.kept.1 waits;
