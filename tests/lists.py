@@ -250,16 +250,16 @@ def with_features(text, _):
 def features(name):
     """What is missing, what to write instead and the section, of each feature of a file of `messages_parts`."""
     table = (TOP / f"crates/messages_parts/src/{name}.rt").read_text()
-    for feature in re.findall(r"= &Feature \{(.*?)\n\};", table, re.S):
-        missing, instead, section = (field_of(feature, field) for field in ("missing", "instead", "section"))
+    text = r'"((?:[^"\\]|\\.)*)"'
+    for feature in re.findall(rf"= feature!\(\s*{text}\s*=>\s*{text}(?:\s*in {text})?", table):
+        missing, instead, section = (in_row(field) for field in feature)
         instead = "leave it out" if instead == "nothing" else instead
         instead = re.sub(r"(examples/(\w+)\.inf)", r"[\2](../\1)", instead)
         yield missing, instead, f"[{section}](#{section.lower()})" if section else ""
 
 
-def field_of(feature, name):
-    """A field of a feature, with what a table's row escapes."""
-    text = re.search(rf'{name}: "((?:[^"\\]|\\.)*)"', feature).group(1)
+def in_row(text):
+    """A text of a feature, with what a table's row escapes."""
     return text.replace('\\"', '"').replace("\\\\", "\\").replace("|", r"\|")
 
 

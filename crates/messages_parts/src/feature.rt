@@ -25,6 +25,23 @@ pub struct Feature {
     pub names: &'static [&'static str],
 }
 
+/// A feature: what is missing, what to write instead, the section that says more, and the names.
+macro_rules! feature {
+    ($missing:literal => $instead:literal in $section:literal $(; $($name:literal)+)?) => {
+        &Feature {
+            missing: $missing,
+            instead: $instead,
+            section: $section,
+            names: &[$($($name),+)?],
+        }
+    };
+    ($missing:literal => $instead:literal $(; $($name:literal)+)?) => {
+        feature!($missing => $instead in "" $(; $($name)+)?)
+    };
+}
+
+pub(crate) use feature;
+
 /// That something is not in this language, and what to write instead: `'random' is not in this
 /// language: write a routine of your own`.
 #[derive(Clone, Copy)]

@@ -1,336 +1,170 @@
 //! Words of other languages and of everyday English, in the order of the table in
 //! docs/DIFFERENCES.md, which `./lists` writes from this file.
 
-use crate::feature::Feature;
+use crate::feature::{Feature, feature};
 use crate::table::CLASSES;
 
-const ELSE_IF: &Feature = &Feature {
-    missing: "`elseif`, `elif`, `elsif`",
-    instead: "`else if`",
-    section: "",
-    names: &["elseif", "elif", "elsif"],
-};
+const ELSE_IF: &Feature = feature!(
+    "`elseif`, `elif`, `elsif`" => "`else if`";
+    "elseif" "elif" "elsif"
+);
 
-const THEN: &Feature = &Feature {
-    missing: "`then`",
-    instead: "nothing",
-    section: "",
-    names: &["then"],
-};
+const THEN: &Feature = feature!("`then`" => "nothing"; "then");
 
-const UNLESS: &Feature = &Feature {
-    missing: "`unless (a)`",
-    instead: "`if (~~(a))`",
-    section: "",
-    names: &["unless"],
-};
+const UNLESS: &Feature = feature!("`unless (a)`" => "`if (~~(a))`"; "unless");
 
-const WHEN: &Feature = &Feature {
-    missing: "`when`, `otherwise`",
-    instead: "`if (a)` and `else`, or in a `switch` `1:` and `default:`",
-    section: "",
-    names: &["when", "otherwise"],
-};
+const WHEN: &Feature = feature!(
+    "`when`, `otherwise`" => "`if (a)` and `else`, or in a `switch` `1:` and `default:`";
+    "when" "otherwise"
+);
 
-const CASES: &Feature = &Feature {
-    missing: "`case 1:`",
-    instead: "`1:`",
-    section: "",
-    names: &["case"],
-};
+const CASES: &Feature = feature!("`case 1:`" => "`1:`"; "case");
 
-const BLOCKS: &Feature = &Feature {
-    missing: "`begin`, `endif`, `wend`",
-    instead: "`{` and `}` around the statements",
-    section: "",
-    names: &["begin", "endif", "endwhile", "endfor", "wend", "done"],
-};
+const BLOCKS: &Feature = feature!(
+    "`begin`, `endif`, `wend`" => "`{` and `}` around the statements";
+    "begin" "endif" "endwhile" "endfor" "wend" "done"
+);
 
-const ENDS: &Feature = &Feature {
-    missing: "`end`",
-    instead: "`}` at the end of a block, or `quit;`",
-    section: "",
-    names: &["end"],
-};
+const ENDS: &Feature = feature!("`end`" => "`}` at the end of a block, or `quit;`"; "end");
 
-const ENDLESS_LOOPS: &Feature = &Feature {
-    missing: "`loop`, `forever`, `repeat`",
-    instead: "`while (true) { .. }` or `do { .. } until (a);`",
-    section: "",
-    names: &["loop", "forever", "repeat"],
-};
+const ENDLESS_LOOPS: &Feature = feature!(
+    "`loop`, `forever`, `repeat`" => "`while (true) { .. }` or `do { .. } until (a);`";
+    "loop" "forever" "repeat"
+);
 
-const EACH: &Feature = &Feature {
-    missing: "`foreach`, `each`",
-    instead: "`objectloop (x in y)`",
-    section: "",
-    names: &["foreach", "each"],
-};
+const EACH: &Feature = feature!("`foreach`, `each`" => "`objectloop (x in y)`"; "foreach" "each");
 
-const JUMPS: &Feature = &Feature {
-    missing: "`goto`",
-    instead: "a loop",
-    section: "",
-    names: &["goto"],
-};
+const JUMPS: &Feature = feature!("`goto`" => "a loop"; "goto");
 
-const VARIABLES: &Feature = &Feature {
-    missing: "`int`, `var`, `let`, `local`, `bool`",
-    instead: "`Global n;`, or a local in the head of its routine, as in `[ R n;`",
-    section: "",
-    names: &[
-        "int", "var", "let", "local", "locals", "bool", "boolean", "float", "double", "auto",
-        "dim", "my", "integer", "static", "unsigned",
-    ],
-};
+const VARIABLES: &Feature = feature!(
+    "`int`, `var`, `let`, `local`, `bool`"
+        => "`Global n;`, or a local in the head of its routine, as in `[ R n;`";
+    "int" "var" "let" "local" "locals" "bool" "boolean" "float" "double" "auto" "dim" "my"
+    "integer" "static" "unsigned"
+);
 
-const CONSTANTS: &Feature = &Feature {
-    missing: "`const`, `define`, `enum`",
-    instead: "`Constant size = 5;`",
-    section: "",
-    names: &["const", "define", "final", "enum"],
-};
+const CONSTANTS: &Feature = feature!(
+    "`const`, `define`, `enum`" => "`Constant size = 5;`";
+    "const" "define" "final" "enum"
+);
 
-const ROUTINES: &Feature = &Feature {
-    missing: "`function`, `def`, `void`, `sub`",
-    instead: "`[ R a b; .. ];`",
-    section: "",
-    names: &[
-        "function",
-        "func",
-        "fn",
-        "def",
-        "void",
-        "sub",
-        "proc",
-        "procedure",
-        "routine",
-        "method",
-        "public",
-        "private",
-    ],
-};
+const ROUTINES: &Feature = feature!(
+    "`function`, `def`, `void`, `sub`" => "`[ R a b; .. ];`";
+    "function" "func" "fn" "def" "void" "sub" "proc" "procedure" "routine" "method" "public"
+    "private"
+);
 
-const RECORDS: &Feature = &Feature {
-    missing: "`struct`, `room`, `interface`",
-    instead: "`Object x \"the x\";` with properties and attributes",
-    section: "",
-    names: &["struct", "room", "interface"],
-};
+const RECORDS: &Feature = feature!(
+    "`struct`, `room`, `interface`" => "`Object x \"the x\";` with properties and attributes";
+    "struct" "room" "interface"
+);
 
-const PRINTING: &Feature = &Feature {
-    missing: "`printf`, `println`, `echo`, `say`, `write`",
-    instead: "`print` with items and `,` between them",
-    section: "",
-    names: &[
-        "printf",
-        "println",
-        "printline",
-        "echo",
-        "say",
-        "write",
-        "writeln",
-        "puts",
-        "cout",
-        "display",
-        "output",
-        "console",
-        "put_line",
-    ],
-};
+const PRINTING: &Feature = feature!(
+    "`printf`, `println`, `echo`, `say`, `write`" => "`print` with items and `,` between them";
+    "printf" "println" "printline" "echo" "say" "write" "writeln" "puts" "cout" "display" "output"
+    "console" "put_line"
+);
 
-const NEW_LINES: &Feature = &Feature {
-    missing: "`newline`, `endl`, `cr`",
-    instead: "`new_line;`, or `^` in a text",
-    section: "",
-    names: &["newline", "endl", "nl", "cr"],
-};
+const NEW_LINES: &Feature = feature!(
+    "`newline`, `endl`, `cr`" => "`new_line;`, or `^` in a text";
+    "newline" "endl" "nl" "cr"
+);
 
-const INPUT: &Feature = &Feature {
-    missing: "`input`, `scanf`, `getline`",
-    instead: "`read line words;` with the names of two arrays of bytes",
-    section: "",
-    names: &["input", "scanf", "getline", "gets", "prompt"],
-};
+const INPUT: &Feature = feature!(
+    "`input`, `scanf`, `getline`" => "`read line words;` with the names of two arrays of bytes";
+    "input" "scanf" "getline" "gets" "prompt"
+);
 
-const EXITS: &Feature = &Feature {
-    missing: "`exit`, `stop`, `halt`",
-    instead: "`quit;`",
-    section: "",
-    names: &["exit", "stop", "halt", "die", "abort"],
-};
+const EXITS: &Feature = feature!(
+    "`exit`, `stop`, `halt`" => "`quit;`";
+    "exit" "stop" "halt" "die" "abort"
+);
 
-const CALLS: &Feature = &Feature {
-    missing: "`call F`, `run F`",
-    instead: "`F();`",
-    section: "",
-    names: &["call", "gosub", "perform", "run"],
-};
+const CALLS: &Feature = feature!("`call F`, `run F`" => "`F();`"; "call" "gosub" "perform" "run");
 
-const EMPTY: &Feature = &Feature {
-    missing: "`pass`, `noop`",
-    instead: "`;`",
-    section: "",
-    names: &["pass", "noop"],
-};
+const EMPTY: &Feature = feature!("`pass`, `noop`" => "`;`"; "pass" "noop");
 
-const SETTING: &Feature = &Feature {
-    missing: "`set n to 5`, `now`",
-    instead: "`n = 5;`",
-    section: "",
-    names: &["set", "now", "assign"],
-};
+const SETTING: &Feature = feature!("`set n to 5`, `now`" => "`n = 5;`"; "set" "now" "assign");
 
-const STEPPING: &Feature = &Feature {
-    missing: "`inc n`, `add 1 to n`",
-    instead: "`n++;` or `n = n + 1;`",
-    section: "",
-    names: &[
-        "inc",
-        "dec",
-        "incr",
-        "decr",
-        "increment",
-        "decrement",
-        "increase",
-        "decrease",
-        "add",
-        "subtract",
-    ],
-};
+const STEPPING: &Feature = feature!(
+    "`inc n`, `add 1 to n`" => "`n++;` or `n = n + 1;`";
+    "inc" "dec" "incr" "decr" "increment" "decrement" "increase" "decrease" "add" "subtract"
+);
 
-const MOVING: &Feature = &Feature {
-    missing: "`put a in b`, `insert`",
-    instead: "`move a to b;`",
-    section: "",
-    names: &["put", "place", "insert", "transfer"],
-};
+const MOVING: &Feature = feature!(
+    "`put a in b`, `insert`" => "`move a to b;`";
+    "put" "place" "insert" "transfer"
+);
 
-const HANDLING: &Feature = &Feature {
-    missing: "`try`, `catch`, `throw`",
-    instead: "an `if` before what may fail",
-    section: "",
-    names: &["try", "catch", "throw", "raise", "except", "assert"],
-};
+const HANDLING: &Feature = feature!(
+    "`try`, `catch`, `throw`" => "an `if` before what may fail";
+    "try" "catch" "throw" "raise" "except" "assert"
+);
 
-const IMPORTS: &Feature = &Feature {
-    missing: "`import`, `using`, `require`",
-    instead: "all of the program in one file",
-    section: "",
-    names: &[
-        "import",
-        "using",
-        "require",
-        "package",
-        "namespace",
-        "module",
-    ],
-};
+const IMPORTS: &Feature = feature!(
+    "`import`, `using`, `require`" => "all of the program in one file";
+    "import" "using" "require" "package" "namespace" "module"
+);
 
-const MEMORY: &Feature = &Feature {
-    missing: "`new`, `delete`, `create`",
-    instead: "an object that is there from the start, and `move` and `remove`",
-    section: "",
-    names: &["new", "delete", "create", "destroy", "malloc", "spawn"],
-};
+const MEMORY: &Feature = feature!(
+    "`new`, `delete`, `create`" => "an object that is there from the start, and `move` and `remove`";
+    "new" "delete" "create" "destroy" "malloc" "spawn"
+);
 
-const AND: &Feature = &Feature {
-    missing: "`a and b`",
-    instead: "`a && b`",
-    section: "",
-    names: &["and"],
-};
+const AND: &Feature = feature!("`a and b`" => "`a && b`"; "and");
 
-const NOT: &Feature = &Feature {
-    missing: "`not a`",
-    instead: "`~~a`, or one of `~=`, `hasnt` and `notin`",
-    section: "",
-    names: &["not"],
-};
+const NOT: &Feature = feature!("`not a`" => "`~~a`, or one of `~=`, `hasnt` and `notin`"; "not");
 
-const EITHER: &Feature = &Feature {
-    missing: "`xor`",
-    instead: "`a ~= b`",
-    section: "",
-    names: &["xor"],
-};
+const EITHER: &Feature = feature!("`xor`" => "`a ~= b`"; "xor");
 
-const REMAINDER: &Feature = &Feature {
-    missing: "`a mod b`",
-    instead: "`a % b`",
-    section: "",
-    names: &["mod", "modulo"],
-};
+const REMAINDER: &Feature = feature!("`a mod b`" => "`a % b`"; "mod" "modulo");
 
-const ARITHMETIC: &Feature = &Feature {
-    missing: "`a plus b`, `a minus b`, `a times b`",
-    instead: "`a + b`, `a - b`, `a * b`",
-    section: "",
-    names: &["plus", "minus", "times"],
-};
+const ARITHMETIC: &Feature = feature!(
+    "`a plus b`, `a minus b`, `a times b`" => "`a + b`, `a - b`, `a * b`";
+    "plus" "minus" "times"
+);
 
-const DIVISION: &Feature = &Feature {
-    missing: "`a div b`",
-    instead: "`a / b`",
-    section: "",
-    names: &["div", "divided"],
-};
+const DIVISION: &Feature = feature!("`a div b`" => "`a / b`"; "div" "divided");
 
-const EQUALITY: &Feature = &Feature {
-    missing: "`a is b`, `a equals b`",
-    instead: "`a == b`, or `a has b` for an attribute",
-    section: "",
-    names: &["is", "are", "equals", "equal", "eq"],
-};
+const EQUALITY: &Feature = feature!(
+    "`a is b`, `a equals b`" => "`a == b`, or `a has b` for an attribute";
+    "is" "are" "equals" "equal" "eq"
+);
 
-const UNLIKENESS: &Feature = &Feature {
-    missing: "`a isnt b`, `a ne b`",
-    instead: "`a ~= b`, or `a hasnt b` for an attribute",
-    section: "",
-    names: &["isnt", "ne", "neq", "isnot"],
-};
+const UNLIKENESS: &Feature = feature!(
+    "`a isnt b`, `a ne b`" => "`a ~= b`, or `a hasnt b` for an attribute";
+    "isnt" "ne" "neq" "isnot"
+);
 
-const ORDERING: &Feature = &Feature {
-    missing: "`a lt b`, `a greater b`, `a between b and c`",
-    instead: "`a < b`, `a > b`, and `&&` between both",
-    section: "",
-    names: &["lt", "gt", "le", "ge", "less", "greater", "between"],
-};
+const ORDERING: &Feature = feature!(
+    "`a lt b`, `a greater b`, `a between b and c`" => "`a < b`, `a > b`, and `&&` between both";
+    "lt" "gt" "le" "ge" "less" "greater" "between"
+);
 
-const CONTENTS: &Feature = &Feature {
-    missing: "`a inside b`, `b contains a`",
-    instead: "`a in b`",
-    section: "",
-    names: &["inside", "within", "contains", "holds", "isin"],
-};
+const CONTENTS: &Feature = feature!(
+    "`a inside b`, `b contains a`" => "`a in b`";
+    "inside" "within" "contains" "holds" "isin"
+);
 
-const NO_VALUE: &Feature = &Feature {
-    missing: "`null`, `none`, `nil`",
-    instead: "`nothing`",
-    section: "",
-    names: &["null", "none", "nil", "undefined"],
-};
+const NO_VALUE: &Feature = feature!(
+    "`null`, `none`, `nil`" => "`nothing`";
+    "null" "none" "nil" "undefined"
+);
 
-const YES_AND_NO: &Feature = &Feature {
-    missing: "`yes`, `no`, `on`, `off`",
-    instead: "`true` or `false`",
-    section: "",
-    names: &["yes", "no", "on", "off"],
-};
+const YES_AND_NO: &Feature = feature!(
+    "`yes`, `no`, `on`, `off`" => "`true` or `false`";
+    "yes" "no" "on" "off"
+);
 
-const LENGTHS: &Feature = &Feature {
-    missing: "`len(a)`, `sizeof(a)`",
-    instead: "a `Constant` with the size, or `a-->0` of a `table`",
-    section: "",
-    names: &["len", "sizeof", "strlen", "length", "size_of"],
-};
+const LENGTHS: &Feature = feature!(
+    "`len(a)`, `sizeof(a)`" => "a `Constant` with the size, or `a-->0` of a `table`";
+    "len" "sizeof" "strlen" "length" "size_of"
+);
 
-const RANGES: &Feature = &Feature {
-    missing: "`range(5)`",
-    instead: "`for (i = 0 : i < 5 : i++)`",
-    section: "",
-    names: &["range", "downto", "upto"],
-};
+const RANGES: &Feature = feature!(
+    "`range(5)`" => "`for (i = 0 : i < 5 : i++)`";
+    "range" "downto" "upto"
+);
 
 /// The words that are meant in the middle of an expression.
 pub(crate) const OPERATORS: [&Feature; 12] = [

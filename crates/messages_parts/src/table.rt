@@ -1,388 +1,221 @@
 //! The features, in the order of the table in docs/DIFFERENCES.md, which `./lists` writes from this
 //! file.
 
-use crate::feature::Feature;
+use crate::feature::{Feature, feature};
 
 /// What the library of Inform 6 does.
-pub const LIBRARY: &Feature = &Feature {
-    missing: "the Inform library, `Include`, `Verb`, `Extend`, actions (`<Look>`)",
-    instead: "routines and a `read` loop, as in examples/skeleton.inf",
-    section: "Directives",
-    names: &[
-        "include",
-        "verb",
-        "extend",
-        "fake_action",
-        "nearby",
-        "grammar",
-    ],
-};
+pub const LIBRARY: &Feature = feature!(
+    "the Inform library, `Include`, `Verb`, `Extend`, actions (`<Look>`)"
+        => "routines and a `read` loop, as in examples/skeleton.inf" in "Directives";
+    "include" "verb" "extend" "fake_action" "nearby" "grammar"
+);
 
 /// What Inform 6 compiles on a condition.
-pub const CONDITIONS: &Feature = &Feature {
-    missing: "`Ifdef`, `Ifndef`, `Ifnot`, `Endif`",
-    instead: "only the branch that you need",
-    section: "",
-    names: &[
-        "ifdef", "ifndef", "iftrue", "iffalse", "ifnot", "ifv3", "ifv5", "endif",
-    ],
-};
+pub const CONDITIONS: &Feature = feature!(
+    "`Ifdef`, `Ifndef`, `Ifnot`, `Endif`" => "only the branch that you need";
+    "ifdef" "ifndef" "iftrue" "iffalse" "ifnot" "ifv3" "ifv5" "endif"
+);
 
 /// What Inform 6 sets for a whole story file.
-pub const SETTINGS: &Feature = &Feature {
-    missing: "`Release`, `Serial`, `Switches`, `Replace`, `Default`",
-    instead: "nothing",
-    section: "",
-    names: &[
-        "release",
-        "serial",
-        "switches",
-        "replace",
-        "default",
-        "version",
-        "statusline",
-        "zcharacter",
-        "message",
-        "link",
-        "system_file",
-        "trace",
-        "undef",
-    ],
-};
+pub const SETTINGS: &Feature = feature!(
+    "`Release`, `Serial`, `Switches`, `Replace`, `Default`" => "nothing";
+    "release" "serial" "switches" "replace" "default" "version" "statusline" "zcharacter" "message"
+    "link" "system_file" "trace" "undef"
+);
 
-const STUBS: &Feature = &Feature {
-    missing: "`Stub F 2;`",
-    instead: "`[ F a b; rfalse; ];`, a routine that does nothing",
-    section: "",
-    names: &["stub"],
-};
+const STUBS: &Feature = feature!(
+    "`Stub F 2;`" => "`[ F a b; rfalse; ];`, a routine that does nothing";
+    "stub"
+);
 
-const LOW_STRINGS: &Feature = &Feature {
-    missing: "`Lowstring`",
-    instead: "a routine that prints the text, as in `[ T; print \"text\"; ];`",
-    section: "",
-    names: &["lowstring"],
-};
+const LOW_STRINGS: &Feature = feature!(
+    "`Lowstring`" => "a routine that prints the text, as in `[ T; print \"text\"; ];`";
+    "lowstring"
+);
 
-const DICTIONARY_WORDS: &Feature = &Feature {
-    missing: "`Dictionary 'lamp';`",
-    instead: "the word in single quotes where you use it, as in `with name 'lamp'`",
-    section: "",
-    names: &["dictionary"],
-};
+const DICTIONARY_WORDS: &Feature = feature!(
+    "`Dictionary 'lamp';`" => "the word in single quotes where you use it, as in `with name 'lamp'`";
+    "dictionary"
+);
 
 /// `#` before a directive.
-pub const DIRECTIVE_SIGN: &Feature = &Feature {
-    missing: "`#` before directives",
-    instead: "the directive without it",
-    section: "",
-    names: &[],
-};
+pub const DIRECTIVE_SIGN: &Feature = feature!(
+    "`#` before directives" => "the directive without it"
+);
 
-const MAIN_LOCALS: &Feature = &Feature {
-    missing: "locals of `Main`",
-    instead: "globals, or a routine that `Main` calls",
-    section: "Definitions",
-    names: &[],
-};
+const MAIN_LOCALS: &Feature = feature!(
+    "locals of `Main`" => "globals, or a routine that `Main` calls" in "Definitions"
+);
 
 /// Values that have to be computed before the story runs.
-pub const CONSTANT_EXPRESSIONS: &Feature = &Feature {
-    missing: "`Constant size = 2 + 3;`, `Constant size 5;`, `Constant debug;`",
-    instead: "one value, as in `Constant size = 5;` and `Constant debug = 0;`",
-    section: "",
-    names: &[],
-};
+pub const CONSTANT_EXPRESSIONS: &Feature = feature!(
+    "`Constant size = 2 + 3;`, `Constant size 5;`, `Constant debug;`"
+        => "one value, as in `Constant size = 5;` and `Constant debug = 0;`"
+);
 
 /// Arrays of the kind `buffer`.
-pub const BUFFERS: &Feature = &Feature {
-    missing: "`Array line buffer 20`",
-    instead: "`Array line -> 22`, and `line-->0 = 20` at the start of `Main`",
-    section: "",
-    names: &[],
-};
+pub const BUFFERS: &Feature = feature!(
+    "`Array line buffer 20`" => "`Array line -> 22`, and `line-->0 = 20` at the start of `Main`"
+);
 
 /// Computed sizes and entries of arrays.
-pub const ARRAY_EXPRESSIONS: &Feature = &Feature {
-    missing: "`Array a -> 4 * size;`",
-    instead: "one value, as in `Array a -> 12;`",
-    section: "",
-    names: &[],
-};
+pub const ARRAY_EXPRESSIONS: &Feature = feature!(
+    "`Array a -> 4 * size;`" => "one value, as in `Array a -> 12;`"
+);
 
 /// What an array does not hold.
-pub const ARRAY_VALUES: &Feature = &Feature {
-    missing: "texts, brackets and parentheses in arrays",
-    instead: "characters and plain values, and a `Constant` for a negative one",
-    section: "",
-    names: &[],
-};
+pub const ARRAY_VALUES: &Feature = feature!(
+    "texts, brackets and parentheses in arrays"
+        => "characters and plain values, and a `Constant` for a negative one"
+);
 
 /// Texts, routines and other things that are no numbers as values.
-pub const OTHER_VALUES: &Feature = &Feature {
-    missing: "routines, arrays, attributes, properties, texts as values",
-    instead: "a number, and a `switch` over it",
-    section: "Values",
-    names: &[],
-};
+pub const OTHER_VALUES: &Feature = feature!(
+    "routines, arrays, attributes, properties, texts as values"
+        => "a number, and a `switch` over it" in "Values"
+);
 
-const RANDOM_NUMBERS: &Feature = &Feature {
-    missing: "`random`",
-    instead: "a routine of your own, such as `Random` in examples/guess.inf",
-    section: "",
-    names: &["random"],
-};
+const RANDOM_NUMBERS: &Feature = feature!(
+    "`random`" => "a routine of your own, such as `Random` in examples/guess.inf";
+    "random"
+);
 
-const FUNCTIONS: &Feature = &Feature {
-    missing: "`children`, `youngest`, `indirect`, `metaclass`",
-    instead: "a routine of your own",
-    section: "",
-    names: &[
-        "children",
-        "youngest",
-        "eldest",
-        "elder",
-        "younger",
-        "indirect",
-        "metaclass",
-    ],
-};
+const FUNCTIONS: &Feature = feature!(
+    "`children`, `youngest`, `indirect`, `metaclass`" => "a routine of your own";
+    "children" "youngest" "eldest" "elder" "younger" "indirect" "metaclass"
+);
 
-const STEPS: &Feature = &Feature {
-    missing: "`bag.p++`, `(a->1)++`",
-    instead: "`bag.p = bag.p + 1`, `a->1 = a->1 + 1`",
-    section: "Operators",
-    names: &[],
-};
+const STEPS: &Feature = feature!(
+    "`bag.p++`, `(a->1)++`" => "`bag.p = bag.p + 1`, `a->1 = a->1 + 1`" in "Operators"
+);
 
 /// Operators that also assign.
-pub const ASSIGNING_OPERATORS: &Feature = &Feature {
-    missing: "`a += b`, which Inform 6 lacks too",
-    instead: "`a = a + b`",
-    section: "",
-    names: &[],
-};
+pub const ASSIGNING_OPERATORS: &Feature = feature!(
+    "`a += b`, which Inform 6 lacks too" => "`a = a + b`"
+);
 
 /// `!=`, which begins a comment.
-pub const INEQUALITY: &Feature = &Feature {
-    missing: "`a != b`, which Inform 6 lacks too",
-    instead: "`a ~= b`, since `!` begins a comment",
-    section: "",
-    names: &[],
-};
+pub const INEQUALITY: &Feature = feature!(
+    "`a != b`, which Inform 6 lacks too" => "`a ~= b`, since `!` begins a comment"
+);
 
 /// `!` as an operator, which begins a comment.
-pub const NEGATION: &Feature = &Feature {
-    missing: "`!a`, which Inform 6 lacks too",
-    instead: "`~~a`, since `!` begins a comment",
-    section: "",
-    names: &[],
-};
+pub const NEGATION: &Feature = feature!(
+    "`!a`, which Inform 6 lacks too" => "`~~a`, since `!` begins a comment"
+);
 
 /// `or` after other operators than `==` and `~=`.
-pub const ALTERNATIVES: &Feature = &Feature {
-    missing: "`n > 6 or 4`, `o has a or b`",
-    instead: "`n > 6 || n > 4`, `o has a || o has b`",
-    section: "",
-    names: &[],
-};
+pub const ALTERNATIVES: &Feature = feature!(
+    "`n > 6 or 4`, `o has a or b`" => "`n > 6 || n > 4`, `o has a || o has b`"
+);
 
 /// `or` after `in`.
-pub const PARENTS: &Feature = &Feature {
-    missing: "`x in a or b`",
-    instead: "`parent(x) == a or b`",
-    section: "",
-    names: &[],
-};
+pub const PARENTS: &Feature = feature!("`x in a or b`" => "`parent(x) == a or b`");
 
 /// `or` after `notin`.
-pub const NO_PARENTS: &Feature = &Feature {
-    missing: "`x notin a or b`",
-    instead: "`parent(x) ~= a or b`",
-    section: "",
-    names: &[],
-};
+pub const NO_PARENTS: &Feature = feature!("`x notin a or b`" => "`parent(x) ~= a or b`");
 
 /// `or` after the `in` of an `objectloop`.
-pub const PARENTS_IN_LOOP: &Feature = &Feature {
-    missing: "`objectloop (x in a or b)`",
-    instead: "`objectloop (x in a || x in b)`",
-    section: "",
-    names: &[],
-};
+pub const PARENTS_IN_LOOP: &Feature = feature!(
+    "`objectloop (x in a or b)`" => "`objectloop (x in a || x in b)`"
+);
 
 /// Several expressions in one.
-pub const COMMAS: &Feature = &Feature {
-    missing: "`for (i = 0, j = 9 : ..`",
-    instead: "one statement for each expression",
-    section: "",
-    names: &[],
-};
+pub const COMMAS: &Feature = feature!(
+    "`for (i = 0, j = 9 : ..`" => "one statement for each expression"
+);
 
 /// Negations as operands.
-pub const NESTED_NEGATIONS: &Feature = &Feature {
-    missing: "`a + ~~b`, `-~a`",
-    instead: "`a + (~~b)`, `-(~a)`",
-    section: "",
-    names: &[],
-};
+pub const NESTED_NEGATIONS: &Feature = feature!("`a + ~~b`, `-~a`" => "`a + (~~b)`, `-(~a)`");
 
 /// The forms of `print`.
-pub const PRINT_FORMS: &Feature = &Feature {
-    missing: "`print (name) x`, `print (The) x`, `print (string) x`, `print (Stars) 3`",
-    instead: "`(object)` for a short name, `(char)` for a character, or a statement that calls, as `Stars(3);`",
-    section: "Statements",
-    names: &[],
-};
+pub const PRINT_FORMS: &Feature = feature!(
+    "`print (name) x`, `print (The) x`, `print (string) x`, `print (Stars) 3`"
+        => "`(object)` for a short name, `(char)` for a character, or a statement that calls, as `Stars(3);`"
+        in "Statements"
+);
 
-const TEXT_STATEMENTS: &Feature = &Feature {
-    missing: "`\"text\", x, \"b\";` as a statement",
-    instead: "`print_ret \"text\", x, \"b\";`",
-    section: "",
-    names: &[],
-};
+const TEXT_STATEMENTS: &Feature = feature!(
+    "`\"text\", x, \"b\";` as a statement" => "`print_ret \"text\", x, \"b\";`"
+);
 
-const LONG_TEXTS: &Feature = &Feature {
-    missing: "texts of several lines",
-    instead: "several print items",
-    section: "",
-    names: &[],
-};
+const LONG_TEXTS: &Feature = feature!("texts of several lines" => "several print items");
 
-const AT_SIGNS: &Feature = &Feature {
-    missing: "`@` and `\\` in texts",
-    instead: "`(char) 64` and `(char) 92`, as items of a `print`",
-    section: "",
-    names: &[],
-};
+const AT_SIGNS: &Feature = feature!(
+    "`@` and `\\` in texts" => "`(char) 64` and `(char) 92`, as items of a `print`"
+);
 
 /// Letters with accents.
-pub const ACCENTS: &Feature = &Feature {
-    missing: "accented letters, also in comments",
-    instead: "letters without accents",
-    section: "",
-    names: &[],
-};
+pub const ACCENTS: &Feature = feature!(
+    "accented letters, also in comments" => "letters without accents"
+);
 
-const CHARACTERS: &Feature = &Feature {
-    missing: "`'^'`, `'~'`, `'''`, `'lamps//p'`",
-    instead: "94, 126, 39, `'lamps'`",
-    section: "",
-    names: &[],
-};
+const CHARACTERS: &Feature = feature!(
+    "`'^'`, `'~'`, `'''`, `'lamps//p'`" => "94, 126, 39, `'lamps'`"
+);
 
 /// `'` within a dictionary word.
-pub const APOSTROPHES: &Feature = &Feature {
-    missing: "`'miner's'`, which Inform 6 lacks too",
-    instead: "`^` for it, as in `with name 'miner^s'`",
-    section: "",
-    names: &[],
-};
+pub const APOSTROPHES: &Feature = feature!(
+    "`'miner's'`, which Inform 6 lacks too" => "`^` for it, as in `with name 'miner^s'`"
+);
 
 /// Places to jump to.
-pub const LABELS: &Feature = &Feature {
-    missing: "`jump`, labels",
-    instead: "a loop",
-    section: "",
-    names: &["jump"],
-};
+pub const LABELS: &Feature = feature!("`jump`, labels" => "a loop"; "jump");
 
 /// Other forms of `objectloop`.
-pub const OBJECT_LOOPS: &Feature = &Feature {
-    missing: "`objectloop (x from y)`",
-    instead: "`for (x = y : x : x = sibling(x))`",
-    section: "",
-    names: &[],
-};
+pub const OBJECT_LOOPS: &Feature = feature!(
+    "`objectloop (x from y)`" => "`for (x = y : x : x = sibling(x))`"
+);
 
-const READING: &Feature = &Feature {
-    missing: "`read` with a variable, 0 or a third operand",
-    instead: "the names of two arrays of bytes",
-    section: "",
-    names: &[],
-};
+const READING: &Feature = feature!(
+    "`read` with a variable, 0 or a third operand" => "the names of two arrays of bytes"
+);
 
-const SPACES: &Feature = &Feature {
-    missing: "`spaces`",
-    instead: "a `print` with a text of spaces",
-    section: "",
-    names: &["spaces"],
-};
+const SPACES: &Feature = feature!("`spaces`" => "a `print` with a text of spaces"; "spaces");
 
 /// Opcodes of the machine.
-pub const OPCODES: &Feature = &Feature {
-    missing: "opcodes such as `@print_num`",
-    instead: "a statement such as `print`",
-    section: "",
-    names: &[],
-};
+pub const OPCODES: &Feature = feature!(
+    "opcodes such as `@print_num`" => "a statement such as `print`"
+);
 
-const STYLES: &Feature = &Feature {
-    missing: "`font`, `style`, `box`, `inversion`, `string`",
-    instead: "nothing",
-    section: "",
-    names: &["font", "style", "box", "inversion"],
-};
+const STYLES: &Feature = feature!(
+    "`font`, `style`, `box`, `inversion`, `string`" => "nothing";
+    "font" "style" "box" "inversion"
+);
 
-const SAVING: &Feature = &Feature {
-    missing: "`save`, `restore`",
-    instead: "`/undo` in the player, or keep the lines that you type",
-    section: "",
-    names: &["save", "restore"],
-};
+const SAVING: &Feature = feature!(
+    "`save`, `restore`" => "`/undo` in the player, or keep the lines that you type";
+    "save" "restore"
+);
 
 /// Classes of objects.
-pub const CLASSES: &Feature = &Feature {
-    missing: "`Class`, `ofclass`",
-    instead: "an attribute and a property",
-    section: "Objects",
-    names: &["class", "ofclass"],
-};
+pub const CLASSES: &Feature = feature!(
+    "`Class`, `ofclass`" => "an attribute and a property" in "Objects";
+    "class" "ofclass"
+);
 
 /// The operators of classes.
-pub const SUPERCLASSES: &Feature = &Feature {
-    missing: "`..`, `::`",
-    instead: "`.` and a property of each object",
-    section: "",
-    names: &[],
-};
+pub const SUPERCLASSES: &Feature = feature!("`..`, `::`" => "`.` and a property of each object");
 
 /// Routines that are called through an object.
-pub const MESSAGES: &Feature = &Feature {
-    missing: "`self`, messages, routines as property values",
-    instead: "a routine with a `switch` over objects",
-    section: "",
-    names: &["self"],
-};
+pub const MESSAGES: &Feature = feature!(
+    "`self`, messages, routines as property values" => "a routine with a `switch` over objects";
+    "self"
+);
 
-const UNDECLARED: &Feature = &Feature {
-    missing: "undeclared properties, `with p,`, `with name \"bag\"`",
-    instead: "`Property p;`, `with p 0`, `with name 'bag'`",
-    section: "",
-    names: &[],
-};
+const UNDECLARED: &Feature = feature!(
+    "undeclared properties, `with p,`, `with name \"bag\"`"
+        => "`Property p;`, `with p 0`, `with name 'bag'`"
+);
 
-const OBJECT_HEADS: &Feature = &Feature {
-    missing: "`Object \"bag\"`, `has lit with p 3`",
-    instead: "`Object bag \"bag\"`, `with p 3, has lit`",
-    section: "",
-    names: &[],
-};
+const OBJECT_HEADS: &Feature = feature!(
+    "`Object \"bag\"`, `has lit with p 3`" => "`Object bag \"bag\"`, `with p 3, has lit`"
+);
 
-const MISSING_ATTRIBUTES: &Feature = &Feature {
-    missing: "`has ~lit`",
-    instead: "nothing",
-    section: "",
-    names: &[],
-};
+const MISSING_ATTRIBUTES: &Feature = feature!("`has ~lit`" => "nothing");
 
 /// Addresses of properties as values.
-pub const ADDRESSES: &Feature = &Feature {
-    missing: "`a = bag.&p`",
-    instead: "`bag.&p-->0`",
-    section: "",
-    names: &[],
-};
+pub const ADDRESSES: &Feature = feature!("`a = bag.&p`" => "`bag.&p-->0`");
 
 /// The features whose names are directives.
 pub(crate) const DIRECTIVES: [&Feature; 7] = [

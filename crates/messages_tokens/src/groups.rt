@@ -100,175 +100,76 @@ const GROUPS: [Group; 7] = [
     Group::Directive,
 ];
 
+/// Kinds of tokens: those that hold something, reserved words, and signs.
+macro_rules! kinds {
+    ($(Is $($kind:ident)+;)? $(Word $($word:ident)+;)? Sign $($sign:ident)+) => {
+        [
+            $($(TokenKind::$kind,)+)?
+            $($(TokenKind::Reserved(Word::$word),)+)?
+            $(TokenKind::Sign(Sign::$sign),)+
+        ]
+    };
+}
+
 /// What a statement begins with.
-const STATEMENT: [TokenKind; 38] = [
-    TokenKind::Name,
-    TokenKind::Number,
-    TokenKind::Text,
-    TokenKind::Character,
-    TokenKind::DictionaryWord,
-    TokenKind::Reserved(Word::Break),
-    TokenKind::Reserved(Word::Child),
-    TokenKind::Reserved(Word::Continue),
-    TokenKind::Reserved(Word::Do),
-    TokenKind::Reserved(Word::False),
-    TokenKind::Reserved(Word::For),
-    TokenKind::Reserved(Word::Give),
-    TokenKind::Reserved(Word::If),
-    TokenKind::Reserved(Word::Move),
-    TokenKind::Reserved(Word::NewLine),
-    TokenKind::Reserved(Word::Nothing),
-    TokenKind::Reserved(Word::Objectloop),
-    TokenKind::Reserved(Word::Parent),
-    TokenKind::Reserved(Word::Print),
-    TokenKind::Reserved(Word::PrintRet),
-    TokenKind::Reserved(Word::Quit),
-    TokenKind::Reserved(Word::Read),
-    TokenKind::Reserved(Word::Remove),
-    TokenKind::Reserved(Word::Return),
-    TokenKind::Reserved(Word::Rfalse),
-    TokenKind::Reserved(Word::Rtrue),
-    TokenKind::Reserved(Word::Sibling),
-    TokenKind::Reserved(Word::Switch),
-    TokenKind::Reserved(Word::True),
-    TokenKind::Reserved(Word::While),
-    TokenKind::Sign(Sign::OpenParenthesis),
-    TokenKind::Sign(Sign::OpenBrace),
-    TokenKind::Sign(Sign::Semicolon),
-    TokenKind::Sign(Sign::Not),
-    TokenKind::Sign(Sign::Tilde),
-    TokenKind::Sign(Sign::Increment),
-    TokenKind::Sign(Sign::Minus),
-    TokenKind::Sign(Sign::Decrement),
-];
+const STATEMENT: &[TokenKind] = &kinds!(
+    Is Name Number Text Character DictionaryWord;
+    Word Break Child Continue Do False For Give If Move NewLine Nothing Objectloop Parent Print
+        PrintRet Quit Read Remove Return Rfalse Rtrue Sibling Switch True While;
+    Sign OpenParenthesis OpenBrace Semicolon Not Tilde Increment Minus Decrement
+);
 
 /// What an expression begins with.
-const EXPRESSION: [TokenKind; 16] = [
-    TokenKind::Name,
-    TokenKind::Number,
-    TokenKind::Character,
-    TokenKind::DictionaryWord,
-    TokenKind::Reserved(Word::Child),
-    TokenKind::Reserved(Word::False),
-    TokenKind::Reserved(Word::Nothing),
-    TokenKind::Reserved(Word::Parent),
-    TokenKind::Reserved(Word::Sibling),
-    TokenKind::Reserved(Word::True),
-    TokenKind::Sign(Sign::OpenParenthesis),
-    TokenKind::Sign(Sign::Not),
-    TokenKind::Sign(Sign::Tilde),
-    TokenKind::Sign(Sign::Increment),
-    TokenKind::Sign(Sign::Minus),
-    TokenKind::Sign(Sign::Decrement),
-];
+const EXPRESSION: &[TokenKind] = &kinds!(
+    Is Name Number Character DictionaryWord;
+    Word Child False Nothing Parent Sibling True;
+    Sign OpenParenthesis Not Tilde Increment Minus Decrement
+);
 
 /// What an operand of a sum or a product begins with.
-const OPERAND: [TokenKind; 15] = [
-    TokenKind::Name,
-    TokenKind::Number,
-    TokenKind::Character,
-    TokenKind::DictionaryWord,
-    TokenKind::Reserved(Word::Child),
-    TokenKind::Reserved(Word::False),
-    TokenKind::Reserved(Word::Nothing),
-    TokenKind::Reserved(Word::Parent),
-    TokenKind::Reserved(Word::Sibling),
-    TokenKind::Reserved(Word::True),
-    TokenKind::Sign(Sign::OpenParenthesis),
-    TokenKind::Sign(Sign::Tilde),
-    TokenKind::Sign(Sign::Increment),
-    TokenKind::Sign(Sign::Minus),
-    TokenKind::Sign(Sign::Decrement),
-];
+const OPERAND: &[TokenKind] = &kinds!(
+    Is Name Number Character DictionaryWord;
+    Word Child False Nothing Parent Sibling True;
+    Sign OpenParenthesis Tilde Increment Minus Decrement
+);
 
 /// What a value that is known before a story runs begins with.
-const VALUE: [TokenKind; 8] = [
-    TokenKind::Name,
-    TokenKind::Number,
-    TokenKind::Character,
-    TokenKind::DictionaryWord,
-    TokenKind::Reserved(Word::False),
-    TokenKind::Reserved(Word::Nothing),
-    TokenKind::Reserved(Word::True),
-    TokenKind::Sign(Sign::Minus),
-];
+const VALUE: &[TokenKind] = &kinds!(
+    Is Name Number Character DictionaryWord;
+    Word False Nothing True;
+    Sign Minus
+);
 
 /// What may follow an operand that is not a name alone.
-const OPERATOR: [TokenKind; 26] = [
-    TokenKind::Reserved(Word::Has),
-    TokenKind::Reserved(Word::Hasnt),
-    TokenKind::Reserved(Word::In),
-    TokenKind::Reserved(Word::Notin),
-    TokenKind::Reserved(Word::Provides),
-    TokenKind::Sign(Sign::Dot),
-    TokenKind::Sign(Sign::DotAmpersand),
-    TokenKind::Sign(Sign::DotHash),
-    TokenKind::Sign(Sign::Assign),
-    TokenKind::Sign(Sign::Equal),
-    TokenKind::Sign(Sign::NotEqual),
-    TokenKind::Sign(Sign::Greater),
-    TokenKind::Sign(Sign::GreaterOrEqual),
-    TokenKind::Sign(Sign::Less),
-    TokenKind::Sign(Sign::LessOrEqual),
-    TokenKind::Sign(Sign::AndAlso),
-    TokenKind::Sign(Sign::Ampersand),
-    TokenKind::Sign(Sign::OrElse),
-    TokenKind::Sign(Sign::Bar),
-    TokenKind::Sign(Sign::Plus),
-    TokenKind::Sign(Sign::Increment),
-    TokenKind::Sign(Sign::Minus),
-    TokenKind::Sign(Sign::Decrement),
-    TokenKind::Sign(Sign::Star),
-    TokenKind::Sign(Sign::Slash),
-    TokenKind::Sign(Sign::Percent),
-];
+const OPERATOR: &[TokenKind] = &kinds!(
+    Word Has Hasnt In Notin Provides;
+    Sign Dot DotAmpersand DotHash Assign Equal NotEqual Greater GreaterOrEqual Less LessOrEqual
+        AndAlso Ampersand OrElse Bar Plus Increment Minus Decrement Star Slash Percent
+);
 
 /// Operators between two operands, `=` apart.
-const BINARY_OPERATOR: [TokenKind; 20] = [
-    TokenKind::Reserved(Word::Has),
-    TokenKind::Reserved(Word::Hasnt),
-    TokenKind::Reserved(Word::In),
-    TokenKind::Reserved(Word::Notin),
-    TokenKind::Reserved(Word::Provides),
-    TokenKind::Sign(Sign::Equal),
-    TokenKind::Sign(Sign::NotEqual),
-    TokenKind::Sign(Sign::Greater),
-    TokenKind::Sign(Sign::GreaterOrEqual),
-    TokenKind::Sign(Sign::Less),
-    TokenKind::Sign(Sign::LessOrEqual),
-    TokenKind::Sign(Sign::AndAlso),
-    TokenKind::Sign(Sign::Ampersand),
-    TokenKind::Sign(Sign::OrElse),
-    TokenKind::Sign(Sign::Bar),
-    TokenKind::Sign(Sign::Plus),
-    TokenKind::Sign(Sign::Minus),
-    TokenKind::Sign(Sign::Star),
-    TokenKind::Sign(Sign::Slash),
-    TokenKind::Sign(Sign::Percent),
-];
+const BINARY_OPERATOR: &[TokenKind] = &kinds!(
+    Word Has Hasnt In Notin Provides;
+    Sign Equal NotEqual Greater GreaterOrEqual Less LessOrEqual AndAlso Ampersand OrElse Bar Plus
+        Minus Star Slash Percent
+);
 
 /// What a directive begins with.
-const DIRECTIVE: [TokenKind; 8] = [
-    TokenKind::Reserved(Word::Abbreviate),
-    TokenKind::Reserved(Word::Array),
-    TokenKind::Reserved(Word::Attribute),
-    TokenKind::Reserved(Word::Constant),
-    TokenKind::Reserved(Word::Global),
-    TokenKind::Reserved(Word::Object),
-    TokenKind::Reserved(Word::Property),
-    TokenKind::Sign(Sign::OpenBracket),
-];
+const DIRECTIVE: &[TokenKind] = &kinds!(
+    Word Abbreviate Array Attribute Constant Global Object Property;
+    Sign OpenBracket
+);
 
 /// The kinds of a group.
 fn members(group: Group) -> &'static [TokenKind] {
     match group {
-        Group::Statement => &STATEMENT,
-        Group::Expression => &EXPRESSION,
-        Group::Operand => &OPERAND,
-        Group::Value => &VALUE,
-        Group::Operator => &OPERATOR,
-        Group::BinaryOperator => &BINARY_OPERATOR,
-        Group::Directive => &DIRECTIVE,
+        Group::Statement => STATEMENT,
+        Group::Expression => EXPRESSION,
+        Group::Operand => OPERAND,
+        Group::Value => VALUE,
+        Group::Operator => OPERATOR,
+        Group::BinaryOperator => BINARY_OPERATOR,
+        Group::Directive => DIRECTIVE,
     }
 }
 
