@@ -19,7 +19,7 @@ use Rattle.checker_statements.specs.Statements.{statements_breaches}
 use Rattle.messages_diagnosis.proofs.Sounds.{Sounds, Stand, first, after}
 use Rattle.messages_diagnosis.proofs.Names.{EachName}
 use Rattle.messages_diagnosis.proofs.Values.{KnownAt, OptionalAt, known_K}
-use Rattle.messages_diagnosis.proofs.Statements.{sound_Ss}
+use Rattle.messages_diagnosis.proofs.StatementSounds.{sound_Ss}
 
 module _ (P : Position → Type 0) where
   abbrev pub EachPosition : List Position → Type 0

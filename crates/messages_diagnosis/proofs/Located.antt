@@ -18,8 +18,8 @@ use Rattle.checker_names.specs.Breaches.{IsAmong}
 use Rattle.checker.specs.Programs.{program_breaches}
 use Rattle.messages_diagnosis.proofs.Sounds.{is_rule, EachSounds, EachStands, Stand}
 use Rattle.messages_diagnosis.proofs.Programs.{breaches_stand, heavy_stands}
-use Rattle.messages_places.specs.declared.diagnosis.Diagnosis.{Diagnosis}
-use Rattle.messages_places.specs.declared.place.Place.{Place}
+use Rattle.messages_parts.specs.declared.diagnosis.Diagnosis.{Diagnosis}
+use Rattle.messages_parts.specs.declared.place.Place.{Place}
 use Rattle.story.specs.Refused.{lexemes_of, tree_weight}
 use Rattle.story.specs.FaultPlaces.{IsUnplaced, StandsAt, Stands, nowhere, in_tokens, not_in_grammar}
 use Rattle.story.specs.FaultPlaces.{too_deep, rule_broken, routine_too_large}
