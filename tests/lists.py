@@ -6,9 +6,9 @@
 - in docs/CHANGING.md the table of what a change costs: how many crates, and minutes
 - in docs/COSTS.md the seconds of the gate, by seconds.txt
 - in docs/PROVING.md the number of crates
-- in docs/DIFFERENCES.md the tables of what is missing and of words of other languages, by those of `messages_features`
+- in docs/DIFFERENCES.md the tables of what is missing and of words of other languages, by those of `messages_parts`
 - in the README of `rows` how many rows its file `stdin` has, and each of its parts
-- in docs/READING.md the table of files and lines of the reading list
+- in docs/READING.md the table of files and lines of the reading list, and the number of crates of the kit
 - in docs/THEOREM.md and README.md the numbers of lines, of must-fail edits and of crates of the kit, and what proving
   takes
 
@@ -200,14 +200,12 @@ def with_figures(text, figures):
 def figures_of_theorem(crates):
     """The figures of THEOREM.md."""
     read = [one for _, texts in reading_list((TOP / "docs/READING.md").read_text()) for one in texts]
-    yield "reading list, about ", f"{round(sum(map(lines_of, read)), -2):,}", " lines:"
     yield r"\| Code with its contracts \| ", f"{lines_in('src', 'rt'):,}", r" \|"
     yield "in the reading list: ", f"{round(sum(map(own_lines, read)), -3):,}", r"\) \| "
     yield r"in the reading list: [\d,]+\) \| ", f"{lines_in('specs', 'antt'):,}", r" \|"
     yield r"\| Proofs \| ", f"{lines_in('proofs', 'antt'):,}", r" \|"
     yield "in about ", tens_of_minutes(seconds_of_gate()), " minutes of processor time"
     yield "together with ", sum(map(edits_of, crates.libraries)), " edits of the\ncode"
-    yield "The contracts of the ", NUMBERS[len(crates.kit_of_programs())], " crates of the kit that the programs use"
 
 
 def figures_of_readme(crates):
@@ -239,27 +237,27 @@ def with_features(text, _):
     rows = ["| Missing here | Write instead | Section |", "|---|---|---|"]
     for missing, instead, place in features("table"):
         rows.append(f"| {missing} | {instead} | {place} |".replace("  |", " |"))
-    text = between(text, "<!-- From messages_features, by ./lists. -->\n", "<!-- End. -->", "\n".join(["", *rows, "", ""]))
+    text = between(text, "<!-- From messages_parts, by ./lists. -->\n", "<!-- End. -->", "\n".join(["", *rows, "", ""]))
     rows = ["| Elsewhere | Write here |", "|---|---|"]
     for missing, instead, _ in features("habits"):
         rows.append(f"| {missing} | {instead} |")
-    words = "<!-- Words, from messages_features, by ./lists. -->\n"
+    words = "<!-- Words, from messages_parts, by ./lists. -->\n"
     return between(text, words, "<!-- End. -->", "\n".join(["", *rows, "", ""]))
 
 
 def features(name):
-    """What is missing, what to write instead and the section, of each feature of a file of `messages_features`."""
-    table = (TOP / f"crates/messages_features/src/{name}.rt").read_text()
-    for feature in re.findall(r"= &Feature \{(.*?)\n\};", table, re.S):
-        missing, instead, section = (field_of(feature, field) for field in ("missing", "instead", "section"))
+    """What is missing, what to write instead and the section, of each feature of a file of `messages_parts`."""
+    table = (TOP / f"crates/messages_parts/src/{name}.rt").read_text()
+    text = r'"((?:[^"\\]|\\.)*)"'
+    for feature in re.findall(rf"= feature!\(\s*{text}\s*=>\s*{text}(?:\s*in {text})?", table):
+        missing, instead, section = (in_row(field) for field in feature)
         instead = "leave it out" if instead == "nothing" else instead
         instead = re.sub(r"(examples/(\w+)\.inf)", r"[\2](../\1)", instead)
         yield missing, instead, f"[{section}](#{section.lower()})" if section else ""
 
 
-def field_of(feature, name):
-    """A field of a feature, with what a table's row escapes."""
-    text = re.search(rf'{name}: "((?:[^"\\]|\\.)*)"', feature).group(1)
+def in_row(text):
+    """A text of a feature, with what a table's row escapes."""
     return text.replace('\\"', '"').replace("\\\\", "\\").replace("|", r"\|")
 
 

@@ -11,7 +11,7 @@ use Rattle.syntax_directives.specs.declared.tree.Text.{Text}
 use Rattle.syntax_directives.specs.Tree.{TextTree}
 use Rattle.syntax_directives.specs.Views.{text_tree}
 use Rattle.checker_names.specs.declared.breach.Breach.{Breach}
-use Rattle.checker_names.specs.declared.noting.Least.{Least}
+use Rattle.checker_names.specs.declared.noting.Tally.{Tally}
 use Rattle.checker_names.specs.Breaches.{at}
 use Rattle.checker_names.specs.Noted.{noted}
 use Rattle.checker_names.proofs.Noted.{noted_none, noted_two}
@@ -65,7 +65,7 @@ has_next ts i d bytes lt same =
 
 -- An abbreviation that breaks no rule
 
-no_breach : (m : Least) (c s t : Bool) (p : Position) → c ≡ false → s ≡ false → t ≡ false
+no_breach : (m : Tally) (c s t : Bool) (p : Position) → c ≡ false → s ≡ false → t ≡ false
     → m ≡ noted m (cond c (at p 24) (cond (s || t) (at p 33) []))
 no_breach m true s t p x y z = absurd cc
 no_breach m false true t p x y z = absurd cc
@@ -78,7 +78,7 @@ not_le limit n h = grind (arith, nat_tests)
 not_lt : (limit n : ℕ) → limit ≤ n → nat_lt n limit ≡ false
 not_lt limit n h = grind (arith, nat_tests)
 
-pub text_kept : (m : Least) (before : List Text) (t : Text) → length before < 96 → 2 ≤ length t.bytes.now
+pub text_kept : (m : Tally) (before : List Text) (t : Text) → length before < 96 → 2 ≤ length t.bytes.now
     → has_text (map text_tree before) t.bytes.now ≡ false
     → m ≡ noted m (abbreviation_breaches (map text_tree before) (text_tree t))
 text_kept m before t few long new =
@@ -87,7 +87,7 @@ text_kept m before t few long new =
     (not_le 96 (length (map text_tree before)) (omega (arith, few, length-map before text_tree)))
     (not_lt 2 (length t.bytes.now) long) new
 
--- The rules, one abbreviation behind another
+-- The rules, one abbreviation after another
 
 take_more : (ts : List Text) (i : ℕ) (d : Text) → i < length ts
     → map text_tree (take (suc i) ts) ≡ map text_tree (take i ts) ++ text_tree (slice_index_or ts i d) ∷ []
@@ -101,7 +101,7 @@ left [] i d h = absurd (omega (arith, h))
 left (x ∷ xs) zero d h = refl
 left (x ∷ xs) (suc i) d h = left xs i d (omega (arith, h))
 
-pub texts_next : (m o : Least) (ts : List Text) (i : ℕ) (d : Text) → i < length ts
+pub texts_next : (m o : Tally) (ts : List Text) (i : ℕ) (d : Text) → i < length ts
     → o ≡ noted m (abbreviation_breaches (map text_tree (take i ts)) (text_tree (slice_index_or ts i d)))
     → noted o (abbreviations_breaches (map text_tree (take (i + 1) ts)) (map text_tree (drop (i + 1) ts)))
     ≡ noted m (abbreviations_breaches (map text_tree (take i ts)) (map text_tree (drop i ts)))
@@ -113,7 +113,7 @@ texts_next m o ts i d lt a =
     rw (j, take_more ts i d lt, left ts i d lt)
     (noted_two m o (noted o rest) (abbreviation_breaches before x) rest a refl)
 
-pub texts_end : (m : Least) (ts : List Text) (i : ℕ) (before : List TextTree) → length ts ≤ i
+pub texts_end : (m : Tally) (ts : List Text) (i : ℕ) (before : List TextTree) → length ts ≤ i
     → noted m (abbreviations_breaches before (map text_tree (drop i ts))) ≡ m
 texts_end m ts i before end =
     ap (λ (xs : List Text). noted m (abbreviations_breaches before (map text_tree xs))) (drop_end ts i end)

@@ -11,7 +11,7 @@ use Rattle.syntax_directives.specs.Tree.{RoutineTree, DirectiveTree, global, con
 use Rattle.syntax_directives.specs.Tree.{object, routine, TextTree}
 use Rattle.meaning.specs.Resolved.{ProgramOf}
 use Rattle.meaning.specs.Meaning.{routine_at}
-use Rattle.meaning.specs.Around.{outside}
+use Rattle.meaning.specs.Enclosure.{outside}
 use Rattle.meaning.specs.Objects.{object_at}
 use Rattle.meaning.specs.Accepted.{IsRoutine, IsArray, IsObject, IsAccepted}
 use Rattle.checker_names.specs.declared.binding.Binding.{Binding}
@@ -42,7 +42,7 @@ use Rattle.checker.proofs.MeantNames.{IsMeant}
 use Rattle.checker.proofs.Unbroken.{statements_within}
 use Rattle.checker.proofs.BreaksStand.{statements_stand}
 use Rattle.checker.proofs.Bindings.{attributes_in, AreEntries, file_entries, found_meant, name_meant}
-use Rattle.checker.proofs.FewDirectives.{behind_kept, locals_few, globals_few, attributes_few, properties_few}
+use Rattle.checker.proofs.FewDirectives.{after_kept, locals_few, globals_few, attributes_few, properties_few}
 use Rattle.checker.proofs.FewDirectives.{objects_few}
 
 -- Arrays
@@ -53,11 +53,11 @@ arrays_within file t counts [] h = All-nil IsArray
 arrays_within file t counts (global n v ∷ ds) h =
     let d = global n v in
     arrays_within file (with_directive file.table t counts d) (counts_after counts d) ds
-    (behind_kept file t counts d ds h)
+    (after_kept file t counts d ds h)
 arrays_within file t counts (constant n v ∷ ds) h =
     let d = constant n v in
     arrays_within file (with_directive file.table t counts d) (counts_after counts d) ds
-    (behind_kept file t counts d ds h)
+    (after_kept file t counts d ds h)
 arrays_within file t counts (array a ∷ ds) h =
     let d = array a in
     let own = directive_breaches file.table t counts d in
@@ -68,19 +68,19 @@ arrays_within file t counts (array a ∷ ds) h =
 arrays_within file t counts (attribute n ∷ ds) h =
     let d = attribute n in
     arrays_within file (with_directive file.table t counts d) (counts_after counts d) ds
-    (behind_kept file t counts d ds h)
+    (after_kept file t counts d ds h)
 arrays_within file t counts (property n v ∷ ds) h =
     let d = property n v in
     arrays_within file (with_directive file.table t counts d) (counts_after counts d) ds
-    (behind_kept file t counts d ds h)
+    (after_kept file t counts d ds h)
 arrays_within file t counts (object o ∷ ds) h =
     let d = object o in
     arrays_within file (with_directive file.table t counts d) (counts_after counts d) ds
-    (behind_kept file t counts d ds h)
+    (after_kept file t counts d ds h)
 arrays_within file t counts (routine r ∷ ds) h =
     let d = routine r in
     arrays_within file (with_directive file.table t counts d) (counts_after counts d) ds
-    (behind_kept file t counts d ds h)
+    (after_kept file t counts d ds h)
 
 -- Routines
 
@@ -104,27 +104,27 @@ module _ (p : ProgramOf) (file : File) (attributes properties : ℕ) (few : attr
   routines_within t counts (global n v ∷ ds) h =
       let d = global n v in
       routines_within (with_directive file.table t counts d) (counts_after counts d) ds
-      (behind_kept file t counts d ds h)
+      (after_kept file t counts d ds h)
   routines_within t counts (constant n v ∷ ds) h =
       let d = constant n v in
       routines_within (with_directive file.table t counts d) (counts_after counts d) ds
-      (behind_kept file t counts d ds h)
+      (after_kept file t counts d ds h)
   routines_within t counts (array a ∷ ds) h =
       let d = array a in
       routines_within (with_directive file.table t counts d) (counts_after counts d) ds
-      (behind_kept file t counts d ds h)
+      (after_kept file t counts d ds h)
   routines_within t counts (attribute n ∷ ds) h =
       let d = attribute n in
       routines_within (with_directive file.table t counts d) (counts_after counts d) ds
-      (behind_kept file t counts d ds h)
+      (after_kept file t counts d ds h)
   routines_within t counts (property n v ∷ ds) h =
       let d = property n v in
       routines_within (with_directive file.table t counts d) (counts_after counts d) ds
-      (behind_kept file t counts d ds h)
+      (after_kept file t counts d ds h)
   routines_within t counts (object o ∷ ds) h =
       let d = object o in
       routines_within (with_directive file.table t counts d) (counts_after counts d) ds
-      (behind_kept file t counts d ds h)
+      (after_kept file t counts d ds h)
   routines_within t counts (routine r ∷ ds) h =
       let d = routine r in
       let own = directive_breaches file.table t counts d in
@@ -141,23 +141,23 @@ module _ (p : ProgramOf) (file : File) (attributes properties : ℕ) (few : attr
   objects_within t counts (global n v ∷ ds) h =
       let d = global n v in
       objects_within (with_directive file.table t counts d) (counts_after counts d) ds
-      (behind_kept file t counts d ds h)
+      (after_kept file t counts d ds h)
   objects_within t counts (constant n v ∷ ds) h =
       let d = constant n v in
       objects_within (with_directive file.table t counts d) (counts_after counts d) ds
-      (behind_kept file t counts d ds h)
+      (after_kept file t counts d ds h)
   objects_within t counts (array a ∷ ds) h =
       let d = array a in
       objects_within (with_directive file.table t counts d) (counts_after counts d) ds
-      (behind_kept file t counts d ds h)
+      (after_kept file t counts d ds h)
   objects_within t counts (attribute n ∷ ds) h =
       let d = attribute n in
       objects_within (with_directive file.table t counts d) (counts_after counts d) ds
-      (behind_kept file t counts d ds h)
+      (after_kept file t counts d ds h)
   objects_within t counts (property n v ∷ ds) h =
       let d = property n v in
       objects_within (with_directive file.table t counts d) (counts_after counts d) ds
-      (behind_kept file t counts d ds h)
+      (after_kept file t counts d ds h)
   objects_within t counts (object o ∷ ds) h =
       let d = object o in
       let own = directive_breaches file.table t counts d in
@@ -171,7 +171,7 @@ module _ (p : ProgramOf) (file : File) (attributes properties : ℕ) (few : attr
   objects_within t counts (routine r ∷ ds) h =
       let d = routine r in
       objects_within (with_directive file.table t counts d) (counts_after counts d) ds
-      (behind_kept file t counts d ds h)
+      (after_kept file t counts d ds h)
 
   -- Main
 

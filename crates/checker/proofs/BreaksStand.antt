@@ -4,8 +4,8 @@ use Rattle.std.specs.List.{flat_map}
 use Rattle.syntax_lexer.specs.declared.token.Position.{Position}
 use Rattle.syntax_statements.specs.Tree as written
 use Rattle.syntax_statements.specs.Tree.{StatementTree, StatementTrees, CaseTrees}
-use Rattle.meaning.specs.declared.around.Around.{Around}
-use Rattle.meaning.specs.Around.{in_loop, in_switch}
+use Rattle.meaning.specs.declared.enclosure.Enclosure.{Enclosure}
+use Rattle.meaning.specs.Enclosure.{in_loop, in_switch}
 use Rattle.meaning.specs.Accepted.{StandsIn, AllStandIn, CasesStandIn}
 use Rattle.checker_names.specs.Names.{Seen}
 use Rattle.checker_names.proofs.Kept.{left_empty, right_empty}
@@ -19,7 +19,7 @@ allowed false q h = absurd cc
 
 module _ (seen : Seen) where
   mutual
-    statement_stands : (around : Around) (x : StatementTree) → statement_breaches seen.look around x ≡ []
+    statement_stands : (around : Enclosure) (x : StatementTree) → statement_breaches seen.look around x ≡ []
         → StandsIn around (resolve_statement seen x)
     statement_stands around written.empty h = tt
     statement_stands around (written.block xs) h = statements_stand around xs h
@@ -70,7 +70,7 @@ module _ (seen : Seen) where
         (right_empty whole body (right_empty (loop_breaches n.position (seen.look n.text)) (whole ++ body) h))
     statement_stands around (written.effect q e) h = tt
 
-    pub statements_stand : (around : Around) (xs : StatementTrees) → statements_breaches seen.look around xs ≡ []
+    pub statements_stand : (around : Enclosure) (xs : StatementTrees) → statements_breaches seen.look around xs ≡ []
         → AllStandIn around (resolve_statements seen xs)
     statements_stand around written.stop h = tt
     statements_stand around (written.next x xs) h = (
@@ -80,7 +80,7 @@ module _ (seen : Seen) where
           (statements_breaches seen.look around xs) h),
     )
 
-    cases_stand : (around : Around) (cs : CaseTrees) → cases_breaches seen.look around cs ≡ []
+    cases_stand : (around : Enclosure) (cs : CaseTrees) → cases_breaches seen.look around cs ≡ []
         → CasesStandIn around (resolve_cases seen cs)
     cases_stand around written.no_case h = tt
     cases_stand around (written.default_case xs) h = statements_stand around xs h

@@ -16,7 +16,7 @@ use Rattle.meaning.specs.declared.checked.CheckedRoutine.{CheckedRoutine}
 use Rattle.meaning.specs.Objects.{ObjectOf}
 use Rattle.meaning.specs.Resolved.{RoutineOf}
 use Rattle.meaning.specs.Views.{object_of, routine_of, title_of}
-use Rattle.checker_names.specs.declared.noting.Least.{Least}
+use Rattle.checker_names.specs.declared.noting.Tally.{Tally}
 use Rattle.checker_names.specs.declared.counts.Counts.{Counts}
 use Rattle.checker_names.specs.Names.{Table, File, counts_after, with_directive}
 use Rattle.checker_names.specs.Noted.{noted}
@@ -229,7 +229,7 @@ adding_end file ds i first found end h =
       titles = nothing_more (map title_of found.routines.items) ∙ k.titles;
     }
 
-pub breaches_step : (whole t u : Table) (g h : Counts) (m n : Least) (ds : List Directive) (i : ℕ)
+pub breaches_step : (whole t u : Table) (g h : Counts) (m n : Tally) (ds : List Directive) (i : ℕ)
     (x : Directive) → i < length ds → x ≡ slice_index_or ds i x
     → n ≡ noted m (directive_breaches whole t g (directive_tree x)) → u ≡ with_directive whole t g (directive_tree x)
     → h ≡ counts_after g (directive_tree x)

@@ -12,11 +12,11 @@ use Rattle.checker.specs.Programs.{limit_breaches, defaults_in, locals_breaches,
 use Rattle.checker.specs.Programs.{directives_breaches, globals_of}
 use Rattle.checker.proofs.Bindings.{attributes_in}
 
--- the directives behind one break no rule
-pub behind_kept : (file : File) (t : Table) (counts : Counts) (d : DirectiveTree) (ds : List DirectiveTree)
+-- the directives after one break no rule
+pub after_kept : (file : File) (t : Table) (counts : Counts) (d : DirectiveTree) (ds : List DirectiveTree)
     → directives_breaches file.table t counts (d ∷ ds) ≡ []
     → directives_breaches file.table (with_directive file.table t counts d) (counts_after counts d) ds ≡ []
-behind_kept file t counts d ds h = right_empty (directive_breaches file.table t counts d)
+after_kept file t counts d ds h = right_empty (directive_breaches file.table t counts d)
     (directives_breaches file.table (with_directive file.table t counts d) (counts_after counts d) ds) h
 
 pub locals_few : (before ls : List NameTree) → length before ≤ 15 → locals_breaches before ls ≡ []
@@ -50,27 +50,27 @@ globals_few file t counts (global n v ∷ ds) few h =
 globals_few file t counts (constant n v ∷ ds) few h =
     let d = constant n v in
     globals_few file (with_directive file.table t counts d) (counts_after counts d) ds few
-    (behind_kept file t counts d ds h)
+    (after_kept file t counts d ds h)
 globals_few file t counts (array a ∷ ds) few h =
     let d = array a in
     globals_few file (with_directive file.table t counts d) (counts_after counts d) ds few
-    (behind_kept file t counts d ds h)
+    (after_kept file t counts d ds h)
 globals_few file t counts (attribute n ∷ ds) few h =
     let d = attribute n in
     globals_few file (with_directive file.table t counts d) (counts_after counts d) ds few
-    (behind_kept file t counts d ds h)
+    (after_kept file t counts d ds h)
 globals_few file t counts (property n v ∷ ds) few h =
     let d = property n v in
     globals_few file (with_directive file.table t counts d) (counts_after counts d) ds few
-    (behind_kept file t counts d ds h)
+    (after_kept file t counts d ds h)
 globals_few file t counts (object o ∷ ds) few h =
     let d = object o in
     globals_few file (with_directive file.table t counts d) (counts_after counts d) ds few
-    (behind_kept file t counts d ds h)
+    (after_kept file t counts d ds h)
 globals_few file t counts (routine r ∷ ds) few h =
     let d = routine r in
     globals_few file (with_directive file.table t counts d) (counts_after counts d) ds few
-    (behind_kept file t counts d ds h)
+    (after_kept file t counts d ds h)
 
 pub attributes_few : (file : File) (t : Table) (counts : Counts) (ds : List DirectiveTree) → counts.attributes ≤ 48
     → directives_breaches file.table t counts ds ≡ [] → counts.attributes + attributes_in ds ≤ 48
@@ -78,15 +78,15 @@ attributes_few file t counts [] few h = omega (arith, few)
 attributes_few file t counts (global n v ∷ ds) few h =
     let d = global n v in
     attributes_few file (with_directive file.table t counts d) (counts_after counts d) ds few
-    (behind_kept file t counts d ds h)
+    (after_kept file t counts d ds h)
 attributes_few file t counts (constant n v ∷ ds) few h =
     let d = constant n v in
     attributes_few file (with_directive file.table t counts d) (counts_after counts d) ds few
-    (behind_kept file t counts d ds h)
+    (after_kept file t counts d ds h)
 attributes_few file t counts (array a ∷ ds) few h =
     let d = array a in
     attributes_few file (with_directive file.table t counts d) (counts_after counts d) ds few
-    (behind_kept file t counts d ds h)
+    (after_kept file t counts d ds h)
 attributes_few file t counts (attribute n ∷ ds) few h =
     let d = attribute n in
     let own = directive_breaches file.table t counts d in
@@ -101,15 +101,15 @@ attributes_few file t counts (attribute n ∷ ds) few h =
 attributes_few file t counts (property n v ∷ ds) few h =
     let d = property n v in
     attributes_few file (with_directive file.table t counts d) (counts_after counts d) ds few
-    (behind_kept file t counts d ds h)
+    (after_kept file t counts d ds h)
 attributes_few file t counts (object o ∷ ds) few h =
     let d = object o in
     attributes_few file (with_directive file.table t counts d) (counts_after counts d) ds few
-    (behind_kept file t counts d ds h)
+    (after_kept file t counts d ds h)
 attributes_few file t counts (routine r ∷ ds) few h =
     let d = routine r in
     attributes_few file (with_directive file.table t counts d) (counts_after counts d) ds few
-    (behind_kept file t counts d ds h)
+    (after_kept file t counts d ds h)
 
 pub properties_few : (file : File) (t : Table) (counts : Counts) (ds : List DirectiveTree) → counts.properties ≤ 62
     → directives_breaches file.table t counts ds ≡ [] → counts.properties + length (defaults_in file ds) ≤ 62
@@ -117,19 +117,19 @@ properties_few file t counts [] few h = omega (arith, few)
 properties_few file t counts (global n v ∷ ds) few h =
     let d = global n v in
     properties_few file (with_directive file.table t counts d) (counts_after counts d) ds few
-    (behind_kept file t counts d ds h)
+    (after_kept file t counts d ds h)
 properties_few file t counts (constant n v ∷ ds) few h =
     let d = constant n v in
     properties_few file (with_directive file.table t counts d) (counts_after counts d) ds few
-    (behind_kept file t counts d ds h)
+    (after_kept file t counts d ds h)
 properties_few file t counts (array a ∷ ds) few h =
     let d = array a in
     properties_few file (with_directive file.table t counts d) (counts_after counts d) ds few
-    (behind_kept file t counts d ds h)
+    (after_kept file t counts d ds h)
 properties_few file t counts (attribute n ∷ ds) few h =
     let d = attribute n in
     properties_few file (with_directive file.table t counts d) (counts_after counts d) ds few
-    (behind_kept file t counts d ds h)
+    (after_kept file t counts d ds h)
 properties_few file t counts (property n v ∷ ds) few h =
     let d = property n v in
     let own = directive_breaches file.table t counts d in
@@ -145,11 +145,11 @@ properties_few file t counts (property n v ∷ ds) few h =
 properties_few file t counts (object o ∷ ds) few h =
     let d = object o in
     properties_few file (with_directive file.table t counts d) (counts_after counts d) ds few
-    (behind_kept file t counts d ds h)
+    (after_kept file t counts d ds h)
 properties_few file t counts (routine r ∷ ds) few h =
     let d = routine r in
     properties_few file (with_directive file.table t counts d) (counts_after counts d) ds few
-    (behind_kept file t counts d ds h)
+    (after_kept file t counts d ds h)
 
 pub objects_few : (file : File) (t : Table) (counts : Counts) (ds : List DirectiveTree) → counts.objects ≤ 2000
     → directives_breaches file.table t counts ds ≡ [] → counts.objects + length (objects_in file ds) ≤ 2000
@@ -157,23 +157,23 @@ objects_few file t counts [] few h = omega (arith, few)
 objects_few file t counts (global n v ∷ ds) few h =
     let d = global n v in
     objects_few file (with_directive file.table t counts d) (counts_after counts d) ds few
-    (behind_kept file t counts d ds h)
+    (after_kept file t counts d ds h)
 objects_few file t counts (constant n v ∷ ds) few h =
     let d = constant n v in
     objects_few file (with_directive file.table t counts d) (counts_after counts d) ds few
-    (behind_kept file t counts d ds h)
+    (after_kept file t counts d ds h)
 objects_few file t counts (array a ∷ ds) few h =
     let d = array a in
     objects_few file (with_directive file.table t counts d) (counts_after counts d) ds few
-    (behind_kept file t counts d ds h)
+    (after_kept file t counts d ds h)
 objects_few file t counts (attribute n ∷ ds) few h =
     let d = attribute n in
     objects_few file (with_directive file.table t counts d) (counts_after counts d) ds few
-    (behind_kept file t counts d ds h)
+    (after_kept file t counts d ds h)
 objects_few file t counts (property n v ∷ ds) few h =
     let d = property n v in
     objects_few file (with_directive file.table t counts d) (counts_after counts d) ds few
-    (behind_kept file t counts d ds h)
+    (after_kept file t counts d ds h)
 objects_few file t counts (object o ∷ ds) few h =
     let d = object o in
     let own = directive_breaches file.table t counts d in
@@ -188,4 +188,4 @@ objects_few file t counts (object o ∷ ds) few h =
 objects_few file t counts (routine r ∷ ds) few h =
     let d = routine r in
     objects_few file (with_directive file.table t counts d) (counts_after counts d) ds few
-    (behind_kept file t counts d ds h)
+    (after_kept file t counts d ds h)

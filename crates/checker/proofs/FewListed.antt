@@ -27,7 +27,7 @@ use Rattle.checker_objects.specs.Objects.{object_trees, objects_in}
 use Rattle.checker_objects.specs.FirstListed.{first_listed, first_objects_in}
 use Rattle.checker.specs.Programs.{limit_breaches, defaults_in, directive_breaches, directives_breaches, main_key}
 use Rattle.checker.specs.Programs.{first_routine, main_breaches, abbreviations_breaches, program_breaches}
-use Rattle.checker.proofs.FewDirectives.{behind_kept, properties_few}
+use Rattle.checker.proofs.FewDirectives.{after_kept, properties_few}
 
 -- The properties of a table
 
@@ -123,7 +123,7 @@ named_last (b ∷ bs) n = go (same_key (key_of b.text) (key_of n.text)) (named_l
 apart : true ≡ false → ⊥
 apart e = cc
 
--- a name that stands before does not stand behind
+-- a name that stands before does not stand after
 none_again : (much : ℕ) (before ns : List NameTree) (x : NameTree) → has_name before x ≡ true
     → repeated_breaches before ns ≡ [] → with_key much (key_of x.text) ns ≡ 0
 none_again much before [] x h r = refl
@@ -231,23 +231,23 @@ firsts_are_whole file t counts [] few h = refl
 firsts_are_whole file t counts (global n v ∷ ds) few h =
     let d = global n v in
     firsts_are_whole file (with_directive file.table t counts d) (counts_after counts d) ds few
-    (behind_kept file t counts d ds h)
+    (after_kept file t counts d ds h)
 firsts_are_whole file t counts (constant n v ∷ ds) few h =
     let d = constant n v in
     firsts_are_whole file (with_directive file.table t counts d) (counts_after counts d) ds few
-    (behind_kept file t counts d ds h)
+    (after_kept file t counts d ds h)
 firsts_are_whole file t counts (array a ∷ ds) few h =
     let d = array a in
     firsts_are_whole file (with_directive file.table t counts d) (counts_after counts d) ds few
-    (behind_kept file t counts d ds h)
+    (after_kept file t counts d ds h)
 firsts_are_whole file t counts (attribute n ∷ ds) few h =
     let d = attribute n in
     firsts_are_whole file (with_directive file.table t counts d) (counts_after counts d) ds few
-    (behind_kept file t counts d ds h)
+    (after_kept file t counts d ds h)
 firsts_are_whole file t counts (property n v ∷ ds) few h =
     let d = property n v in
     firsts_are_whole file (with_directive file.table t counts d) (counts_after counts d) ds few
-    (behind_kept file t counts d ds h)
+    (after_kept file t counts d ds h)
 firsts_are_whole file t counts (object o ∷ ds) few h =
     let d = object o in
     let own = directive_breaches file.table t counts d in
@@ -263,7 +263,7 @@ firsts_are_whole file t counts (object o ∷ ds) few h =
 firsts_are_whole file t counts (routine r ∷ ds) few h =
     let d = routine r in
     firsts_are_whole file (with_directive file.table t counts d) (counts_after counts d) ds few
-    (behind_kept file t counts d ds h)
+    (after_kept file t counts d ds h)
 
 pub first_objects : (file : File) (p : ProgramTree) → file.table ≡ table_of p.directives → program_breaches p ≡ []
     → first_objects_in file p.directives ≡ objects_in file p.directives

@@ -6,7 +6,7 @@ use Rattle.syntax_trees.specs.declared.tree.Name.{Name}
 use Rattle.syntax_trees.specs.Tree.{NameTree}
 use Rattle.syntax_trees.specs.Views.{name_tree}
 use Rattle.checker_names.specs.declared.breach.Breach.{Breach}
-use Rattle.checker_names.specs.declared.noting.Least.{Least}
+use Rattle.checker_names.specs.declared.noting.Tally.{Tally}
 use Rattle.checker_names.specs.Breaches.{at}
 use Rattle.checker_names.specs.Names.{Table, key_of, in_table, local_from, has_name, twice}
 use Rattle.checker_names.specs.Noted.{noted}
@@ -16,7 +16,7 @@ use Rattle.checker_objects.proofs.NameTables.{has_number, some_binding, take_mor
 use Rattle.checker.specs.Programs.{locals_breaches}
 
 -- the rules that one more local breaks
-pub locals_next : (m o p : Least) (t : Table) (names : List Name) (i : ℕ) (d : Name) → i < length names
+pub locals_next : (m o p : Tally) (t : Table) (names : List Name) (i : ℕ) (d : Name) → i < length names
     → ((k : List ℕ) → in_table t k ≡ local_binding (local_from 0 (map name_tree (take i names)) k))
     → o ≡ noted m (twice t (name_tree (slice_index_or names i d)))
     → p ≡ noted o (cond (nat_le 15 i) (at (name_tree (slice_index_or names i d)).position 24) [])
@@ -38,7 +38,7 @@ locals_next m o p t names i d lt h a b =
     (cond (nat_le 15 (length before)) (at x.position 24) [] ++ rest) a2
     (noted_two o p (noted p rest) (cond (nat_le 15 (length before)) (at x.position 24) []) rest b2 refl))
 
-pub locals_end : (m : Least) (names : List Name) (i : ℕ) (before : List NameTree) → length names ≤ i
+pub locals_end : (m : Tally) (names : List Name) (i : ℕ) (before : List NameTree) → length names ≤ i
     → noted m (locals_breaches before (map name_tree (drop i names))) ≡ m
 locals_end m [] zero before h = noted_none m
 locals_end m [] (suc i) before h = noted_none m

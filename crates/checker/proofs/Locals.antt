@@ -12,9 +12,9 @@ use Rattle.syntax_directives.specs.Views.{routine_tree}
 use Rattle.meaning.specs.declared.checked.CheckedRoutine.{CheckedRoutine}
 use Rattle.meaning.specs.Resolved.{Action, Actions, RoutineOf}
 use Rattle.meaning.specs.Views.{actions_of, routine_of, title_of}
-use Rattle.meaning.specs.Around.{outside}
+use Rattle.meaning.specs.Enclosure.{outside}
 use Rattle.checker_names.specs.declared.binding.Binding.{Binding}
-use Rattle.checker_names.specs.declared.noting.Least.{Least}
+use Rattle.checker_names.specs.declared.noting.Tally.{Tally}
 use Rattle.checker_names.specs.declared.table.Scope.{Scope}
 use Rattle.checker_names.specs.Names.{Table, key_of, in_table, local_from, local_first, look_up, File, Seen, seen_from}
 use Rattle.checker_names.specs.Noted.{noted}
@@ -68,7 +68,7 @@ made n b = record { locals = n; body = b }
 
 -- a routine of a body that was walked
 pub routine_walked : (seen : Seen) (r : Routine) (given : List Statement) (n : ℕ)
-    (found : List Action) (m o : Least)
+    (found : List Action) (m o : Tally)
     → given ≡ r.body.items → n ≡ length r.locals.items → AreActions seen outside given m o found
     → IsWalked {A = RoutineOf × (NameTree × ℕ)} (statements_breaches seen.look outside (routine_tree r).body) m o
     (made n (actions_of found), (name_tree r.name, r.weight))
@@ -87,7 +87,7 @@ routine_walked seen r given n found m o same count w =
 
 -- a routine in the scope of its own locals
 pub routine_scoped : (found : Result CheckedRoutine AllocError) (scope : Scope) (file : File) (r : Routine)
-    (m n o : Least)
+    (m n o : Tally)
     → file_in scope.file.now ≡ file
     → ((key : List ℕ) → in_table scope.locals.now.entries key
     ≡ local_binding (local_from 0 (map name_tree r.locals.items) key))

@@ -36,7 +36,7 @@ placed_sizes ps [] = refl
 placed_sizes [] (o ∷ os) = ap (λ (n : ℕ). table_size o + n) (placed_sizes [] os)
 placed_sizes (p ∷ ps) (o ∷ os) = ap (λ (n : ℕ). table_size o + n) (placed_sizes ps os)
 
--- the dictionary stands behind 864 bytes, the arrays and the objects
+-- the dictionary is after 864 bytes, the arrays and the objects
 pub place_is : (file : File) (p : ProgramTree) → dictionary_place (resolve_with file p)
     ≡ 864 + length (concat (arrays_of file p.directives)) + objects_size (objects_in file p.directives)
 unfolding resolve_with

@@ -58,10 +58,10 @@ words_small file [] = All-nil (λ w. w < 65536)
 words_small file (v ∷ vs) = All-cons (λ w. w < 65536) (word_of file v) (map (word_of file) vs) (omega arith)
     (words_small file vs)
 
-none_behind : {A : Type 0} (xs : List A) (n : ℕ) → slice_get xs n ≡ None → length xs ≤ n
-none_behind [] n h = omega arith
-none_behind (x ∷ xs) zero h = absurd cc
-none_behind (x ∷ xs) (suc n) h = let rest = none_behind xs n h in omega (arith, rest)
+none_after : {A : Type 0} (xs : List A) (n : ℕ) → slice_get xs n ≡ None → length xs ≤ n
+none_after [] n h = omega arith
+none_after (x ∷ xs) zero h = absurd cc
+none_after (x ∷ xs) (suc n) h = let rest = none_after xs n h in omega (arith, rest)
 
 no_excess : (o : Option ValueTree) → excess_breaches o ≡ [] → o ≡ None
 no_excess None h = refl
@@ -69,7 +69,7 @@ no_excess (Some v) h = absurd cc
 
 counted : (p : Position) (vs : List ValueTree) → count_breaches p vs ≡ [] → (1 ≤ length vs) × (length vs ≤ 32)
 counted p [] h = absurd cc
-counted p (v ∷ vs) h = (omega arith, none_behind (v ∷ vs) 32 (no_excess (slice_get (v ∷ vs) 32) h))
+counted p (v ∷ vs) h = (omega arith, none_after (v ∷ vs) 32 (no_excess (slice_get (v ∷ vs) 32) h))
 
 put : (P : ℕ × List ℕ → Type 0) (x : ℕ × List ℕ) (ys : List (ℕ × List ℕ)) → P x → All P ys → All P (with_property x ys)
 put P x [] h all = All-cons P x [] h all
@@ -104,11 +104,11 @@ module _ (p : ProgramOf) (attributes properties : ℕ) (few : attributes ≤ 48)
       let low = number.0 in
       let high = number.1 in
       let long = counted x.name.position x.values (left_empty count each (right_empty kind (count ++ each) h)) in
-      let least = long.0 in
+      let tally = long.0 in
       let most = long.1 in
       let same = words_long file x.values in (
         (omega (arith, low, high), omega (arith, low, high)),
-        (omega (arith, least, same), omega (arith, most, same), words_small file x.values),
+        (omega (arith, tally, same), omega (arith, most, same), words_small file x.values),
       )
 
   properties_within : (found : List (ℕ × List ℕ)) (xs : List PropertyTree)

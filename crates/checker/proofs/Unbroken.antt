@@ -11,9 +11,9 @@ use Rattle.syntax_statement_parts.specs.Tree as printed
 use Rattle.syntax_statement_parts.specs.Tree.{FlagTree, PrintItemTree}
 use Rattle.syntax_statements.specs.Tree as written
 use Rattle.syntax_statements.specs.Tree.{StatementTree, StatementTrees, CaseTrees}
-use Rattle.meaning.specs.declared.around.Around.{Around}
+use Rattle.meaning.specs.declared.enclosure.Enclosure.{Enclosure}
 use Rattle.meaning.specs.Resolved.{ProgramOf}
-use Rattle.meaning.specs.Around.{in_loop, in_switch}
+use Rattle.meaning.specs.Enclosure.{in_loop, in_switch}
 use Rattle.meaning.specs.Accepted.{IsPrinted, IsAction, AreActions, AreCases}
 use Rattle.checker_names.specs.declared.binding.Binding.{Binding}
 use Rattle.checker_names.specs.declared.binding.Binding.TheVariants as bindings
@@ -105,7 +105,7 @@ module _ (p : ProgramOf) (locals : ℕ) (seen : Seen) (meant : (name : List ℕ)
       (flags_within xs (right_empty own rest h))
 
   mutual
-    pub statement_within : (around : Around) (x : StatementTree) → statement_breaches seen.look around x ≡ []
+    pub statement_within : (around : Enclosure) (x : StatementTree) → statement_breaches seen.look around x ≡ []
         → IsAction p locals (resolve_statement seen x)
     statement_within around written.empty h = tt
     statement_within around (written.block xs) h = statements_within around xs h
@@ -207,7 +207,7 @@ module _ (p : ProgramOf) (locals : ℕ) (seen : Seen) (meant : (name : List ℕ)
         )
     statement_within around (written.effect q e) h = whole_within p locals seen meant q e h
 
-    pub statements_within : (around : Around) (xs : StatementTrees) → statements_breaches seen.look around xs ≡ []
+    pub statements_within : (around : Enclosure) (xs : StatementTrees) → statements_breaches seen.look around xs ≡ []
         → AreActions p locals (resolve_statements seen xs)
     statements_within around written.stop h = tt
     statements_within around (written.next x xs) h = (
@@ -217,7 +217,7 @@ module _ (p : ProgramOf) (locals : ℕ) (seen : Seen) (meant : (name : List ℕ)
           (statements_breaches seen.look around xs) h),
     )
 
-    pub cases_within : (around : Around) (cs : CaseTrees) → cases_breaches seen.look around cs ≡ []
+    pub cases_within : (around : Enclosure) (cs : CaseTrees) → cases_breaches seen.look around cs ≡ []
         → AreCases p locals (resolve_cases seen cs)
     cases_within around written.no_case h = tt
     cases_within around (written.default_case xs) h = statements_within around xs h

@@ -199,10 +199,10 @@ module _ (p : ProgramOf) (locals : ℕ) (seen : Seen) (meant : (name : List ℕ)
       (kept (nat_lt 48 (heading_need a b c)) q 29 (left_empty large (first ++ (second ++ third)) h)) in
       let parts = right_empty large (first ++ (second ++ third)) h in
       let others = right_empty first (second ++ third) parts in
-      let behind = others_small 0 a (part_needs b ++ part_needs c) 48 all in
-      let last = others_small behind.0 b (part_needs c) 48 behind.1 in (
+      let after = others_small 0 a (part_needs b ++ part_needs c) 48 all in
+      let last = others_small after.0 b (part_needs c) 48 after.1 in (
         part_within a (left_empty first (second ++ third) parts)
             (part_small 0 a (part_needs b ++ part_needs c) 48 all),
-        part_within b (left_empty second third others) (part_small behind.0 b (part_needs c) 48 behind.1),
+        part_within b (left_empty second third others) (part_small after.0 b (part_needs c) 48 after.1),
         part_within c (right_empty second third others) (part_alone last.0 c 48 last.1),
       )

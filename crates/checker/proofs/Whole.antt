@@ -15,7 +15,7 @@ use Rattle.meaning.specs.Resolved.{RoutineOf, ProgramOf}
 use Rattle.meaning.specs.Views.{CheckedProgram, object_of, routine_of, cut}
 use Rattle.meaning.specs.declared.checked.CheckedRoutine.{CheckedRoutine}
 use Rattle.meaning.proofs.Cutting.{cut_is}
-use Rattle.checker_names.specs.declared.noting.Least.{Least}
+use Rattle.checker_names.specs.declared.noting.Tally.{Tally}
 use Rattle.checker_names.specs.Keys.{keys_of}
 use Rattle.checker_names.specs.Names.{Table, File, in_table, first_table, no_counts, table_of}
 use Rattle.checker_names.specs.Noted.{noted}
@@ -78,7 +78,7 @@ pub file_table : (p : ProgramTree) → (file_of p).table ≡ table_of p.directiv
 unfolding file_of
 file_table p = refl
 
-pub program_break : (m o q a r : Least) (p : Program) (whole : Table)
+pub program_break : (m o q a r : Tally) (p : Program) (whole : Table)
     → whole ≡ table_of (map directive_tree p.directives.items)
     → o ≡ noted m (directives_breaches whole first_table no_counts (map directive_tree p.directives.items))
     → q ≡ noted o (standing_breaches whole (object_trees (map directive_tree p.directives.items)))

@@ -129,7 +129,7 @@ reads_fine : program_breaches reads ≡ []
 unfolding program_breaches table_of key_of look_up
 reads_fine = refl
 
--- behind 22 bytes of arrays the dictionary stands at 886, and its first entry at 893
+-- after 22 bytes of arrays the dictionary stands at 886, and its first entry at 893
 reads_resolve : resolve_program reads ≡ record {
   globals = [];
   arrays = replicate 8 0 ∷ replicate 14 0 ∷ [];

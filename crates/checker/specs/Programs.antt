@@ -10,7 +10,7 @@ use Rattle.syntax_directives.specs.Tree.{RoutineTree, DirectiveTree, global, con
 use Rattle.syntax_directives.specs.Tree.{object, routine, ObjectTree, TextTree}
 use Rattle.syntax.specs.Tree.{ProgramTree}
 use Rattle.meaning.specs.Places.{machine_character, number_in}
-use Rattle.meaning.specs.Around.{outside}
+use Rattle.meaning.specs.Enclosure.{outside}
 use Rattle.meaning.specs.Resolved.{RoutineOf, ProgramOf}
 use Rattle.meaning.specs.Limits.{most_globals, most_objects, most_properties}
 use Rattle.checker_names.specs.declared.binding.Binding.{Binding}

@@ -6,8 +6,8 @@ use Rattle.syntax_directives.specs.Tree.{RoutineTree, DirectiveTree}
 use Rattle.meaning.specs.declared.checked.CheckedRoutine.{CheckedRoutine}
 use Rattle.meaning.specs.Resolved.{RoutineOf}
 use Rattle.meaning.specs.Views.{object_of, routine_of, title_of}
-use Rattle.meaning.specs.Around.{outside}
-use Rattle.checker_names.specs.declared.noting.Least.{Least}
+use Rattle.meaning.specs.Enclosure.{outside}
+use Rattle.checker_names.specs.declared.noting.Tally.{Tally}
 use Rattle.checker_names.specs.Names.{File, Seen}
 use Rattle.checker_values.specs.Walk.{IsWalked}
 use Rattle.checker_statements.specs.Statements.{statements_breaches}
@@ -21,13 +21,13 @@ use Rattle.checker.specs.Checked.{title}
 -- in a routine that sees so much of the file
 module _ (seen : Seen) where
   -- a routine and its title
-  abbrev pub IsRoutineIn : RoutineTree → Least → Least → CheckedRoutine → Type 0
+  abbrev pub IsRoutineIn : RoutineTree → Tally → Tally → CheckedRoutine → Type 0
   IsRoutineIn r before after c =
       IsWalked {A = RoutineOf × (NameTree × ℕ)} (statements_breaches seen.look outside r.body) before after
       (routine_of c, title_of c) (resolve_body seen r, title r)
 
 -- in a file of these names
-abbrev pub IsRoutineOf : File → RoutineTree → Least → Least → CheckedRoutine → Type 0
+abbrev pub IsRoutineOf : File → RoutineTree → Tally → Tally → CheckedRoutine → Type 0
 IsRoutineOf file r before after c =
     IsWalked {A = RoutineOf × (NameTree × ℕ)} (routine_breaches file.table r) before after (routine_of c, title_of c)
     (resolve_routine file r, title r)

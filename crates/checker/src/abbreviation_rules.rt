@@ -7,7 +7,7 @@ ghost use Rattle.checker_names.specs.Noted.{noted};
 ghost use Rattle.meaning.specs.Places as places;
 ghost use Rattle.checker.specs.Programs as spec;
 
-use checker_names::{Least, note};
+use checker_names::{Tally, note};
 use meaning::machine_character;
 use std::alloc::{AllocError, Global};
 use syntax::Text;
@@ -27,25 +27,25 @@ fn has_text(texts: &[Text<'_>], bytes: &[u8]) -> bool
 
 // An abbreviation that follows these.
 #[tactic(auto, using(checker_names::proofs::Noted::noted_none))]
-fn text_rule(before: &[Text<'_>], text: Text<'_>, least: &mut Least)
-    ensures { least.new ≡ noted least.old
+fn text_rule(before: &[Text<'_>], text: Text<'_>, tally: &mut Tally)
+    ensures { tally.new ≡ noted tally.old
         (spec.abbreviation_breaches (map text_tree before.now) (text_tree text.entry)) }
 {
     if before.len() >= MOST_ABBREVIATIONS {
-        note(least, TOO_MANY, text.position);
+        note(tally, TOO_MANY, text.position);
     } else if text.bytes.len() < 2 || has_text(before, text.bytes) {
-        note(least, BAD_ABBREVIATION, text.position);
+        note(tally, BAD_ABBREVIATION, text.position);
     }
 }
 
 /// Notes the rules that abbreviations break. Each is compared with no more than the first 96
 /// ([`MOST_ABBREVIATIONS`]).
-pub fn abbreviation_rules(texts: &[Text<'_>], least: &mut Least)
-    ensures { least.new ≡ noted least.old
+pub fn abbreviation_rules(texts: &[Text<'_>], tally: &mut Tally)
+    ensures { tally.new ≡ noted tally.old
         (spec.abbreviations_breaches [] (map text_tree texts.now)) }
 {
     for i in 0..texts.len() {
-        text_rule(&texts[..i], texts[i], least);
+        text_rule(&texts[..i], texts[i], tally);
     }
 }
 

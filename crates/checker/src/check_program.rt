@@ -16,9 +16,9 @@ ghost use Rattle.checker.specs.Next.{AnswersNext};
 use crate::abbreviation_rules::{abbreviation_rules, all_abbreviations};
 use crate::directive_rules::all_directives;
 use crate::main_rules::main_number;
-use checker_names::{Breach, File, Least, Numbers, gather, tabulate};
+use checker_names::{Breach, File, Numbers, Tally, gather, tabulate};
 use checker_objects::{all_defaults, bytes_of_arrays, listed_objects_size, parents, place};
-use meaning::{Checked, dictionary_behind};
+use meaning::{Checked, dictionary_after};
 use std::alloc::{AllocError, Global};
 use std::mem::forget;
 use syntax::{Directive, Program, Text};
@@ -31,25 +31,25 @@ fn resolve_with<'a>(
     program: &Program<'a>,
     alloc: Global,
     file: File,
-    least: &mut Least,
+    tally: &mut Tally,
 ) -> Result<Checked<'a>, AllocError>
     requires file { file_in file ≡ file_of (program_tree program.now) }
     requires keys { file.numbers.keys.items ≡ keys_of (program_tree program.now).words }
     requires few { length file.numbers.keys.items ≤ 2 ^ 59 }
     ensures value { IfOk result (λ c. program_breaches (program_tree program.now) ≡ []
         → IsCheckedOf (program_tree program.now) c) }
-    ensures breaches { OnOk result (least.new ≡ noted least.old
+    ensures breaches { OnOk result (tally.new ≡ noted tally.old
         (program_breaches (program_tree program.now))) }
 {
     let directives: &[Directive<'a>] = &program.directives;
-    let mut found = all_directives(directives, alloc, &file, least)?;
-    let parents = parents(directives, alloc, &file.table, least)?;
+    let mut found = all_directives(directives, alloc, &file, tally)?;
+    let parents = parents(directives, alloc, &file.table, tally)?;
     place(&parents, &mut found.objects);
     let defaults = all_defaults(alloc, &found.defaults)?;
     let texts: &[Text<'a>] = &program.abbreviations;
-    abbreviation_rules(texts, least);
+    abbreviation_rules(texts, tally);
     let abbreviations = all_abbreviations(texts, alloc)?;
-    let main = main_number(directives, program.end, &file.table, least);
+    let main = main_number(directives, program.end, &file.table, tally);
     Ok(Checked::new(
         found.globals,
         found.arrays,
@@ -65,7 +65,7 @@ fn resolve_with<'a>(
 }
 
 // The numbers of no words.
-fn unnumbered(program: &Program<'_>, alloc: Global) -> Result<File, AllocError>
+fn unnumbered_file(program: &Program<'_>, alloc: Global) -> Result<File, AllocError>
     ensures { IfOk result (λ f. file_in f ≡ no_numbers (program_tree program.now)) }
 {
     let table = tabulate(&program.directives, alloc)?;
@@ -75,13 +75,13 @@ fn unnumbered(program: &Program<'_>, alloc: Global) -> Result<File, AllocError>
 
 // The names of a program and the numbers of its words, which rest on how many bytes its arrays and
 // its objects have.
-fn numbered(program: &Program<'_>, alloc: Global) -> Result<File, AllocError>
+fn numbered_file(program: &Program<'_>, alloc: Global) -> Result<File, AllocError>
     ensures file { IfOk result (λ f. file_in f ≡ file_of (program_tree program.now)) }
     ensures keys { IfOk result (λ f. f.numbers.keys.items
         ≡ keys_of (program_tree program.now).words) }
     ensures few { IfOk result (λ f. length f.numbers.keys.items ≤ 2 ^ 59) }
 {
-    let Ok(first) = unnumbered(program, alloc) else {
+    let Ok(first) = unnumbered_file(program, alloc) else {
         return Err(AllocError);
     };
     let Ok(bytes) = bytes_of_arrays(&program.directives, alloc, &first) else {
@@ -97,7 +97,7 @@ fn numbered(program: &Program<'_>, alloc: Global) -> Result<File, AllocError>
         table,
         numbers: Numbers {
             keys,
-            dictionary: dictionary_behind(bytes, objects),
+            dictionary: dictionary_after(bytes, objects),
         },
     })
 }
@@ -105,15 +105,15 @@ fn numbered(program: &Program<'_>, alloc: Global) -> Result<File, AllocError>
 fn resolve<'a>(
     program: &Program<'a>,
     alloc: Global,
-    least: &mut Least,
+    tally: &mut Tally,
 ) -> Result<Checked<'a>, AllocError>
     ensures value { IfOk result (λ c. program_breaches (program_tree program.now) ≡ []
         → IsCheckedOf (program_tree program.now) c) }
-    ensures breaches { OnOk result (least.new ≡ noted least.old
+    ensures breaches { OnOk result (tally.new ≡ noted tally.old
         (program_breaches (program_tree program.now))) }
 {
-    let file = numbered(program, alloc)?;
-    resolve_with(program, alloc, file, least)
+    let file = numbered_file(program, alloc)?;
+    resolve_with(program, alloc, file, tally)
 }
 
 /// Checks the names, kinds and limits of a program, and resolves its names.
@@ -147,7 +147,7 @@ pub fn discard(checked: Checked<'_>) {
 }
 
 /// Leaves the memory of a program to the system, which takes it back when the process ends.
-pub fn leave(checked: Checked<'_>) {
+pub fn leave_to_system(checked: Checked<'_>) {
     forget(checked);
 }
 
@@ -162,9 +162,9 @@ pub fn check_placed<'a>(alloc: Global, program: &Program<'a>) -> Result<Checked<
     ensures stands { IfErr result (λ e. (e ≡ nowhere no_memory)
         ⊎ StandsAtFirst e (program_breaches (program_tree program.now))) }
 {
-    let mut least = Least::new(None);
-    match resolve(program, alloc, &mut least) {
-        Ok(checked) => match least.found {
+    let mut tally = Tally::new(None);
+    match resolve(program, alloc, &mut tally) {
+        Ok(checked) => match tally.found {
             None => Ok(checked),
             Some(breach) => Err(PlacedFault {
                 fault: breach.fault(),
@@ -198,13 +198,13 @@ pub fn next_breach(
     ensures { IfOk result (λ next. AnswersNext known next
         (program_breaches (program_tree program.now))) }
 {
-    let mut least = Least::new(Some(known));
-    drop(resolve(program, alloc, &mut least)?);
-    match least.found {
+    let mut tally = Tally::new(Some(known));
+    drop(resolve(program, alloc, &mut tally)?);
+    match tally.found {
         None => Ok(None),
         Some(breach) => Ok(Some(NextBreach {
             breach,
-            count: least.count,
+            count: tally.count,
         })),
     }
 }

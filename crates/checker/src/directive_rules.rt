@@ -17,8 +17,8 @@ ghost use Rattle.checker.specs.Programs as spec;
 ghost use Rattle.zcore.specs.Layout.{most_locals};
 ghost use Rattle.syntax_lexer.specs.FaultNumbers.{too_many};
 
-use checker_names::{Binding, File, Least, Names, Scope, Table, define, note};
-use checker_objects::{array, object, twice};
+use checker_names::{Binding, File, Names, Scope, Table, Tally, define, note};
+use checker_objects::{array, definition_rule, object};
 use checker_statements::all_statements;
 use checker_values::{constant_value, initial};
 use indexmap::IndexMap;
@@ -31,12 +31,12 @@ use syntax_trees::Name;
 use zcore::layout::{ATTRIBUTE_COUNT, MOST_LOCALS};
 
 #[tactic(auto, using(checker_names::proofs::Noted::noted_none))]
-fn count_locals(number: usize, position: Position, least: &mut Least)
-    ensures { least.new ≡ noted least.old
+fn count_locals(number: usize, position: Position, tally: &mut Tally)
+    ensures { tally.new ≡ noted tally.old
         (if nat_le most_locals number then at position too_many else []) }
 {
     if number >= MOST_LOCALS {
-        note(least, TOO_MANY, position);
+        note(tally, TOO_MANY, position);
     }
 }
 
@@ -56,18 +56,18 @@ fn locals(
     names: &[Name<'_>],
     alloc: Global,
     table: &mut Table,
-    least: &mut Least,
+    tally: &mut Tally,
 ) -> Result<(), AllocError>
     ensures table { OnOk result ((key : List ℕ)
         → in_table table.new.entries key ≡ local_binding (local_from 0 (map name_tree names.now) key)) }
-    ensures breaches { OnOk result (least.new ≡ noted least.old
+    ensures breaches { OnOk result (tally.new ≡ noted tally.old
         (spec.locals_breaches [] (map name_tree names.now))) }
 {
     empty(table, alloc);
     for number in 0..names.len() {
         let name = names[number];
-        twice(name, table, least);
-        count_locals(number, name.position, least);
+        definition_rule(name, table, tally);
+        count_locals(number, name.position, tally);
         define(name, table, Binding::Local(number))?;
     }
     Ok(())
@@ -84,15 +84,15 @@ fn routine_in<'a>(
     routine: &Routine<'a>,
     alloc: Global,
     scope: &Scope<'_>,
-    least: &mut Least,
+    tally: &mut Tally,
 ) -> Result<CheckedRoutine<'a>, AllocError>
     ensures { IfOk result (λ r. IsRoutineIn (seen_in scope.now) (routine_tree routine.now)
-        least.old least.new r) }
+        tally.old tally.new r) }
 {
     let name = routine.name;
     let locals = routine.locals.len();
     let weight = routine.weight;
-    let body = all_statements(body_of(routine), alloc, scope, OUTSIDE, least)?;
+    let body = all_statements(body_of(routine), alloc, scope, OUTSIDE, tally)?;
     Ok(CheckedRoutine {
         name,
         locals,
@@ -107,17 +107,17 @@ fn routine<'a>(
     alloc: Global,
     file: &File,
     table: &mut Table,
-    least: &mut Least,
+    tally: &mut Tally,
 ) -> Result<CheckedRoutine<'a>, AllocError>
     ensures { IfOk result (λ r. IsRoutineOf (file_in file.now) (routine_tree routine.now)
-        least.old least.new r) }
+        tally.old tally.new r) }
 {
-    locals(&routine.locals, alloc, table, least)?;
+    locals(&routine.locals, alloc, table, tally)?;
     let scope = Scope {
         file,
         locals: &*table,
     };
-    routine_in(routine, alloc, &scope, least)
+    routine_in(routine, alloc, &scope, tally)
 }
 
 /// What the directives of a file resolve to.
@@ -141,11 +141,11 @@ pub struct ResolvedFile<'a> {
 
 // A name of a kind of which there may be so many.
 #[tactic(auto, using(checker_names::proofs::Noted::noted_none))]
-fn limit(name: Name<'_>, most: usize, before: usize, least: &mut Least)
-    ensures { least.new ≡ noted least.old (spec.limit_breaches most before (name_tree name.entry)) }
+fn limit(name: Name<'_>, most: usize, before: usize, tally: &mut Tally)
+    ensures { tally.new ≡ noted tally.old (spec.limit_breaches most before (name_tree name.entry)) }
 {
     if before >= most {
-        note(least, TOO_MANY, name.position);
+        note(tally, TOO_MANY, name.position);
     }
 }
 
@@ -154,29 +154,29 @@ fn global(
     value: &Option<Literal<'_>>,
     file: &File,
     names: &Names,
-    least: &mut Least,
+    tally: &mut Tally,
 ) -> u16
     ensures value { result ≡ initial_value (file_in file.now) (optional_tree value.now) }
-    ensures breaches { least.new ≡ noted least.old
+    ensures breaches { tally.new ≡ noted tally.old
         (spec.global_directive_breaches file.now.table.entries names.now.table.entries
         names.now.counts (name_tree name.entry) (optional_tree value.now)) }
 {
-    twice(name, &names.table, least);
-    limit(name, MOST_GLOBALS, names.counts.globals, least);
-    initial(value, file, least)
+    definition_rule(name, &names.table, tally);
+    limit(name, MOST_GLOBALS, names.counts.globals, tally);
+    initial(value, file, tally)
 }
 
-fn attribute(name: Name<'_>, names: &Names, least: &mut Least)
-    ensures { least.new ≡ noted least.old
+fn attribute(name: Name<'_>, names: &Names, tally: &mut Tally)
+    ensures { tally.new ≡ noted tally.old
         (spec.attribute_directive_breaches names.now.table.entries names.now.counts
         (name_tree name.entry)) }
 {
-    twice(name, &names.table, least);
+    definition_rule(name, &names.table, tally);
     limit(
         name,
         ATTRIBUTE_COUNT as usize,
         names.counts.attributes,
-        least,
+        tally,
     );
 }
 
@@ -186,16 +186,16 @@ fn property(
     value: &Option<Literal<'_>>,
     file: &File,
     names: &Names,
-    least: &mut Least,
+    tally: &mut Tally,
 ) -> u16
     ensures value { result ≡ initial_value (file_in file.now) (optional_tree value.now) % 65536 }
-    ensures breaches { least.new ≡ noted least.old
+    ensures breaches { tally.new ≡ noted tally.old
         (spec.property_directive_breaches file.now.table.entries names.now.table.entries
         names.now.counts (name_tree name.entry) (optional_tree value.now)) }
 {
-    twice(name, &names.table, least);
-    limit(name, MOST_PROPERTIES, names.counts.properties, least);
-    initial(value, file, least)
+    definition_rule(name, &names.table, tally);
+    limit(name, MOST_PROPERTIES, names.counts.properties, tally);
+    initial(value, file, tally)
 }
 
 fn defined_object<'a>(
@@ -203,17 +203,17 @@ fn defined_object<'a>(
     alloc: Global,
     file: &File,
     names: &Names,
-    least: &mut Least,
+    tally: &mut Tally,
 ) -> Result<CheckedObject<'a>, AllocError>
     ensures value { IfOk result (λ o. object_of o
         ≡ object_in (file_in file.now) (first_listed (object_tree written.now))) }
-    ensures breaches { OnOk result (least.new ≡ noted least.old
+    ensures breaches { OnOk result (tally.new ≡ noted tally.old
         (spec.object_directive_breaches file.now.table.entries names.now.table.entries
         names.now.counts (object_tree written.now))) }
 {
-    twice(written.name, &names.table, least);
-    limit(written.name, MOST_OBJECTS, names.counts.objects, least);
-    let made = object(written, alloc, file, least)?;
+    definition_rule(written.name, &names.table, tally);
+    limit(written.name, MOST_OBJECTS, names.counts.objects, tally);
+    let made = object(written, alloc, file, tally)?;
     Ok(made)
 }
 
@@ -225,11 +225,11 @@ fn directive<'a>(
     names: &Names,
     locals: &mut Table,
     found: &mut ResolvedFile<'a>,
-    least: &mut Least,
+    tally: &mut Tally,
 ) -> Result<(), AllocError>
     ensures added { OnOk result
         (IsAdded (file_in file.now) (directive_tree directive.now ∷ []) found.old found.new) }
-    ensures breaches { OnOk result (least.new ≡ noted least.old
+    ensures breaches { OnOk result (tally.new ≡ noted tally.old
         (spec.directive_breaches file.now.table.entries names.now.table.entries names.now.counts
         (directive_tree directive.now))) }
 {
@@ -237,40 +237,40 @@ fn directive<'a>(
         Directive::Global(name, value) => {
             found
                 .globals
-                .push(global(*name, value, file, names, least))?;
+                .push(global(*name, value, file, names, tally))?;
             Ok(())
         }
         Directive::Constant(name, value) => {
-            twice(*name, &names.table, least);
-            constant_value(value, &file.table, &names.table, least);
+            definition_rule(*name, &names.table, tally);
+            constant_value(value, &file.table, &names.table, tally);
             Ok(())
         }
         Directive::Array(written) => {
-            twice(written.name, &names.table, least);
-            array(written, file, &mut found.arrays, least)?;
+            definition_rule(written.name, &names.table, tally);
+            array(written, file, &mut found.arrays, tally)?;
             Ok(())
         }
         Directive::Attribute(name) => {
-            attribute(*name, names, least);
+            attribute(*name, names, tally);
             Ok(())
         }
         Directive::Property(name, value) => {
             found
                 .defaults
-                .push(property(*name, value, file, names, least))?;
+                .push(property(*name, value, file, names, tally))?;
             Ok(())
         }
         Directive::Object(written) => {
             found
                 .objects
-                .push(defined_object(written, alloc, file, names, least)?)?;
+                .push(defined_object(written, alloc, file, names, tally)?)?;
             Ok(())
         }
         Directive::Routine(written) => {
-            twice(written.name, &names.table, least);
+            definition_rule(written.name, &names.table, tally);
             found
                 .routines
-                .push(routine(written, alloc, file, locals, least)?)?;
+                .push(routine(written, alloc, file, locals, tally)?)?;
             Ok(())
         }
     }
@@ -283,18 +283,18 @@ fn add_all<'a>(
     file: &File,
     names: &mut Names,
     found: &mut ResolvedFile<'a>,
-    least: &mut Least,
+    tally: &mut Tally,
 ) -> Result<(), AllocError>
     requires first { names.old.counts ≡ no_counts }
     ensures added { OnOk result
         (IsAdded (file_in file.now) (map directive_tree directives.now) found.old found.new) }
-    ensures breaches { OnOk result (least.new ≡ noted least.old
+    ensures breaches { OnOk result (tally.new ≡ noted tally.old
         (spec.directives_breaches file.now.table.entries names.old.table.entries no_counts
         (map directive_tree directives.now))) }
 {
     let mut locals = IndexMap::new(alloc);
     for one in directives {
-        let Ok(()) = directive(one, alloc, file, names, &mut locals, found, least) else {
+        let Ok(()) = directive(one, alloc, file, names, &mut locals, found, tally) else {
             return Err(AllocError);
         };
         let Ok(()) = names.add(one, &file.table) else {
@@ -314,11 +314,11 @@ pub fn all_directives<'a>(
     directives: &[Directive<'a>],
     alloc: Global,
     file: &File,
-    least: &mut Least,
+    tally: &mut Tally,
 ) -> Result<ResolvedFile<'a>, AllocError>
     ensures found { IfOk result
         (λ f. IsFound (file_in file.now) (map directive_tree directives.now) f) }
-    ensures breaches { OnOk result (least.new ≡ noted least.old
+    ensures breaches { OnOk result (tally.new ≡ noted tally.old
         (spec.directives_breaches file.now.table.entries first_table no_counts
         (map directive_tree directives.now))) }
 {
@@ -330,7 +330,7 @@ pub fn all_directives<'a>(
         objects: Vec::new(alloc),
         routines: Vec::new(alloc),
     };
-    let Ok(()) = add_all(directives, alloc, file, &mut names, &mut found, least) else {
+    let Ok(()) = add_all(directives, alloc, file, &mut names, &mut found, tally) else {
         return Err(AllocError);
     };
     Ok(found)

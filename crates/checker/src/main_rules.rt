@@ -9,7 +9,7 @@ ghost use Rattle.checker_names.specs.Noted.{noted};
 ghost use Rattle.checker.specs.Programs.{main_key, position_or, main_breaches, routine_number};
 ghost use Rattle.checker.specs.Programs as spec;
 
-use checker_names::{Binding, Key, Least, Table, find, key_of, note};
+use checker_names::{Binding, Key, Table, Tally, find, key_of, note};
 use syntax::Directive;
 use syntax_lexer::{NO_PROPER_MAIN, Position};
 use syntax_trees::Name;
@@ -45,21 +45,21 @@ pub fn main_number(
     directives: &[Directive<'_>],
     end: Position,
     whole: &Table,
-    least: &mut Least,
+    tally: &mut Tally,
 ) -> usize
     ensures value { result ≡ routine_number (in_table whole.now.entries main_key) }
-    ensures breaches { least.new ≡ noted least.old
+    ensures breaches { tally.new ≡ noted tally.old
         (main_breaches end (spec.first_routine (map directive_tree directives.now) main_key)
         (in_table whole.now.entries main_key)) }
 {
     match find(whole, b"main") {
         Some(Binding::Routine(number, locals)) => {
             if locals >= 1 {
-                note(least, NO_PROPER_MAIN, main_position(directives, end));
+                note(tally, NO_PROPER_MAIN, main_position(directives, end));
             }
             return number;
         }
-        _ => note(least, NO_PROPER_MAIN, end),
+        _ => note(tally, NO_PROPER_MAIN, end),
     }
     0
 }

@@ -4,11 +4,11 @@ use Rattle.std.proofs.Common.{refl, sym, ap, ◌∙◌, arith}
 use Rattle.std.specs.Prelude.{map}
 use Rattle.std.specs.List.{flat_map}
 use Rattle.checker_names.specs.declared.breach.Breach.{Breach}
-use Rattle.checker_names.specs.declared.noting.Least.{Least}
+use Rattle.checker_names.specs.declared.noting.Tally.{Tally}
 use Rattle.checker_names.specs.Noted.{noted}
 use Rattle.checker_names.proofs.Noted.{noted_none, noted_append}
 
--- within a list what would stand behind its end does not matter
+-- within a list what would follow its end does not matter
 same_here : {A : Type 0} (xs : List A) (i : ℕ) (d e : A) → i < length xs → slice_index_or xs i d ≡ slice_index_or xs i e
 same_here [] i d e h = absurd (omega arith)
 same_here (y ∷ xs) zero d e h = refl
@@ -22,7 +22,7 @@ module _ {A B R : Type 0} (f : A → List Breach) (g : A → R) (v : B → R) wh
   from_here (y ∷ xs) (suc i) x h = from_here xs i x (omega arith)
 
   -- what is still to be noted, before one of the list and after it
-  pub each_next : (m : Least) (xs : List A) (i : ℕ) (x : A) → i < length xs → x ≡ slice_index_or xs i x
+  pub each_next : (m : Tally) (xs : List A) (i : ℕ) (x : A) → i < length xs → x ≡ slice_index_or xs i x
       → noted m (flat_map f (drop i xs)) ≡ noted (noted m (f x)) (flat_map f (drop (i + 1) xs))
   each_next m xs i x lt is =
       let j : i + 1 ≡ suc i = omega arith in
@@ -31,7 +31,7 @@ module _ {A B R : Type 0} (f : A → List Breach) (g : A → R) (v : B → R) wh
       rw (j, e) (noted_append m (f x) (flat_map f (drop (suc i) xs)))
 
   -- nothing is left at the end
-  pub each_end : (m : Least) (xs : List A) (i : ℕ) → length xs ≤ i → noted m (flat_map f (drop i xs)) ≡ m
+  pub each_end : (m : Tally) (xs : List A) (i : ℕ) → length xs ≤ i → noted m (flat_map f (drop i xs)) ≡ m
   each_end m [] zero h = noted_none m
   each_end m [] (suc i) h = noted_none m
   each_end m (x ∷ xs) zero h = absurd (omega arith)
@@ -64,7 +64,7 @@ module _ {A B R : Type 0} (f : A → List Breach) (g : A → R) (v : B → R) wh
   value_end (x ∷ xs) (suc i) h = ap (λ r. g x ∷ r) (value_end xs i (omega arith))
 
   -- the same for one that is named by its place
-  pub each_there : (m o : Least) (xs : List A) (i : ℕ) (d : A) → i < length xs
+  pub each_there : (m o : Tally) (xs : List A) (i : ℕ) (d : A) → i < length xs
       → o ≡ noted m (f (slice_index_or xs i d))
       → noted o (flat_map f (drop (i + 1) xs)) ≡ noted m (flat_map f (drop i xs))
   each_there m o xs i d lt is =

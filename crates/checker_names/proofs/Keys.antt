@@ -45,9 +45,9 @@ ended (suc n) zero (c ∷ s) h = absurd (omega arith)
 ended (suc n) (suc i) (c ∷ s) h = ap (λ r. lower_case c ∷ r) (ended n i s (omega arith))
 
 -- all bytes that the key holds
-pub key_filled : (s : List ℕ) (i held : ℕ) → (held ≡ 32) ⊎ (held ≡ length s) → held ≤ i → fill 32 i s ≡ key_of s
+pub key_filled : (s : List ℕ) (i key_length : ℕ) → (key_length ≡ 32) ⊎ (key_length ≡ length s) → key_length ≤ i → fill 32 i s ≡ key_of s
 unfolding key_of
-key_filled s i held which h = elim which [
+key_filled s i key_length which h = elim which [
   | inl e ↦ whole 32 i s (omega (arith, e, h))
   | inr e ↦ ended 32 i s (omega (arith, e, h))
 ]

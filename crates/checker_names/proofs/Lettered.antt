@@ -12,7 +12,7 @@ use Rattle.ztext.specs.Words.{packed}
 use Rattle.zcore.specs.Dictionary.{number_of_key}
 use Rattle.checker_names.specs.Keys.{letter_of, key_of_word}
 
--- what differs behind some that are alike
+-- what differs after some that are alike
 same_front : (xs ys zs : List ℕ) (j : ℕ) → ((k : ℕ) → k + length xs ≤ j → take k ys ≡ take k zs)
     → take j (xs ++ ys) ≡ take j (xs ++ zs)
 same_front [] ys zs j h = h j (omega arith)

@@ -4,7 +4,7 @@ use Rattle.std.proofs.Common.{refl, sym, ap, ◌∙◌, append_assoc, arith}
 use Rattle.std.specs.Prelude.{map}
 use Rattle.std.specs.List.{flat_map}
 use Rattle.checker_names.specs.declared.breach.Breach.{Breach}
-use Rattle.checker_names.specs.declared.noting.Least.{Least}
+use Rattle.checker_names.specs.declared.noting.Tally.{Tally}
 use Rattle.checker_names.specs.Noted.{noted}
 use Rattle.checker_names.proofs.Noted.{noted_none, noted_append}
 use Rattle.checker_names.proofs.Dropped.{drop_here, drop_end}
@@ -17,7 +17,7 @@ pub map_push : {A B : Type 0} (f : A → B) (xs : List A) (x : A) → map f (xs 
 map_push f [] x = refl
 map_push f (y ∷ ys) x = ap (λ r. f y ∷ r) (map_push f ys x)
 
--- within a list what would stand behind its end does not matter
+-- within a list what would follow its end does not matter
 same_here : {A : Type 0} (xs : List A) (i : ℕ) (d e : A) → i < length xs → slice_index_or xs i d ≡ slice_index_or xs i e
 same_here [] i d e h = absurd (omega (arith, h))
 same_here (y ∷ xs) zero d e h = refl
@@ -53,23 +53,23 @@ module _ {A T : Type 0} (tree : A → T) where
 
   -- the rules of one more are noted, and none are left at the end
 
-  pub note_next : (f : T → List Breach) (m o all : Least) (xs : List A) (i : ℕ) (x : A) → i < length xs
+  pub note_next : (f : T → List Breach) (m o all : Tally) (xs : List A) (i : ℕ) (x : A) → i < length xs
       → x ≡ slice_index_or xs i x → o ≡ noted m (f (tree x))
       → noted m (flat_map f (map tree (drop i xs))) ≡ all → noted o (flat_map f (map tree (drop (i + 1) xs))) ≡ all
   note_next f m o all xs i x lt is met h =
       let rest : List Breach = flat_map f (map tree (drop (i + 1) xs)) in
-      ap (λ (q : Least). noted q rest) met
+      ap (λ (q : Tally). noted q rest) met
       ∙ sym (noted_append m (f (tree x)) rest)
       ∙ ap (λ (z : List A). noted m (flat_map f (map tree z))) (sym (drop_here xs i x lt is))
       ∙ h
 
-  pub note_there : (f : T → List Breach) (m o all : Least) (xs : List A) (i : ℕ) (d : A) → i < length xs
+  pub note_there : (f : T → List Breach) (m o all : Tally) (xs : List A) (i : ℕ) (d : A) → i < length xs
       → o ≡ noted m (f (tree (slice_index_or xs i d)))
       → noted m (flat_map f (map tree (drop i xs))) ≡ all → noted o (flat_map f (map tree (drop (i + 1) xs))) ≡ all
   note_there f m o all xs i d lt met h =
       note_next f m o all xs i (slice_index_or xs i d) lt (same_here xs i d (slice_index_or xs i d) lt) met h
 
-  pub note_end : (f : T → List Breach) (m all : Least) (xs : List A) (i : ℕ) → length xs ≤ i
+  pub note_end : (f : T → List Breach) (m all : Tally) (xs : List A) (i : ℕ) → length xs ≤ i
       → noted m (flat_map f (map tree (drop i xs))) ≡ all → m ≡ all
   note_end f m all xs i end h =
       sym (noted_none m) ∙ ap (λ (z : List A). noted m (flat_map f (map tree z))) (sym (drop_end xs i end)) ∙ h

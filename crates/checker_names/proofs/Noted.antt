@@ -4,21 +4,21 @@ use Rattle.std.proofs.Common.{arith, ℕ, suc, ◌+◌, ◌≤◌, length}
 use Rattle.std.specs.List.{filter}
 use Rattle.checker_names.specs.declared.breach.Breach.{Breach}
 use Rattle.checker_names.specs.Breaches.{is_before, IsAmong, IsFirst}
-use Rattle.checker_names.specs.declared.noting.Least.{Least}
+use Rattle.checker_names.specs.declared.noting.Tally.{Tally}
 use Rattle.checker_names.specs.Noted.{first_of_two, is_after, later, most_counted, counted, one_more, met, noted}
 use Rattle.std.proofs.Common.{subst, is_some, cond, inl, inr, ◌⊎◌}
 use Rattle.std.proofs.lemmas.Bool.Decides.{nat_tests}
 
-pub noted_none : (m : Least) → noted m [] ≡ m
+pub noted_none : (m : Tally) → noted m [] ≡ m
 unfolding noted
 noted_none m = refl
 
-pub noted_append : (m : Least) (a b : List Breach) → noted m (a ++ b) ≡ noted (noted m a) b
+pub noted_append : (m : Tally) (a b : List Breach) → noted m (a ++ b) ≡ noted (noted m a) b
 unfolding noted
 noted_append m [] b = refl
 noted_append m (x ∷ a) b = noted_append (met m x) a b
 
-pub noted_two : (m o p : Least) (a b : List Breach) → o ≡ noted m a → p ≡ noted o b → p ≡ noted m (a ++ b)
+pub noted_two : (m o p : Tally) (a b : List Breach) → o ≡ noted m a → p ≡ noted o b → p ≡ noted m (a ++ b)
 noted_two m o p a b h k = k ∙ ap (λ q. noted q b) h ∙ sym (noted_append m a b)
 
 -- The first of a list
@@ -83,7 +83,7 @@ first_is (x ∷ bs) (Some b) h = let l = first_from bs x b h in (l.0, (l.1, l.2)
 -- What is noted of a list: the first of those after the known one, and how many they are
 
 -- one more of the list
-noted_more : (t : Bool) (l : Least) (b : Breach) (bs : List Breach) → is_after l.after b ≡ t
+noted_more : (t : Bool) (l : Tally) (b : Breach) (bs : List Breach) → is_after l.after b ≡ t
     → (noted (record l { found = first_of_two l.found b; count = one_more l.count }) bs).found
     ≡ first_from_list (first_of_two l.found b) (filter (is_after l.after) bs)
     → (noted l bs).found ≡ first_from_list l.found (filter (is_after l.after) bs)
@@ -92,7 +92,7 @@ unfolding first_from_list
 noted_more true l b bs e h k = rw e h
 noted_more false l b bs e h k = rw e k
 
-found_law : (l : Least) (bs : List Breach) → (noted l bs).found ≡ first_from_list l.found (filter (is_after l.after) bs)
+found_law : (l : Tally) (bs : List Breach) → (noted l bs).found ≡ first_from_list l.found (filter (is_after l.after) bs)
 unfolding noted first_from_list
 found_law l [] = refl
 found_law l (b ∷ bs) = noted_more (is_after l.after b) l b bs refl
@@ -102,7 +102,7 @@ found_law l (b ∷ bs) = noted_more (is_after l.after b) l b bs refl
 counted_more : (n m : ℕ) → counted (one_more n + m) ≡ counted (n + suc m)
 counted_more n m = grind (arith, nat_tests)
 
-counts_more : (t : Bool) (l : Least) (b : Breach) (bs : List Breach) → is_after l.after b ≡ t
+counts_more : (t : Bool) (l : Tally) (b : Breach) (bs : List Breach) → is_after l.after b ≡ t
     → (noted (record l { found = first_of_two l.found b; count = one_more l.count }) bs).count
     ≡ counted (one_more l.count + length (filter (is_after l.after) bs))
     → (noted l bs).count ≡ counted (l.count + length (filter (is_after l.after) bs))
@@ -111,7 +111,7 @@ counts_more : (t : Bool) (l : Least) (b : Breach) (bs : List Breach) → is_afte
 counts_more true l b bs e h k = rw e (h ∙ counted_more l.count (length (filter (is_after l.after) bs)))
 counts_more false l b bs e h k = rw e k
 
-count_law : (l : Least) (bs : List Breach) → l.count ≤ most_counted
+count_law : (l : Tally) (bs : List Breach) → l.count ≤ most_counted
     → (noted l bs).count ≡ counted (l.count + length (filter (is_after l.after) bs))
 unfolding noted
 count_law l [] few = grind (arith, nat_tests)
@@ -125,24 +125,24 @@ all_after [] = refl
 all_after (b ∷ bs) = ap (λ (z : List Breach). b ∷ z) (all_after bs)
 
 -- a list from a beginning that is known
-from_known : (l : Least) (bs : List Breach) (known o : Option Breach) → l.after ≡ known → l.found ≡ None
+from_known : (l : Tally) (bs : List Breach) (known o : Option Breach) → l.after ≡ known → l.found ≡ None
     → (noted l bs).found ≡ o → first_from_list None (filter (is_after known) bs) ≡ o
 from_known l bs known o after found h =
     ap (λ (a : Option Breach). first_from_list None (filter (is_after a) bs)) (sym after)
     ∙ ap (λ (f : Option Breach). first_from_list f (filter (is_after l.after) bs)) (sym found)
     ∙ sym (found_law l bs) ∙ h
 
-pub first_law : (bs : List Breach) (l : Least) (o : Option Breach) → l.after ≡ None → l.found ≡ None
+pub first_law : (bs : List Breach) (l : Tally) (o : Option Breach) → l.after ≡ None → l.found ≡ None
     → (noted l bs).found ≡ o → IsFirstOf o bs
 first_law bs l o after found h =
     first_is bs o (ap (first_from_list None) (sym (all_after bs)) ∙ from_known l bs None o after found h)
 
-pub later_law : (bs : List Breach) (l : Least) (known : Breach) (o : Option Breach) → l.after ≡ Some known
+pub later_law : (bs : List Breach) (l : Tally) (known : Breach) (o : Option Breach) → l.after ≡ Some known
     → l.found ≡ None → (noted l bs).found ≡ o → IsFirstOf o (later known bs)
 later_law bs l known o after found h =
     first_is (later known bs) o (from_known l bs (Some known) o after found h)
 
-pub later_count : (bs : List Breach) (l : Least) (known : Breach) → l.after ≡ Some known → l.count ≡ 0
+pub later_count : (bs : List Breach) (l : Tally) (known : Breach) → l.after ≡ Some known → l.count ≡ 0
     → (noted l bs).count ≡ counted (length (later known bs))
 later_count bs l known after none =
     let rest : List Breach = filter (is_after l.after) bs in

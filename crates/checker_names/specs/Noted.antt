@@ -2,7 +2,7 @@
 use Rattle.std.specs.Prelude.{◌+◌, ℕ, nat_lt, Bool, true, if◌then◌else◌, List, [], ◌∷◌, Option, Some, None}
 use Rattle.std.specs.List.{filter}
 use Rattle.checker_names.specs.declared.breach.Breach.{Breach}
-use Rattle.checker_names.specs.declared.noting.Least.{Least}
+use Rattle.checker_names.specs.declared.noting.Tally.{Tally}
 use Rattle.checker_names.specs.Breaches.{is_before}
 
 abbrev pub first_of_two : Option Breach → Breach → Option Breach
@@ -29,13 +29,13 @@ counted n = if nat_lt n most_counted then n else most_counted
 abbrev pub one_more : ℕ → ℕ
 one_more count = if nat_lt count most_counted then count + 1 else count
 
-abbrev pub met : Least → Breach → Least
-met least b =
-    if is_after least.after b then
-    record least { found = first_of_two least.found b; count = one_more least.count }
-    else least
+abbrev pub met : Tally → Breach → Tally
+met tally b =
+    if is_after tally.after b then
+    record tally { found = first_of_two tally.found b; count = one_more tally.count }
+    else tally
 
 -- what is known when one that was met and a list are
-unfoldable pub noted : Least → List Breach → Least
-noted least [] = least
-noted least (b ∷ bs) = noted (met least b) bs
+unfoldable pub noted : Tally → List Breach → Tally
+noted tally [] = tally
+noted tally (b ∷ bs) = noted (met tally b) bs

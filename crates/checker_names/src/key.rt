@@ -57,7 +57,7 @@ fn lower_case(byte: u8) -> u8
 }
 
 /// How many bytes of a name its key holds.
-fn held(name: &[u8]) -> usize
+fn key_length(name: &[u8]) -> usize
     ensures few { result ≤ 32 }
     ensures all { (result ≡ 32) ⊎ (result ≡ length name.now) }
     ensures there { result ≤ length name.now }
@@ -71,7 +71,7 @@ pub fn key_of(name: &[u8]) -> Key
     ensures { result ≡ spec.key_of name.now }
 {
     let mut key = [0; 32];
-    for i in 0..held(name) {
+    for i in 0..key_length(name) {
         key[i] = lower_case(name[i]);
     }
     Key { bytes: key }

@@ -22,7 +22,7 @@ pub use key::{Key, key_of};
 pub use known::Known;
 pub use laws::keys_are_each_once;
 pub use names::{Names, constant_known, literal_known, or_zero, tabulate};
-pub use noting::{Least, MOST_COUNTED, note};
+pub use noting::{MOST_COUNTED, Tally, note};
 pub use numbers::Numbers;
 pub use table::{Scope, Table, define, find};
 pub use words::{gather, key_of_word};

@@ -15,7 +15,7 @@ pub const MOST_COUNTED: u32 = 1_000_000;
 /// The first of the broken rules that a check met so far, and how many it met. Those up to one that
 /// is known already do not count.
 #[derive(Clone, Copy)]
-pub struct Least {
+pub struct Tally {
     /// The one that is known already, if any.
     pub after: Option<Breach>,
 
@@ -26,14 +26,14 @@ pub struct Least {
     pub count: u32,
 }
 
-impl Least {
+impl Tally {
     /// Nothing is met yet. Broken rules up to one that is known will not count.
-    pub fn new(after: Option<Breach>) -> Least
+    pub fn new(after: Option<Breach>) -> Tally
         ensures after { result.after ≡ after }
         ensures found { result.found ≡ None }
         ensures count { result.count ≡ 0 }
     {
-        Least {
+        Tally {
             after,
             found: None,
             count: 0,
@@ -78,12 +78,12 @@ fn one_more(count: u32) -> u32
 
 /// Notes that the rule of this number is broken at this position.
 #[tactic(auto, unfolding(crate::specs::Noted::noted))]
-pub fn note(least: &mut Least, number: u8, position: Position)
-    ensures { least.new ≡ noted least.old (at position number) }
+pub fn note(tally: &mut Tally, number: u8, position: Position)
+    ensures { tally.new ≡ noted tally.old (at position number) }
 {
     let breach = Breach { position, number };
-    if is_after(least.after, breach) {
-        least.found = first_of_two(least.found, breach);
-        least.count = one_more(least.count);
+    if is_after(tally.after, breach) {
+        tally.found = first_of_two(tally.found, breach);
+        tally.count = one_more(tally.count);
     }
 }

@@ -13,7 +13,7 @@ use Rattle.syntax_directives.specs.Tree.{ValueTree}
 use Rattle.syntax_directives.specs.Views.{value_tree}
 use Rattle.meaning.specs.declared.arrays.Arrays.{Arrays}
 use Rattle.checker_names.specs.declared.breach.Breach.{Breach}
-use Rattle.checker_names.specs.declared.noting.Least.{Least}
+use Rattle.checker_names.specs.declared.noting.Tally.{Tally}
 use Rattle.checker_names.specs.declared.known.Known.{Known}
 use Rattle.checker_names.specs.Names.{Table, File, literal_known}
 use Rattle.checker_names.specs.Noted.{noted}
@@ -51,7 +51,7 @@ entry_added file w xs i d n before after all lt is more h =
 
 -- and its rules are noted
 pub entry_noted : (whole : Table) (w : Width) (xs : List ArrayValue) (i : ℕ) (d : ArrayValue)
-    (m o all : Least) → i < length xs
+    (m o all : Tally) → i < length xs
     → o ≡ noted m (entry_breaches whole w (value_tree (slice_index_or xs i d)))
     → noted m (flat_map (own_entry_breaches whole w) (drop i xs)) ≡ all
     → noted o (flat_map (own_entry_breaches whole w) (drop (i + 1) xs)) ≡ all
@@ -59,12 +59,12 @@ entry_noted whole w xs i d m o all lt more h =
     let j : i + 1 ≡ suc i = omega arith in
     let rest : List Breach = flat_map (own_entry_breaches whole w) (drop (suc i) xs) in
     rw j
-    (ap (λ (q : Least). noted q rest) more
+    (ap (λ (q : Tally). noted q rest) more
     ∙ sym (noted_append m (entry_breaches whole w (value_tree (slice_index_or xs i d))) rest)
     ∙ ap (λ (z : List ArrayValue). noted m (flat_map (own_entry_breaches whole w) z)) (sym (drop_cons xs i d lt))
     ∙ h)
 
-pub all_noted : (whole : Table) (w : Width) (xs : List ArrayValue) (i : ℕ) (m all : Least) → length xs ≤ i
+pub all_noted : (whole : Table) (w : Width) (xs : List ArrayValue) (i : ℕ) (m all : Tally) → length xs ≤ i
     → noted m (flat_map (own_entry_breaches whole w) (drop i xs)) ≡ all → m ≡ all
 all_noted whole w xs i m all end h =
     sym (noted_none m)
@@ -101,7 +101,7 @@ alone (x ∷ []) d n = refl
 alone (x ∷ y ∷ xs) d n = absurd (omega (arith, n))
 
 pub sized_breaks : (whole : Table) (position : Position) (kind : ArrayKind) (values : List ArrayValue)
-    (d : ArrayValue) (size : Option Known) (m o q : Least) → length values ≡ 1
+    (d : ArrayValue) (size : Option Known) (m o q : Tally) → length values ≡ 1
     → size ≡ literal_known whole (literal_tree (slice_index_or values 0 d).value)
     → o ≡ noted m (literal_breaches whole (literal_tree (slice_index_or values 0 d).value))
     → q ≡ noted o (size_breaches position kind size)
@@ -154,7 +154,7 @@ still_several : (values : List ArrayValue) → length values ≢ 1 → length (m
 still_several values n = λ e. n (sym (map_length value_tree values) ∙ e)
 
 pub listed_breaks : (whole : Table) (position : Position) (kind : ArrayKind) (values : List ArrayValue) (n : ℕ)
-    (w : Width) (m o q : Least) → length values ≢ 1 → n ≡ length values → w ≡ width_of kind
+    (w : Width) (m o q : Tally) → length values ≢ 1 → n ≡ length values → w ≡ width_of kind
     → o ≡ noted m (count_breaches position kind n) → q ≡ noted o (flat_map (own_entry_breaches whole w) values)
     → q ≡ noted m (values_breaches whole position kind (map value_tree values))
 listed_breaks whole position kind values n w m o q more count width a b =

@@ -10,7 +10,7 @@ use Rattle.syntax_directives.specs.declared.tree.Directive.TheVariants as direct
 use Rattle.syntax_directives.specs.Tree.{ObjectTree}
 use Rattle.syntax_directives.specs.Views.{object_tree, directive_tree}
 use Rattle.checker_names.specs.declared.breach.Breach.{Breach}
-use Rattle.checker_names.specs.declared.noting.Least.{Least}
+use Rattle.checker_names.specs.declared.noting.Tally.{Tally}
 use Rattle.checker_names.specs.Names.{Table}
 use Rattle.checker_names.specs.Noted.{noted}
 use Rattle.checker_names.proofs.Dropped.{drop_here, drop_end}
@@ -114,7 +114,7 @@ parents_next whole chain next old new all p n o os rest is many more value after
     ∷ parents_from whole c (length old + 1) rest) (after ∙ ap (λ (k : ℕ). opened (length o.arrows) k chain) many)
     ∙ ap (λ (z : List ObjectTree). old ++ parents_from whole chain (length old) z) (sym is) ∙ h
 
-pub standing_next : (whole : Table) (chain next : Open) (old new : List ℕ) (p n : ℕ) (m q all : Least)
+pub standing_next : (whole : Table) (chain next : Open) (old new : List ℕ) (p n : ℕ) (m q all : Tally)
     (o : ObjectTree) (os rest : List ObjectTree) → os ≡ o ∷ rest → n ≡ length old → new ≡ old ++ p ∷ []
     → next ≡ opened (length o.arrows) n chain → q ≡ noted m (stand_breaches whole chain n o)
     → noted m (standing_from whole chain (length old) os) ≡ all
@@ -124,12 +124,12 @@ standing_next whole chain next old new p n m q all o os rest is many more after 
     let tail : List Breach = standing_from whole (opened (length o.arrows) n chain) (n + 1) rest in
     ap (λ (k : ℕ). noted q (standing_from whole next k rest)) long
     ∙ ap (λ (c : Open). noted q (standing_from whole c (n + 1) rest)) after
-    ∙ ap (λ (z : Least). noted z tail) met
+    ∙ ap (λ (z : Tally). noted z tail) met
     ∙ sym (noted_append m (stand_breaches whole chain n o) tail)
     ∙ ap (λ (z : List ObjectTree). noted m (standing_from whole chain n z)) (sym is)
     ∙ ap (λ (k : ℕ). noted m (standing_from whole chain k os)) many ∙ h
 
-pub standing_end : (whole : Table) (chain : Open) (n : ℕ) (m all : Least) (os : List ObjectTree) → os ≡ []
+pub standing_end : (whole : Table) (chain : Open) (n : ℕ) (m all : Tally) (os : List ObjectTree) → os ≡ []
     → noted m (standing_from whole chain n os) ≡ all → m ≡ all
 standing_end whole chain n m all os is h =
     sym (noted_none m) ∙ ap (λ (z : List ObjectTree). noted m (standing_from whole chain n z)) (sym is) ∙ h
@@ -187,7 +187,7 @@ placed_many ps [] = refl
 placed_many [] (o ∷ os) = ap suc (placed_many [] os)
 placed_many (p ∷ ps) (o ∷ os) = ap suc (placed_many ps os)
 
--- what comes behind so many does not matter
+-- what comes after so many does not matter
 pub take_exact : {A : Type 0} (xs ys : List A) (n : ℕ) → n ≡ length xs → take n (xs ++ ys) ≡ xs
 take_exact [] ys n is = rw is refl
 take_exact (x ∷ xs) ys zero is = absurd (omega (arith, is))

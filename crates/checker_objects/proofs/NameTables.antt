@@ -9,7 +9,7 @@ use Rattle.syntax_trees.specs.Views.{name_tree}
 use Rattle.checker_names.specs.declared.binding.Binding.{Binding}
 use Rattle.checker_names.specs.declared.binding.Binding.TheVariants as bindings
 use Rattle.checker_names.specs.declared.breach.Breach.{Breach}
-use Rattle.checker_names.specs.declared.noting.Least.{Least}
+use Rattle.checker_names.specs.declared.noting.Tally.{Tally}
 use Rattle.checker_names.specs.Breaches.{at}
 use Rattle.checker_names.specs.Names.{Table, key_of, same_key, in_table, with_name, local_from, has_name}
 use Rattle.checker_names.specs.Noted.{noted}
@@ -137,7 +137,7 @@ table_next t u names i d lt h is key =
     (in_either t (map name_tree (take i names)) (name_tree (slice_index_or names i d)) i key _ refl h n)
 
 -- the rules that one more name breaks
-pub few_next : (m o : Least) (names : List Name) (i : ℕ) (d : Name) → i < length names
+pub few_next : (m o : Tally) (names : List Name) (i : ℕ) (d : Name) → i < length names
     → o ≡ noted m (again (map name_tree (take i names)) (name_tree (slice_index_or names i d)))
     → noted o (repeated_breaches (map name_tree (take (i + 1) names)) (map name_tree (drop (i + 1) names)))
     ≡ noted m (repeated_breaches (map name_tree (take i names)) (map name_tree (drop i names)))
@@ -149,7 +149,7 @@ few_next m o names i d lt a =
     rw (j, take_more names i d lt, left names i d lt) (noted_two m o (noted o rest) (again before x) rest a refl)
 
 -- the same, by the table of those before
-pub repeated_next : (m o : Least) (t : Table) (names : List Name) (i : ℕ) (d : Name) → i < length names
+pub repeated_next : (m o : Tally) (t : Table) (names : List Name) (i : ℕ) (d : Name) → i < length names
     → ((k : List ℕ) → in_table t k ≡ local_binding (local_from 0 (map name_tree (take i names)) k))
     → o ≡ noted m (twice t (name_tree (slice_index_or names i d)))
     → noted o (repeated_breaches (map name_tree (take (i + 1) names)) (map name_tree (drop (i + 1) names)))
@@ -161,7 +161,7 @@ repeated_next m o t names i d lt h a =
     ∙ some_binding (local_from 0 before (key_of x.text)) ∙ sym (has_number 0 before x) in
     few_next m o names i d lt (a ∙ ap (λ (s : Bool). noted m (cond s (at x.position 22) [])) e)
 
-pub repeated_end : (m : Least) (names : List Name) (i : ℕ) (before : List NameTree) → length names ≤ i
+pub repeated_end : (m : Tally) (names : List Name) (i : ℕ) (before : List NameTree) → length names ≤ i
     → noted m (repeated_breaches before (map name_tree (drop i names))) ≡ m
 repeated_end m [] zero before h = noted_none m
 repeated_end m [] (suc i) before h = noted_none m

@@ -16,7 +16,7 @@ use Rattle.syntax_directives.specs.Tree.{PropertyTree}
 use Rattle.syntax_directives.specs.Views.{value_tree, property_tree}
 use Rattle.meaning.specs.Views.{property_of}
 use Rattle.checker_names.specs.declared.breach.Breach.{Breach}
-use Rattle.checker_names.specs.declared.noting.Least.{Least}
+use Rattle.checker_names.specs.declared.noting.Tally.{Tally}
 use Rattle.checker_names.specs.Noted.{noted}
 use Rattle.checker_names.proofs.Noted.{noted_none, noted_append}
 use Rattle.checker_names.proofs.Dropped.{drop_here, drop_end}
@@ -44,7 +44,7 @@ append_mapped f [] ys = refl
 append_mapped f (x ∷ xs) ys = ap (λ r. f x ∷ r) (append_mapped f xs ys)
 
 -- what is noted of the front of a list and then of the rest is what is noted of the whole
-pub noted_apart : (f : PropertyTree → List Breach) (m : Least) (n : ℕ) (xs : List Property)
+pub noted_apart : (f : PropertyTree → List Breach) (m : Tally) (n : ℕ) (xs : List Property)
     → noted (noted m (flat_map f (map property_tree (take n xs)))) (flat_map f (map property_tree (drop n xs)))
     ≡ noted m (flat_map f (map property_tree xs))
 noted_apart f m zero xs = ap (λ o. noted o (flat_map f (map property_tree xs))) (noted_none m)
@@ -156,5 +156,5 @@ pub counted_few : (p : Position) (vs : List ArrayValue) → false ≡ (length vs
     → count_breaches p (map value_tree vs) ≡ []
 counted_few p vs some few =
     let le : length vs ≤ 32 = grind (arith, nat_tests) in
-    let least : 1 ≤ length vs = grind (arith, nat_tests) in
-    values_counted p vs None least (get_none vs 32 le)
+    let tally : 1 ≤ length vs = grind (arith, nat_tests) in
+    values_counted p vs None tally (get_none vs 32 le)

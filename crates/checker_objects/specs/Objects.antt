@@ -78,7 +78,7 @@ open_to n (x ∷ xs) = if nat_lt x.0 n then x ∷ open_to n xs else []
 abbrev pub above_of : ℕ → Open → Option (ℕ × ℕ)
 above_of n chain = slice_get (open_to n chain) (length (open_to n chain) - 1)
 
--- the open objects behind one of so many arrows, where there were so many objects before it
+-- the open objects after one of so many arrows, where there were so many objects before it
 abbrev pub opened : ℕ → ℕ → Open → Open
 opened n before chain = open_to n chain ++ (n, before + 1) ∷ []
 
@@ -182,7 +182,7 @@ placed parents [] = []
 placed [] (o ∷ os) = record o { parent = 0 } ∷ placed [] os
 placed (p ∷ parents) (o ∷ os) = record o { parent = p } ∷ placed parents os
 
--- so many words, with zeros behind those that are given
+-- so many words, with zeros after those that are given
 abbrev pub exactly : ℕ → List ℕ → List ℕ
 exactly zero words = []
 exactly (suc n) [] = 0 ∷ exactly n []

@@ -11,7 +11,7 @@ use Rattle.checker_objects.specs.Objects.{short_name}
 abbrev pub listed_size : PropertyTree → ℕ
 listed_size x = (if length x.values == 1 then 1 else 2) + 2 * length x.values
 
--- the number of the name's words, the name, the properties, and a byte behind them
+-- the number of the name's words, the name, the properties, and a byte after them
 abbrev pub listed_table_size : ObjectTree → ℕ
 listed_table_size o = 1 + 2 * name_words (short_name o.short) + total (map listed_size o.properties) + 1
 

@@ -10,7 +10,7 @@ ghost use Rattle.checker_objects.specs.Arrays as spec;
 ghost use Rattle.checker_objects.specs.Entries.{most, number_bytes, own_entry_bytes};
 ghost use Rattle.checker_objects.specs.Entries.{own_entry_breaches, IsArrayAdded};
 
-use checker_names::{File, Known, Least, note, or_zero};
+use checker_names::{File, Known, Tally, note, or_zero};
 use checker_values::literal;
 use meaning::Arrays;
 use meaning::limits::MOST_ARRAY_BYTES;
@@ -51,29 +51,29 @@ fn is_size(kind: ArrayKind, count: usize) -> bool
 
 // A number of entries, of the array whose name stands there.
 #[tactic(auto, using(checker_names::proofs::Noted::noted_none))]
-fn count_rule(position: Position, kind: ArrayKind, count: usize, least: &mut Least)
-    ensures { least.new ≡ noted least.old (spec.count_breaches position kind count) }
+fn count_rule(position: Position, kind: ArrayKind, count: usize, tally: &mut Tally)
+    ensures { tally.new ≡ noted tally.old (spec.count_breaches position kind count) }
 {
     if !is_size(kind, count) {
-        note(least, BAD_ARRAY, position);
+        note(tally, BAD_ARRAY, position);
     }
 }
 
 // A size, and how many zeros it makes.
 #[tactic(auto, using(checker_names::proofs::Noted::noted_none))]
-fn zeros_of(position: Position, kind: ArrayKind, size: Option<Known>, least: &mut Least) -> usize
+fn zeros_of(position: Position, kind: ArrayKind, size: Option<Known>, tally: &mut Tally) -> usize
     ensures value { result ≡ spec.zeros kind size }
-    ensures breaches { least.new ≡ noted least.old (spec.size_breaches position kind size) }
+    ensures breaches { tally.new ≡ noted tally.old (spec.size_breaches position kind size) }
 {
     match size {
         None => 0,
         Some(Known::Key(_)) => {
-            note(least, BAD_ARRAY, position);
+            note(tally, BAD_ARRAY, position);
             0
         }
         Some(Known::Number(count)) => {
             let count = count as usize;
-            count_rule(position, kind, count, least);
+            count_rule(position, kind, count, tally);
             if is_size(kind, count) { count } else { 0 }
         }
     }
@@ -112,36 +112,36 @@ fn add_zeros(bytes: &mut Vec<u8>, width: Width, count: usize) -> Result<(), Allo
 }
 
 #[tactic(auto, using(checker_names::proofs::Noted::noted_none))]
-fn byte_rule(position: Position, value: Known, least: &mut Least)
-    ensures { least.new ≡ noted least.old (spec.wide_breaches position widths.Byte value) }
+fn byte_rule(position: Position, value: Known, tally: &mut Tally)
+    ensures { tally.new ≡ noted tally.old (spec.wide_breaches position widths.Byte value) }
 {
     match value {
         Known::Number(number) => {
             if number > 255 {
-                note(least, BAD_ARRAY, position);
+                note(tally, BAD_ARRAY, position);
             }
         }
-        Known::Key(_) => note(least, BAD_ARRAY, position),
+        Known::Key(_) => note(tally, BAD_ARRAY, position),
     }
 }
 
 #[tactic(auto, using(checker_names::proofs::Noted::noted_none))]
-fn wide_rule(position: Position, width: Width, value: Known, least: &mut Least)
-    ensures { least.new ≡ noted least.old (spec.wide_breaches position width value) }
+fn wide_rule(position: Position, width: Width, value: Known, tally: &mut Tally)
+    ensures { tally.new ≡ noted tally.old (spec.wide_breaches position width value) }
 {
     if let Width::Byte = width {
-        byte_rule(position, value, least);
+        byte_rule(position, value, tally);
     }
 }
 
 // An entry of an array.
-fn entry(value: &ArrayValue<'_>, width: Width, file: &File, least: &mut Least) -> usize
+fn entry(value: &ArrayValue<'_>, width: Width, file: &File, tally: &mut Tally) -> usize
     ensures value { result ≡ spec.entry_value (file_in file.now) (value_tree value.now) }
-    ensures breaches { least.new ≡ noted least.old
+    ensures breaches { tally.new ≡ noted tally.old
         (spec.entry_breaches file.now.table.entries width (value_tree value.now)) }
 {
-    let known = or_zero(literal(&value.value, &file.table, least));
-    wide_rule(value.position, width, known, least);
+    let known = or_zero(literal(&value.value, &file.table, tally));
+    wide_rule(value.position, width, known, tally);
     file.numbers.value(known) as usize
 }
 
@@ -150,15 +150,15 @@ fn add_entries(
     width: Width,
     file: &File,
     bytes: &mut Vec<u8>,
-    least: &mut Least,
+    tally: &mut Tally,
 ) -> Result<(), AllocError>
     ensures bytes { OnOk result (bytes.new.items ≡ bytes.old.items
         ++ flat_map (own_entry_bytes (file_in file.now) width) values.now) }
-    ensures breaches { OnOk result (least.new ≡ noted least.old
+    ensures breaches { OnOk result (tally.new ≡ noted tally.old
         (flat_map (own_entry_breaches file.now.table.entries width) values.now)) }
 {
     for value in values {
-        let number = entry(value, width, file, least);
+        let number = entry(value, width, file, tally);
         add_entry(bytes, width, number)?;
     }
     Ok(())
@@ -171,16 +171,16 @@ fn add_sized(
     kind: ArrayKind,
     file: &File,
     bytes: &mut Vec<u8>,
-    least: &mut Least,
+    tally: &mut Tally,
 ) -> Result<(), AllocError>
     requires one { length values.now ≡ 1 }
     ensures bytes { OnOk result (bytes.new.items ≡ bytes.old.items ++ spec.bytes_of kind
         (spec.entries_of (file_in file.now) kind (map value_tree values.now))) }
-    ensures breaches { OnOk result (least.new ≡ noted least.old
+    ensures breaches { OnOk result (tally.new ≡ noted tally.old
         (spec.values_breaches file.now.table.entries position kind (map value_tree values.now))) }
 {
-    let size = literal(&values[0].value, &file.table, least);
-    let count = zeros_of(position, kind, size, least);
+    let size = literal(&values[0].value, &file.table, tally);
+    let count = zeros_of(position, kind, size, tally);
     add_number(bytes, kind, count)?;
     add_zeros(bytes, width_of(kind), count)?;
     Ok(())
@@ -193,17 +193,17 @@ fn add_listed(
     kind: ArrayKind,
     file: &File,
     bytes: &mut Vec<u8>,
-    least: &mut Least,
+    tally: &mut Tally,
 ) -> Result<(), AllocError>
     requires several { length values.now ≢ 1 }
     ensures bytes { OnOk result (bytes.new.items ≡ bytes.old.items ++ spec.bytes_of kind
         (spec.entries_of (file_in file.now) kind (map value_tree values.now))) }
-    ensures breaches { OnOk result (least.new ≡ noted least.old
+    ensures breaches { OnOk result (tally.new ≡ noted tally.old
         (spec.values_breaches file.now.table.entries position kind (map value_tree values.now))) }
 {
-    count_rule(position, kind, values.len(), least);
+    count_rule(position, kind, values.len(), tally);
     add_number(bytes, kind, values.len())?;
-    add_entries(values, width_of(kind), file, bytes, least)?;
+    add_entries(values, width_of(kind), file, bytes, tally)?;
     Ok(())
 }
 
@@ -213,17 +213,17 @@ fn add_values(
     kind: ArrayKind,
     file: &File,
     bytes: &mut Vec<u8>,
-    least: &mut Least,
+    tally: &mut Tally,
 ) -> Result<(), AllocError>
     ensures bytes { OnOk result (bytes.new.items ≡ bytes.old.items ++ spec.bytes_of kind
         (spec.entries_of (file_in file.now) kind (map value_tree values.now))) }
-    ensures breaches { OnOk result (least.new ≡ noted least.old
+    ensures breaches { OnOk result (tally.new ≡ noted tally.old
         (spec.values_breaches file.now.table.entries position kind (map value_tree values.now))) }
 {
     if values.len() == 1 {
-        add_sized(values, position, kind, file, bytes, least)
+        add_sized(values, position, kind, file, bytes, tally)
     } else {
-        add_listed(values, position, kind, file, bytes, least)
+        add_listed(values, position, kind, file, bytes, tally)
     }
 }
 
@@ -236,17 +236,17 @@ pub fn array(
     written: &Array<'_>,
     file: &File,
     found: &mut Arrays,
-    least: &mut Least,
+    tally: &mut Tally,
 ) -> Result<(), AllocError>
     ensures added { OnOk result (IsArrayAdded
         (spec.array_bytes (file_in file.now) (array_tree written.now)) found.old found.new) }
-    ensures breaches { OnOk result (least.new ≡ noted least.old
+    ensures breaches { OnOk result (tally.new ≡ noted tally.old
         (spec.array_breaches file.now.table.entries (array_tree written.now))) }
 {
     let before = found.bytes.len();
     let position = written.name.position;
     let bytes = &mut found.bytes;
-    add_values(&written.values, position, written.kind, file, bytes, least)?;
+    add_values(&written.values, position, written.kind, file, bytes, tally)?;
     found.sizes.push(found.bytes.len() - before)?;
     Ok(())
 }

@@ -5,16 +5,16 @@ ghost use Rattle.syntax_trees.specs.Views.{name_tree};
 ghost use Rattle.checker_names.specs.Noted.{noted};
 ghost use Rattle.checker_names.specs.Names as spec;
 
-use checker_names::{Least, Table, find, note};
+use checker_names::{Table, Tally, find, note};
 use syntax_lexer::DEFINED_TWICE;
 use syntax_trees::Name;
 
 /// A name that is defined where these names are defined.
 #[tactic(auto, using(checker_names::proofs::Noted::noted_none))]
-pub fn twice(name: Name<'_>, table: &Table, least: &mut Least)
-    ensures { least.new ≡ noted least.old (spec.twice table.now.entries (name_tree name.entry)) }
+pub fn definition_rule(name: Name<'_>, table: &Table, tally: &mut Tally)
+    ensures { tally.new ≡ noted tally.old (spec.twice table.now.entries (name_tree name.entry)) }
 {
     if find(table, name.text).is_some() {
-        note(least, DEFINED_TWICE, name.position);
+        note(tally, DEFINED_TWICE, name.position);
     }
 }

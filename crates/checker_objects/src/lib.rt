@@ -11,7 +11,7 @@ mod table_bytes;
 
 pub use array_rules::array;
 pub use defaults::all_defaults;
-pub use defined_twice::twice;
+pub use defined_twice::definition_rule;
 pub use listed::listed_objects_size;
 pub use object_rules::object;
 pub use standing::{parents, place};

@@ -8,23 +8,9 @@ ghost use Rattle.checker_objects.specs.Objects.{short_name};
 ghost use Rattle.checker_objects.specs.Sizes as spec;
 
 use crate::object_rules::short_name;
-use meaning::name_words;
+use meaning::{fold, name_words};
 use syntax::{Directive, Object, Property};
 use zcore::layout::OBJECT_ENTRY_LENGTH;
-
-/// A size up to 65,535 is itself; what a greater one becomes is as well above 65,535, and has the
-/// same remainder by 65,536.
-#[tactic(auto, using(meaning::proofs::Folding::fold_small, meaning::proofs::Folding::fold_great))]
-fn folded(size: u128) -> usize
-    ensures size { result ≡ folded size }
-    ensures few { result < 131072 }
-{
-    if size < 65_536 {
-        size as usize
-    } else {
-        65_536 + (size % 65_536) as usize
-    }
-}
 
 /// The bytes of a property that an object lists.
 fn listed_size(written: &Property<'_>) -> u128
@@ -44,7 +30,7 @@ fn listed_sizes(written: &[Property<'_>]) -> usize
 {
     let mut size = 0;
     for one in written {
-        size = folded(size as u128 + listed_size(one));
+        size = fold(size as u128 + listed_size(one));
     }
     size
 }
@@ -55,7 +41,7 @@ fn table_size(written: &Object<'_>) -> usize
     ensures few { result < 131072 }
 {
     let properties = listed_sizes(&written.properties);
-    folded(2 + 2 * name_words(short_name(&written.short)) + properties as u128)
+    fold(2 + 2 * name_words(short_name(&written.short)) + properties as u128)
 }
 
 /// The bytes of the entry and of the property table of the object that a directive defines, folded;
@@ -71,7 +57,7 @@ fn directive_size(directive: &Directive<'_>) -> usize
         Directive::Array(_) => 0,
         Directive::Attribute(_) => 0,
         Directive::Property(_, _) => 0,
-        Directive::Object(written) => folded((OBJECT_ENTRY_LENGTH + table_size(written)) as u128),
+        Directive::Object(written) => fold((OBJECT_ENTRY_LENGTH + table_size(written)) as u128),
         Directive::Routine(_) => 0,
     }
 }
@@ -84,7 +70,7 @@ pub fn listed_objects_size(directives: &[Directive<'_>]) -> usize
 {
     let mut size = 0;
     for directive in directives {
-        size = folded((size + directive_size(directive)) as u128);
+        size = fold((size + directive_size(directive)) as u128);
     }
     size
 }

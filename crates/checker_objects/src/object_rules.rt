@@ -12,8 +12,8 @@ ghost use Rattle.checker_names.specs.Names.{has_name, repeated_breaches};
 ghost use Rattle.checker_objects.specs.FirstListed.{first_listed, most_provided};
 ghost use Rattle.checker_objects.specs.Objects as spec;
 
-use crate::defined_twice::twice;
-use checker_names::{Binding, File, Least, Table, define, find, key_of, note, or_zero};
+use crate::defined_twice::definition_rule;
+use checker_names::{Binding, File, Table, Tally, define, find, key_of, note, or_zero};
 use checker_values::{attribute, literal, property};
 use indexmap::IndexMap;
 use meaning::limits::MOST_PROPERTY_WORDS;
@@ -28,52 +28,52 @@ use zcore::layout::{DEFAULT_COUNT, LONGEST_SHORT_NAME};
 const FEW_NAMES: usize = 8;
 
 #[tactic(auto, using(checker_names::proofs::Noted::noted_none))]
-fn short_rule(short: &Option<Text<'_>>, least: &mut Least)
-    ensures { least.new ≡ noted least.old (spec.short_breaches (option_map text_tree short.now)) }
+fn short_rule(short: &Option<Text<'_>>, tally: &mut Tally)
+    ensures { tally.new ≡ noted tally.old (spec.short_breaches (option_map text_tree short.now)) }
 {
     if let Some(text) = short {
         if name_words(text.bytes) > LONGEST_SHORT_NAME as u128 {
-            note(least, TOO_MANY, text.position);
+            note(tally, TOO_MANY, text.position);
         }
     }
 }
 
 // The number of a property's words. The grammar gives it one at least.
 #[tactic(auto, using(checker_names::proofs::Noted::noted_none))]
-fn count_rule(name: Name<'_>, values: &[ArrayValue<'_>], least: &mut Least)
-    ensures { least.new ≡ noted least.old
+fn count_rule(name: Name<'_>, values: &[ArrayValue<'_>], tally: &mut Tally)
+    ensures { tally.new ≡ noted tally.old
         (spec.count_breaches name.entry.position (map value_tree values.now)) }
 {
     if values.is_empty() {
-        note(least, TOO_MANY, name.position);
+        note(tally, TOO_MANY, name.position);
     } else if let Some(value) = values.get(MOST_PROPERTY_WORDS) {
-        note(least, TOO_MANY, value.position);
+        note(tally, TOO_MANY, value.position);
     }
 }
 
-fn word(value: &ArrayValue<'_>, file: &File, least: &mut Least) -> u16
+fn word(value: &ArrayValue<'_>, file: &File, tally: &mut Tally) -> u16
     ensures value { result ≡ spec.word_of (file_in file.now) (value_tree value.now) }
-    ensures breaches { least.new ≡ noted least.old
+    ensures breaches { tally.new ≡ noted tally.old
         (spec.value_breaches file.now.table.entries (value_tree value.now)) }
 {
     file.numbers
-        .value(or_zero(literal(&value.value, &file.table, least)))
+        .value(or_zero(literal(&value.value, &file.table, tally)))
 }
 
 fn words(
     values: &[ArrayValue<'_>],
     alloc: Global,
     file: &File,
-    least: &mut Least,
+    tally: &mut Tally,
 ) -> Result<Vec<u16>, AllocError>
     ensures words { IfOk result (λ v. v.items
         ≡ map (spec.word_of (file_in file.now)) (map value_tree values.now)) }
-    ensures breaches { OnOk result (least.new ≡ noted least.old
+    ensures breaches { OnOk result (tally.new ≡ noted tally.old
         (flat_map (spec.value_breaches file.now.table.entries) (map value_tree values.now))) }
 {
     let mut found = Vec::with_capacity(alloc, values.len())?;
     for value in values {
-        found.push_reserved(word(value, file, least));
+        found.push_reserved(word(value, file, tally));
     }
     Ok(found)
 }
@@ -83,17 +83,17 @@ fn provided(
     written: &Property<'_>,
     alloc: Global,
     file: &File,
-    least: &mut Least,
+    tally: &mut Tally,
 ) -> Result<(u8, Vec<u16>), AllocError>
     ensures value { IfOk result (λ x. property_of x
         ≡ spec.provided_of (file_in file.now) (property_tree written.now)) }
-    ensures breaches { OnOk result (least.new ≡ noted least.old
+    ensures breaches { OnOk result (tally.new ≡ noted tally.old
         (spec.provided_breaches file.now.table.entries (property_tree written.now))) }
 {
     let name = written.name;
-    let number = property(name, find(&file.table, name.text), least);
-    count_rule(name, &written.values, least);
-    let words = words(&written.values, alloc, file, least)?;
+    let number = property(name, find(&file.table, name.text), tally);
+    count_rule(name, &written.values, tally);
+    let words = words(&written.values, alloc, file, tally)?;
     Ok(((number % 256) as u8, words))
 }
 
@@ -125,17 +125,17 @@ fn properties(
     written: &[Property<'_>],
     alloc: Global,
     file: &File,
-    least: &mut Least,
+    tally: &mut Tally,
 ) -> Result<Vec<(u8, Vec<u16>)>, AllocError>
     ensures value { IfOk result (λ v. map property_of v.items
         ≡ spec.with_properties (file_in file.now) [] (map property_tree written.now)) }
-    ensures breaches { OnOk result (least.new ≡ noted least.old
+    ensures breaches { OnOk result (tally.new ≡ noted tally.old
         (flat_map (spec.provided_breaches file.now.table.entries)
         (map property_tree written.now))) }
 {
     let mut found = Vec::new(alloc);
     for one in written {
-        let Ok(added) = provided(one, alloc, file, least) else {
+        let Ok(added) = provided(one, alloc, file, tally) else {
             return Err(AllocError);
         };
         let Ok(()) = add_property(added, &mut found) else {
@@ -150,14 +150,14 @@ fn note_provided(
     written: &[Property<'_>],
     alloc: Global,
     file: &File,
-    least: &mut Least,
+    tally: &mut Tally,
 ) -> Result<(), AllocError>
-    ensures { OnOk result (least.new ≡ noted least.old
+    ensures { OnOk result (tally.new ≡ noted tally.old
         (flat_map (spec.provided_breaches file.now.table.entries)
         (map property_tree written.now))) }
 {
     for one in written {
-        drop(provided(one, alloc, file, least)?);
+        drop(provided(one, alloc, file, tally)?);
     }
     Ok(())
 }
@@ -170,45 +170,45 @@ fn provided_of_listed(
     written: &[Property<'_>],
     alloc: Global,
     file: &File,
-    least: &mut Least,
+    tally: &mut Tally,
 ) -> Result<Vec<(u8, Vec<u16>)>, AllocError>
     ensures value { IfOk result (λ v. map property_of v.items
         ≡ spec.with_properties (file_in file.now) []
         (take most_provided (map property_tree written.now))) }
-    ensures breaches { OnOk result (least.new ≡ noted least.old
+    ensures breaches { OnOk result (tally.new ≡ noted tally.old
         (flat_map (spec.provided_breaches file.now.table.entries)
         (map property_tree written.now))) }
 {
     let count = DEFAULT_COUNT.min(written.len());
-    let found = properties(&written[..count], alloc, file, least)?;
-    let Ok(()) = note_provided(&written[count..], alloc, file, least) else {
+    let found = properties(&written[..count], alloc, file, tally)?;
+    let Ok(()) = note_provided(&written[count..], alloc, file, tally) else {
         return Err(AllocError);
     };
     Ok(found)
 }
 
-fn given(name: Name<'_>, file: &File, least: &mut Least) -> u8
+fn given_attribute(name: Name<'_>, file: &File, tally: &mut Tally) -> u8
     ensures value { result ≡ spec.given_of (file_in file.now) (name_tree name.entry) }
-    ensures breaches { least.new ≡ noted least.old
+    ensures breaches { tally.new ≡ noted tally.old
         (spec.given_breaches file.now.table.entries (name_tree name.entry)) }
 {
-    (attribute(name, find(&file.table, name.text), least) % 256) as u8
+    (attribute(name, find(&file.table, name.text), tally) % 256) as u8
 }
 
 fn attributes(
     names: &[Name<'_>],
     alloc: Global,
     file: &File,
-    least: &mut Least,
+    tally: &mut Tally,
 ) -> Result<Vec<u8>, AllocError>
     ensures value { IfOk result (λ v. v.items
         ≡ map (spec.given_of (file_in file.now)) (map name_tree names.now)) }
-    ensures breaches { OnOk result (least.new ≡ noted least.old
+    ensures breaches { OnOk result (tally.new ≡ noted tally.old
         (flat_map (spec.given_breaches file.now.table.entries) (map name_tree names.now))) }
 {
     let mut found = Vec::with_capacity(alloc, names.len())?;
     for name in names {
-        found.push_reserved(given(*name, file, least));
+        found.push_reserved(given_attribute(*name, file, tally));
     }
     Ok(found)
 }
@@ -225,7 +225,7 @@ fn names_of<'a>(written: &[Property<'a>], alloc: Global) -> Result<Vec<Name<'a>>
 }
 
 // Whether a name stands among others.
-fn stands_among(name: Name<'_>, others: &[Name<'_>]) -> bool
+fn is_among(name: Name<'_>, others: &[Name<'_>]) -> bool
     ensures { result ≡ has_name (map name_tree others.now) (name_tree name.entry) }
 {
     let key = key_of(name.text);
@@ -239,33 +239,37 @@ fn stands_among(name: Name<'_>, others: &[Name<'_>]) -> bool
 
 // A name that stands among those before it.
 #[tactic(auto, using(checker_names::proofs::Noted::noted_none))]
-fn again(name: Name<'_>, before: &[Name<'_>], least: &mut Least)
-    ensures { least.new ≡ noted least.old
+fn repeat_rule(name: Name<'_>, before: &[Name<'_>], tally: &mut Tally)
+    ensures { tally.new ≡ noted tally.old
         (spec.again (map name_tree before.now) (name_tree name.entry)) }
 {
-    if stands_among(name, before) {
-        note(least, DEFINED_TWICE, name.position);
+    if is_among(name, before) {
+        note(tally, DEFINED_TWICE, name.position);
     }
 }
 
 // Two of one name, where each is compared with all before it: quick for few names.
-fn repeated_few(names: &[Name<'_>], least: &mut Least)
-    ensures { least.new ≡ noted least.old (repeated_breaches [] (map name_tree names.now)) }
+fn repeat_rules_of_few(names: &[Name<'_>], tally: &mut Tally)
+    ensures { tally.new ≡ noted tally.old (repeated_breaches [] (map name_tree names.now)) }
 {
     for number in 0..names.len() {
-        again(names[number], &names[..number], least);
+        repeat_rule(names[number], &names[..number], tally);
     }
 }
 
 // Two of one name, where each is looked up in a table of those before it: quick for many names.
-fn repeated_many(names: &[Name<'_>], alloc: Global, least: &mut Least) -> Result<(), AllocError>
-    ensures { OnOk result (least.new ≡ noted least.old
+fn repeat_rules_of_many(
+    names: &[Name<'_>],
+    alloc: Global,
+    tally: &mut Tally,
+) -> Result<(), AllocError>
+    ensures { OnOk result (tally.new ≡ noted tally.old
         (repeated_breaches [] (map name_tree names.now))) }
 {
     let mut table = IndexMap::new(alloc);
     for number in 0..names.len() {
         let name = names[number];
-        twice(name, &table, least);
+        definition_rule(name, &table, tally);
         let Ok(()) = define(name, &mut table, Binding::Local(number)) else {
             return Err(AllocError);
         };
@@ -274,14 +278,14 @@ fn repeated_many(names: &[Name<'_>], alloc: Global, least: &mut Least) -> Result
 }
 
 // Two of one name.
-fn repeated(names: &[Name<'_>], alloc: Global, least: &mut Least) -> Result<(), AllocError>
-    ensures { OnOk result (least.new ≡ noted least.old
+fn repeat_rules(names: &[Name<'_>], alloc: Global, tally: &mut Tally) -> Result<(), AllocError>
+    ensures { OnOk result (tally.new ≡ noted tally.old
         (repeated_breaches [] (map name_tree names.now))) }
 {
     if names.len() > FEW_NAMES {
-        return repeated_many(names, alloc, least);
+        return repeat_rules_of_many(names, alloc, tally);
     }
-    repeated_few(names, least);
+    repeat_rules_of_few(names, tally);
     Ok(())
 }
 
@@ -305,22 +309,22 @@ pub fn object<'a>(
     written: &Object<'a>,
     alloc: Global,
     file: &File,
-    least: &mut Least,
+    tally: &mut Tally,
 ) -> Result<CheckedObject<'a>, AllocError>
     ensures value { IfOk result (λ o. object_of o
         ≡ spec.object_in (file_in file.now) (first_listed (object_tree written.now))) }
-    ensures breaches { OnOk result (least.new ≡ noted least.old
+    ensures breaches { OnOk result (tally.new ≡ noted tally.old
         (spec.object_breaches file.now.table.entries (object_tree written.now))) }
 {
-    short_rule(&written.short, least);
+    short_rule(&written.short, tally);
     let names = names_of(&written.properties, alloc)?;
-    let Ok(()) = repeated(&names, alloc, least) else {
+    let Ok(()) = repeat_rules(&names, alloc, tally) else {
         return Err(AllocError);
     };
-    let Ok(properties) = provided_of_listed(&written.properties, alloc, file, least) else {
+    let Ok(properties) = provided_of_listed(&written.properties, alloc, file, tally) else {
         return Err(AllocError);
     };
-    let Ok(attributes) = attributes(&written.attributes, alloc, file, least) else {
+    let Ok(attributes) = attributes(&written.attributes, alloc, file, tally) else {
         return Err(AllocError);
     };
     Ok(CheckedObject {

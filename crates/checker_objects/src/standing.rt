@@ -9,7 +9,7 @@ ghost use Rattle.checker_names.specs.Noted.{noted};
 ghost use Rattle.checker_objects.specs.Objects.{object_trees};
 ghost use Rattle.checker_objects.specs.Objects as spec;
 
-use checker_names::{Binding, Least, Table, find, note};
+use checker_names::{Binding, Table, Tally, find, note};
 use meaning::CheckedObject;
 use std::alloc::{AllocError, Global};
 use syntax::{Directive, Object};
@@ -51,43 +51,43 @@ fn is_next(above: Option<(usize, usize)>, arrows: usize) -> bool
 
 // The arrows of an object, where `above` is the latest before it that has fewer.
 #[tactic(auto, using(checker_names::proofs::Noted::noted_none))]
-fn arrow_rule(above: Option<(usize, usize)>, arrows: &[Position], least: &mut Least)
-    ensures { least.new ≡ noted least.old (spec.arrow_breaches above arrows.now) }
+fn arrow_rule(above: Option<(usize, usize)>, arrows: &[Position], tally: &mut Tally)
+    ensures { tally.new ≡ noted tally.old (spec.arrow_breaches above arrows.now) }
 {
     if !arrows.is_empty() && !is_next(above, arrows.len()) {
-        note(least, UNKNOWN_NAME, arrows[0]);
+        note(tally, UNKNOWN_NAME, arrows[0]);
     }
 }
 
 // The name of a parent, by what it stands for: one of the objects before.
 #[tactic(auto, using(checker_names::proofs::Noted::noted_none))]
-fn parent_kind(position: Position, before: usize, found: Option<Binding>, least: &mut Least)
-    ensures { least.new ≡ noted least.old (spec.parent_breaches position before found) }
+fn parent_kind(position: Position, before: usize, found: Option<Binding>, tally: &mut Tally)
+    ensures { tally.new ≡ noted tally.old (spec.parent_breaches position before found) }
 {
     match found {
-        None => note(least, UNKNOWN_NAME, position),
-        Some(Binding::Constant(_)) => note(least, WRONG_KIND, position),
-        Some(Binding::Global(_)) => note(least, WRONG_KIND, position),
-        Some(Binding::Array(_, _)) => note(least, WRONG_KIND, position),
-        Some(Binding::Routine(_, _)) => note(least, WRONG_KIND, position),
-        Some(Binding::Attribute(_)) => note(least, WRONG_KIND, position),
-        Some(Binding::Property(_)) => note(least, WRONG_KIND, position),
+        None => note(tally, UNKNOWN_NAME, position),
+        Some(Binding::Constant(_)) => note(tally, WRONG_KIND, position),
+        Some(Binding::Global(_)) => note(tally, WRONG_KIND, position),
+        Some(Binding::Array(_, _)) => note(tally, WRONG_KIND, position),
+        Some(Binding::Routine(_, _)) => note(tally, WRONG_KIND, position),
+        Some(Binding::Attribute(_)) => note(tally, WRONG_KIND, position),
+        Some(Binding::Property(_)) => note(tally, WRONG_KIND, position),
         Some(Binding::Object(object)) => {
             if object > before {
-                note(least, UNKNOWN_NAME, position);
+                note(tally, UNKNOWN_NAME, position);
             }
         }
-        Some(Binding::Local(_)) => note(least, WRONG_KIND, position),
+        Some(Binding::Local(_)) => note(tally, WRONG_KIND, position),
     }
 }
 
 #[tactic(auto, using(checker_names::proofs::Noted::noted_none))]
-fn parent_rule(parent: &Option<Name<'_>>, whole: &Table, before: usize, least: &mut Least)
-    ensures { least.new ≡ noted least.old
+fn parent_rule(parent: &Option<Name<'_>>, whole: &Table, before: usize, tally: &mut Tally)
+    ensures { tally.new ≡ noted tally.old
         (spec.named_parent_breaches whole.now.entries before (option_map name_tree parent.now)) }
 {
     if let Some(name) = parent {
-        parent_kind(name.position, before, find(whole, name.text), least);
+        parent_kind(name.position, before, find(whole, name.text), tally);
     }
 }
 
@@ -119,7 +119,7 @@ fn stand(
     whole: &Table,
     before: usize,
     chain: &mut Vec<(usize, usize)>,
-    least: &mut Least,
+    tally: &mut Tally,
 ) -> Result<u16, AllocError>
     requires few { before < 2 ^ 63 }
     ensures value { IfOk result (λ p. p
@@ -128,14 +128,14 @@ fn stand(
         (object_tree object.now).parent % 65536) }
     ensures chain { OnOk result (chain.new.items
         ≡ spec.opened (length (object_tree object.now).arrows) before chain.old.items) }
-    ensures breaches { OnOk result (least.new ≡ noted least.old
+    ensures breaches { OnOk result (tally.new ≡ noted tally.old
         (spec.stand_breaches whole.now.entries chain.old.items before (object_tree object.now))) }
 {
     let arrows = object.arrows.len();
     close(arrows, chain);
     let above = chain.last().copied();
-    arrow_rule(above, &object.arrows, least);
-    parent_rule(&object.parent, whole, before, least);
+    arrow_rule(above, &object.arrows, tally);
+    parent_rule(&object.parent, whole, before, tally);
     chain.push((arrows, before + 1))?;
     Ok((parent_number(&object.parent, whole, above) % 65_536) as u16)
 }
@@ -150,11 +150,11 @@ pub fn parents(
     directives: &[Directive<'_>],
     alloc: Global,
     whole: &Table,
-    least: &mut Least,
+    tally: &mut Tally,
 ) -> Result<Vec<u16>, AllocError>
     ensures value { IfOk result (λ v. v.items
         ≡ spec.parents_of whole.now.entries (object_trees (map directive_tree directives.now))) }
-    ensures breaches { OnOk result (least.new ≡ noted least.old
+    ensures breaches { OnOk result (tally.new ≡ noted tally.old
         (spec.standing_breaches whole.now.entries
         (object_trees (map directive_tree directives.now)))) }
 {
@@ -165,7 +165,7 @@ pub fn parents(
             continue;
         };
         let before = parents.len();
-        let Ok(parent) = stand(object, whole, before, &mut chain, least) else {
+        let Ok(parent) = stand(object, whole, before, &mut chain, tally) else {
             return Err(AllocError);
         };
         parents.push(parent)?;

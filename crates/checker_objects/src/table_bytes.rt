@@ -7,7 +7,7 @@ ghost use Rattle.checker_names.specs.Scope.{file_in};
 ghost use Rattle.checker_objects.specs.Arrays as spec;
 
 use crate::array_rules::array;
-use checker_names::{File, Least};
+use checker_names::{File, Tally};
 use meaning::Arrays;
 use std::alloc::{AllocError, Global};
 use syntax::Directive;
@@ -19,8 +19,8 @@ fn add_array(directive: &Directive<'_>, file: &File, arrays: &mut Arrays) -> Res
 {
     match directive {
         Directive::Array(written) => {
-            let mut least = Least::new(None);
-            array(written, file, arrays, &mut least)
+            let mut tally = Tally::new(None);
+            array(written, file, arrays, &mut tally)
         }
         Directive::Global(_, _) => Ok(()),
         Directive::Constant(_, _) => Ok(()),

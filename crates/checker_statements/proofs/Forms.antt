@@ -7,7 +7,7 @@ use Rattle.syntax_statement_parts.specs.declared.tree.PrintItem.{PrintItem}
 use Rattle.syntax_statement_parts.specs.Views.{flag_tree, item_tree}
 use Rattle.meaning.proofs.Mapped.{mapped_twice}
 use Rattle.meaning.specs.Resolved.{Printed}
-use Rattle.checker_names.specs.declared.noting.Least.{Least}
+use Rattle.checker_names.specs.declared.noting.Tally.{Tally}
 use Rattle.checker_names.specs.Noted.{noted}
 use Rattle.checker_names.specs.Names.{Seen}
 use Rattle.checker_values.specs.Walk.{IsWalked}
@@ -21,7 +21,7 @@ module _ (seen : Seen) where
   flags_break [] = refl
   flags_break (x ∷ xs) = ap (λ b. own_flag_breaches seen x ++ b) (flags_break xs)
 
-  pub flags_walked : (xs : List (Bool × Name)) (found : List (Bool × ℕ)) {m n : Least}
+  pub flags_walked : (xs : List (Bool × Name)) (found : List (Bool × ℕ)) {m n : Tally}
       → AreFlags seen xs m n found
       → IsWalked (flat_map (flag_breaches seen.look) (map flag_tree xs)) m n found
       (map (resolve_flag seen) (map flag_tree xs))
@@ -39,7 +39,7 @@ module _ (seen : Seen) where
   items_resolve [] = refl
   items_resolve (x ∷ xs) = ap (λ r. resolved_item seen x ∷ r) (items_resolve xs)
 
-  pub items_walked : (xs : List PrintItem) (found : List Printed) {m n : Least} → AreItems seen xs m n found
+  pub items_walked : (xs : List PrintItem) (found : List Printed) {m n : Tally} → AreItems seen xs m n found
       → IsWalked (flat_map (item_breaches seen.look) (map item_tree xs)) m n found
       (map (resolve_item seen) (map item_tree xs))
   items_walked xs found {m = m} w = record {

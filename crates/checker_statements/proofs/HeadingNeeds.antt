@@ -2,11 +2,11 @@
 use Rattle.std.proofs.Common.{◌≡◌, nat_le, ◌&&◌, Option, Some, None, refl, arith}
 use Rattle.std.proofs.lemmas.Bool.Decides.{nat_tests}
 use Rattle.syntax_trees.specs.Tree.{ExpressionTree}
-use Rattle.checker_statements.specs.Walk.{part_fits, room_behind}
+use Rattle.checker_statements.specs.Walk.{part_fits, room_after}
 use Rattle.checker_statements.specs.Statements.{heading_need}
 
 pub parts_fit : (a b c : Option ExpressionTree)
-    → (part_fits a 48 && (part_fits b (room_behind a 48) && part_fits c (room_behind b (room_behind a 48))))
+    → (part_fits a 48 && (part_fits b (room_after a 48) && part_fits c (room_after b (room_after a 48))))
     ≡ nat_le (heading_need a b c) 48
 parts_fit None None None = refl
 parts_fit None None (Some z) = grind (arith, nat_tests)

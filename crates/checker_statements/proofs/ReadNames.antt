@@ -3,7 +3,7 @@ use Rattle.std.proofs.Common.{◌≡◌, ℕ, ◌++◌, Option, ap, ◌∙◌}
 use Rattle.syntax_trees.specs.Tree.{NameTree}
 use Rattle.meaning.specs.Resolved as values
 use Rattle.checker_names.specs.declared.binding.Binding.{Binding}
-use Rattle.checker_names.specs.declared.noting.Least.{Least}
+use Rattle.checker_names.specs.declared.noting.Tally.{Tally}
 use Rattle.checker_names.specs.Names.{Seen}
 use Rattle.checker_names.specs.Noted.{noted}
 use Rattle.checker_names.proofs.Noted.{noted_two}
@@ -12,7 +12,7 @@ use Rattle.checker_values.specs.Walk.{IsWalked}
 use Rattle.checker_statements.specs.Buffers.{buffer_breaches, same_breaches, read_breaches}
 
 pub read_walked : (seen : Seen) (n m : NameTree) (first second : Option Binding) (a b : ℕ)
-    {x y z w : Least}
+    {x y z w : Tally}
     → first ≡ seen.look n.text → second ≡ seen.look m.text → a ≡ array_of_binding first
     → b ≡ array_of_binding second → y ≡ noted x (buffer_breaches n.position first)
     → z ≡ noted y (buffer_breaches m.position second) → w ≡ noted z (same_breaches m.position first second)

@@ -4,7 +4,7 @@ use Rattle.std.specs.Prelude.{codes}
 use Rattle.syntax_trees.specs.declared.tree.Binary.TheVariants as op
 use Rattle.syntax_trees.specs.Tree.{ExpressionTree, constant, parenthesised, binary}
 use Rattle.syntax_statements.specs.Tree.{give, move, remove}
-use Rattle.meaning.specs.Around.{outside}
+use Rattle.meaning.specs.Enclosure.{outside}
 use Rattle.meaning.specs.Resolved as values
 use Rattle.checker_names.specs.Breaches.{at}
 use Rattle.checker_names.specs.Names.{key_of}

@@ -55,7 +55,7 @@ is_do_statement s p x c same = ap statement_tree (same ∙ sym (said.rolls-Do p 
 
 pub is_for_statement : (s : Statement) (p : Position) (h : Box Heading) (x : Box Statement) → s ≡ said.For p h x
     → statement_tree s ≡ written.for_loop p (heading_tree h.value).before (heading_tree h.value).test
-    (heading_tree h.value).behind (statement_tree x.value)
+    (heading_tree h.value).after (statement_tree x.value)
 is_for_statement s p h x same = ap statement_tree (same ∙ sym (said.rolls-For p h x))
     ∙ fold-roll-Statement StatementTree layer _
 

@@ -14,7 +14,7 @@ use Rattle.syntax_statements.specs.Tree.{StatementTree}
 use Rattle.syntax_statements.specs.Views.{statement_tree, case_tree, trees_of, cases_of}
 use Rattle.syntax_statements.specs.Tree as written
 use Rattle.meaning.proofs.Mapped.{mapped_twice}
-use Rattle.meaning.specs.declared.around.Around.{Around}
+use Rattle.meaning.specs.declared.enclosure.Enclosure.{Enclosure}
 use Rattle.meaning.specs.Resolved as values
 use Rattle.meaning.specs.declared.resolved.Action as code_action
 use Rattle.meaning.specs.declared.resolved.Action.TheVariants as done
@@ -22,9 +22,9 @@ use Rattle.meaning.specs.declared.resolved.Span.{Span}
 use Rattle.meaning.specs.Resolved.{Value, RangeOf, Action, Actions}
 use Rattle.meaning.specs.Views.{range_of, actions_of, action_of, case_of}
 use Rattle.meaning.specs.Views as views
-use Rattle.meaning.specs.Around.{in_switch}
+use Rattle.meaning.specs.Enclosure.{in_switch}
 use Rattle.checker_names.specs.declared.breach.Breach.{Breach}
-use Rattle.checker_names.specs.declared.noting.Least.{Least}
+use Rattle.checker_names.specs.declared.noting.Tally.{Tally}
 use Rattle.checker_names.specs.Noted.{noted}
 use Rattle.checker_names.specs.Names.{Seen}
 use Rattle.checker_values.specs.Walk.{IsWalked}
@@ -39,7 +39,7 @@ use Rattle.checker_statements.proofs.Shapes.{is_empty_statement}
 use Rattle.checker_statements.proofs.MadeStatements.{made_empty}
 
 -- an action that was put in a box, where memory was not refused
-pub kept_action : {E F : Type 0} {bs : List Breach} {m n : Least} {y : Action}
+pub kept_action : {E F : Type 0} {bs : List Breach} {m n : Tally} {y : Action}
     (r : Result (Box code_action.Action) E) (o : Option (Box code_action.Action))
     (s : Result (Box code_action.Action) F) (x : code_action.Action) → IfOk r (λ b. b.value ≡ x)
     → o ≡ result_ok r → o ≡ result_ok s → IsWalked bs m n (action_of x) y
@@ -55,11 +55,11 @@ kept_action r o (Err f) x h p q w = tt
 
 module _ (seen : Seen) where
   -- an empty statement breaks no rule, and is an action that does nothing
-  pub empty_walked : (around : Around) (s : Statement) (m : Least) → s ≡ said.Empty
+  pub empty_walked : (around : Enclosure) (s : Statement) (m : Tally) → s ≡ said.Empty
       → IsAction seen around (statement_tree s) m m (action_of done.Empty)
   empty_walked around s m same = rw (is_empty_statement s same, made_empty) (leaf m values.empty)
 
-  pub statements_break : (around : Around) (ss : List Statement)
+  pub statements_break : (around : Enclosure) (ss : List Statement)
       → statements_breaches seen.look around (trees_of (map statement_tree ss))
       ≡ flat_map (own_statement_breaches seen around) ss
   statements_break around [] = refl
@@ -71,7 +71,7 @@ module _ (seen : Seen) where
   statements_resolve [] = refl
   statements_resolve (s ∷ ss) = ap (λ r. values.next (resolved_statement seen s) r) (statements_resolve ss)
 
-  pub statements_walked : (around : Around) (ss : List Statement) (found : List Action) {m n : Least}
+  pub statements_walked : (around : Enclosure) (ss : List Statement) (found : List Action) {m n : Tally}
       → AreActions seen around ss m n found
       → IsWalked (statements_breaches seen.look around (trees_of (map statement_tree ss))) m n
       (actions_of found)
@@ -88,7 +88,7 @@ module _ (seen : Seen) where
   ranges_break [] = refl
   ranges_break (g ∷ gs) = ap (λ b. own_range_breaches seen g ++ b) (ranges_break gs)
 
-  ranges_walked : (gs : List Range) (found : List RangeOf) {m n : Least} → AreRanges seen gs m n found
+  ranges_walked : (gs : List Range) (found : List RangeOf) {m n : Tally} → AreRanges seen gs m n found
       → IsWalked (flat_map (range_breaches seen.look) (map range_tree gs)) m n found
       (map (resolve_range seen) (map range_tree gs))
   ranges_walked gs found {m = m} w = record {
@@ -96,8 +96,8 @@ module _ (seen : Seen) where
     breaches = w.breaches ∙ ap (λ b. noted m b) (sym (ranges_break gs));
   }
 
-  pub case_walked : (around : Around) (given : Vec Range × Vec Statement) (spans : Vec Span)
-      (body : Vec code_action.Action) (gs : List Range) (ss : List Statement) {m n o : Least}
+  pub case_walked : (around : Enclosure) (given : Vec Range × Vec Statement) (spans : Vec Span)
+      (body : Vec code_action.Action) (gs : List Range) (ss : List Statement) {m n o : Tally}
       → gs ≡ given.0.items → ss ≡ given.1.items → AreRanges seen gs m n (map range_of spans.items)
       → AreActions seen around ss n o (map action_of body.items)
       → IsCase seen around given m o (case_of (spans, body))
@@ -109,7 +109,7 @@ module _ (seen : Seen) where
       (ranges_walked given.0.items (map range_of spans.items) ranges)
       (statements_walked around given.1.items (map action_of body.items) actions)
 
-  pub other_walked : (around : Around) (ss all : List Statement) (found : List Action) {m n : Least}
+  pub other_walked : (around : Enclosure) (ss all : List Statement) (found : List Action) {m n : Tally}
       → ss ≡ all → AreActions seen around ss m n found
       → IsOther seen around (Some (map statement_tree all)) m n (Some found)
   other_walked around ss all found {m = m} same w = rw (sym same) (record {
@@ -118,7 +118,7 @@ module _ (seen : Seen) where
     breaches = w.breaches ∙ ap (λ b. noted m b) (sym (statements_break around ss));
   })
 
-  cases_break : (around : Around) (cs : List (Vec Range × Vec Statement)) (other : Option (List StatementTree))
+  cases_break : (around : Enclosure) (cs : List (Vec Range × Vec Statement)) (other : Option (List StatementTree))
       → cases_breaches seen.look around (cases_of (map case_tree cs) other)
       ≡ flat_map (own_case_breaches seen around) cs ++ other_breaches seen around other
   cases_break around [] None = refl
@@ -145,8 +145,8 @@ module _ (seen : Seen) where
       (λ r. values.case (map (resolve_range seen) (case_tree c).0) (resolve_statements seen (case_tree c).1) r)
       (cases_resolve cs other)
 
-  cases_walked : (around : Around) (cs : List (Vec Range × Vec Statement)) (other : Option (List StatementTree))
-      (found : List (List RangeOf × Actions)) (last : Option (List Action)) {m n o : Least}
+  cases_walked : (around : Enclosure) (cs : List (Vec Range × Vec Statement)) (other : Option (List StatementTree))
+      (found : List (List RangeOf × Actions)) (last : Option (List Action)) {m n o : Tally}
       → AreCases seen around cs m n found → IsOther seen around other n o last
       → IsWalked (cases_breaches seen.look around (cases_of (map case_tree cs) other)) m o
       (views.cases_of found last) (resolve_cases seen (cases_of (map case_tree cs) other))
@@ -157,9 +157,9 @@ module _ (seen : Seen) where
         breaches = both.breaches ∙ ap (λ b. noted m b) (sym (cases_break around cs other));
       }
 
-  pub switch_walked : (around inside : Around) (p : Position) (e : ExpressionTree) (v : Value)
+  pub switch_walked : (around inside : Enclosure) (p : Position) (e : ExpressionTree) (v : Value)
       (cs : List (Vec Range × Vec Statement)) (other : Option (List StatementTree))
-      (found : List (List RangeOf × Actions)) (last : Option (List Action)) {m n o q : Least}
+      (found : List (List RangeOf × Actions)) (last : Option (List Action)) {m n o q : Tally}
       → inside ≡ in_switch around → IsWhole seen p e m n v → AreCases seen inside cs n o found
       → IsOther seen inside other o q last
       → IsAction seen around (written.switch_on p e (cases_of (map case_tree cs) other)) m q
@@ -167,5 +167,5 @@ module _ (seen : Seen) where
   switch_walked around inside p e v cs other found last {n = n} {q = q} is w x y =
       let tree = cases_of (map case_tree cs) other in
       two values.switch_on w
-      (subst (λ (a : Around). IsWalked (cases_breaches seen.look a tree) n q (views.cases_of found last)
+      (subst (λ (a : Enclosure). IsWalked (cases_breaches seen.look a tree) n q (views.cases_of found last)
       (resolve_cases seen tree)) is (cases_walked inside cs other found last x y))

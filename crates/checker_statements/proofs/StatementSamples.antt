@@ -4,7 +4,7 @@ use Rattle.std.specs.Prelude.{codes}
 use Rattle.syntax_trees.specs.declared.tree.ObjectTest.TheVariants as tests
 use Rattle.syntax_trees.specs.Tree.{named, tested}
 use Rattle.syntax_statements.specs.Tree.{each, each_in, each_where, break_at, empty}
-use Rattle.meaning.specs.Around.{outside}
+use Rattle.meaning.specs.Enclosure.{outside}
 use Rattle.meaning.specs.declared.resolved.Variable.TheVariants as variables
 use Rattle.meaning.specs.Resolved as values
 use Rattle.checker_names.specs.Breaches.{at}

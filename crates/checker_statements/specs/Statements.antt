@@ -9,8 +9,8 @@ use Rattle.syntax_statement_parts.specs.Tree as parts
 use Rattle.syntax_statement_parts.specs.Tree.{LiteralTree, RangeTree, FlagTree, PrintItemTree}
 use Rattle.syntax_statements.specs.Tree as trees
 use Rattle.syntax_statements.specs.Tree.{StatementTree, StatementTrees, CaseTrees}
-use Rattle.meaning.specs.declared.around.Around.{Around}
-use Rattle.meaning.specs.Around.{in_loop, in_switch}
+use Rattle.meaning.specs.declared.enclosure.Enclosure.{Enclosure}
+use Rattle.meaning.specs.Enclosure.{in_loop, in_switch}
 use Rattle.meaning.specs.declared.resolved.Variable.{Variable}
 use Rattle.meaning.specs.Limits.{operands, most_temporaries}
 use Rattle.meaning.specs.Resolved.{RangeOf, one, between, Printed, text, character_of, number_of, Action, Actions}
@@ -104,7 +104,7 @@ module _ (look : List ℕ → Option Binding) where
 
   -- of a statement that stands in what is around it
   abbrev mutual
-    pub statement_breaches : Around → StatementTree → List Breach
+    pub statement_breaches : Enclosure → StatementTree → List Breach
     statement_breaches around (trees.block xs) = statements_breaches around xs
     statement_breaches around (trees.print is) = flat_map item_breaches is
     statement_breaches around (trees.print_return is) = flat_map item_breaches is
@@ -130,11 +130,11 @@ module _ (look : List ℕ → Option Binding) where
     statement_breaches around (trees.effect p e) = whole_breaches p e
     statement_breaches around _ = []
 
-    pub statements_breaches : Around → StatementTrees → List Breach
+    pub statements_breaches : Enclosure → StatementTrees → List Breach
     statements_breaches around trees.stop = []
     statements_breaches around (trees.next x xs) = statement_breaches around x ++ statements_breaches around xs
 
-    pub cases_breaches : Around → CaseTrees → List Breach
+    pub cases_breaches : Enclosure → CaseTrees → List Breach
     cases_breaches around trees.no_case = []
     cases_breaches around (trees.default_case xs) = statements_breaches around xs
     cases_breaches around (trees.case gs xs cs) = flat_map range_breaches gs

@@ -11,13 +11,13 @@ use Rattle.syntax_statement_parts.specs.declared.tree.Range.{Range}
 use Rattle.syntax_statement_parts.specs.Tree.{RangeTree, PrintItemTree}
 use Rattle.syntax_statement_parts.specs.Views.{HeadingTree, range_tree, flag_tree, item_tree}
 use Rattle.syntax_statements.specs.Tree.{StatementTree}
-use Rattle.meaning.specs.declared.around.Around.{Around}
+use Rattle.meaning.specs.declared.enclosure.Enclosure.{Enclosure}
 use Rattle.meaning.specs.declared.resolved.Value as code_value
 use Rattle.meaning.specs.declared.resolved.Action as code_action
 use Rattle.meaning.specs.Resolved.{Value, RangeOf, Printed, Action}
 use Rattle.meaning.specs.Views.{boxed_value, action_of}
 use Rattle.checker_names.specs.declared.breach.Breach.{Breach}
-use Rattle.checker_names.specs.declared.noting.Least.{Least}
+use Rattle.checker_names.specs.declared.noting.Tally.{Tally}
 use Rattle.checker_names.specs.Names.{Seen}
 use Rattle.checker_values.specs.Expressions.{resolve}
 use Rattle.checker_values.specs.Temporaries.{need}
@@ -31,16 +31,16 @@ abbrev pub parts_of : Option (Box code_value.Value) × Option (Box code_value.Va
 parts_of x = (option_map boxed_value x.0, option_map boxed_value x.1, option_map boxed_value x.2)
 
 abbrev pub need_of_heading : HeadingTree → ℕ
-need_of_heading h = heading_need h.before h.test h.behind
+need_of_heading h = heading_need h.before h.test h.after
 
--- a part of a `for` that is there needs at most so many, and leaves one less to those behind it
+-- a part of a `for` that is there needs at most so many, and leaves one less to those after it
 abbrev pub part_fits : Option ExpressionTree → ℕ → Bool
 part_fits None room = true
 part_fits (Some e) room = nat_le (need e) room
 
-abbrev pub room_behind : Option ExpressionTree → ℕ → ℕ
-room_behind None room = room
-room_behind (Some e) room = room - 1
+abbrev pub room_after : Option ExpressionTree → ℕ → ℕ
+room_after None room = room
+room_after (Some e) room = room - 1
 
 -- in a routine that sees so much of the file
 module _ (seen : Seen) where
@@ -67,55 +67,55 @@ module _ (seen : Seen) where
   -- Walks, from what was noted before to what is noted after
 
   -- a whole expression of what begins there
-  abbrev pub IsWhole : Position → ExpressionTree → Least → Least → Value → Type 0
+  abbrev pub IsWhole : Position → ExpressionTree → Tally → Tally → Value → Type 0
   IsWhole position e before after v = IsWalked (whole_breaches seen.look position e) before after v (resolve seen e)
 
   -- the parts of a `for`
 
-  abbrev pub IsPart : Option ExpressionTree → Least → Least → Option Value → Type 0
+  abbrev pub IsPart : Option ExpressionTree → Tally → Tally → Option Value → Type 0
   IsPart e before after v = IsWalked (part_breaches seen.look e) before after v (option_map (resolve seen) e)
 
   abbrev pub resolve_heading : HeadingTree → Option Value × Option Value × Option Value
   resolve_heading h = (
     option_map (resolve seen) h.before,
     option_map (resolve seen) h.test,
-    option_map (resolve seen) h.behind,
+    option_map (resolve seen) h.after,
   )
 
-  abbrev pub IsHeading : Position → HeadingTree → Least → Least
+  abbrev pub IsHeading : Position → HeadingTree → Tally → Tally
       → Option Value × Option Value × Option Value → Type 0
   IsHeading position h before after x =
-      IsWalked (heading_breaches seen.look position h.before h.test h.behind) before after x (resolve_heading h)
+      IsWalked (heading_breaches seen.look position h.before h.test h.after) before after x (resolve_heading h)
 
   -- what begins a case
 
-  abbrev pub IsRange : RangeTree → Least → Least → RangeOf → Type 0
+  abbrev pub IsRange : RangeTree → Tally → Tally → RangeOf → Type 0
   IsRange g before after r = IsWalked (range_breaches seen.look g) before after r (resolve_range seen g)
 
-  abbrev pub AreRanges : List Range → Least → Least → List RangeOf → Type 0
+  abbrev pub AreRanges : List Range → Tally → Tally → List RangeOf → Type 0
   AreRanges gs before after rs = IsWalked (flat_map own_range_breaches gs) before after rs (map resolved_range gs)
 
   -- the attributes of a `give`
 
-  abbrev pub IsFlag : Bool × Name → Least → Least → Bool × ℕ → Type 0
+  abbrev pub IsFlag : Bool × Name → Tally → Tally → Bool × ℕ → Type 0
   IsFlag x before after found = IsWalked (own_flag_breaches x) before after found (resolved_flag x)
 
-  abbrev pub AreFlags : List (Bool × Name) → Least → Least → List (Bool × ℕ) → Type 0
+  abbrev pub AreFlags : List (Bool × Name) → Tally → Tally → List (Bool × ℕ) → Type 0
   AreFlags xs before after found = IsWalked (flat_map own_flag_breaches xs) before after found (map resolved_flag xs)
 
-  abbrev pub IsItem : PrintItemTree → Least → Least → Printed → Type 0
+  abbrev pub IsItem : PrintItemTree → Tally → Tally → Printed → Type 0
   IsItem x before after i = IsWalked (item_breaches seen.look x) before after i (resolve_item seen x)
 
-  abbrev pub AreItems : List PrintItem → Least → Least → List Printed → Type 0
+  abbrev pub AreItems : List PrintItem → Tally → Tally → List Printed → Type 0
   AreItems xs before after is = IsWalked (flat_map own_item_breaches xs) before after is (map resolved_item xs)
 
   -- statements that stand in what is around them
 
-  abbrev pub IsAction : Around → StatementTree → Least → Least → Action → Type 0
+  abbrev pub IsAction : Enclosure → StatementTree → Tally → Tally → Action → Type 0
   IsAction around s before after a = IsWalked (statement_breaches seen.look around s) before after a
       (resolve_statement seen s)
 
   -- what is answered, unless memory was refused: what the statement resolves to
-  abbrev pub GivesAction : {E : Type 0} → Around → Result code_action.Action E → Least → Least
+  abbrev pub GivesAction : {E : Type 0} → Enclosure → Result code_action.Action E → Tally → Tally
       → StatementTree → Type 0
   GivesAction around result before after s = IfOk result (λ a. IsAction around s before after (action_of a))

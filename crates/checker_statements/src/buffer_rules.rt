@@ -11,7 +11,7 @@ ghost use Rattle.checker_values.specs.Expressions.{array_of_binding};
 ghost use Rattle.checker_statements.specs.Buffers as spec;
 ghost use Rattle.checker_statements.specs.Walk.{IsAction};
 
-use checker_names::{Binding, Least, Scope, note};
+use checker_names::{Binding, Scope, Tally, note};
 use meaning::Action;
 use syntax::ArrayKind;
 use syntax_lexer::{Position, UNKNOWN_NAME, WRONG_KIND};
@@ -29,17 +29,17 @@ fn is_of_bytes(kind: ArrayKind) -> bool
 }
 
 #[tactic(auto, using(checker_names::proofs::Noted::noted_none))]
-fn buffer_rules(position: Position, found: Option<Binding>, least: &mut Least)
-    ensures { least.new ≡ noted least.old (spec.buffer_breaches position found) }
+fn buffer_rules(position: Position, found: Option<Binding>, tally: &mut Tally)
+    ensures { tally.new ≡ noted tally.old (spec.buffer_breaches position found) }
 {
     match found {
-        None => note(least, UNKNOWN_NAME, position),
+        None => note(tally, UNKNOWN_NAME, position),
         Some(Binding::Array(_, kind)) => {
             if !is_of_bytes(kind) {
-                note(least, WRONG_KIND, position);
+                note(tally, WRONG_KIND, position);
             }
         }
-        Some(_) => note(least, WRONG_KIND, position),
+        Some(_) => note(tally, WRONG_KIND, position),
     }
 }
 
@@ -58,14 +58,14 @@ fn same_array(
     position: Position,
     first: Option<Binding>,
     second: Option<Binding>,
-    least: &mut Least,
+    tally: &mut Tally,
 )
-    ensures { least.new ≡ noted least.old (spec.same_breaches position first second) }
+    ensures { tally.new ≡ noted tally.old (spec.same_breaches position first second) }
 {
     match first {
         Some(Binding::Array(number, _)) => {
             if is_array(number, second) {
-                note(least, WRONG_KIND, position);
+                note(tally, WRONG_KIND, position);
             }
         }
         _ => {}
@@ -83,16 +83,16 @@ fn array_number(found: Option<Binding>) -> usize
 }
 
 /// Resolves the names of a `read`, and notes the rules that they break.
-pub fn read<'a>(names: &(Name<'_>, Name<'_>), scope: &Scope<'_>, least: &mut Least) -> Action<'a>
+pub fn read<'a>(names: &(Name<'_>, Name<'_>), scope: &Scope<'_>, tally: &mut Tally) -> Action<'a>
     ensures { (around : _) → IsAction (seen_in scope.now) around
         (trees.read_line (name_tree names.now.0) (name_tree names.now.1))
-        least.old least.new (action_of result) }
+        tally.old tally.new (action_of result) }
 {
     let (text, words) = *names;
     let first = scope.look(text.text);
     let second = scope.look(words.text);
-    buffer_rules(text.position, first, least);
-    buffer_rules(words.position, second, least);
-    same_array(words.position, first, second, least);
+    buffer_rules(text.position, first, tally);
+    buffer_rules(words.position, second, tally);
+    same_array(words.position, first, second, tally);
     Action::Read(array_number(first), array_number(second))
 }

@@ -9,7 +9,7 @@ ghost use Rattle.checker_names.specs.Scope.{look_in, seen_in};
 ghost use Rattle.checker_statements.specs.Statements as spec;
 ghost use Rattle.checker_statements.specs.Walk.{IsRange, AreRanges};
 
-use checker_names::{Least, Scope, constant_known, key_of_word, or_zero};
+use checker_names::{Scope, Tally, constant_known, key_of_word, or_zero};
 use checker_values::constant_name;
 use meaning::Span;
 use std::alloc::{AllocError, Global};
@@ -17,9 +17,9 @@ use syntax_statement_parts::{Literal, Range};
 
 // A value, which is known before a story runs. A local hides a constant.
 #[tactic(auto, using(checker_names::proofs::Noted::noted_none))]
-fn case_value(value: &Literal<'_>, scope: &Scope<'_>, least: &mut Least) -> u16
+fn case_value(value: &Literal<'_>, scope: &Scope<'_>, tally: &mut Tally) -> u16
     ensures value { result ≡ spec.known_number (seen_in scope.now) (literal_tree value.now) }
-    ensures breaches { least.new ≡ noted least.old
+    ensures breaches { tally.new ≡ noted tally.old
         (spec.known_breaches (look_in scope.now) (literal_tree value.now)) }
 {
     match value {
@@ -27,7 +27,7 @@ fn case_value(value: &Literal<'_>, scope: &Scope<'_>, least: &mut Least) -> u16
         Literal::Word(word) => scope.file.numbers.number(key_of_word(word)),
         Literal::Named(name) => {
             let found = scope.look(name.text);
-            constant_name(name.position, found, least);
+            constant_name(name.position, found, tally);
             scope.file.numbers.value(or_zero(constant_known(found)))
         }
     }
@@ -35,24 +35,24 @@ fn case_value(value: &Literal<'_>, scope: &Scope<'_>, least: &mut Least) -> u16
 
 // What a range holds for, whose first value is known.
 #[tactic(auto, using(checker_names::proofs::Noted::noted_none))]
-fn span(high: &Option<Box<Literal<'_>>>, scope: &Scope<'_>, low: u16, least: &mut Least) -> Span
+fn span(high: &Option<Box<Literal<'_>>>, scope: &Scope<'_>, low: u16, tally: &mut Tally) -> Span
     ensures value { range_of result ≡ spec.range_to (seen_in scope.now) low
         (option_map boxed_literal high.now) }
-    ensures breaches { least.new ≡ noted least.old
+    ensures breaches { tally.new ≡ noted tally.old
         (spec.high_breaches (look_in scope.now) (option_map boxed_literal high.now)) }
 {
     match high {
         None => Span::One(low),
-        Some(value) => Span::Between(low, case_value(value, scope, least)),
+        Some(value) => Span::Between(low, case_value(value, scope, tally)),
     }
 }
 
-fn range(range: &Range<'_>, scope: &Scope<'_>, least: &mut Least) -> Span
+fn range(range: &Range<'_>, scope: &Scope<'_>, tally: &mut Tally) -> Span
     ensures { IsRange (seen_in scope.now) (range_tree range.now)
-        least.old least.new (range_of result) }
+        tally.old tally.new (range_of result) }
 {
-    let low = case_value(&range.low, scope, least);
-    span(&range.high, scope, low, least)
+    let low = case_value(&range.low, scope, tally);
+    span(&range.high, scope, low, tally)
 }
 
 /// The ranges of a case.
@@ -64,14 +64,14 @@ pub fn ranges(
     given: &[Range<'_>],
     alloc: Global,
     scope: &Scope<'_>,
-    least: &mut Least,
+    tally: &mut Tally,
 ) -> Result<Vec<Span>, AllocError>
     ensures { IfOk result (λ v. AreRanges (seen_in scope.now) given.now
-        least.old least.new (map range_of v.items)) }
+        tally.old tally.new (map range_of v.items)) }
 {
     let mut found = Vec::with_capacity(alloc, given.len())?;
     for x in given {
-        let resolved = range(x, scope, least);
+        let resolved = range(x, scope, tally);
         found.push_reserved(resolved);
     }
     Ok(found)

@@ -9,10 +9,10 @@ ghost use Rattle.checker_names.specs.Noted.{noted};
 ghost use Rattle.checker_names.specs.Scope.{seen_in};
 ghost use Rattle.checker_statements.specs.Statements as spec;
 ghost use Rattle.checker_statements.specs.Walk.{need_of_heading};
-ghost use Rattle.checker_statements.specs.Walk.{part_fits, room_behind, IsPart, IsHeading};
+ghost use Rattle.checker_statements.specs.Walk.{part_fits, room_after, IsPart, IsHeading};
 ghost use Rattle.checker_statements.specs.Walk.{parts_of};
 
-use checker_names::{Least, Scope, note};
+use checker_names::{Scope, Tally, note};
 use checker_values::{boxed, fits};
 use meaning::Value;
 use meaning::limits::MOST_TEMPORARIES;
@@ -31,9 +31,9 @@ pub fn fits_in(part: &Option<Box<Expression<'_>>>, room: u8) -> bool
     }
 }
 
-/// How many are left for the parts behind it.
-pub fn left_behind(part: &Option<Box<Expression<'_>>>, room: u8) -> u8
-    ensures { result ≡ room_behind (part_tree part.now) room }
+/// How many are left for the parts after it.
+pub fn room_after(part: &Option<Box<Expression<'_>>>, room: u8) -> u8
+    ensures { result ≡ room_after (part_tree part.now) room }
 {
     match part {
         None => room,
@@ -52,21 +52,21 @@ fn all_fit(heading: &Heading<'_>) -> bool
     ensures { result ≡ nat_le (need_of_heading (heading_tree heading.now))
         most_temporaries }
 {
-    let second = left_behind(&heading.before, MOST_TEMPORARIES);
-    let third = left_behind(&heading.test, second);
+    let second = room_after(&heading.before, MOST_TEMPORARIES);
+    let third = room_after(&heading.test, second);
     let first_fits = fits_in(&heading.before, MOST_TEMPORARIES);
     let second_fits = fits_in(&heading.test, second);
-    let third_fits = fits_in(&heading.behind, third);
+    let third_fits = fits_in(&heading.after, third);
     all_three(first_fits, second_fits, third_fits)
 }
 
 #[tactic(auto, using(checker_names::proofs::Noted::noted_none, checker_values::proofs::Needs::fits_not))]
-fn temporaries(heading: &Heading<'_>, position: Position, least: &mut Least)
-    ensures { least.new ≡ noted least.old
+fn temporaries(heading: &Heading<'_>, position: Position, tally: &mut Tally)
+    ensures { tally.new ≡ noted tally.old
         (spec.room_breaches position (need_of_heading (heading_tree heading.now))) }
 {
     if !all_fit(heading) {
-        note(least, EXPRESSION_TOO_LARGE, position);
+        note(tally, EXPRESSION_TOO_LARGE, position);
     }
 }
 
@@ -75,15 +75,15 @@ fn part(
     given: &Option<Box<Expression<'_>>>,
     alloc: Global,
     scope: &Scope<'_>,
-    least: &mut Least,
+    tally: &mut Tally,
 ) -> Result<Option<Box<Value>>, AllocError>
     ensures { IfOk result (λ v. IsPart (seen_in scope.now) (part_tree given.now)
-        least.old least.new (option_map boxed_value v)) }
+        tally.old tally.new (option_map boxed_value v)) }
 {
     match given {
         None => Ok(None),
         Some(e) => {
-            let Ok(value) = boxed(e, alloc, scope, least) else {
+            let Ok(value) = boxed(e, alloc, scope, tally) else {
                 return Err(AllocError);
             };
             Ok(Some(value))
@@ -101,23 +101,23 @@ pub fn resolved_heading(
     alloc: Global,
     scope: &Scope<'_>,
     position: Position,
-    least: &mut Least,
+    tally: &mut Tally,
 ) -> Result<(Option<Box<Value>>, Option<Box<Value>>, Option<Box<Value>>), AllocError>
     ensures { IfOk result (λ x. IsHeading (seen_in scope.now) position (heading_tree given.now)
-        least.old least.new (parts_of x)) }
+        tally.old tally.new (parts_of x)) }
 {
-    temporaries(given, position, least);
-    let Ok(before) = part(&given.before, alloc, scope, least) else {
+    temporaries(given, position, tally);
+    let Ok(before) = part(&given.before, alloc, scope, tally) else {
         return Err(AllocError);
     };
-    let Ok(test) = part(&given.test, alloc, scope, least) else {
+    let Ok(test) = part(&given.test, alloc, scope, tally) else {
         drop(before);
         return Err(AllocError);
     };
-    let Ok(behind) = part(&given.behind, alloc, scope, least) else {
+    let Ok(after) = part(&given.after, alloc, scope, tally) else {
         drop(before);
         drop(test);
         return Err(AllocError);
     };
-    Ok((before, test, behind))
+    Ok((before, test, after))
 }

@@ -5,9 +5,8 @@ mod buffer_rules;
 mod case_rules;
 mod heading_rules;
 mod loop_rules;
-mod memory;
 mod simple_rules;
 mod statement_rules;
 
-pub use heading_rules::{fits_in, left_behind};
+pub use heading_rules::{fits_in, room_after};
 pub use statement_rules::all_statements;

@@ -5,26 +5,26 @@ ghost use Rattle.checker_names.specs.Noted.{noted};
 ghost use Rattle.checker_values.specs.Expressions.{variable_of_binding};
 ghost use Rattle.checker_statements.specs.Statements.{loop_breaches};
 
-use checker_names::{Binding, Least, note};
+use checker_names::{Binding, Tally, note};
 use meaning::Variable;
 use syntax_lexer::{UNKNOWN_NAME, WRONG_KIND};
 use syntax_trees::Name;
 
 /// The variable of an `objectloop`; any will do for a name that stands for none.
 #[tactic(auto, using(checker_names::proofs::Noted::noted_none))]
-pub fn loop_variable(name: Name<'_>, found: Option<Binding>, least: &mut Least) -> Variable
+pub fn loop_variable(name: Name<'_>, found: Option<Binding>, tally: &mut Tally) -> Variable
     ensures value { result ≡ variable_of_binding found }
-    ensures breaches { least.new ≡ noted least.old (loop_breaches name.entry.position found) }
+    ensures breaches { tally.new ≡ noted tally.old (loop_breaches name.entry.position found) }
 {
     match found {
         None => {
-            note(least, UNKNOWN_NAME, name.position);
+            note(tally, UNKNOWN_NAME, name.position);
             Variable::Local(0)
         }
         Some(Binding::Global(number)) => Variable::Global(number),
         Some(Binding::Local(number)) => Variable::Local(number),
         Some(_) => {
-            note(least, WRONG_KIND, name.position);
+            note(tally, WRONG_KIND, name.position);
             Variable::Local(0)
         }
     }

@@ -13,10 +13,10 @@ ghost use Rattle.checker_statements.specs.Statements.{outside_breaches, room_bre
 ghost use Rattle.checker_statements.specs.Walk.{IsWhole, IsFlag, AreFlags, IsItem, AreItems, GivesAction};
 
 use crate::buffer_rules::read;
-use checker_names::{Least, Scope, note};
+use checker_names::{Scope, Tally, note};
 use checker_values::{attribute, both_fit, boxed, expression, fits};
 use meaning::limits::MOST_TEMPORARIES;
-use meaning::{Action, Around, Printed, Value};
+use meaning::{Action, Enclosure, Printed, Value};
 use std::alloc::{AllocError, Global};
 use syntax_lexer::{BREAK_OUTSIDE, EXPRESSION_TOO_LARGE, Position};
 use syntax_statement_parts::PrintItem;
@@ -24,11 +24,11 @@ use syntax_statements::SimpleStatement;
 use syntax_trees::{Expression, Name};
 
 #[tactic(auto, using(checker_names::proofs::Noted::noted_none, checker_values::proofs::Needs::fits_not))]
-fn temporaries(e: &Expression<'_>, position: Position, least: &mut Least)
-    ensures { least.new ≡ noted least.old (room_breaches position (need (expression_tree e.now))) }
+fn temporaries(e: &Expression<'_>, position: Position, tally: &mut Tally)
+    ensures { tally.new ≡ noted tally.old (room_breaches position (need (expression_tree e.now))) }
 {
     if !fits(e, MOST_TEMPORARIES) {
-        note(least, EXPRESSION_TOO_LARGE, position);
+        note(tally, EXPRESSION_TOO_LARGE, position);
     }
 }
 
@@ -39,13 +39,13 @@ fn whole(
     alloc: Global,
     scope: &Scope<'_>,
     position: Position,
-    least: &mut Least,
+    tally: &mut Tally,
 ) -> Result<Value, AllocError>
     ensures { IfOk result (λ v. IsWhole (seen_in scope.now) position (expression_tree e.now)
-        least.old least.new (value_of v)) }
+        tally.old tally.new (value_of v)) }
 {
-    temporaries(e, position, least);
-    expression(e, alloc, scope, least)
+    temporaries(e, position, tally);
+    expression(e, alloc, scope, tally)
 }
 
 /// Resolves the names of an expression of a statement that begins at this position, and notes the
@@ -59,13 +59,13 @@ pub fn boxed_whole(
     alloc: Global,
     scope: &Scope<'_>,
     position: Position,
-    least: &mut Least,
+    tally: &mut Tally,
 ) -> Result<Box<Value>, AllocError>
     ensures { IfOk result (λ v. IsWhole (seen_in scope.now) position (expression_tree e.now)
-        least.old least.new (boxed_value v)) }
+        tally.old tally.new (boxed_value v)) }
 {
-    temporaries(e, position, least);
-    boxed(e, alloc, scope, least)
+    temporaries(e, position, tally);
+    boxed(e, alloc, scope, tally)
 }
 
 #[tactic(auto, using(checker_names::proofs::Noted::noted_none))]
@@ -73,27 +73,27 @@ fn item<'a>(
     printed: &PrintItem<'a>,
     alloc: Global,
     scope: &Scope<'_>,
-    least: &mut Least,
+    tally: &mut Tally,
 ) -> Result<Printed<'a>, AllocError>
     ensures { IfOk result (λ x. IsItem (seen_in scope.now) (item_tree printed.now)
-        least.old least.new (printed_of x)) }
+        tally.old tally.new (printed_of x)) }
 {
     match printed {
         PrintItem::Text(text) => Ok(Printed::Text(text)),
         PrintItem::Character(position, e) => {
-            let Ok(value) = whole(e, alloc, scope, *position, least) else {
+            let Ok(value) = whole(e, alloc, scope, *position, tally) else {
                 return Err(AllocError);
             };
             Ok(Printed::Character(value))
         }
         PrintItem::Object(position, e) => {
-            let Ok(value) = whole(e, alloc, scope, *position, least) else {
+            let Ok(value) = whole(e, alloc, scope, *position, tally) else {
                 return Err(AllocError);
             };
             Ok(Printed::Name(value))
         }
         PrintItem::Number(position, e) => {
-            let Ok(value) = whole(e, alloc, scope, *position, least) else {
+            let Ok(value) = whole(e, alloc, scope, *position, tally) else {
                 return Err(AllocError);
             };
             Ok(Printed::Number(value))
@@ -105,14 +105,14 @@ fn items<'a>(
     printed: &[PrintItem<'a>],
     alloc: Global,
     scope: &Scope<'_>,
-    least: &mut Least,
+    tally: &mut Tally,
 ) -> Result<Vec<Printed<'a>>, AllocError>
     ensures { IfOk result (λ v. AreItems (seen_in scope.now) printed.now
-        least.old least.new (map printed_of v.items)) }
+        tally.old tally.new (map printed_of v.items)) }
 {
     let mut found = Vec::with_capacity(alloc, printed.len())?;
     for x in printed {
-        let Ok(resolved) = item(x, alloc, scope, least) else {
+        let Ok(resolved) = item(x, alloc, scope, tally) else {
             return Err(AllocError);
         };
         found.push_reserved(resolved);
@@ -126,12 +126,12 @@ fn print<'a>(
     printed: &[PrintItem<'a>],
     alloc: Global,
     scope: &Scope<'_>,
-    least: &mut Least,
+    tally: &mut Tally,
 ) -> Result<Action<'a>, AllocError>
-    ensures { (around : _) → GivesAction (seen_in scope.now) around result least.old least.new
+    ensures { (around : _) → GivesAction (seen_in scope.now) around result tally.old tally.new
         (trees.print (map item_tree printed.now)) }
 {
-    let Ok(found) = items(printed, alloc, scope, least) else {
+    let Ok(found) = items(printed, alloc, scope, tally) else {
         return Err(AllocError);
     };
     Ok(Action::Print(found))
@@ -141,12 +141,12 @@ fn print_return<'a>(
     printed: &[PrintItem<'a>],
     alloc: Global,
     scope: &Scope<'_>,
-    least: &mut Least,
+    tally: &mut Tally,
 ) -> Result<Action<'a>, AllocError>
-    ensures { (around : _) → GivesAction (seen_in scope.now) around result least.old least.new
+    ensures { (around : _) → GivesAction (seen_in scope.now) around result tally.old tally.new
         (trees.print_return (map item_tree printed.now)) }
 {
-    let Ok(found) = items(printed, alloc, scope, least) else {
+    let Ok(found) = items(printed, alloc, scope, tally) else {
         return Err(AllocError);
     };
     Ok(Action::PrintReturn(found))
@@ -157,12 +157,12 @@ fn return_value<'a>(
     alloc: Global,
     scope: &Scope<'_>,
     position: Position,
-    least: &mut Least,
+    tally: &mut Tally,
 ) -> Result<Action<'a>, AllocError>
-    ensures { (around : _) → GivesAction (seen_in scope.now) around result least.old least.new
+    ensures { (around : _) → GivesAction (seen_in scope.now) around result tally.old tally.new
         (trees.return_value position (expression_tree e.now)) }
 {
-    let Ok(value) = whole(e, alloc, scope, position, least) else {
+    let Ok(value) = whole(e, alloc, scope, position, tally) else {
         return Err(AllocError);
     };
     Ok(Action::ReturnValue(value))
@@ -173,23 +173,23 @@ fn effect<'a>(
     alloc: Global,
     scope: &Scope<'_>,
     position: Position,
-    least: &mut Least,
+    tally: &mut Tally,
 ) -> Result<Action<'a>, AllocError>
-    ensures { (around : _) → GivesAction (seen_in scope.now) around result least.old least.new
+    ensures { (around : _) → GivesAction (seen_in scope.now) around result tally.old tally.new
         (trees.effect position (expression_tree e.now)) }
 {
-    let Ok(value) = whole(e, alloc, scope, position, least) else {
+    let Ok(value) = whole(e, alloc, scope, position, tally) else {
         return Err(AllocError);
     };
     Ok(Action::Effect(value))
 }
 
 // An attribute of a `give`, and whether it is set.
-fn flag(given: &(bool, Name<'_>), scope: &Scope<'_>, least: &mut Least) -> (bool, usize)
-    ensures { IsFlag (seen_in scope.now) given.now least.old least.new result }
+fn flag(given: &(bool, Name<'_>), scope: &Scope<'_>, tally: &mut Tally) -> (bool, usize)
+    ensures { IsFlag (seen_in scope.now) given.now tally.old tally.new result }
 {
     let (sets, name) = *given;
-    let number = attribute(name, scope.look(name.text), least);
+    let number = attribute(name, scope.look(name.text), tally);
     (sets, number)
 }
 
@@ -198,14 +198,14 @@ fn flags(
     given: &[(bool, Name<'_>)],
     alloc: Global,
     scope: &Scope<'_>,
-    least: &mut Least,
+    tally: &mut Tally,
 ) -> Result<Vec<(bool, usize)>, AllocError>
     ensures { IfOk result (λ v. AreFlags (seen_in scope.now) given.now
-        least.old least.new v.items) }
+        tally.old tally.new v.items) }
 {
     let mut found = Vec::with_capacity(alloc, given.len())?;
     for x in given {
-        let resolved = flag(x, scope, least);
+        let resolved = flag(x, scope, tally);
         found.push_reserved(resolved);
     }
     Ok(found)
@@ -217,15 +217,15 @@ fn give<'a>(
     alloc: Global,
     scope: &Scope<'_>,
     position: Position,
-    least: &mut Least,
+    tally: &mut Tally,
 ) -> Result<Action<'a>, AllocError>
-    ensures { (around : _) → GivesAction (seen_in scope.now) around result least.old least.new
+    ensures { (around : _) → GivesAction (seen_in scope.now) around result tally.old tally.new
         (trees.give position (expression_tree e.now) (map flag_tree given.now.items)) }
 {
-    let Ok(object) = boxed_whole(e, alloc, scope, position, least) else {
+    let Ok(object) = boxed_whole(e, alloc, scope, position, tally) else {
         return Err(AllocError);
     };
-    let Ok(changes) = flags(given, alloc, scope, least) else {
+    let Ok(changes) = flags(given, alloc, scope, tally) else {
         drop(object);
         return Err(AllocError);
     };
@@ -237,13 +237,13 @@ fn move_temporaries(
     object: &Expression<'_>,
     parent: &Expression<'_>,
     position: Position,
-    least: &mut Least,
+    tally: &mut Tally,
 )
-    ensures { least.new ≡ noted least.old (room_breaches position
+    ensures { tally.new ≡ noted tally.old (room_breaches position
         (move_need (expression_tree object.now) (expression_tree parent.now))) }
 {
     if !both_fit(object, parent, MOST_TEMPORARIES) {
-        note(least, EXPRESSION_TOO_LARGE, position);
+        note(tally, EXPRESSION_TOO_LARGE, position);
     }
 }
 
@@ -253,16 +253,16 @@ fn move_to<'a>(
     alloc: Global,
     scope: &Scope<'_>,
     position: Position,
-    least: &mut Least,
+    tally: &mut Tally,
 ) -> Result<Action<'a>, AllocError>
-    ensures { (around : _) → GivesAction (seen_in scope.now) around result least.old least.new
+    ensures { (around : _) → GivesAction (seen_in scope.now) around result tally.old tally.new
         (trees.move position (expression_tree object.now) (expression_tree parent.now)) }
 {
-    move_temporaries(object, parent, position, least);
-    let Ok(object) = boxed(object, alloc, scope, least) else {
+    move_temporaries(object, parent, position, tally);
+    let Ok(object) = boxed(object, alloc, scope, tally) else {
         return Err(AllocError);
     };
-    let Ok(parent) = boxed(parent, alloc, scope, least) else {
+    let Ok(parent) = boxed(parent, alloc, scope, tally) else {
         drop(object);
         return Err(AllocError);
     };
@@ -274,12 +274,12 @@ fn remove<'a>(
     alloc: Global,
     scope: &Scope<'_>,
     position: Position,
-    least: &mut Least,
+    tally: &mut Tally,
 ) -> Result<Action<'a>, AllocError>
-    ensures { (around : _) → GivesAction (seen_in scope.now) around result least.old least.new
+    ensures { (around : _) → GivesAction (seen_in scope.now) around result tally.old tally.new
         (trees.remove position (expression_tree e.now)) }
 {
-    let Ok(object) = whole(e, alloc, scope, position, least) else {
+    let Ok(object) = whole(e, alloc, scope, position, tally) else {
         return Err(AllocError);
     };
     Ok(Action::Remove(object))
@@ -287,11 +287,11 @@ fn remove<'a>(
 
 // `break` or `continue`, which may stand there or not.
 #[tactic(auto, using(checker_names::proofs::Noted::noted_none))]
-fn outside(stands: bool, position: Position, least: &mut Least)
-    ensures { least.new ≡ noted least.old (outside_breaches stands position) }
+fn break_rule(stands: bool, position: Position, tally: &mut Tally)
+    ensures { tally.new ≡ noted tally.old (outside_breaches stands position) }
 {
     if !stands {
-        note(least, BREAK_OUTSIDE, position);
+        note(tally, BREAK_OUTSIDE, position);
     }
 }
 
@@ -304,40 +304,40 @@ pub fn simple<'a>(
     s: &SimpleStatement<'a>,
     alloc: Global,
     scope: &Scope<'_>,
-    around: Around,
-    least: &mut Least,
+    around: Enclosure,
+    tally: &mut Tally,
 ) -> Result<Action<'a>, AllocError>
-    ensures { GivesAction (seen_in scope.now) around result least.old least.new
+    ensures { GivesAction (seen_in scope.now) around result tally.old tally.new
         (simple_tree s.now) }
 {
     match s {
         SimpleStatement::Text(text) => Ok(Action::Text(text)),
-        SimpleStatement::Print(all) => print(all, alloc, scope, least),
-        SimpleStatement::PrintReturn(all) => print_return(all, alloc, scope, least),
+        SimpleStatement::Print(all) => print(all, alloc, scope, tally),
+        SimpleStatement::PrintReturn(all) => print_return(all, alloc, scope, tally),
         SimpleStatement::NewLine => Ok(Action::NewLine),
         SimpleStatement::Break(position) => {
-            outside(around.can_break, *position, least);
+            break_rule(around.can_break, *position, tally);
             Ok(Action::Break)
         }
         SimpleStatement::Continue(position) => {
-            outside(around.can_continue, *position, least);
+            break_rule(around.can_continue, *position, tally);
             Ok(Action::Continue)
         }
         SimpleStatement::Return => Ok(Action::ReturnValue(Value::Number(1))),
         SimpleStatement::ReturnValue(position, e) => {
-            return_value(e, alloc, scope, *position, least)
+            return_value(e, alloc, scope, *position, tally)
         }
         SimpleStatement::ReturnTrue => Ok(Action::ReturnValue(Value::Number(1))),
         SimpleStatement::ReturnFalse => Ok(Action::ReturnValue(Value::Number(0))),
         SimpleStatement::Quit => Ok(Action::Quit),
-        SimpleStatement::Read(names) => Ok(read(names, scope, least)),
+        SimpleStatement::Read(names) => Ok(read(names, scope, tally)),
         SimpleStatement::Give(position, e, given) => {
-            give(e, given, alloc, scope, *position, least)
+            give(e, given, alloc, scope, *position, tally)
         }
         SimpleStatement::Move(position, object, parent) => {
-            move_to(object, parent, alloc, scope, *position, least)
+            move_to(object, parent, alloc, scope, *position, tally)
         }
-        SimpleStatement::Remove(position, e) => remove(e, alloc, scope, *position, least),
-        SimpleStatement::Effect(position, e) => effect(e, alloc, scope, *position, least),
+        SimpleStatement::Remove(position, e) => remove(e, alloc, scope, *position, tally),
+        SimpleStatement::Effect(position, e) => effect(e, alloc, scope, *position, tally),
     }
 }

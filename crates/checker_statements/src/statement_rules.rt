@@ -5,7 +5,7 @@ ghost use Rattle.syntax_trees.specs.Views.{expression_tree, name_tree};
 ghost use Rattle.syntax_statement_parts.specs.Views.{heading_tree, loop_tree};
 ghost use Rattle.syntax_statements.specs.Tree as trees;
 ghost use Rattle.syntax_statements.specs.Views.{statement_tree, trees_of, case_tree, other_tree, cases_of};
-ghost use Rattle.meaning.specs.Around.{in_switch};
+ghost use Rattle.meaning.specs.Enclosure.{in_switch};
 ghost use Rattle.meaning.specs.Views.{action_of, case_of, other_of};
 ghost use Rattle.checker_names.specs.Scope.{seen_in};
 ghost use Rattle.checker_statements.specs.Walk.{IsAction, GivesAction};
@@ -14,10 +14,10 @@ ghost use Rattle.checker_statements.specs.StatementWalk.{AreActions, AreCases, I
 use crate::case_rules::ranges;
 use crate::heading_rules::resolved_heading;
 use crate::loop_rules::loop_variable;
-use crate::memory::in_box;
 use crate::simple_rules::{boxed_whole, simple};
-use checker_names::{Least, Scope};
-use meaning::{Action, Around, IN_LOOP, Span, in_switch};
+use checker_names::{Scope, Tally};
+use checker_values::in_box;
+use meaning::{Action, Enclosure, IN_LOOP, Span, in_switch};
 use std::alloc::{AllocError, Global};
 use syntax_lexer::Position;
 use syntax_statement_parts::{Heading, Loop, Range};
@@ -52,35 +52,35 @@ fn statement<'a>(
     s: &Statement<'a>,
     alloc: Global,
     scope: &Scope<'_>,
-    around: Around,
-    least: &mut Least,
+    around: Enclosure,
+    tally: &mut Tally,
 ) -> Result<Action<'a>, AllocError>
-    ensures { GivesAction (seen_in scope.now) around result least.old least.new
+    ensures { GivesAction (seen_in scope.now) around result tally.old tally.new
         (statement_tree s.now) }
 {
     match s {
         Statement::Empty => Ok(Action::Empty),
-        Statement::Simple(plain) => simple(plain, alloc, scope, around, least),
-        Statement::Block(all) => block(all, alloc, scope, around, least),
+        Statement::Simple(plain) => simple(plain, alloc, scope, around, tally),
+        Statement::Block(all) => block(all, alloc, scope, around, tally),
         Statement::If(position, condition, then) => {
-            if_then(then, condition, alloc, scope, around, *position, least)
+            if_then(then, condition, alloc, scope, around, *position, tally)
         }
         Statement::IfElse(position, condition, then, otherwise) => {
             if_else(
-                then, otherwise, condition, alloc, scope, around, *position, least,
+                then, otherwise, condition, alloc, scope, around, *position, tally,
             )
         }
         Statement::While(position, condition, body) => {
-            while_do(body, condition, alloc, scope, *position, least)
+            while_do(body, condition, alloc, scope, *position, tally)
         }
         Statement::Do(position, body, condition) => {
-            do_until(body, condition, alloc, scope, *position, least)
+            do_until(body, condition, alloc, scope, *position, tally)
         }
         Statement::For(position, parts, body) => {
-            for_loop(body, parts, alloc, scope, *position, least)
+            for_loop(body, parts, alloc, scope, *position, tally)
         }
         Statement::Objectloop(position, over, body) => {
-            traversal(body, over, alloc, scope, *position, least)
+            traversal(body, over, alloc, scope, *position, tally)
         }
         Statement::Switch(position, value, cases) => switch_on(
             cases,
@@ -89,7 +89,7 @@ fn statement<'a>(
             scope,
             in_switch(around),
             *position,
-            least,
+            tally,
         ),
     }
 }
@@ -100,13 +100,13 @@ fn boxed<'a>(
     s: &Box<Statement<'a>>,
     alloc: Global,
     scope: &Scope<'_>,
-    around: Around,
-    least: &mut Least,
+    around: Enclosure,
+    tally: &mut Tally,
 ) -> Result<Box<Action<'a>>, AllocError>
     ensures { IfOk result (λ x. IsAction (seen_in scope.now) around (statement_tree s.now.value)
-        least.old least.new (action_of x.value)) }
+        tally.old tally.new (action_of x.value)) }
 {
-    let Ok(found) = statement(s, alloc, scope, around, least) else {
+    let Ok(found) = statement(s, alloc, scope, around, tally) else {
         return Err(AllocError);
     };
     Box::new(alloc, found).ok().ok_or(AllocError)
@@ -123,11 +123,11 @@ pub fn all_statements<'a>(
     all: &[Statement<'a>],
     alloc: Global,
     scope: &Scope<'_>,
-    around: Around,
-    least: &mut Least,
+    around: Enclosure,
+    tally: &mut Tally,
 ) -> Result<Vec<Action<'a>>, AllocError>
     ensures { IfOk result (λ v. AreActions (seen_in scope.now) around all.now
-        least.old least.new (map action_of v.items)) }
+        tally.old tally.new (map action_of v.items)) }
 {
     let mut found = Vec::with_capacity(alloc, all.len())?;
     for s in all {
@@ -135,7 +135,7 @@ pub fn all_statements<'a>(
             found.push_reserved(Action::Empty);
             continue;
         }
-        let Ok(resolved) = statement(s, alloc, scope, around, least) else {
+        let Ok(resolved) = statement(s, alloc, scope, around, tally) else {
             return Err(AllocError);
         };
         found.push_reserved(resolved);
@@ -148,13 +148,13 @@ fn block<'a>(
     all: &[Statement<'a>],
     alloc: Global,
     scope: &Scope<'_>,
-    around: Around,
-    least: &mut Least,
+    around: Enclosure,
+    tally: &mut Tally,
 ) -> Result<Action<'a>, AllocError>
-    ensures { GivesAction (seen_in scope.now) around result least.old least.new
+    ensures { GivesAction (seen_in scope.now) around result tally.old tally.new
         (trees.block (trees_of (map statement_tree all.now))) }
 {
-    let Ok(found) = all_statements(all, alloc, scope, around, least) else {
+    let Ok(found) = all_statements(all, alloc, scope, around, tally) else {
         return Err(AllocError);
     };
     Ok(Action::Block(found))
@@ -166,17 +166,17 @@ fn if_then<'a>(
     condition: &Expression<'_>,
     alloc: Global,
     scope: &Scope<'_>,
-    around: Around,
+    around: Enclosure,
     position: Position,
-    least: &mut Least,
+    tally: &mut Tally,
 ) -> Result<Action<'a>, AllocError>
-    ensures { GivesAction (seen_in scope.now) around result least.old least.new
+    ensures { GivesAction (seen_in scope.now) around result tally.old tally.new
         (trees.if_then position (expression_tree condition.now) (statement_tree body.now.value)) }
 {
-    let Ok(condition) = boxed_whole(condition, alloc, scope, position, least) else {
+    let Ok(condition) = boxed_whole(condition, alloc, scope, position, tally) else {
         return Err(AllocError);
     };
-    let Ok(body) = boxed(body, alloc, scope, around, least) else {
+    let Ok(body) = boxed(body, alloc, scope, around, tally) else {
         drop(condition);
         return Err(AllocError);
     };
@@ -190,22 +190,22 @@ fn if_else<'a>(
     condition: &Expression<'_>,
     alloc: Global,
     scope: &Scope<'_>,
-    around: Around,
+    around: Enclosure,
     position: Position,
-    least: &mut Least,
+    tally: &mut Tally,
 ) -> Result<Action<'a>, AllocError>
-    ensures { GivesAction (seen_in scope.now) around result least.old least.new
+    ensures { GivesAction (seen_in scope.now) around result tally.old tally.new
         (trees.if_else position (expression_tree condition.now) (statement_tree first.now.value)
         (statement_tree otherwise.now.value)) }
 {
-    let Ok(condition) = boxed_whole(condition, alloc, scope, position, least) else {
+    let Ok(condition) = boxed_whole(condition, alloc, scope, position, tally) else {
         return Err(AllocError);
     };
-    let Ok(first) = boxed(first, alloc, scope, around, least) else {
+    let Ok(first) = boxed(first, alloc, scope, around, tally) else {
         drop(condition);
         return Err(AllocError);
     };
-    let Ok(otherwise) = boxed(otherwise, alloc, scope, around, least) else {
+    let Ok(otherwise) = boxed(otherwise, alloc, scope, around, tally) else {
         drop(condition);
         return Err(AllocError);
     };
@@ -219,15 +219,15 @@ fn while_do<'a>(
     alloc: Global,
     scope: &Scope<'_>,
     position: Position,
-    least: &mut Least,
+    tally: &mut Tally,
 ) -> Result<Action<'a>, AllocError>
-    ensures { (around : _) → GivesAction (seen_in scope.now) around result least.old least.new
+    ensures { (around : _) → GivesAction (seen_in scope.now) around result tally.old tally.new
         (trees.while_do position (expression_tree condition.now) (statement_tree body.now.value)) }
 {
-    let Ok(condition) = boxed_whole(condition, alloc, scope, position, least) else {
+    let Ok(condition) = boxed_whole(condition, alloc, scope, position, tally) else {
         return Err(AllocError);
     };
-    let Ok(body) = boxed(body, alloc, scope, IN_LOOP, least) else {
+    let Ok(body) = boxed(body, alloc, scope, IN_LOOP, tally) else {
         drop(condition);
         return Err(AllocError);
     };
@@ -241,15 +241,15 @@ fn do_until<'a>(
     alloc: Global,
     scope: &Scope<'_>,
     position: Position,
-    least: &mut Least,
+    tally: &mut Tally,
 ) -> Result<Action<'a>, AllocError>
-    ensures { (around : _) → GivesAction (seen_in scope.now) around result least.old least.new
+    ensures { (around : _) → GivesAction (seen_in scope.now) around result tally.old tally.new
         (trees.do_until position (statement_tree body.now.value) (expression_tree condition.now)) }
 {
-    let Ok(body) = boxed(body, alloc, scope, IN_LOOP, least) else {
+    let Ok(body) = boxed(body, alloc, scope, IN_LOOP, tally) else {
         return Err(AllocError);
     };
-    let Ok(condition) = boxed_whole(condition, alloc, scope, position, least) else {
+    let Ok(condition) = boxed_whole(condition, alloc, scope, position, tally) else {
         return Err(AllocError);
     };
     Ok(Action::Do(body, condition))
@@ -262,22 +262,22 @@ fn for_loop<'a>(
     alloc: Global,
     scope: &Scope<'_>,
     position: Position,
-    least: &mut Least,
+    tally: &mut Tally,
 ) -> Result<Action<'a>, AllocError>
-    ensures { (around : _) → GivesAction (seen_in scope.now) around result least.old least.new
+    ensures { (around : _) → GivesAction (seen_in scope.now) around result tally.old tally.new
         (trees.for_loop position (heading_tree given.now).before (heading_tree given.now).test
-        (heading_tree given.now).behind (statement_tree body.now.value)) }
+        (heading_tree given.now).after (statement_tree body.now.value)) }
 {
-    let Ok((before, test, behind)) = resolved_heading(given, alloc, scope, position, least) else {
+    let Ok((before, test, after)) = resolved_heading(given, alloc, scope, position, tally) else {
         return Err(AllocError);
     };
-    let Ok(body) = boxed(body, alloc, scope, IN_LOOP, least) else {
+    let Ok(body) = boxed(body, alloc, scope, IN_LOOP, tally) else {
         drop(before);
         drop(test);
-        drop(behind);
+        drop(after);
         return Err(AllocError);
     };
-    Ok(Action::For(before, test, behind, body))
+    Ok(Action::For(before, test, after, body))
 }
 
 #[cycle(statement)]
@@ -286,13 +286,13 @@ fn each<'a>(
     name: Name<'_>,
     alloc: Global,
     scope: &Scope<'_>,
-    least: &mut Least,
+    tally: &mut Tally,
 ) -> Result<Action<'a>, AllocError>
-    ensures { (around : _) → GivesAction (seen_in scope.now) around result least.old least.new
+    ensures { (around : _) → GivesAction (seen_in scope.now) around result tally.old tally.new
         (trees.each (name_tree name.entry) (statement_tree body.now.value)) }
 {
-    let variable = loop_variable(name, scope.look(name.text), least);
-    let Ok(body) = boxed(body, alloc, scope, IN_LOOP, least) else {
+    let variable = loop_variable(name, scope.look(name.text), tally);
+    let Ok(body) = boxed(body, alloc, scope, IN_LOOP, tally) else {
         return Err(AllocError);
     };
     Ok(Action::EachObject(variable, body))
@@ -306,17 +306,17 @@ fn each_in<'a>(
     alloc: Global,
     scope: &Scope<'_>,
     position: Position,
-    least: &mut Least,
+    tally: &mut Tally,
 ) -> Result<Action<'a>, AllocError>
-    ensures { (around : _) → GivesAction (seen_in scope.now) around result least.old least.new
+    ensures { (around : _) → GivesAction (seen_in scope.now) around result tally.old tally.new
         (trees.each_in position (name_tree name.entry) (expression_tree parent.now)
         (statement_tree body.now.value)) }
 {
-    let variable = loop_variable(name, scope.look(name.text), least);
-    let Ok(parent) = boxed_whole(parent, alloc, scope, position, least) else {
+    let variable = loop_variable(name, scope.look(name.text), tally);
+    let Ok(parent) = boxed_whole(parent, alloc, scope, position, tally) else {
         return Err(AllocError);
     };
-    let Ok(body) = boxed(body, alloc, scope, IN_LOOP, least) else {
+    let Ok(body) = boxed(body, alloc, scope, IN_LOOP, tally) else {
         drop(parent);
         return Err(AllocError);
     };
@@ -331,17 +331,17 @@ fn each_where<'a>(
     alloc: Global,
     scope: &Scope<'_>,
     position: Position,
-    least: &mut Least,
+    tally: &mut Tally,
 ) -> Result<Action<'a>, AllocError>
-    ensures { (around : _) → GivesAction (seen_in scope.now) around result least.old least.new
+    ensures { (around : _) → GivesAction (seen_in scope.now) around result tally.old tally.new
         (trees.each_where position (name_tree name.entry) (expression_tree condition.now)
         (statement_tree body.now.value)) }
 {
-    let variable = loop_variable(name, scope.look(name.text), least);
-    let Ok(condition) = boxed_whole(condition, alloc, scope, position, least) else {
+    let variable = loop_variable(name, scope.look(name.text), tally);
+    let Ok(condition) = boxed_whole(condition, alloc, scope, position, tally) else {
         return Err(AllocError);
     };
-    let Ok(body) = boxed(body, alloc, scope, IN_LOOP, least) else {
+    let Ok(body) = boxed(body, alloc, scope, IN_LOOP, tally) else {
         drop(condition);
         return Err(AllocError);
     };
@@ -356,16 +356,16 @@ fn traversal<'a>(
     alloc: Global,
     scope: &Scope<'_>,
     position: Position,
-    least: &mut Least,
+    tally: &mut Tally,
 ) -> Result<Action<'a>, AllocError>
-    ensures { (around : _) → GivesAction (seen_in scope.now) around result least.old least.new
+    ensures { (around : _) → GivesAction (seen_in scope.now) around result tally.old tally.new
         (trees.loop_over position (loop_tree over.now) (statement_tree body.now.value)) }
 {
     match over {
-        Loop::All(name) => each(body, *name, alloc, scope, least),
-        Loop::In(name, parent) => each_in(body, *name, parent, alloc, scope, position, least),
+        Loop::All(name) => each(body, *name, alloc, scope, tally),
+        Loop::In(name, parent) => each_in(body, *name, parent, alloc, scope, position, tally),
         Loop::Where(name, condition) => {
-            each_where(body, *name, condition, alloc, scope, position, least)
+            each_where(body, *name, condition, alloc, scope, position, tally)
         }
     }
 }
@@ -376,18 +376,18 @@ fn all_cases<'a>(
     given: &[(Vec<Range<'a>>, Vec<Statement<'a>>)],
     alloc: Global,
     scope: &Scope<'_>,
-    around: Around,
-    least: &mut Least,
+    around: Enclosure,
+    tally: &mut Tally,
 ) -> Result<Vec<(Vec<Span>, Vec<Action<'a>>)>, AllocError>
     ensures { IfOk result (λ v. AreCases (seen_in scope.now) around given.now
-        least.old least.new (map case_of v.items)) }
+        tally.old tally.new (map case_of v.items)) }
 {
     let mut found = Vec::with_capacity(alloc, given.len())?;
     for c in given {
-        let Ok(spans) = ranges(ranges_of(c), alloc, scope, least) else {
+        let Ok(spans) = ranges(ranges_of(c), alloc, scope, tally) else {
             return Err(AllocError);
         };
-        let Ok(body) = all_statements(body_of(c), alloc, scope, around, least) else {
+        let Ok(body) = all_statements(body_of(c), alloc, scope, around, tally) else {
             return Err(AllocError);
         };
         found.push_reserved((spans, body));
@@ -401,16 +401,16 @@ fn otherwise<'a>(
     other: &Option<Vec<Statement<'a>>>,
     alloc: Global,
     scope: &Scope<'_>,
-    around: Around,
-    least: &mut Least,
+    around: Enclosure,
+    tally: &mut Tally,
 ) -> Result<Option<Vec<Action<'a>>>, AllocError>
     ensures { IfOk result (λ x. IsOther (seen_in scope.now) around (other_tree other.now)
-        least.old least.new (other_of x)) }
+        tally.old tally.new (other_of x)) }
 {
     match other {
         None => Ok(None),
         Some(all) => {
-            let Ok(found) = all_statements(all, alloc, scope, around, least) else {
+            let Ok(found) = all_statements(all, alloc, scope, around, tally) else {
                 return Err(AllocError);
             };
             Ok(Some(found))
@@ -427,28 +427,28 @@ fn switch_on<'a>(
     value: &Expression<'_>,
     alloc: Global,
     scope: &Scope<'_>,
-    inside: Around,
+    inside: Enclosure,
     position: Position,
-    least: &mut Least,
+    tally: &mut Tally,
 ) -> Result<Action<'a>, AllocError>
     ensures { (around : _) → inside ≡ in_switch around
-        → GivesAction (seen_in scope.now) around result least.old least.new
+        → GivesAction (seen_in scope.now) around result tally.old tally.new
         (trees.switch_on position (expression_tree value.now)
         (cases_of (map case_tree cases.now.0.items) (other_tree cases.now.1))) }
 {
-    let Ok(value) = boxed_whole(value, alloc, scope, position, least) else {
+    let Ok(value) = boxed_whole(value, alloc, scope, position, tally) else {
         return Err(AllocError);
     };
-    let Ok(found) = all_cases(&cases.0, alloc, scope, inside, least) else {
+    let Ok(found) = all_cases(&cases.0, alloc, scope, inside, tally) else {
         drop(value);
         return Err(AllocError);
     };
-    let Ok(other) = otherwise(&cases.1, alloc, scope, inside, least) else {
+    let Ok(other) = otherwise(&cases.1, alloc, scope, inside, tally) else {
         drop(value);
         drop(found);
         return Err(AllocError);
     };
-    let Ok(cases) = in_box(alloc, (found, other)) else {
+    let Ok(cases) = in_box((found, other), alloc) else {
         drop(value);
         return Err(AllocError);
     };

@@ -18,7 +18,7 @@ use Rattle.meaning.specs.Views as views
 use Rattle.meaning.specs.declared.resolved.Variable.TheVariants as variables
 use Rattle.checker_names.specs.declared.binding.Binding.{Binding}
 use Rattle.checker_names.specs.declared.breach.Breach.{Breach}
-use Rattle.checker_names.specs.declared.noting.Least.{Least}
+use Rattle.checker_names.specs.declared.noting.Tally.{Tally}
 use Rattle.checker_names.specs.Noted.{noted}
 use Rattle.checker_names.specs.Names.{name_of, is_place, Seen}
 use Rattle.checker_names.specs.Breaches.{at}
@@ -47,7 +47,7 @@ pub chain_assigned : (op : Binary) (a b : Value) (ls : List (Binary × Value)) (
 chain_assigned op a b [] v = refl
 chain_assigned op a b (l ∷ ls) v = chain_assigned l.0 (values.binary op a b) l.1 ls v
 
--- an assignment to properties, one behind another, is one to the last of them
+-- an assignment to properties, one after another, is one to the last of them
 pub last_assigned : (v : Value) (n : ℕ) (ns : List ℕ) (p : ℕ) (w : Value)
     → assigned (views.propertied (values.property v n) (ns ++ p ∷ [])) w
     ≡ values.assign_property (views.propertied (values.property v n) ns) p w
@@ -60,7 +60,7 @@ pub chain_place : (op : Binary) (a b : ExpressionTree) (ls : List (Binary × Exp
 chain_place op a b [] = refl
 chain_place op a b (l ∷ ls) = chain_place l.0 (trees.binary op a b) l.1 ls
 
--- properties, one behind another, have no name and are a place
+-- properties, one after another, have no name and are a place
 
 pub properties_name : (e : ExpressionTree) (n : NameTree) (ns : List Name)
     → name_of (propertied (trees.property e n) ns) ≡ None
@@ -107,7 +107,7 @@ module _ (seen : Seen) where
   all_resolve [] = refl
   all_resolve (e ∷ es) = ap (λ r. values.more (resolved seen e) r) (all_resolve es)
 
-  pub chain_break : (m : Least) (e : ExpressionTree) (ls : List (Binary × Expression))
+  pub chain_break : (m : Tally) (e : ExpressionTree) (ls : List (Binary × Expression))
       → noted m (breaches seen.look (chained e (map link ls)))
       ≡ noted (noted m (breaches seen.look e)) (flat_map (link_breaches seen) ls)
   chain_break m e [] = sym (noted_none (noted m (breaches seen.look e)))
@@ -122,7 +122,7 @@ module _ (seen : Seen) where
   chain_resolve e [] = refl
   chain_resolve e (l ∷ ls) = chain_resolve (trees.binary l.0 e (expression_tree l.1)) ls
 
-  properties_break : (m : Least) (e : ExpressionTree) (ns : List Name)
+  properties_break : (m : Tally) (e : ExpressionTree) (ns : List Name)
       → noted m (breaches seen.look (propertied e ns))
       ≡ noted (noted m (breaches seen.look e)) (flat_map (own_property_breaches seen) ns)
   properties_break m e [] = sym (noted_none (noted m (breaches seen.look e)))
@@ -141,7 +141,7 @@ module _ (seen : Seen) where
 
   -- Lists, walked
 
-  pub all_walked : (es : List Expression) (vs : List Value) {m n : Least} → AreResolved seen es m n vs
+  pub all_walked : (es : List Expression) (vs : List Value) {m n : Tally} → AreResolved seen es m n vs
       → IsWalked (all_breaches seen.look (trees_of (map expression_tree es))) m n (values_of vs)
       (resolve_all seen (trees_of (map expression_tree es)))
   all_walked es vs {m = m} w = record {
@@ -150,7 +150,7 @@ module _ (seen : Seen) where
   }
 
   pub chain_walked : (e : ExpressionTree) (ls : List (Binary × Expression)) (v : Value)
-      (vs : List (Binary × Value)) {m n o : Least}
+      (vs : List (Binary × Value)) {m n o : Tally}
       → IsResolved seen e m n v → AreLinks seen ls n o vs
       → IsResolved seen (chained e (map link ls)) m o (views.chained v vs)
   chain_walked e ls v vs {m = m} w z = record {
@@ -161,7 +161,7 @@ module _ (seen : Seen) where
   }
 
   pub properties_walked : (e : ExpressionTree) (ns : List Name) (v : Value) (numbers : List ℕ)
-      {m n o : Least} → IsResolved seen e m n v → AreProperties seen ns n o numbers
+      {m n o : Tally} → IsResolved seen e m n v → AreProperties seen ns n o numbers
       → IsResolved seen (propertied e ns) m o (views.propertied v numbers)
   properties_walked e ns v numbers {m = m} w z = record {
     value = ap (λ a. views.propertied a numbers) w.value ∙ ap (λ l. views.propertied (resolve seen e) l) z.value
@@ -171,7 +171,7 @@ module _ (seen : Seen) where
   }
 
   pub call_walked : (name : NameTree) (number given : ℕ) (found : Option Binding) (es : List Expression)
-      (vs : List Value) {m o p : Least}
+      (vs : List Value) {m o p : Tally}
       → found ≡ seen.look name.text → given ≡ length es → number ≡ routine_of_binding found
       → o ≡ noted m (call_breaches name.position given found) → AreResolved seen es o p vs
       → IsResolved seen (trees.call name (trees_of (map expression_tree es))) m p (values.call number (values_of vs))
@@ -185,7 +185,7 @@ module _ (seen : Seen) where
       two values.call own (all_walked es vs w)
 
   pub index_walked : (name : NameTree) (w : Width) (number : ℕ) (found : Option Binding) (e : ExpressionTree)
-      (v : Value) {m o p : Least}
+      (v : Value) {m o p : Tally}
       → found ≡ seen.look name.text → number ≡ array_of_binding found
       → o ≡ noted m (array_name_breaches name.position found) → IsResolved seen e o p v
       → IsResolved seen (trees.index name w e) m p (values.entry w number v)
@@ -200,7 +200,7 @@ module _ (seen : Seen) where
   -- the left side of an assignment
 
   pub name_assigned : (operator : Position) (e : ExpressionTree) (name : NameTree) (found : Option Binding)
-      (v : Value) {m o : Least} → name_of e ≡ Some name → found ≡ seen.look name.text
+      (v : Value) {m o : Tally} → name_of e ≡ Some name → found ≡ seen.look name.text
       → v ≡ value_of_binding seen.number found
       → o ≡ noted m (target_breaches name.position operator found)
       → IsAssigned seen operator e m o v
@@ -212,13 +212,13 @@ module _ (seen : Seen) where
         (sym is);
   }
 
-  no_name_breaks : (operator : Position) (c : Bool) (inside : List Breach) (m o q : Least)
+  no_name_breaks : (operator : Position) (c : Bool) (inside : List Breach) (m o q : Tally)
       → o ≡ noted m inside → q ≡ noted o (cond c [] (at operator 26))
       → q ≡ noted m (assigned_breaches seen.look operator None c inside)
   no_name_breaks operator true inside m o q a b = b ∙ noted_none o ∙ a
   no_name_breaks operator false inside m o q a b = noted_two m o q inside (at operator 26) a b
 
-  pub part_assigned : (operator : Position) (e : ExpressionTree) (c : Bool) (v : Value) {m o q : Least}
+  pub part_assigned : (operator : Position) (e : ExpressionTree) (c : Bool) (v : Value) {m o q : Tally}
       → name_of e ≡ None → c ≡ is_place e → IsResolved seen e m o v → q ≡ noted o (cond c [] (at operator 26))
       → IsAssigned seen operator e m q v
   part_assigned operator e c v {m = m} {o = o} {q = q} none one w b = record {

@@ -124,7 +124,7 @@ chain_bad e ls r h = let k = chain_need e ls in grind (arith, nat_tests)
 pub fits_not : (b : Bool) (n : ℕ) → b ≡ nat_le n 48 → nat_lt 48 n ≡ not b
 fits_not b n h = grind (arith, nat_tests)
 
--- properties, one behind another
+-- properties, one after another
 
 pub properties_need : (e : ExpressionTree) (ns : List Name) → need (propertied e ns) ≡ need e
 properties_need e [] = refl

@@ -19,23 +19,23 @@ use Rattle.meaning.specs.Resolved.{Value}
 use Rattle.meaning.specs.Views.{value_of, value_layer, values_of, chained, propertied}
 use Rattle.checker_names.specs.declared.binding.Binding.{Binding}
 use Rattle.checker_names.specs.declared.breach.Breach.{Breach}
-use Rattle.checker_names.specs.declared.noting.Least.{Least}
+use Rattle.checker_names.specs.declared.noting.Tally.{Tally}
 use Rattle.checker_names.specs.Noted.{noted}
 use Rattle.checker_names.proofs.Noted.{noted_none, noted_two}
 use Rattle.checker_values.specs.Walk.{IsWalked, value_link}
 
 -- a part that breaks no rule and notes none
-pub leaf : {A : Type 0} (m : Least) (x : A) → IsWalked [] m m x x
+pub leaf : {A : Type 0} (m : Tally) (x : A) → IsWalked [] m m x x
 leaf m x = record { value = refl; breaches = sym (noted_none m) }
 
 -- a part, by what it gives and what it notes
-pub walked : {A : Type 0} {bs : List Breach} {m n : Least} {x y : A} → x ≡ y → n ≡ noted m bs
+pub walked : {A : Type 0} {bs : List Breach} {m n : Tally} {x y : A} → x ≡ y → n ≡ noted m bs
     → IsWalked bs m n x y
 walked v b = record { value = v; breaches = b }
 
 -- a name, by what it stands for
 pub named_part : {A : Type 0} (f : Option Binding → A) (rules : Option Binding → List Breach)
-    (found there : Option Binding) (x : A) {m n : Least} → found ≡ there → x ≡ f found
+    (found there : Option Binding) (x : A) {m n : Tally} → found ≡ there → x ≡ f found
     → n ≡ noted m (rules found)
     → IsWalked (rules there) m n x (f there)
 named_part f rules found there x {m = m} same v b = record {
@@ -44,20 +44,20 @@ named_part f rules found there x {m = m} same v b = record {
 }
 
 -- a value that was made of a part, where memory was not refused
-pub made_walked : {E : Type 0} {bs : List Breach} {m n : Least} {x y : Value} (r : Result code_value.Value E)
+pub made_walked : {E : Type 0} {bs : List Breach} {m n : Tally} {x y : Value} (r : Result code_value.Value E)
     → IfOk r (λ v. value_of v ≡ x) → IsWalked bs m n x y → IfOk r (λ v. IsWalked bs m n (value_of v) y)
 made_walked (Ok v) h w = record { value = h ∙ w.value; breaches = w.breaches }
 made_walked (Err e) h w = tt
 
 -- the same in a box
-pub boxed_walked : {E : Type 0} {bs : List Breach} {m n : Least} {x y : Value}
+pub boxed_walked : {E : Type 0} {bs : List Breach} {m n : Tally} {x y : Value}
     (r : Result (Box code_value.Value) E) → IfOk r (λ v. value_of v.value ≡ x) → IsWalked bs m n x y
     → IfOk r (λ v. IsWalked bs m n (value_of v.value) y)
 boxed_walked (Ok v) h w = record { value = h ∙ w.value; breaches = w.breaches }
 boxed_walked (Err e) h w = tt
 
 -- a value that was put in a box, where memory was not refused
-pub kept_walked : {E : Type 0} {bs : List Breach} {m n : Least} {y : Value}
+pub kept_walked : {E : Type 0} {bs : List Breach} {m n : Tally} {y : Value}
     (r : Result (Box code_value.Value) E) (x : code_value.Value) → IfOk r (λ v. v.value ≡ x)
     → IsWalked bs m n (value_of x) y → IfOk r (λ v. IsWalked bs m n (value_of v.value) y)
 kept_walked (Ok v) x h w = record { value = ap value_of h ∙ w.value; breaches = w.breaches }
@@ -70,12 +70,12 @@ kept_value (Ok v) x h same = ap value_of h ∙ same
 kept_value (Err e) x h same = tt
 
 -- one part
-pub one : {A B : Type 0} (f : A → B) {bs : List Breach} {m n : Least} {x y : A} → IsWalked bs m n x y
+pub one : {A B : Type 0} (f : A → B) {bs : List Breach} {m n : Tally} {x y : A} → IsWalked bs m n x y
     → IsWalked bs m n (f x) (f y)
 one f w = record { value = ap f w.value; breaches = w.breaches }
 
 -- one part and then another
-pub two : {A B C : Type 0} (f : A → B → C) {bs cs : List Breach} {m n o : Least} {x y : A} {u v : B}
+pub two : {A B C : Type 0} (f : A → B → C) {bs cs : List Breach} {m n o : Tally} {x y : A} {u v : B}
     → IsWalked bs m n x y → IsWalked cs n o u v → IsWalked (bs ++ cs) m o (f x u) (f y v)
 two f {bs = bs} {cs = cs} {m = m} {n = n} {o = o} {y = y} {u = u} w z = record {
   value = ap (λ a. f a u) w.value ∙ ap (λ b. f y b) z.value;
@@ -83,21 +83,21 @@ two f {bs = bs} {cs = cs} {m = m} {n = n} {o = o} {y = y} {u = u} w z = record {
 }
 
 -- one part and then two others
-pub three : {A B C D : Type 0} (f : A → B → C → D) {bs cs ds : List Breach} {m n o q : Least} {x y : A}
+pub three : {A B C D : Type 0} (f : A → B → C → D) {bs cs ds : List Breach} {m n o q : Tally} {x y : A}
     {u v : B} {s t : C} → IsWalked bs m n x y → IsWalked cs n o u v → IsWalked ds o q s t
     → IsWalked (bs ++ (cs ++ ds)) m q (f x u s) (f y v t)
 three {B = B} {C = C} f a b c = two (λ x (us : B × C). f x us.0 us.1) a (two (λ (u : B) (s : C). (u, s)) b c)
 
 -- a part before a result
-pub before : {A B E : Type 0} (f : A → B) (r : Result A E) (bs cs : List Breach) (m n o : Least) (y : B)
+pub before : {A B E : Type 0} (f : A → B) (r : Result A E) (bs cs : List Breach) (m n o : Tally) (y : B)
     → n ≡ noted m bs → IfOk r (λ x. IsWalked cs n o (f x) y) → IfOk r (λ x. IsWalked (bs ++ cs) m o (f x) y)
 before f (Ok x) bs cs m n o y h w = record { value = w.value; breaches = noted_two m n o bs cs h w.breaches }
 before f (Err e) bs cs m n o y h w = tt
 
 -- rules of a part that resolves to nothing, and then a part
-pub behind : {A : Type 0} (bs cs : List Breach) (m n o : Least) {x y : A} → n ≡ noted m bs
+pub after : {A : Type 0} (bs cs : List Breach) (m n o : Tally) {x y : A} → n ≡ noted m bs
     → IsWalked cs n o x y → IsWalked (bs ++ cs) m o x y
-behind bs cs m n o h w = record { value = w.value; breaches = noted_two m n o bs cs h w.breaches }
+after bs cs m n o h w = record { value = w.value; breaches = noted_two m n o bs cs h w.breaches }
 
 -- What is made of parts
 

@@ -13,7 +13,7 @@ use Rattle.meaning.specs.declared.resolved.Value as code_value
 use Rattle.meaning.specs.Resolved.{Value}
 use Rattle.meaning.specs.Views.{value_of}
 use Rattle.checker_names.specs.declared.breach.Breach.{Breach}
-use Rattle.checker_names.specs.declared.noting.Least.{Least}
+use Rattle.checker_names.specs.declared.noting.Tally.{Tally}
 use Rattle.checker_names.specs.Names.{name_of, is_place, Seen}
 use Rattle.checker_names.specs.Noted.{noted}
 use Rattle.checker_values.specs.Expressions.{breaches, property_breaches, left_breaches, assigned_breaches, target}
@@ -21,7 +21,7 @@ use Rattle.checker_values.specs.Expressions.{property_of_binding, resolve, call_
 use Rattle.checker_values.specs.Expressions.{array_name_breaches, array_of_binding}
 
 -- what is found is what is meant, and the broken rules are noted over what was noted before
-pub record IsWalked {A : Type 0} (broken : List Breach) (before after : Least) (found meant : A) : Type 0
+pub record IsWalked {A : Type 0} (broken : List Breach) (before after : Tally) (found meant : A) : Type 0
   where
     pub value : found ≡ meant
     pub breaches : after ≡ noted before broken
@@ -53,54 +53,54 @@ module _ (seen : Seen) where
 
   -- Walks, from what was noted before to what is noted after
 
-  abbrev pub IsResolved : ExpressionTree → Least → Least → Value → Type 0
+  abbrev pub IsResolved : ExpressionTree → Tally → Tally → Value → Type 0
   IsResolved e before after v = IsWalked (breaches seen.look e) before after v (resolve seen e)
 
   -- what is answered, unless memory was refused: what the expression resolves to
-  abbrev pub GivesValue : {E : Type 0} → Result code_value.Value E → Least → Least → ExpressionTree
+  abbrev pub GivesValue : {E : Type 0} → Result code_value.Value E → Tally → Tally → ExpressionTree
       → Type 0
   GivesValue result before after e = IfOk result (λ v. IsResolved e before after (value_of v))
 
   -- the same, in a box
-  abbrev pub GivesBoxed : {E : Type 0} → Result (Box code_value.Value) E → Least → Least
+  abbrev pub GivesBoxed : {E : Type 0} → Result (Box code_value.Value) E → Tally → Tally
       → ExpressionTree → Type 0
   GivesBoxed result before after e = IfOk result (λ v. IsResolved e before after (value_of v.value))
 
-  abbrev pub AreResolved : List Expression → Least → Least → List Value → Type 0
+  abbrev pub AreResolved : List Expression → Tally → Tally → List Value → Type 0
   AreResolved es before after vs = IsWalked (flat_map own_breaches es) before after vs (map resolved es)
 
-  abbrev pub AreLinks : List (Binary × Expression) → Least → Least → List (Binary × Value) → Type 0
+  abbrev pub AreLinks : List (Binary × Expression) → Tally → Tally → List (Binary × Value) → Type 0
   AreLinks ls before after vs = IsWalked (flat_map link_breaches ls) before after vs (map resolved_link ls)
 
   -- the number of the routine that a name stands for, which is called with so many arguments
-  abbrev pub IsRoutine : NameTree → ℕ → Least → Least → ℕ → Type 0
+  abbrev pub IsRoutine : NameTree → ℕ → Tally → Tally → ℕ → Type 0
   IsRoutine n given before after number =
       IsWalked (call_breaches n.position given (seen.look n.text)) before after number
       (routine_of_binding (seen.look n.text))
 
   -- that of an array
-  abbrev pub IsArray : NameTree → Least → Least → ℕ → Type 0
+  abbrev pub IsArray : NameTree → Tally → Tally → ℕ → Type 0
   IsArray n before after number =
       IsWalked (array_name_breaches n.position (seen.look n.text)) before after number
       (array_of_binding (seen.look n.text))
 
   -- that of a property
-  abbrev pub IsProperty : Name → Least → Least → ℕ → Type 0
+  abbrev pub IsProperty : Name → Tally → Tally → ℕ → Type 0
   IsProperty n before after number = IsWalked (own_property_breaches n) before after number (resolved_property n)
 
   -- the numbers of properties
-  abbrev pub AreProperties : List Name → Least → Least → List ℕ → Type 0
+  abbrev pub AreProperties : List Name → Tally → Tally → List ℕ → Type 0
   AreProperties ns before after numbers =
       IsWalked (flat_map own_property_breaches ns) before after numbers (map resolved_property ns)
 
   -- what is stepped by an operator there
-  abbrev pub IsTarget : Position → ExpressionTree → Least → Least → Variable → Type 0
+  abbrev pub IsTarget : Position → ExpressionTree → Tally → Tally → Variable → Type 0
   IsTarget operator e before after x =
       IsWalked (left_breaches seen.look operator (name_of e) (breaches seen.look e)) before after x
       (target seen (name_of e))
 
   -- the left side of an assignment there
-  abbrev pub IsAssigned : Position → ExpressionTree → Least → Least → Value → Type 0
+  abbrev pub IsAssigned : Position → ExpressionTree → Tally → Tally → Value → Type 0
   IsAssigned operator e before after v =
       IsWalked (assigned_breaches seen.look operator (name_of e) (is_place e) (breaches seen.look e)) before after v
       (resolve seen e)

@@ -22,8 +22,9 @@ ghost use Rattle.checker_values.specs.Walk.{IsResolved, GivesValue, GivesBoxed, 
 ghost use Rattle.checker_values.specs.Walk.{IsRoutine, IsArray, IsProperty, AreProperties};
 ghost use Rattle.checker_values.specs.Walk.{IsTarget, IsAssigned, IsWalked, value_link};
 
+use crate::memory::in_box;
 use crate::name_rules::{array, attribute, named, property, routine, target_of, value};
-use checker_names::{Binding, Least, Scope, key_of_word, note};
+use checker_names::{Binding, Scope, Tally, key_of_word, note};
 use meaning::{Value, Variable};
 use std::alloc::{AllocError, Global};
 use syntax_lexer::{NOT_ASSIGNABLE, Position};
@@ -89,11 +90,11 @@ fn is_place(e: &Expression<'_>) -> bool
 
 // What is assigned to and is no name, by whether it may be assigned to.
 #[tactic(auto, using(checker_names::proofs::Noted::noted_none))]
-fn not_place(place: bool, operator: Position, least: &mut Least)
-    ensures { least.new ≡ noted least.old (if place then [] else at operator 26) }
+fn not_place(place: bool, operator: Position, tally: &mut Tally)
+    ensures { tally.new ≡ noted tally.old (if place then [] else at operator 26) }
 {
     if !place {
-        note(least, NOT_ASSIGNABLE, operator);
+        note(tally, NOT_ASSIGNABLE, operator);
     }
 }
 
@@ -152,14 +153,6 @@ fn assignment(left: Value, right: Box<Value>, alloc: Global) -> Result<Value, Al
     }
 }
 
-// A value in a box. Where memory is refused it is dropped here.
-#[inline(never)]
-fn in_box(value: Value, alloc: Global) -> Result<Box<Value>, AllocError>
-    ensures { IfOk result (λ b. b.value ≡ value) }
-{
-    Ok(Box::new(alloc, value)?)
-}
-
 // One more of several.
 #[inline(never)]
 fn add(found: &mut Vec<Value>, next: Box<Value>) -> Result<(), AllocError>
@@ -190,16 +183,16 @@ fn tested_value(
     object: Box<Value>,
     test: ObjectTest,
     found: Option<Binding>,
-    least: &mut Least,
+    tally: &mut Tally,
 ) -> Value
     ensures value { value_of result ≡ tested_for test (value_of object.value) found }
-    ensures breaches { least.new ≡ noted least.old
+    ensures breaches { tally.new ≡ noted tally.old
         (tested_breaches test name.entry.position found) }
 {
     match test {
-        ObjectTest::Has => Value::Has(true, object, attribute(name, found, least)),
-        ObjectTest::HasNot => Value::Has(false, object, attribute(name, found, least)),
-        ObjectTest::Provides => Value::Provides(object, property(name, found, least)),
+        ObjectTest::Has => Value::Has(true, object, attribute(name, found, tally)),
+        ObjectTest::HasNot => Value::Has(false, object, attribute(name, found, tally)),
+        ObjectTest::Provides => Value::Provides(object, property(name, found, tally)),
     }
 }
 
@@ -225,12 +218,12 @@ fn word(text: &[u8], alloc: Global, scope: &Scope<'_>) -> Result<Box<Value>, All
 
 // A name as an expression.
 #[inline(never)]
-fn named_value(name: &Name<'_>, scope: &Scope<'_>, least: &mut Least) -> Value
+fn named_value(name: &Name<'_>, scope: &Scope<'_>, tally: &mut Tally) -> Value
     ensures { IsResolved (seen_in scope.now) (trees.named (name_tree name.now))
-        least.old least.new (value_of result) }
+        tally.old tally.new (value_of result) }
 {
     let found = scope.look(name.text);
-    value(*name, &scope.file.numbers, found, least)
+    value(*name, &scope.file.numbers, found, tally)
 }
 
 // The same, in a box.
@@ -239,53 +232,53 @@ fn boxed_name(
     name: &Name<'_>,
     alloc: Global,
     scope: &Scope<'_>,
-    least: &mut Least,
+    tally: &mut Tally,
 ) -> Result<Box<Value>, AllocError>
-    ensures { GivesBoxed (seen_in scope.now) result least.old least.new
+    ensures { GivesBoxed (seen_in scope.now) result tally.old tally.new
         (trees.named (name_tree name.now)) }
 {
-    in_box(named_value(name, scope, least), alloc)
+    in_box(named_value(name, scope, tally), alloc)
 }
 
 // The number of the routine that a name stands for, which is called with so many arguments.
 #[inline(never)]
-fn routine_of(name: &Name<'_>, given: usize, scope: &Scope<'_>, least: &mut Least) -> usize
+fn routine_of(name: &Name<'_>, given: usize, scope: &Scope<'_>, tally: &mut Tally) -> usize
     ensures { IsRoutine (seen_in scope.now) (name_tree name.now) given
-        least.old least.new result }
+        tally.old tally.new result }
 {
-    routine(*name, given, scope.look(name.text), least)
+    routine(*name, given, scope.look(name.text), tally)
 }
 
 // The number of the array that a name stands for.
 #[inline(never)]
-fn array_of(name: &Name<'_>, scope: &Scope<'_>, least: &mut Least) -> usize
-    ensures { IsArray (seen_in scope.now) (name_tree name.now) least.old least.new result }
+fn array_of(name: &Name<'_>, scope: &Scope<'_>, tally: &mut Tally) -> usize
+    ensures { IsArray (seen_in scope.now) (name_tree name.now) tally.old tally.new result }
 {
-    array(*name, scope.look(name.text), least)
+    array(*name, scope.look(name.text), tally)
 }
 
 // The number of the property that a name stands for.
 #[inline(never)]
-fn property_of(name: &Name<'_>, scope: &Scope<'_>, least: &mut Least) -> usize
-    ensures { IsProperty (seen_in scope.now) name.now least.old least.new result }
+fn property_of(name: &Name<'_>, scope: &Scope<'_>, tally: &mut Tally) -> usize
+    ensures { IsProperty (seen_in scope.now) name.now tally.old tally.new result }
 {
-    property(*name, scope.look(name.text), least)
+    property(*name, scope.look(name.text), tally)
 }
 
-// The numbers of the properties behind the first.
+// The numbers of the properties after the first.
 #[inline(never)]
 fn property_numbers(
     others: &[Name<'_>],
     alloc: Global,
     scope: &Scope<'_>,
-    least: &mut Least,
+    tally: &mut Tally,
 ) -> Result<Vec<usize>, AllocError>
     ensures { IfOk result (λ numbers. AreProperties (seen_in scope.now) others.now
-        least.old least.new numbers.items) }
+        tally.old tally.new numbers.items) }
 {
     let mut numbers = Vec::new(alloc);
     for name in others {
-        let number = property_of(name, scope, least);
+        let number = property_of(name, scope, tally);
         numbers.push(number)?;
     }
     Ok(numbers)
@@ -302,17 +295,17 @@ pub fn expression(
     e: &Expression<'_>,
     alloc: Global,
     scope: &Scope<'_>,
-    least: &mut Least,
+    tally: &mut Tally,
 ) -> Result<Value, AllocError>
-    ensures { GivesValue (seen_in scope.now) result least.old least.new (expression_tree e.now) }
+    ensures { GivesValue (seen_in scope.now) result tally.old tally.new (expression_tree e.now) }
 {
     match e {
         Expression::Constant(number) => Ok(Value::Number(*number)),
         Expression::Word(text) => Ok(Value::Number(scope.file.numbers.number(key_of_word(text)))),
-        Expression::Named(name) => Ok(named_value(name, scope, least)),
-        Expression::Assign(left, at, right) => assign(left, right, alloc, scope, *at, least),
+        Expression::Named(name) => Ok(named_value(name, scope, tally)),
+        Expression::Assign(left, at, right) => assign(left, right, alloc, scope, *at, tally),
         _ => {
-            let Ok(found) = boxed(e, alloc, scope, least) else {
+            let Ok(found) = boxed(e, alloc, scope, tally) else {
                 return Err(AllocError);
             };
             Ok(Box::into_inner(found))
@@ -330,47 +323,47 @@ pub fn boxed(
     e: &Expression<'_>,
     alloc: Global,
     scope: &Scope<'_>,
-    least: &mut Least,
+    tally: &mut Tally,
 ) -> Result<Box<Value>, AllocError>
-    ensures { GivesBoxed (seen_in scope.now) result least.old least.new (expression_tree e.now) }
+    ensures { GivesBoxed (seen_in scope.now) result tally.old tally.new (expression_tree e.now) }
 {
     match e {
         Expression::Constant(number) => constant(*number, alloc),
         Expression::Word(text) => word(text, alloc, scope),
-        Expression::Named(name) => boxed_name(name, alloc, scope, least),
-        Expression::Call(name, given) => call(given, name, alloc, scope, least),
-        Expression::Index(name, width, inside) => index(inside, name, alloc, scope, *width, least),
-        Expression::Parenthesised(inside) => boxed(inside, alloc, scope, least),
-        Expression::RelativeOf(which, object) => relative_of(object, alloc, scope, *which, least),
+        Expression::Named(name) => boxed_name(name, alloc, scope, tally),
+        Expression::Call(name, given) => call(given, name, alloc, scope, tally),
+        Expression::Index(name, width, inside) => index(inside, name, alloc, scope, *width, tally),
+        Expression::Parenthesised(inside) => boxed(inside, alloc, scope, tally),
+        Expression::RelativeOf(which, object) => relative_of(object, alloc, scope, *which, tally),
         Expression::Property(object, name, others) => {
-            properties(object, name, others, alloc, scope, least)
+            properties(object, name, others, alloc, scope, tally)
         }
-        Expression::PropertyLength(object, name) => length_of(object, name, alloc, scope, least),
+        Expression::PropertyLength(object, name) => length_of(object, name, alloc, scope, tally),
         Expression::PropertyEntry(object, name, index) => {
-            property_entry(object, name, index, alloc, scope, least)
+            property_entry(object, name, index, alloc, scope, tally)
         }
-        Expression::Prefixed(prefix, operand) => prefixed(operand, alloc, scope, *prefix, least),
+        Expression::Prefixed(prefix, operand) => prefixed(operand, alloc, scope, *prefix, tally),
         Expression::StepBefore(step, position, operand) => {
-            step_before(operand, alloc, scope, *step, *position, least)
+            step_before(operand, alloc, scope, *step, *position, tally)
         }
         Expression::StepAfter(operand, step, position) => {
-            step_after(operand, alloc, scope, *step, *position, least)
+            step_after(operand, alloc, scope, *step, *position, tally)
         }
         Expression::Chain(first, operator, second, links) => {
-            chain(links, first, second, alloc, scope, *operator, least)
+            chain(links, first, second, alloc, scope, *operator, tally)
         }
         Expression::Compare(left, comparison, right) => {
-            compare(left, right, alloc, scope, *comparison, least)
+            compare(left, right, alloc, scope, *comparison, tally)
         }
         Expression::Equal(left, equality, right, others) => {
-            equal(others, left, right, alloc, scope, *equality, least)
+            equal(others, left, right, alloc, scope, *equality, tally)
         }
         Expression::Contained(left, containment, right) => {
-            contained(left, right, alloc, scope, *containment, least)
+            contained(left, right, alloc, scope, *containment, tally)
         }
-        Expression::Tested(object, test, name) => tested(object, name, alloc, scope, *test, least),
+        Expression::Tested(object, test, name) => tested(object, name, alloc, scope, *test, tally),
         Expression::Assign(left, at, right) => {
-            boxed_assignment(left, right, alloc, scope, *at, least)
+            boxed_assignment(left, right, alloc, scope, *at, tally)
         }
     }
 }
@@ -381,14 +374,14 @@ fn all_expressions(
     given: &[Expression<'_>],
     alloc: Global,
     scope: &Scope<'_>,
-    least: &mut Least,
+    tally: &mut Tally,
 ) -> Result<Vec<Value>, AllocError>
     ensures { IfOk result (λ v. AreResolved (seen_in scope.now) given.now
-        least.old least.new (map value_of v.items)) }
+        tally.old tally.new (map value_of v.items)) }
 {
     let mut found = Vec::with_capacity(alloc, given.len())?;
     for e in given {
-        let Ok(resolved) = boxed(e, alloc, scope, least) else {
+        let Ok(resolved) = boxed(e, alloc, scope, tally) else {
             return Err(AllocError);
         };
         add(&mut found, resolved)?;
@@ -403,14 +396,14 @@ fn chain_links(
     links: &[(Binary, Expression<'_>)],
     alloc: Global,
     scope: &Scope<'_>,
-    least: &mut Least,
+    tally: &mut Tally,
 ) -> Result<Vec<(Binary, Value)>, AllocError>
     ensures { IfOk result (λ v. AreLinks (seen_in scope.now) links.now
-        least.old least.new (map value_link v.items)) }
+        tally.old tally.new (map value_link v.items)) }
 {
     let mut found = Vec::with_capacity(alloc, links.len())?;
     for link in links {
-        let Ok(operand) = boxed(&link.1, alloc, scope, least) else {
+        let Ok(operand) = boxed(&link.1, alloc, scope, tally) else {
             return Err(AllocError);
         };
         add_link(&mut found, link.0, operand)?;
@@ -426,16 +419,16 @@ fn variable(
     alloc: Global,
     scope: &Scope<'_>,
     operator: Position,
-    least: &mut Least,
+    tally: &mut Tally,
 ) -> Result<Variable, AllocError>
     ensures { IfOk result (λ x. IsTarget (seen_in scope.now) operator (expression_tree e.now)
-        least.old least.new x) }
+        tally.old tally.new x) }
 {
     match name_of(e) {
-        Some(name) => Ok(target_of(name, operator, scope.look(name.text), least)),
+        Some(name) => Ok(target_of(name, operator, scope.look(name.text), tally)),
         None => {
-            drop(boxed(e, alloc, scope, least)?);
-            note(least, NOT_ASSIGNABLE, operator);
+            drop(boxed(e, alloc, scope, tally)?);
+            note(tally, NOT_ASSIGNABLE, operator);
             Ok(Variable::Local(0))
         }
     }
@@ -448,13 +441,13 @@ fn call(
     name: &Name<'_>,
     alloc: Global,
     scope: &Scope<'_>,
-    least: &mut Least,
+    tally: &mut Tally,
 ) -> Result<Box<Value>, AllocError>
-    ensures { GivesBoxed (seen_in scope.now) result least.old least.new
+    ensures { GivesBoxed (seen_in scope.now) result tally.old tally.new
         (trees.call (name_tree name.now) (trees_of (map expression_tree given.now))) }
 {
-    let number = routine_of(name, given.len(), scope, least);
-    let Ok(given) = all_expressions(given, alloc, scope, least) else {
+    let number = routine_of(name, given.len(), scope, tally);
+    let Ok(given) = all_expressions(given, alloc, scope, tally) else {
         return Err(AllocError);
     };
     in_box(Value::Call(number, given), alloc)
@@ -468,13 +461,13 @@ fn index(
     alloc: Global,
     scope: &Scope<'_>,
     width: Width,
-    least: &mut Least,
+    tally: &mut Tally,
 ) -> Result<Box<Value>, AllocError>
-    ensures { GivesBoxed (seen_in scope.now) result least.old least.new
+    ensures { GivesBoxed (seen_in scope.now) result tally.old tally.new
         (trees.index (name_tree name.now) width (expression_tree operand.now)) }
 {
-    let number = array_of(name, scope, least);
-    let Ok(operand) = boxed(operand, alloc, scope, least) else {
+    let number = array_of(name, scope, tally);
+    let Ok(operand) = boxed(operand, alloc, scope, tally) else {
         return Err(AllocError);
     };
     in_box(Value::Entry(width, number, operand), alloc)
@@ -487,12 +480,12 @@ fn relative_of(
     alloc: Global,
     scope: &Scope<'_>,
     relative: Relative,
-    least: &mut Least,
+    tally: &mut Tally,
 ) -> Result<Box<Value>, AllocError>
-    ensures { GivesBoxed (seen_in scope.now) result least.old least.new
+    ensures { GivesBoxed (seen_in scope.now) result tally.old tally.new
         (trees.relative_of relative (expression_tree object.now)) }
 {
-    let Ok(object) = boxed(object, alloc, scope, least) else {
+    let Ok(object) = boxed(object, alloc, scope, tally) else {
         return Err(AllocError);
     };
     in_box(Value::Relative(relative, object), alloc)
@@ -506,17 +499,17 @@ fn properties(
     others: &[Name<'_>],
     alloc: Global,
     scope: &Scope<'_>,
-    least: &mut Least,
+    tally: &mut Tally,
 ) -> Result<Box<Value>, AllocError>
-    ensures { GivesBoxed (seen_in scope.now) result least.old least.new
+    ensures { GivesBoxed (seen_in scope.now) result tally.old tally.new
         (propertied (trees.property (expression_tree object.now) (name_tree name.now))
         others.now) }
 {
-    let Ok(object) = boxed(object, alloc, scope, least) else {
+    let Ok(object) = boxed(object, alloc, scope, tally) else {
         return Err(AllocError);
     };
-    let number = property_of(name, scope, least);
-    let Ok(others) = property_numbers(others, alloc, scope, least) else {
+    let number = property_of(name, scope, tally);
+    let Ok(others) = property_numbers(others, alloc, scope, tally) else {
         return Err(AllocError);
     };
     in_box(Value::Property(object, number, others), alloc)
@@ -529,15 +522,15 @@ fn length_of(
     name: &Name<'_>,
     alloc: Global,
     scope: &Scope<'_>,
-    least: &mut Least,
+    tally: &mut Tally,
 ) -> Result<Box<Value>, AllocError>
-    ensures { GivesBoxed (seen_in scope.now) result least.old least.new
+    ensures { GivesBoxed (seen_in scope.now) result tally.old tally.new
         (trees.property_length (expression_tree object.now) (name_tree name.now)) }
 {
-    let Ok(object) = boxed(object, alloc, scope, least) else {
+    let Ok(object) = boxed(object, alloc, scope, tally) else {
         return Err(AllocError);
     };
-    let number = property_of(name, scope, least);
+    let number = property_of(name, scope, tally);
     in_box(Value::PropertySize(object, number), alloc)
 }
 
@@ -549,17 +542,17 @@ fn property_entry(
     index: &Expression<'_>,
     alloc: Global,
     scope: &Scope<'_>,
-    least: &mut Least,
+    tally: &mut Tally,
 ) -> Result<Box<Value>, AllocError>
-    ensures { GivesBoxed (seen_in scope.now) result least.old least.new
+    ensures { GivesBoxed (seen_in scope.now) result tally.old tally.new
         (trees.property_entry (expression_tree object.now) (name_tree name.now)
         (expression_tree index.now)) }
 {
-    let Ok(object) = boxed(object, alloc, scope, least) else {
+    let Ok(object) = boxed(object, alloc, scope, tally) else {
         return Err(AllocError);
     };
-    let number = property_of(name, scope, least);
-    let Ok(index) = boxed(index, alloc, scope, least) else {
+    let number = property_of(name, scope, tally);
+    let Ok(index) = boxed(index, alloc, scope, tally) else {
         return Err(AllocError);
     };
     in_box(Value::PropertyWord(object, number, index), alloc)
@@ -572,12 +565,12 @@ fn prefixed(
     alloc: Global,
     scope: &Scope<'_>,
     prefix: Prefix,
-    least: &mut Least,
+    tally: &mut Tally,
 ) -> Result<Box<Value>, AllocError>
-    ensures { GivesBoxed (seen_in scope.now) result least.old least.new
+    ensures { GivesBoxed (seen_in scope.now) result tally.old tally.new
         (trees.prefixed prefix (expression_tree operand.now)) }
 {
-    let Ok(operand) = boxed(operand, alloc, scope, least) else {
+    let Ok(operand) = boxed(operand, alloc, scope, tally) else {
         return Err(AllocError);
     };
     in_box(Value::Prefixed(prefix, operand), alloc)
@@ -591,12 +584,12 @@ fn step_before(
     scope: &Scope<'_>,
     step: Step,
     position: Position,
-    least: &mut Least,
+    tally: &mut Tally,
 ) -> Result<Box<Value>, AllocError>
-    ensures { GivesBoxed (seen_in scope.now) result least.old least.new
+    ensures { GivesBoxed (seen_in scope.now) result tally.old tally.new
         (trees.step_before step position (expression_tree operand.now)) }
 {
-    let Ok(variable) = variable(operand, alloc, scope, position, least) else {
+    let Ok(variable) = variable(operand, alloc, scope, position, tally) else {
         return Err(AllocError);
     };
     in_box(Value::StepBefore(step, variable), alloc)
@@ -610,12 +603,12 @@ fn step_after(
     scope: &Scope<'_>,
     step: Step,
     position: Position,
-    least: &mut Least,
+    tally: &mut Tally,
 ) -> Result<Box<Value>, AllocError>
-    ensures { GivesBoxed (seen_in scope.now) result least.old least.new
+    ensures { GivesBoxed (seen_in scope.now) result tally.old tally.new
         (trees.step_after (expression_tree operand.now) step position) }
 {
-    let Ok(variable) = variable(operand, alloc, scope, position, least) else {
+    let Ok(variable) = variable(operand, alloc, scope, position, tally) else {
         return Err(AllocError);
     };
     in_box(Value::StepAfter(variable, step), alloc)
@@ -630,20 +623,20 @@ fn chain(
     alloc: Global,
     scope: &Scope<'_>,
     operator: Binary,
-    least: &mut Least,
+    tally: &mut Tally,
 ) -> Result<Box<Value>, AllocError>
-    ensures { GivesBoxed (seen_in scope.now) result least.old least.new
+    ensures { GivesBoxed (seen_in scope.now) result tally.old tally.new
         (chained
         (trees.binary operator (expression_tree first.now) (expression_tree second.now))
         (map link links.now)) }
 {
-    let Ok(first) = boxed(first, alloc, scope, least) else {
+    let Ok(first) = boxed(first, alloc, scope, tally) else {
         return Err(AllocError);
     };
-    let Ok(second) = boxed(second, alloc, scope, least) else {
+    let Ok(second) = boxed(second, alloc, scope, tally) else {
         return Err(AllocError);
     };
-    let Ok(links) = chain_links(links, alloc, scope, least) else {
+    let Ok(links) = chain_links(links, alloc, scope, tally) else {
         return Err(AllocError);
     };
     in_box(Value::Chain(first, operator, second, links), alloc)
@@ -657,15 +650,15 @@ fn compare(
     alloc: Global,
     scope: &Scope<'_>,
     comparison: Comparison,
-    least: &mut Least,
+    tally: &mut Tally,
 ) -> Result<Box<Value>, AllocError>
-    ensures { GivesBoxed (seen_in scope.now) result least.old least.new
+    ensures { GivesBoxed (seen_in scope.now) result tally.old tally.new
         (trees.compare comparison (expression_tree left.now) (expression_tree right.now)) }
 {
-    let Ok(left) = boxed(left, alloc, scope, least) else {
+    let Ok(left) = boxed(left, alloc, scope, tally) else {
         return Err(AllocError);
     };
-    let Ok(right) = boxed(right, alloc, scope, least) else {
+    let Ok(right) = boxed(right, alloc, scope, tally) else {
         return Err(AllocError);
     };
     in_box(Value::Compare(left, comparison, right), alloc)
@@ -680,19 +673,19 @@ fn equal(
     alloc: Global,
     scope: &Scope<'_>,
     equality: Equality,
-    least: &mut Least,
+    tally: &mut Tally,
 ) -> Result<Box<Value>, AllocError>
-    ensures { GivesBoxed (seen_in scope.now) result least.old least.new
+    ensures { GivesBoxed (seen_in scope.now) result tally.old tally.new
         (trees.equal equality (expression_tree left.now)
         (trees.more (expression_tree right.now) (trees_of (map expression_tree others.now)))) }
 {
-    let Ok(left) = boxed(left, alloc, scope, least) else {
+    let Ok(left) = boxed(left, alloc, scope, tally) else {
         return Err(AllocError);
     };
-    let Ok(right) = boxed(right, alloc, scope, least) else {
+    let Ok(right) = boxed(right, alloc, scope, tally) else {
         return Err(AllocError);
     };
-    let Ok(others) = all_expressions(others, alloc, scope, least) else {
+    let Ok(others) = all_expressions(others, alloc, scope, tally) else {
         return Err(AllocError);
     };
     in_box(Value::Equal(left, equality, right, others), alloc)
@@ -706,15 +699,15 @@ fn contained(
     alloc: Global,
     scope: &Scope<'_>,
     containment: Containment,
-    least: &mut Least,
+    tally: &mut Tally,
 ) -> Result<Box<Value>, AllocError>
-    ensures { GivesBoxed (seen_in scope.now) result least.old least.new
+    ensures { GivesBoxed (seen_in scope.now) result tally.old tally.new
         (trees.contained containment (expression_tree left.now) (expression_tree right.now)) }
 {
-    let Ok(left) = boxed(left, alloc, scope, least) else {
+    let Ok(left) = boxed(left, alloc, scope, tally) else {
         return Err(AllocError);
     };
-    let Ok(right) = boxed(right, alloc, scope, least) else {
+    let Ok(right) = boxed(right, alloc, scope, tally) else {
         return Err(AllocError);
     };
     in_box(Value::Contained(left, containment, right), alloc)
@@ -728,28 +721,28 @@ fn tested(
     alloc: Global,
     scope: &Scope<'_>,
     test: ObjectTest,
-    least: &mut Least,
+    tally: &mut Tally,
 ) -> Result<Box<Value>, AllocError>
-    ensures { GivesBoxed (seen_in scope.now) result least.old least.new
+    ensures { GivesBoxed (seen_in scope.now) result tally.old tally.new
         (trees.tested test (expression_tree object.now) (name_tree name.now)) }
 {
-    let Ok(object) = boxed(object, alloc, scope, least) else {
+    let Ok(object) = boxed(object, alloc, scope, tally) else {
         return Err(AllocError);
     };
     let found = scope.look(name.text);
-    in_box(tested_value(*name, object, test, found, least), alloc)
+    in_box(tested_value(*name, object, test, found, tally), alloc)
 }
 
 // A name as the left side of an assignment, whose operator stands at this position.
-fn left_name(name: Name<'_>, scope: &Scope<'_>, operator: Position, least: &mut Least) -> Value
+fn left_name(name: Name<'_>, scope: &Scope<'_>, operator: Position, tally: &mut Tally) -> Value
     ensures { IsWalked
         (target_breaches name.entry.position operator (look_in scope.now name.entry.text.now))
-        least.old least.new (value_of result)
+        tally.old tally.new (value_of result)
         (value_of_binding (number_at scope.now.file.now.numbers)
         (look_in scope.now name.entry.text.now)) }
 {
     let found = scope.look(name.text);
-    target_of(name, operator, found, least);
+    target_of(name, operator, found, tally);
     named(&scope.file.numbers, found)
 }
 
@@ -760,16 +753,16 @@ fn left_side(
     alloc: Global,
     scope: &Scope<'_>,
     operator: Position,
-    least: &mut Least,
+    tally: &mut Tally,
 ) -> Result<Value, AllocError>
     ensures { IfOk result (λ v. IsAssigned (seen_in scope.now) operator (expression_tree e.now)
-        least.old least.new (value_of v)) }
+        tally.old tally.new (value_of v)) }
 {
     match name_of(e) {
-        Some(name) => Ok(left_name(name, scope, operator, least)),
+        Some(name) => Ok(left_name(name, scope, operator, tally)),
         None => {
-            let left = boxed(e, alloc, scope, least)?;
-            not_place(is_place(e), operator, least);
+            let left = boxed(e, alloc, scope, tally)?;
+            not_place(is_place(e), operator, tally);
             Ok(Box::into_inner(left))
         }
     }
@@ -783,15 +776,15 @@ fn assign(
     alloc: Global,
     scope: &Scope<'_>,
     position: Position,
-    least: &mut Least,
+    tally: &mut Tally,
 ) -> Result<Value, AllocError>
-    ensures { GivesValue (seen_in scope.now) result least.old least.new
+    ensures { GivesValue (seen_in scope.now) result tally.old tally.new
         (trees.assign (expression_tree left.now) position (expression_tree right.now)) }
 {
-    let Ok(left) = left_side(left, alloc, scope, position, least) else {
+    let Ok(left) = left_side(left, alloc, scope, position, tally) else {
         return Err(AllocError);
     };
-    let Ok(right) = boxed(right, alloc, scope, least) else {
+    let Ok(right) = boxed(right, alloc, scope, tally) else {
         drop(left);
         return Err(AllocError);
     };
@@ -807,12 +800,12 @@ fn boxed_assignment(
     alloc: Global,
     scope: &Scope<'_>,
     position: Position,
-    least: &mut Least,
+    tally: &mut Tally,
 ) -> Result<Box<Value>, AllocError>
-    ensures { GivesBoxed (seen_in scope.now) result least.old least.new
+    ensures { GivesBoxed (seen_in scope.now) result tally.old tally.new
         (trees.assign (expression_tree left.now) position (expression_tree right.now)) }
 {
-    let Ok(value) = assign(left, right, alloc, scope, position, least) else {
+    let Ok(value) = assign(left, right, alloc, scope, position, tally) else {
         return Err(AllocError);
     };
     in_box(value, alloc)

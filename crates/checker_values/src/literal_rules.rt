@@ -8,69 +8,69 @@ ghost use Rattle.checker_names.specs.Noted.{noted};
 ghost use Rattle.checker_names.specs.Scope.{file_in};
 ghost use Rattle.checker_values.specs.Literals as spec;
 
-use checker_names::{Binding, File, Known, Least, Table, find, literal_known, note, or_zero};
+use checker_names::{Binding, File, Known, Table, Tally, find, literal_known, note, or_zero};
 use syntax::Literal;
 use syntax_lexer::{Position, UNKNOWN_NAME, WRONG_KIND};
 
 /// A name in what a global or an entry of an array begins with, or in what begins a case, and what
 /// it stands for there: it is a constant or an object.
 #[tactic(auto, using(checker_names::proofs::Noted::noted_none))]
-pub fn constant_name(position: Position, found: Option<Binding>, least: &mut Least)
-    ensures { least.new ≡ noted least.old (spec.constant_breaches position found) }
+pub fn constant_name(position: Position, found: Option<Binding>, tally: &mut Tally)
+    ensures { tally.new ≡ noted tally.old (spec.constant_breaches position found) }
 {
     match found {
-        None => note(least, UNKNOWN_NAME, position),
+        None => note(tally, UNKNOWN_NAME, position),
         Some(Binding::Constant(_)) => {}
         Some(Binding::Object(_)) => {}
-        Some(_) => note(least, WRONG_KIND, position),
+        Some(_) => note(tally, WRONG_KIND, position),
     }
 }
 
 #[tactic(auto, using(checker_names::proofs::Noted::noted_none))]
-fn literal_rules(value: &Literal<'_>, whole: &Table, least: &mut Least)
-    ensures { least.new ≡ noted least.old
+fn literal_rules(value: &Literal<'_>, whole: &Table, tally: &mut Tally)
+    ensures { tally.new ≡ noted tally.old
         (spec.literal_breaches whole.now.entries (literal_tree value.now)) }
 {
     if let Literal::Named(name) = value {
-        constant_name(name.position, find(whole, name.text), least);
+        constant_name(name.position, find(whole, name.text), tally);
     }
 }
 
 /// What a literal is, among the names of the file; `None` where it breaks a rule.
-pub fn literal(value: &Literal<'_>, whole: &Table, least: &mut Least) -> Option<Known>
+pub fn literal(value: &Literal<'_>, whole: &Table, tally: &mut Tally) -> Option<Known>
     ensures value { result ≡ names.literal_known whole.now.entries (literal_tree value.now) }
-    ensures breaches { least.new ≡ noted least.old
+    ensures breaches { tally.new ≡ noted tally.old
         (spec.literal_breaches whole.now.entries (literal_tree value.now)) }
 {
-    literal_rules(value, whole, least);
+    literal_rules(value, whole, tally);
     literal_known(value, whole)
 }
 
 /// What a global begins with.
 #[tactic(auto, using(checker_names::proofs::Noted::noted_none))]
-pub fn initial(value: &Option<Literal<'_>>, file: &File, least: &mut Least) -> u16
+pub fn initial(value: &Option<Literal<'_>>, file: &File, tally: &mut Tally) -> u16
     ensures value { result ≡ spec.initial_value (file_in file.now) (optional_tree value.now) }
-    ensures breaches { least.new ≡ noted least.old
+    ensures breaches { tally.new ≡ noted tally.old
         (spec.initial_breaches file.now.table.entries (optional_tree value.now)) }
 {
     match value {
         None => 0,
         Some(value) => file
             .numbers
-            .value(or_zero(literal(value, &file.table, least))),
+            .value(or_zero(literal(value, &file.table, tally))),
     }
 }
 
 // A name in a constant's value that is no constant there: what it stands for in the file.
 #[tactic(auto, using(checker_names::proofs::Noted::noted_none))]
-fn later_name(position: Position, anywhere: Option<Binding>, least: &mut Least)
-    ensures { least.new ≡ noted least.old (spec.later_breaches position anywhere) }
+fn later_name(position: Position, anywhere: Option<Binding>, tally: &mut Tally)
+    ensures { tally.new ≡ noted tally.old (spec.later_breaches position anywhere) }
 {
     match anywhere {
-        None => note(least, UNKNOWN_NAME, position),
-        Some(Binding::Constant(_)) => note(least, UNKNOWN_NAME, position),
+        None => note(tally, UNKNOWN_NAME, position),
+        Some(Binding::Constant(_)) => note(tally, UNKNOWN_NAME, position),
         Some(Binding::Object(_)) => {}
-        Some(_) => note(least, WRONG_KIND, position),
+        Some(_) => note(tally, WRONG_KIND, position),
     }
 }
 
@@ -80,21 +80,21 @@ fn earlier_name(
     position: Position,
     before: Option<Binding>,
     anywhere: Option<Binding>,
-    least: &mut Least,
+    tally: &mut Tally,
 )
-    ensures { least.new ≡ noted least.old (spec.earlier_breaches position before anywhere) }
+    ensures { tally.new ≡ noted tally.old (spec.earlier_breaches position before anywhere) }
 {
     match before {
         Some(Binding::Constant(_)) => {}
         Some(Binding::Object(_)) => {}
-        _ => later_name(position, anywhere, least),
+        _ => later_name(position, anywhere, tally),
     }
 }
 
 /// The value of a constant, where `table` has the names before it.
 #[tactic(auto, using(checker_names::proofs::Noted::noted_none))]
-pub fn constant_value(value: &Literal<'_>, whole: &Table, table: &Table, least: &mut Least)
-    ensures { least.new ≡ noted least.old
+pub fn constant_value(value: &Literal<'_>, whole: &Table, table: &Table, tally: &mut Tally)
+    ensures { tally.new ≡ noted tally.old
         (spec.named_breaches whole.now.entries table.now.entries (literal_tree value.now)) }
 {
     if let Literal::Named(name) = value {
@@ -102,7 +102,7 @@ pub fn constant_value(value: &Literal<'_>, whole: &Table, table: &Table, least: 
             name.position,
             find(table, name.text),
             find(whole, name.text),
-            least,
+            tally,
         );
     }
 }

@@ -13,7 +13,7 @@ ghost use Rattle.checker_values.specs.Expressions.{routine_of_binding, array_of_
 ghost use Rattle.checker_values.specs.Expressions.{attribute_of_binding, property_of_binding};
 ghost use Rattle.syntax_lexer.specs.FaultNumbers.{not_assignable, wrong_kind};
 
-use checker_names::{Binding, Least, Numbers, note, or_zero};
+use checker_names::{Binding, Numbers, Tally, note, or_zero};
 use meaning::limits::MOST_ARGUMENTS;
 use meaning::{Value, Variable};
 use syntax_lexer::{
@@ -35,91 +35,91 @@ pub fn named(numbers: &Numbers, found: Option<Binding>) -> Value
 }
 
 #[tactic(auto, using(checker_names::proofs::Noted::noted_none))]
-fn value_rules(position: Position, found: Option<Binding>, least: &mut Least)
-    ensures { least.new ≡ noted least.old (value_breaches position found) }
+fn value_rules(position: Position, found: Option<Binding>, tally: &mut Tally)
+    ensures { tally.new ≡ noted tally.old (value_breaches position found) }
 {
     match found {
-        None => note(least, UNKNOWN_NAME, position),
+        None => note(tally, UNKNOWN_NAME, position),
         Some(Binding::Constant(_)) => {}
         Some(Binding::Global(_)) => {}
         Some(Binding::Object(_)) => {}
         Some(Binding::Local(_)) => {}
-        Some(_) => note(least, WRONG_KIND, position),
+        Some(_) => note(tally, WRONG_KIND, position),
     }
 }
 
 /// A name as a value.
-pub fn value(name: Name<'_>, numbers: &Numbers, found: Option<Binding>, least: &mut Least) -> Value
+pub fn value(name: Name<'_>, numbers: &Numbers, found: Option<Binding>, tally: &mut Tally) -> Value
     ensures value { value_of result ≡ value_of_binding (number_at numbers.now) found }
-    ensures breaches { least.new ≡ noted least.old (value_breaches name.entry.position found) }
+    ensures breaches { tally.new ≡ noted tally.old (value_breaches name.entry.position found) }
 {
-    value_rules(name.position, found, least);
+    value_rules(name.position, found, tally);
     named(numbers, found)
 }
 
 #[tactic(auto, using(checker_names::proofs::Noted::noted_none, checker_names::proofs::Noted::noted_append))]
-fn arguments(position: Position, given: usize, locals: usize, least: &mut Least)
-    ensures { least.new ≡ noted least.old (argument_breaches position given locals) }
+fn arguments(position: Position, given: usize, locals: usize, tally: &mut Tally)
+    ensures { tally.new ≡ noted tally.old (argument_breaches position given locals) }
 {
     if given > MOST_ARGUMENTS {
-        note(least, TOO_MANY, position);
+        note(tally, TOO_MANY, position);
     }
     if given > locals {
-        note(least, TOO_MANY_ARGUMENTS, position);
+        note(tally, TOO_MANY_ARGUMENTS, position);
     }
 }
 
 // A name of another kind than is asked for; any number will do for it.
 #[tactic(auto, using(checker_names::proofs::Noted::noted_none))]
-fn wrong_kind(position: Position, least: &mut Least) -> usize
+fn wrong_kind(position: Position, tally: &mut Tally) -> usize
     ensures value { result ≡ 0 }
-    ensures breaches { least.new ≡ noted least.old (at position wrong_kind) }
+    ensures breaches { tally.new ≡ noted tally.old (at position wrong_kind) }
 {
-    note(least, WRONG_KIND, position);
+    note(tally, WRONG_KIND, position);
     0
 }
 
 /// A name that is called with so many arguments.
 #[tactic(auto, using(checker_names::proofs::Noted::noted_none))]
-pub fn routine(name: Name<'_>, given: usize, found: Option<Binding>, least: &mut Least) -> usize
+pub fn routine(name: Name<'_>, given: usize, found: Option<Binding>, tally: &mut Tally) -> usize
     ensures value { result ≡ routine_of_binding found }
-    ensures breaches { least.new ≡ noted least.old (call_breaches name.entry.position given found) }
+    ensures breaches { tally.new ≡ noted tally.old (call_breaches name.entry.position given found) }
 {
     match found {
         None => {
-            note(least, UNKNOWN_NAME, name.position);
+            note(tally, UNKNOWN_NAME, name.position);
             0
         }
         Some(Binding::Routine(number, locals)) => {
-            arguments(name.position, given, locals, least);
+            arguments(name.position, given, locals, tally);
             number
         }
-        Some(_) => wrong_kind(name.position, least),
+        Some(_) => wrong_kind(name.position, tally),
     }
 }
 
 /// A name before `->` or `-->`.
 #[tactic(auto, using(checker_names::proofs::Noted::noted_none))]
-pub fn array(name: Name<'_>, found: Option<Binding>, least: &mut Least) -> usize
+pub fn array(name: Name<'_>, found: Option<Binding>, tally: &mut Tally) -> usize
     ensures value { result ≡ array_of_binding found }
-    ensures breaches { least.new ≡ noted least.old (array_name_breaches name.entry.position found) }
+    ensures breaches { tally.new ≡ noted tally.old (array_name_breaches name.entry.position found) }
 {
     match found {
         None => {
-            note(least, UNKNOWN_NAME, name.position);
+            note(tally, UNKNOWN_NAME, name.position);
             0
         }
         Some(Binding::Array(number, _)) => number,
-        Some(_) => wrong_kind(name.position, least),
+        Some(_) => wrong_kind(name.position, tally),
     }
 }
 
 #[tactic(auto, using(checker_names::proofs::Noted::noted_append))]
-fn no_target(position: Position, operator: Position, least: &mut Least)
-    ensures { least.new ≡ noted least.old (at position wrong_kind ++ at operator not_assignable) }
+fn no_target(position: Position, operator: Position, tally: &mut Tally)
+    ensures { tally.new ≡ noted tally.old (at position wrong_kind ++ at operator not_assignable) }
 {
-    note(least, WRONG_KIND, position);
-    note(least, NOT_ASSIGNABLE, operator);
+    note(tally, WRONG_KIND, position);
+    note(tally, NOT_ASSIGNABLE, operator);
 }
 
 /// A name that is assigned to or stepped.
@@ -128,51 +128,51 @@ pub fn target_of(
     name: Name<'_>,
     operator: Position,
     found: Option<Binding>,
-    least: &mut Least,
+    tally: &mut Tally,
 ) -> Variable
     ensures value { result ≡ variable_of_binding found }
-    ensures breaches { least.new ≡ noted least.old
+    ensures breaches { tally.new ≡ noted tally.old
         (target_breaches name.entry.position operator found) }
 {
     match found {
-        None => note(least, UNKNOWN_NAME, name.position),
+        None => note(tally, UNKNOWN_NAME, name.position),
         Some(Binding::Global(number)) => return Variable::Global(number),
         Some(Binding::Local(number)) => return Variable::Local(number),
-        Some(Binding::Constant(_)) => note(least, NOT_ASSIGNABLE, operator),
-        Some(Binding::Object(_)) => note(least, NOT_ASSIGNABLE, operator),
-        Some(_) => no_target(name.position, operator, least),
+        Some(Binding::Constant(_)) => note(tally, NOT_ASSIGNABLE, operator),
+        Some(Binding::Object(_)) => note(tally, NOT_ASSIGNABLE, operator),
+        Some(_) => no_target(name.position, operator, tally),
     }
     Variable::Local(0)
 }
 
 /// A name after `has` or `hasnt`, or in a `give`.
 #[tactic(auto, using(checker_names::proofs::Noted::noted_none))]
-pub fn attribute(name: Name<'_>, found: Option<Binding>, least: &mut Least) -> usize
+pub fn attribute(name: Name<'_>, found: Option<Binding>, tally: &mut Tally) -> usize
     ensures value { result ≡ attribute_of_binding found }
-    ensures breaches { least.new ≡ noted least.old (attribute_breaches name.entry.position found) }
+    ensures breaches { tally.new ≡ noted tally.old (attribute_breaches name.entry.position found) }
 {
     match found {
         None => {
-            note(least, UNKNOWN_NAME, name.position);
+            note(tally, UNKNOWN_NAME, name.position);
             0
         }
         Some(Binding::Attribute(number)) => number,
-        Some(_) => wrong_kind(name.position, least),
+        Some(_) => wrong_kind(name.position, tally),
     }
 }
 
 /// A name after `.`, `.#`, `.&` or `provides`.
 #[tactic(auto, using(checker_names::proofs::Noted::noted_none))]
-pub fn property(name: Name<'_>, found: Option<Binding>, least: &mut Least) -> usize
+pub fn property(name: Name<'_>, found: Option<Binding>, tally: &mut Tally) -> usize
     ensures value { result ≡ property_of_binding found }
-    ensures breaches { least.new ≡ noted least.old (property_breaches name.entry.position found) }
+    ensures breaches { tally.new ≡ noted tally.old (property_breaches name.entry.position found) }
 {
     match found {
         None => {
-            note(least, UNKNOWN_NAME, name.position);
+            note(tally, UNKNOWN_NAME, name.position);
             0
         }
         Some(Binding::Property(number)) => number,
-        Some(_) => wrong_kind(name.position, least),
+        Some(_) => wrong_kind(name.position, tally),
     }
 }

@@ -25,11 +25,11 @@ use Rattle.code_encoding.specs.Instructions.{plain, branching, fail, takes, oper
 use Rattle.code_encoding.specs.Instructions.{giving, result_in, pulled_into, aside_variable}
 use Rattle.code_encoding.specs.Bytes.{bytes_of_all}
 use Rattle.code_instructions.specs.Instructions.{calling, call_operation, call_result, call_code, divided}
-use Rattle.code_instructions.specs.Instructions.{aside_global, character_code, behind_comparison, tested_between, is_between}
+use Rattle.code_instructions.specs.Instructions.{aside_global, character_code, offset_over_comparison, tested_between, is_between}
 use Rattle.code_objects.specs.ObjectCode.{tests_in, tested_in, at_tested, assigned_takes, assigned_word, passed_on}
-use Rattle.code_selection.specs.ItemCode.{entries_in, load_operation, store_operation, at_index, first_byte}
-use Rattle.code_selection.specs.ItemCode.{tested_first, letters_in, words_in, line_code, read_code, entry_code}
-use Rattle.code_selection.specs.ItemCode.{assign_entry_code, entry_aside_code, assign_entry_aside_code}
+use Rattle.code.specs.ItemCode.{entries_in, load_operation, store_operation, at_index, first_byte}
+use Rattle.code.specs.ItemCode.{tested_first, letters_in, words_in, line_code, read_code, entry_code}
+use Rattle.code.specs.ItemCode.{assign_entry_code, entry_aside_code, assign_entry_aside_code}
 
 -- Lists of instructions
 
@@ -133,7 +133,7 @@ character_same a b (items.variable x) = refl
 -- the tests of a word, without the fault
 abbrev two_tests : ℕ → ℕ → ℕ → List Instruction
 two_tests low end v =
-    branching operations.JumpIfLess (Variable v ∷ Small low ∷ []) true (behind_comparison end)
+    branching operations.JumpIfLess (Variable v ∷ Small low ∷ []) true (offset_over_comparison end)
     ∷ branching operations.JumpIfLess (Variable v ∷ constant end ∷ []) true 6
     ∷ []
 

@@ -17,7 +17,7 @@ use Rattle.code_drafts.specs.Items as items
 use Rattle.code_items.specs.Laws.{IsOperand, IsDestination}
 use Rattle.code_items.specs.Stack as stack
 use Rattle.code_encoding.specs.Instructions.{giving, in_place, result_in}
-use Rattle.code_selection.specs.ItemBytes.{text_bytes}
+use Rattle.code.specs.ItemBytes.{text_bytes}
 use Rattle.code.proofs.Behind.{Holds}
 use Rattle.code.proofs.Play.{Leads, address}
 use Rattle.code.proofs.Parts.{machine as at_words}
@@ -88,7 +88,7 @@ module _ (c : Running) where
   plain_length i none = ap (λ t. length (flat_map bytes_of (code_here c i) ++ t)) none
       ∙ ap length (append-nil (flat_map bytes_of (code_here c i)))
 
-  -- the one instruction of an item stands here, and the next item behind it
+  -- the one instruction of an item stands here, and the next item after it
   pub record Single (i : Instruction) : Type 0 where
     pub held : Holds m (here c) (bytes_of i)
     pub end : here c + length (bytes_of i) ≡ next_place

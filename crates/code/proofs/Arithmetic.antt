@@ -21,7 +21,7 @@ use Rattle.code_drafts.specs.Items as items
 use Rattle.code_items.specs.Stack as stack
 use Rattle.code_encoding.specs.Instructions.{giving, in_place, result_in, operands, takes, top}
 use Rattle.code_instructions.specs.Instructions.{commuting}
-use Rattle.code_selection.specs.ItemBytes.{text_bytes}
+use Rattle.code.specs.ItemBytes.{text_bytes}
 use Rattle.code.proofs.Behind.{Holds}
 use Rattle.code.proofs.Play.{stays}
 use Rattle.code.proofs.Parts.{machine as at_words}

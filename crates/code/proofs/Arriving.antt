@@ -18,8 +18,8 @@ use Rattle.code_items.specs.Stack.{Caller}
 use Rattle.code_items.specs.Stack as stack
 use Rattle.code_encoding.specs.Addresses.{Addresses}
 use Rattle.code_instructions.specs.Places.{offset_of}
-use Rattle.code_selection.specs.ItemCode.{item_code}
-use Rattle.code_selection.specs.ItemBytes.{text_bytes, item_bytes}
+use Rattle.code.specs.ItemCode.{item_code}
+use Rattle.code.specs.ItemBytes.{text_bytes, item_bytes}
 use Rattle.code.proofs.Behind.{Holds}
 use Rattle.code.specs.Bytes.{place_of, is_near}
 use Rattle.code.specs.HeldProgram.{sizes_of, HoldsProgram}

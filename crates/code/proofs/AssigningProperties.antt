@@ -12,7 +12,7 @@ use Rattle.meaning.specs.World as source
 use Rattle.code_drafts.specs.Items.{Destination}
 use Rattle.code_drafts.specs.Items as items
 use Rattle.code_items.specs.Stack as stack
-use Rattle.code_object_memory.specs.Tables.{PropertyTable}
+use Rattle.story_tables.specs.Tables.{PropertyTable}
 use Rattle.code_encoding.specs.Addresses.{has_one_word}
 use Rattle.code_encoding.specs.Instructions.{pulled_into, word_in}
 use Rattle.code_objects.specs.ObjectCode.{provided, tested_word, tested_single, at_object}

@@ -1,4 +1,4 @@
--- Code that stands at an address behind the header, where the machine can do it.
+-- Code that stands at an address after the header, where the machine can do it.
 use Rattle.std.proofs.Common.{◌≡◌, ℕ, ◌+◌, ◌≤◌, List, ◌++◌, drop, length, arith}
 use Rattle.ztext.specs.Text as text
 use Rattle.ztext.proofs.Holding as holding

@@ -1,4 +1,4 @@
--- A word is tested between two numbers within an item, and a fault stands behind the tests.
+-- A word is tested between two numbers within an item, and a fault stands after the tests.
 use Rattle.std.proofs.Common.{◌≡◌, ℕ, ◌+◌, ◌<◌, ◌≤◌, List, [], ◌∷◌, ◌++◌, length, Bool, true, false, refl, sym}
 use Rattle.std.proofs.Common.{length-append, subst, arith}
 use Rattle.std.specs.Prelude.{nat_lt, ◌&&◌, not, if◌then◌else◌}
@@ -14,7 +14,7 @@ use Rattle.zcore.specs.State.{State, done}
 use Rattle.zcore.specs.Execution.{perform}
 use Rattle.meaning.specs.declared.cause.Cause.{Cause}
 use Rattle.code_drafts.specs.Items as items
-use Rattle.code_object_memory.specs.Tables.{PropertyTable}
+use Rattle.story_tables.specs.Tables.{PropertyTable}
 use Rattle.code_encoding.specs.Addresses.{fault_address}
 use Rattle.code_encoding.specs.Instructions.{branching, fail, constant, word_in, number_of}
 use Rattle.code_instructions.specs.Instructions.{is_between, tested_between}
@@ -46,7 +46,7 @@ module _ (c : Running) where
   both_lead false false st q long away e f =
       leads_then (point q world.fuel) (point (q + long) world.fuel) (point (q + long + away) world.fuel) st st st e f
 
-  -- the two tests, and the fault behind them
+  -- the two tests, and the fault after them
   module _ (cause : Cause) (tables : List PropertyTable) (before rest old : List ℕ) (q v low end : ℕ) (i u : Operand)
       (is : List Instruction) (followed : next_place c < length m) (least : low < 32768) (small : end < 32768)
       (value : operand_value i (at_words (around c) old locals rest world.text)

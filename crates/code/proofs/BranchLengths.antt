@@ -12,8 +12,8 @@ use Rattle.zcore.specs.Operations.{count_of, has_more_types}
 use Rattle.zcore.specs.Operations as numbers
 use Rattle.zcore.specs.Instruction.{Instruction}
 use Rattle.zcore.specs.InstructionBytes.{opcode_bytes, operand_bytes, branch_bytes, bytes_of}
-use Rattle.code_branch_forms.specs.declared.layout.Form.TheVariants as form
-use Rattle.code_branch_forms.specs.Layout.{form_for, size_with}
+use Rattle.code_encoding.specs.declared.layout.Form.TheVariants as form
+use Rattle.code_encoding.specs.Layout.{form_for, size_with}
 use Rattle.code_drafts.specs.Items.{Test}
 use Rattle.code_drafts.specs.Items as items
 use Rattle.meaning.specs.declared.cause.Cause.TheVariants as causes
@@ -151,7 +151,7 @@ case_length test ns when offset =
 pub case_some : (test : Test) (ns : List ℕ) (when : Bool) → 1 ≤ length (bytes_of_all (case_code test ns when 2))
 case_some test ns when = omega (arith, labelled_length (test_operation test) (compared ns) when 2)
 
--- a branch by an object likewise, behind its tests
+-- a branch by an object likewise, after its tests
 pub label_length : (a b : Addresses) (objects : ℕ) (o : items.Operand) (before : List Instruction) (op : Operation)
     (os : List Operand) (when : Bool) (offset : ℕ)
     → length (bytes_of_all (pulled_into 0 o ++ (tests_in 0 a causes.NotAnObject 1 (objects + 1) o

@@ -19,7 +19,7 @@ use Rattle.code_items.specs.Stack as stack
 use Rattle.code_encoding.specs.Instructions.{operands, takes, top, most_tested}
 use Rattle.code_instructions.specs.Instructions.{ahead_limit, labelled, test_operation, ordered_code, turned}
 use Rattle.code_instructions.specs.Instructions.{are_both_pushed, tested_code, branch_code}
-use Rattle.code_selection.specs.ItemBytes.{text_bytes}
+use Rattle.code.specs.ItemBytes.{text_bytes}
 use Rattle.code.specs.Bytes.{place_of}
 use Rattle.code.specs.HeldProgram.{sizes_of}
 use Rattle.code.proofs.Behind.{Holds}
@@ -48,7 +48,7 @@ module _ (c : Running) where
   abbrev pub over : ℕ → ℕ
   over target = place_of (sizes_of p) (is_in c) target - place_of (sizes_of p) (is_in c) (place + 1)
 
-  -- Behind a branch the machine is at the next item, or at the target; what there is of a word of a `switch` is there
+  -- After a branch the machine is at the next item, or at the target; what there is of a word of a `switch` is there
   -- still.
   pub lands_led : (aside : Option ℕ) (target : ℕ) (words rest memory : List ℕ) (when holds_so : Bool)
       → length rest ≤ 48 → Scratch c memory → HoldsAside story memory aside
@@ -105,7 +105,7 @@ module _ (c : Running) where
       go false true l = passes l
       go false false l = jumps (nat_lt place target) refl l
 
-  -- a branch by the words that its operands come to, behind what takes them from the stack
+  -- a branch by the words that its operands come to, after what takes them from the stack
   labelled_led : (test : Test) (os : List Operand) (when : Bool) (target : ℕ) (aside : Option ℕ)
       (words before vs rest memory : List ℕ) (q : ℕ) → TestOf test os vs → length rest ≤ 48 → Scratch c memory
       → here c ≤ q
@@ -176,7 +176,7 @@ module _ (c : Running) where
           (omega (arith, short c, ends_by (sizes_of p) (is_in c) target)) (next_place c) next within
           (held_in c memory (flat_map bytes_of (labelled op os when (2 + d))) q scratch from held))
 
-  -- the place behind the instructions of the item
+  -- the place after the instructions of the item
   pub item_ends : (item : Item) (is : List Instruction) → ArrivesAt c item → text_bytes p.abbreviations item ≡ []
       → code_here c item ≡ is → next_place c ≡ here c + length (flat_map bytes_of is)
   item_ends item is stands none code =

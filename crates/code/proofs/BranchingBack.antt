@@ -26,7 +26,7 @@ use Rattle.code_encoding.specs.Instructions.{plain, branching, operands, takes, 
 use Rattle.code_instructions.specs.Instructions.{labelled_below, back_limit, test_operation, ordered_below, turned}
 use Rattle.code_instructions.specs.Instructions.{are_both_pushed, tested_below, branch_below}
 use Rattle.code_instructions.specs.Places.{back_offset}
-use Rattle.code_selection.specs.ItemBytes.{text_bytes}
+use Rattle.code.specs.ItemBytes.{text_bytes}
 use Rattle.code.specs.Bytes.{place_of, code_size, is_near}
 use Rattle.code.specs.HeldProgram.{sizes_of}
 use Rattle.code.proofs.Behind.{Holds}
@@ -130,7 +130,7 @@ module _ (c : Running) where
       (omega (arith, short c, ends_by (sizes_of p) (is_in c) (place + 1)))
       (omega (arith, short c, ends_by (sizes_of p) (is_in c) target))
 
-  -- a branch by the words that its operands come to, behind what takes them from the stack
+  -- a branch by the words that its operands come to, after what takes them from the stack
   labelled_back_led : (test : Test) (os : List Operand) (when : Bool) (target : ℕ) (aside : Option ℕ)
       (words before vs rest memory : List ℕ) (q : ℕ) → TestOf test os vs → 1 ≤ length os → length rest ≤ 48
       → Scratch c memory → here c ≤ q → (nearness ≡ true → code_size (sizes_of p) (is_in c) ≤ 8190)

@@ -40,7 +40,7 @@ use Rattle.code.proofs.Temporaries.{made}
 use Rattle.code.proofs.Taking.{after_takes, Taken, taken, Apart, apart}
 use Rattle.code.proofs.Delivering.{number_small}
 use Rattle.code.proofs.Alone.{IsOperandHere, IsHere, next_place, plain_length}
-use Rattle.code_selection.specs.ItemBytes.{text_bytes}
+use Rattle.code.specs.ItemBytes.{text_bytes}
 
 -- what is led to from a point is led to from those before it
 led_after : (story : List ℕ) (a : Addresses) (p : ProgramOf) (full : ℕ) (before mid : Next) (s t : State) (w : World)

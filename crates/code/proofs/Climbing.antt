@@ -13,8 +13,8 @@ use Rattle.zcore.specs.Parts.{jump_target}
 use Rattle.zcore.specs.State.{State, done, halt}
 use Rattle.zcore.specs.Execution.{step}
 use Rattle.meaning.specs.Objects.{Climbed, clear, inside, spent, climb}
-use Rattle.code_object_memory.specs.Region.{HasObjects}
-use Rattle.code_object_memory.specs.Tables.{PropertyTable}
+use Rattle.story_tables.specs.Region.{HasObjects}
+use Rattle.story_tables.specs.Tables.{PropertyTable}
 use Rattle.code_encoding.specs.Instructions.{plain}
 use Rattle.code.proofs.Behind.{Holds}
 use Rattle.code.proofs.Play.{Leads}

@@ -12,8 +12,8 @@ use Rattle.zcore.specs.Parts.{operand_value}
 use Rattle.zcore.specs.State.{State, done}
 use Rattle.zcore.specs.Execution.{perform}
 use Rattle.meaning.specs.declared.cause.Cause.TheVariants as causes
-use Rattle.code_object_memory.specs.Region.{HasObjects}
-use Rattle.code_object_memory.specs.Tables.{PropertyTable}
+use Rattle.story_tables.specs.Region.{HasObjects}
+use Rattle.story_tables.specs.Tables.{PropertyTable}
 use Rattle.code_encoding.specs.Addresses.{fault_address}
 use Rattle.code_encoding.specs.Instructions.{plain, giving, branching, fail}
 use Rattle.code.proofs.Behind.{Holds, holds_append}
@@ -64,7 +64,7 @@ module _ (c : Running) where
   pub scratch_in : (fuel : ℕ) (memory : List ℕ) → Scratch c memory → Scratch (refuel fuel) memory
   scratch_in fuel memory s = record { ground = s.ground; stored = s.stored; kept = s.kept }
 
-  -- The instructions of the loop, behind the one that sets its variable
+  -- The instructions of the loop, after the one that sets its variable
 
   abbrev same_test : Instruction
   same_test = branching operations.JumpIfEqual (Variable 251 ∷ Variable 250 ∷ []) true 11

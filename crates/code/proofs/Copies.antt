@@ -13,7 +13,7 @@ use Rattle.code_drafts.specs.Items as items
 use Rattle.code_drafts.specs.Code.{item_of, items_of}
 use Rattle.code_encoding.specs.Addresses.{Addresses, Sizes}
 use Rattle.code_instructions.specs.Places.{offset_of}
-use Rattle.code_selection.specs.ItemBytes.{item_bytes}
+use Rattle.code.specs.ItemBytes.{item_bytes}
 use Rattle.code.specs.Bytes.{no_addresses, is_settled, parts_of, lefts_of, place_of, kept_of, kept_bytes}
 use Rattle.code.specs.Bytes.{items_bytes, code_bytes, is_near}
 use Rattle.code.proofs.Codes.{from_item, bytes_next}

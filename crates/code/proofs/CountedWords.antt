@@ -14,12 +14,12 @@ use Rattle.zcore.specs.Parts.{operand_value}
 use Rattle.zcore.specs.State.{done}
 use Rattle.zcore.specs.Execution.{perform, give_result}
 use Rattle.meaning.specs.declared.cause.Cause.TheVariants as causes
-use Rattle.code_object_memory.specs.Region.{tables_base}
-use Rattle.code_object_memory.specs.Tables.{words_place, PropertyTable}
+use Rattle.story_tables.specs.Region.{tables_base}
+use Rattle.story_tables.specs.Tables.{words_place, PropertyTable}
 use Rattle.code_encoding.specs.Addresses.{fault_address}
 use Rattle.code_encoding.specs.Instructions.{giving, branching, fail}
-use Rattle.code_objects.specs.ObjectCode.{length_at, tested_single, tested_word, behind_operand}
-use Rattle.code_selection.specs.ItemCode.{is_entry}
+use Rattle.code_objects.specs.ObjectCode.{length_at, tested_single, tested_word, offset_over_operand}
+use Rattle.code.specs.ItemCode.{is_entry}
 use Rattle.code.proofs.Memory.{word_of, with_variable}
 use Rattle.code.proofs.Parts.{machine as at_words}
 use Rattle.code.proofs.Steps.{point, one_operand, two_operands, small_value, variable_value}
@@ -144,7 +144,7 @@ module _ (c : Running) where
 
   -- the bytes of the second test: 4, or 6 where the index takes two
   upper_size : (i : Operand)
-      → (behind_operand i ≡ 2 + length (bytes_of (branching operations.JumpIfLess (i ∷ Variable 251 ∷ []) true 6)))
+      → (offset_over_operand i ≡ 2 + length (bytes_of (branching operations.JumpIfLess (i ∷ Variable 251 ∷ []) true 6)))
       × (length (bytes_of (branching operations.JumpIfLess (i ∷ Variable 251 ∷ []) true 6)) ≤ 6)
   unfolding bytes_of
   upper_size (Large n) = (refl, omega arith)
@@ -163,7 +163,7 @@ module _ (c : Running) where
   unfolding perform
   word_tests tables before rest old there o q v i words is followed known e address value t =
       let divided = giving operations.Div (Variable 251 ∷ Small 2 ∷ []) 251 in
-      let lower_test = branching operations.JumpIfLess (i ∷ Small 0 ∷ []) true (behind_operand i) in
+      let lower_test = branching operations.JumpIfLess (i ∷ Small 0 ∷ []) true (offset_over_operand i) in
       let upper_test = branching operations.JumpIfLess (i ∷ Variable 251 ∷ []) true 6 in
       let rest_code = upper_test ∷ (fail (fault_address a causes.IndexOutOfRange) ++ is) in
       let k = counted tables before rest old there o q words (divided ∷ lower_test ∷ rest_code) known e address t in

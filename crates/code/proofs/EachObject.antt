@@ -69,7 +69,7 @@ module _ (c : Running) where
       (λ so situation. stack.branch (agrees so false) target words
       (record (at_aside c aside words) { situation = situation }))
 
-  -- two tests, of which the first leads to the jump between the second and what is behind it
+  -- two tests, of which the first leads to the jump between the second and what is after it
   next_leads : (below within : Bool) (st : State) (q away : ℕ)
       → Leads (point q world.fuel) st (point (landing true below (q + 4) away) world.fuel) st
       → Leads (point (q + 4) world.fuel) st (point (landing true within (q + 4 + away) 3) world.fuel) st

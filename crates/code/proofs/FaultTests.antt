@@ -11,7 +11,7 @@ use Rattle.zcore.specs.State.{State, done}
 use Rattle.zcore.specs.Parts.{operand_values, branch_on}
 use Rattle.zcore.specs.Execution.{perform}
 use Rattle.meaning.specs.declared.cause.Cause.{Cause}
-use Rattle.code_object_memory.specs.Tables.{PropertyTable}
+use Rattle.story_tables.specs.Tables.{PropertyTable}
 use Rattle.code_encoding.specs.Addresses.{fault_address}
 use Rattle.code_encoding.specs.Instructions.{branching, fail}
 use Rattle.code.proofs.Behind.{Holds, holds_append}
@@ -28,7 +28,7 @@ module _ (c : Running) where
 
   -- Tests before a fault
 
-  -- what is behind the fault, or the fault
+  -- what is after the fault, or the fault
   abbrev pub Passed : Bool → Cause → List PropertyTable → List ℕ → List ℕ → List ℕ → ℕ → List Instruction → Type 0
   Passed true cause tables before rest memory q is = Works c tables before rest memory q is
   Passed false cause tables before rest memory q is = FailsWith c cause before

@@ -26,7 +26,7 @@ use Rattle.code_items.specs.Laws.{ItemsFollow, ItemsAreWithin}
 use Rattle.meaning.specs.Plays.{Plays}
 use Rattle.syntax_lexer.specs.Printable.{IsPrintable}
 use Rattle.meaning.specs.Printable.{IsPrintableItem, IsPrintableRoutine, HasPrintableTexts}
-use Rattle.code_object_memory.specs.Laws.{HoldsRows}
+use Rattle.story_tables.specs.Laws.{HoldsRows}
 use Rattle.code.specs.HeldProgram.{sizes_of, offset_in, HoldsRoutine, HoldsText, HoldsProgram, fault_line}
 use Rattle.code.proofs.Leading.{code_plays_by}
 use Rattle.code.proofs.Stories.{a, table, main, sum_of_two, defaults, box, ball, objects, program, story, greeting}
@@ -100,7 +100,7 @@ dictionary_held =
       numbers = λ key. refl;
     }
 
--- its objects stand behind the defaults of properties
+-- its objects stand after the defaults of properties
 objects_held : HoldsRows story objects defaults
 unfolding bytes_of encoded encoded_with packed spelling_of
 objects_held = record { stand = refl; above = leb-true _ _ refl; below = leb-true _ _ refl }

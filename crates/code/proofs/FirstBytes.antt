@@ -15,7 +15,7 @@ use Rattle.meaning.specs.Limits.{most_array_bytes}
 use Rattle.meaning.specs.Reading.{holds_letters, holds_words}
 use Rattle.code_drafts.specs.Items as items
 use Rattle.code_items.specs.Stack as stack
-use Rattle.code_selection.specs.ItemCode.{first_byte, letters_in, words_in, tested_first}
+use Rattle.code.specs.ItemCode.{first_byte, letters_in, words_in, tested_first}
 use Rattle.code.proofs.Play.{LedOn, next_of, state_of}
 use Rattle.code.proofs.Memory.{with_variable}
 use Rattle.code.proofs.Flat.{array_within}

@@ -1,4 +1,4 @@
--- Arrays one behind another, as one list.
+-- Arrays one after another, as one list.
 use Rattle.std.proofs.Common.{◌≡◌, ℕ, zero, suc, ◌+◌, ◌-◌, ◌/◌, ◌%◌, ◌<◌, ◌≤◌, List, [], ◌∷◌, ◌++◌, length, take, set}
 use Rattle.std.proofs.Common.{slice_index, refl, ap, sym, ◌∙◌, arith}
 use Rattle.std.specs.Prelude.{map}
@@ -91,7 +91,7 @@ word_set arrays k i v lt here =
     ∙ ap (λ x. concat (set next k (set x (i + 1) (v % 256)))) is
     ∙ ap concat (set-set arrays k high (set high (i + 1) (v % 256)))
 
--- bytes that are written one behind another
+-- bytes that are written one after another
 pub length_bytes : (m : List ℕ) (at : ℕ) (bytes : List ℕ) → length (with_bytes m at bytes) ≡ length m
 length_bytes m at [] = refl
 length_bytes m at (b ∷ bs) = length_bytes (set m at b) (at + 1) bs ∙ length-set m at b

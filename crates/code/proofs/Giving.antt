@@ -20,9 +20,9 @@ use Rattle.meaning.specs.World.{Situation, to, with_objects}
 use Rattle.meaning.specs.World as source
 use Rattle.code_drafts.specs.Items as items
 use Rattle.code_items.specs.Stack as stack
-use Rattle.code_object_memory.specs.Laws.{Changes}
-use Rattle.code_object_memory.specs.Region.{HasObjects}
-use Rattle.code_object_memory.specs.Tables.{PropertyTable}
+use Rattle.story_tables.specs.Laws.{Changes}
+use Rattle.story_tables.specs.Region.{HasObjects}
+use Rattle.story_tables.specs.Tables.{PropertyTable}
 use Rattle.code_encoding.specs.Instructions.{plain}
 use Rattle.code_objects.specs.ObjectCode.{changing}
 use Rattle.code.proofs.Behind.{Holds, holds_on}

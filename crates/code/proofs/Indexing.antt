@@ -14,7 +14,7 @@ use Rattle.code_drafts.specs.Items as items
 use Rattle.code_encoding.specs.Addresses.{fault_address}
 use Rattle.code_encoding.specs.Instructions.{constant, pull, fail, number_of, pulled_into, word_in, aside_variable}
 use Rattle.code_instructions.specs.Instructions.{tested_between, is_between}
-use Rattle.code_selection.specs.ItemCode.{is_entry, at_index, tested_index}
+use Rattle.code.specs.ItemCode.{is_entry, at_index, tested_index}
 use Rattle.code_objects.specs.ObjectCode.{at_tested, tests_in}
 use Rattle.code.proofs.Behind.{holds_append}
 use Rattle.code.proofs.Play.{Leads, HoldsAside}
@@ -118,7 +118,7 @@ module _ (c : Running) where
       (variable_held c r.memory x r.scratch is).reads
       (λ memory scratch same _. (variable_held c memory x scratch is).reads) size followed))
 
-  -- a number whose tests stand before what is done, which is then behind their fault
+  -- a number whose tests stand before what is done, which is then after their fault
   number_labelled : (cause : Cause) (n : ℕ) (act : Operand → List Instruction) (before rest other : List ℕ) (b : Bool)
       → (r : Reached c before rest other ((if b then [] else fail (fault_address a cause)) ++ act (constant n)))
       → r.q + length (flat_map bytes_of ((if b then [] else fail (fault_address a cause)) ++ act (constant n)))

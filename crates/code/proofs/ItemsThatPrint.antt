@@ -27,7 +27,7 @@ use Rattle.code_drafts.specs.Items as items
 use Rattle.code_items.specs.Stack as stack
 use Rattle.code_encoding.specs.Instructions.{plain, in_place, fail}
 use Rattle.code_encoding.specs.Bytes.{character_of}
-use Rattle.code_selection.specs.ItemBytes.{text_bytes}
+use Rattle.code.specs.ItemBytes.{text_bytes}
 use Rattle.code.proofs.Behind.{Holds}
 use Rattle.code.specs.HeldProgram.{fault_line, HoldsText}
 use Rattle.code.proofs.Play.{Leads, stays}

@@ -140,7 +140,7 @@ module _ (c : Running) where
       (omega (arith, short, ends_by (sizes_of p) is_in (place + 1)))
       (omega (arith, short, ends_by (sizes_of p) is_in target))
 
-  -- a jump ahead from behind some steps; a word of a `switch` stays where it is
+  -- a jump ahead from after some steps; a word of a `switch` stays where it is
   pub jumps_led : (q offset target : ℕ) (aside : Option ℕ) (before words : List ℕ) → length words ≤ 48
       → HoldsAside story m aside → offset < 65536
       → jump_target (q + 3) offset ≡ address story a p routine target → here c ≤ q

@@ -18,7 +18,7 @@ test_keeps : (p : ProgramOf) (o : ℕ) (s : Situation) → Kept s.world (test_ob
 test_keeps p o s = tested_keeps (is_object (length p.objects) o) _ _ s (same s.world)
     (fault_keeps (Unit {0}) causes.NotAnObject s)
 
--- a part behind the test of an object
+-- a part after the test of an object
 pub object_keeps : {A : Type 0} (p : ProgramOf) (o : ℕ) (f : Part A) (s : Situation)
     → ((t : Situation) → Kept t.world (f t)) → Kept s.world (bound (test_object (length p.objects) o s) (λ _. f))
 object_keeps p o f s h = bound_keeps s.world (test_object (length p.objects) o s) (λ _. f) (test_keeps p o s)

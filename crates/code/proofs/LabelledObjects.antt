@@ -23,9 +23,9 @@ use Rattle.meaning.specs.World as source
 use Rattle.code_drafts.specs.Items.{agrees}
 use Rattle.code_drafts.specs.Items as items
 use Rattle.code_items.specs.Stack as stack
-use Rattle.code_object_memory.specs.Region.{tables_base}
-use Rattle.code_object_memory.specs.Tables.{words_place}
-use Rattle.code_object_memory.proofs.Together.{region_laws}
+use Rattle.story_tables.specs.Region.{tables_base}
+use Rattle.story_tables.specs.Tables.{words_place}
+use Rattle.story_tables.proofs.Together.{region_laws}
 use Rattle.code_instructions.specs.Instructions.{ahead_limit, labelled}
 use Rattle.code_objects.specs.ObjectCode.{assigned_word, at_label, property_address}
 use Rattle.code.specs.HeldProgram.{sizes_of}

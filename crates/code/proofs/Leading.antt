@@ -23,7 +23,7 @@ use Rattle.code_items.specs.Stack as stack
 use Rattle.code_encoding.specs.Addresses.{Addresses}
 use Rattle.code_encoding.specs.Instructions.{plain}
 use Rattle.code_instructions.specs.Places.{offset_of}
-use Rattle.code_selection.specs.ItemBytes.{item_bytes}
+use Rattle.code.specs.ItemBytes.{item_bytes}
 use Rattle.code.specs.Bytes.{place_of, code_bytes, is_near}
 use Rattle.code.specs.Laws.{CodePlays}
 use Rattle.code.specs.HeldProgram.{sizes_of, HoldsProgram}

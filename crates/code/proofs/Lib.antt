@@ -1,3 +1,4 @@
+pub mod ItemParts
 pub mod Alike
 pub mod Alone
 pub mod Arithmetic

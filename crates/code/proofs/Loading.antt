@@ -23,7 +23,7 @@ use Rattle.code_drafts.specs.Items as items
 use Rattle.code_items.specs.Stack as stack
 use Rattle.code_encoding.specs.Addresses.{fault_address}
 use Rattle.code_encoding.specs.Instructions.{giving, result_in}
-use Rattle.code_selection.specs.ItemCode.{entries_in, is_entry, load_operation}
+use Rattle.code.specs.ItemCode.{entries_in, is_entry, load_operation}
 use Rattle.code.specs.HeldProgram.{sizes_of}
 use Rattle.code.proofs.Play.{HoldsAside}
 use Rattle.code.proofs.Flat.{size_at}

@@ -10,8 +10,8 @@ use Rattle.zcore.specs.Parts.{global_address, with_word}
 use Rattle.ztext.specs.Text.{Holds}
 use Rattle.meaning.specs.Objects.{Objects}
 use Rattle.meaning.specs.Resolved.{ProgramOf}
-use Rattle.code_object_memory.specs.Region.{HasObjects}
-use Rattle.code_object_memory.proofs.Frames.{keeps}
+use Rattle.story_tables.specs.Region.{HasObjects}
+use Rattle.story_tables.proofs.Frames.{keeps}
 use Rattle.code_encoding.specs.Addresses.{Addresses}
 use Rattle.code.proofs.Regions.{stands_on, same_on}
 use Rattle.code.proofs.Play.{HoldsArrays, Stored}
@@ -64,7 +64,7 @@ pub holds_on : (base q : ℕ) (memory other bytes : List ℕ) → drop base othe
     → Holds memory q bytes → Holds other q bytes
 holds_on base q memory other bytes kept high h = ap (take (length bytes)) (same_on base q memory other kept high) ∙ h
 
--- 240 words of globals behind the header and below static memory, which begins at `base`
+-- 240 words of globals after the header and below static memory, which begins at `base`
 pub record Ground (base : ℕ) (memory : List ℕ) : Type 0 where
   pub above : 64 ≤ globals_of memory
   pub below : globals_of memory + 480 ≤ base
@@ -153,7 +153,7 @@ module _ (story : List ℕ) (a : Addresses) (p : ProgramOf) (globals : List ℕ)
       byte_other memory (global_address memory variable) word q (λ e. omega (arith, h, e, same_globals))
       (λ e. omega (arith, h, e, same_globals)) ∙ stored.below q h
 
-  -- the arrays lie behind the globals
+  -- the arrays lie after the globals
   arrays_kept : (variable word : ℕ) → 16 ≤ variable → variable < 256
       → HoldsArrays story a arrays (with_variable memory variable word)
   arrays_kept variable word low high =
@@ -176,7 +176,7 @@ module _ (story : List ℕ) (a : Addresses) (p : ProgramOf) (globals : List ℕ)
       ap (λ x. x * 256 + slice_index memory 11) (stored.header 10 (omega arith))
       ∙ ap (λ x. slice_index story 10 * 256 + x) (stored.header 11 (omega arith))
 
-  -- the objects lie behind the arrays
+  -- the objects lie after the arrays
   objects_kept : (variable word : ℕ) → 16 ≤ variable → variable < 256
       → HasObjects p.objects p.defaults objects stored.tables (with_variable memory variable word)
   objects_kept variable word low high =

@@ -16,7 +16,7 @@ use Rattle.meaning.specs.World.{Situation, bound, ◌>>=◌, move_by, with_tree}
 use Rattle.meaning.specs.World as source
 use Rattle.code_drafts.specs.Items as items
 use Rattle.code_items.specs.Stack as stack
-use Rattle.code_object_memory.specs.Tables.{PropertyTable}
+use Rattle.story_tables.specs.Tables.{PropertyTable}
 use Rattle.code_encoding.specs.Addresses.{fault_address}
 use Rattle.code_encoding.specs.Instructions.{plain, store, word_in}
 use Rattle.code_objects.specs.ObjectCode.{tested_in, climbing, at_object}

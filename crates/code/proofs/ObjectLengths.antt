@@ -13,11 +13,11 @@ use Rattle.meaning.specs.declared.cause.Cause.TheVariants as causes
 use Rattle.code_encoding.specs.Addresses.{Addresses, fault_address}
 use Rattle.code_encoding.specs.Instructions.{plain, branching, fail, number_of, temporary, constant, giving, result_in}
 use Rattle.code_encoding.specs.Instructions.{pulled_into, word_in, store}
-use Rattle.code_instructions.specs.Instructions.{behind_comparison}
+use Rattle.code_instructions.specs.Instructions.{offset_over_comparison}
 use Rattle.code_encoding.specs.Bytes.{bytes_of_all}
 use Rattle.code_objects.specs.ObjectCode.{tested_in, at_object, property_address, length_at, branching_zero}
 use Rattle.code_objects.specs.ObjectCode.{branching_single, property_value, provided, tested_word, tested_single}
-use Rattle.code_objects.specs.ObjectCode.{behind_operand, loaded_at, assigned_single, assigned_at, property_word_code}
+use Rattle.code_objects.specs.ObjectCode.{offset_over_operand, loaded_at, assigned_single, assigned_at, property_word_code}
 use Rattle.code_objects.specs.ObjectCode.{assign_property_code, assign_property_word_code, climbing, moved_into}
 use Rattle.code_objects.specs.ObjectCode.{jump_by, next_object_code, assigned_takes, assigned_word, passed_on}
 use Rattle.code.proofs.AddressLengths.{all_length, fail_same, AsLong, in_same, at_same}
@@ -64,7 +64,7 @@ module _ (a b : Addresses) where
       through
       (length_at (temporary 2) (temporary 3)
       ∷ giving operations.Div (Variable (temporary 3) ∷ Small 2 ∷ []) (temporary 3)
-      ∷ branching operations.JumpIfLess (i ∷ Small 0 ∷ []) true (behind_operand i)
+      ∷ branching operations.JumpIfLess (i ∷ Small 0 ∷ []) true (offset_over_operand i)
       ∷ branching operations.JumpIfLess (i ∷ Variable (temporary 3) ∷ []) true 6 ∷ [])
       (fault_address a causes.IndexOutOfRange) (fault_address b causes.IndexOutOfRange) more more refl
 
@@ -187,6 +187,6 @@ next_same objects x y v = omega (
 
     tests : List Instruction
     tests =
-        branching operations.JumpIfLess (Variable (number_of v) ∷ Small 1 ∷ []) true (behind_comparison objects)
+        branching operations.JumpIfLess (Variable (number_of v) ∷ Small 1 ∷ []) true (offset_over_comparison objects)
         ∷ branching operations.JumpIfLess (Variable (number_of v) ∷ constant objects ∷ []) true 5
         ∷ []

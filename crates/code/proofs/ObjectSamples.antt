@@ -7,7 +7,7 @@ use Rattle.code_drafts.specs.Items.{property_size, property_word, assign_propert
 use Rattle.code_drafts.specs.Items.{move_object, remove_object, print_name, is_in, has, provides, first_object}
 use Rattle.code_drafts.specs.Items.{next_object}
 use Rattle.code_encoding.specs.Addresses.{Sizes}
-use Rattle.code_selection.specs.ItemBytes.{item_bytes}
+use Rattle.code.specs.ItemBytes.{item_bytes}
 use Rattle.code.proofs.Samples.{a, sizes, x, y, written}
 
 -- with the offset 10
@@ -59,7 +59,7 @@ in_pushed : item_bytes sizes a 65 (is_in pushed pushed false 9)
 unfolding bytes_of
 in_pushed = refl
 
--- print_paddr; quit; and the branch behind
+-- print_paddr; quit; and the branch after
 in_none : branched (is_in (number 4) (variable y) true 9) ≡ 141 ∷ 2 ∷ 4 ∷ 186 ∷ 38 ∷ 4 ∷ 2 ∷ 202 ∷ []
 unfolding bytes_of
 in_none = refl

@@ -19,9 +19,9 @@ use Rattle.meaning.specs.Printable.{HasPrintableTexts}
 use Rattle.code_items.specs.Laws.{ItemsFollow}
 use Rattle.code_items.specs.Stack as stack
 use Rattle.meaning.specs.Objects.{first_objects}
-use Rattle.code_object_memory.specs.Region.{HasObjects}
-use Rattle.code_object_memory.specs.Tables.{PropertyTable}
-use Rattle.code_object_memory.proofs.Together.{region_laws}
+use Rattle.story_tables.specs.Region.{HasObjects}
+use Rattle.story_tables.specs.Tables.{PropertyTable}
+use Rattle.story_tables.proofs.Together.{region_laws}
 use Rattle.code_encoding.specs.Addresses.{Addresses}
 use Rattle.code_encoding.specs.Instructions.{plain}
 use Rattle.meaning.specs.Plays.{Plays}

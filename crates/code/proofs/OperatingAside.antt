@@ -20,7 +20,7 @@ use Rattle.code_drafts.specs.Items as items
 use Rattle.code_items.specs.Stack as stack
 use Rattle.code_encoding.specs.Instructions.{giving, in_place, aside_variable, result_in}
 use Rattle.code_instructions.specs.Instructions.{divided_by, with_aside}
-use Rattle.code_selection.specs.ItemBytes.{text_bytes}
+use Rattle.code.specs.ItemBytes.{text_bytes}
 use Rattle.code.proofs.Behind.{Holds}
 use Rattle.code.proofs.Play.{stays, HoldsAside}
 use Rattle.code.proofs.Parts.{machine as at_words}

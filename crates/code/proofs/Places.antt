@@ -6,13 +6,13 @@ use Rattle.std.proofs.lemmas.Bool.{cases_lt, lt-ltb, le-ltb}
 use Rattle.zcore.specs.Parts.{jump_target}
 use Rattle.ztext.specs.Text.{Holds}
 use Rattle.ztext.proofs.Holding.{holds_append}
-use Rattle.code_branch_forms.specs.declared.layout.Part.{Part}
-use Rattle.code_branch_forms.specs.Layout.{first, offset_over, part_size, lefts}
+use Rattle.code_encoding.specs.declared.layout.Part.{Part}
+use Rattle.code_encoding.specs.Layout.{first, offset_over, part_size, lefts}
 use Rattle.code_drafts.specs.Items.{Item}
 use Rattle.code_drafts.specs.Items as items
 use Rattle.code_encoding.specs.Addresses.{Addresses, Sizes}
 use Rattle.code_encoding.specs.Instructions.{jump_offset}
-use Rattle.code_selection.specs.ItemBytes.{item_bytes}
+use Rattle.code.specs.ItemBytes.{item_bytes}
 use Rattle.code_instructions.specs.Places.{target_of, offset_of, back_offset}
 use Rattle.code.specs.Bytes.{part_of, parts_with, parts_of, lefts_of, code_size, place_of, items_bytes, code_bytes}
 use Rattle.code.specs.Bytes.{is_near, is_back}
@@ -25,7 +25,7 @@ first_is : (xs : List ℕ) → first xs ≡ slice_index xs 0
 first_is [] = refl
 first_is (x ∷ xs) = refl
 
--- the part of a number, and what there is behind it
+-- the part of a number, and what there is after it
 record Split (k : ℕ) (ps : List Part) (n : ℕ) (x : Part) : Type 0 where
   rest : List ℕ
   here : slice_index (lefts k ps) n ≡ part_size (k + n) x rest + slice_index (lefts k ps) (suc n)
@@ -120,7 +120,7 @@ module _ (sizes : Sizes) where
           let low = rises is target (n + 1) (omega (arith, h)) in
           omega (arith, there, low)
 
-  -- the next item stands behind an item's bytes
+  -- the next item stands after an item's bytes
   pub next_place : (a : Addresses) (is : List Item) (n : ℕ) (i : Item) → slice_get is n ≡ Some i
       → place_of sizes is (n + 1)
       ≡ place_of sizes is n + length (item_bytes sizes a (offset_of (is_near sizes is) (place_of sizes is) n i) i)

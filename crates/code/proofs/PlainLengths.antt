@@ -17,8 +17,8 @@ use Rattle.code_instructions.specs.Instructions.{divided, character_code, with_l
 use Rattle.code_instructions.specs.Places.{target_of}
 use Rattle.code_objects.specs.ObjectCode.{objects_of, property_address, length_at, property_value, moved_into}
 use Rattle.code_objects.specs.ObjectCode.{relative_of, changing, assigned_takes}
-use Rattle.code_selection.specs.ItemCode.{item_code}
-use Rattle.code_selection.specs.ItemBytes.{item_bytes}
+use Rattle.code.specs.ItemCode.{item_code}
+use Rattle.code.specs.ItemBytes.{item_bytes}
 use Rattle.code.specs.Bytes.{no_addresses, least_size, is_back}
 use Rattle.code.proofs.AddressLengths.{call_same, divided_same, character_same, entry_same, entry_aside_same, assign_same, assign_aside_same, read_same}
 use Rattle.code.proofs.ObjectLengths.{value_same, object_same, behind_same, loaded_same, single_assigned_same}

@@ -10,8 +10,8 @@ use Rattle.zcore.specs.Parts.{unpacked}
 use Rattle.zcore.specs.State.{Frame, State, done}
 use Rattle.zcore.specs.Execution.{step}
 use Rattle.zcore.specs.Turn.{Whole, Turns, turn_from, turn_on, is_waiting, first_environment, plays_from, last_place}
-use Rattle.code_object_memory.specs.Region.{HasObjects}
-use Rattle.code_object_memory.specs.Tables.{PropertyTable}
+use Rattle.story_tables.specs.Region.{HasObjects}
+use Rattle.story_tables.specs.Tables.{PropertyTable}
 use Rattle.meaning.specs.Objects.{Objects}
 use Rattle.meaning.specs.Resolved.{ProgramOf}
 use Rattle.meaning.specs.World.{Outcome, World}
@@ -39,7 +39,7 @@ pub record PlaysAs (full : ℕ) (here : Next) (s : State) (w : World) (outcome :
   pub texts : outcome.texts ≡ w.texts ++ map (λ (v : Whole). v.text) (whole ∷ plays_from full whole w.lines)
   pub place : outcome.place ≡ last_place (whole ∷ plays_from full whole w.lines)
 
--- these are the arrays of the source: they stand one behind another, behind the globals and below the objects
+-- these are the arrays of the source: they stand one after another, after the globals and below the objects
 pub record HoldsArrays (story : List ℕ) (a : Addresses) (arrays : List (List ℕ)) (memory : List ℕ) : Type 0 where
   pub first : ℕ
   pub above : globals_of story + 480 ≤ first

@@ -18,7 +18,7 @@ use Rattle.meaning.specs.World as source
 use Rattle.code_drafts.specs.Items.{Destination}
 use Rattle.code_drafts.specs.Items as items
 use Rattle.code_items.specs.Stack as stack
-use Rattle.code_object_memory.specs.Tables.{PropertyTable}
+use Rattle.story_tables.specs.Tables.{PropertyTable}
 use Rattle.code_encoding.specs.Addresses.{fault_address, has_one_word}
 use Rattle.code_encoding.specs.Instructions.{giving, branching, fail, aside_variable, result_in}
 use Rattle.code_objects.specs.ObjectCode.{property_address, length_at, property_value}
@@ -137,7 +137,7 @@ module _ (c : Running) where
         (λ after. refl) (omega arith) (omega arith) (omega (arith, next.end, followed))
         (first_held m from_here zero_test (counting n d t.operand) next.held))
 
-    -- what stands behind it
+    -- what stands after it
     last_held : (w : ℕ) → Works c read_tables before rest (with_variable t.reached.memory 249 w) from_here
         (then_read t.operand)
         → Holds m (from_here + 3 + 11) (flat_map bytes_of (last_read n d t.operand ∷ []))

@@ -18,8 +18,8 @@ use Rattle.meaning.specs.World as source
 use Rattle.code_drafts.specs.Items.{Destination}
 use Rattle.code_drafts.specs.Items as items
 use Rattle.code_items.specs.Stack as stack
-use Rattle.code_object_memory.specs.Region.{tables_base}
-use Rattle.code_object_memory.specs.Tables.{words_place, PropertyTable}
+use Rattle.story_tables.specs.Region.{tables_base}
+use Rattle.story_tables.specs.Tables.{words_place, PropertyTable}
 use Rattle.code_encoding.specs.Instructions.{result_in}
 use Rattle.code_objects.specs.ObjectCode.{property_address, length_at}
 use Rattle.code.proofs.Memory.{word_of, with_variable}

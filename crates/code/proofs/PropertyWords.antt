@@ -15,11 +15,11 @@ use Rattle.meaning.specs.World as source
 use Rattle.code_drafts.specs.Items.{Destination}
 use Rattle.code_drafts.specs.Items as items
 use Rattle.code_items.specs.Stack as stack
-use Rattle.code_object_memory.specs.Tables.{words_place, PropertyTable}
-use Rattle.code_object_memory.specs.Region.{tables_base}
+use Rattle.story_tables.specs.Tables.{words_place, PropertyTable}
+use Rattle.story_tables.specs.Region.{tables_base}
 use Rattle.code_encoding.specs.Instructions.{giving, result_in}
 use Rattle.code_objects.specs.ObjectCode.{provided, tested_word, assigned_word, at_object}
-use Rattle.code_selection.specs.ItemCode.{is_entry}
+use Rattle.code.specs.ItemCode.{is_entry}
 use Rattle.code.proofs.Memory.{word_of}
 use Rattle.code.proofs.Parts.{machine as at_words}
 use Rattle.code.proofs.Steps.{point, first_held, two_operands, variable_value}
@@ -37,7 +37,7 @@ use Rattle.code.proofs.Pulling.{opens, pulls, works_at}
 module _ (c : Running) where
   open c use {story, a, p, accepted, holds, full, m, count, counts, routine, place, callers, locals, world, good}
 
-  -- what is done behind the test of the object
+  -- what is done after the test of the object
   abbrev loading : ℕ → items.Operand → Destination → Operand → List Instruction
   loading q i d x =
       provided a x q ++ (tested_word a (assigned_word i)

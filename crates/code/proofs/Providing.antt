@@ -14,10 +14,10 @@ use Rattle.zcore.specs.State.{State, done}
 use Rattle.zcore.specs.Execution.{perform, give_result}
 use Rattle.meaning.specs.declared.cause.Cause.TheVariants as causes
 use Rattle.meaning.specs.Accepted.{IsProperty}
-use Rattle.code_object_memory.specs.Laws.{Acts, Placed}
-use Rattle.code_object_memory.specs.Region.{HasObjects, tables_base}
-use Rattle.code_object_memory.specs.Tables.{words_place, PropertyTable}
-use Rattle.code_object_memory.proofs.Together.{region_laws}
+use Rattle.story_tables.specs.Laws.{Acts, Placed}
+use Rattle.story_tables.specs.Region.{HasObjects, tables_base}
+use Rattle.story_tables.specs.Tables.{words_place, PropertyTable}
+use Rattle.story_tables.proofs.Together.{region_laws}
 use Rattle.code_encoding.specs.Addresses.{fault_address}
 use Rattle.code_encoding.specs.Instructions.{branching, fail}
 use Rattle.code_objects.specs.ObjectCode.{property_address, provided}

@@ -25,7 +25,7 @@ use Rattle.meaning.specs.World.{Situation, array_at, is_index}
 use Rattle.meaning.specs.World as source
 use Rattle.code_items.specs.Stack as stack
 use Rattle.code_encoding.specs.Instructions.{plain, giving}
-use Rattle.code_selection.specs.ItemCode.{line_code}
+use Rattle.code.specs.ItemCode.{line_code}
 use Rattle.code.proofs.Behind.{Holds, holds_on}
 use Rattle.code.proofs.Play.{Stored, Good, next_of, state_of, none_aside, PlaysAs}
 use Rattle.code.proofs.Memory.{with_variable, stored_temporary}

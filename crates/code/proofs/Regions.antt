@@ -42,7 +42,7 @@ stands_word memory base bytes j v s lt =
     (stands_set m1 base b1 (j + 1) (v % 256) (stands_set memory base bytes j (v / 256) s (omega (arith, lt)))
     (omega (arith, lt, length-set bytes j (v / 256))))
 
--- bytes are written one behind another
+-- bytes are written one after another
 pub stands_bytes : (memory : List ℕ) (base : ℕ) (bytes : List ℕ) (j : ℕ) (vs : List ℕ) → StandsIn memory base bytes
     → j + length vs ≤ length bytes → StandsIn (with_bytes memory (base + j) vs) base (with_bytes bytes j vs)
 stands_bytes memory base bytes j [] s room = s
@@ -79,7 +79,7 @@ pub record KeepsOutside (from to : ℕ) (old new : List ℕ) : Type 0 where
 pub keeps_wider : (from to end : ℕ) (l m : List ℕ) → to ≤ end → KeepsOutside from to l m → KeepsOutside from end l m
 keeps_wider from to end l m le k = record { size = k.size; before = k.before; after = same_on to end l m k.after le }
 
--- a byte behind them
+-- a byte after them
 pub byte_behind : (from to : ℕ) (l m : List ℕ) (q : ℕ) → KeepsOutside from to l m → to ≤ q
     → slice_index m q ≡ slice_index l q
 byte_behind from to l m q k high =

@@ -20,7 +20,7 @@ use Rattle.code_drafts.specs.Items as items
 use Rattle.code_items.specs.Stack as stack
 use Rattle.code_encoding.specs.Instructions.{number_of, aside_variable, push, store}
 use Rattle.code_instructions.specs.Instructions.{stepping}
-use Rattle.code_selection.specs.ItemBytes.{text_bytes}
+use Rattle.code.specs.ItemBytes.{text_bytes}
 use Rattle.code.proofs.Behind.{Holds, holds_on}
 use Rattle.code.proofs.Play.{moves, none_aside}
 use Rattle.code.proofs.Memory.{with_variable}

@@ -13,7 +13,7 @@ use Rattle.syntax_trees.specs.declared.tree.Width.TheVariants as widths
 use Rattle.meaning.specs.World.{array_at, entry_count, is_index, entry_at, with_entry}
 use Rattle.meaning.specs.Objects.{Objects}
 use Rattle.meaning.specs.Resolved.{ProgramOf}
-use Rattle.code_object_memory.proofs.Frames as region
+use Rattle.story_tables.proofs.Frames as region
 use Rattle.code_encoding.specs.Addresses.{Addresses}
 use Rattle.code.specs.HeldProgram.{offset_in}
 use Rattle.code.proofs.Flat.{array_within, byte_at, byte_set, word_set, sizes_same, concat_same, place_same, count_same}

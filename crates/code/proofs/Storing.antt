@@ -15,7 +15,7 @@ use Rattle.code_items.specs.Stack as stack
 use Rattle.code_encoding.specs.Addresses.{fault_address}
 use Rattle.code_encoding.specs.Instructions.{plain, word_in, aside_variable}
 use Rattle.code_objects.specs.ObjectCode.{assigned_word, passed_on}
-use Rattle.code_selection.specs.ItemCode.{entries_in, store_operation, at_index, tested_index}
+use Rattle.code.specs.ItemCode.{entries_in, store_operation, at_index, tested_index}
 use Rattle.code.proofs.Play.{HoldsAside}
 use Rattle.code.proofs.Texts.{cause_line}
 use Rattle.code.proofs.Arriving.{Running, at, LedFrom, situation_here, ArrivesAt}

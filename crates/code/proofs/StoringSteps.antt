@@ -14,7 +14,7 @@ use Rattle.meaning.specs.declared.resolved.Variable as resolved
 use Rattle.meaning.specs.declared.resolved.Variable.TheVariants as variables
 use Rattle.meaning.specs.World.{Situation, Comes, to, over, bound, Part, value_in, with_array}
 use Rattle.code_items.specs.Stack as stack
-use Rattle.code_selection.specs.ItemCode.{store_operation}
+use Rattle.code.specs.ItemCode.{store_operation}
 use Rattle.code.proofs.StoredEntries.{entry_address, written_at, last_byte}
 
 -- an entry is stored

@@ -18,7 +18,7 @@ use Rattle.meaning.specs.declared.cause.Cause.TheVariants as causes
 use Rattle.code_encoding.specs.Addresses.{fault_address}
 use Rattle.code_encoding.specs.Instructions.{branching, fail, aside_variable}
 use Rattle.code_instructions.specs.Instructions.{tested_between, is_between}
-use Rattle.code_selection.specs.ItemCode.{is_entry}
+use Rattle.code.specs.ItemCode.{is_entry}
 use Rattle.code.proofs.Behind.{Holds, holds_append}
 use Rattle.code.proofs.Play.{Leads}
 use Rattle.code.proofs.Memory.{word_of, with_variable}

@@ -19,7 +19,7 @@ use Rattle.meaning.specs.Places.{dictionary_place}
 use Rattle.meaning.specs.Sizes.{greatest_routine_weight}
 use Rattle.meaning.specs.declared.cause.Cause.{Cause}
 use Rattle.code_items.specs.Statements.{routine_items}
-use Rattle.code_object_memory.specs.Laws.{HoldsRows}
+use Rattle.story_tables.specs.Laws.{HoldsRows}
 use Rattle.code_encoding.specs.Addresses.{Addresses, Sizes, fault_address}
 use Rattle.code_encoding.specs.Instructions.{plain}
 use Rattle.code_encoding.specs.Bytes.{bytes_of_all}
@@ -49,12 +49,12 @@ sizes_of p = record {
   singles = singles_of p.objects;
 }
 
--- how many bytes of arrays stand before the array of a number, where they stand one behind another
+-- how many bytes of arrays stand before the array of a number, where they stand one after another
 abbrev pub offset_in : List (List ℕ) → ℕ → ℕ
 offset_in arrays n = length (concat (take n arrays))
 
 -- a routine at a packed address, of a program of these sizes: how many locals it has, and its code (5.2). Bytes follow
--- it, and it stands in static memory or behind.
+-- it, and it stands in static memory or after.
 pub record HoldsRoutine (story : List ℕ) (sizes : Sizes) (a : Addresses) (packed : ℕ) (r : RoutineOf) : Type 0 where
   pub bytes : Holds story (unpacked story packed) (r.locals ∷ code_bytes sizes a (routine_items r))
   pub followed : unpacked story packed + 1 + code_size sizes (routine_items r) < length story
@@ -70,7 +70,7 @@ pub record HoldsText (story : List ℕ) (packed : ℕ) (text : List ℕ) : Type 
   pub above : static_base_of story ≤ unpacked story packed
 
 -- the abbreviation of a number: the table names the place of its text, halved (3.3), which is in static memory or
--- behind, and which ends where texts can be read
+-- after, and which ends where texts can be read
 pub record HoldsAbbreviation (story : List ℕ) (number : ℕ) (text : List ℕ) : Type 0 where
   pub bytes : Holds story (2 * word_at story (abbreviations_of story + 2 * number)) (encoded text)
   pub above : static_base_of story ≤ 2 * word_at story (abbreviations_of story + 2 * number)
@@ -89,17 +89,17 @@ pub record HoldsProgram (story : List ℕ) (a : Addresses) (p : ProgramOf) : Typ
   -- the code that begins the story
   pub start : Holds story (word_at story 6) (start_code (slice_index a.routines p.main))
   pub start_above : static_base_of story ≤ word_at story 6
-  -- 240 words of globals behind the header and below static memory, the source's first
+  -- 240 words of globals after the header and below static memory, the source's first
   pub globals_above : header_size ≤ globals_of story
   pub globals_below : globals_of story + globals_size ≤ static_base_of story
   pub static_below : static_base_of story ≤ length story
   pub globals : (g : ℕ) → g < length p.globals → word_at story (globals_of story + 2 * g) ≡ slice_index p.globals g
-  -- the table of abbreviations, behind the header and below the globals, and the texts of the source's
+  -- the table of abbreviations, after the header and below the globals, and the texts of the source's
   pub table_above : header_size ≤ abbreviations_of story
   pub table_below : abbreviations_of story + 2 * most_abbreviations ≤ globals_of story
   pub abbreviations : (n : ℕ) → n < length p.abbreviations
       → HoldsAbbreviation story n (abbreviation_at p.abbreviations n)
-  -- the arrays, one behind another, behind the globals and below the objects
+  -- the arrays, one after another, after the globals and below the objects
   pub first_array : ℕ
   pub arrays : Holds story first_array (concat p.arrays)
   pub arrays_each : (n : ℕ) → n < length p.arrays → slice_index a.arrays n ≡ first_array + offset_in p.arrays n

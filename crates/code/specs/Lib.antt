@@ -1,3 +1,6 @@
+pub mod ItemCode
+pub mod ItemBytes
+pub mod Kinds
 pub mod Bytes
 pub mod Sizes
 pub mod HeldProgram

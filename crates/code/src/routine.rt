@@ -1,7 +1,7 @@
 //! The code of a routine.
 
 ghost use Rattle.std.specs.Prelude.{◌≡◌, ◌<◌, [], reverse, length, IfOk, OnOk};
-ghost use Rattle.code_branch_forms.specs.Layout.{bytes_limit, first, lefts};
+ghost use Rattle.code_encoding.specs.Layout.{bytes_limit, first, lefts};
 ghost use Rattle.meaning.specs.Meaning.{routine_at};
 ghost use Rattle.meaning.specs.Views.{program_of};
 ghost use Rattle.code_drafts.specs.Code.{items_of};
@@ -15,16 +15,16 @@ ghost use Rattle.code.specs.Written.{AreSizesOf};
 
 use crate::backward::{back_size, is_near};
 use crate::fault::CodeFault;
-use crate::settled::{after, between, front, is_settled, size_between};
-use code_branch_forms::{BranchUse, Part, branches, lay_out};
-use code_encoding::{Addresses, Sizes};
+use crate::item::put_item;
+use crate::settled::{between, is_settled, size_between};
+use code_encoding::{Addresses, BranchUse, Part, Sizes, branches, lay_out};
 use code_instructions::{label_size, offset_of, place, target_of};
 use code_items::{Item, routine_items};
-use code_selection::put_item;
 use meaning::Checked;
 use std::alloc::{AllocError, Global};
 use std::marker::Model;
 use std::mem::forget;
+use syntax_lexer::{from, front};
 
 /// Memory that is needed while the code of a routine is made, for one routine after another.
 #[derive(Drop)]
@@ -75,7 +75,7 @@ pub struct Code<'a, 'b> {
 
 impl<'a, 'b> Model for Code<'a, 'b> {
     ghost use Rattle.std.specs.Prelude.{◌≡◌, ◌<◌, ◌+◌, reverse};
-    ghost use Rattle.code_branch_forms.specs.Layout.{bytes_limit, uses};
+    ghost use Rattle.code_encoding.specs.Layout.{bytes_limit, uses};
     ghost use Rattle.code_drafts.specs.Code.{items_of};
     ghost use Rattle.code_encoding.specs.Written.{sizes_in};
     ghost use Rattle.code.specs.Bytes.{parts_of, lefts_of, code_size, kept_bytes, is_near};
@@ -134,7 +134,7 @@ fn put_parts(
         kept.extend_from_slice(between(&scratch.bytes, start, before))?;
         start = scratch.bytes.len();
     }
-    kept.extend_from_slice(after(&scratch.bytes, start))?;
+    kept.extend_from_slice(from(&scratch.bytes, start))?;
     Ok(())
 }
 
@@ -196,7 +196,7 @@ fn put_items(
         bytes.extend_from_slice(front(rest, run))?;
         let offset = offset_of(near, left, number, item);
         put_item(bytes, alloc, sizes, addresses, offset, item)?;
-        rest = after(rest, run);
+        rest = from(rest, run);
         start = number + 1;
     }
     bytes.extend_from_slice(rest)?;
@@ -312,8 +312,8 @@ pub fn dispose(codes: Vec<Code<'_, '_>>, disposal: Disposal) {
 impl Code<'_, '_> {
     ghost use Rattle.std.specs.Prelude.{◌≡◌, ◌+◌, ◌%◌, ◌∷◌, ◌++◌, map, reverse, OnOk, OnErr};
     ghost use Rattle.std.specs.List.{All};
-    ghost use Rattle.code_branch_forms.specs.Layout.{IsShortest};
-    ghost use Rattle.code_branch_forms.specs.declared.layout.BranchUse.{BranchUse};
+    ghost use Rattle.code_encoding.specs.Layout.{IsShortest};
+    ghost use Rattle.code_encoding.specs.declared.layout.BranchUse.{BranchUse};
     ghost use Rattle.code_encoding.specs.Bytes.{Adds};
     ghost use Rattle.code_encoding.specs.Written.{addresses_of};
     ghost use Rattle.code.specs.Bytes.{code_size, code_bytes, lefts_of, place_of};

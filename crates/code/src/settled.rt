@@ -6,6 +6,7 @@ ghost use Rattle.code_drafts.specs.Code.{item_of};
 ghost use Rattle.code.specs.Bytes as spec;
 
 use code_items::Item;
+use syntax_lexer::{from, front};
 use syntax_trees::Binary;
 
 /// Whether the divisor of an operation is tested, and a fault printed if it is 0.
@@ -38,30 +39,16 @@ pub fn is_settled(item: &Item<'_>) -> bool
     }
 }
 
-/// The first `count` bytes, or all where there are no more.
-pub fn front(bytes: &[u8], count: usize) -> &[u8]
-    ensures { result.now ≡ take count bytes.now }
-{
-    bytes.split_at(count.min(bytes.len())).0
-}
-
-/// The bytes after the first `count`, none where there are no more.
-pub fn after(bytes: &[u8], count: usize) -> &[u8]
-    ensures { result.now ≡ drop count bytes.now }
-{
-    bytes.split_at(count.min(bytes.len())).1
-}
-
 /// The bytes from `start` to `end`.
 pub fn between(bytes: &[u8], start: usize, end: usize) -> &[u8]
     ensures { result.now ≡ take (end - start) (drop start bytes.now) }
 {
-    front(after(bytes, start), end.saturating_sub(start))
+    front(from(bytes, start), end.saturating_sub(start))
 }
 
 /// How many bytes there are from the item of a number on to the end, where `left` tells it of each,
 /// the end's first.
-#[tactic(auto, using(code_branch_forms::proofs::Offsets::turned))]
+#[tactic(auto, using(code_encoding::proofs::Offsets::turned))]
 fn left_from(left: &[usize], number: usize) -> usize
     requires { number < length left.now }
     ensures { result ≡ slice_index (reverse left.now) number }

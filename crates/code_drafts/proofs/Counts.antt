@@ -17,7 +17,7 @@ use Rattle.code_drafts.proofs.CountedForms.{joined, if_length, moved_length, aft
 use Rattle.code_drafts.proofs.CountedForms.{three_length, kept_length, known_length, either_length, either_and, Counted}
 use Rattle.code_drafts.proofs.CountedForms.{prefixed_counted, binary_counted, entry_counted, assign_entry_counted}
 
--- an item that takes a value alone, and with a branch behind it
+-- an item that takes a value alone, and with a branch after it
 
 one_length : (v : Value) → Counted v → (i : Item) (at : ℕ)
     → length (if_pushed (alone v) (value_items at v push) [] ++ i ∷ []) ≡ if_pushed (alone v) (value_count v push) 0 + 1

@@ -51,7 +51,7 @@ pub as_items : {c c1 : List Item} {f g : ℕ → ℕ → List Item} → ((n at :
 as_items {c1 = c1} same w =
     record { more = w.more; is = w.is; are = λ n le. w.are n le ∙ same n (n - length c1) (omega (arith, le)) }
 
--- one item before what is written, and one behind what is written
+-- one item before what is written, and one after what is written
 pub then_one : {c c1 c2 : List Item} {f : ℕ → ℕ → List Item} (i : Item) → WritesBefore c c1 f → c2 ≡ c1 ++ i ∷ []
     → WritesBefore c c2 (λ n at. numbered n i ∷ f n (at + 1))
 then_one {c1 = c1} {c2 = c2} i w e = both 1 (λ n at. refl) w (one c1 c2 i e)

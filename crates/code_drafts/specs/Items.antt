@@ -225,7 +225,7 @@ are_more_pushed [] = false
 are_more_pushed (o ∷ os) = if_pushed o (is_any_pushed os) (are_more_pushed os)
 
 -- where an argument goes that does not stand in place, where there are several of those, and where one of those stands
--- behind it: the last of several goes aside
+-- after it: the last of several goes aside
 abbrev pub argument_place : Bool → Bool → Destination
 argument_place several true = push
 argument_place true false = aside
@@ -463,7 +463,7 @@ abbrev mutual
   many_count none = 1
   many_count (more v vs) = value_count v push + 1 + also_count vs
 
-  -- its right sides behind the first, and the branch
+  -- its right sides after the first, and the branch
   pub also_count : Values → ℕ
   also_count none = 2
   also_count (more v vs) = value_count v push + 1 + also_count vs
@@ -707,7 +707,7 @@ abbrev mutual
   many_items at op (more v vs) when target =
       value_items at v push ++ first_equal ∷ also_items (at + value_count v push + 1) op vs when target
 
-  -- its right sides behind the first, each folded into the flag, and the branch by that
+  -- its right sides after the first, each folded into the flag, and the branch by that
   pub also_items : ℕ → Equality → Values → Bool → ℕ → List Item
   also_items at op none when target =
       drop_below ∷ branch_true pushed (equality_when op when) target ∷ []

@@ -155,7 +155,7 @@ WritesWord old new wanted d = ReducesWord (written_in old) (written_in new) want
 abbrev pub WritesTruth : Draft → Draft → Wanted → Bool → ℕ → Type 0
 WritesTruth old new wanted when left = ReducesTruth (written_in old) (written_in new) wanted when left
 
--- 0, and 1 behind it
+-- 0, and 1 after it
 abbrev pub WritesChoice : Draft → Draft → code_destination.Destination → ℕ → Type 0
 WritesChoice old new d left = ReducesChoice (written_in old) (written_in new) (as_destination d) left
 
@@ -196,10 +196,10 @@ abbrev pub WritesSame : Draft → Draft → code_operand.Operand → List code_o
 WritesSame old new o os when left =
     Writes old new (λ n at. items.same_items (as_operand o) (as_operands os) at when (n - left))
 
--- behind other operands stand those for expressions that are evaluated one after another
+-- after other operands stand those for expressions that are evaluated one after another
 abbrev pub AddsOperands : List code_operand.Operand → List code_operand.Operand → List code_value.Value → Type 0
 AddsOperands old new xs = as_operands new ≡ as_operands old ++ all_operands xs
 
--- behind other operands stand those for expressions that stand in place
+-- after other operands stand those for expressions that stand in place
 abbrev pub AddsAlone : List code_operand.Operand → List code_operand.Operand → List code_value.Value → Type 0
 AddsAlone old new xs = as_operands new ≡ as_operands old ++ alones (values_in xs)

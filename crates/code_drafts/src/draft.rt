@@ -50,7 +50,7 @@ pub fn put_branch<'a>(
 }
 
 /// How many items are written.
-pub fn written(draft: &Draft<'_>) -> usize
+pub fn item_count(draft: &Draft<'_>) -> usize
     ensures { result ≡ length (written_in draft.now) }
 {
     draft.items.len()
@@ -87,7 +87,7 @@ fn turn_item_back(item: &mut Item<'_>, first: usize)
 }
 
 /// The items from the first to the last, with the numbers of their targets.
-pub fn in_order(draft: Draft<'_>) -> Vec<Item<'_>>
+pub fn into_items(draft: Draft<'_>) -> Vec<Item<'_>>
     ensures { items_of result.items ≡ ordered draft.entry }
 {
     let mut items = draft.items;
@@ -98,7 +98,7 @@ pub fn in_order(draft: Draft<'_>) -> Vec<Item<'_>>
 /// Puts the items of a draft in order, from the first to the last, and numbers their targets.
 fn put_in_order(items: &mut [Item<'_>])
     ensures { items_of items.new
-        ≡ spec.in_order (length (items_of items.old)) (items_of items.old) }
+        ≡ spec.into_items (length (items_of items.old)) (items_of items.old) }
 {
     let count = items.len();
     items.reverse();

@@ -35,10 +35,10 @@ fn is_global(variable: Variable) -> bool
     }
 }
 
-fn any_of(first: bool, second: bool, behind: bool) -> bool
-    ensures { result ≡ ((first || second) || behind) }
+fn any_of(first: bool, second: bool, after: bool) -> bool
+    ensures { result ≡ ((first || second) || after) }
 {
-    first || second || behind
+    first || second || after
 }
 
 /// Whether the evaluation of an expression may change a variable.
@@ -55,8 +55,8 @@ fn changes(variable: Variable, value: &Value) -> bool
         Value::Chain(first, _, second, links) => {
             let first = changes(variable, first);
             let second = changes(variable, second);
-            let behind = links_change(variable, links);
-            any_of(first, second, behind)
+            let after = links_change(variable, links);
+            any_of(first, second, after)
         }
         Value::Compare(left, _, right) => changes(variable, left) || changes(variable, right),
         Value::Equal(left, _, right, others) => {
@@ -366,7 +366,7 @@ fn last_operator(operator: Binary, links: &[(Binary, Value)]) -> Binary
     }
 }
 
-/// Operands for expressions that are evaluated one after another, behind other operands.
+/// Operands for expressions that are evaluated one after another, after other operands.
 pub fn push_operands(operands: &mut Vec<Operand>, values: &[Value]) -> Result<(), AllocError>
     ensures { OnOk result (AddsOperands operands.old.items operands.new.items values.now) }
 {
@@ -376,7 +376,7 @@ pub fn push_operands(operands: &mut Vec<Operand>, values: &[Value]) -> Result<()
     Ok(())
 }
 
-/// Operands for expressions that stand in place, behind other operands.
+/// Operands for expressions that stand in place, after other operands.
 #[tactic(auto, using(crate::proofs::InPlace::alone_next, crate::proofs::InPlace::alones_end))]
 pub fn push_alone(operands: &mut Vec<Operand>, values: &[Value]) -> Result<(), AllocError>
     ensures { OnOk result (AddsAlone operands.old.items operands.new.items values.now) }

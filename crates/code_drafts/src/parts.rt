@@ -9,7 +9,7 @@ ghost use Rattle.code_drafts.specs.declared.wanted.Wanted.TheVariants.{Branch};
 ghost use Rattle.code_drafts.specs.Writing.{is_logical, WritesValue, WritesWord, WritesTruth};
 ghost use Rattle.code_drafts.specs.Writing.{WritesChoice, WritesMoved};
 
-use crate::draft::{Draft, put, put_branch, written};
+use crate::draft::{Draft, item_count, put, put_branch};
 use crate::item::{Destination, Item, Operand, Test};
 use crate::operand::{is_any_pushed, is_pushed};
 use crate::wanted::Wanted;
@@ -34,7 +34,7 @@ pub fn put_word(draft: &mut Draft<'_>, wanted: Wanted) -> Result<Destination, Al
     }
 }
 
-/// What follows a condition: 0, and 1 behind it, if a word is wanted. Where the condition is to
+/// What follows a condition: 0, and 1 after it, if a word is wanted. Where the condition is to
 /// branch: whether where it is true, and how many items are left there.
 #[inline(never)]
 #[tactic(auto, using(crate::proofs::Reductions::truth_wanted, crate::proofs::Reductions::truth_nowhere, crate::proofs::Reductions::truth_pushed, crate::proofs::Reductions::truth_kept, crate::proofs::Reductions::truth_aside))]
@@ -44,7 +44,7 @@ pub fn put_truth(draft: &mut Draft<'_>, wanted: Wanted) -> Result<(bool, usize),
     match wanted {
         Wanted::Branch(when, left) => Ok((when, left)),
         Wanted::Word(Destination::Nowhere) => {
-            let end = written(draft);
+            let end = item_count(draft);
             Ok((true, end))
         }
         Wanted::Word(Destination::Push) => {
@@ -68,16 +68,16 @@ pub fn put_truth(draft: &mut Draft<'_>, wanted: Wanted) -> Result<(bool, usize),
     }
 }
 
-/// 0, and 1 behind it: how many items are left at the 1.
+/// 0, and 1 after it: how many items are left at the 1.
 #[tactic(auto, using(crate::proofs::Reductions::chosen))]
 fn put_choice(draft: &mut Draft<'_>, destination: Destination) -> Result<usize, AllocError>
     ensures { IfOk result (λ left. WritesChoice draft.old draft.new destination left) }
 {
-    let end = written(draft);
+    let end = item_count(draft);
     let Ok(()) = put(draft, Item::Move(Operand::Number(1), destination)) else {
         return Err(AllocError);
     };
-    let left = written(draft);
+    let left = item_count(draft);
     let Ok(()) = put(draft, Item::Jump(end)) else {
         return Err(AllocError);
     };
@@ -274,11 +274,11 @@ pub fn operated<'a>(
 }
 
 /// Where an argument goes that does not stand in place, where there are several of those, and where
-/// one of those stands behind it: the last of several goes aside.
-pub fn argument_place(several: bool, behind: bool) -> Destination
-    ensures { as_destination result ≡ items.argument_place several behind }
+/// one of those stands after it: the last of several goes aside.
+pub fn argument_place(several: bool, after: bool) -> Destination
+    ensures { as_destination result ≡ items.argument_place several after }
 {
-    if several && !behind {
+    if several && !after {
         Destination::Aside
     } else {
         Destination::Push
@@ -340,11 +340,11 @@ pub fn stored<'a>(
     }
 }
 
-/// Whether an operand of a call is pushed, or one behind it.
-pub fn are_behind(operand: Operand, behind: bool) -> bool
-    ensures { result ≡ items.if_pushed (as_operand operand) true behind }
+/// Whether an operand of a call is pushed, or one after it.
+pub fn is_pushed_or_later(operand: Operand, after: bool) -> bool
+    ensures { result ≡ items.if_pushed (as_operand operand) true after }
 {
-    is_pushed(operand) || behind
+    is_pushed(operand) || after
 }
 
 /// The test of a comparison.

@@ -6,7 +6,7 @@ ghost use Rattle.code_drafts.specs.Items as items;
 ghost use Rattle.code_drafts.specs.Code.{as_operand, as_operands};
 ghost use Rattle.code_drafts.specs.Writing.{PutsItem, WritesSame};
 
-use crate::draft::{Draft, put, written};
+use crate::draft::{Draft, item_count, put};
 use crate::item::{Item, Operand, Test};
 use crate::operand::MOST_COMPARED;
 use std::alloc::AllocError;
@@ -61,7 +61,7 @@ pub fn put_each_same(
     ensures { OnOk result (WritesSame draft.old draft.new operand others.now when target) }
 {
     let count = groups_before_last(others.len());
-    let end = written(draft);
+    let end = item_count(draft);
     let Ok(()) = put_same(
         draft,
         operand,

@@ -1,3 +1,5 @@
+pub mod Offsets
+mod Samples
 pub mod Chains
 pub mod Naming
 pub mod Types

@@ -8,11 +8,11 @@ use Rattle.zcore.specs.InstructionBytes.{bytes_of}
 abbrev pub bytes_of_all : List Instruction → List ℕ
 bytes_of_all instructions = flat_map bytes_of instructions
 
--- these stand behind those that were there
+-- these stand after those that were there
 abbrev pub Adds : Vec ℕ → Vec ℕ → List ℕ → Type 0
 Adds old new more = new.items ≡ old.items ++ more
 
--- the bytes of these instructions stand behind those that were there
+-- the bytes of these instructions stand after those that were there
 abbrev pub AddsCode : Vec ℕ → Vec ℕ → List Instruction → Type 0
 AddsCode old new code = Adds old new (bytes_of_all code)
 

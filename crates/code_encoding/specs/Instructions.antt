@@ -96,7 +96,7 @@ take_words (suc n) = pull (temporary n) ∷ take_words n
 abbrev pub takes : List items.Operand → List Instruction
 takes os = take_words (pushed_count os - 1)
 
--- operands behind the first that is pushed, whose words are in the temporaries from one on
+-- operands after the first that is pushed, whose words are in the temporaries from one on
 abbrev pub named_from : ℕ → List items.Operand → List Operand
 named_from n [] = []
 named_from n (items.pushed ∷ os) = Variable (temporary n) ∷ named_from (n + 1) os

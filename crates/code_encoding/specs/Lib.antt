@@ -1,3 +1,4 @@
+pub mod Layout
 pub mod Addresses
 pub mod Instructions
 pub mod Bytes

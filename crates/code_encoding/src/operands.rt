@@ -125,7 +125,7 @@ fn named(operand: code_drafts::Operand, pushed: u8) -> Operand
 }
 
 /// The second of two operands, whose first is named in place.
-pub fn named_second(first: code_drafts::Operand, second: code_drafts::Operand) -> Operand
+pub fn name_second(first: code_drafts::Operand, second: code_drafts::Operand) -> Operand
     ensures { spec.in_place (as_operand first) ∷ result ∷ []
         ≡ spec.operands (as_operand first ∷ as_operand second ∷ []) }
 {

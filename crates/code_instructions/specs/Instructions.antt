@@ -143,15 +143,15 @@ also_equal_code =
 abbrev pub is_between : ℕ → ℕ → ℕ → Bool
 is_between low end i = nat_lt i 32768 && (nat_le low i && nat_lt i end)
 
--- how far a branch leads to behind a comparison with a constant: it has 4 bytes, or 6 where the constant takes two
-abbrev pub behind_comparison : ℕ → ℕ
-behind_comparison n = if nat_lt n 256 then 6 else 8
+-- how far a branch leads to after a comparison with a constant: it has 4 bytes, or 6 where the constant takes two
+abbrev pub offset_over_comparison : ℕ → ℕ
+offset_over_comparison n = if nat_lt n 256 then 6 else 8
 
 -- a word in a variable is tested: where it is not, as a signed number, from one number on and below another, a fault's
 -- text is printed
 abbrev pub tested_between : Addresses → Cause → ℕ → ℕ → ℕ → List Instruction
 tested_between a cause low end variable =
-    branching JumpIfLess (Variable variable ∷ Small low ∷ []) true (behind_comparison end)
+    branching JumpIfLess (Variable variable ∷ Small low ∷ []) true (offset_over_comparison end)
     ∷ branching JumpIfLess (Variable variable ∷ constant end ∷ []) true 6
     ∷ fail (fault_address a cause)
 

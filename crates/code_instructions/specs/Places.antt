@@ -1,6 +1,6 @@
 -- Where an item stands and leads.
 use Rattle.std.specs.Prelude.{◌+◌, ◌-◌, ℕ, Bool, true, false, List, slice_index, Option, Some, None}
-use Rattle.code_branch_forms.specs.Layout.{first}
+use Rattle.code_encoding.specs.Layout.{first}
 use Rattle.code_drafts.specs.Items.{Item}
 use Rattle.code_drafts.specs.Items as items
 use Rattle.code_encoding.specs.Instructions.{jump_offset}

@@ -104,12 +104,12 @@ fn read_aside(operand: code_drafts::Operand) -> code_drafts::Operand
     }
 }
 
-/// An operand, where one behind it is pushed, or none is.
-fn named_aside(operand: code_drafts::Operand, behind: bool) -> code_drafts::Operand
+/// An operand, where one after it is pushed, or none is.
+fn name_aside(operand: code_drafts::Operand, after: bool) -> code_drafts::Operand
     ensures { as_operand result
-        ≡ (if behind then as_operand operand else spec.read_aside (as_operand operand)) }
+        ≡ (if after then as_operand operand else spec.read_aside (as_operand operand)) }
 {
-    if behind { operand } else { read_aside(operand) }
+    if after { operand } else { read_aside(operand) }
 }
 
 /// Operands of which the last that is pushed was put aside.
@@ -122,8 +122,8 @@ fn with_last_aside(
 {
     let mut named = Vec::new(alloc);
     for number in 0..operands.len() {
-        let behind = is_any_pushed(&operands[number + 1..]);
-        named.push(named_aside(operands[number], behind))?;
+        let after = is_any_pushed(&operands[number + 1..]);
+        named.push(name_aside(operands[number], after))?;
     }
     Ok(named)
 }

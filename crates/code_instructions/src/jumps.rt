@@ -13,11 +13,10 @@ ghost use Rattle.code_instructions.specs.Instructions as spec;
 ghost use Rattle.code_encoding.specs.Bytes.{AddsCode};
 ghost use Rattle.meaning.specs.Limits.{most_arguments};
 
-use code_branch_forms::TWO_BYTE_LIMIT;
 use code_drafts::{MOST_COMPARED, Test};
 use code_encoding::{
-    ASIDE, Operands, constant, in_place, named_second, plain, put_all, put_instruction, put_named,
-    put_takes,
+    ASIDE, Operands, TWO_BYTE_LIMIT, constant, in_place, name_second, plain, put_all,
+    put_instruction, put_named, put_takes,
 };
 use std::alloc::{AllocError, Global};
 use zcore::{Branch, Operand, Operation};
@@ -176,7 +175,7 @@ fn put_labelled_two(
         (spec.labelled_below limit operation
         (basic.operands (as_operand left ∷ as_operand right ∷ [])) when offset)) }
 {
-    let operands = [in_place(left), named_second(left, right)];
+    let operands = [in_place(left), name_second(left, right)];
     put_labelled_below(bytes, limit, operation, &operands, when, offset)?;
     Ok(())
 }

@@ -15,6 +15,6 @@ pub use operators::{put_also_equal, put_binary, put_first_equal, put_prefix, put
 pub use places::{label_size, offset_of, place, target_of};
 pub use printing::{put_character, put_text};
 pub use tested::{
-    FIRST_NEGATIVE, behind_comparison, put_fail, put_pulled, put_tested_between, word_in,
+    FIRST_NEGATIVE, offset_over_comparison, put_fail, put_pulled, put_tested_between, word_in,
 };
 pub use words::{put_keep, put_move, put_step};

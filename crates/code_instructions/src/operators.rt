@@ -14,7 +14,7 @@ ghost use Rattle.code_instructions.specs.Instructions.{flag};
 use code_drafts::Destination;
 use code_encoding::{
     ASIDE, Addresses, FIRST, Instruction, Operands, SECOND, THIRD, branching, constant, copy,
-    fault_address, giving, in_place, named_second, plain, print_fault, pull, push, put_all,
+    fault_address, giving, in_place, name_second, plain, print_fault, pull, push, put_all,
     put_instruction, put_takes, quit, result_in, variable_number,
 };
 use meaning::Cause;
@@ -61,7 +61,7 @@ fn put_arithmetic(
         (arithmetic operation (as_operand left) (as_operand right) (as_destination destination))) }
 {
     put_takes(bytes, &[left, right])?;
-    let operands = [in_place(left), named_second(left, right)];
+    let operands = [in_place(left), name_second(left, right)];
     put_instruction(
         bytes,
         operation,

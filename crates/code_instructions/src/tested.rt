@@ -35,9 +35,9 @@ pub fn put_fail(
     )
 }
 
-/// How far a branch leads to behind a comparison with a constant.
-pub fn behind_comparison(number: u16) -> u8
-    ensures { result ≡ spec.behind_comparison number }
+/// How far a branch leads to after a comparison with a constant.
+pub fn offset_over_comparison(number: u16) -> u8
+    ensures { result ≡ spec.offset_over_comparison number }
 {
     if number < 256 { 6 } else { 8 }
 }
@@ -61,7 +61,12 @@ pub fn put_tested_between(
     put_all(
         bytes,
         &[
-            branching(Operation::JumpIfLess, before, true, behind_comparison(end)),
+            branching(
+                Operation::JumpIfLess,
+                before,
+                true,
+                offset_over_comparison(end),
+            ),
             branching(Operation::JumpIfLess, below, true, 6),
             print_fault(fault_address(addresses, cause)),
             quit(),

@@ -19,7 +19,7 @@ use syntax_trees::Step;
 use zcore::{Operand, Operation};
 
 /// A word goes to the variable of a number.
-fn moved_to(operand: code_drafts::Operand, variable: u8) -> Instruction
+fn move_to(operand: code_drafts::Operand, variable: u8) -> Instruction
     ensures { instruction_of result ≡ move_to (as_operand operand) variable }
 {
     match operand {
@@ -40,9 +40,9 @@ pub fn put_move(
     match destination {
         Destination::Push => put_all(bytes, &[push(in_place(operand))]),
         Destination::Into(variable) => {
-            put_all(bytes, &[moved_to(operand, variable_number(variable))])
+            put_all(bytes, &[move_to(operand, variable_number(variable))])
         }
-        Destination::Aside => put_all(bytes, &[moved_to(operand, ASIDE)]),
+        Destination::Aside => put_all(bytes, &[move_to(operand, ASIDE)]),
         Destination::Nowhere => put_all(bytes, &[store(FIRST, in_place(operand))]),
     }
 }

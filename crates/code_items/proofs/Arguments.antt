@@ -132,7 +132,7 @@ module _ (now : Running) where
       go several true e s n q words = absurd (never_both several e)
       go several false e s n q words = reaches false [] q words []
 
-  -- one argument, and those behind it
+  -- one argument, and those after it
   module _ (v : Value) (vs : Values) (okv : ValueOk now v) (okvs : ArgumentsOk vs) (b : Bool) (s : Situation)
       (n base before pc q : ℕ) (words : List ℕ) (e : length words ≤ base + before)
       (le : base + operands before (needs_of (more v vs)) ≤ 48) where
@@ -142,7 +142,7 @@ module _ (now : Running) where
     ends o x true xs = reaches true (o ∷ operands_of vs) q words (x ∷ xs)
     ends o x false xs = reaches false (o ∷ operands_of vs) q words (x ∷ xs)
 
-    -- the others come behind it, where it is on the stack or stands in place
+    -- the others come after it, where it is on the stack or stands in place
     others : (several : Bool) (o : Operand) (m x : ℕ) (s1 : Situation)
         → HasAt (code now) m (arguments_items several m vs) q → (several && is_any_pushed (operands_of vs)) ≡ b
         → Leads now s1 n (stands now m (onto o x words) s1)

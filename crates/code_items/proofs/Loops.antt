@@ -70,7 +70,7 @@ module _ (now : Running) where
           (leads_again now back top last le) (given now {behind = again_or now top end} true)
       go false last = given now {behind = again_or now top end} false
 
-  -- A loop whose test stands at `top`: its body and the part behind the body stand at these places, and the loop ends
+  -- A loop whose test stands at `top`: its body and the part after the body stand at these places, and the loop ends
   -- at `end`.
   module _ (test : Part ℕ) (body : Part Ending) (behind : Part Bool) (top inside close end : ℕ)
       (tests : (s : Situation) (n : ℕ) → Leads now s n (stands now top [] s) (test s)

@@ -20,13 +20,13 @@ use Rattle.code_items.proofs.Held.{onto, onto_length, AllHeld, no_variable}
 use Rattle.code_items.proofs.Leads.{Leads, on, given, stands, lands, begins_at, as_part}
 use Rattle.code_items.proofs.Evaluated.{ValueOk, operand_held, operand_does, comes_to, left_held}
 
--- two operands, and an operation with what stands behind it
+-- two operands, and an operation with what stands after it
 abbrev pub operated_items : ℕ → Binary → Value → Value → Destination → List Item → List Item
 operated_items at op a b d rest = if_pushed (left_of a b) (value_items at a push) []
     ++ (if_pushed (alone b) (value_items (at + operand_count a (left_of a b)) b (right_place op (left_of a b))) []
     ++ operated (right_place op (left_of a b)) op (left_of a b) (alone b) d ∷ rest)
 
--- behind the operands
+-- after the operands
 abbrev pub placed_end : Binary → Value → Value → ℕ → ℕ
 placed_end op a b pc =
     pc + operand_count a (left_of a b) + if_pushed (alone b) (value_count b (right_place op (left_of a b))) 0

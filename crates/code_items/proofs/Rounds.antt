@@ -52,7 +52,7 @@ test_counted (source.equal op a bs) single when = go (is_direct a bs)
     go false = omega (arith, many bs)
 test_counted v single when = omega arith
 
--- what was written between, of which the first is turned back, and what was written behind it
+-- what was written between, of which the first is turned back, and what was written after it
 record Turned (c c1 c2 c3 : List Item) (f : ℕ → ℕ → List Item) (more : List Item) : Type 0 where
   between : List Item
   then_more : c3 ≡ between ++ more
@@ -126,7 +126,7 @@ do_by_jump c c1 c2 c3 c4 v a x other ee e1 wv ec wa e4 y =
     ∙ ap (λ single. do_items single v a at) (sym other))
     around
 
--- what is written first of these becomes a branch back to the first of what is written behind it
+-- what is written first of these becomes a branch back to the first of what is written after it
 turned_more : (c c1 c2 c3 : List Item) (f : ℕ → ℕ → List Item) (end : ℕ) → end ≡ length c → length c < length c1
     → WritesBefore c c1 f → (more : List Item) → c2 ≡ c1 ++ more
     → c3 ≡ slice_set c2 end (items.turned_back (length c2) (slice_index_or c2 end items.quit))
@@ -214,7 +214,7 @@ do_turns c c1 c2 v a x end single ee wv wa =
       test_counted v single true,
     )
 
--- the test, the body, and what is done behind each round
+-- the test, the body, and what is done after each round
 rounds_more : (c c1 c2 c3 c4 c5 : List Item) (test behind : Option Value) (a : Action) (x : Exits) → x.breaks
     ≡ length c → c1 ≡ c ++ items.back 0 ∷ [] → WritesBefore c1 c2 (λ n at. once_items at behind) → x.continues
     ≡ length c2 → WritesBefore c2 c3 (λ n at. action_items (exits_of n x) at a)
@@ -324,7 +324,7 @@ each_where_more c c1 c2 c3 c4 c5 y v a x end ee e1 eb ec wa wv e4 e5 z =
     (λ inside place. branch_items place v false (place + k + m) ++ action_items inside (place + k) a) x end
     (λ e at. joined _ _ k m (branch_length v false at (at + k + m)) (action_length e a (at + k))) ee e1 eb ec w e4 e5
 
--- `objectloop` over children, whose rounds have k items, behind what pushes their parent
+-- `objectloop` over children, whose rounds have k items, after what pushes their parent
 pub children_more : (c c1 c2 c3 c4 c5 : List Item) (y : Variable) (o : Operand) (a : Action) (x : Exits)
     → x.breaks ≡ length c → c1 ≡ c ++ items.back 0 ∷ []
     → WritesBefore c1 c2 (λ n at. relative_items relatives.Sibling (items.variable y) y (n - x.breaks))

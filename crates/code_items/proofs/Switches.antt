@@ -112,7 +112,7 @@ module _ (now : Running) where
     one_group true inside behind l = l
     one_group false inside behind l = l
 
-    -- the tests of a case lead to its statements, or behind them
+    -- the tests of a case lead to its statements, or after them
     tests_do : (gs : List Group) (pc inside behind : ℕ) → HasAt (code now) pc (tests_items pc gs inside behind) inside
         → inside ≤ behind → From (if list_any (asks v) gs then inside else behind) → From pc
     tests_do [] pc inside behind has le l =

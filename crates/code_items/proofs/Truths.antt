@@ -35,7 +35,7 @@ module _ (now : Running) where
       m : ℕ
       m = pc + count
 
-      -- the word, where 0 stands at m and 1 behind it
+      -- the word, where 0 stands at m and 1 after it
       word : (d : Destination) → slice_get (code now) m ≡ Some (items.move (number 0) d)
           → slice_get (code now) (m + 1)
           ≡ Some (items.jump (pc + count + 3)) → slice_get (code now) (m + 1 + 1) ≡ Some (items.move (number 1) d)

@@ -36,7 +36,7 @@ use Rattle.code_items.proofs.Evaluated.{operand_held, still_held, operand_does, 
 use Rattle.code_items.proofs.EachValue.{value_ok, list_ok}
 use Rattle.code_items.proofs.Words.{word_items}
 
--- the last of items behind two others
+-- the last of items after two others
 behind_two : (first : ℕ) (a b : List Item) (i : Item) → last_back first (a ++ (b ++ i ∷ []))
     ≡ a ++ (b ++ turned_back first i ∷ [])
 behind_two first a b i =
@@ -69,7 +69,7 @@ module _ (now : Running) where
   abbrev pub goes_again : ℕ → Situation → Next
   goes_again first s = after_part (spend s) (λ _ later. stands now first [] later)
 
-  -- behind a round: back to the first item, or at the end of the loop
+  -- after a round: back to the first item, or at the end of the loop
   abbrev pub again_or : ℕ → ℕ → Bool → Situation → Next
   again_or first q wanted s = if wanted then goes_again first s else stands now q [] s
 

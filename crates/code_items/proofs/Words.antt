@@ -16,7 +16,7 @@ is_word (source.compare op a b) = false
 is_word (source.equal op a bs) = false
 is_word v = is_one_test v
 
--- the last of items behind one, two or three others
+-- the last of items after one, two or three others
 one_before : (a : List Item) (i j : Item) → a ++ i ∷ j ∷ [] ≡ (a ++ i ∷ []) ++ j ∷ []
 one_before a i j = sym (append_assoc a (i ∷ []) (j ∷ []))
 

@@ -76,10 +76,10 @@ group_items at (numbers ns) inside = case same ns true inside ∷ []
 group_items at (range low high) inside =
     case less (low ∷ []) true (at + 2) ∷ case greater (high ∷ []) false inside ∷ []
 
--- what the last one asks: behind those statements where it does not hold
+-- what the last one asks: after those statements where it does not hold
 abbrev pub last_items : Group → ℕ → List Item
-last_items (numbers ns) behind = case same ns false behind ∷ []
-last_items (range low high) behind = case less (low ∷ []) true behind ∷ case greater (high ∷ []) true behind ∷ []
+last_items (numbers ns) after = case same ns false after ∷ []
+last_items (range low high) after = case less (low ∷ []) true after ∷ case greater (high ∷ []) true after ∷ []
 
 -- the tests of a case; one of none never holds
 abbrev pub tests_count : List Group → ℕ
@@ -87,10 +87,10 @@ tests_count [] = 1
 tests_count (g ∷ gs) = groups_count (g ∷ gs)
 
 abbrev pub tests_items : ℕ → List Group → ℕ → ℕ → List Item
-tests_items at [] inside behind = jump behind ∷ []
-tests_items at (g ∷ []) inside behind = last_items g behind
-tests_items at (g ∷ h ∷ gs) inside behind =
-    group_items at g inside ++ tests_items (at + group_count g) (h ∷ gs) inside behind
+tests_items at [] inside after = jump after ∷ []
+tests_items at (g ∷ []) inside after = last_items g after
+tests_items at (g ∷ h ∷ gs) inside after =
+    group_items at g inside ++ tests_items (at + group_count g) (h ∷ gs) inside after
 
 -- from the end of a case over so many items of the later ones
 abbrev pub over_count : ℕ → ℕ
@@ -171,17 +171,17 @@ pub record Exits : Type 0 where
   pub breaks : ℕ
   pub continues : ℕ
 
--- for the body of a loop, of which the part behind the body and the end have these numbers
+-- for the body of a loop, of which the part after the body and the end have these numbers
 abbrev pub exits_to : ℕ → ℕ → Exits
-exits_to behind end = record { breaks = end; continues = behind }
+exits_to after end = record { breaks = end; continues = after }
 
--- Behind what is done before the first round: the test, the body, what is done behind each round, and back to the
+-- After what is done before the first round: the test, the body, what is done after each round, and back to the
 -- test. They have so many items.
 abbrev pub for_items : ℕ → ℕ → ℕ → ℕ → (ℕ → List Item) → (Exits → ℕ → List Item) → (ℕ → List Item) → List Item
-for_items at tested body done test run behind =
+for_items at tested body done test run after =
     test (at + tested + body + done + 1)
     ++ (run (exits_to (at + tested + body) (at + tested + body + done + 1)) (at + tested)
-    ++ (behind (at + tested + body) ++ back at ∷ []))
+    ++ (after (at + tested + body) ++ back at ∷ []))
 
 -- A case: its tests, its statements, and the way over the later cases. Statements and later cases have so many items.
 abbrev pub case_items : ℕ → List Group → ℕ → ℕ → ℕ → (ℕ → List Item) → (ℕ → List Item) → List Item
@@ -234,12 +234,12 @@ abbrev mutual
   action_items x at (source.do_until a v) =
       action_items (exits_to (at + action_count a) (at + action_count a + until_count v)) at a
       ++ until_items (at + action_count a) at v
-  action_items x at (source.for_loop before test behind a) =
+  action_items x at (source.for_loop before test after a) =
       once_items at before
-      ++ for_items (at + once_count before) (test_count test) (action_count a) (once_count behind)
+      ++ for_items (at + once_count before) (test_count test) (action_count a) (once_count after)
       (λ end. test_items (at + once_count before) test end)
       (λ inside place. action_items inside place a)
-      (λ place. once_items place behind)
+      (λ place. once_items place after)
   action_items x at (source.switch_on v cs) =
       value_items at v aside
       ++ cases_items (record x { breaks = at + value_count v aside + cases_count cs }) (at + value_count v aside) cs
@@ -272,7 +272,7 @@ abbrev mutual
   actions_items x at stop = []
   actions_items x at (next a rest) = action_items x at a ++ actions_items x (at + action_count a) rest
 
-  -- the cases of a `switch` that ends there: the tests of each lead behind its statements where they do not hold
+  -- the cases of a `switch` that ends there: the tests of each lead after its statements where they do not hold
   pub cases_items : Exits → ℕ → CasesOf → ℕ → List Item
   cases_items x at source.no_case end = []
   cases_items x at (source.default_case xs) end = actions_items x at xs

@@ -9,7 +9,7 @@ ghost use Rattle.code_items.specs.Statements.{over_items};
 ghost use Rattle.code_items.specs.Code.{group_of};
 
 use crate::group::{Group, groups};
-use code_drafts::{Draft, Item, Test, put, written};
+use code_drafts::{Draft, Item, Test, item_count, put};
 use meaning::Span;
 use std::alloc::AllocError;
 
@@ -55,7 +55,7 @@ fn put_group(draft: &mut Draft<'_>, group: &Group, inside: usize) -> Result<(), 
     match group {
         Group::Numbers(numbers) => put_numbers(draft, numbers, true, inside),
         Group::Range(low, high) => {
-            let next = written(draft);
+            let next = item_count(draft);
             let Ok(()) = put_upper(draft, *high, false, inside) else {
                 return Err(AllocError);
             };
@@ -64,19 +64,19 @@ fn put_group(draft: &mut Draft<'_>, group: &Group, inside: usize) -> Result<(), 
     }
 }
 
-/// The last group: it leads behind those statements, where so many items are left, where it does
+/// The last group: it leads after those statements, where so many items are left, where it does
 /// not hold.
-fn put_last(draft: &mut Draft<'_>, group: &Group, behind: usize) -> Result<(), AllocError>
+fn put_last(draft: &mut Draft<'_>, group: &Group, after: usize) -> Result<(), AllocError>
     ensures { OnOk result (Writes draft.old draft.new
-        (λ n at. last_items (group_of group.now) (n - behind))) }
+        (λ n at. last_items (group_of group.now) (n - after))) }
 {
     match group {
-        Group::Numbers(numbers) => put_numbers(draft, numbers, false, behind),
+        Group::Numbers(numbers) => put_numbers(draft, numbers, false, after),
         Group::Range(low, high) => {
-            let Ok(()) = put_upper(draft, *high, true, behind) else {
+            let Ok(()) = put_upper(draft, *high, true, after) else {
                 return Err(AllocError);
             };
-            put_lower(draft, *low, behind)
+            put_lower(draft, *low, after)
         }
     }
 }
@@ -86,18 +86,18 @@ pub fn put_tests(
     draft: &mut Draft<'_>,
     spans: &[Span],
     inside: usize,
-    behind: usize,
+    after: usize,
 ) -> Result<(), AllocError>
     ensures { OnOk result (Writes draft.old draft.new
-        (λ n at. tests_items at (groups_of (map range_of spans.now)) (n - inside) (n - behind))) }
+        (λ n at. tests_items at (groups_of (map range_of spans.now)) (n - inside) (n - after))) }
 {
     let Ok(found) = groups(draft.alloc, spans) else {
         return Err(AllocError);
     };
     if found.is_empty() {
-        return put(draft, Item::Jump(behind));
+        return put(draft, Item::Jump(after));
     }
-    let Ok(()) = put_last(draft, &found[0], behind) else {
+    let Ok(()) = put_last(draft, &found[0], after) else {
         return Err(AllocError);
     };
     for group in &found[1..] {
@@ -114,7 +114,7 @@ pub fn put_over(draft: &mut Draft<'_>, end: usize) -> Result<(), AllocError>
     ensures { OnOk result (Writes draft.old draft.new
         (λ n at. over_items (length (written_in draft.old) - end) (n - end))) }
 {
-    if written(draft) > end {
+    if item_count(draft) > end {
         return put(draft, Item::Jump(end));
     }
     Ok(())

@@ -7,7 +7,7 @@ ghost use Rattle.code_drafts.specs.Code.{items_of};
 
 use crate::exits::Exits;
 use crate::statement::put_statements;
-use code_drafts::{Draft, Item, Operand, in_order, put, written};
+use code_drafts::{Draft, Item, Operand, into_items, item_count, put};
 use meaning::CheckedRoutine;
 use std::alloc::{AllocError, Global};
 
@@ -28,7 +28,7 @@ pub fn routine_items<'a>(
     let Ok(()) = put(&mut draft, Item::Return(Operand::Number(1))) else {
         return Err(AllocError);
     };
-    let end = written(&draft);
+    let end = item_count(&draft);
     let outside = Exits {
         breaks: end,
         continues: end,
@@ -36,5 +36,5 @@ pub fn routine_items<'a>(
     let Ok(()) = put_statements(&mut draft, outside, &routine.body) else {
         return Err(AllocError);
     };
-    Ok(in_order(draft))
+    Ok(into_items(draft))
 }

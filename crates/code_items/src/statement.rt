@@ -19,8 +19,8 @@ use crate::cases::{put_over, put_tests};
 use crate::exits::Exits;
 use crate::heading::{put_once, put_test};
 use code_drafts::{
-    Destination, Draft, Item, Operand, Wanted, alone, is_one_test, lead_back, left_of, put,
-    put_branch, turn_back, written,
+    Destination, Draft, Item, Operand, Wanted, alone, is_one_test, item_count, lead_back, left_of,
+    put, put_branch, turn_back,
 };
 use code_values::{put_operand, put_value};
 use meaning::{Action, Printed, Span, Value, Variable};
@@ -66,7 +66,7 @@ fn put_statement<'a>(
         Action::IfElse(test, then, otherwise) => put_if_else(draft, exits, then, otherwise, test),
         Action::While(test, body) => put_while(draft, body, test),
         Action::Do(body, test) => put_do(draft, body, test),
-        Action::For(before, test, behind, body) => put_for(draft, body, before, test, behind),
+        Action::For(before, test, after, body) => put_for(draft, body, before, test, after),
         Action::Switch(value, cases) => put_switch(draft, exits, cases, value),
         Action::Break => put(draft, Item::Jump(exits.breaks)),
         Action::Continue => put(draft, Item::Jump(exits.continues)),
@@ -117,14 +117,14 @@ fn put_if<'a>(
     ensures { OnOk result (WritesAction draft.old draft.new exits
         (if_then (value_of test.now) (action_of then.now))) }
 {
-    let end = written(draft);
+    let end = item_count(draft);
     let Ok(()) = put_statement(draft, exits, then) else {
         return Err(AllocError);
     };
     put_value(draft, test, Wanted::Branch(false, end))
 }
 
-/// `if` with `else`: a branch to what stands behind `else`, and behind what the test guards a jump
+/// `if` with `else`: a branch to what stands after `else`, and after what the test guards a jump
 /// over that.
 #[cycle(statements)]
 #[tactic(auto, using(crate::proofs::Actions::else_more))]
@@ -138,11 +138,11 @@ fn put_if_else<'a>(
     ensures { OnOk result (WritesAction draft.old draft.new exits
         (if_else (value_of test.now) (action_of then.now) (action_of otherwise.now))) }
 {
-    let end = written(draft);
+    let end = item_count(draft);
     let Ok(()) = put_statement(draft, exits, otherwise) else {
         return Err(AllocError);
     };
-    let next = written(draft);
+    let next = item_count(draft);
     let Ok(()) = put(draft, Item::Jump(end)) else {
         return Err(AllocError);
     };
@@ -152,28 +152,28 @@ fn put_if_else<'a>(
     put_value(draft, test, Wanted::Branch(false, next))
 }
 
-/// `while`: behind what the test guards it goes back to the test.
+/// `while`: after what the test guards it goes back to the test.
 #[cycle(statements)]
 #[tactic(auto, using(crate::proofs::Actions::while_more))]
 fn put_while<'a>(draft: &mut Draft<'a>, body: &Action<'a>, test: &Value) -> Result<(), AllocError>
     ensures { OnOk result ((x : _) → WritesAction draft.old draft.new x
         (while_do (value_of test.now) (action_of body.now))) }
 {
-    let behind = written(draft);
+    let after = item_count(draft);
     let Ok(()) = put(draft, Item::Back(0)) else {
         return Err(AllocError);
     };
     let within = Exits {
-        breaks: behind,
-        continues: written(draft),
+        breaks: after,
+        continues: item_count(draft),
     };
     let Ok(()) = put_statement(draft, within, body) else {
         return Err(AllocError);
     };
-    let Ok(()) = put_value(draft, test, Wanted::Branch(false, behind)) else {
+    let Ok(()) = put_value(draft, test, Wanted::Branch(false, after)) else {
         return Err(AllocError);
     };
-    lead_back(draft, behind);
+    lead_back(draft, after);
     Ok(())
 }
 
@@ -201,13 +201,13 @@ fn put_do_by_test<'a>(
     ensures { OnOk result ((x : _) → WritesAction draft.old draft.new x
         (do_until (action_of body.now) (value_of test.now))) }
 {
-    let end = written(draft);
+    let end = item_count(draft);
     let Ok(()) = put_value(draft, test, Wanted::Branch(true, end)) else {
         return Err(AllocError);
     };
     let inside = Exits {
         breaks: end,
-        continues: written(draft),
+        continues: item_count(draft),
     };
     let Ok(()) = put_statement(draft, inside, body) else {
         return Err(AllocError);
@@ -227,7 +227,7 @@ fn put_do_by_jump<'a>(
     ensures { OnOk result ((x : _) → WritesAction draft.old draft.new x
         (do_until (action_of body.now) (value_of test.now))) }
 {
-    let end = written(draft);
+    let end = item_count(draft);
     let Ok(()) = put(draft, Item::Back(0)) else {
         return Err(AllocError);
     };
@@ -236,7 +236,7 @@ fn put_do_by_jump<'a>(
     };
     let inside = Exits {
         breaks: end,
-        continues: written(draft),
+        continues: item_count(draft),
     };
     let Ok(()) = put_statement(draft, inside, body) else {
         return Err(AllocError);
@@ -245,29 +245,29 @@ fn put_do_by_jump<'a>(
     Ok(())
 }
 
-/// `for`: behind the body and what is done behind each round it goes back to the test.
+/// `for`: after the body and what is done after each round it goes back to the test.
 #[cycle(statements)]
 fn put_for<'a>(
     draft: &mut Draft<'a>,
     body: &Action<'a>,
     before: &Option<Box<Value>>,
     test: &Option<Box<Value>>,
-    behind: &Option<Box<Value>>,
+    after: &Option<Box<Value>>,
 ) -> Result<(), AllocError>
     ensures { OnOk result ((x : _) → WritesAction draft.old draft.new x
         (for_loop (option_map boxed_value before.now) (option_map boxed_value test.now)
-        (option_map boxed_value behind.now) (action_of body.now))) }
+        (option_map boxed_value after.now) (action_of body.now))) }
 {
-    let end = written(draft);
+    let end = item_count(draft);
     let Ok(()) = put(draft, Item::Back(0)) else {
         return Err(AllocError);
     };
-    let Ok(()) = put_once(draft, behind) else {
+    let Ok(()) = put_once(draft, after) else {
         return Err(AllocError);
     };
     let inside = Exits {
         breaks: end,
-        continues: written(draft),
+        continues: item_count(draft),
     };
     let Ok(()) = put_statement(draft, inside, body) else {
         return Err(AllocError);
@@ -289,7 +289,7 @@ fn put_each<'a>(
     ensures { OnOk result ((x : _) → WritesAction draft.old draft.new x
         (each_object variable (action_of body.now))) }
 {
-    let end = written(draft);
+    let end = item_count(draft);
     let Ok(inside) = put_next(draft, variable) else {
         return Err(AllocError);
     };
@@ -311,7 +311,7 @@ fn put_each_where<'a>(
     ensures { OnOk result ((x : _) → WritesAction draft.old draft.new x
         (each_where variable (value_of test.now) (action_of body.now))) }
 {
-    let end = written(draft);
+    let end = item_count(draft);
     let Ok(inside) = put_next(draft, variable) else {
         return Err(AllocError);
     };
@@ -336,7 +336,7 @@ fn put_each_in<'a>(
     ensures { OnOk result ((x : _) → WritesAction draft.old draft.new x
         (each_in variable (value_of parent.now) (action_of body.now))) }
 {
-    let end = written(draft);
+    let end = item_count(draft);
     let Ok(()) = put(draft, Item::Back(0)) else {
         return Err(AllocError);
     };
@@ -351,7 +351,7 @@ fn put_each_in<'a>(
     };
     let inside = Exits {
         breaks: end,
-        continues: written(draft),
+        continues: item_count(draft),
     };
     let Ok(()) = put_statement(draft, inside, body) else {
         return Err(AllocError);
@@ -375,7 +375,7 @@ fn put_switch<'a>(
     ensures { OnOk result (WritesAction draft.old draft.new exits (switch_on (value_of value.now)
         (cases_of (map case_of cases.now.0.items) (other_of cases.now.1)))) }
 {
-    let end = written(draft);
+    let end = item_count(draft);
     let inside = Exits {
         breaks: end,
         continues: exits.continues,
@@ -433,23 +433,23 @@ fn put_case<'a>(
 ) -> Result<(), AllocError>
     ensures { OnOk result (LeavesCases draft.old draft.new exits (case.now ∷ []) end) }
 {
-    let behind = written(draft);
+    let after = item_count(draft);
     let Ok(()) = put_over(draft, end) else {
         return Err(AllocError);
     };
     let Ok(()) = put_statements(draft, exits, &case.1) else {
         return Err(AllocError);
     };
-    let inside = written(draft);
-    put_tests(draft, &case.0, inside, behind)
+    let inside = item_count(draft);
+    put_tests(draft, &case.0, inside, after)
 }
 
-/// Behind a round of an `objectloop` over all objects: the next object, and back. Where the body
+/// After a round of an `objectloop` over all objects: the next object, and back. Where the body
 /// leads.
 fn put_next(draft: &mut Draft<'_>, variable: Variable) -> Result<Exits, AllocError>
     ensures { IfOk result (λ exits. PutsNext draft.old draft.new variable exits) }
 {
-    let end = written(draft);
+    let end = item_count(draft);
     let Ok(()) = put(draft, Item::Back(0)) else {
         return Err(AllocError);
     };
@@ -458,7 +458,7 @@ fn put_next(draft: &mut Draft<'_>, variable: Variable) -> Result<Exits, AllocErr
     };
     Ok(Exits {
         breaks: end,
-        continues: written(draft),
+        continues: item_count(draft),
     })
 }
 

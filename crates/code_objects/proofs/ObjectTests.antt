@@ -1,4 +1,4 @@
--- The tests of objects, and what is done behind them.
+-- The tests of objects, and what is done after them.
 use Rattle.std.proofs.Common.{◌≡◌, ℕ, ◌+◌, Bool, true, false, List, [], ◌++◌, Option, Some, None, refl, ap, ◌∙◌}
 use Rattle.std.proofs.Common.{append_assoc, subst}
 use Rattle.std.specs.Prelude.{if◌then◌else◌}
@@ -20,7 +20,7 @@ abbrev pub acted : Option Operand → (Operand → List Instruction) → List In
 acted None act = []
 acted (Some x) act = act x
 
--- a test, and what is done behind it
+-- a test, and what is done after it
 pub tested_is : (n : ℕ) (a : Addresses) (cause : Cause) (low end : ℕ) (o : items.Operand)
     (act : Operand → List Instruction)
     → tests_in n a cause low end o ++ acted (found_in n low end o) act ≡ tested_in n a cause low end o act
@@ -34,7 +34,7 @@ tested_is n a cause low end (items.number i) act = go (is_between low end i)
     go false = refl
 tested_is n a cause low end (items.variable x) act = refl
 
--- behind one instruction and the tests of an object that is in a temporary where it was pushed
+-- after one instruction and the tests of an object that is in a temporary where it was pushed
 module _ (n : ℕ) (a : Addresses) (objects : ℕ) (o : items.Operand) (act : Operand → List Instruction) where
   pub target_joined : (before : List Instruction) (b b1 b2 b3 : List ℕ) (x : Operand) → b1 ≡ b ++ bytes_of_all before
       → b2 ≡ b1 ++ bytes_of_all (tests_in n a NotAnObject 1 (objects + 1) o)
@@ -55,7 +55,7 @@ module _ (a : Addresses) (objects : ℕ) (o : items.Operand) (act : Operand → 
       (acted (found_in 0 1 (objects + 1) o) act)
       ∙ ap (λ z. pulled_into 0 o ++ z) (tested_is 0 a NotAnObject 1 (objects + 1) o act)
 
-  -- behind the tests of an object
+  -- after the tests of an object
   pub found_joined : (b b1 b2 : List ℕ) (x : Operand) → b1 ≡ b ++ bytes_of_all taken
       → Some x ≡ found_in 0 1 (objects + 1) o → b2 ≡ b1 ++ bytes_of_all (act x)
       → b2 ≡ b ++ bytes_of_all (at_object a objects o act)

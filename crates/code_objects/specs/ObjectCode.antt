@@ -21,7 +21,7 @@ use Rattle.code_drafts.specs.Items as items
 use Rattle.code_encoding.specs.Addresses.{Addresses, Sizes, fault_address}
 use Rattle.code_encoding.specs.Instructions.{plain, giving, branching, number_of, temporary, constant, push, store}
 use Rattle.code_encoding.specs.Instructions.{fail, operands, pulled_into, word_in, aside_variable, result_in}
-use Rattle.code_instructions.specs.Instructions.{is_between, behind_comparison, tested_between, labelled}
+use Rattle.code_instructions.specs.Instructions.{is_between, offset_over_comparison, tested_between, labelled}
 
 -- Instructions
 
@@ -44,7 +44,7 @@ tests_in n a cause low end items.pushed = tested_between a cause low end (tempor
 tests_in n a cause low end (items.number i) = if is_between low end i then [] else fail (fault_address a cause)
 tests_in n a cause low end (items.variable x) = tested_between a cause low end (number_of x)
 
--- what is done with an operand that is tested: nothing behind the fault of a number
+-- what is done with an operand that is tested: nothing after the fault of a number
 abbrev pub tested_in : ℕ → Addresses → Cause → ℕ → ℕ → items.Operand → (Operand → List Instruction) → List Instruction
 tested_in n a cause low end items.pushed act =
     tested_between a cause low end (temporary n) ++ act (Variable (temporary n))
@@ -83,7 +83,7 @@ is_object objects o = is_between 1 (objects + 1) o
 abbrev pub at_object : Addresses → ℕ → items.Operand → (Operand → List Instruction) → List Instruction
 at_object a objects o act = at_tested a causes.NotAnObject 1 (objects + 1) o act
 
--- the same of what ends in a branch to a label: a branch is laid out, and so it stands behind the fault of a number too
+-- the same of what ends in a branch to a label: a branch is laid out, and so it stands after the fault of a number too
 abbrev pub at_label : Addresses → ℕ → items.Operand → (Operand → List Instruction) → List Instruction
 at_label a objects o act =
     pulled_into 0 o ++ (tests_in 0 a causes.NotAnObject 1 (objects + 1) o ++ act (word_in 0 o))
@@ -177,19 +177,19 @@ tested_single a single =
     ∷ branching_single (temporary 3)
     ∷ fail (fault_address a causes.PropertyOfManyWords))
 
--- how far a branch leads to behind a comparison of an operand with a variable: it has 4 bytes, or 6 where the operand
+-- how far a branch leads to after a comparison of an operand with a variable: it has 4 bytes, or 6 where the operand
 -- takes two
-abbrev pub behind_operand : Operand → ℕ
-behind_operand (Large n) = 8
-behind_operand (Small n) = 6
-behind_operand (Variable v) = 6
+abbrev pub offset_over_operand : Operand → ℕ
+offset_over_operand (Large n) = 8
+offset_over_operand (Small n) = 6
+offset_over_operand (Variable v) = 6
 
 -- an index is one of a word, and else the fault's text is printed
 abbrev pub tested_word : Addresses → Operand → List Instruction
 tested_word a i =
     length_at (temporary 2) (temporary 3)
     ∷ giving Div (Variable (temporary 3) ∷ Small 2 ∷ []) (temporary 3)
-    ∷ branching JumpIfLess (i ∷ Small 0 ∷ []) true (behind_operand i)
+    ∷ branching JumpIfLess (i ∷ Small 0 ∷ []) true (offset_over_operand i)
     ∷ branching JumpIfLess (i ∷ Variable (temporary 3) ∷ []) true 6
     ∷ fail (fault_address a causes.IndexOutOfRange)
 
@@ -259,10 +259,10 @@ abbrev pub first_object_code : ℕ → source.Variable → ℕ → List Instruct
 first_object_code objects x offset =
     (if objects == 0 then jump_by offset else store (number_of x) (Small 1)) ∷ []
 
--- a variable gets the next object, or the jump is made where there is none: over the two bytes behind it
+-- a variable gets the next object, or the jump is made where there is none: over the two bytes after it
 abbrev pub next_object_code : ℕ → source.Variable → ℕ → List Instruction
 next_object_code objects x offset =
-    branching JumpIfLess (Variable (number_of x) ∷ Small 1 ∷ []) true (behind_comparison objects)
+    branching JumpIfLess (Variable (number_of x) ∷ Small 1 ∷ []) true (offset_over_comparison objects)
     ∷ branching JumpIfLess (Variable (number_of x) ∷ constant objects ∷ []) true 5
     ∷ jump_by (offset + 2)
     ∷ plain Increment (Small (number_of x) ∷ [])

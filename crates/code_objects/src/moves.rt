@@ -15,7 +15,7 @@ use code_encoding::{
     Addresses, FOURTH, Instruction, Operands, Sizes, THIRD, branching, constant, fault_address,
     giving, plain, print_fault, put_all, quit, store, variable_number,
 };
-use code_instructions::{behind_comparison, put_pulled};
+use code_instructions::{offset_over_comparison, put_pulled};
 use meaning::{Cause, Variable};
 use std::alloc::AllocError;
 use zcore::{Operand, Operation};
@@ -164,7 +164,7 @@ pub fn put_next_object(
                 Operation::JumpIfLess,
                 none,
                 true,
-                behind_comparison(objects),
+                offset_over_comparison(objects),
             ),
             branching(Operation::JumpIfLess, below, true, 5),
             jump_by(over),

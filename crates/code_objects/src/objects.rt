@@ -98,8 +98,8 @@ fn put_object_tests(
     }
 }
 
-/// What stands for an object behind its tests; none for a number that is none.
-fn found_object(objects: u16, temporary: u8, operand: code_drafts::Operand) -> Option<Operand>
+/// What stands for an object after its tests; none for a number that is none.
+fn find_object(objects: u16, temporary: u8, operand: code_drafts::Operand) -> Option<Operand>
     requires few { objects < 32768 }
     requires variable { temporary < 8 }
     ensures { result ≡ found_in temporary 1 (objects + 1) (as_operand operand) }
@@ -133,13 +133,13 @@ pub fn put_tests(
     put_object_tests(bytes, addresses, objects_of(sizes), temporary, operand)
 }
 
-/// What stands for an object behind its tests; nothing is done behind the fault of a number that is
+/// What stands for an object after its tests; nothing is done after the fault of a number that is
 /// none.
 pub fn found(sizes: &Sizes<'_>, temporary: u8, operand: code_drafts::Operand) -> Option<Operand>
     requires { temporary < 8 }
     ensures { result ≡ found_in temporary 1 (objects_in sizes.now + 1) (as_operand operand) }
 {
-    found_object(objects_of(sizes), temporary, operand)
+    find_object(objects_of(sizes), temporary, operand)
 }
 
 /// An object is taken from the stack, where it is pushed, and tested.

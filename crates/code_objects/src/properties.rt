@@ -39,7 +39,7 @@ fn length_at(place: u8, variable: u8) -> Instruction
 }
 
 /// A branch where the word of a variable is 0, or is not.
-fn by_zero(variable: u8, when: bool, offset: u8) -> Instruction
+fn branching_zero(variable: u8, when: bool, offset: u8) -> Instruction
     ensures { instruction_of result ≡ spec.branching_zero variable when offset }
 {
     let operands = Operands::One(Operand::Variable(variable));
@@ -47,7 +47,7 @@ fn by_zero(variable: u8, when: bool, offset: u8) -> Instruction
 }
 
 /// A branch over a fault where a variable says that words have two bytes.
-fn by_single(variable: u8) -> Instruction
+fn branching_single(variable: u8) -> Instruction
     ensures { instruction_of result ≡ spec.branching_single variable }
 {
     let operands = Operands::Two(Operand::Variable(variable), Operand::Small(2));
@@ -100,9 +100,9 @@ fn put_value(
         bytes,
         &[
             property_address(object, property, SECOND),
-            by_zero(SECOND, true, 13),
+            branching_zero(SECOND, true, 13),
             length_at(SECOND, SECOND),
-            by_single(SECOND),
+            branching_single(SECOND),
             print_fault(fault_address(addresses, Cause::PropertyOfManyWords)),
             quit(),
             read,
@@ -168,7 +168,7 @@ fn put_provided(
         bytes,
         &[
             property_address(object, property, THIRD),
-            by_zero(THIRD, false, 6),
+            branching_zero(THIRD, false, 6),
             print_fault(fault_address(addresses, Cause::NoSuchProperty)),
             quit(),
         ],
@@ -192,16 +192,16 @@ fn put_tested_single(
         bytes,
         &[
             length_at(THIRD, FOURTH),
-            by_single(FOURTH),
+            branching_single(FOURTH),
             print_fault(fault_address(addresses, Cause::PropertyOfManyWords)),
             quit(),
         ],
     )
 }
 
-/// How far a branch leads to behind a comparison of an operand with a variable.
-fn behind_operand(operand: Operand) -> u8
-    ensures { result ≡ spec.behind_operand operand }
+/// How far a branch leads to after a comparison of an operand with a variable.
+fn offset_over_operand(operand: Operand) -> u8
+    ensures { result ≡ spec.offset_over_operand operand }
 {
     match operand {
         Operand::Large(_) => 8,
@@ -227,7 +227,12 @@ fn put_tested_word(
         &[
             length_at(THIRD, FOURTH),
             giving(Operation::Div, halved, FOURTH),
-            branching(Operation::JumpIfLess, before, true, behind_operand(index)),
+            branching(
+                Operation::JumpIfLess,
+                before,
+                true,
+                offset_over_operand(index),
+            ),
             branching(Operation::JumpIfLess, below, true, 6),
             print_fault(fault_address(addresses, Cause::IndexOutOfRange)),
             quit(),

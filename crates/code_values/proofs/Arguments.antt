@@ -17,7 +17,7 @@ use Rattle.code_values.proofs.Values.{placed_length}
 abbrev from : List code_value.Value → ℕ → Values
 from xs k = values_of (map value_of (drop k xs))
 
--- an operand in its place, and the arguments behind it
+-- an operand in its place, and the arguments after it
 abbrev argument_at : Bool → code_value.Value → Operand → Bool → Values → ℕ → List Item
 argument_at several x o behind vs at = if_pushed o (value_items at (value_of x) (argument_place several behind)) []
     ++ arguments_items several (at + if_pushed o (value_count (value_of x) (argument_place several behind)) 0) vs

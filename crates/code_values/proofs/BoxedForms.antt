@@ -1,4 +1,4 @@
--- What is written for an expression by its form, as the code comes to it: d and so on are the trees behind the boxes.
+-- What is written for an expression by its form, as the code comes to it: d and so on are the trees after the boxes.
 use Rattle.std.proofs.Common.{◌≡◌, ℕ, List, Bool, Result, OnOk, map, sym, subst, refl}
 use Rattle.std.specs.Global.{Vec, Box}
 use Rattle.std.specs.Prelude.{Ok, Err}

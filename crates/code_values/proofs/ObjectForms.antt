@@ -33,7 +33,7 @@ three_pushed o v q i ow w at rest =
     ++ (if_pushed ow
     (value_items (at + if_pushed o (value_count v push) 0 + if_pushed q (value_count i push) 0) w push) [] ++ rest))
 
--- as the code comes to them: d and so on are the trees behind its boxes
+-- as the code comes to them: d and so on are the trees after its boxes
 
 pub one_boxed : (P : Value → Type 0) (t : Value) (a d : code_value.Value) (whole : Value → Value)
     → t ≡ whole (value_of a) → d ≡ a → P (whole (value_of d)) → P t

@@ -168,7 +168,7 @@ abbrev pub WritesAssignedWord : Draft → Draft → Wanted → ℕ → code_oper
 WritesAssignedWord old new wanted p o q w =
     ReducesAssignedWord (written_in old) (written_in new) wanted p (as_operand o) (as_operand q) (value_of w)
 
--- `==` or `~=` with the right sides behind the first
+-- `==` or `~=` with the right sides after the first
 abbrev pub WritesEquality : Draft → Draft → Wanted → Equality → code_operand.Operand → code_operand.Operand
     → List code_value.Value → Type 0
 WritesEquality old new wanted op oa ob bs =

@@ -11,9 +11,9 @@ ghost use Rattle.code_values.specs.ValueWriting.{WritesLinks, WritesComparison, 
 use crate::value::{put_operand, put_operands, put_right, put_value};
 use code_drafts::{
     Destination, Draft, Item, Operand, Test, Wanted, alone, are_few, comparison_test,
-    comparison_when, equality_when, first_of_and, first_of_or, is_logical, is_pushed, left_of,
-    operated, push_alone, push_operands, put, put_branch, put_each_same, put_truth, put_word,
-    right_place, side_operands, written,
+    comparison_when, equality_when, first_of_and, first_of_or, is_logical, is_pushed, item_count,
+    left_of, operated, push_alone, push_operands, put, put_branch, put_each_same, put_truth,
+    put_word, right_place, side_operands,
 };
 use meaning::{Value, Variable};
 use std::alloc::AllocError;
@@ -84,7 +84,7 @@ fn put_link<'a>(
             let Ok((when, target)) = put_truth(draft, wanted) else {
                 return Err(AllocError);
             };
-            let end = written(draft);
+            let end = item_count(draft);
             let Ok(()) = put_value(draft, second, Wanted::Branch(when, target)) else {
                 return Err(AllocError);
             };
@@ -94,7 +94,7 @@ fn put_link<'a>(
             let Ok((when, target)) = put_truth(draft, wanted) else {
                 return Err(AllocError);
             };
-            let end = written(draft);
+            let end = item_count(draft);
             let Ok(()) = put_value(draft, second, Wanted::Branch(when, target)) else {
                 return Err(AllocError);
             };
@@ -210,7 +210,7 @@ pub(crate) fn put_equal<'a>(
     put_operand(draft, left, first)
 }
 
-/// `==` or `~=` with the right sides behind the first, where the operands for the left side and the
+/// `==` or `~=` with the right sides after the first, where the operands for the left side and the
 /// first right side are known.
 #[cycle(values)]
 #[inline(never)]

@@ -18,9 +18,9 @@ use crate::objects::{
 };
 use crate::operations::{put_chain, put_compare, put_equal};
 use code_drafts::{
-    Destination, Draft, Item, Operand, Wanted, alone, are_behind, are_more_pushed, argument_place,
-    before, called, index_place, left_of, loaded, push_operands, put, put_number, put_read,
-    put_step_after, put_step_before, put_truth, put_word, stored,
+    Destination, Draft, Item, Operand, Wanted, alone, are_more_pushed, argument_place, before,
+    called, index_place, is_pushed_or_later, left_of, loaded, push_operands, put, put_number,
+    put_read, put_step_after, put_step_before, put_truth, put_word, stored,
 };
 use meaning::{Value, Variable};
 use std::alloc::AllocError;
@@ -126,16 +126,16 @@ fn put_arguments<'a>(
 ) -> Result<(), AllocError>
     ensures { OnOk result (WritesArguments draft.old draft.new values.now several) }
 {
-    let mut behind = false;
+    let mut after = false;
     for done in 0..values.len() {
         let number = values.len() - 1 - done;
         let value = &values[number];
         let operand = before(value, &values[number + 1..]);
-        let place = argument_place(several, behind);
+        let place = argument_place(several, after);
         let Ok(()) = put_right(draft, value, operand, place) else {
             return Err(AllocError);
         };
-        behind = are_behind(operand, behind);
+        after = is_pushed_or_later(operand, after);
     }
     Ok(())
 }

@@ -14,16 +14,15 @@ use crate::refusals::{limit_of, refused, show};
 use crate::source::read_source;
 use crate::warnings::warn;
 use clap::Error;
-use command_lines::inform::{Asked, Words, command, words_of};
-use messages_diagnosis::{Limit, diagnose};
+use messages_diagnosis::{Figures, Limit, diagnose, measure};
 use messages_explanations::Program;
-use messages_figures::{Figures, measure};
-use one_line::OneLine;
 use std::fmt::Display;
 use std::fs::File;
 use std::process::ExitCode;
 use std::{env, io};
 use syntax_lexer::SourceFault;
+use terminal::OneLine;
+use terminal::inform::{Asked, Words, command, words_of};
 use zcore::Version;
 
 /// The exit status where the words of the command line or the files cannot be used.

@@ -3,10 +3,10 @@
 use crate::misused;
 use crate::output::{is_one_file, write_whole};
 use crate::refusals::refused;
-use command_lines::inform::Words;
 use map_lines::map_of;
-use one_line::OneLine;
 use std::process::ExitCode;
+use terminal::OneLine;
+use terminal::inform::Words;
 
 /// What else the file of a map is, the source or the story; `None` if it is neither.
 pub fn other_use(rt: &HostRuntime, source: &str, story: &str, map: &str) -> Option<&'static str> {

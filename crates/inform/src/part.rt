@@ -5,6 +5,7 @@
 //! same path removes it.
 
 use crate::output::is_same;
+use map_text::hash_of;
 use std::fs::{self, File, OpenOptions, TryLockError};
 use std::io::{self, ErrorKind};
 use std::path::PathBuf;
@@ -14,12 +15,6 @@ const MAX_PARTS: u32 = 10_000;
 
 /// Among so many of them those that killed runs left are looked for.
 const MAX_LEFT: u32 = 16;
-
-/// Where the hash of a name begins: FNV-1a, of 64 bits.
-const HASH_START: u64 = 0xCBF2_9CE4_8422_2325;
-
-/// The factor of that hash.
-const HASH_FACTOR: u64 = 0x0000_0100_0000_01B3;
 
 /// A new file beside a path, which is locked as long as it is open, with the first number of which
 /// there is none.
@@ -47,16 +42,9 @@ pub fn new_part(rt: &HostRuntime, path: &PathBuf) -> io::Result<(PathBuf, File)>
 /// The name of a new file beside a path. The hash of the path's name is in it, so that no file of
 /// another making has the name by accident; a name of any length has a hash of 16 digits.
 fn part_of(rt: &HostRuntime, path: &PathBuf, number: u32) -> io::Result<PathBuf> {
-    let hash = hash_of(path.file_name().unwrap_or(""));
+    let hash = hash_of(path.file_name().unwrap_or("").as_bytes());
     let name = format!(in rt.alloc(); "inform-{hash:016x}-{number}.part")?;
     Ok(path.with_file_name(rt.alloc(), name.as_str())?)
-}
-
-/// The hash of a name.
-fn hash_of(name: &str) -> u64 {
-    name.bytes().fold(HASH_START, |hash, byte| {
-        (hash ^ u64::from(byte)).wrapping_mul(HASH_FACTOR)
-    })
 }
 
 /// Removes a file that a killed run left: a regular one, which may be written, and which no run

@@ -1,8 +1,8 @@
 //! Likely mistakes in an accepted source, on standard error.
 
 use messages_warnings::warning_lines;
-use one_line::OneLine;
 use std::alloc::AllocError;
+use terminal::OneLine;
 
 /// Says on standard error what is likely a mistake in the source of a name.
 ///

@@ -15,7 +15,7 @@ use Rattle.meaning.specs.Meaning.{routine_at}
 use Rattle.checker.specs.Programs.{resolve_program, routine_trees}
 use Rattle.checker.specs.Checked.{title}
 use Rattle.code_items.specs.Statements.{routine_items}
-use Rattle.code_branch_forms.specs.Layout.{first}
+use Rattle.code_encoding.specs.Layout.{first}
 use Rattle.code_instructions.specs.Places.{place_in}
 use Rattle.code.specs.Bytes.{lefts_of}
 use Rattle.code.specs.HeldProgram.{sizes_of}
@@ -29,7 +29,7 @@ Title = NameTree × ℕ
 
 -- the address of a row so many bytes after a place; it has 32 bits
 abbrev pub address_at : ℕ → ℕ → ℕ
-address_at place behind = min (place + behind) (2 ^ 32 - 1)
+address_at place after = min (place + after) (2 ^ 32 - 1)
 
 -- the first address at or after another to which a packed address leads
 abbrev pub aligned : Version → ℕ → ℕ

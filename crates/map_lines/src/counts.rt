@@ -1,7 +1,7 @@
 //! How many items expressions have: these are written, as for the story, and counted.
 
 use code::discard;
-use code_drafts::{Draft, Operand, Wanted, written};
+use code_drafts::{Draft, Operand, Wanted, item_count};
 use code_values::{put_operand, put_value};
 use meaning::Value;
 use std::alloc::{AllocError, Global};
@@ -11,7 +11,7 @@ pub fn value_count(alloc: Global, value: &Value, wanted: Wanted) -> Result<usize
     let items = Vec::new(alloc);
     let mut draft = Draft { alloc, items };
     let put = put_value(&mut draft, value, wanted);
-    let count = written(&draft);
+    let count = item_count(&draft);
     discard(draft.items);
     put?;
     Ok(count)
@@ -22,7 +22,7 @@ pub fn operand_count(alloc: Global, value: &Value, operand: Operand) -> Result<u
     let items = Vec::new(alloc);
     let mut draft = Draft { alloc, items };
     let put = put_operand(&mut draft, value, operand);
-    let count = written(&draft);
+    let count = item_count(&draft);
     discard(draft.items);
     put?;
     Ok(count)

@@ -57,7 +57,7 @@ pub fn pass_closing(
 ) -> Result<(), AllocError> {
     match statement {
         Action::While(_, _) => passing.pass_back(1, line),
-        Action::For(_, _, behind, _) => passing.pass_next_round(behind, line),
+        Action::For(_, _, after, _) => passing.pass_next_round(after, line),
         Action::EachObject(_, _) => passing.pass_back(NEXT_OBJECT_ITEMS, line),
         Action::EachWhere(_, _, _) => passing.pass_back(NEXT_OBJECT_ITEMS, line),
         Action::EachIn(_, _, _) => passing.pass_back(SIBLING_ITEMS, line),
@@ -98,11 +98,11 @@ impl Passing<'_, '_> {
     /// Passes what a `for` does after each round, and the way back. Both are of its line.
     fn pass_next_round(
         &mut self,
-        behind: &Option<Box<Value>>,
+        after: &Option<Box<Value>>,
         line: usize,
     ) -> Result<(), AllocError> {
         self.mark_line(line)?;
-        self.pass_once(behind)?;
+        self.pass_once(after)?;
         self.pass_items(1);
         Ok(())
     }

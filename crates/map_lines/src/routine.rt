@@ -63,13 +63,13 @@ struct Beginning<'a> {
     address: usize,
 }
 
-/// A row of a routine: so many bytes behind its first one, of a line.
-fn row_of(beginning: Beginning<'_>, behind: usize, line: usize) -> Row<'_>
+/// A row of a routine: so many bytes after its first one, of a line.
+fn row_of(beginning: Beginning<'_>, after: usize, line: usize) -> Row<'_>
     ensures routine { result.routine.now ≡ beginning.entry.name.text.now }
     ensures line { result.line ≡ line }
-    ensures address { result.address ≡ address_at beginning.entry.address behind }
+    ensures address { result.address ≡ address_at beginning.entry.address after }
 {
-    let address = beginning.address.saturating_add(behind);
+    let address = beginning.address.saturating_add(after);
     Row {
         address: u32::try_from(address).unwrap_or(u32::MAX),
         routine: beginning.name.text,
@@ -92,8 +92,8 @@ fn put_marks<'a>(
     let mut item: usize = 0;
     for mark in marks {
         item = item.saturating_add(mark.items);
-        let behind = place(left, item).saturating_add(1);
-        rows.push(row_of(beginning, behind, mark.line))?;
+        let after = place(left, item).saturating_add(1);
+        rows.push(row_of(beginning, after, mark.line))?;
     }
     Ok(())
 }

@@ -20,7 +20,7 @@ pub fn pass_statements<'a>(
     Ok(())
 }
 
-/// Passes a statement. It is marked where it has code of its own: at the beginning, and behind each
+/// Passes a statement. It is marked where it has code of its own: at the beginning, and after each
 /// statement in it.
 #[cycle(statements)]
 fn pass_statement<'a>(

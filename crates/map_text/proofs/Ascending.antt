@@ -22,7 +22,7 @@ rest_behind (x ∷ xs) least zero address d up lt more =
 rest_behind (x ∷ xs) least (suc k) address d up lt more =
     rest_behind xs x.address k address d up.1 (omega (arith, lt)) more
 
--- the last of the rows at or before an address, of which there are so many, before rows that are all behind it
+-- the last of the rows at or before an address, of which there are so many, before rows that are all after it
 pub found : (rows : List Row) (n address : ℕ) (o : Option Row) → n ≤ length rows
     → ((k : ℕ) (d : Row) → k < n → (slice_index_or rows k d).address ≤ address)
     → All (IsBehind address) (drop n rows) → IsLast rows n o → IsRowAt rows address o

@@ -15,7 +15,7 @@ const SECOND_LINE: &str = "story ";
 /// Where a story holds the sum of its bytes (Z-Machine Standards Document 1.1, section 11.1).
 const SUM_PLACE: usize = 0x1C;
 
-/// Where the hash of a story begins: FNV-1a, of 64 bits.
+/// Where the hash of bytes begins: FNV-1a, of 64 bits.
 const HASH_START: u64 = 0xCBF2_9CE4_8422_2325;
 
 /// The factor of that hash.
@@ -30,8 +30,8 @@ const SECOND_WORD: u64 = 0x0000_0001_0000_0000;
 /// What its first word counts.
 const HIGH_WORD: u64 = 0x0001_0000_0000_0000;
 
-/// The hash of all bytes.
-fn hash_of(bytes: &[u8]) -> u64
+/// The hash of bytes, FNV-1a of 64 bits.
+pub fn hash_of(bytes: &[u8]) -> u64
     ensures { result ≡ spec.hash_of bytes.now }
 {
     let mut hash = HASH_START;

@@ -8,7 +8,7 @@ mod row;
 mod search;
 mod writing;
 
-pub use beginning::{heading, word_in};
+pub use beginning::{hash_of, heading, word_in};
 pub use fault::MapFault;
 pub use reading::read_map;
 pub use row::Row;

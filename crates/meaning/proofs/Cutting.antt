@@ -1,4 +1,4 @@
--- Arrays that stand one behind another, by their sizes.
+-- Arrays that follow one another, by their sizes.
 use Rattle.std.proofs.Common.{◌≡◌, ℕ, List, [], ◌∷◌, ◌++◌, length, drop, refl, sym, ap, ◌∙◌}
 use Rattle.std.proofs.Math.Seq.{take-append_seam, drop-append_seam}
 use Rattle.std.specs.Prelude.{map}

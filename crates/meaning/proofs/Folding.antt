@@ -155,7 +155,7 @@ pub same_filling : (texts : List (List ℕ)) (m n : ℕ) → m % 2 ≡ n % 2 →
 same_filling [] m n e = refl
 same_filling (t ∷ ts) m n e = e
 
--- the texts behind a dictionary whose place is folded, or is not
+-- the texts after a dictionary whose place is folded, or is not
 module _ (p : ProgramOf) (at keys texts : ℕ) (k : keys ≡ key_count p)
     (is : texts ≡ at + (7 + 9 * keys) + filling_before p.abbreviations (at + (7 + 9 * keys))) where
   pub texts_folded : at ≡ folded (dictionary_place p) → folded texts ≡ folded (texts_place p)
@@ -204,11 +204,11 @@ pub places_are : (p : ProgramOf) (arrays at keys texts size : ℕ) → routines_
     → placed 258 (738 + arrays) at texts (texts + size) (texts + size + 4) ≡ places_of p
 places_are p arrays at keys texts size fits a d k t s =
     let here : at ≡ dictionary_place p = d ∙ fold_small (dictionary_place p) (omega (arith, fits)) in
-    let behind : texts ≡ texts_place p = texts_exact p at keys texts k t here in
+    let after : texts ≡ texts_place p = texts_exact p at keys texts k t here in
     let all : size ≡ abbreviations_size p = s ∙ fold_small (abbreviations_size p) (omega (arith, fits)) in
-    placed_same (let e : 738 + arrays ≡ defaults_place p = omega (arith, a) in e) here behind
-    (let e : texts + size ≡ start_place p = omega (arith, behind, all) in e)
-    (let e : texts + size + 4 ≡ routines_place p = omega (arith, behind, all) in e)
+    placed_same (let e : 738 + arrays ≡ defaults_place p = omega (arith, a) in e) here after
+    (let e : texts + size ≡ start_place p = omega (arith, after, all) in e)
+    (let e : texts + size + 4 ≡ routines_place p = omega (arith, after, all) in e)
 
 -- Names
 

@@ -60,7 +60,7 @@ reads letters most line =
 abbrev goes_on_with : List (List ℕ) → Comes (Unit {0})
 goes_on_with arrays = to tt (stands arrays 9 (codes "it" ∷ []) [] (codes "first" ∷ codes ">" ∷ []))
 
--- four words: the entry of `take` stands at 935, behind 64 bytes of arrays, the others have none
+-- four words: the entry of `take` stands at 935, after 64 bytes of arrays, the others have none
 four_words : reads 30 7 (codes "take lamp,box") ≡ goes_on_with
     ((30 ∷ 13 ∷ codes "take lamp,box" ++ replicate 17 0)
     ∷ (7 ∷ 4 ∷ 3 ∷ 167 ∷ 4 ∷ 2 ∷ 0 ∷ 0 ∷ 4 ∷ 7 ∷ 0 ∷ 0 ∷ 1 ∷ 11 ∷ 0 ∷ 0 ∷ 3 ∷ 12 ∷ replicate 14 0) ∷ [])

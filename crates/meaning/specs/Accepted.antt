@@ -20,8 +20,8 @@ use Rattle.meaning.specs.Resolved.{stop, next, no_case, default_case, case, Rout
 use Rattle.meaning.specs.Objects.{ObjectOf, object_at}
 use Rattle.meaning.specs.Places.{name_words}
 use Rattle.meaning.specs.Meaning.{routine_at}
-use Rattle.meaning.specs.declared.around.Around.{Around}
-use Rattle.meaning.specs.Around.{outside, in_loop, in_switch}
+use Rattle.meaning.specs.declared.enclosure.Enclosure.{Enclosure}
+use Rattle.meaning.specs.Enclosure.{outside, in_loop, in_switch}
 use Rattle.meaning.specs.Limits.{longest_short_name, most_arguments, most_globals, most_objects, most_property_words}
 use Rattle.meaning.specs.Limits.{most_temporaries, most_array_bytes}
 
@@ -150,7 +150,7 @@ module _ (p : ProgramOf) (locals : ℕ) where
 
 -- each `break` stands in a loop or a `switch`, each `continue` in a loop, by what is around a statement
 abbrev mutual
-  pub StandsIn : Around → Action → Type 0
+  pub StandsIn : Enclosure → Action → Type 0
   StandsIn around (block xs) = AllStandIn around xs
   StandsIn around (if_then v a) = StandsIn around a
   StandsIn around (if_else v a b) = StandsIn around a × StandsIn around b
@@ -165,11 +165,11 @@ abbrev mutual
   StandsIn around continue_on = around.can_continue ≡ true
   StandsIn around _ = Unit {0}
 
-  pub AllStandIn : Around → Actions → Type 0
+  pub AllStandIn : Enclosure → Actions → Type 0
   AllStandIn around stop = Unit {0}
   AllStandIn around (next a rest) = StandsIn around a × AllStandIn around rest
 
-  pub CasesStandIn : Around → CasesOf → Type 0
+  pub CasesStandIn : Enclosure → CasesOf → Type 0
   CasesStandIn around no_case = Unit {0}
   CasesStandIn around (default_case xs) = AllStandIn around xs
   CasesStandIn around (case gs xs rest) = AllStandIn around xs × CasesStandIn around rest

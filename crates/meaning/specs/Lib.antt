@@ -10,6 +10,6 @@ pub mod Meaning
 pub mod Plays
 pub mod Sizes
 pub mod CheckedSizes
-pub mod Around
+pub mod Enclosure
 pub mod Accepted
 pub mod Printable

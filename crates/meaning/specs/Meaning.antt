@@ -269,33 +269,33 @@ follow continues rest = give continues
 follow (returns word) rest = give (returns word)
 
 -- what follows the body of a loop, where one that goes on or continues leads to the rest
-abbrev pub behind_body : Ending → Part Ending → Part Ending
-behind_body goes_on rest = rest
-behind_body breaks rest = give goes_on
-behind_body continues rest = rest
-behind_body (returns word) rest = give (returns word)
+abbrev pub after_body : Ending → Part Ending → Part Ending
+after_body goes_on rest = rest
+after_body breaks rest = give goes_on
+after_body continues rest = rest
+after_body (returns word) rest = give (returns word)
 
--- A loop tests; where the word is true it runs its body and then the part behind that, which tells whether the loop
+-- A loop tests; where the word is true it runs its body and then the part after that, which tells whether the loop
 -- goes back. Here it goes on so, if it goes back.
 abbrev pub round : Part ℕ → Part Ending → Part Bool → Part Ending → Part Ending
-round test body behind again = do
+round test body after again = do
   x ← test
   if is_true x then (do
     ending ← body
-    behind_body ending (do
-      goes_back ← behind
+    after_body ending (do
+      goes_back ← after
       if goes_back then again else give goes_on))
       else give goes_on
 
 -- Going back costs a unit. A loop can go back as often as there are units left; at 0 there is none.
 abbrev pub rounds : ℕ → Part ℕ → Part Ending → Part Bool → Part Ending
-rounds zero test body behind = round test body behind (world.ends (places.Limit limits.Fuel))
-rounds (suc n) test body behind = round test body behind (do
+rounds zero test body after = round test body after (world.ends (places.Limit limits.Fuel))
+rounds (suc n) test body after = round test body after (do
   _ ← spend
-  rounds n test body behind)
+  rounds n test body after)
 
 -- the parts of a `for`: what is done before the first round; the test, which is true where there is none; and what is
--- done behind each round, which always goes back
+-- done after each round, which always goes back
 
 abbrev pub once : Setting → Option Value → Part (Unit {0})
 once here None = give tt
@@ -307,12 +307,12 @@ abbrev pub tested : Setting → Option Value → Part ℕ
 tested here None = give 1
 tested here (Some v) = evaluate here v
 
-abbrev pub behind_round : Setting → Option Value → Part Bool
-behind_round here v = do
+abbrev pub after_round : Setting → Option Value → Part Bool
+after_round here v = do
   _ ← once here v
   give true
 
--- `until` stands behind the body, and goes back where its word is false
+-- `until` follows the body, and goes back where its word is false
 abbrev pub until : Setting → Value → Part Bool
 until here v = do
   x ← evaluate here v
@@ -324,11 +324,11 @@ holds_for x (one n) = x == n
 holds_for x (between low high) = not (signed_less x low) && not (signed_less high x)
 
 -- what a case comes to where it ends: `break` ends the `switch` and no more
-abbrev pub behind_case : Ending → Ending
-behind_case goes_on = goes_on
-behind_case breaks = goes_on
-behind_case continues = continues
-behind_case (returns word) = returns word
+abbrev pub after_case : Ending → Ending
+after_case goes_on = goes_on
+after_case breaks = goes_on
+after_case continues = continues
+after_case (returns word) = returns word
 
 -- attributes are set or cleared in order
 abbrev pub give_all : ℕ → List (Bool × ℕ) → Part (Unit {0})
@@ -344,14 +344,14 @@ next_object x found = do
   _ ← write_variable x o
   give (not (o == 0))
 
--- behind a round, the sibling of the object that the variable then has
+-- after a round, the sibling of the object that the variable then has
 abbrev pub sibling_next : Setting → Variable → Part Bool
 sibling_next here x = do
   o ← read_variable x
   _ ← test_object here o
   next_object x (relative_of relatives.Sibling o)
 
--- behind a round, the object after the one that the variable then has, where that is one with another after it
+-- after a round, the object after the one that the variable then has, where that is one with another after it
 abbrev pub count_next : Setting → Variable → Part Bool
 count_next here x = do
   o ← read_variable x
@@ -392,7 +392,7 @@ abbrev mutual
   run here (if_else v a b) = do
     x ← evaluate here v
     if is_true x then run here a else run here b
-  -- nothing stands behind the body
+  -- nothing follows the body
   run here (while_do v a) = λ s.
       rounds (units here.full s.world) (evaluate here v) (run here a) (give true) s
   -- the first round is not tested
@@ -400,11 +400,11 @@ abbrev mutual
       rounds (units here.full s.world) (give 1) (run here a) (until here v) s
   run here (for_loop x y z a) = do
     _ ← once here x
-    λ s. rounds (units here.full s.world) (tested here y) (run here a) (behind_round here z) s
+    λ s. rounds (units here.full s.world) (tested here y) (run here a) (after_round here z) s
   run here (switch_on v cs) = do
     x ← evaluate here v
     ending ← run_cases here x cs
-    give (behind_case ending)
+    give (after_case ending)
   run here break_out = give breaks
   run here continue_on = give continues
   run here (read_line t p) = do

@@ -22,15 +22,15 @@ abbrev pub first_of : List ℕ → ℕ
 first_of [] = 0
 first_of (x ∷ xs) = x
 
--- the one behind an object, 0 for none
-abbrev pub behind_in : ℕ → List ℕ → ℕ
-behind_in o [] = 0
-behind_in o (x ∷ xs) = if x == o then first_of xs else behind_in o xs
+-- the one after an object, 0 for none
+abbrev pub after_in : ℕ → List ℕ → ℕ
+after_in o [] = 0
+after_in o (x ∷ xs) = if x == o then first_of xs else after_in o xs
 
 abbrev pub relative_in : Relative → ℕ → Tree → ℕ
 relative_in relatives.Parent o t = t.parent o
 relative_in relatives.Child o t = first_of (t.children o)
-relative_in relatives.Sibling o t = behind_in o (t.children (t.parent o))
+relative_in relatives.Sibling o t = after_in o (t.children (t.parent o))
 
 -- without parent and sibling
 abbrev pub removed : ℕ → Tree → Tree

@@ -1,4 +1,4 @@
--- Where the parts of a story stand that come before its routines, one behind another:
+-- Where the parts of a story stand that come before its routines, one after another:
 --
 --     header; table of 96 abbreviations; empty text, which those name that the source has not; 240 words of globals;
 --     arrays; 63 words of property defaults; objects; property tables; dictionary, with which static memory begins; the
@@ -49,7 +49,7 @@ total (n ∷ ns) = n + total ns
 abbrev pub property_size : ℕ × List ℕ → ℕ
 property_size x = (if length x.1 == 1 then 1 else 2) + 2 * length x.1
 
--- the number of the name's words, the name, the properties, and a byte behind them
+-- the number of the name's words, the name, the properties, and a byte after them
 abbrev pub table_size : ObjectOf → ℕ
 table_size o = 1 + 2 * name_words o.name + total (map property_size o.properties) + 1
 

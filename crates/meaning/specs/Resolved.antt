@@ -66,7 +66,7 @@ mutual
     if_else : Value → Action → Action → Action
     while_do : Value → Action → Action
     do_until : Action → Value → Action
-    -- what is done before the first round, the test, and what is done behind each round
+    -- what is done before the first round, the test, and what is done after each round
     for_loop : Option Value → Option Value → Option Value → Action → Action
     switch_on : Value → CasesOf → Action
     break_out : Action

@@ -136,7 +136,7 @@ routine_of r = record { locals = r.locals; body = actions_of (map action_of r.bo
 abbrev pub title_of : CheckedRoutine → NameTree × ℕ
 title_of r = (name_tree r.name, r.weight)
 
--- bytes that arrays of these sizes have, one behind another
+-- bytes that arrays of these sizes have, one after another
 abbrev pub AreArrays : List ℕ → List ℕ → Type 0
 AreArrays sizes bytes = (arrays : List (List ℕ)) × (sizes ≡ map length arrays) × (bytes ≡ concat arrays)
 
@@ -151,7 +151,7 @@ object_of o = record {
   properties = map property_of o.properties.items;
 }
 
--- pieces of these sizes, which stand one behind another
+-- pieces of these sizes, which follow one another
 abbrev pub cut : List ℕ → List ℕ → List (List ℕ)
 cut [] bytes = []
 cut (n ∷ ns) bytes = take n bytes ∷ cut ns (drop n bytes)

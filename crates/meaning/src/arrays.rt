@@ -2,7 +2,7 @@
 
 use std::alloc::Global;
 
-/// The bytes that the arrays of a program begin with, one array behind another in order of
+/// The bytes that the arrays of a program begin with, one array after another in order of
 /// definition.
 #[derive(Drop)]
 pub struct Arrays {

@@ -119,7 +119,7 @@ impl<'a> Checked<'a> {
         &self.globals
     }
 
-    /// The bytes that the arrays begin with, one array behind another in order of definition.
+    /// The bytes that the arrays begin with, one array after another in order of definition.
     pub fn array_bytes(&self) -> &[u8]
         ensures { result.now ≡ concat self.now.arrays }
     {

@@ -7,7 +7,7 @@ ghost use Rattle.meaning.specs.Places as spec;
 ghost use Rattle.tables.specs.KeyNumbers.{entry_size, head_size};
 
 use crate::checked::{Checked, CheckedObject};
-use crate::table_sizes::{abbreviations_size, folded, table_size};
+use crate::table_sizes::{abbreviations_size, fold, table_size};
 use tables::layout::{DICTIONARY_ENTRY_LENGTH, DICTIONARY_HEAD_LENGTH};
 use zcore::layout::{DEFAULTS_LENGTH, GLOBAL_COUNT, HEADER_LENGTH, OBJECT_ENTRY_LENGTH};
 use ztext::MOST_ABBREVIATIONS;
@@ -46,13 +46,13 @@ pub fn objects_size(objects: &[CheckedObject<'_>]) -> usize
 {
     let mut size = 0;
     for object in objects {
-        size = folded((size + OBJECT_ENTRY_LENGTH + table_size(object)) as u128);
+        size = fold((size + OBJECT_ENTRY_LENGTH + table_size(object)) as u128);
     }
     size
 }
 
-/// Where the dictionary stands, behind so many bytes of arrays and of objects, folded.
-pub fn dictionary_behind(arrays: usize, objects: usize) -> usize
+/// Where the dictionary stands, after so many bytes of arrays and of objects, folded.
+pub fn dictionary_after(arrays: usize, objects: usize) -> usize
     ensures place { result ≡ folded (864 + arrays + objects) }
     ensures few { result < 131072 }
 {
@@ -61,11 +61,11 @@ pub fn dictionary_behind(arrays: usize, objects: usize) -> usize
         + EMPTY_TEXT_LENGTH
         + 2 * GLOBAL_COUNT
         + DEFAULTS_LENGTH;
-    folded(fixed as u128 + arrays as u128 + objects as u128)
+    fold(fixed as u128 + arrays as u128 + objects as u128)
 }
 
 /// Where the texts of abbreviations stand, where the dictionary stands there.
-fn texts_behind(checked: &Checked<'_>, dictionary: usize) -> usize
+fn texts_after(checked: &Checked<'_>, dictionary: usize) -> usize
     requires { dictionary < 131072 }
     ensures place { (let end = dictionary + (head_size + entry_size * length checked.now.keys) in
         result ≡ end + spec.filling_before checked.now.abbreviations end) }
@@ -84,9 +84,9 @@ pub fn tables_size(checked: &Checked<'_>) -> usize
     ensures { result ≡ folded (routines_place (program_of checked.now)) }
 {
     let objects = objects_size(checked.objects());
-    let dictionary = dictionary_behind(checked.array_bytes().len(), objects);
-    let texts = texts_behind(checked, dictionary);
-    folded((texts + abbreviations_size(checked.abbreviations()) + START_LENGTH) as u128)
+    let dictionary = dictionary_after(checked.array_bytes().len(), objects);
+    let texts = texts_after(checked, dictionary);
+    fold((texts + abbreviations_size(checked.abbreviations()) + START_LENGTH) as u128)
 }
 
 /// Where the parts of the story of a program stand.
@@ -96,8 +96,8 @@ pub fn part_places(checked: &Checked<'_>) -> Places
 {
     let globals = HEADER_LENGTH + 2 * MOST_ABBREVIATIONS + EMPTY_TEXT_LENGTH;
     let arrays = checked.array_bytes().len();
-    let dictionary = dictionary_behind(arrays, objects_size(checked.objects()));
-    let texts = texts_behind(checked, dictionary);
+    let dictionary = dictionary_after(arrays, objects_size(checked.objects()));
+    let texts = texts_after(checked, dictionary);
     let start = texts + abbreviations_size(checked.abbreviations());
     Places {
         globals,

@@ -101,7 +101,7 @@ pub enum Action<'a> {
     While(Box<Value>, Box<Action<'a>>),
     Do(Box<Action<'a>>, Box<Value>),
 
-    /// A `for`: what is done before the first round, the test, what is done behind each round, and
+    /// A `for`: what is done before the first round, the test, what is done after each round, and
     /// the body.
     For(Option<Box<Value>>, Option<Box<Value>>, Option<Box<Value>>, Box<Action<'a>>),
 

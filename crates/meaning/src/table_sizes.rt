@@ -13,7 +13,7 @@ use zcore::{Abbreviations, spelling_length, words_for};
 /// A size up to 65,535 is itself; what a greater one becomes is as well above 65,535, and has the
 /// same remainder by 65,536.
 #[tactic(auto, using(crate::proofs::Folding::fold_small, crate::proofs::Folding::fold_great))]
-pub(crate) fn folded(size: u128) -> usize
+pub fn fold(size: u128) -> usize
     ensures size { result ≡ spec.folded size }
     ensures few { result < 131072 }
 {
@@ -52,7 +52,7 @@ fn name_characters(name: &[u8]) -> u128
 
 /// The Z-characters of a text in characters of the machine.
 #[tactic(auto, using(crate::proofs::Folding::text_characters_more))]
-fn text_characters(text: &[u8]) -> u128
+pub fn text_characters(text: &[u8]) -> u128
     ensures many { result ≡ length (spelled text.now) }
     ensures few { result ≤ 4 * 2 ^ 64 }
 {
@@ -64,14 +64,14 @@ fn text_characters(text: &[u8]) -> u128
 }
 
 /// The bytes of the Z-text of a text in characters of the machine.
-fn text_size(text: &[u8]) -> u128
+pub fn text_size(text: &[u8]) -> u128
     ensures size { result ≡ spec.text_size text.now }
     ensures few { result ≤ 8 * 2 ^ 64 + 2 }
 {
     2 * words_for(text_characters(text))
 }
 
-/// The bytes of the Z-texts of texts, one behind another, folded.
+/// The bytes of the Z-texts of texts, one after another, folded.
 fn texts_size(texts: &[Vec<u8>]) -> usize
     ensures size { result
         ≡ spec.folded (total (map spec.text_size (map (λ t. t.items) texts.now))) }
@@ -79,12 +79,12 @@ fn texts_size(texts: &[Vec<u8>]) -> usize
 {
     let mut size = 0;
     for text in texts {
-        size = folded(size as u128 + text_size(text));
+        size = fold(size as u128 + text_size(text));
     }
     size
 }
 
-/// The bytes of the Z-texts of abbreviations, one behind another, folded.
+/// The bytes of the Z-texts of abbreviations, one after another, folded.
 pub fn abbreviations_size(abbreviations: &Abbreviations) -> usize
     ensures size { result ≡ spec.folded (total (map spec.text_size abbreviations.now)) }
     ensures few { result < 131072 }
@@ -121,7 +121,7 @@ fn properties_size(properties: &[(u8, Vec<u16>)]) -> usize
 {
     let mut size = 0;
     for property in properties {
-        size = folded(size as u128 + property_size(&property.1));
+        size = fold(size as u128 + property_size(&property.1));
     }
     size
 }
@@ -132,5 +132,5 @@ pub(crate) fn table_size(object: &CheckedObject<'_>) -> usize
     ensures few { result < 131072 }
 {
     let properties = properties_size(&object.properties);
-    folded(2 + 2 * name_words(object.name) + properties as u128)
+    fold(2 + 2 * name_words(object.name) + properties as u128)
 }

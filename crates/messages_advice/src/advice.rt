@@ -11,7 +11,7 @@ use crate::signs::{COMMENTS, PAIRS};
 use crate::statements::{BEGINNINGS, OBJECT_STATEMENTS, WHOLE_STATEMENTS};
 use crate::switches::{CASES, COLONS, ELSES, NO_PAIRS, VALUES_OF_CASES};
 use messages_contexts::{Advice, Place, Want, is_in_routine};
-use messages_expected::Grouped;
+use messages_tokens::Grouped;
 use syntax_lexer::{Sign, Token, Word};
 
 /// A set of one member if something is expected, and else of none.

@@ -2,7 +2,7 @@
 
 use messages_contexts::Say::{Absent, Do, Nothing};
 use messages_contexts::{Advice, Place, Step, rules};
-use messages_features::{
+use messages_parts::{
     ARRAY_EXPRESSIONS, ARRAY_VALUES, BUFFERS, CLASSES, CONSTANT_EXPRESSIONS, MESSAGES, OTHER_VALUES,
 };
 

@@ -2,7 +2,7 @@
 
 use messages_contexts::Say::{Absent, Do, Nothing};
 use messages_contexts::{Step, rules};
-use messages_features::{
+use messages_parts::{
     ADDRESSES, ALTERNATIVES, MESSAGES, NESTED_NEGATIONS, NO_PARENTS, PARENTS, PARENTS_IN_LOOP,
 };
 

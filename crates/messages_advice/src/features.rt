@@ -3,7 +3,7 @@
 use crate::statements::TAKEN_AWAY;
 use messages_contexts::Say::{Absent, Do, Nothing};
 use messages_contexts::{Step, rules};
-use messages_features::{
+use messages_parts::{
     APOSTROPHES, CONSTANT_EXPRESSIONS, INEQUALITY, LABELS, NEGATION, OTHER_VALUES,
 };
 

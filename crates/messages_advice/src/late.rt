@@ -2,7 +2,7 @@
 
 use messages_contexts::Say::{Absent, Do, Nothing};
 use messages_contexts::{Step, rules};
-use messages_features::SETTINGS;
+use messages_parts::SETTINGS;
 
 const OUTSIDE: &str = "put the statement into a routine: '];' ends one, and '[' begins the next";
 

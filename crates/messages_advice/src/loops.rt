@@ -2,7 +2,7 @@
 
 use messages_contexts::Say::{Absent, Do, Nothing};
 use messages_contexts::{Step, rules};
-use messages_features::{COMMAS, OBJECT_LOOPS};
+use messages_parts::{COMMAS, OBJECT_LOOPS};
 
 const FOR: &str = "write 'for (i = 0 : i < 9 : i++)'";
 

@@ -2,7 +2,7 @@
 
 use messages_contexts::Say::{Absent, Do, Nothing};
 use messages_contexts::{Step, rules};
-use messages_features::PRINT_FORMS;
+use messages_parts::PRINT_FORMS;
 
 const FORM: &str = "this form of print";
 

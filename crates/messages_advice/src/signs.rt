@@ -2,7 +2,7 @@
 
 use messages_contexts::Say::{Absent, Do, Nothing};
 use messages_contexts::{Step, rules};
-use messages_features::{ASSIGNING_OPERATORS, SUPERCLASSES};
+use messages_parts::{ASSIGNING_OPERATORS, SUPERCLASSES};
 
 /// What is told of signs that are meant to begin a comment: `//` or `/*`, and where a statement
 /// begins `(*`, `--` with a blank after it, a `;` that begins a line and ends nothing, with more

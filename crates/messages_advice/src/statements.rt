@@ -2,7 +2,7 @@
 
 use messages_contexts::Say::{Absent, Do, Nothing};
 use messages_contexts::{Step, rules};
-use messages_features::LIBRARY;
+use messages_parts::LIBRARY;
 
 const MOVE: &str = "write 'move a to b;'";
 

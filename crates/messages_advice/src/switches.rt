@@ -2,7 +2,7 @@
 
 use messages_contexts::Say::{Absent, Do, Nothing};
 use messages_contexts::{Step, rules};
-use messages_features::LABELS;
+use messages_parts::LABELS;
 
 const DEFAULT: &str = "write 'default:' after the other cases";
 

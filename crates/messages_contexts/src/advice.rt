@@ -1,6 +1,6 @@
 //! What is wrong at a token that does not fit.
 
-use messages_features::Feature;
+use messages_parts::Feature;
 
 /// What is wrong at a token that does not fit.
 #[derive(Clone, Copy)]

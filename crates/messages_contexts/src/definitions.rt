@@ -57,8 +57,8 @@ fn before_arrows(tokens: &[Token<'_>], at: usize) -> usize {
     usize::MAX
 }
 
-/// What is defined where the token of a number is the name of a definition: it stands behind the
-/// word that begins one, or behind the arrows of an object.
+/// What is defined where the token of a number is the name of a definition: it stands after the
+/// word that begins one, or after the arrows of an object.
 pub fn defined_at(tokens: &[Token<'_>], at: usize) -> Option<Definition> {
     if is_name(tokens, at) {
         begun_at(tokens, before_arrows(tokens, at))

@@ -21,9 +21,11 @@ pub use definitions::{
 };
 pub use kinds::{Class, Kinds, is_of};
 pub use objects::{
-    first_given, is_behind_has, is_parent, is_property, may_lack_comma, may_lack_has,
+    first_given, is_after_has, is_parent, is_property, may_lack_comma, may_lack_has,
 };
-pub use operands::{begins_expression, ends_operand, is_step, owns_parentheses};
+pub use operands::{
+    begins_expression, ends_operand, is_loop_variable, is_step, open_after, owns_parentheses,
+};
 pub use places::Place;
 pub use rules::{Say, Spot, Step, Test, Want};
 pub use spelling::{MOST_EDITS, in_small_letters, is_near};
@@ -33,7 +35,7 @@ pub use statements::{
 };
 pub use syntax_lexer::{Sign, Word};
 pub use tokens::{
-    before, begins_statement, behind, divides_at, ends_within, is_after_word, is_name, is_named,
+    after, before, begins_statement, divides_at, ends_within, is_after_word, is_name, is_named,
     is_sign, is_text, is_word, kind_at, line_of, text_at,
 };
 pub use walks::{is_in_names, is_listed};

@@ -1,6 +1,6 @@
 //! The names within an object. The tokens are those of a program.
 
-use crate::tokens::{before, behind, is_name, is_named, is_sign, is_text, is_word};
+use crate::tokens::{after, before, is_name, is_named, is_sign, is_text, is_word};
 use syntax_lexer::{Sign, Token, Word};
 
 /// Whether the token of a number is the name of a property that an object gives.
@@ -21,12 +21,12 @@ pub fn first_given(tokens: &[Token<'_>], object: usize, text: &[u8]) -> Option<u
 
 /// Whether the token of a number is the parent of the object whose name has a number.
 pub fn is_parent(tokens: &[Token<'_>], object: usize, at: usize) -> bool {
-    let next = behind(object, 1);
-    at == next || is_text(tokens, next) && at == behind(object, 2)
+    let next = after(object, 1);
+    at == next || is_text(tokens, next) && at == after(object, 2)
 }
 
-/// Whether a `has` stands before the token of a number, behind the name of its object.
-pub fn is_behind_has(tokens: &[Token<'_>], object: usize, at: usize) -> bool {
+/// Whether a `has` stands before the token of a number, after the name of its object.
+pub fn is_after_has(tokens: &[Token<'_>], object: usize, at: usize) -> bool {
     for number in object..at {
         if is_word(tokens, number, Word::Has) {
             return true;
@@ -45,20 +45,20 @@ fn is_after_value(tokens: &[Token<'_>], at: usize) -> bool {
 /// Whether `has` may be missing before an attribute within the object whose name has a number: what
 /// is after it may be in a list of attributes.
 pub fn may_lack_has(tokens: &[Token<'_>], object: usize, at: usize) -> bool {
-    let next = behind(at, 1);
+    let next = after(at, 1);
     is_after_value(tokens, at)
-        && !is_behind_has(tokens, object, at)
+        && !is_after_has(tokens, object, at)
         && (is_name(tokens, next) || is_sign(tokens, next, Sign::Semicolon))
 }
 
 /// Whether `,` may be missing before a property within the object whose name has a number: it is
 /// after a value, and has one.
 pub fn may_lack_comma(tokens: &[Token<'_>], object: usize, at: usize) -> bool {
-    let next = behind(at, 1);
+    let next = after(at, 1);
     is_after_value(tokens, at)
         && !is_sign(tokens, before(at, 1), Sign::Comma)
         && !is_parent(tokens, object, at)
-        && !is_behind_has(tokens, object, at)
+        && !is_after_has(tokens, object, at)
         && !is_sign(tokens, next, Sign::Semicolon)
         && !is_sign(tokens, next, Sign::Comma)
 }

@@ -2,12 +2,29 @@
 
 use crate::kinds;
 use crate::kinds::{Kinds, is_of};
-use crate::tokens::before;
-use syntax_lexer::Token;
+use crate::tokens::{before, is_sign, is_word};
+use syntax_lexer::{Sign, Token, Word};
 
 /// Whether the token of a number is `++` or `--`.
 pub fn is_step(tokens: &[Token<'_>], at: usize) -> bool {
     is_of(tokens, at, kinds!(Sign Increment Decrement))
+}
+
+/// Whether a name, the token of a number, is the variable of an `objectloop`.
+pub fn is_loop_variable(tokens: &[Token<'_>], at: usize) -> bool {
+    is_sign(tokens, before(at, 1), Sign::OpenParenthesis)
+        && is_word(tokens, before(at, 2), Word::Objectloop)
+}
+
+/// How many parentheses are open after the token of a number, where so many were before it.
+pub fn open_after(tokens: &[Token<'_>], at: usize, open: usize) -> usize {
+    if is_sign(tokens, at, Sign::OpenParenthesis) {
+        open.saturating_add(1)
+    } else if is_sign(tokens, at, Sign::CloseParenthesis) {
+        open.saturating_sub(1)
+    } else {
+        open
+    }
 }
 
 /// Whether an operand ends with the token of a number.

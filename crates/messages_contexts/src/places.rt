@@ -9,12 +9,12 @@ use crate::rules::{Say, Spot, Step, Test};
 use crate::statements::{
     begins_line, group_at, is_joined, last_open, open_parenthesis, start_of, switch_around,
 };
-use crate::tokens::{before, begins_statement, behind, text_at};
+use crate::tokens::{after, before, begins_statement, text_at};
 use crate::walks::{
     begins_two_commas, bytes_after, count_of, ends_else, is_after, is_case, is_in_brackets,
     is_in_constant, is_in_names, is_inequality, is_known, is_listed, is_negation, last_do,
 };
-use messages_features::{Feature, habit_as_operand, habit_at_beginning, habit_between, named};
+use messages_parts::{Feature, habit_as_operand, habit_at_beginning, habit_between, named};
 use syntax_lexer::{Sign, Token};
 
 /// A place in a source: the token of a number, which does not fit. The other numbers are of tokens
@@ -61,7 +61,7 @@ impl<'t, 's> Place<'t, 's> {
 
     /// The place at the next token.
     pub fn next(self) -> Self {
-        Self::new(self.source, self.tokens, behind(self.at, 1), self.wants)
+        Self::new(self.source, self.tokens, after(self.at, 1), self.wants)
     }
 
     /// The number of the token at a spot; a number of none where there is none.
@@ -72,21 +72,21 @@ impl<'t, 's> Place<'t, 's> {
             Spot::SecondLast => before(self.at, 2),
             Spot::Last => before(self.at, 1),
             Spot::Here => self.at,
-            Spot::Next => behind(self.at, 1),
-            Spot::SecondNext => behind(self.at, 2),
-            Spot::ThirdNext => behind(self.at, 3),
+            Spot::Next => after(self.at, 1),
+            Spot::SecondNext => after(self.at, 2),
+            Spot::ThirdNext => after(self.at, 3),
             Spot::BeforeEnd => before(self.start, 2),
             Spot::End => before(self.start, 1),
             Spot::First => self.start,
-            Spot::Second => behind(self.start, 1),
-            Spot::Third => behind(self.start, 2),
+            Spot::Second => after(self.start, 1),
+            Spot::Third => after(self.start, 2),
             Spot::Open => self.open,
             Spot::BeforeOpen => before(self.open, 1),
             Spot::Caller => before(self.group, 1),
             Spot::Brace => self.brace,
             Spot::BeforeDo => before(self.last_do, 1),
             Spot::Do => self.last_do,
-            Spot::AfterDo => behind(self.last_do, 1),
+            Spot::AfterDo => after(self.last_do, 1),
         }
     }
 

@@ -1,7 +1,7 @@
 //! Rules as data: what is told where some tests of the tokens around a place hold.
 
 use crate::kinds::Kinds;
-use messages_features::Feature;
+use messages_parts::Feature;
 
 /// A token near a place, counted from the place, from the first of its statement or definition, or
 /// from the parentheses around the place or before it.

@@ -2,7 +2,7 @@
 //! place begin a program.
 
 use crate::definitions::{Definition, begun_at};
-use crate::tokens::{before, behind, divides_at, is_name, is_sign, is_word, kind_at, line_of};
+use crate::tokens::{after, before, divides_at, is_name, is_sign, is_word, kind_at, line_of};
 use syntax_lexer::{Kind, Sign, Token, Word};
 
 /// The number of the first token of the statement or definition in which the token of a number is:
@@ -11,7 +11,7 @@ pub fn start_of(tokens: &[Token<'_>], at: usize) -> usize {
     for count in 0..at {
         let number = before(at, count.saturating_add(1));
         if divides_at(tokens, number) {
-            return behind(number, 1);
+            return after(number, 1);
         }
     }
     0

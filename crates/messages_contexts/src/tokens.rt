@@ -57,8 +57,8 @@ pub fn before(at: usize, count: usize) -> usize {
     at.checked_sub(count).unwrap_or(usize::MAX)
 }
 
-/// The number of the token that stands so many behind one.
-pub fn behind(at: usize, count: usize) -> usize {
+/// The number of the token that stands so many after one.
+pub fn after(at: usize, count: usize) -> usize {
     at.saturating_add(count)
 }
 

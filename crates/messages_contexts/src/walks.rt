@@ -4,7 +4,7 @@ use crate::definitions::{Definition, Known, around, is_routine, known_as};
 use crate::kinds::{Kinds, has, is_of};
 use crate::objects::is_property;
 use crate::statements::{last_open, start_of};
-use crate::tokens::{before, behind, is_named, is_sign, is_word, kind_at};
+use crate::tokens::{after, before, is_named, is_sign, is_word, kind_at};
 use syntax_lexer::{Kind, Sign, Token, Word};
 
 /// What may be in a list of values.
@@ -144,7 +144,7 @@ pub fn ends_else(tokens: &[Token<'_>], last: usize) -> bool {
         }
         _ => {
             let start = start_of(tokens, last);
-            is_word(tokens, start, Word::Else) && !is_word(tokens, behind(start, 1), Word::If)
+            is_word(tokens, start, Word::Else) && !is_word(tokens, after(start, 1), Word::If)
         }
     }
 }
@@ -154,8 +154,8 @@ pub fn is_in_constant(tokens: &[Token<'_>], number: usize) -> bool {
     match around(tokens, number) {
         Some(found) => {
             matches!(found.what, Definition::Constant | Definition::Global)
-                && is_sign(tokens, behind(found.name, 1), Sign::Assign)
-                && number > behind(found.name, 2)
+                && is_sign(tokens, after(found.name, 1), Sign::Assign)
+                && number > after(found.name, 2)
         }
         None => false,
     }

@@ -13,13 +13,13 @@ use Rattle.syntax_directives.specs.Grammar.{properties_none, properties_with, Is
 use Rattle.syntax_directives.specs.Grammar.{attributes_has, IsDirective, d_global, d_global_value, d_constant, d_array}
 use Rattle.syntax_directives.specs.Grammar.{d_attribute, d_property, d_property_value, d_object, d_routine, IsTexts}
 use Rattle.syntax_directives.specs.Grammar.{texts_stop, texts_next}
-use Rattle.meaning.specs.declared.around.Around.{Around}
+use Rattle.meaning.specs.declared.enclosure.Enclosure.{Enclosure}
 use Rattle.checker_names.specs.declared.binding.Binding.{Binding}
 use Rattle.checker_statements.specs.Statements.{statements_breaches}
 use Rattle.messages_diagnosis.proofs.Sounds.{Sounds, Stand, first, after}
 use Rattle.messages_diagnosis.proofs.Names.{EachName}
 use Rattle.messages_diagnosis.proofs.Values.{KnownAt, OptionalAt, known_K}
-use Rattle.messages_diagnosis.proofs.Statements.{sound_Ss}
+use Rattle.messages_diagnosis.proofs.StatementSounds.{sound_Ss}
 
 module _ (P : Position → Type 0) where
   abbrev pub EachPosition : List Position → Type 0
@@ -61,7 +61,7 @@ module _ (P : Position → Type 0) where
   pub record RoutineAt (x : RoutineTree) : Type 0 where
     pub name : P x.name.position
     pub locals : EachName P x.locals
-    pub body : (look : List ℕ → Option Binding) (around : Around) → Sounds P (statements_breaches look around x.body)
+    pub body : (look : List ℕ → Option Binding) (around : Enclosure) → Sounds P (statements_breaches look around x.body)
 
   abbrev pub DirectiveAt : DirectiveTree → Type 0
   DirectiveAt (global n v) = P n.position × OptionalAt P v

@@ -2,8 +2,19 @@ pub mod Sounds
 pub mod Names
 pub mod Expressions
 pub mod Values
-pub mod Statements
+pub mod StatementSounds
 pub mod Directives
 pub mod Objects
 pub mod Programs
 pub mod Located
+pub mod Raising
+pub mod Each
+pub mod FirstGreatest
+pub mod FirstAt
+pub mod Heading
+pub mod Ranking
+pub mod Summing
+pub mod Accepting
+pub mod Refusals
+pub mod FewTemporaries
+mod FigureSamples

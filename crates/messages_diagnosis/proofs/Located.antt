@@ -18,8 +18,8 @@ use Rattle.checker_names.specs.Breaches.{IsAmong}
 use Rattle.checker.specs.Programs.{program_breaches}
 use Rattle.messages_diagnosis.proofs.Sounds.{is_rule, EachSounds, EachStands, Stand}
 use Rattle.messages_diagnosis.proofs.Programs.{breaches_stand, heavy_stands}
-use Rattle.messages_places.specs.declared.diagnosis.Diagnosis.{Diagnosis}
-use Rattle.messages_places.specs.declared.place.Place.{Place}
+use Rattle.messages_parts.specs.declared.diagnosis.Diagnosis.{Diagnosis}
+use Rattle.messages_parts.specs.declared.place.Place.{Place}
 use Rattle.story.specs.Refused.{lexemes_of, tree_weight}
 use Rattle.story.specs.FaultPlaces.{IsUnplaced, StandsAt, Stands, nowhere, in_tokens, not_in_grammar}
 use Rattle.story.specs.FaultPlaces.{too_deep, rule_broken, routine_too_large}
@@ -135,10 +135,10 @@ told source f (in_tokens h) =
       placed = not_token stands.broken f.fault.number stands.number;
     })
 told source f (not_in_grammar tokens lexed a ten) =
-    stands_at source f (position_of a.token) (token_stands source tokens a.front a.token a.behind lexed a.is) a.stands
+    stands_at source f (position_of a.token) (token_stands source tokens a.front a.token a.after lexed a.is) a.stands
     (λ u. not_one_of f.fault.number 10 ten u (omega arith))
 told source f (too_deep tokens lexed a five) =
-    stands_at source f (position_of a.token) (token_stands source tokens a.front a.token a.behind lexed a.is) a.stands
+    stands_at source f (position_of a.token) (token_stands source tokens a.front a.token a.after lexed a.is) a.stands
     (λ u. not_one_of f.fault.number 5 five u (omega arith))
 told source f (rule_broken p tree h) =
     let sounds = breaches_stand (InLine source) tree.parsed (tokens_stand source tree.tokens tree.lexed) in

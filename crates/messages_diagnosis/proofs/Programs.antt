@@ -12,7 +12,7 @@ use Rattle.syntax_directives.specs.Tree.{attribute, property, object, routine}
 use Rattle.syntax.specs.Tree.{EntryTree, directives_of, abbreviations_of, ProgramTree}
 use Rattle.syntax.specs.Grammar.{e_directive, e_abbreviate, IsEntries, entries_stop, entries_next, IsProgram}
 use Rattle.syntax.specs.Grammar.{program}
-use Rattle.meaning.specs.Around.{outside}
+use Rattle.meaning.specs.Enclosure.{outside}
 use Rattle.meaning.specs.Limits.{most_globals, most_objects, most_properties}
 use Rattle.meaning.specs.Sizes.{first_heavy, greatest_routine_weight}
 use Rattle.zcore.specs.Layout.{attribute_count, most_locals}

@@ -6,8 +6,8 @@ use Rattle.syntax_lexer.specs.declared.fault.PlacedFault.{PlacedFault}
 use Rattle.story.specs.Compiled.{CompilesBy}
 use Rattle.story.specs.FaultPlaces.{IsUnplaced, Stands}
 use Rattle.story.specs.Refused.{Limits}
-use Rattle.messages_places.specs.declared.diagnosis.Diagnosis.{Diagnosis}
-use Rattle.messages_places.specs.Lines.{IsLocatedIn}
+use Rattle.messages_parts.specs.declared.diagnosis.Diagnosis.{Diagnosis}
+use Rattle.messages_parts.specs.Lines.{IsLocatedIn}
 
 -- the fault, with the offset at which its place begins
 abbrev pub placed_of : Diagnosis → PlacedFault

@@ -3,7 +3,7 @@
 ghost use Rattle.story.specs.Large.{limits_by};
 ghost use Rattle.messages_diagnosis.specs.Diagnosed.{Diagnoses};
 
-use messages_places::{Diagnosis, located};
+use messages_parts::{Diagnosis, located};
 use std::alloc::Global;
 use story::{Limit, Story, compile_once};
 use zcore::Version;

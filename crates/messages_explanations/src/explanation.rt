@@ -31,6 +31,28 @@ pub struct Example {
     pub mended: &'static str,
 }
 
+/// Explanations, each by its name, its title and its rule, and two sources where it has an example.
+macro_rules! explanations {
+    (@) => { None };
+    (@ $broken:literal $mended:literal) => {
+        Some($crate::explanation::Example {
+            broken: $broken,
+            mended: $mended,
+        })
+    };
+    ($($name:literal $title:literal => $rule:literal
+        $(broken $broken:literal mended $mended:literal)?;)+) => {
+        [$(Explanation {
+            name: $name,
+            title: $title,
+            rule: $rule,
+            example: explanations!(@ $($broken $mended)?),
+        },)+]
+    };
+}
+
+pub(crate) use explanations;
+
 /// A source of several lines of ASCII, four columns to the right.
 #[derive(Clone, Copy)]
 struct Shifted(&'static str);

@@ -5,12 +5,12 @@ use crate::misspelt::misspelt;
 use crate::repairs::{Change, Trial};
 use messages_advice::{advice_at, late_advice_at};
 use messages_contexts::{
-    Advice, Definition, Kinds, around, before, begins_line, begun_at, behind, definition_of,
-    divides_at, ends_within, is_after_word, is_behind_has, is_of, is_sign, is_text, is_unknown,
+    Advice, Definition, Kinds, after, around, before, begins_line, begun_at, definition_of,
+    divides_at, ends_within, is_after_has, is_after_word, is_of, is_sign, is_text, is_unknown,
     is_word, kinds, last_open, last_word, open_parenthesis, owns_parentheses, start_of,
     switch_around,
 };
-use messages_expected::Grouped;
+use messages_tokens::Grouped;
 use syntax::{Kind, Sign, Token, Word};
 
 /// What may be the cause of a token that does not fit.
@@ -122,12 +122,12 @@ pub const SIGNS: [Missing; 8] = [
 ];
 
 /// Whether the token of a number is in an object after its `has`.
-fn is_after_has(tokens: &[Token<'_>], number: usize) -> bool {
+fn is_in_object_after_has(tokens: &[Token<'_>], number: usize) -> bool {
     match around(tokens, number) {
         Some(found) => {
             matches!(found.what, Definition::Object)
                 && !ends_within(tokens, found.name, number)
-                && is_behind_has(tokens, found.name, number)
+                && is_after_has(tokens, found.name, number)
         }
         None => false,
     }
@@ -136,11 +136,11 @@ fn is_after_has(tokens: &[Token<'_>], number: usize) -> bool {
 /// Whether the token of a number is a `with`, or the `,` before one, after the `has` of its object.
 fn is_late_with(tokens: &[Token<'_>], number: usize) -> bool {
     let with = if is_sign(tokens, number, Sign::Comma) {
-        behind(number, 1)
+        after(number, 1)
     } else {
         number
     };
-    is_word(tokens, with, Word::With) && is_after_has(tokens, number)
+    is_word(tokens, with, Word::With) && is_in_object_after_has(tokens, number)
 }
 
 /// Whether the token of a number is the same as the one before it. Signs that close are not asked
@@ -157,7 +157,7 @@ fn is_repeated(tokens: &[Token<'_>], number: usize) -> bool {
 /// fit: it is a word that opens parentheses alone, or a value is assigned to it.
 fn may_be_meant(tokens: &[Token<'_>], number: usize) -> bool {
     is_of(tokens, number, kinds!(Word Parent Child Sibling))
-        || is_reserved(tokens, number) && is_sign(tokens, behind(number, 1), Sign::Assign)
+        || is_reserved(tokens, number) && is_sign(tokens, after(number, 1), Sign::Assign)
 }
 
 /// Whether the token of a number is a reserved word.
@@ -175,7 +175,7 @@ fn begins_form(tokens: &[Token<'_>], number: usize) -> bool {
 /// parentheses of its own after it, and is in none as a form of `print`.
 fn is_bare_word(tokens: &[Token<'_>], number: usize) -> bool {
     let has_parentheses = owns_parentheses(tokens, number)
-        && is_sign(tokens, behind(number, 1), Sign::OpenParenthesis);
+        && is_sign(tokens, after(number, 1), Sign::OpenParenthesis);
     is_reserved(tokens, number) && !has_parentheses && !begins_form(tokens, number)
 }
 
@@ -299,7 +299,7 @@ fn missing_sign(trial: &mut Trial<'_, '_>, number: usize) -> Cause {
 /// What closes the innermost sign that is open at the end of a source, if that is the token of a
 /// number, and no statement before it lacks its `;`.
 fn open_at_end(tokens: &[Token<'_>], number: usize) -> Option<Missing> {
-    if behind(number, 1) != tokens.len() {
+    if after(number, 1) != tokens.len() {
         None
     } else if open_parenthesis(tokens, number).is_some() {
         Some(CLOSE_PARENTHESIS)

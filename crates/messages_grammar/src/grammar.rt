@@ -7,9 +7,8 @@ use crate::causes::{Cause, Missing, likely_cause};
 use crate::openings::{Open, open_before};
 use crate::repairs::Trial;
 use messages_contexts::{Advice, before, begins_line, line_of, text_at};
-use messages_expected::{Expected, Grouped, TokenKind, expected, in_groups};
-use messages_features::Absent;
-use messages_tokens::{Met, Quoted};
+use messages_parts::Absent;
+use messages_tokens::{Expected, Grouped, Met, Quoted, TokenKind, expected, in_groups};
 use std::alloc::{AllocError, Global};
 use std::fmt::{self, Display, Formatter};
 use syntax::{Kind, Position, Sign, Token, Word};
@@ -18,18 +17,21 @@ use syntax::{Kind, Position, Sign, Token, Word};
 /// parse.
 const MOST_LISTED: usize = 60_000;
 
-/// What is wrong with a token, in a sentence, and the place to show if it is not the token's.
+/// What is wrong, in a sentence, and the place to show if it is not the fault's.
 #[derive(Drop)]
-pub struct Misfit {
+pub struct Told {
     pub sentence: String,
 
-    /// Where the token before it ends, if something is expected there.
+    /// Where a token ends after which something is expected, with its line.
     pub place: Option<Position>,
 }
 
-/// What is known of a token that does not fit.
+/// What is known of a token that does not fit, and the memory for what is said of it.
 #[derive(Clone, Copy)]
 struct Found<'a, 't> {
+    alloc: Global,
+    tokens: &'t [Token<'a>],
+
     /// The kinds of tokens with which a program could go on, if they were asked for.
     wanted: Expected<'t>,
 
@@ -108,7 +110,7 @@ impl Display for Remedy<'_> {
 
 /// What is told of signs that are missing, after what is expected.
 #[derive(Clone, Copy)]
-enum Lack {
+enum Detail {
     /// Nothing: they are all that is expected.
     Known,
 
@@ -119,12 +121,12 @@ enum Lack {
     Put(&'static str),
 }
 
-impl Display for Lack {
+impl Display for Detail {
     fn fmt<W: fmt::Write>(&self, f: &mut Formatter<W>) -> fmt::Result {
         match *self {
-            Lack::Known => Ok(()),
-            Lack::Open(open) => write!(f, ": {open}"),
-            Lack::Put(written) => write!(f, ": put '{written}' there"),
+            Detail::Known => Ok(()),
+            Detail::Open(open) => write!(f, ": {open}"),
+            Detail::Put(written) => write!(f, ": put '{written}' there"),
         }
     }
 }
@@ -147,60 +149,51 @@ fn is_wanted(wanted: Expected<'_>, sign: Sign) -> bool {
 
 /// Whether a token begins a line, and `;` is expected or may be missing before it. Then the place to
 /// show is the end of the line before.
-fn is_after_line(tokens: &[Token<'_>], found: Found<'_, '_>, cause: Cause) -> bool {
+fn is_after_line(found: Found<'_, '_>, cause: Cause) -> bool {
     let is_missing = match cause {
         Cause::Missing(missing, _) => matches!(missing.sign, Sign::Semicolon),
         Cause::Unknown => false,
         _ => return false,
     };
-    begins_line(tokens, found.number) && (is_missing || is_wanted(found.wanted, Sign::Semicolon))
+    begins_line(found.tokens, found.number)
+        && (is_missing || is_wanted(found.wanted, Sign::Semicolon))
 }
 
 /// What is told of signs that may be missing, where what they close is not named.
-fn lack_of(wanted: Expected<'_>, missing: Missing) -> Lack {
+fn detail_of(wanted: Expected<'_>, missing: Missing) -> Detail {
     if is_only(wanted, missing.sign) {
-        Lack::Known
+        Detail::Known
     } else {
-        Lack::Put(missing.written)
+        Detail::Put(missing.written)
     }
 }
 
 /// What is wrong at the end of the line before a token, where signs may be missing or not.
-fn after_line(
-    alloc: Global,
-    tokens: &[Token<'_>],
-    found: Found<'_, '_>,
-    cause: Cause,
-) -> Result<Misfit, AllocError> {
+fn after_line(found: Found<'_, '_>, cause: Cause) -> Result<Told, AllocError> {
     let wanted = found.wanted;
-    let line = line_of(tokens, before(found.number, 1));
-    let lack = match cause {
-        Cause::Missing(missing, _) => lack_of(wanted, missing),
-        _ => Lack::Known,
+    let line = line_of(found.tokens, before(found.number, 1));
+    let detail = match cause {
+        Cause::Missing(missing, _) => detail_of(wanted, missing),
+        _ => Detail::Known,
     };
-    match format!(in alloc; "{wanted} expected after line {line}{lack}") {
-        Ok(sentence) => Ok(Misfit {
+    match format!(in found.alloc; "{wanted} expected after line {line}{detail}") {
+        Ok(sentence) => Ok(Told {
             sentence,
-            place: end_before(tokens, found.number),
+            place: end_before(found.tokens, found.number),
         }),
         Err(refused) => Err(refused),
     }
 }
 
 /// What is wrong with a token before which signs may be missing.
-fn missing_before(
-    alloc: Global,
-    tokens: &[Token<'_>],
-    found: Found<'_, '_>,
-    missing: Missing,
-) -> Result<String, AllocError> {
+fn missing_before(found: Found<'_, '_>, missing: Missing) -> Result<String, AllocError> {
     let wanted = found.wanted;
     let met = Met(found.token);
-    let lack = match open_before(tokens, found.number, missing.sign) {
-        Some(open) => Lack::Open(open),
-        None => lack_of(wanted, missing),
+    let detail = match open_before(found.tokens, found.number, missing.sign) {
+        Some(open) => Detail::Open(open),
+        None => detail_of(wanted, missing),
     };
-    format!(in alloc; "{wanted} expected before {met}{lack}")
+    format!(in found.alloc; "{wanted} expected before {met}{detail}")
 }
 
 /// Whether a token is `}`.
@@ -212,7 +205,8 @@ fn is_brace(token: Token<'_>) -> bool {
 }
 
 /// What to do about a token that does not fit, by its likely cause, if the sentence ends with that.
-fn remedy_of<'a>(tokens: &[Token<'a>], found: Found<'_, '_>, cause: Cause) -> Option<Remedy<'a>> {
+fn remedy_of<'a>(found: Found<'a, '_>, cause: Cause) -> Option<Remedy<'a>> {
+    let tokens = found.tokens;
     let last = before(found.number, 1);
     match cause {
         Cause::Assigns => Some(Remedy::Do("write '==' to compare")),
@@ -235,89 +229,70 @@ fn remedy_of<'a>(tokens: &[Token<'a>], found: Found<'_, '_>, cause: Cause) -> Op
 }
 
 /// What is wrong with a token, and what to do.
-fn remedied(alloc: Global, found: Found<'_, '_>, remedy: Remedy<'_>) -> Result<String, AllocError> {
+fn remedied(found: Found<'_, '_>, remedy: Remedy<'_>) -> Result<String, AllocError> {
     let wanted = found.wanted;
     let met = Met(found.token);
-    format!(in alloc; "{wanted} expected, not {met}: {remedy}")
+    format!(in found.alloc; "{wanted} expected, not {met}: {remedy}")
 }
 
 /// What is wrong with a token that is a form of another language, or a slip of a known kind.
-fn told(
-    alloc: Global,
-    tokens: &[Token<'_>],
-    found: Found<'_, '_>,
-    advice: Advice,
-) -> Result<String, AllocError> {
+fn advised(found: Found<'_, '_>, advice: Advice) -> Result<String, AllocError> {
     match advice {
-        Advice::Do(what) => remedied(alloc, found, Remedy::Do(what)),
-        Advice::Absent(what, feature) => format!(in alloc; "{}", Absent(what, feature)),
+        Advice::Do(what) => remedied(found, Remedy::Do(what)),
+        Advice::Absent(what, feature) => format!(in found.alloc; "{}", Absent(what, feature)),
         Advice::Word(number, feature) => {
-            format!(in alloc; "{}", Absent(Quoted(text_at(tokens, number)), feature))
+            let word = Quoted(text_at(found.tokens, number));
+            format!(in found.alloc; "{}", Absent(word, feature))
         }
     }
 }
 
 /// What is wrong with a token that is a misspelt or a reserved word, the token of a number, or any
 /// other.
-fn by_word(
-    alloc: Global,
-    tokens: &[Token<'_>],
-    found: Found<'_, '_>,
-    cause: Cause,
-) -> Result<String, AllocError> {
+fn by_word(found: Found<'_, '_>, cause: Cause) -> Result<String, AllocError> {
     let wanted = found.wanted;
     match cause {
         Cause::Misspelt(place, word) => {
-            let name = Quoted(text_at(tokens, place));
+            let name = Quoted(text_at(found.tokens, place));
             let meant = TokenKind::Reserved(word);
-            format!(in alloc; "unknown word {name}; did you mean {meant}?")
+            format!(in found.alloc; "unknown word {name}; did you mean {meant}?")
         }
         Cause::Reserved(place) => {
-            let word = Quoted(text_at(tokens, place));
-            format!(in alloc; "{wanted} expected: {word} is reserved and cannot be a name")
+            let word = Quoted(text_at(found.tokens, place));
+            format!(in found.alloc; "{wanted} expected: {word} is reserved and cannot be a name")
         }
-        _ => format!(in alloc; "{wanted} expected, not {}", Met(found.token)),
+        _ => format!(in found.alloc; "{wanted} expected, not {}", Met(found.token)),
     }
 }
 
 /// What is wrong with a token, by its likely cause, in a sentence about the token itself.
-fn at_token(
-    alloc: Global,
-    tokens: &[Token<'_>],
-    found: Found<'_, '_>,
-    cause: Cause,
-) -> Result<String, AllocError> {
-    if let Some(remedy) = remedy_of(tokens, found, cause) {
-        return remedied(alloc, found, remedy);
+fn at_token(found: Found<'_, '_>, cause: Cause) -> Result<String, AllocError> {
+    if let Some(remedy) = remedy_of(found, cause) {
+        return remedied(found, remedy);
     }
     match cause {
-        Cause::LateWith => String::from_str(alloc, "'with' must be before 'has'"),
-        Cause::Told(advice) => told(alloc, tokens, found, advice),
+        Cause::LateWith => String::from_str(found.alloc, "'with' must be before 'has'"),
+        Cause::Told(advice) => advised(found, advice),
         Cause::Repeated => {
             let wanted = found.wanted;
-            format!(in alloc; "{wanted} expected: {} is there twice", Met(found.token))
+            format!(in found.alloc; "{wanted} expected: {} is there twice", Met(found.token))
         }
-        Cause::Missing(missing, _) => missing_before(alloc, tokens, found, missing),
-        other => by_word(alloc, tokens, found, other),
+        Cause::Missing(missing, _) => missing_before(found, missing),
+        other => by_word(found, other),
     }
 }
 
 /// What is wrong with a token, by its likely cause.
-fn by_cause(
-    alloc: Global,
-    tokens: &[Token<'_>],
-    found: Found<'_, '_>,
-    cause: Cause,
-) -> Result<Misfit, AllocError> {
+fn by_cause(found: Found<'_, '_>, cause: Cause) -> Result<Told, AllocError> {
     let is_earlier = match cause {
         Cause::Missing(_, place) => place < found.number,
         _ => false,
     };
-    if !is_earlier && is_after_line(tokens, found, cause) {
-        return after_line(alloc, tokens, found, cause);
+    if !is_earlier && is_after_line(found, cause) {
+        return after_line(found, cause);
     }
-    match at_token(alloc, tokens, found, cause) {
-        Ok(sentence) => Ok(Misfit {
+    match at_token(found, cause) {
+        Ok(sentence) => Ok(Told {
             sentence,
             place: None,
         }),
@@ -336,36 +311,33 @@ pub fn misfit_at<'a>(
     tokens: &[Token<'a>],
     number: usize,
     token: Token<'a>,
-) -> Result<Misfit, AllocError>
+) -> Result<Told, AllocError>
     requires { EndsOnce (lexemes tokens.now) }
 {
     match wanted(alloc, tokens) {
         Ok(grouped) => {
             let wanted = Expected(grouped.as_ref());
             let found = Found {
+                alloc,
+                tokens,
                 wanted,
                 number,
                 token,
             };
-            explained(alloc, source, tokens, found)
+            explained(source, found)
         }
         Err(refused) => Err(refused),
     }
 }
 
 /// What is wrong with the first token that does not fit.
-fn explained(
-    alloc: Global,
-    source: &[u8],
-    tokens: &[Token<'_>],
-    found: Found<'_, '_>,
-) -> Result<Misfit, AllocError> {
-    let mut trial = Trial::of(alloc, tokens);
+fn explained(source: &[u8], found: Found<'_, '_>) -> Result<Told, AllocError> {
+    let mut trial = Trial::of(found.alloc, found.tokens);
     let cause = likely_cause(&mut trial, source, found.number, found.wanted.0);
     if trial.is_refused {
         Err(AllocError)
     } else {
-        by_cause(alloc, tokens, found, cause)
+        by_cause(found, cause)
     }
 }
 

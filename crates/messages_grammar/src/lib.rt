@@ -8,4 +8,4 @@ mod misspelt;
 mod openings;
 mod repairs;
 
-pub use grammar::{Misfit, misfit_at, too_deep};
+pub use grammar::{Told, misfit_at, too_deep};

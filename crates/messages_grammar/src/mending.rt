@@ -3,7 +3,7 @@
 use crate::causes::{Cause, END_OF_ROUTINE, SEMICOLON, SIGNS, is_likely, may_be_extra};
 use crate::repairs::{Change, Trial};
 use messages_contexts::{
-    Definition, Kinds, before, begins_line, begun_at, behind, definition_of, is_in_routine, is_of,
+    Definition, Kinds, after, before, begins_line, begun_at, definition_of, is_in_routine, is_of,
     is_sign, kinds, start_of,
 };
 use syntax::{Kind, Sign, Token, Word};
@@ -99,7 +99,7 @@ fn is_ended_early(trial: &mut Trial<'_, '_>, number: usize) -> bool {
 /// Whether the token of a number is a `;` at the end of a line: without it two statements would be
 /// one, which is hardly meant.
 fn ends_line(tokens: &[Token<'_>], number: usize) -> bool {
-    is_sign(tokens, number, Sign::Semicolon) && begins_line(tokens, behind(number, 1))
+    is_sign(tokens, number, Sign::Semicolon) && begins_line(tokens, after(number, 1))
 }
 
 /// Whether the token of a number is after a word that parentheses follow.

@@ -4,8 +4,8 @@ use crate::repairs::{Change, Trial};
 use messages_contexts::{
     MOST_EDITS, before, in_small_letters, is_near, is_unknown, start_of, text_at,
 };
-use messages_expected::RESERVED_WORDS;
-use messages_features::is_habit;
+use messages_parts::is_habit;
+use messages_tokens::RESERVED_WORDS;
 use strsim::generic_levenshtein;
 use syntax::{Kind, Word};
 

@@ -120,7 +120,7 @@ fn sign_before<'a>(next: Token<'a>, sign: Sign) -> Token<'a> {
     }
 }
 
-/// Puts the tokens of a change behind others, where a token is next.
+/// Puts the tokens of a change after others, where a token is next.
 fn put<'a>(
     others: &mut Vec<Token<'a>>,
     next: Token<'a>,

@@ -1,12 +1,13 @@
 //! How a name that is not known is defined.
 
+use crate::site::Site;
 use crate::wanted::{Wanted, is_in_case, wanted_in};
 use messages_contexts::{
-    Definition, around, before, behind, is_after_word, is_in_names, is_joined, is_listed, is_name,
+    Definition, after, around, before, is_after_word, is_in_names, is_joined, is_listed, is_name,
     is_named, is_of, is_property, is_sign, is_unknown, kinds, text_at,
 };
 use messages_tokens::{Cut, Quoted};
-use std::alloc::{AllocError, Global};
+use std::alloc::AllocError;
 use syntax::{Sign, Token, Word};
 
 /// Whether the token of a number is compared with what is before it.
@@ -29,11 +30,11 @@ pub fn may_be_word(tokens: &[Token<'_>], at: usize) -> bool {
 /// Whether the names of the tokens of a number and after the next are one with `-` between, as in
 /// `my-name`.
 fn is_hyphened(tokens: &[Token<'_>], at: usize) -> bool {
-    is_sign(tokens, behind(at, 1), Sign::Minus)
-        && is_joined(tokens, behind(at, 1))
-        && is_joined(tokens, behind(at, 2))
-        && is_name(tokens, behind(at, 2))
-        && is_unknown(tokens, behind(at, 2))
+    is_sign(tokens, after(at, 1), Sign::Minus)
+        && is_joined(tokens, after(at, 1))
+        && is_joined(tokens, after(at, 2))
+        && is_name(tokens, after(at, 2))
+        && is_unknown(tokens, after(at, 2))
 }
 
 /// Whether the token of a number is in a routine that may have locals.
@@ -49,7 +50,7 @@ fn may_be_local(tokens: &[Token<'_>], at: usize) -> bool {
 /// Whether the token of a number is an item of a `print` alone.
 fn is_item(tokens: &[Token<'_>], at: usize) -> bool {
     let last = before(at, 1);
-    let next = behind(at, 1);
+    let next = after(at, 1);
     let begins = is_of(tokens, last, kinds!(Word Print PrintRet))
         || is_sign(tokens, last, Sign::Comma) && is_after_word(tokens, at, Word::Print);
     begins && is_of(tokens, next, kinds!(Sign Comma Semicolon))
@@ -111,16 +112,11 @@ fn is_of_property(tokens: &[Token<'_>], at: usize) -> bool {
     is_listed(tokens, at, "long additive")
 }
 
-/// What is wrong with a name that has `-` within it, the token of a number.
-fn hyphened(
-    alloc: Global,
-    tokens: &[Token<'_>],
-    at: usize,
-    text: &[u8],
-) -> Result<String, AllocError> {
-    let first = Cut(text);
-    let second = Cut(text_at(tokens, behind(at, 2)));
-    format!(in alloc; "unknown name '{first}': a name has no '-': write '{first}_{second}'")
+/// What is wrong with a name that has `-` within it.
+fn hyphened(site: Site<'_, '_>) -> Result<String, AllocError> {
+    let first = Cut(site.token.text);
+    let second = Cut(text_at(site.tokens, after(site.at, 2)));
+    format!(in site.alloc; "unknown name '{first}': a name has no '-': write '{first}_{second}'")
 }
 
 /// What is wrong with a name that is defined nowhere, and how it may be defined.
@@ -128,14 +124,10 @@ fn hyphened(
 /// # Errors
 ///
 /// `AllocError` where memory is refused.
-pub fn undefined_name(
-    alloc: Global,
-    tokens: &[Token<'_>],
-    at: usize,
-    text: &[u8],
-) -> Result<String, AllocError> {
-    let name = Cut(text);
-    let wanted = match around(tokens, at) {
+pub fn undefined_name(site: Site<'_, '_>) -> Result<String, AllocError> {
+    let (alloc, tokens, at) = (site.alloc, site.tokens, site.at);
+    let name = Cut(site.token.text);
+    let wanted = match site.around() {
         Some(around) => wanted_in(tokens, at, around, false),
         None => Wanted::Value,
     };
@@ -146,7 +138,7 @@ pub fn undefined_name(
     };
     let last = before(at, 1);
     if is_value && is_hyphened(tokens, at) {
-        hyphened(alloc, tokens, at, text)
+        hyphened(site)
     } else if matches!(wanted, Wanted::Constant) && is_of_property(tokens, last) {
         format!(in alloc;
             "unknown name '{name}': leave {} out",

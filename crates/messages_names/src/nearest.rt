@@ -1,9 +1,10 @@
 //! The defined name that is nearest to one that is not known.
 
+use crate::site::Site;
 use crate::wanted::{Wanted, wanted_in};
 use messages_contexts::{
-    Defined, Definition, around, behind, defined_at, in_small_letters, is_attribute, is_name,
-    is_near, text_at,
+    Defined, Definition, after, defined_at, in_small_letters, is_attribute, is_name, is_near,
+    text_at,
 };
 use std::alloc::{AllocError, Global};
 use strsim::generic_levenshtein;
@@ -123,49 +124,41 @@ fn nearest_in(
     }
 }
 
-/// The defined name that may be meant by the token of a number, whose name is not known: the nearest
-/// of those that can be there.
+/// The defined name that may be meant by one that is not known: the nearest of those that can be
+/// there.
 ///
 /// # Errors
 ///
 /// `AllocError` if memory is refused.
-pub fn nearest<'a>(
-    alloc: Global,
-    tokens: &[Token<'a>],
-    at: usize,
-    name: &[u8],
-) -> Result<Option<&'a [u8]>, AllocError> {
-    let Some(around) = around(tokens, at) else {
+pub fn nearest<'a>(site: Site<'_, 'a>) -> Result<Option<&'a [u8]>, AllocError> {
+    let Some(around) = site.around() else {
         return Ok(None);
     };
-    let Ok(small) = in_small_letters(alloc, name) else {
+    let Ok(small) = in_small_letters(site.alloc, site.token.text) else {
         return Err(AllocError);
     };
     let asked = Asked {
         name: small.as_slice(),
-        wanted: wanted_in(tokens, at, around, false),
+        wanted: wanted_in(site.tokens, site.at, around, false),
     };
-    match nearest_in(alloc, tokens, around, asked) {
-        Ok(Some(near)) => Ok(Some(text_at(tokens, near.number))),
+    match nearest_in(site.alloc, site.tokens, around, asked) {
+        Ok(Some(near)) => Ok(Some(text_at(site.tokens, near.number))),
         Ok(None) => Ok(None),
         Err(refused) => Err(refused),
     }
 }
 
-/// Reserved words that are values.
-const VALUES: [&str; 3] = ["true", "false", "nothing"];
-
-/// Reserved words before parentheses.
-const CALLS: [&str; 3] = ["parent", "child", "sibling"];
-
-/// Reserved words in the place of a case.
-const CASES: [&str; 1] = ["default"];
-
-/// Reserved words before attributes, in the place of a property.
-const PARTS: [&str; 1] = ["has"];
-
-/// The property that every program has.
-const PROPERTIES: [&str; 1] = ["name"];
+/// The reserved words that can be in the place of a name.
+fn words_for(site: Site<'_, '_>, around: Defined) -> &'static [&'static str] {
+    match wanted_in(site.tokens, site.at, around, false) {
+        Wanted::Value => &["true", "false", "nothing"],
+        Wanted::Routine => &["parent", "child", "sibling"],
+        Wanted::Constant if matches!(around.what, Definition::Routine) => &["default"],
+        Wanted::Property if is_attribute(site.tokens, after(site.at, 1)) => &["has"],
+        Wanted::Property => &["name"],
+        _ => &[],
+    }
+}
 
 /// The first of some words to which so few edits lead from a name that it may be meant: one, or two
 /// if both are as long.
@@ -189,29 +182,15 @@ fn near_word(
     Ok(None)
 }
 
-/// The reserved word that may be meant by the token of a number, whose name is not known.
+/// The reserved word that may be meant by a name that is not known.
 ///
 /// # Errors
 ///
 /// `AllocError` if memory is refused.
-pub fn nearest_word(
-    alloc: Global,
-    tokens: &[Token<'_>],
-    at: usize,
-    name: &[u8],
-) -> Result<Option<&'static str>, AllocError> {
-    let Some(around) = around(tokens, at) else {
-        return Ok(None);
-    };
-    match wanted_in(tokens, at, around, false) {
-        Wanted::Value => near_word(alloc, name, &VALUES),
-        Wanted::Routine => near_word(alloc, name, &CALLS),
-        Wanted::Constant if matches!(around.what, Definition::Routine) => near_word(
-            alloc, name, &CASES,
-        ),
-        Wanted::Property if is_attribute(tokens, behind(at, 1)) => near_word(alloc, name, &PARTS),
-        Wanted::Property => near_word(alloc, name, &PROPERTIES),
-        _ => Ok(None),
+pub fn nearest_word(site: Site<'_, '_>) -> Result<Option<&'static str>, AllocError> {
+    match site.around() {
+        Some(around) => near_word(site.alloc, site.token.text, words_for(site, around)),
+        None => Ok(None),
     }
 }
 

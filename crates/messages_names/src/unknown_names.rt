@@ -3,13 +3,14 @@
 use crate::definitions::{may_be_word, undefined_name};
 use crate::kinds::kind_of;
 use crate::nearest::{nearest, nearest_main, nearest_word};
+use crate::site::Site;
 use crate::wanted::{Wanted, wanted_in};
 use checker_names::{Binding, Table, find};
 use messages_contexts::{
-    Definition, around, begins_statement, behind, definition_of, first_definition,
+    Definition, after, around, begins_statement, definition_of, first_definition,
     is_after_apostrophe, is_after_word, is_name, is_sign, line_of, text_at,
 };
-use messages_features::{
+use messages_parts::{
     APOSTROPHES, Absent, CLASSES, Feature, habit_as_name, habit_at_beginning, habit_between, named,
     named_in_expression,
 };
@@ -20,7 +21,7 @@ use syntax::{Kind, Sign, Token, Word};
 /// How many arrows stand from the token of a number on.
 fn arrows(tokens: &[Token<'_>], at: usize) -> usize {
     for count in 0..tokens.len() {
-        if !is_sign(tokens, behind(at, count), Sign::Arrow) {
+        if !is_sign(tokens, after(at, count), Sign::Arrow) {
             return count;
         }
     }
@@ -68,7 +69,7 @@ fn named_call(tokens: &[Token<'_>], at: usize, text: &[u8]) -> Option<&'static F
 
 /// Whether the token of a number is called.
 fn is_call(tokens: &[Token<'_>], at: usize) -> bool {
-    is_sign(tokens, behind(at, 1), Sign::OpenParenthesis)
+    is_sign(tokens, after(at, 1), Sign::OpenParenthesis)
 }
 
 /// Whether an attribute or a property is wanted in the place of the token of a number.
@@ -101,7 +102,7 @@ fn is_article(text: &[u8]) -> bool {
 
 /// What to write in the place of a word of everyday English between or before other names.
 fn instead_of_joint(tokens: &[Token<'_>], at: usize, text: &[u8]) -> Option<&'static str> {
-    if is_article(text) && is_name(tokens, behind(at, 1)) {
+    if is_article(text) && is_name(tokens, after(at, 1)) {
         Some("leave the article out")
     } else if is_after_word(tokens, at, Word::Give) {
         instead_in_give(text)
@@ -135,12 +136,9 @@ fn absent_at(tokens: &[Token<'_>], at: usize, text: &[u8]) -> Option<&'static Fe
 }
 
 /// What is wrong with a name that is defined nowhere, the token of a number.
-fn undefined(
-    alloc: Global,
-    tokens: &[Token<'_>],
-    at: usize,
-    text: &[u8],
-) -> Result<String, AllocError> {
+fn undefined(site: Site<'_, '_>) -> Result<String, AllocError> {
+    let (alloc, tokens, at) = (site.alloc, site.tokens, site.at);
+    let text = site.token.text;
     let name = Quoted(text);
     if is_after_apostrophe(tokens, at) {
         return format!(in alloc; "{}", Absent("an apostrophe in a word", APOSTROPHES));
@@ -152,62 +150,52 @@ fn undefined(
         return format!(in alloc; "{}", Absent(name, feature));
     }
     if may_be_word(tokens, at) {
-        return undefined_name(alloc, tokens, at, text);
+        return undefined_name(site);
     }
-    match nearest_word(alloc, tokens, at, text) {
+    match nearest_word(site) {
         Ok(Some(word)) => format!(in alloc; "unknown name {name}; did you mean '{word}'?"),
-        Ok(None) => misspelt(alloc, tokens, at, text),
+        Ok(None) => misspelt(site),
         Err(refused) => Err(refused),
     }
 }
 
 /// What is wrong with a name that is defined nowhere, and may be another one misspelt.
-fn misspelt(
-    alloc: Global,
-    tokens: &[Token<'_>],
-    at: usize,
-    text: &[u8],
-) -> Result<String, AllocError> {
-    match nearest(alloc, tokens, at, text) {
+fn misspelt(site: Site<'_, '_>) -> Result<String, AllocError> {
+    match nearest(site) {
         Ok(Some(meant)) => {
-            let name = Quoted(text);
+            let name = Quoted(site.token.text);
             let meant = Quoted(meant);
-            format!(in alloc; "unknown name {name}; did you mean {meant}?")
+            format!(in site.alloc; "unknown name {name}; did you mean {meant}?")
         }
-        Ok(None) => undefined_name(alloc, tokens, at, text),
+        Ok(None) => undefined_name(site),
         Err(refused) => Err(refused),
     }
 }
 
-/// What is wrong with a name that is the token of a number.
-fn name(alloc: Global, tokens: &[Token<'_>], at: usize, text: &[u8]) -> Result<String, AllocError> {
-    let name = Quoted(text);
-    match first_definition(tokens, text) {
-        None => undefined(alloc, tokens, at, text),
-        Some(defined) if defined > at => {
-            let line = line_of(tokens, defined);
-            format!(in alloc;
+/// What is wrong with a name.
+fn name(site: Site<'_, '_>) -> Result<String, AllocError> {
+    let name = Quoted(site.token.text);
+    match first_definition(site.tokens, site.token.text) {
+        None => undefined(site),
+        Some(defined) if defined > site.at => {
+            let line = line_of(site.tokens, defined);
+            format!(in site.alloc;
                 "{name} is defined in line {line}, but must be defined before its use here"
             )
         }
-        Some(_) => format!(in alloc; "{name} cannot be used in its own definition"),
+        Some(_) => format!(in site.alloc; "{name} cannot be used in its own definition"),
     }
 }
 
-/// What is wrong with a token that is no known name, and has a number.
+/// What is wrong with a token that is no known name.
 ///
 /// # Errors
 ///
 /// `AllocError` where memory is refused.
-pub fn unknown(
-    alloc: Global,
-    tokens: &[Token<'_>],
-    at: usize,
-    token: Token<'_>,
-) -> Result<String, AllocError> {
-    match token.kind {
-        Kind::Name(text) => name(alloc, tokens, at, text),
-        _ => arrow(alloc, arrows(tokens, at)),
+pub fn unknown(site: Site<'_, '_>) -> Result<String, AllocError> {
+    match site.token.kind {
+        Kind::Name(_) => name(site),
+        _ => arrow(site.alloc, arrows(site.tokens, site.at)),
     }
 }
 
@@ -243,17 +231,13 @@ fn without_main(alloc: Global, tokens: &[Token<'_>]) -> Result<String, AllocErro
 /// # Errors
 ///
 /// `AllocError` where memory is refused.
-pub fn no_main(
-    alloc: Global,
-    tokens: &[Token<'_>],
-    table: &Table,
-) -> Result<Option<String>, AllocError> {
+pub fn no_main(site: Site<'_, '_>, table: &Table) -> Result<Option<String>, AllocError> {
     match find(table, b"main") {
-        None => some(without_main(alloc, tokens)),
-        Some(Binding::Routine(_, count)) => with_locals(alloc, count),
+        None => some(without_main(site.alloc, site.tokens)),
+        Some(Binding::Routine(_, count)) => with_locals(site.alloc, count),
         Some(other) => {
             let kind = kind_of(other);
-            some(format!(in alloc; "Main is {kind}; it must be a routine"))
+            some(format!(in site.alloc; "Main is {kind}; it must be a routine"))
         }
     }
 }

@@ -1,9 +1,9 @@
 //! What is wanted in the place of a name (E23). The tokens are those of a program.
 
 use messages_contexts::{
-    Defined, Definition, Kinds, before, begins_expression, behind, divides_at, ends_operand,
-    is_after_word, is_behind_has, is_of, is_parent, is_property, is_sign, is_step, is_word, kinds,
-    owns_parentheses,
+    Defined, Definition, Kinds, after, before, begins_expression, divides_at, ends_operand,
+    is_after_has, is_after_word, is_loop_variable, is_of, is_parent, is_property, is_sign, is_step,
+    is_word, kinds, owns_parentheses,
 };
 use syntax::{Sign, Token, Word};
 
@@ -45,14 +45,14 @@ pub fn wanted_in_object(tokens: &[Token<'_>], object: usize, at: usize) -> Wante
         Wanted::Object
     } else if is_property(tokens, at) {
         Wanted::Property
-    } else if is_behind_has(tokens, object, at) {
+    } else if is_after_has(tokens, object, at) {
         Wanted::Attribute
     } else {
         Wanted::Constant
     }
 }
 
-/// Whether a name is one of the attributes of a `give`: it stands behind an operand, as no name in
+/// Whether a name is one of the attributes of a `give`: it stands after an operand, as no name in
 /// an expression does.
 fn is_given(tokens: &[Token<'_>], at: usize) -> bool {
     let last = if is_sign(tokens, before(at, 1), Sign::Tilde) {
@@ -66,13 +66,13 @@ fn is_given(tokens: &[Token<'_>], at: usize) -> bool {
 /// Whether parentheses that hold an expression stand so far around a name.
 fn is_enclosed(tokens: &[Token<'_>], at: usize, far: usize) -> bool {
     is_sign(tokens, before(at, far), Sign::OpenParenthesis)
-        && is_sign(tokens, behind(at, far), Sign::CloseParenthesis)
+        && is_sign(tokens, after(at, far), Sign::CloseParenthesis)
         && !owns_parentheses(tokens, before(at, far.saturating_add(1)))
 }
 
 /// Whether what stands so far around a name steps it.
 fn is_stepped(tokens: &[Token<'_>], at: usize, far: usize) -> bool {
-    is_step(tokens, before(at, far)) || is_step(tokens, behind(at, far))
+    is_step(tokens, before(at, far)) || is_step(tokens, after(at, far))
 }
 
 /// Whether a value is assigned to a name, which may stand in parentheses, or it is stepped.
@@ -82,7 +82,7 @@ fn is_target(tokens: &[Token<'_>], at: usize) -> bool {
         if is_stepped(tokens, at, far) {
             return true;
         }
-        if is_sign(tokens, behind(at, far), Sign::Assign) {
+        if is_sign(tokens, after(at, far), Sign::Assign) {
             return begins_expression(tokens, before(at, far));
         }
         if !is_enclosed(tokens, at, far) {
@@ -92,19 +92,13 @@ fn is_target(tokens: &[Token<'_>], at: usize) -> bool {
     false
 }
 
-/// Whether a name is the variable of an `objectloop`.
-fn is_loop_variable(tokens: &[Token<'_>], at: usize) -> bool {
-    is_sign(tokens, before(at, 1), Sign::OpenParenthesis)
-        && is_word(tokens, before(at, 2), Word::Objectloop)
-}
-
 /// Whether a name is one of the two of a `read`.
 pub fn is_read(tokens: &[Token<'_>], at: usize) -> bool {
     is_word(tokens, before(at, 1), Word::Read) || is_word(tokens, before(at, 2), Word::Read)
 }
 
 /// What is wanted after the token of a number, if it tells.
-fn wanted_behind(tokens: &[Token<'_>], at: usize) -> Option<Wanted> {
+fn wanted_after(tokens: &[Token<'_>], at: usize) -> Option<Wanted> {
     if is_of(
         tokens,
         at,
@@ -167,7 +161,7 @@ pub fn is_in_case(tokens: &[Token<'_>], at: usize) -> bool {
 /// What is wanted in an expression where a name stands. A variable that cannot stand as a value
 /// stands in a case.
 fn wanted_in_expression(tokens: &[Token<'_>], at: usize, variable: bool) -> Wanted {
-    match wanted_before(tokens, behind(at, 1)) {
+    match wanted_before(tokens, after(at, 1)) {
         Some(wanted) => wanted,
         None => {
             if is_target(tokens, at) {
@@ -186,7 +180,7 @@ pub fn wanted_in_statement(tokens: &[Token<'_>], at: usize, variable: bool) -> W
     if !variable && is_loop_variable(tokens, at) {
         return Wanted::Variable;
     }
-    match wanted_behind(tokens, before(at, 1)) {
+    match wanted_after(tokens, before(at, 1)) {
         Some(wanted) => wanted,
         None => {
             if is_given(tokens, at) {

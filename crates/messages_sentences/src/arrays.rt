@@ -1,8 +1,8 @@
 //! The entry or the size of an array (E28). The tokens are those of a program.
 
 use checker_names::{Known, Table, constant_known, find};
-use messages_contexts::{Defined, behind, is_sign, is_word, kind_at};
-use messages_names::{array_kind, most_entries};
+use messages_contexts::{after, is_sign, is_word, kind_at};
+use messages_names::{Site, array_kind, most_entries};
 use messages_tokens::{Figure, Quoted, some};
 use std::alloc::{AllocError, Global};
 use syntax::{ArrayKind, Kind, Sign, Token, Word};
@@ -30,7 +30,7 @@ fn negative(known: Option<Known>) -> Option<Known> {
 /// What is known of the value that begins with the token of a number.
 fn known_at(tokens: &[Token<'_>], at: usize, table: &Table) -> Option<Known> {
     if is_sign(tokens, at, Sign::Minus) {
-        negative(known_token(tokens, behind(at, 1), table))
+        negative(known_token(tokens, after(at, 1), table))
     } else {
         known_token(tokens, at, table)
     }
@@ -82,63 +82,51 @@ fn entry(alloc: Global, known: Option<Known>) -> Result<Option<String>, AllocErr
 }
 
 /// What is wrong with a number of entries.
-fn size(alloc: Global, name: &[u8], kind: ArrayKind, count: usize) -> Result<String, AllocError> {
-    let name = Quoted(name);
+fn size(site: Site<'_, '_>, kind: ArrayKind, count: usize) -> Result<String, AllocError> {
+    let name = Quoted(site.token.text);
     let count = Figure(count as u128);
     let most = Figure(most_entries(kind) as u128);
     let kind = array_kind(kind);
-    format!(in alloc; "{name} has {count} entries; {kind} has 1 to {most}")
+    format!(in site.alloc; "{name} has {count} entries; {kind} has 1 to {most}")
 }
 
 /// What is wrong with the only value of an array.
 fn only(
-    alloc: Global,
-    name: &[u8],
+    site: Site<'_, '_>,
     kind: ArrayKind,
     known: Option<Known>,
 ) -> Result<Option<String>, AllocError> {
     match known {
-        Some(Known::Number(count)) => some(size(alloc, name, kind, count as usize)),
+        Some(Known::Number(count)) => some(size(site, kind, count as usize)),
         Some(Known::Key(_)) => {
-            let name = Quoted(name);
-            some(format!(in alloc; "the size of {name} is a dictionary word; a number is expected"))
+            let name = Quoted(site.token.text);
+            some(format!(in site.alloc;
+                "the size of {name} is a dictionary word; a number is expected"
+            ))
         }
         None => Ok(None),
     }
 }
 
-/// What is wrong with the number of entries of the array whose name is a token, which has a number.
-fn entries(
-    alloc: Global,
-    tokens: &[Token<'_>],
-    at: usize,
-    name: &[u8],
-    table: &Table,
-) -> Result<Option<String>, AllocError> {
-    let kind = kind_told(tokens, behind(at, 1));
-    let first = behind(at, 2);
-    match values(tokens, first) {
-        1 => only(alloc, name, kind, known_at(tokens, first, table)),
-        count => some(size(alloc, name, kind, count)),
+/// What is wrong with the number of entries of the array whose name is a token.
+fn entries(site: Site<'_, '_>, table: &Table) -> Result<Option<String>, AllocError> {
+    let kind = kind_told(site.tokens, after(site.at, 1));
+    let first = after(site.at, 2);
+    match values(site.tokens, first) {
+        1 => only(site, kind, known_at(site.tokens, first, table)),
+        count => some(size(site, kind, count)),
     }
 }
 
-/// What is wrong with the entry or the size of an array at a token, which has a number.
+/// What is wrong with the entry or the size of an array at a token.
 ///
 /// # Errors
 ///
 /// `AllocError` where memory is refused.
-pub fn bad_array(
-    alloc: Global,
-    tokens: &[Token<'_>],
-    at: usize,
-    token: Token<'_>,
-    around: Option<Defined>,
-    table: &Table,
-) -> Result<Option<String>, AllocError> {
-    match around {
+pub fn bad_array(site: Site<'_, '_>, table: &Table) -> Result<Option<String>, AllocError> {
+    match site.around() {
         None => Ok(None),
-        Some(found) if found.name == at => entries(alloc, tokens, at, token.text, table),
-        Some(_) => entry(alloc, known_at(tokens, at, table)),
+        Some(found) if found.name == site.at => entries(site, table),
+        Some(_) => entry(site.alloc, known_at(site.tokens, site.at, table)),
     }
 }

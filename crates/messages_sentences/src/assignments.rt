@@ -2,19 +2,19 @@
 
 use checker_names::{Binding, Table};
 use messages_contexts::{
-    Defined, Kinds, before, begins_expression, behind, is_name, is_of, is_sign, is_step, is_word,
-    kinds, last_word, open_parenthesis, text_at,
+    Kinds, after, before, begins_expression, is_name, is_of, is_sign, is_step, is_word, kinds,
+    last_word, open_parenthesis, text_at,
 };
-use messages_names::{binding_in, is_variable, kind_of};
+use messages_names::{Site, binding_in, is_variable, kind_of};
 use messages_tokens::Quoted;
-use std::alloc::{AllocError, Global};
+use std::alloc::AllocError;
 use syntax::{Sign, Token, Word};
 
-/// Whether the token of a number steps the one behind it, which ends the statement.
+/// Whether the token of a number steps the one after it, which ends the statement.
 fn steps_next(tokens: &[Token<'_>], at: usize) -> bool {
     is_step(tokens, at)
         && begins_expression(tokens, before(at, 1))
-        && is_sign(tokens, behind(at, 2), Sign::Semicolon)
+        && is_sign(tokens, after(at, 2), Sign::Semicolon)
 }
 
 /// The number of the name to which a token would assign, or which it would step; a number of no
@@ -28,7 +28,7 @@ fn operand(tokens: &[Token<'_>], at: usize) -> usize {
             usize::MAX
         }
     } else if steps_next(tokens, at) {
-        behind(at, 1)
+        after(at, 1)
     } else {
         usize::MAX
     }
@@ -66,7 +66,7 @@ fn steps_part(tokens: &[Token<'_>], at: usize) -> bool {
     const PARTS: Kinds = kinds!(Sign Dot Arrow LongArrow);
     is_step(tokens, at)
         && (is_of(tokens, before(at, 2), PARTS)
-            || is_of(tokens, behind(at, 2), PARTS)
+            || is_of(tokens, after(at, 2), PARTS)
             || is_sign(tokens, before(at, 1), Sign::CloseParenthesis))
 }
 
@@ -91,14 +91,9 @@ fn instead_of_part(tokens: &[Token<'_>], at: usize) -> &'static str {
 }
 
 /// What is wrong with a sign that is not beside a name that is no variable, and what to write.
-fn unnamed(
-    alloc: Global,
-    sign: Token<'_>,
-    wanted: &str,
-    instead: &str,
-) -> Result<String, AllocError> {
-    let written = Quoted(sign.text);
-    format!(in alloc; "{written} needs {wanted}{instead}")
+fn unnamed(site: Site<'_, '_>, wanted: &str, instead: &str) -> Result<String, AllocError> {
+    let written = Quoted(site.token.text);
+    format!(in site.alloc; "{written} needs {wanted}{instead}")
 }
 
 /// What to write where the token of a number changes a name that is no variable.
@@ -114,63 +109,47 @@ fn instead(tokens: &[Token<'_>], at: usize, binding: Option<Binding>) -> &'stati
 
 /// What is wrong with a sign whose operand is a name of some kind, and what to write instead.
 fn misnamed(
-    alloc: Global,
-    sign: Token<'_>,
+    site: Site<'_, '_>,
     wanted: &str,
     name: &[u8],
     kind: &str,
     instead: &str,
 ) -> Result<String, AllocError> {
-    let sign = Quoted(sign.text);
+    let sign = Quoted(site.token.text);
     let name = Quoted(name);
-    format!(in alloc; "{sign} needs {wanted}, but {name} is {kind}{instead}")
+    format!(in site.alloc; "{sign} needs {wanted}, but {name} is {kind}{instead}")
 }
 
-/// What is wrong with an assignment or a step by a token, which has a number.
+/// What is wrong with an assignment or a step by a token.
 ///
 /// # Errors
 ///
 /// `AllocError` where memory is refused.
-pub fn not_assignable(
-    alloc: Global,
-    tokens: &[Token<'_>],
-    at: usize,
-    token: Token<'_>,
-    around: Option<Defined>,
-    table: &Table,
-) -> Result<String, AllocError> {
+pub fn not_assignable(site: Site<'_, '_>, table: &Table) -> Result<String, AllocError> {
+    let (tokens, at) = (site.tokens, site.at);
     let wanted = needed(tokens, at);
     let operand = operand(tokens, at);
     if !is_name(tokens, operand) {
-        return unnamed(alloc, token, wanted, instead_of_part(tokens, at));
+        return unnamed(site, wanted, instead_of_part(tokens, at));
     }
     let name = text_at(tokens, operand);
-    let binding = binding_in(tokens, around, table, name);
+    let binding = binding_in(tokens, site.around(), table, name);
     match fixed_kind(binding) {
-        None => unnamed(alloc, token, wanted, ""),
-        Some(kind) => {
-            misnamed(
-                alloc,
-                token,
-                wanted,
-                name,
-                kind,
-                instead(tokens, at, binding),
-            )
-        }
+        None => unnamed(site, wanted, ""),
+        Some(kind) => misnamed(site, wanted, name, kind, instead(tokens, at, binding)),
     }
 }
 
-/// What is wrong with a `break` or a `continue`, which is the token of a number.
+/// What is wrong with a `break` or a `continue`.
 ///
 /// # Errors
 ///
 /// `AllocError` where memory is refused.
-pub fn outside(alloc: Global, tokens: &[Token<'_>], at: usize) -> Result<String, AllocError> {
-    let sentence = if is_word(tokens, at, Word::Break) {
+pub fn outside(site: Site<'_, '_>) -> Result<String, AllocError> {
+    let sentence = if is_word(site.tokens, site.at, Word::Break) {
         "'break' is not inside a loop or a switch: write 'return' to leave a routine"
     } else {
         "'continue' is not inside a loop: write 'return' to leave a routine"
     };
-    String::from_str(alloc, sentence)
+    String::from_str(site.alloc, sentence)
 }

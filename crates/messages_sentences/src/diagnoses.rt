@@ -1,13 +1,15 @@
 //! The sentence of a diagnosis.
 
-use crate::rules::{Told, at_place, program_sentence};
+use crate::analysis::{Analysis, unless_refused};
+use crate::rules::{at_offset, at_place};
 use meaning::greatest_weight;
-use messages_figures::{Limit, MOST_TABLE_BYTES, greatest_length, measure};
-use messages_places::{Diagnosis, Place};
+use messages_diagnosis::{Limit, MOST_TABLE_BYTES, greatest_length, measure};
+use messages_grammar::Told;
+use messages_parts::{Diagnosis, Place};
 use messages_tokens::{Figure, some, source_sentence};
 use std::alloc::{AllocError, Global};
 use syntax_directives::weight_of;
-use syntax_lexer::{NAME_TOO_LONG, NO_MEMORY, STORY_TOO_LARGE, SourceFault, TABLES_TOO_LARGE, lex};
+use syntax_lexer::{NAME_TOO_LONG, STORY_TOO_LARGE, SourceFault, TABLES_TOO_LARGE};
 use zcore::Version;
 
 /// What is wrong with a source that is refused.
@@ -31,75 +33,39 @@ struct Whole {
 
 /// The figures of a source by a limit. `None` where another rule is broken.
 fn figures_of(alloc: Global, source: &[u8], limit: Limit) -> Result<Option<Whole>, AllocError> {
-    match measure(alloc, source, Version::V8, limit) {
-        Ok(figures) => Ok(Some(Whole {
+    match unless_refused(measure(alloc, source, Version::V8, limit)) {
+        Ok(Some(figures)) => Ok(Some(Whole {
             tables: figures.table_total,
             is_large_story: figures.story.is_ok(),
         })),
-        Err(fault) => {
-            if fault.number == NO_MEMORY {
-                Err(AllocError)
-            } else {
-                Ok(None)
-            }
-        }
-    }
-}
-
-/// What the tokens of a source weigh. `None` where its bytes are none.
-fn weight_of_source(alloc: Global, source: &[u8]) -> Result<Option<u128>, AllocError> {
-    match lex(alloc, source) {
-        Ok(tokens) => Ok(Some(weight_of(&tokens))),
-        Err(fault) => {
-            if fault.number == NO_MEMORY {
-                Err(AllocError)
-            } else {
-                Ok(None)
-            }
-        }
-    }
-}
-
-/// Whether a source of that weight is a story of version 8. To measure one takes longer than to
-/// compile it, so it is not done where the weight says all.
-fn is_large_story(alloc: Global, source: &[u8], weight: u128) -> Result<bool, AllocError> {
-    if weight > greatest_weight(Version::V8) {
-        return Ok(false);
-    }
-    is_story_by(alloc, source, Limit::Weight)
-}
-
-/// Whether a source is a story of version 8 by a limit.
-fn is_story_by(alloc: Global, source: &[u8], limit: Limit) -> Result<bool, AllocError> {
-    match figures_of(alloc, source, limit) {
-        Ok(Some(whole)) => Ok(whole.is_large_story),
-        Ok(None) => Ok(false),
+        Ok(None) => Ok(None),
         Err(refused) => Err(refused),
     }
 }
 
-/// What is wrong with a source of that weight, which is too much for a version.
-fn heavy(
+/// What is said of version 8 where it has room for a source for which another version has none.
+fn but_room(alloc: Global, analysis: &Analysis<'_>) -> Result<&'static str, AllocError> {
+    if matches!(analysis.version, Version::V8) {
+        return Ok("");
+    }
+    match figures_of(alloc, analysis.source, analysis.limit) {
+        Ok(Some(whole)) if whole.is_large_story => Ok(", but -v 8 has room for it"),
+        Ok(_) => Ok(""),
+        Err(refused) => Err(refused),
+    }
+}
+
+/// What is said of version 8 where a source of that weight weighs too much for another one. To
+/// measure it takes longer than to compile it, so it is not done where the weight says all.
+fn but_light(
     alloc: Global,
-    source: &[u8],
-    version: Version,
-    found: u128,
-) -> Result<String, AllocError> {
-    let weight = Figure(found);
-    let most = Figure(greatest_weight(version));
-    let room = match version {
-        Version::V5 => is_large_story(alloc, source, found),
-        Version::V8 => Ok(false),
-    };
-    match room {
-        Ok(true) => format!(in alloc;
-            "the source weighs {weight}; the limit of version 5 is {most}, but -v 8 has room for it"
-        ),
-        Ok(false) => {
-            let number = number_of(version);
-            format!(in alloc; "the source weighs {weight}; the limit of version {number} is {most}")
-        }
-        Err(refused) => Err(refused),
+    analysis: &Analysis<'_>,
+    weight: u128,
+) -> Result<&'static str, AllocError> {
+    if weight > greatest_weight(Version::V8) {
+        Ok("")
+    } else {
+        but_room(alloc, analysis)
     }
 }
 
@@ -111,30 +77,27 @@ fn number_of(version: Version) -> u8 {
     }
 }
 
-/// What is wrong with a source that weighs too much for a version.
-fn too_heavy(alloc: Global, source: &[u8], version: Version) -> Result<Option<String>, AllocError> {
-    match weight_of_source(alloc, source) {
-        Ok(Some(found)) => some(heavy(alloc, source, version, found)),
-        Ok(None) => Ok(None),
+/// What is wrong with a source of that weight, which is too much for its version.
+fn heavy(alloc: Global, analysis: &Analysis<'_>, found: u128) -> Result<String, AllocError> {
+    let weight = Figure(found);
+    let most = Figure(greatest_weight(analysis.version));
+    let number = number_of(analysis.version);
+    match but_light(alloc, analysis, found) {
+        Ok(but) => format!(in alloc;
+            "the source weighs {weight}; the limit of version {number} is {most}{but}"
+        ),
         Err(refused) => Err(refused),
     }
 }
 
-/// What is wrong with a source whose story is longer than packed addresses of a version reach.
-fn long(alloc: Global, source: &[u8], version: Version) -> Result<String, AllocError> {
-    let most = Figure(greatest_length(version) as u128);
-    let room = match version {
-        Version::V5 => is_story_by(alloc, source, Limit::Length),
-        Version::V8 => Ok(false),
-    };
-    match room {
-        Ok(true) => format!(in alloc;
-            "the story has more than {most} bytes, the limit of version 5, but -v 8 has room for it"
+/// What is wrong with a source whose story is longer than packed addresses of its version reach.
+fn long(alloc: Global, analysis: &Analysis<'_>) -> Result<String, AllocError> {
+    let most = Figure(greatest_length(analysis.version) as u128);
+    let number = number_of(analysis.version);
+    match but_room(alloc, analysis) {
+        Ok(but) => format!(in alloc;
+            "the story has more than {most} bytes, the limit of version {number}{but}"
         ),
-        Ok(false) => {
-            let number = number_of(version);
-            format!(in alloc; "the story has more than {most} bytes, the limit of version {number}")
-        }
         Err(refused) => Err(refused),
     }
 }
@@ -154,48 +117,40 @@ fn large_tables(alloc: Global, source: &[u8]) -> Result<Option<String>, AllocErr
     }
 }
 
-/// What is wrong with a source whose story is too large by a limit.
-fn too_large(
+/// What is wrong with a source whose story is too large by its limit.
+fn too_large(alloc: Global, analysis: &Analysis<'_>) -> Result<Option<String>, AllocError> {
+    match (analysis.limit, &analysis.parts) {
+        (Limit::Length, _) => some(long(alloc, analysis)),
+        (Limit::Weight, Some(parts)) => some(heavy(alloc, analysis, weight_of(&parts.tokens))),
+        (Limit::Weight, None) => Ok(None),
+    }
+}
+
+/// What is wrong at an offset, if a sentence is found.
+fn told_at(
     alloc: Global,
-    source: &[u8],
-    version: Version,
-    limit: Limit,
-) -> Result<Option<String>, AllocError> {
-    match limit {
-        Limit::Weight => too_heavy(alloc, source, version),
-        Limit::Length => some(long(alloc, source, version)),
+    analysis: &Analysis<'_>,
+    rule: u8,
+    offset: usize,
+) -> Result<Option<Told>, AllocError> {
+    match (rule, &analysis.parts) {
+        (1..=NAME_TOO_LONG, _) => at_place(source_sentence(alloc, analysis.source, rule, offset)),
+        (_, Some(parts)) => at_offset(alloc, analysis.source, parts, rule, offset),
+        (_, None) => Ok(None),
     }
 }
 
 /// What a diagnosis says, if a sentence is found.
-fn found(
+fn told_of(
     alloc: Global,
-    source: &[u8],
-    version: Version,
-    limit: Limit,
-    diagnosis: &Diagnosis,
+    analysis: &Analysis<'_>,
+    diagnosis: Diagnosis,
 ) -> Result<Option<Told>, AllocError> {
-    let rule = diagnosis.fault.number;
-    match rule {
-        TABLES_TOO_LARGE => at_place(large_tables(alloc, source)),
-        STORY_TOO_LARGE => at_place(too_large(alloc, source, version, limit)),
-        _ => match diagnosis.place {
-            Some(place) => found_at(alloc, source, rule, place.offset),
-            None => Ok(None),
-        },
-    }
-}
-
-/// What the sentence of a rule says at an offset, if one is found.
-fn found_at(
-    alloc: Global,
-    source: &[u8],
-    rule: u8,
-    offset: usize,
-) -> Result<Option<Told>, AllocError> {
-    match rule {
-        1..=NAME_TOO_LONG => at_place(source_sentence(alloc, source, rule, offset)),
-        _ => program_sentence(alloc, source, rule, offset),
+    match (diagnosis.fault.number, diagnosis.place) {
+        (TABLES_TOO_LARGE, _) => at_place(large_tables(alloc, analysis.source)),
+        (STORY_TOO_LARGE, _) => at_place(too_large(alloc, analysis)),
+        (rule, Some(place)) => told_at(alloc, analysis, rule, place.offset),
+        (_, None) => Ok(None),
     }
 }
 
@@ -224,22 +179,20 @@ fn in_words(alloc: Global, diagnosis: Diagnosis) -> Result<Message, AllocError> 
     }
 }
 
-/// What is wrong with a source that a version's compiler refuses by a limit. If no sentence is found, it is the
-/// broken rule in words.
+/// What is wrong with a source that is refused, by one of its diagnoses. If no sentence is found, it
+/// is the broken rule in words.
 ///
 /// # Errors
 ///
 /// `AllocError` where memory is refused.
 pub fn message_of(
     alloc: Global,
-    source: &[u8],
-    version: Version,
-    limit: Limit,
+    analysis: &Analysis<'_>,
     diagnosis: Diagnosis,
 ) -> Result<Message, AllocError> {
-    match found(alloc, source, version, limit, &diagnosis) {
+    match told_of(alloc, analysis, diagnosis) {
         Ok(Some(told)) => {
-            let diagnosis = shown(source, diagnosis, &told);
+            let diagnosis = shown(analysis.source, diagnosis, &told);
             Ok(Message {
                 sentence: told.sentence,
                 diagnosis,

@@ -5,8 +5,9 @@ use messages_contexts::{
     Defined, Definition, before, first_definition, first_given, first_local, is_text, is_word,
     kind_at, line_of,
 };
+use messages_names::Site;
 use messages_tokens::{Counted, Cut, Quoted, some};
-use std::alloc::{AllocError, Global};
+use std::alloc::AllocError;
 use syntax::{Kind, Token, Word};
 
 /// The number of the token where a name stands first, which stands again as the token of a number:
@@ -32,42 +33,29 @@ fn remedy(at: usize, first: usize, around: Defined) -> &'static str {
     }
 }
 
-/// What is wrong with a name that stands first as the token of a number, and again as another.
-fn again(
-    alloc: Global,
-    tokens: &[Token<'_>],
-    at: usize,
-    first: usize,
-    around: Defined,
-    name: &[u8],
-) -> Result<String, AllocError> {
-    let name = Quoted(name);
-    let remedy = remedy(at, first, around);
-    if first == at {
-        return format!(in alloc; "{name} is a built-in property: {remedy}");
+/// What is wrong with a name that stands first as the token of a number, and again as a token.
+fn again(site: Site<'_, '_>, first: usize, around: Defined) -> Result<String, AllocError> {
+    let name = Quoted(site.token.text);
+    let remedy = remedy(site.at, first, around);
+    if first == site.at {
+        return format!(in site.alloc; "{name} is a built-in property: {remedy}");
     }
-    let line = line_of(tokens, first);
-    format!(in alloc; "{name} is already defined in line {line}: {remedy}")
+    let line = line_of(site.tokens, first);
+    format!(in site.alloc; "{name} is already defined in line {line}: {remedy}")
 }
 
-/// What is wrong with a name that stands a second time as a token, which has a number.
+/// What is wrong with a name that stands a second time as a token.
 ///
 /// # Errors
 ///
 /// `AllocError` where memory is refused.
-pub fn defined_twice(
-    alloc: Global,
-    tokens: &[Token<'_>],
-    at: usize,
-    token: Token<'_>,
-    around: Option<Defined>,
-) -> Result<Option<String>, AllocError> {
-    let Some(found) = around else {
+pub fn defined_twice(site: Site<'_, '_>) -> Result<Option<String>, AllocError> {
+    let Some(found) = site.around() else {
         return Ok(None);
     };
-    match first_of(tokens, at, found, token.text) {
+    match first_of(site.tokens, site.at, found, site.token.text) {
         None => Ok(None),
-        Some(first) => some(again(alloc, tokens, at, first, found, token.text)),
+        Some(first) => some(again(site, first, found)),
     }
 }
 
@@ -95,40 +83,30 @@ fn abbreviated_before(tokens: &[Token<'_>], at: usize, bytes: &[u8]) -> Option<u
     None
 }
 
-/// What is wrong with an abbreviation of some bytes, a token that has a number.
-fn abbreviation(
-    alloc: Global,
-    tokens: &[Token<'_>],
-    at: usize,
-    token: Token<'_>,
-    bytes: &[u8],
-) -> Result<Option<String>, AllocError> {
-    let written = Cut(token.text);
+/// What is wrong with an abbreviation of some bytes.
+fn abbreviation(site: Site<'_, '_>, bytes: &[u8]) -> Result<Option<String>, AllocError> {
+    let written = Cut(site.token.text);
     if bytes.len() < 2 {
         let bytes = Counted(bytes.len() as u128, "byte");
-        return some(format!(in alloc; "{written} has {bytes}; an abbreviation has two or more"));
+        return some(format!(in site.alloc;
+            "{written} has {bytes}; an abbreviation has two or more"
+        ));
     }
-    let Some(first) = abbreviated_before(tokens, at, bytes) else {
+    let Some(first) = abbreviated_before(site.tokens, site.at, bytes) else {
         return Ok(None);
     };
-    let line = line_of(tokens, first);
-    some(format!(in alloc; "{written} is already an abbreviation in line {line}"))
+    let line = line_of(site.tokens, first);
+    some(format!(in site.alloc; "{written} is already an abbreviation in line {line}"))
 }
 
-/// What is wrong with an abbreviation, a token that has a number. `None` where it is no text, or
-/// nothing is wrong.
+/// What is wrong with an abbreviation. `None` where it is no text, or nothing is wrong.
 ///
 /// # Errors
 ///
 /// `AllocError` where memory is refused.
-pub fn bad_abbreviation(
-    alloc: Global,
-    tokens: &[Token<'_>],
-    at: usize,
-    token: Token<'_>,
-) -> Result<Option<String>, AllocError> {
-    match token.kind {
-        Kind::Text(bytes) => abbreviation(alloc, tokens, at, token, bytes),
+pub fn bad_abbreviation(site: Site<'_, '_>) -> Result<Option<String>, AllocError> {
+    match site.token.kind {
+        Kind::Text(bytes) => abbreviation(site, bytes),
         _ => Ok(None),
     }
 }

@@ -2,16 +2,17 @@
 //! the first.
 #![tactic(auto)]
 
+mod analysis;
 mod arguments;
 mod arrays;
 mod assignments;
 mod diagnoses;
 mod duplicates;
-mod further;
+mod faults_after;
 mod limits;
-mod programs;
 mod rules;
 mod weights;
 
+pub use analysis::Analysis;
 pub use diagnoses::{Message, message_of};
-pub use further::{Further, MOST_SHOWN, MOST_TOKENS, further_rules};
+pub use faults_after::{MOST_TOKENS, NextFault, fault_after};

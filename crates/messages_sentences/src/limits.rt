@@ -1,16 +1,17 @@
 //! Too many of something (E24, E29). The tokens are those of a program.
 
 use crate::duplicates::is_abbreviation;
-use crate::programs::temporaries_of;
 use meaning::limits::{
     MOST_ARGUMENTS, MOST_GLOBALS, MOST_OBJECTS, MOST_PROPERTIES, MOST_PROPERTY_WORDS,
     MOST_TEMPORARIES,
 };
 use meaning::name_words;
 use messages_contexts::{Defined, Definition, ends_within};
+use messages_diagnosis::temporaries_at;
+use messages_names::Site;
 use messages_tokens::{Figure, some};
 use std::alloc::{AllocError, Global};
-use syntax::{Kind, Token};
+use syntax::{Kind, Program, Token};
 use zcore::MOST_ABBREVIATIONS;
 use zcore::layout::{ATTRIBUTE_COUNT, LONGEST_SHORT_NAME, MOST_LOCALS};
 
@@ -33,7 +34,7 @@ fn definitions(what: Definition) -> Option<Limit> {
     }
 }
 
-/// The limit that is passed at the token of a number behind the name of a definition.
+/// The limit that is passed at the token of a number after the name of a definition.
 fn within(tokens: &[Token<'_>], at: usize, around: Defined) -> Option<Limit> {
     match around.what {
         Definition::Object => Some((MOST_PROPERTY_WORDS, "words of a property: use a second one")),
@@ -48,17 +49,12 @@ fn within(tokens: &[Token<'_>], at: usize, around: Defined) -> Option<Limit> {
     }
 }
 
-/// The limit that is passed at the token of a number.
-fn passed(tokens: &[Token<'_>], at: usize, around: Option<Defined>) -> Option<Limit> {
-    match around {
+/// The limit that is passed at a token.
+fn passed(site: Site<'_, '_>) -> Option<Limit> {
+    match site.around() {
         None => None,
-        Some(found) => {
-            if found.name == at {
-                definitions(found.what)
-            } else {
-                within(tokens, at, found)
-            }
-        }
+        Some(found) if found.name == site.at => definitions(found.what),
+        Some(found) => within(site.tokens, site.at, found),
     }
 }
 
@@ -81,28 +77,19 @@ fn beyond(alloc: Global, limit: Option<Limit>) -> Result<Option<String>, AllocEr
     }
 }
 
-/// What there is too much of at a token, which has a number. A text there that is no abbreviation
-/// is a short name.
+/// What there is too much of at a token. A text there that is no abbreviation is a short name.
 ///
 /// # Errors
 ///
 /// `AllocError` where memory is refused.
-pub fn too_many(
-    alloc: Global,
-    tokens: &[Token<'_>],
-    at: usize,
-    token: Token<'_>,
-    around: Option<Defined>,
-) -> Result<Option<String>, AllocError> {
-    if is_abbreviation(tokens, at) {
-        return beyond(
-            alloc,
-            Some((MOST_ABBREVIATIONS, "abbreviations: leave one out")),
-        );
+pub fn too_many(site: Site<'_, '_>) -> Result<Option<String>, AllocError> {
+    if is_abbreviation(site.tokens, site.at) {
+        let limit = (MOST_ABBREVIATIONS, "abbreviations: leave one out");
+        return beyond(site.alloc, Some(limit));
     }
-    match token.kind {
-        Kind::Text(text) => long_name(alloc, text),
-        _ => beyond(alloc, passed(tokens, at, around)),
+    match site.token.kind {
+        Kind::Text(text) => long_name(site.alloc, text),
+        _ => beyond(site.alloc, passed(site)),
     }
 }
 
@@ -119,14 +106,9 @@ fn needs_many(alloc: Global, number: u8) -> Result<String, AllocError> {
 /// # Errors
 ///
 /// `AllocError` where memory is refused.
-pub fn too_large(
-    alloc: Global,
-    tokens: &[Token<'_>],
-    token: Token<'_>,
-) -> Result<Option<String>, AllocError> {
-    match temporaries_of(alloc, tokens, token.position.offset) {
-        Err(refused) => Err(refused),
-        Ok(None) => Ok(None),
-        Ok(Some(number)) => some(needs_many(alloc, number)),
+pub fn too_large(site: Site<'_, '_>, program: &Program<'_>) -> Result<Option<String>, AllocError> {
+    match temporaries_at(program, site.token.position.offset) {
+        None => Ok(None),
+        Some(number) => some(needs_many(site.alloc, number)),
     }
 }

@@ -2,8 +2,9 @@
 
 use meaning::limits::GREATEST_ROUTINE_WEIGHT;
 use messages_contexts::{before, is_sign, kind_at};
+use messages_names::Site;
 use messages_tokens::{Figure, Quoted};
-use std::alloc::{AllocError, Global};
+use std::alloc::AllocError;
 use syntax::{Kind, Sign, Token};
 
 /// What the token of a number weighs: 32, and 3 for each byte between the quotes of a text.
@@ -31,14 +32,9 @@ fn weight(tokens: &[Token<'_>], first: usize) -> u128 {
 /// # Errors
 ///
 /// `AllocError` where memory is refused.
-pub fn too_heavy(
-    alloc: Global,
-    tokens: &[Token<'_>],
-    at: usize,
-    token: Token<'_>,
-) -> Result<String, AllocError> {
-    let name = Quoted(token.text);
-    let weight = Figure(weight(tokens, before(at, 1)).saturating_add(32));
+pub fn too_heavy(site: Site<'_, '_>) -> Result<String, AllocError> {
+    let name = Quoted(site.token.text);
+    let weight = Figure(weight(site.tokens, before(site.at, 1)).saturating_add(32));
     let most = Figure(GREATEST_ROUTINE_WEIGHT);
-    format!(in alloc; "the routine {name} weighs {weight}; the limit is {most}: split it")
+    format!(in site.alloc; "the routine {name} weighs {weight}; the limit is {most}: split it")
 }

@@ -1,13 +1,24 @@
-//! What is wrong with a byte or a token of a source, in a sentence.
+//! What is wrong with a byte or a token of a source, in a sentence, and what is expected in the
+//! place of a token that does not fit.
 #![tactic(auto)]
 
+mod fitting;
+mod groups;
+mod kinds;
+mod laws;
 mod numbers;
 mod quoted;
 mod runs;
 mod sentence;
 mod told;
+mod words;
 mod written;
 
+pub use fitting::expected;
+pub use groups::{Group, Grouped, in_groups};
+pub use kinds::TokenKind;
+pub use laws::one_place;
 pub use sentence::source_sentence;
 pub use told::some;
+pub use words::{Expected, RESERVED_WORDS};
 pub use written::{Counted, Cut, Figure, Met, Quoted};

@@ -2,7 +2,7 @@
 
 use crate::runs::{Class, byte_of_line, from, front, run_length};
 use crate::told::some;
-use messages_features::{ACCENTS, APOSTROPHES, Absent};
+use messages_parts::{ACCENTS, APOSTROPHES, Absent};
 use std::alloc::{AllocError, Global};
 
 /// What is wrong with a text that is not closed, where so many quotes are before it in its line.

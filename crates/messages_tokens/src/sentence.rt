@@ -5,7 +5,7 @@ use crate::quoted::{misplaced, quoted};
 use crate::runs::{Class, from, front, run_length};
 use crate::told::some;
 use crate::written::Quoted;
-use messages_features::{
+use messages_parts::{
     Absent, CONDITIONS, DIRECTIVE_SIGN, Feature, LIBRARY, OPCODES, habit_at_beginning,
     named_as_directive,
 };

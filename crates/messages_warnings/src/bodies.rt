@@ -1,7 +1,7 @@
 //! Conditions that nothing but a `;` follows.
 
 use crate::marks::{Concern, Marks};
-use messages_contexts::{before, behind, closes_after, is_sign, is_word};
+use messages_contexts::{after, before, closes_after, is_sign, is_word};
 use syntax_lexer::{Sign, Token, Word};
 
 /// What is said of the `;` that is the token of a number: it is all of an `if` that has no `else`, or
@@ -9,7 +9,7 @@ use syntax_lexer::{Sign, Token, Word};
 /// together take time linear in the source.
 fn concern_of(tokens: &[Token<'_>], at: usize) -> Option<Concern> {
     let last = before(at, 1);
-    let has_else = is_word(tokens, behind(at, 1), Word::Else);
+    let has_else = is_word(tokens, after(at, 1), Word::Else);
     if closes_after(tokens, last, Word::If) && !has_else {
         Some(Concern::EmptyIf)
     } else if closes_after(tokens, last, Word::While) {

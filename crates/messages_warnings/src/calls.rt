@@ -1,7 +1,7 @@
 //! The parentheses of a program, and how many arguments its calls have.
 
 use crate::numbers::{no_numbers, number_at, put_number};
-use messages_contexts::{before, behind, is_sign};
+use messages_contexts::{after, before, is_sign};
 use std::alloc::{AllocError, Global};
 use syntax_lexer::{Sign, Token};
 
@@ -24,7 +24,7 @@ pub struct Calls {
 
 /// How many arguments are in a parenthesis that ends with the token of a number.
 fn argument_count(open: Open, end: usize) -> usize {
-    if behind(open.at, 1) == end {
+    if after(open.at, 1) == end {
         0
     } else {
         open.commas.saturating_add(1)

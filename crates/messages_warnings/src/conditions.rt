@@ -1,7 +1,7 @@
 //! Conditions that are assignments.
 
 use crate::marks::{Concern, Marks};
-use messages_contexts::{behind, is_of, is_sign, is_word, kinds};
+use messages_contexts::{after, is_of, is_sign, is_word, kinds, open_after};
 use syntax_lexer::{Sign, Token, Word};
 
 /// Whether a condition in parentheses follows the token of a number.
@@ -9,23 +9,12 @@ fn has_condition(tokens: &[Token<'_>], at: usize) -> bool {
     is_of(tokens, at, kinds!(Word If While Until))
 }
 
-/// How many parentheses are open after the token of a number, where so many were before it.
-fn open_behind(tokens: &[Token<'_>], at: usize, open: usize) -> usize {
-    if is_sign(tokens, at, Sign::OpenParenthesis) {
-        open.saturating_add(1)
-    } else if is_sign(tokens, at, Sign::CloseParenthesis) {
-        open.saturating_sub(1)
-    } else {
-        open
-    }
-}
-
 /// Marks the first `=` that is in the parenthesis of a number, in no other, and after so many `:`.
 fn mark_in(tokens: &[Token<'_>], opening: usize, colons: usize, marks: &mut Marks) {
     let mut open: usize = 0;
     let mut passed: usize = 0;
     for at in opening..tokens.len() {
-        open = open_behind(tokens, at, open);
+        open = open_after(tokens, at, open);
         if open == 0 {
             return;
         }
@@ -44,9 +33,9 @@ fn mark_in(tokens: &[Token<'_>], opening: usize, colons: usize, marks: &mut Mark
 pub fn mark_conditions(tokens: &[Token<'_>], marks: &mut Marks) {
     for at in 0..tokens.len() {
         if has_condition(tokens, at) {
-            mark_in(tokens, behind(at, 1), 0, marks);
+            mark_in(tokens, after(at, 1), 0, marks);
         } else if is_word(tokens, at, Word::For) {
-            mark_in(tokens, behind(at, 1), 1, marks);
+            mark_in(tokens, after(at, 1), 1, marks);
         }
     }
 }

@@ -5,7 +5,7 @@ use crate::numbers::{NONE, has_flag, number_at, set_flag};
 use crate::routines::Routine;
 use crate::statements::{begins_in_list, is_case};
 use messages_contexts::{
-    Kinds, before, behind, is_name, is_named, is_of, is_sign, is_word, kind_at, kinds,
+    Kinds, after, before, is_name, is_named, is_of, is_sign, is_word, kind_at, kinds,
 };
 use std::alloc::{AllocError, Global};
 use syntax_lexer::{Kind, Sign, Token, Word};
@@ -34,9 +34,12 @@ pub struct Groups {
     letters: Vec<Letter>,
 }
 
-/// What is known of the tokens: where each name is defined, and where parentheses open.
+/// The tokens of a program, and what is known of them: where each name is defined, and where
+/// parentheses open.
 #[derive(Clone, Copy)]
-pub struct Context<'c> {
+pub struct Context<'c, 'a> {
+    pub alloc: Global,
+    pub tokens: &'c [Token<'a>],
     pub meant: &'c [usize],
 
     /// For each `)` the number of its `(`.
@@ -99,18 +102,12 @@ fn subject_of(tokens: &[Token<'_>], openings: &[usize], last: usize) -> usize {
 }
 
 /// The group of what is compared: its last token has a number, and so has the operator.
-fn group_of(
-    tokens: &[Token<'_>],
-    context: Context<'_>,
-    last: usize,
-    operator: usize,
-    groups: &mut Groups,
-) -> usize {
-    let subject = subject_of(tokens, context.openings, last);
-    if !is_name(tokens, subject) {
+fn group_of(context: Context<'_, '_>, last: usize, operator: usize, groups: &mut Groups) -> usize {
+    let subject = subject_of(context.tokens, context.openings, last);
+    if !is_name(context.tokens, subject) {
         return operator;
     }
-    if is_named(tokens, subject, NAME) {
+    if is_named(context.tokens, subject, NAME) {
         set_flag(&mut groups.has_words, operator);
     }
     match number_at(context.meant, subject) {
@@ -129,16 +126,16 @@ fn is_compared(tokens: &[Token<'_>], at: usize, last: usize) -> bool {
 
 /// Takes the values in a routine with which something is compared by `==` and `~=`.
 fn take_compared(
-    tokens: &[Token<'_>],
-    context: Context<'_>,
+    context: Context<'_, '_>,
     routine: Routine,
     groups: &mut Groups,
 ) -> Result<(), AllocError> {
+    let tokens = context.tokens;
     let mut group = NONE;
     let mut last = NONE;
     for at in routine.body..routine.end {
         if is_of(tokens, at, EQUALITIES) {
-            group = group_of(tokens, context, before(at, 1), at, groups);
+            group = group_of(context, before(at, 1), at, groups);
         } else if is_compared(tokens, at, last) {
             let Ok(()) = groups.take(tokens, at, group) else {
                 return Err(AllocError);
@@ -150,16 +147,12 @@ fn take_compared(
 }
 
 /// The group of the values of a `switch` whose `{` has a number; [`NONE`] where that begins a block.
-fn group_of_block(
-    tokens: &[Token<'_>],
-    context: Context<'_>,
-    brace: usize,
-    groups: &mut Groups,
-) -> usize {
+fn group_of_block(context: Context<'_, '_>, brace: usize, groups: &mut Groups) -> usize {
+    let tokens = context.tokens;
     let close = before(brace, 1);
     let switch = before(number_at(context.openings, close), 1);
     if is_sign(tokens, close, Sign::CloseParenthesis) && is_word(tokens, switch, Word::Switch) {
-        group_of(tokens, context, before(close, 1), switch, groups)
+        group_of(context, before(close, 1), switch, groups)
     } else {
         NONE
     }
@@ -167,20 +160,19 @@ fn group_of_block(
 
 /// Takes the values of the cases in a routine.
 fn take_cases(
-    alloc: Global,
-    tokens: &[Token<'_>],
-    context: Context<'_>,
+    context: Context<'_, '_>,
     routine: Routine,
     groups: &mut Groups,
 ) -> Result<(), AllocError> {
-    let mut blocks = Vec::new(alloc);
+    let tokens = context.tokens;
+    let mut blocks = Vec::new(context.alloc);
     let mut in_case = false;
     for at in routine.body..routine.end {
         if begins_in_list(tokens, at) {
             in_case = is_case(tokens, at);
         }
         if is_sign(tokens, at, Sign::OpenBrace) {
-            let Ok(()) = blocks.push(group_of_block(tokens, context, at, groups)) else {
+            let Ok(()) = blocks.push(group_of_block(context, at, groups)) else {
                 return Err(AllocError);
             };
         } else if is_sign(tokens, at, Sign::CloseBrace) {
@@ -196,10 +188,10 @@ fn take_cases(
 }
 
 /// Notes the arrays of words that `read` fills.
-fn note_read(tokens: &[Token<'_>], context: Context<'_>, routine: Routine, groups: &mut Groups) {
+fn note_read(context: Context<'_, '_>, routine: Routine, groups: &mut Groups) {
     for at in routine.body..routine.end {
-        if is_word(tokens, at, Word::Read) {
-            let array = number_at(context.meant, behind(at, 2));
+        if is_word(context.tokens, at, Word::Read) {
+            let array = number_at(context.meant, after(at, 2));
             set_flag(&mut groups.has_words, array);
         }
     }
@@ -211,17 +203,15 @@ fn note_read(tokens: &[Token<'_>], context: Context<'_>, routine: Routine, group
 ///
 /// `AllocError` where memory is refused.
 pub fn take_routine(
-    alloc: Global,
-    tokens: &[Token<'_>],
-    context: Context<'_>,
+    context: Context<'_, '_>,
     routine: Routine,
     groups: &mut Groups,
 ) -> Result<(), AllocError> {
-    note_read(tokens, context, routine, groups);
-    let Ok(()) = take_compared(tokens, context, routine, groups) else {
+    note_read(context, routine, groups);
+    let Ok(()) = take_compared(context, routine, groups) else {
         return Err(AllocError);
     };
-    take_cases(alloc, tokens, context, routine, groups)
+    take_cases(context, routine, groups)
 }
 
 /// Whether the values of an array or of a property begin after the token of a number.
@@ -244,7 +234,7 @@ pub fn take_definitions(
     for at in first..end {
         if begins_list(tokens, at) {
             group = at;
-            if is_named(tokens, behind(at, 1), NAME) {
+            if is_named(tokens, after(at, 1), NAME) {
                 set_flag(&mut groups.has_words, at);
             }
         } else if is_sign(tokens, at, Sign::Semicolon) {

@@ -1,7 +1,7 @@
 //! The loops around a place.
 
 use crate::numbers::NONE;
-use messages_contexts::{behind, is_word, kind_at};
+use messages_contexts::{after, is_word, kind_at};
 use std::alloc::{AllocError, Global};
 use syntax_lexer::{Kind, Sign, Token, Word};
 
@@ -24,9 +24,9 @@ enum Unended {
     Do,
 }
 
-/// The statements around a place, and the loops among them.
+/// The statements that are open at a place, and the loops among them.
 #[derive(Drop)]
-pub struct Around {
+pub struct OpenStatements {
     unended: Vec<Unended>,
 
     /// How many of them are loops.
@@ -36,10 +36,10 @@ pub struct Around {
     pub outermost: usize,
 }
 
-impl Around {
-    /// Outside of all routines.
-    pub fn none(alloc: Global) -> Around {
-        Around {
+impl OpenStatements {
+    /// None, outside of all routines.
+    pub fn none(alloc: Global) -> OpenStatements {
+        OpenStatements {
             unended: Vec::new(alloc),
             loops: 0,
             outermost: NONE,
@@ -57,7 +57,7 @@ impl Around {
     }
 
     /// The last statement ends.
-    fn leave(&mut self) {
+    fn end_last(&mut self) {
         if let Some(Unended::Loop) = self.unended.pop() {
             self.loops = self.loops.saturating_sub(1);
             if self.loops == 0 {
@@ -93,7 +93,7 @@ impl Around {
             if self.goes_on(has_else) {
                 return;
             }
-            self.leave();
+            self.end_last();
         }
     }
 
@@ -117,7 +117,7 @@ impl Around {
         match sign {
             Sign::OpenBrace => self.unended.push(Unended::Block)?,
             Sign::CloseBrace => {
-                self.leave();
+                self.end_last();
                 self.end(has_else);
             }
             Sign::Semicolon => self.end(has_else),
@@ -134,7 +134,7 @@ impl Around {
     pub fn take(&mut self, tokens: &[Token<'_>], at: usize) -> Result<(), AllocError> {
         match kind_at(tokens, at) {
             Kind::Reserved(word) => self.take_word(word, at),
-            Kind::Sign(sign) => self.take_sign(sign, is_word(tokens, behind(at, 1), Word::Else)),
+            Kind::Sign(sign) => self.take_sign(sign, is_word(tokens, after(at, 1), Word::Else)),
             _ => Ok(()),
         }
     }

@@ -2,7 +2,7 @@
 
 use crate::numbers::{NONE, no_numbers, number_at, put_number};
 use crate::routines::Routine;
-use messages_contexts::{behind, defined_at, is_name, is_named, text_at};
+use messages_contexts::{after, defined_at, is_name, is_named, text_at};
 use std::alloc::{AllocError, Global};
 use syntax_lexer::Token;
 
@@ -64,7 +64,7 @@ fn definition_of(tokens: &[Token<'_>], definitions: &Definitions, text: &[u8]) -
 
 /// The token where a local of a routine is defined; [`NONE`] where the routine has none of this name.
 fn local_of(tokens: &[Token<'_>], routine: Routine, text: &[u8]) -> usize {
-    for number in behind(routine.name, 1)..routine.body {
+    for number in after(routine.name, 1)..routine.body {
         if is_name(tokens, number) && is_named(tokens, number, text) {
             return number;
         }
@@ -74,7 +74,7 @@ fn local_of(tokens: &[Token<'_>], routine: Routine, text: &[u8]) -> usize {
 
 /// Gives the locals in a routine their meaning: they hide names of the file.
 fn mean_locals(tokens: &[Token<'_>], routine: Routine, meant: &mut [usize]) {
-    for at in behind(routine.name, 1)..routine.end {
+    for at in after(routine.name, 1)..routine.end {
         if is_name(tokens, at) {
             let local = local_of(tokens, routine, text_at(tokens, at));
             if local != NONE {

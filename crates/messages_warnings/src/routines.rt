@@ -1,7 +1,7 @@
 //! The routines of a program.
 
 use crate::numbers::NONE;
-use messages_contexts::{behind, is_sign};
+use messages_contexts::{after, is_sign};
 use std::alloc::{AllocError, Global};
 use syntax_lexer::{Sign, Token};
 
@@ -31,11 +31,11 @@ pub fn routines_of(alloc: Global, tokens: &[Token<'_>]) -> Result<Vec<Routine>, 
     };
     for at in 0..tokens.len() {
         if is_sign(tokens, at, Sign::OpenBracket) {
-            routine.name = behind(at, 1);
+            routine.name = after(at, 1);
             routine.body = NONE;
         } else if routine.body == NONE {
             if is_sign(tokens, at, Sign::Semicolon) {
-                routine.body = behind(at, 1);
+                routine.body = after(at, 1);
             }
         } else if is_sign(tokens, at, Sign::CloseBracket) {
             routine.end = at;

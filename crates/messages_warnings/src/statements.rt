@@ -1,6 +1,6 @@
 //! Where statements begin, as the tokens tell.
 
-use messages_contexts::{Kinds, before, behind, is_of, kinds};
+use messages_contexts::{Kinds, after, before, is_of, kinds};
 use syntax_lexer::Token;
 
 /// Whether a statement of a list begins with the token of a number, or a case does.
@@ -19,5 +19,5 @@ pub fn is_case(tokens: &[Token<'_>], at: usize) -> bool {
     );
     is_of(tokens, at, kinds!(Sign Minus, Word Default))
         || is_of(tokens, at, VALUES)
-            && is_of(tokens, behind(at, 1), kinds!(Sign Comma Colon, Word To))
+            && is_of(tokens, after(at, 1), kinds!(Sign Comma Colon, Word To))
 }

@@ -4,7 +4,7 @@ use crate::marks::{Concern, Marks};
 use crate::numbers::{NONE, number_at};
 use crate::routines::Routine;
 use crate::uses::FirstUse;
-use messages_contexts::{Definition, behind, defined_at, is_named};
+use messages_contexts::{Definition, after, defined_at, is_named};
 use syntax_lexer::Token;
 
 /// The name of the routine that the story calls.
@@ -48,8 +48,8 @@ pub fn mark_locals(
     most_arguments: &[usize],
     marks: &mut Marks,
 ) {
-    let first = behind(routine.name, 1);
-    let set = behind(first, number_at(most_arguments, routine.name));
+    let first = after(routine.name, 1);
+    let set = after(first, number_at(most_arguments, routine.name));
     let is_called = first_use(uses, routine.name).is_some();
     for local in first..routine.body.saturating_sub(1) {
         match first_use(uses, local) {

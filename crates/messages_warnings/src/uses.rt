@@ -1,11 +1,11 @@
 //! Where names are used first.
 
-use crate::loops::Around;
+use crate::loops::OpenStatements;
 use crate::numbers::{NONE, number_at};
 use crate::routines::Routine;
-use messages_contexts::{before, behind, is_sign, is_step, is_word};
+use messages_contexts::{after, before, is_loop_variable, is_sign, is_step};
 use std::alloc::{AllocError, Global};
-use syntax_lexer::{Sign, Token, Word};
+use syntax_lexer::{Sign, Token};
 
 /// The first use of a name.
 #[derive(Clone, Copy)]
@@ -23,22 +23,16 @@ pub struct FirstUse {
 /// Whether a value is assigned to an operand from one token to another, or it is stepped. Steps
 /// count as assignments: to count from 0 on is no mistake.
 fn is_changed(tokens: &[Token<'_>], first: usize, last: usize) -> bool {
-    is_sign(tokens, behind(last, 1), Sign::Assign)
-        || is_step(tokens, behind(last, 1))
+    is_sign(tokens, after(last, 1), Sign::Assign)
+        || is_step(tokens, after(last, 1))
         || is_step(tokens, before(first, 1))
-}
-
-/// Whether a name is the variable of an `objectloop`.
-fn is_loop_variable(tokens: &[Token<'_>], at: usize) -> bool {
-    is_sign(tokens, before(at, 1), Sign::OpenParenthesis)
-        && is_word(tokens, before(at, 2), Word::Objectloop)
 }
 
 /// Whether a name is in parentheses of its own that are changed.
 fn is_changed_in_parentheses(tokens: &[Token<'_>], at: usize) -> bool {
     is_sign(tokens, before(at, 1), Sign::OpenParenthesis)
-        && is_sign(tokens, behind(at, 1), Sign::CloseParenthesis)
-        && is_changed(tokens, before(at, 1), behind(at, 1))
+        && is_sign(tokens, after(at, 1), Sign::CloseParenthesis)
+        && is_changed(tokens, before(at, 1), after(at, 1))
 }
 
 /// Whether the token of a number is a variable that is set there.
@@ -69,14 +63,14 @@ fn note_body(
     routine: Routine,
     uses: &mut [FirstUse],
 ) -> Result<(), AllocError> {
-    let mut around = Around::none(alloc);
+    let mut open = OpenStatements::none(alloc);
     for at in routine.body..routine.end {
-        let Ok(()) = around.take(tokens, at) else {
+        let Ok(()) = open.take(tokens, at) else {
             return Err(AllocError);
         };
         let meaning = number_at(meant, at);
         if meaning < uses.len() && meaning != routine.name {
-            note(&mut uses[meaning], at, around.outermost, sets(tokens, at));
+            note(&mut uses[meaning], at, open.outermost, sets(tokens, at));
         }
     }
     Ok(())

@@ -17,13 +17,9 @@ use std::alloc::{AllocError, Global};
 use syntax_lexer::Token;
 
 /// The values in groups, among which characters are likely to be words.
-fn groups_of(
-    alloc: Global,
-    tokens: &[Token<'_>],
-    context: Context<'_>,
-    routines: &[Routine],
-) -> Result<Groups, AllocError> {
-    let Ok(mut groups) = Groups::none(alloc, tokens.len()) else {
+fn groups_of(context: Context<'_, '_>, routines: &[Routine]) -> Result<Groups, AllocError> {
+    let tokens = context.tokens;
+    let Ok(mut groups) = Groups::none(context.alloc, tokens.len()) else {
         return Err(AllocError);
     };
     let mut end = 0;
@@ -31,7 +27,7 @@ fn groups_of(
         let Ok(()) = take_definitions(tokens, end, routine.name, &mut groups) else {
             return Err(AllocError);
         };
-        let Ok(()) = take_routine(alloc, tokens, context, *routine, &mut groups) else {
+        let Ok(()) = take_routine(context, *routine, &mut groups) else {
             return Err(AllocError);
         };
         end = routine.end;
@@ -67,10 +63,12 @@ fn marks_of(alloc: Global, tokens: &[Token<'_>]) -> Result<Marks, AllocError> {
         mark_locals(*routine, &uses, &calls.most_arguments, &mut marks);
     }
     let context = Context {
+        alloc,
+        tokens,
         meant: &meant,
         openings: &calls.openings,
     };
-    match groups_of(alloc, tokens, context, &routines) {
+    match groups_of(context, &routines) {
         Ok(groups) => {
             groups.mark(&mut marks);
             Ok(marks)

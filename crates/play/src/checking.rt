@@ -3,12 +3,12 @@
 use crate::names::shown_mark;
 use crate::unread::{Unread, regular_story};
 use crate::{broken, refuse};
-use command_lines::play::{Format, place_of};
-use one_line::OneLine;
 use session::{LoadFault, RunFault};
 use std::io;
 use std::process::ExitCode;
 use survey::{Brief, Columns, Contents, Mode, Survey};
+use terminal::OneLine;
+use terminal::play::{Format, place_of};
 
 /// The status of a story that does not load.
 const REFUSED: u8 = 1;

@@ -11,7 +11,7 @@ mod standing;
 mod terminal;
 mod unread;
 
-ghost use Rattle.command_lines.specs.Range.{IsInRange};
+ghost use Rattle.terminal.specs.Range.{IsInRange};
 
 use crate::checking::{check, take_mode};
 use crate::names::{given_words, has_marked};
@@ -19,16 +19,15 @@ use crate::place::{Placed, map_in, rows_in};
 use crate::reading::read_story;
 use crate::screen::Screen;
 use crate::terminal::Transcript;
-use command_lines::play::{Asked, Words, take_format, words_of};
 use map_text::Row;
 use messages_explanations::Program;
-use one_line::OneLine;
 use session::{Mode, Place, RunFault, Session, run, status};
 use std::fmt::Display;
 use std::fs::File;
 use std::io::{self, IsTerminal, Write};
 use std::process::ExitCode;
-use wrapping::Wrapped;
+use terminal::play::{Asked, Words, take_format, words_of};
+use terminal::{OneLine, Wrapped};
 
 /// The exit status where the story cannot be played.
 const REFUSED: u8 = 1;

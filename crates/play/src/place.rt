@@ -3,13 +3,13 @@
 use crate::refuse;
 use crate::standing::Standing;
 use map_text::{MapFault, Row, heading, read_map, row_at};
-use one_line::OneLine;
 use session::{Mode, Place, Session};
 use std::alloc::Global;
 use std::fmt;
 use std::fs::File;
 use std::io::{self, Read};
 use std::process::ExitCode;
+use terminal::OneLine;
 
 /// The most bytes of a map: 64 MB.
 const MOST_BYTES: usize = 67_108_864;

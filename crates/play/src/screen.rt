@@ -2,10 +2,10 @@
 
 ghost use Rattle.std.specs.Prelude.{◌≡◌};
 
-use one_line::Lines;
 use std::alloc::Global;
 use std::io::{self, Write};
 use std::str;
+use terminal::Lines;
 
 /// A writer that passes on what it is given. To a terminal it shows characters that would turn the
 /// direction of what is written, or hide in it, by their numbers.

@@ -33,8 +33,8 @@ use Rattle.checker.specs.Laws.{AcceptedPrograms, PrintablePrograms}
 use Rattle.code.specs.HeldProgram.{sizes_of}
 use Rattle.code.specs.Laws.{CodePlays}
 use Rattle.meaning.specs.Plays.{Plays}
-use Rattle.story_sizes.specs.Laws.{SmallSourcesHaveSmallCode}
-use Rattle.story_sizes.proofs.SizesOfChecked.{small_routines}
+use Rattle.story.specs.CodeSizes.{SmallSourcesHaveSmallCode}
+use Rattle.story.proofs.SizesOfChecked.{small_routines}
 use Rattle.story_file.specs.Layout.{addresses_in, greatest_length, story_of}
 use Rattle.story.specs.declared.sized.Limit.{Limit}
 use Rattle.story.specs.Compiled.{IsStoryOfBy, CompilesBy, NumbersKeys}

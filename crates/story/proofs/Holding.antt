@@ -19,8 +19,8 @@ use Rattle.meaning.specs.Sizes.{greatest_routine_weight}
 use Rattle.meaning.specs.Meaning.{routine_at}
 use Rattle.meaning.specs.World.{words_of}
 use Rattle.code_items.specs.Statements.{routine_items}
-use Rattle.code_object_memory.specs.Laws.{HoldsRows}
-use Rattle.code_object_memory.specs.Rows.{rows_of, rows_bytes}
+use Rattle.story_tables.specs.Laws.{HoldsRows}
+use Rattle.story_tables.specs.Rows.{rows_of, rows_bytes}
 use Rattle.code_encoding.specs.Addresses.{Addresses, number_of}
 use Rattle.code.specs.Bytes.{code_size}
 use Rattle.code.specs.HeldProgram.{HoldsProgram, HoldsAbbreviation, HoldsRoutine, HoldsText, fault_line, start_code}

@@ -15,7 +15,7 @@ use Rattle.checker.specs.Laws.{AcceptedPrograms}
 use Rattle.checker.specs.Programs.{file_of, program_breaches, resolve_program, resolve_with, routines_of}
 use Rattle.code.specs.HeldProgram.{sizes_of}
 use Rattle.code.specs.Sizes.{routines_size}
-use Rattle.story_sizes.specs.Laws.{CodeIsShort}
+use Rattle.story.specs.CodeSizes.{CodeIsShort}
 use Rattle.story_file.specs.Layout.{story_of}
 use Rattle.story.specs.Compiled.{CompilesBy}
 use Rattle.story.specs.FaultPlaces.{heavy_place}

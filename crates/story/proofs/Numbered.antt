@@ -40,7 +40,7 @@ stands_in at (k ∷ ks) key m = here (k == key) refl (λ more. stands_in (at + 9
         let high = s.before in
         record { behind = omega (arith, low); before = omega (arith, high) }
 
--- no place lies behind them, also of a key that is not there
+-- no place lies after them, also of a key that is not there
 place_before : (at : ℕ) (ks : List ℕ) (key : ℕ) → place_in at ks key ≤ at + 9 * length ks
 place_before at [] key = omega arith
 place_before at (k ∷ ks) key = here (k == key) (place_before (at + 9) ks key)

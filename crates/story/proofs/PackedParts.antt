@@ -132,7 +132,7 @@ module _ (sizes : Sizes) (a : Addresses) where
 
 -- Arrays
 
--- an array may stand at every address, and so they stand one behind another
+-- an array may stand at every address, and so they stand one after another
 pub array_found : (at : ℕ) (arrays : List (List ℕ)) (n : ℕ) → n < length arrays
     → slice_index (addresses_from 1 at (map length arrays)) n ≡ at + offset_in arrays n
 array_found at [] n within = absurd (omega (arith, within))

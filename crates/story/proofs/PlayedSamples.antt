@@ -145,7 +145,7 @@ arrays_laid_out : take 15 (drop 738 (story_of V5 arrays))
 unfolding story_of bytes_of encoded packed spelling_of
 arrays_laid_out = refl
 
--- what stands behind them is moved by 15 bytes: the code that begins at 886, the dictionary at 879, the defaults at 753
+-- what stands after them is moved by 15 bytes: the code that begins at 886, the dictionary at 879, the defaults at 753
 arrays_header : take 12 (drop 4 (story_of V5 arrays)) ≡ 3 ∷ 118 ∷ 3 ∷ 118 ∷ 3 ∷ 111 ∷ 2 ∷ 241 ∷ 1 ∷ 2 ∷ 3 ∷ 111 ∷ []
 unfolding story_of bytes_of encoded packed spelling_of
 arrays_header = refl

@@ -162,7 +162,7 @@ module _ (version : Version) (p : ProgramOf) (story rest : List ℕ) (said : Say
     },
   )
 
--- Parts behind what stands below them
+-- Parts after what stands below them
 
 module _ (version : Version) (p : ProgramOf) (main : ℕ) (parts : List (List ℕ)) where
   abbrev high : List ℕ
@@ -181,7 +181,7 @@ module _ (version : Version) (p : ProgramOf) (main : ℕ) (parts : List (List �
   pub laid_multiple : length p.defaults ≡ 63 → whole version (length laid_out)
   laid_multiple words = subst (whole version) (sym (laid_length words)) (parts_end version (routines_place p) parts)
 
-  -- what stands behind the dictionary
+  -- what stands after the dictionary
   abbrev behind : List ℕ
   behind = abbreviation_texts p ++ (start_code main ++ high)
 

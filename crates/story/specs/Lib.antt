@@ -1,3 +1,4 @@
+pub mod CodeSizes
 pub mod Refused
 pub mod Playable
 pub mod Compiled

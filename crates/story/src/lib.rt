@@ -5,6 +5,9 @@ mod laws;
 mod sized;
 mod story;
 
-pub use laws::{light_stories_fit, stories_are_short, stories_hold};
+pub use laws::{
+    code_is_short, light_stories_fit, small_sources_have_small_code, stories_are_short,
+    stories_hold,
+};
 pub use sized::{Limit, story_within};
 pub use story::{Story, compile, compile_for, compile_once, compile_placed};

@@ -7,16 +7,15 @@ ghost use Rattle.story.specs.Compiled.{Compiles, CompilesBy};
 ghost use Rattle.story.specs.FaultPlaces.{Stands};
 ghost use Rattle.story.specs.Large.{limits_by};
 
-use crate::laws::{stories_are_short, stories_hold};
+use crate::laws::laws;
 use crate::sized::{Limit, story_by};
-use checker::{accepted_programs, check_placed, printable_programs};
-use code::{Disposal, code_plays};
+use checker::check_placed;
+use code::Disposal;
 use meaning::Checked;
 use std::alloc::Global;
 use std::marker::Model;
-use story_sizes::small_sources_have_small_code;
-use syntax::{Program, parse_placed, printable_trees};
-use syntax_lexer::{PlacedFault, SourceFault, lex_placed, printable_tokens};
+use syntax::{Program, parse_placed};
+use syntax_lexer::{PlacedFault, SourceFault, lex_placed};
 use zcore::Version;
 
 /// A compiled story: the bytes of a story file.
@@ -91,15 +90,15 @@ pub fn compile_for(alloc: Global, source: &[u8], version: Version) -> Result<Sto
 }
 
 // The trees are not needed any more.
-fn leave(checked: Checked<'_>, program: Program<'_>, disposal: Disposal) {
+fn dispose_trees(checked: Checked<'_>, program: Program<'_>, disposal: Disposal) {
     match disposal {
         Disposal::GivenBack => {
             checker::discard(checked);
             syntax::discard(program);
         }
         Disposal::Left => {
-            checker::leave(checked);
-            syntax::leave(program);
+            checker::leave_to_system(checked);
+            syntax::leave_to_system(program);
         }
     }
 }
@@ -115,14 +114,7 @@ fn compile_in(
     ensures compiles { CompilesBy (limits_by limit) version source.now (unplaced result) }
     ensures stands { IfErr result (Stands source.now) }
 {
-    accepted_programs();
-    printable_tokens();
-    printable_trees();
-    printable_programs();
-    small_sources_have_small_code();
-    stories_are_short();
-    stories_hold();
-    code_plays();
+    laws();
     let tokens = lex_placed(alloc, source)?;
     let program = parse_placed(alloc, &tokens)?;
     // The tree names no token, and they may take more memory than it.
@@ -135,7 +127,7 @@ fn compile_in(
         }
     };
     let found = story_by(alloc, &checked, version, limit, disposal);
-    leave(checked, program, disposal);
+    dispose_trees(checked, program, disposal);
     let sized = found?;
     match sized {
         Ok(bytes) => Ok(Story::of_bytes(bytes)),

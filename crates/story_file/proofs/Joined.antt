@@ -114,17 +114,17 @@ low_joined p main b b1 b2 b3 b4 b5 b6 b7 b8 b9 e1 e2 e3 e4 e5 e6 e7 e8 e9 =
 
 -- Routines
 
--- a part behind its filling
+-- a part after its filling
 part_joined : (version : Version) (part b1 b2 b3 : List ℕ) (parts : List (List ℕ))
-    → b2 ≡ b1 ++ replicate (aligned (scale_of version) (64 + length b1) - (64 + length b1)) 0 → b3 ≡ b2 ++ part
-    → b3 ++ parts_from (scale_of version) (64 + length b3) parts
-    ≡ b1 ++ parts_from (scale_of version) (64 + length b1) (part ∷ parts)
+    → b2 ≡ b1 ++ replicate (aligned (scale_of version) (length b1) - (length b1)) 0 → b3 ≡ b2 ++ part
+    → b3 ++ parts_from (scale_of version) (length b3) parts
+    ≡ b1 ++ parts_from (scale_of version) (length b1) (part ∷ parts)
 part_joined version part b1 b2 b3 parts e2 e3 =
-    let at : ℕ = 64 + length b1 in
+    let at : ℕ = length b1 in
     let up : ℕ = aligned (scale_of version) at in
     let filling : List ℕ = replicate (up - at) 0 in
     let rest : List ℕ = parts_from (scale_of version) (up + length part) parts in
-    let end : 64 + length b3 ≡ up + length part =
+    let end : length b3 ≡ up + length part =
     omega (
       arith,
       ap length e2,
@@ -140,17 +140,17 @@ part_joined version part b1 b2 b3 parts e2 e3 =
 
 pub routine_joined : (version : Version) (a : Addresses) (codes : List CodeOf) (i : ℕ) (code : CodeOf)
     (b b1 b2 b3 : List ℕ) → i < length codes → code ≡ slice_index_or codes i code
-    → b2 ≡ b1 ++ replicate (aligned (scale_of version) (64 + length b1) - (64 + length b1)) 0
+    → b2 ≡ b1 ++ replicate (aligned (scale_of version) (length b1) - (length b1)) 0
     → b3 ≡ b2 ++ code_part a code
-    → ((parts : List (List ℕ)) → b1 ++ parts_from (scale_of version) (64 + length b1)
+    → ((parts : List (List ℕ)) → b1 ++ parts_from (scale_of version) (length b1)
     (map (code_part a) (drop i codes) ++ parts)
-    ≡ b ++ parts_from (scale_of version) (64 + length b) (map (code_part a) codes ++ parts))
-    → (parts : List (List ℕ)) → b3 ++ parts_from (scale_of version) (64 + length b3)
+    ≡ b ++ parts_from (scale_of version) (length b) (map (code_part a) codes ++ parts))
+    → (parts : List (List ℕ)) → b3 ++ parts_from (scale_of version) (length b3)
     (map (code_part a) (drop (i + 1) codes) ++ parts)
-    ≡ b ++ parts_from (scale_of version) (64 + length b) (map (code_part a) codes ++ parts)
+    ≡ b ++ parts_from (scale_of version) (length b) (map (code_part a) codes ++ parts)
 routine_joined version a codes i code b b1 b2 b3 within is e2 e3 all parts =
     part_joined version (code_part a code) b1 b2 b3 (map (code_part a) (drop (i + 1) codes) ++ parts) e2 e3
-    ∙ ap (λ (cs : List CodeOf). b1 ++ parts_from (scale_of version) (64 + length b1) (map (code_part a) cs ++ parts))
+    ∙ ap (λ (cs : List CodeOf). b1 ++ parts_from (scale_of version) (length b1) (map (code_part a) cs ++ parts))
     (sym (next codes i within is)) ∙ all parts
   where
     next : (xs : List CodeOf) (i : ℕ) → i < length xs → code ≡ slice_index_or xs i code
@@ -179,14 +179,14 @@ text_added old new text bytes e t =
     all (x ∷ xs) = ap (λ (bs : List (List ℕ)). x.items ∷ bs) (all xs)
 
 pub texts_joined : (version : Version) (texts : List (Vec ℕ)) (i : ℕ) (b b2 b3 : List ℕ) → length texts ≤ i
-    → ((parts : List (List ℕ)) → b2 ++ parts_from (scale_of version) (64 + length b2)
+    → ((parts : List (List ℕ)) → b2 ++ parts_from (scale_of version) (length b2)
     (map bytes_in (drop i texts) ++ parts)
-    ≡ b ++ parts_from (scale_of version) (64 + length b) (map bytes_in texts ++ parts))
-    → b3 ≡ b2 ++ replicate (aligned (scale_of version) (64 + length b2) - (64 + length b2)) 0
-    → b3 ≡ b ++ parts_from (scale_of version) (64 + length b) (map bytes_in texts)
+    ≡ b ++ parts_from (scale_of version) (length b) (map bytes_in texts ++ parts))
+    → b3 ≡ b2 ++ replicate (aligned (scale_of version) (length b2) - (length b2)) 0
+    → b3 ≡ b ++ parts_from (scale_of version) (length b) (map bytes_in texts)
 texts_joined version texts i b b2 b3 end all e3 =
     e3
-    ∙ ap (λ (ps : List (List ℕ)). b2 ++ parts_from (scale_of version) (64 + length b2) (ps ++ []))
+    ∙ ap (λ (ps : List (List ℕ)). b2 ++ parts_from (scale_of version) (length b2) (ps ++ []))
     (sym (texts_end texts i end))
-    ∙ all [] ∙ ap (λ (ps : List (List ℕ)). b ++ parts_from (scale_of version) (64 + length b) ps)
+    ∙ all [] ∙ ap (λ (ps : List (List ℕ)). b ++ parts_from (scale_of version) (length b) ps)
     (append-nil (map bytes_in texts))

@@ -2,7 +2,7 @@
 use Rattle.std.proofs.Common.{◌≡◌, ℕ, zero, suc, ◌+◌, ◌-◌, ◌*◌, ◌<◌, ◌≤◌, List, [], ◌∷◌, ◌++◌, length, take, drop, refl}
 use Rattle.std.proofs.Common.{Bool, true, false, nat_le, sym, ap, ◌∙◌, subst, arith, append_assoc, length-append}
 use Rattle.std.proofs.lemmas.Bool.{leb-false, leb-true}
-use Rattle.std.proofs.lemmas.List.{length-map, length-replicate}
+use Rattle.std.proofs.lemmas.List.{drop_at, length-map, length-replicate}
 use Rattle.std.specs.Prelude.{map, replicate, slice_index, slice_index_or, sum}
 use Rattle.std.specs.List.{All, concat}
 use Rattle.std.specs.Global.{Vec}
@@ -11,6 +11,7 @@ use Rattle.std.proofs.lemmas.List.Elements.{All-head, All-tail}
 use Rattle.std.proofs.lemmas.List.Sums.{sum-map}
 use Rattle.zcore.specs.declared.header.Version.{Version}
 use Rattle.zcore.specs.Header.{scale_of}
+use Rattle.meaning.specs.declared.places.Places.{Places}
 use Rattle.meaning.specs.Resolved.{RoutineOf, ProgramOf}
 use Rattle.meaning.specs.Meaning.{routine_at}
 use Rattle.meaning.specs.Accepted.{IsRoutine}
@@ -127,7 +128,7 @@ sizes_step given i n x sizes more whole h is e m w =
         next xs i (omega (arith, h)) is
         ∙ ap (λ (k : ℕ). encoded_length x ∷ map encoded_length (drop k (y ∷ xs))) (sym j)
 
--- the sizes of codes, and of texts behind them
+-- the sizes of codes, and of texts after them
 pub sizes_of_texts : (codes : List CodeOf) (texts given : List (Vec ℕ)) (sizes more : List ℕ) → given ≡ texts
     → sizes ≡ map part_size codes → more ≡ sizes ++ map encoded_length given
     → more ≡ map part_size codes ++ map length (map bytes_in texts)
@@ -172,7 +173,7 @@ end_is version at (part ∷ parts) =
 abbrev high_parts : Addresses → ProgramOf → List (List ℕ)
 high_parts a p = map (routine_bytes (sizes_of p) a) p.routines ++ fault_texts
 
--- how long the bytes behind the header are
+-- how long the bytes after the header are
 body_length : (version : Version) (p : ProgramOf) → length p.defaults ≡ 63
     → 64 + length (body_of version p) ≡ end_from (scale_of version) (routines_place p)
     (map (routine_size (sizes_of p)) p.routines ++ map length fault_texts)
@@ -242,30 +243,32 @@ pub codes_counted : (p : ProgramOf) (codes : List CodeOf) → codes ≡ codes_in
     → length codes ≡ length p.routines
 codes_counted p codes e = ap length e ∙ codes_count (sizes_of p) p.routines
 
--- The bytes behind the header
+-- The bytes after the header
 
--- from what is put one behind another, with addresses that are the story's
+-- from what is put after the header, with addresses that are the story's
 pub body_laid : (version : Version) (p : ProgramOf) (codes : List CodeOf) (a : Addresses)
     (texts : List (List ℕ)) (b b1 b2 b3 : List ℕ) (main : ℕ)
     → length p.defaults ≡ 63 → codes ≡ codes_in p → texts ≡ fault_texts → a ≡ addresses_in (scale_of version) p
     → main ≡ slice_index a.routines p.main
-    → b ≡ [] → b1 ≡ b ++ low_bytes p main
-    → ((parts : List (List ℕ)) → b2 ++ parts_from (scale_of version) (64 + length b2) parts ≡ b1
-    ++ parts_from (scale_of version) (64 + length b1) (map (code_part a) codes ++ parts))
-    → b3 ≡ b2 ++ parts_from (scale_of version) (64 + length b2) texts
-    → b3 ≡ body_of version p
+    → length b ≡ 64 → b1 ≡ b ++ low_bytes p main
+    → ((parts : List (List ℕ)) → b2 ++ parts_from (scale_of version) (length b2) parts ≡ b1
+    ++ parts_from (scale_of version) (length b1) (map (code_part a) codes ++ parts))
+    → b3 ≡ b2 ++ parts_from (scale_of version) (length b2) texts
+    → b3 ≡ b ++ body_of version p
 body_laid version p codes a texts b b1 b2 b3 main words e t at em e0 e1 e2 e3 =
-    let low : b1 ≡ low_bytes p main = e1 ∙ ap (λ z. z ++ low_bytes p main) e0 in
-    let begin : 64 + length b1 ≡ routines_place p = omega (arith, ap length low, low_length p main words) in
+    let low : List ℕ = low_bytes p main in
+    let high : List ℕ = parts_from (scale_of version) (routines_place p) (high_parts a p) in
+    let begin : length b1 ≡ routines_place p =
+    omega (arith, e0, ap length e1, length-append b low, low_length p main words) in
     let parts : map (code_part a) codes ++ texts ≡ high_parts a p =
     ap (λ cs. map (code_part a) cs ++ texts) e ∙ parts_are (sizes_of p) a p.routines texts
     ∙ ap (λ ts. map (routine_bytes (sizes_of p) a) p.routines ++ ts) t in
-    let with_these : b3 ≡ body_with (scale_of version) a p =
+    let with_these : b3 ≡ b ++ body_with (scale_of version) a p =
     e3 ∙ e2 texts ∙ ap (λ n. b1 ++ parts_from (scale_of version) n (map (code_part a) codes ++ texts)) begin
     ∙ ap (λ ps. b1 ++ parts_from (scale_of version) (routines_place p) ps) parts
-    ∙ ap (λ z. z ++ parts_from (scale_of version) (routines_place p) (high_parts a p)) low
-    ∙ ap (λ n. low_bytes p n ++ parts_from (scale_of version) (routines_place p) (high_parts a p)) em in
-    with_these ∙ ap (λ x. body_with (scale_of version) x p) at
+    ∙ ap (λ z. z ++ high) e1 ∙ append_assoc b low high
+    ∙ ap (λ n. b ++ (low_bytes p n ++ high)) em in
+    with_these ∙ ap (λ x. b ++ body_with (scale_of version) x p) at
 
 -- arrays that stand before the routines stand at addresses that are words
 pub arrays_within : (p : ProgramOf) (at : ℕ) (sizes : List ℕ) → routines_place p ≤ greatest_word → at ≡ arrays_place
@@ -288,12 +291,25 @@ addresses_are version p a packed arrays n e ea en h =
 
 -- The story
 
-pub story_laid : (version : Version) (p : ProgramOf) (body s s1 s2 : List ℕ) → body ≡ body_of version p → s ≡ []
-    → s1 ≡ s ++ header_of version (places_of p) body → s2 ≡ s1 ++ body → s2 ≡ story_of version p
+pub story_laid : (version : Version) (p : ProgramOf) (places : Places) (kept body story : List ℕ) → length kept ≡ 64
+    → body ≡ kept ++ body_of version p → places ≡ places_of p
+    → story ≡ header_of version places (drop 64 body) ++ drop 64 body → story ≡ story_of version p
 unfolding story_of
-story_laid version p body s s1 s2 e e0 e1 e2 =
-    e2 ∙ ap (λ z. z ++ body) (e1 ∙ ap (λ z. z ++ header_of version (places_of p) body) e0)
-    ∙ ap (λ b. header_of version (places_of p) b ++ b) e
+story_laid version p places kept body story long e at is =
+    let rest : drop 64 body ≡ body_of version p = ap (drop 64) e ∙ drop_at kept (body_of version p) 64 long in
+    is ∙ ap (λ b. header_of version places b ++ b) rest
+    ∙ ap (λ (x : Places). header_of version x (body_of version p) ++ body_of version p) at
+
+pub story_within : (version : Version) (p : ProgramOf) (kept body : List ℕ) → FitsStory version p → length kept ≡ 64
+    → body ≡ kept ++ body_of version p → length body ≤ 65535 * scale_of version
+story_within version p kept body fits long e =
+    omega (
+      arith,
+      long,
+      ap length e,
+      length-append kept (body_of version p),
+      body_within version p (body_of version p) fits refl,
+    )
 
 -- Whether packed addresses reach the end of a story
 

@@ -36,7 +36,7 @@ first_later xs i p lt other =
     ∙ ap first_of (if_other x.parent p ((i + 1) ∷ rest) rest other)
     ∙ ap (λ n. first_of (standing_in p n (drop (i + 1) xs))) next
 
--- within a list what would stand behind its end does not matter
+-- within a list what would stand after its end does not matter
 same_here : (xs : List ℕ) (i d e : ℕ) → i < length xs → slice_index_or xs i d ≡ slice_index_or xs i e
 same_here [] i d e h = absurd (omega (arith, h))
 same_here (y ∷ xs) zero d e h = refl

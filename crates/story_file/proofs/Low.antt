@@ -31,7 +31,7 @@ words_length : (ws : List ℕ) → length (flat_map word ws) ≡ 2 * length ws
 words_length [] = refl
 words_length (w ∷ ws) = let e : length (flat_map word ws) ≡ 2 * length ws = words_length ws in omega (arith, e)
 
--- the word of a number in words that are written one behind another
+-- the word of a number in words that are written one after another
 words_at : (ws rest : List ℕ) (k : ℕ) → k < length ws → word_at (flat_map word ws ++ rest) (2 * k) ≡ slice_index ws k
 words_at [] rest k within = absurd (omega (arith, within))
 words_at (w ∷ ws) rest zero within = word_is w
@@ -44,7 +44,7 @@ words_at (w ∷ ws) rest (suc k) within =
     ap (λ x. slice_index all (suc (suc (2 * k))) * 256 + slice_index all x) f in
     here ∙ next ∙ words_at ws rest k (omega (arith, within))
 
--- a word behind an address
+-- a word after an address
 pub byte_behind : (at k : ℕ) (story rest : List ℕ) → drop at story ≡ rest
     → slice_index story (at + k) ≡ slice_index rest k
 byte_behind at k story rest e = sym (get_or-drop at story k 0) ∙ ap (λ x. slice_index x k) e
@@ -179,7 +179,7 @@ module _ (story : List ℕ) (p : ProgramOf) (high : List ℕ) (main : ℕ)
   arrays_stand =
       behind_at 258 480 story (global_bytes p.globals) behind_globals globals_stand (globals_length p.globals)
 
-  -- the arrays, one behind another
+  -- the arrays, one after another
   pub arrays_hold : Holds story arrays_place (concat p.arrays)
   arrays_hold = holds_first arrays_place story (concat p.arrays) behind_arrays arrays_stand
 
@@ -187,7 +187,7 @@ module _ (story : List ℕ) (p : ProgramOf) (high : List ℕ) (main : ℕ)
   objects_stand =
       behind_at arrays_place (length (concat p.arrays)) story (concat p.arrays) behind_arrays arrays_stand refl
 
-  -- the objects, behind the arrays
+  -- the objects, after the arrays
   pub objects_hold : Holds story (defaults_place p) (object_bytes p)
   objects_hold = holds_first (defaults_place p) story (object_bytes p) behind_objects objects_stand
 

@@ -11,8 +11,8 @@ use Rattle.meaning.specs.Objects.{ObjectOf, object_at, no_object, standing_in, f
 use Rattle.meaning.specs.Places.{machine_character}
 use Rattle.meaning.specs.Views.{CheckedProgram, object_of, program_of, property_of}
 use Rattle.meaning.proofs.ObjectLists.{if_same, if_other}
-use Rattle.code_object_memory.specs.Laws.{AreProper}
-use Rattle.code_object_memory.specs.Rows.{RowOf, view_of, row_of, rows_from, rows_of, attribute_byte, attribute_bytes}
+use Rattle.story_tables.specs.Laws.{AreProper}
+use Rattle.story_tables.specs.Rows.{RowOf, view_of, row_of, rows_from, rows_of, attribute_byte, attribute_bytes}
 use Rattle.story_file.specs.Linked.{AreLinked, ArePlaced}
 
 -- Siblings
@@ -37,7 +37,7 @@ passed_by p o x xs i which follows =
       | inr e ↦ ap (behind_in (o + suc i)) (if_other x.parent p (o ∷ rest) rest e) ∙ later
     ]
 
--- the one behind an object is the first of those that follow it
+-- the one after an object is the first of those that follow it
 pub behind_is : (p o : ℕ) (xs : List ObjectOf) (i : ℕ) → i < length xs
     → (slice_index_or xs i no_object).parent ≡ p
     → behind_in (o + i) (standing_in p o xs) ≡ first_of (standing_in p (o + i + 1) (drop (i + 1) xs))

@@ -1,4 +1,4 @@
--- Parts that stand one behind another, each at a multiple of the scale of packed addresses.
+-- Parts that stand one after another, each at a multiple of the scale of packed addresses.
 use Rattle.std.proofs.Common.{◌≡◌, ℕ, zero, suc, ◌+◌, ◌-◌, ◌*◌, ◌/◌, ◌<◌, ◌≤◌, List, [], ◌∷◌, ◌++◌, length, take, drop}
 use Rattle.std.proofs.Common.{refl, sym, ap, ◌∙◌, subst, arith}
 use Rattle.std.specs.Prelude.{map, replicate, slice_index, slice_index_or}
@@ -12,7 +12,7 @@ use Rattle.story_file.specs.Layout.{aligned, addresses_from, parts_from}
 
 -- Lists
 
--- what stands behind a list
+-- what stands after a list
 pub behind : (n m : ℕ) (xs ys : List ℕ) → length xs ≡ n → drop (n + m) (xs ++ ys) ≡ drop m ys
 behind n m xs ys e = sym (drop-drop m n (xs ++ ys)) ∙ ap (drop m) (drop_at xs ys n e)
 

@@ -18,7 +18,7 @@ use Rattle.meaning.specs.Places.{defaults_place, dictionary_end, filling_before,
 use Rattle.meaning.specs.Resolved.{RoutineOf, ProgramOf}
 use Rattle.meaning.specs.World.{words_of}
 use Rattle.code_items.specs.Statements.{routine_items}
-use Rattle.code_object_memory.specs.Rows.{rows_of, rows_bytes}
+use Rattle.story_tables.specs.Rows.{rows_of, rows_bytes}
 use Rattle.code_encoding.specs.Addresses.{Addresses, Sizes, all_causes}
 use Rattle.code.specs.Bytes.{code_bytes}
 use Rattle.code.specs.Sizes.{routine_size}
@@ -55,7 +55,7 @@ global_bytes globals = flat_map word (take global_count (globals ++ replicate gl
 abbrev pub key_bytes : ℕ → List ℕ
 key_bytes key = big_bytes key_size key
 
--- the entries of keys, one behind another (13.2)
+-- the entries of keys, one after another (13.2)
 abbrev pub entries_bytes : List ℕ → List ℕ
 entries_bytes keys = flat_map tables.entry_bytes (map key_bytes keys)
 
@@ -67,7 +67,7 @@ dictionary_bytes keys = tables.dictionary_bytes (map key_bytes keys)
 abbrev pub object_bytes : ProgramOf → List ℕ
 object_bytes p = rows_bytes (rows_of p.objects) p.defaults (defaults_place p)
 
--- the arrays stand one behind another
+-- the arrays stand one after another
 abbrev pub low_bytes : ProgramOf → ℕ → List ℕ
 low_bytes p main =
     abbreviation_bytes p ++ encoded [] ++ global_bytes p.globals ++ concat p.arrays ++ object_bytes p
@@ -121,11 +121,11 @@ high_bytes scale a p =
 
 -- The story
 
--- all bytes behind the header, with these addresses
+-- all bytes after the header, with these addresses
 abbrev pub body_with : ℕ → Addresses → ProgramOf → List ℕ
 body_with scale a p = low_bytes p (slice_index a.routines p.main) ++ high_bytes scale a p
 
--- the header of the bytes behind it, whose parts stand at these places (11.1): release 1 and serial number 000000
+-- the header of the bytes after it, whose parts stand at these places (11.1): release 1 and serial number 000000
 abbrev pub header_of : Version → Places → List ℕ → List ℕ
 header_of version at body =
     version_number version ∷ 0 ∷ word 1 ++ word at.start ++ word at.start ++ word at.dictionary

@@ -6,7 +6,7 @@ use Rattle.meaning.specs.Objects.{ObjectOf, no_object, first_of, standing_in}
 abbrev pub ArePlaced : List ObjectOf → Type 0
 ArePlaced objects = (k : ℕ) → k < length objects → (slice_index_or objects k no_object).parent ≤ k
 
--- The links of objects, as far as they are known from those behind the first so many: of each number the first of these
+-- The links of objects, as far as they are known from those after the first so many: of each number the first of these
 -- that stands in it, and of each of these the next that stands where it does.
 pub record AreLinked (objects : List ObjectOf) (from : ℕ) (first next : List ℕ) : Type 0 where
   pub numbers : length first ≡ length objects + 1

@@ -12,7 +12,7 @@ use Rattle.meaning.specs.Resolved.{RoutineOf, ProgramOf}
 use Rattle.meaning.specs.Accepted.{IsAccepted}
 use Rattle.meaning.specs.Printable.{HasPrintableTexts}
 use Rattle.code_items.specs.Statements.{routine_items}
-use Rattle.code_object_memory.specs.Laws.{AreProper}
+use Rattle.story_tables.specs.Laws.{AreProper}
 use Rattle.code_encoding.specs.Addresses.{Addresses, Sizes}
 use Rattle.code.specs.Bytes.{code_size, code_bytes}
 use Rattle.code.specs.HeldProgram.{sizes_of}
@@ -109,7 +109,7 @@ AnswersCodes version p (Some codes) = codes.items ≡ codes_in p
 abbrev pub half : ℕ → ℕ
 half address = address / 2
 
--- the table of abbreviations whose Z-texts have these sizes and stand one behind another from an address on
+-- the table of abbreviations whose Z-texts have these sizes and stand one after another from an address on
 abbrev pub table_bytes : ℕ → List ℕ → List ℕ
 table_bytes at sizes =
     flat_map word (map half (addresses_from 1 at sizes))

@@ -62,7 +62,7 @@ fn put_halves(bytes: &mut Vec<u8>, addresses: &[u16]) -> Result<(), AllocError>
     Ok(())
 }
 
-/// The table of abbreviations whose Z-texts stand one behind another from an address on.
+/// The table of abbreviations whose Z-texts stand one after another from an address on.
 fn put_table(
     alloc: Global,
     bytes: &mut Vec<u8>,
@@ -117,7 +117,7 @@ fn put_entry(bytes: &mut Vec<u8>, key: u64) -> Result<(), AllocError>
     Ok(())
 }
 
-/// The entries of keys, one behind another.
+/// The entries of keys, one after another.
 fn put_entries(bytes: &mut Vec<u8>, keys: &[u64]) -> Result<(), AllocError>
     ensures { OnOk result (Adds bytes.old bytes.new (entries_bytes keys.now)) }
 {
@@ -156,7 +156,7 @@ fn filling(checked: &Checked<'_>, at: Places) -> usize
         - (at.dictionary + DICTIONARY_HEAD_LENGTH + DICTIONARY_ENTRY_LENGTH * checked.keys().len())
 }
 
-/// Texts, one behind another.
+/// Texts, one after another.
 fn put_all(bytes: &mut Vec<u8>, texts: &[Vec<u8>]) -> Result<(), AllocError>
     ensures { OnOk result (Adds bytes.old bytes.new (concat (map bytes_in texts.now))) }
 {
@@ -182,7 +182,7 @@ fn put_start(bytes: &mut Vec<u8>, main: u16) -> Result<(), AllocError>
     Ok(())
 }
 
-/// Where the arrays stand: behind the globals.
+/// Where the arrays stand: after the globals.
 pub fn arrays_place(checked: &Checked<'_>, at: Places) -> usize
     requires { at ≡ places.places_of (program_of checked.now) }
     ensures { result ≡ places.arrays_place }

@@ -6,7 +6,6 @@ ghost use Rattle.ztext.specs.Alphabets.{is_printable};
 ghost use Rattle.zcore.specs.Header.{scale_of};
 ghost use Rattle.ztext.specs.Text.{encoded};
 ghost use Rattle.code_encoding.specs.Written.{addresses_of};
-ghost use Rattle.zcore.specs.Layout.{header_size};
 ghost use Rattle.story_file.specs.Layout as layout;
 ghost use Rattle.story_file.specs.Written.{bytes_in, code_part, IsReadyCode};
 ghost use Rattle.code_encoding.specs.Bytes.{Adds};
@@ -15,7 +14,6 @@ use crate::packed::aligned;
 use crate::words::put_zeros;
 use code::{Addresses, Code, CodeFault};
 use std::alloc::{AllocError, Global};
-use zcore::layout::HEADER_LENGTH;
 use zcore::{TextFault, Version, encode_text};
 
 /// The Z-text of characters.
@@ -46,74 +44,74 @@ pub fn add_text(
 }
 
 /// Zero bytes up to an address to which a packed address leads.
-pub fn put_filling(body: &mut Vec<u8>, version: Version) -> Result<(), AllocError>
-    ensures { OnOk result (let at = header_size + length body.old.items in
-        body.new.items ≡ body.old.items
+pub fn put_filling(story: &mut Vec<u8>, version: Version) -> Result<(), AllocError>
+    ensures { OnOk result (let at = length story.old.items in
+        story.new.items ≡ story.old.items
         ++ replicate (layout.aligned (scale_of version) at - at) 0) }
 {
-    let at = HEADER_LENGTH + body.len();
-    put_zeros(body, aligned(version, at) - at)
+    let at = story.len();
+    put_zeros(story, aligned(version, at) - at)
 }
 
 /// The code of a routine.
 fn put_code(
-    body: &mut Vec<u8>,
+    story: &mut Vec<u8>,
     code: &Code<'_, '_>,
     addresses: &Addresses<'_>,
 ) -> Result<(), AllocError>
     requires { IsReadyCode code.now }
-    ensures { OnOk result (Adds body.old body.new
+    ensures { OnOk result (Adds story.old story.new
         (code_part (addresses_of addresses.now) code.now)) }
 {
-    match code.put(addresses, body) {
+    match code.put(addresses, story) {
         Ok(()) => Ok(()),
         Err(CodeFault::Memory) => Err(AllocError),
     }
 }
 
-/// Routines, each at a packed address. Whatever parts follow, they stand as behind these.
+/// Routines, each at a packed address. Whatever parts follow, they stand as after these.
 pub fn put_routines(
-    body: &mut Vec<u8>,
+    story: &mut Vec<u8>,
     version: Version,
     codes: &[Code<'_, '_>],
     addresses: &Addresses<'_>,
 ) -> Result<(), AllocError>
     requires { All IsReadyCode codes.now }
     ensures { OnOk result ((parts : List (List ℕ))
-        → body.new.items
-        ++ layout.parts_from (scale_of version) (header_size + length body.new.items) parts
-        ≡ body.old.items ++ layout.parts_from (scale_of version)
-        (header_size + length body.old.items)
+        → story.new.items
+        ++ layout.parts_from (scale_of version) (length story.new.items) parts
+        ≡ story.old.items ++ layout.parts_from (scale_of version)
+        (length story.old.items)
         (map (code_part (addresses_of addresses.now)) codes.now ++ parts)) }
 {
     for code in codes {
-        put_filling(body, version)?;
-        put_code(body, code, addresses)?;
+        put_filling(story, version)?;
+        put_code(story, code, addresses)?;
     }
     Ok(())
 }
 
 /// A text at a packed address.
-fn put_text(body: &mut Vec<u8>, version: Version, text: &[u8]) -> Result<(), AllocError>
+fn put_text(story: &mut Vec<u8>, version: Version, text: &[u8]) -> Result<(), AllocError>
     ensures { OnOk result ((parts : List (List ℕ))
-        → body.new.items
-        ++ layout.parts_from (scale_of version) (header_size + length body.new.items) parts
-        ≡ body.old.items ++ layout.parts_from (scale_of version)
-        (header_size + length body.old.items) (text.now ∷ parts)) }
+        → story.new.items
+        ++ layout.parts_from (scale_of version) (length story.new.items) parts
+        ≡ story.old.items ++ layout.parts_from (scale_of version)
+        (length story.old.items) (text.now ∷ parts)) }
 {
-    put_filling(body, version)?;
-    body.extend_from_slice(text)
+    put_filling(story, version)?;
+    story.extend_from_slice(text)
 }
 
 /// Texts, and what fills the end of the story.
-pub fn put_texts(body: &mut Vec<u8>, version: Version, texts: &[Vec<u8>]) -> Result<(), AllocError>
-    ensures { OnOk result (Adds body.old body.new
-        (layout.parts_from (scale_of version) (header_size + length body.old.items)
+pub fn put_texts(story: &mut Vec<u8>, version: Version, texts: &[Vec<u8>]) -> Result<(), AllocError>
+    ensures { OnOk result (Adds story.old story.new
+        (layout.parts_from (scale_of version) (length story.old.items)
         (map bytes_in texts.now))) }
 {
     for text in texts {
-        put_text(body, version, text)?;
+        put_text(story, version, text)?;
     }
-    put_filling(body, version)?;
+    put_filling(story, version)?;
     Ok(())
 }

@@ -6,8 +6,8 @@ ghost use Rattle.tables.specs.Rows.{HasShortName, IsRow, objects_length};
 ghost use Rattle.meaning.specs.Objects.{object_at};
 ghost use Rattle.meaning.specs.Places as places;
 ghost use Rattle.meaning.specs.Views.{object_of, program_of, property_of};
-ghost use Rattle.code_object_memory.specs.Rows as rows;
-ghost use Rattle.code_object_memory.specs.Rows.{rows_bytes, rows_of, view_of};
+ghost use Rattle.story_tables.specs.Rows as rows;
+ghost use Rattle.story_tables.specs.Rows.{rows_bytes, rows_of, view_of};
 ghost use Rattle.story_file.specs.Layout.{object_bytes};
 ghost use Rattle.story_file.specs.Linked.{AreLinked, ArePlaced};
 ghost use Rattle.story_file.specs.Written.{ObjectsFit};
@@ -16,8 +16,8 @@ ghost use Rattle.code_encoding.specs.Bytes.{Adds};
 use crate::links::{Links, links_of};
 use meaning::{Checked, CheckedObject, Places, machine_character};
 use std::alloc::{AllocError, Global};
+use story_tables::write_objects;
 use tables::{ObjectRow, TableFault};
-use tables_writing::write_objects;
 use zcore::layout::DEFAULT_COUNT;
 
 /// The characters of a short name.
@@ -84,7 +84,10 @@ fn sibling(objects: &[CheckedObject<'_>], links: &Links, index: usize) -> u16
 }
 
 /// The numbers and words of properties.
-fn copied(alloc: Global, properties: &[(u8, Vec<u16>)]) -> Result<Vec<(u8, Vec<u16>)>, AllocError>
+fn copy_properties(
+    alloc: Global,
+    properties: &[(u8, Vec<u16>)],
+) -> Result<Vec<(u8, Vec<u16>)>, AllocError>
     ensures { IfOk result (λ v. map property_of v.items ≡ map property_of properties.now) }
 {
     let mut copies = Vec::new(alloc);
@@ -113,7 +116,7 @@ fn row(
     let Ok(name) = characters(alloc, object.name) else {
         return Err(AllocError);
     };
-    let Ok(properties) = copied(alloc, &object.properties) else {
+    let Ok(properties) = copy_properties(alloc, &object.properties) else {
         return Err(AllocError);
     };
     let attributes = [
@@ -149,7 +152,7 @@ fn rows(alloc: Global, objects: &[CheckedObject<'_>]) -> Result<Vec<ObjectRow>, 
 }
 
 /// The object table of rows that it can hold, which is to stand at an address.
-#[tactic(auto, using(code_object_memory::proofs::Written::written_rows))]
+#[tactic(auto, using(story_tables::proofs::RowBytes::written_rows))]
 fn table(
     alloc: Global,
     rows: &[ObjectRow],

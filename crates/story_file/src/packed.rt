@@ -116,7 +116,7 @@ pub fn reach_end(version: Version, place: usize, sizes: &[usize]) -> bool
     aligned(version, at) <= greatest_length(version)
 }
 
-/// The addresses of arrays of these sizes that stand one behind another from an address on.
+/// The addresses of arrays of these sizes that stand one after another from an address on.
 pub fn array_addresses(alloc: Global, place: usize, sizes: &[usize]) -> Result<Vec<u16>, AllocError>
     requires { place + sum sizes.now ≤ greatest_word }
     ensures { IfOk result (λ v. v.items ≡ layout.addresses_from 1 place sizes.now) }

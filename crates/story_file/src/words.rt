@@ -16,7 +16,7 @@ pub fn put_word(bytes: &mut Vec<u8>, word: u16) -> Result<(), AllocError>
     Ok(())
 }
 
-/// Words, one behind another.
+/// Words, one after another.
 pub fn put_words(bytes: &mut Vec<u8>, words: &[u16]) -> Result<(), AllocError>
     ensures { OnOk result (Adds bytes.old bytes.new (flat_map layout.word words.now)) }
 {

@@ -1,11 +1,12 @@
 //! The bytes of a story.
 
-ghost use Rattle.std.specs.Prelude.{◌≡◌, ◌≤◌, ◌<◌, ◌++◌, IfOk, drop, length, map, nat_le};
+ghost use Rattle.std.specs.Prelude.{◌≡◌, ◌≤◌, ◌<◌, ◌++◌, IfOk, OnOk, drop, length, map, nat_le};
 ghost use Rattle.zcore.specs.Header.{scale_of};
-ghost use Rattle.zcore.specs.Layout.{greatest_word};
+ghost use Rattle.zcore.specs.Layout.{greatest_word, header_size};
 ghost use Rattle.meaning.specs.Meaning.{routine_at};
 ghost use Rattle.meaning.specs.Places.{places_of, routines_place};
 ghost use Rattle.meaning.specs.Views.{program_of};
+ghost use Rattle.code_encoding.specs.Bytes.{Adds};
 ghost use Rattle.code_encoding.specs.Written.{addresses_of};
 ghost use Rattle.code.specs.HeldProgram.{sizes_of};
 ghost use Rattle.code.specs.Written.{AreSizesOf};
@@ -14,7 +15,7 @@ ghost use Rattle.story_file.specs.Written.{bytes_in, code_of, codes_in, end_from
 ghost use Rattle.story_file.specs.Written.{AnswersCodes, AnswersStory, FitsStory, FitsTables};
 
 use crate::below::{arrays_place, put_low};
-use crate::header::put_header;
+use crate::header::{fill_header, keep_header};
 use crate::high::{add_text, put_routines, put_texts};
 use crate::packed::{
     add_text_sizes, array_addresses, code_sizes, end_after, packed_addresses, reach_end,
@@ -161,19 +162,22 @@ fn is_within(
     Ok(reach_end(version, place, &sizes))
 }
 
-/// The bytes behind the header, where these are the places of the parts, and the code of all
+/// All that stands after the header, where these are the places of the parts, and the code of all
 /// routines.
-fn body_of(
+fn put_body(
     alloc: Global,
+    story: &mut Vec<u8>,
     version: Version,
     checked: &Checked<'_>,
     at: Places,
     codes: &[Code<'_, '_>],
-) -> Result<Vec<u8>, AllocError>
+) -> Result<(), AllocError>
+    requires header { length story.old.items ≡ header_size }
     requires at { at ≡ places_of (program_of checked.now) }
     requires codes { codes.now ≡ codes_in (program_of checked.now) }
     requires fits { FitsStory version (program_of checked.now) }
-    ensures { IfOk result (λ v. v.items ≡ layout.body_of version (program_of checked.now)) }
+    ensures { OnOk result (Adds story.old story.new
+        (layout.body_of version (program_of checked.now))) }
 {
     let Ok(texts) = fault_texts(alloc) else {
         return Err(AllocError);
@@ -191,17 +195,16 @@ fn body_of(
         return Err(AllocError);
     };
     let addresses = addresses_in(&packed, codes.len(), &arrays);
-    let mut body = Vec::new(alloc);
-    let Ok(()) = put_low(alloc, &mut body, checked, at, packed[checked.main()]) else {
+    let Ok(()) = put_low(alloc, story, checked, at, packed[checked.main()]) else {
         return Err(AllocError);
     };
-    let Ok(()) = put_routines(&mut body, version, codes, &addresses) else {
+    let Ok(()) = put_routines(story, version, codes, &addresses) else {
         return Err(AllocError);
     };
-    let Ok(()) = put_texts(&mut body, version, &texts) else {
+    let Ok(()) = put_texts(story, version, &texts) else {
         return Err(AllocError);
     };
-    Ok(body)
+    Ok(())
 }
 
 /// The story file of a checked program, in a version, whose routines have this code.
@@ -216,14 +219,14 @@ fn story_with(
     ensures { IfOk result (λ v. v.items ≡ layout.story_of version (program_of checked.now)) }
 {
     let at = part_places(checked);
-    let Ok(body) = body_of(alloc, version, checked, at, codes) else {
-        return Err(AllocError);
-    };
     let mut story = Vec::new(alloc);
-    let Ok(()) = put_header(&mut story, version, at, &body) else {
+    let Ok(()) = keep_header(&mut story) else {
         return Err(AllocError);
     };
-    let Ok(()) = story.extend_from_slice(&body) else {
+    let Ok(()) = put_body(alloc, &mut story, version, checked, at, codes) else {
+        return Err(AllocError);
+    };
+    let Ok(()) = fill_header(alloc, &mut story, version, at) else {
         return Err(AllocError);
     };
     Ok(story)

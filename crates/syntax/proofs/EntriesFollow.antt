@@ -10,12 +10,12 @@ use Rattle.syntax_lexer.specs.Tokens.{EndsOnce}
 use Rattle.syntax_parsing.specs.Stop.{Stop, unfit, deep}
 use Rattle.syntax_parsing.specs.Parse.{◌>>=◌, head, is_word, as_long, repeated}
 use Rattle.syntax_expression_parts.proofs.Tokens.{is_that_word}
-use Rattle.syntax_token_machine.proofs.Frames.{entries_left, last, Stack}
-use Rattle.syntax_token_machine.proofs.Machine.{shift}
-use Rattle.syntax_token_machine.proofs.Frames.{on_entry}
-use Rattle.syntax_token_machine.proofs.Machine.{accepts, stop, file}
-use Rattle.syntax_places.proofs.After.{Follows, no_effect, onward, follows_read, follows_as, follows_then}
-use Rattle.syntax_places.proofs.Directives.{directive_follows, abbreviate_follows}
+use Rattle.syntax.proofs.Frames.{entries_left, last, Stack}
+use Rattle.syntax.proofs.Machine.{shift}
+use Rattle.syntax.proofs.Frames.{on_entry}
+use Rattle.syntax.proofs.Machine.{accepts, stop, file}
+use Rattle.syntax.proofs.After.{Follows, no_effect, onward, follows_read, follows_as, follows_then}
+use Rattle.syntax.proofs.Directives.{directive_follows, abbreviate_follows}
 use Rattle.syntax.specs.Tree.{entry, abbreviate, ProgramTree}
 use Rattle.syntax.specs.Grammar.{IsEntries}
 use Rattle.syntax.specs.Parse.{goes_on, end_alone, Parts, parts_of, whole, one_entry, all_entries, entries, program}
@@ -47,7 +47,7 @@ on_ends k [] g = refl
 on_ends k (end p ∷ m) g = refl
 on_ends k (_ ∷ m) g = absurd cc
 
--- ---- behind the entries
+-- ---- after the entries
 
 some_unfit : (m n : ℕ) → unread m ≡ unread n → Some m ≡ Some n
 some_unfit m n e = cc

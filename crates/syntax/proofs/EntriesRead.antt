@@ -10,7 +10,7 @@ use Rattle.syntax_parsing.specs.declared.error.ParseError.{ParseError}
 use Rattle.syntax_parsing.specs.declared.error.ParseError.TheVariants as errors
 use Rattle.syntax_parsing.specs.Parse.{◌>>=◌, Fails, head, tail, is_word, as_long, repeated}
 use Rattle.syntax_directives.specs.Tree.{TextTree, DirectiveTree}
-use Rattle.syntax_directives.specs.Parse.{abbreviate_behind, directive}
+use Rattle.syntax_directives.specs.Parse.{abbreviate_after, directive}
 use Rattle.syntax.specs.Tree.{EntryTree, entry, abbreviate, directives_of, abbreviations_of}
 use Rattle.syntax.specs.Parse.{Parts, goes_on, texts_more, one_entry, directive_more, one_more}
 
@@ -81,7 +81,7 @@ module _ (d : ℕ) where
   by_entry p ts = go (is_word w.Abbreviate (head ts)) refl
     where
       go : (b : Bool) → is_word w.Abbreviate (head ts) ≡ b → one_more d p ts ≡ (one_entry d ts >>= with_entry p)
-      go true e = rw e (by_texts p (abbreviate_behind (tail ts)))
+      go true e = rw e (by_texts p (abbreviate_after (tail ts)))
       go false e = rw e (by_directive p (directive d ts))
 
   -- ---- a turn
@@ -103,20 +103,20 @@ module _ (d : ℕ) where
       → gathered p (repeated goes_on (one_entry d) n ts) ≡ Ok (p, ts)
   entries_done n p ts g = ap (gathered p) (stopped n ts g) ∙ gathered_last p ts
 
-  -- the entries behind one, with it; and those behind what was read before
-  abbrev behind_entry : ℕ → EntryTree × List Lexeme → Result (List EntryTree × List Lexeme) Stop
-  behind_entry n e = repeated goes_on (one_entry d) n e.1 >>= λ y. Ok (e.0 ∷ y.0, y.1)
+  -- the entries after one, with it; and those after what was read before
+  abbrev with_following : ℕ → EntryTree × List Lexeme → Result (List EntryTree × List Lexeme) Stop
+  with_following n e = repeated goes_on (one_entry d) n e.1 >>= λ y. Ok (e.0 ∷ y.0, y.1)
 
-  abbrev behind_parts : ℕ → Parts × List Lexeme → Result (Parts × List Lexeme) Stop
-  behind_parts n x = gathered x.0 (repeated goes_on (one_entry d) n x.1)
+  abbrev after_parts : ℕ → Parts × List Lexeme → Result (Parts × List Lexeme) Stop
+  after_parts n x = gathered x.0 (repeated goes_on (one_entry d) n x.1)
 
   turned : (n : ℕ) (p : Parts) (R : Result (EntryTree × List Lexeme) Stop)
-      → gathered p (R >>= behind_entry n) ≡ ((R >>= with_entry p) >>= behind_parts n)
+      → gathered p (R >>= with_following n) ≡ ((R >>= with_entry p) >>= after_parts n)
   turned n p (Ok e) = gathered_more p e.0 (repeated goes_on (one_entry d) n e.1)
   turned n p (Err f) = refl
 
   turn : (n i : ℕ) (p : Parts) (ts : List Lexeme) → i < n → goes_on (head ts) ≡ true
-      → gathered p (repeated goes_on (one_entry d) (n - i) ts) ≡ (one_more d p ts >>= behind_parts (n - (i + 1)))
+      → gathered p (repeated goes_on (one_entry d) (n - i) ts) ≡ (one_more d p ts >>= after_parts (n - (i + 1)))
   unfolding repeated as_long
   turn n i p ts lt g =
       let k : n - i ≡ suc (n - (i + 1)) = omega arith in

@@ -76,11 +76,11 @@ ends_Entries (deep_entries_next a x) = let e = ends_Entry a in over e.0 e.1 (end
 pub record FirstDeep (d : ℕ) (ts : List Lexeme) (n : ℕ) : Type 0 where
   pub front : List Lexeme
   pub token : Lexeme
-  pub behind : List Lexeme
-  pub is : ts ≡ front ++ token ∷ behind
-  pub counts : suc (length behind) ≡ n
-  pub too_deep : DeepEntries (suc d) ts (token ∷ behind)
-  pub first : (k : ℕ) (u : List Lexeme) → DeepEntries k ts u → length (token ∷ behind) < length u → k ≤ d
+  pub after : List Lexeme
+  pub is : ts ≡ front ++ token ∷ after
+  pub counts : suc (length after) ≡ n
+  pub too_deep : DeepEntries (suc d) ts (token ∷ after)
+  pub first : (k : ℕ) (u : List Lexeme) → DeepEntries k ts u → length (token ∷ after) < length u → k ≤ d
 
 none_before : (d n : ℕ) (ts : List Lexeme) → program d ts ≡ Err (deep n) → (k : ℕ) (u : List Lexeme)
     → DeepEntries k ts u → n < length u → k ≤ d
@@ -105,11 +105,11 @@ pub first_deep : (d n : ℕ) (ts : List Lexeme) → program d ts ≡ Err (deep n
 first_deep d n ts h =
     let s = too_deep d n ts h in
     let a = ends_Entries s.is in
-    let counts : suc (length a.behind) ≡ n = omega (arith, s.left, ap length a.first) in
+    let counts : suc (length a.after) ≡ n = omega (arith, s.left, ap length a.first) in
     record {
       front = a.front;
       token = a.token;
-      behind = a.behind;
+      after = a.after;
       is = a.at ∙ ap (λ us. a.front ++ us) a.first;
       counts = counts;
       too_deep = subst (λ us. DeepEntries (suc d) ts us) a.first s.is;

@@ -6,18 +6,18 @@ use Rattle.syntax_lexer.specs.Token.{Lexeme, lexemes, end, position_of}
 use Rattle.syntax_lexer.specs.Tokens.{EndsOnce}
 use Rattle.syntax_parsing.specs.Stop.{Stop, unfit, deep}
 use Rattle.syntax_parsing.specs.Errors.{place_of}
-use Rattle.syntax_token_machine.proofs.Frames.{Stack}
-use Rattle.syntax_token_machine.proofs.Machine.{shift, accepts, stop, go_on, Refuses, file}
-use Rattle.syntax_token_machine.proofs.Words.{Fits, words}
-use Rattle.syntax_token_machine.proofs.Kept.{kept, file_fits}
-use Rattle.syntax_token_machine.proofs.Taken.{taken}
-use Rattle.syntax_token_machine.proofs.Stopped.{Stopped, stopped, at_end}
-use Rattle.syntax_places.proofs.Shallow.{shallow_Directive}
+use Rattle.syntax.proofs.Frames.{Stack}
+use Rattle.syntax.proofs.Machine.{shift, accepts, stop, go_on, Refuses, file}
+use Rattle.syntax.proofs.StackWords.{Fits, words}
+use Rattle.syntax.proofs.Kept.{kept, file_fits}
+use Rattle.syntax.proofs.Taken.{taken}
+use Rattle.syntax.proofs.Stopped.{Stopped, stopped, at_end}
+use Rattle.syntax.proofs.Shallow.{shallow_Directive}
 use Rattle.syntax.specs.Tree.{ProgramTree}
 use Rattle.syntax.specs.Grammar.{IsProgram, program_nesting}
 use Rattle.syntax.specs.Nesting.{DeepEntries, deep_entries_first, deep_entries_next}
 use Rattle.syntax.specs.Parse.{program}
-use Rattle.syntax.specs.Places.{Begins, IsUnfitBehind}
+use Rattle.syntax.specs.Places.{Begins, IsUnfitAfter}
 use Rattle.syntax_lexer.specs.declared.token.Token.{Token}
 use Rattle.syntax_parsing.specs.declared.error.ParseError.{ParseError}
 use Rattle.syntax_parsing.specs.declared.error.ParseError.TheVariants as errors
@@ -101,9 +101,9 @@ begins_none front k t e on a =
 pub record Unfit (ts : List Lexeme) (n : ℕ) : Type 0 where
   pub front : List Lexeme
   pub token : Lexeme
-  pub behind : List Lexeme
-  pub is : ts ≡ front ++ token ∷ behind
-  pub counts : suc (length behind) ≡ n
+  pub after : List Lexeme
+  pub is : ts ≡ front ++ token ∷ after
+  pub counts : suc (length after) ≡ n
   pub fits : Begins front
   pub does_not : Begins (front ++ token ∷ []) → ⊥
 
@@ -118,7 +118,7 @@ first_unfit d n ts once e =
     go a lt (t ∷ m) q = record {
       front = a.front;
       token = t;
-      behind = m;
+      after = m;
       is = a.is ∙ ap (λ u. a.front ++ u) q;
       counts = omega (arith, a.counts, ap length q);
       fits = begins a.front a.stack a.fits a.goes_on;
@@ -139,31 +139,31 @@ drop_front : (front back : List Lexeme) → drop (length front) (front ++ back) 
 drop_front [] back = refl
 drop_front (t ∷ front) back = drop_front front back
 
-pub place_found : (ts front : List Lexeme) (t : Lexeme) (behind : List Lexeme) (n : ℕ) → ts ≡ front ++ t ∷ behind
-    → suc (length behind) ≡ n → place_of ts n ≡ position_of t
-place_found ts front t behind n is counts =
-    let before : length (front ++ t ∷ behind) - suc (length behind) ≡ length front = length_front front (t ∷ behind) in
-    rw (is, sym counts, before, drop_front front (t ∷ behind)) refl
+pub place_found : (ts front : List Lexeme) (t : Lexeme) (after : List Lexeme) (n : ℕ) → ts ≡ front ++ t ∷ after
+    → suc (length after) ≡ n → place_of ts n ≡ position_of t
+place_found ts front t after n is counts =
+    let before : length (front ++ t ∷ after) - suc (length after) ≡ length front = length_front front (t ∷ after) in
+    rw (is, sym counts, before, drop_front front (t ∷ after)) refl
 
 -- ---- its number
 
 no_place_deep : (n : ℕ) (ts : List Lexeme) → program (2 * length ts) ts ≡ Err (deep n) → ⊥
 no_place_deep n ts e = absurd (omega (arith, shallow_Program (too_deep (2 * length ts) n ts e).is))
 
-front_is : (ts front : List Lexeme) (t : Lexeme) (behind : List Lexeme) (n : ℕ) → ts ≡ front ++ t ∷ behind
-    → suc (length behind) ≡ n → length front ≡ length ts - n
-front_is ts front t behind n is counts = rw (is, sym counts) (sym (length_front front (t ∷ behind)))
+front_is : (ts front : List Lexeme) (t : Lexeme) (after : List Lexeme) (n : ℕ) → ts ≡ front ++ t ∷ after
+    → suc (length after) ≡ n → length front ≡ length ts - n
+front_is ts front t after n is counts = rw (is, sym counts) (sym (length_front front (t ∷ after)))
 
-unfit_behind : (d n : ℕ) (ts : List Lexeme) → EndsOnce ts → program d ts ≡ Err (unfit n)
-    → IsUnfitBehind ts (length ts - n)
-unfit_behind d n ts once e =
+unfit_after : (d n : ℕ) (ts : List Lexeme) → EndsOnce ts → program d ts ≡ Err (unfit n)
+    → IsUnfitAfter ts (length ts - n)
+unfit_after d n ts once e =
     let a = first_unfit d n ts once e in
     record {
       front = a.front;
       token = a.token;
-      behind = a.behind;
+      after = a.after;
       is = a.is;
-      counts = front_is ts a.front a.token a.behind n a.is a.counts;
+      counts = front_is ts a.front a.token a.after n a.is a.counts;
       fits = a.fits;
       does_not = a.does_not;
     }
@@ -173,15 +173,15 @@ as_many [] = refl
 as_many (t ∷ ts) = omega (arith, as_many ts)
 
 by_fault : (d n : ℕ) (f : Fault) (ts : List Lexeme) → d ≡ 2 * length ts
-    → program d ts ≡ Err (stop_of f n) → EndsOnce ts → IsUnfitBehind ts (length ts - n)
-by_fault d n Grammar ts is e once = unfit_behind d n ts once e
+    → program d ts ≡ Err (stop_of f n) → EndsOnce ts → IsUnfitAfter ts (length ts - n)
+by_fault d n Grammar ts is e once = unfit_after d n ts once e
 by_fault d n Deep ts is e once = absurd (no_place_deep n ts (subst (λ x. program x ts ≡ Err (deep n)) is e))
 
 -- what is answered, by how the parser with that depth fails
 pub answers_unfit : (d m n : ℕ) (f : Fault) (e : ParseError) (ts : List Lexeme) → d ≡ 2 * length ts
-    → e ≡ errors.Fault f n → Fails e (program d ts) → m ≡ length ts - n → EndsOnce ts → IsUnfitBehind ts m
+    → e ≡ errors.Fault f n → Fails e (program d ts) → m ≡ length ts - n → EndsOnce ts → IsUnfitAfter ts m
 answers_unfit d m n f e ts is was h counts once =
-    subst (λ k. IsUnfitBehind ts k) (sym counts)
+    subst (λ k. IsUnfitAfter ts k) (sym counts)
     (by_fault d n f ts is (subst (λ x. Fails x (program d ts)) was h) once)
 
 pub answers_none : (d : ℕ) (p : ProgramTree) (ts : List Lexeme) → program d ts ≡ Ok p → (q : ProgramTree) × IsProgram ts q

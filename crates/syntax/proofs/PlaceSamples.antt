@@ -66,9 +66,9 @@ default_again = in_routine
     (reserved w.Switch ∷ opens ∷ a ∷ closes ∷ sign s.OpenBrace ∷ reserved w.Default ∷ sign s.Colon ∷ reserved w.Default
     ∷ sign s.Colon ∷ sign s.CloseBrace ∷ [])
 
--- switch (a) { default: 1: } has a statement that begins with 1 behind `default`
-abbrev case_behind : List Form
-case_behind = in_routine
+-- switch (a) { default: 1: } has a statement that begins with 1 after `default`
+abbrev case_after : List Form
+case_after = in_routine
     (reserved w.Switch ∷ opens ∷ a ∷ closes ∷ sign s.OpenBrace ∷ reserved w.Default ∷ sign s.Colon ∷ one
     ∷ sign s.Colon ∷ sign s.CloseBrace ∷ [])
 
@@ -80,7 +80,7 @@ without_effect = in_routine (one ∷ sign s.Plus ∷ one ∷ semicolon ∷ [])
 abbrev over_a_number : List Form
 over_a_number = in_routine (reserved w.Objectloop ∷ opens ∷ one ∷ closes ∷ a ∷ semicolon ∷ [])
 
--- object a, ; has its fault behind the comma
+-- object a, ; has its fault after the comma
 abbrev comma_alone : List Form
 comma_alone = reserved w.Object ∷ a ∷ sign s.Comma ∷ semicolon ∷ end ∷ []
 
@@ -98,7 +98,7 @@ value_alone = in_routine
     (reserved w.Switch ∷ opens ∷ a ∷ closes ∷ sign s.OpenBrace ∷ one ∷ sign s.Colon ∷ sign s.Minus ∷ one ∷ semicolon
     ∷ sign s.CloseBrace ∷ [])
 
--- 1 + 1 in a hundred parentheses: `=` would fit behind it, which a program nested a hundred deep has no place for
+-- 1 + 1 in a hundred parentheses: `=` would fit after it, which a program nested a hundred deep has no place for
 abbrev hundred_deep : List Form
 hundred_deep = in_routine (times 100 opens ++ one ∷ sign s.Plus ∷ one ∷ (times 100 closes ++ semicolon ∷ []))
 
@@ -106,7 +106,7 @@ hundred_deep = in_routine (times 100 opens ++ one ∷ sign s.Plus ∷ one ∷ (t
 abbrev parentheses : List Form
 parentheses = in_routine (times 101 opens ++ one ∷ [])
 
--- a = - - - .., where the first token behind `=` stands one deep and each `-` one deeper
+-- a = - - - .., where the first token after `=` stands one deep and each `-` one deeper
 abbrev operators : List Form
 operators = in_routine (a ∷ sign s.Assign ∷ times 101 (sign s.Minus))
 
@@ -114,7 +114,7 @@ operators = in_routine (a ∷ sign s.Assign ∷ times 101 (sign s.Minus))
 abbrev braces : List Form
 braces = in_routine (times 51 (sign s.OpenBrace))
 
-stand : StandsAt else_alone 3 × StandsAt default_again 10 × StandsAt case_behind 11 × StandsAt without_effect 6
+stand : StandsAt else_alone 3 × StandsAt default_again 10 × StandsAt case_after 11 × StandsAt without_effect 6
     × StandsAt over_a_number 5 × StandsAt comma_alone 3 × StandsAt unclosed 3 × StandsAt unclosed_cast 6
     × StandsAt value_alone 12 × StandsAt hundred_deep 206
     × IsDeepAt parentheses 103 × IsDeepAt operators 104 × IsDeepAt braces 53
@@ -133,12 +133,12 @@ unfolding tokens.expect tokens.expect_word tokens.further tokens.list tokens.as_
     statements.braced statements.otherwise statements.one_case statements.cases statements.choice
     statements.repetition statements.until statements.iteration statements.traversal statements.selection
     statements.statement_over statements.inside statements.braces statements.bodies statements.statement
-    statements.statements directives.names directives.placed directives.values directives.kind directives.array_behind
+    statements.statements directives.names directives.placed directives.values directives.kind directives.array_after
     directives.arrow directives.arrows directives.short directives.parent directives.object_heading
-    directives.behind_comma directives.prop directives.lists_further directives.next_prop directives.props
-    directives.properties directives.some_names directives.attributes directives.object_behind directives.one_text
-    directives.texts directives.abbreviate_behind directives.ended directives.global_behind directives.constant_behind
-    directives.attribute_behind directives.property_behind directives.worded directives.routine_heading
+    directives.past_comma directives.prop directives.lists_further directives.next_prop directives.props
+    directives.properties directives.some_names directives.attributes directives.object_after directives.one_text
+    directives.texts directives.abbreviate_after directives.ended directives.global_after directives.constant_after
+    directives.attribute_after directives.property_after directives.worded directives.routine_heading
     directives.closed directives.routine_body directives.routine_at directives.directive programs.one_entry
     programs.all_entries programs.entries programs.program
 stand = (refl, refl, refl, refl, refl, refl, refl, refl, refl, refl, refl, refl, refl)

@@ -23,11 +23,11 @@ unfit_at : (n : ℕ) (f : PlacedFault) (ts : List Lexeme) → program 100 ts ≡
     → f ≡ placed_fault ts (errors.Fault Grammar n) → EndsOnce ts → IsFirstUnfit 100 ts (At f)
 unfit_at n f ts h is once =
     let a = first_unfit 100 n ts once h in
-    let there = place_found ts a.front a.token a.behind n a.is a.counts in
+    let there = place_found ts a.front a.token a.after n a.is a.counts in
     record {
       front = a.front;
       token = a.token;
-      behind = a.behind;
+      after = a.after;
       is = a.is;
       fits = a.fits;
       does_not = a.does_not;
@@ -51,11 +51,11 @@ deep_there : (n : ℕ) (f : PlacedFault) (ts : List Lexeme) → program 100 ts �
     → f ≡ placed_fault ts (errors.Fault Deep n) → IsFirstDeep 100 ts (At f)
 deep_there n f ts h is =
     let a = first_deep 100 n ts h in
-    let there = place_found ts a.front a.token a.behind n a.is a.counts in
+    let there = place_found ts a.front a.token a.after n a.is a.counts in
     record {
       front = a.front;
       token = a.token;
-      behind = a.behind;
+      after = a.after;
       is = a.is;
       too_deep = a.too_deep;
       first = a.first;
@@ -79,7 +79,7 @@ pub deep_less : {P Q : Position → Type 0} {most : ℕ} {ts : List Lexeme} → 
 deep_less a less = record {
   front = a.front;
   token = a.token;
-  behind = a.behind;
+  after = a.after;
   is = a.is;
   too_deep = a.too_deep;
   first = a.first;
@@ -91,7 +91,7 @@ pub unfit_as : {P Q : Position → Type 0} {most : ℕ} {ts : List Lexeme} → I
 unfit_as a less = record {
   front = a.front;
   token = a.token;
-  behind = a.behind;
+  after = a.after;
   is = a.is;
   fits = a.fits;
   does_not = a.does_not;

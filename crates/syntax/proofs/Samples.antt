@@ -11,7 +11,7 @@ use Rattle.syntax_statement_parts.specs.Tree.{text_item, number_item}
 use Rattle.syntax_statements.specs.Tree.{print, read_line, give, stop, next}
 use Rattle.syntax_directives.specs.Tree.{TextTree, DirectiveTree, attribute, routine}
 use Rattle.syntax_directives.specs.Grammar.{d_attribute, IsTexts, texts_stop, texts_next}
-use Rattle.syntax_directives.specs.Parse.{one_text, texts, abbreviate_behind}
+use Rattle.syntax_directives.specs.Parse.{one_text, texts, abbreviate_after}
 use Rattle.syntax.specs.Tree.{EntryTree}
 use Rattle.syntax.specs.Grammar.{dictionary_words, IsEntry, e_directive, e_abbreviate, entries_stop, entries_next}
 use Rattle.syntax.specs.Grammar.{IsProgram, program}
@@ -78,7 +78,7 @@ three_abbreviations = program
 
 -- Abbreviate; is none, and the fault is at its semicolon
 no_texts : one_entry 100 (reserved w.Abbreviate p ∷ sign s.Semicolon p ∷ end p ∷ []) ≡ Err (unfit 2)
-unfolding one_entry abbreviate_behind texts one_text
+unfolding one_entry abbreviate_after texts one_text
 no_texts = refl
 
 no_entry : (e : EntryTree) (r : List Lexeme) → IsEntry (reserved w.Abbreviate p ∷ sign s.Semicolon p ∷ end p ∷ []) e r

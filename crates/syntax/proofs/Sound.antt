@@ -11,7 +11,7 @@ use Rattle.syntax_expression_parts.proofs.Tokens.{at_word, expect_ok, expect_not
 use Rattle.syntax_statements.proofs.SoundRows.{repeated_judged}
 use Rattle.syntax_directives.specs.Grammar.{IsTexts}
 use Rattle.syntax_directives.specs.Nesting.{DeepDirective}
-use Rattle.syntax_directives.specs.Parse.{abbreviate_behind}
+use Rattle.syntax_directives.specs.Parse.{abbreviate_after}
 use Rattle.syntax_directives.proofs.TextsRead.{texts_judged}
 use Rattle.syntax_directives.proofs.Sound.{directive_judged}
 use Rattle.syntax.specs.Tree.{EntryTree, entry, abbreviate, directives_of}
@@ -23,8 +23,8 @@ use Rattle.syntax.specs.Parse.{goes_on, Parts, parts_of, one_entry, all_entries,
 -- ---- abbreviations
 
 abbreviate_judged : (p : Position) (ts : List Lexeme)
-    → Judged (λ xs r. IsEntry (reserved w.Abbreviate p ∷ ts) (abbreviate xs) r) (λ i. ⊥) (abbreviate_behind ts)
-unfolding abbreviate_behind
+    → Judged (λ xs r. IsEntry (reserved w.Abbreviate p ∷ ts) (abbreviate xs) r) (λ i. ⊥) (abbreviate_after ts)
+unfolding abbreviate_after
 abbreviate_judged p ts = judged_then _ (texts_judged ts)
     (λ xs m l. judged_after (expect s.Semicolon m) _
     (λ r e. judged_read xs r

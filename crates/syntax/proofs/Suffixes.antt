@@ -1,5 +1,5 @@
 -- What entries leave is what their tokens end with. So where the end of a source stands at the end of its tokens alone,
--- nothing is left behind it.
+-- nothing is left after it.
 use Rattle.std.proofs.Common.{◌≡◌, List, [], ◌∷◌, ◌++◌, refl, subst}
 use Rattle.std.specs.Prelude.{Option}
 use Rattle.syntax_lexer.specs.declared.token.Position.{Position}
@@ -18,7 +18,7 @@ use Rattle.syntax_directives.specs.Grammar.{IsAttributes, attributes_none, attri
 use Rattle.syntax_directives.specs.Grammar.{d_global_value, d_constant, d_array, d_attribute, d_property}
 use Rattle.syntax_directives.specs.Grammar.{d_property_value, d_object, d_routine, IsTexts, texts_stop, texts_next}
 use Rattle.syntax_trees.specs.Tree.{NameTree}
-use Rattle.syntax_directives.proofs.Ends.{after, further_on, behind_names, behind_statements}
+use Rattle.syntax_directives.proofs.Ends.{after, further_on, past_names, after_statements}
 use Rattle.syntax.specs.Tree.{EntryTree}
 use Rattle.syntax.specs.Grammar.{IsEntry, e_directive, e_abbreviate, IsEntries, entries_stop, entries_next}
 
@@ -80,7 +80,7 @@ ends_Properties (properties_with a b) = further_on _ _ _ (ends_Comma a) (after _
 
 ends_Attributes : {ts r : List Lexeme} {ns : List NameTree} → IsAttributes ts ns r → EndsWith ts r
 ends_Attributes attributes_none = none _
-ends_Attributes (attributes_has a b lt) = further_on _ _ _ (ends_Comma a) (after _ _ _ (behind_names b))
+ends_Attributes (attributes_has a b lt) = further_on _ _ _ (ends_Comma a) (after _ _ _ (past_names b))
 
 ends_Directive : {ts r : List Lexeme} {x : DirectiveTree} → IsDirective ts x r → EndsWith ts r
 ends_Directive d_global = three _ _ _ _
@@ -94,7 +94,7 @@ ends_Directive (d_object h a b) = after _ _ _
     (further_on _ _ _ (ends_Head h)
     (further_on _ _ _ (ends_Properties a) (further_on _ _ _ (ends_Attributes b) (one _ _))))
 ends_Directive (d_routine a b) = further_on _ _ _ (two _ _ _)
-    (further_on _ _ _ (behind_names a) (after _ _ _ (further_on _ _ _ (behind_statements b) (two _ _ _))))
+    (further_on _ _ _ (past_names a) (after _ _ _ (further_on _ _ _ (after_statements b) (two _ _ _))))
 
 ends_Texts : {ts r : List Lexeme} {xs : List TextTree} → IsTexts ts xs r → EndsWith ts r
 ends_Texts texts_stop = none _
@@ -119,7 +119,7 @@ once_left [] t r h = h
 once_left (end p ∷ front) t r h = absurd (some_left front t r h)
 once_left (_ ∷ front) t r h = once_left front t r h
 
--- behind an end that entries leave stands nothing
+-- after an end that entries leave stands nothing
 pub end_alone_left : {ts r : List Lexeme} {es : List EntryTree} {p : Position} → EndsOnce ts
     → IsEntries ts es (end p ∷ r) → r ≡ []
 end_alone_left {r = r} {p = p} h a =

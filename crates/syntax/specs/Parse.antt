@@ -10,7 +10,7 @@ use Rattle.syntax_parsing.specs.Parse.{Parse, ◌>>=◌, head, tail, is_word, re
 use Rattle.syntax_directives.specs.Tree.{TextTree, DirectiveTree}
 use Rattle.syntax_directives.specs.Views.{directive_tree, text_tree}
 use Rattle.syntax_directives.specs.Grammar.{weight_of}
-use Rattle.syntax_directives.specs.Parse.{abbreviate_behind, directive}
+use Rattle.syntax_directives.specs.Parse.{abbreviate_after, directive}
 use Rattle.syntax.specs.declared.entries.FileEntries.{FileEntries}
 use Rattle.syntax.specs.Tree.{EntryTree, entry, abbreviate, directives_of, abbreviations_of, ProgramTree}
 use Rattle.syntax.specs.Grammar.{dictionary_words}
@@ -38,9 +38,9 @@ parts_in found = (map directive_tree found.directives.items, map text_tree found
 
 -- with the texts of an `abbreviate`, from its word on
 unfoldable pub texts_more : Parts → Parse Parts
-texts_more x ts = abbreviate_behind (tail ts) >>= λ new. Ok ((x.0, x.1 ++ new.0), new.1)
+texts_more x ts = abbreviate_after (tail ts) >>= λ new. Ok ((x.0, x.1 ++ new.0), new.1)
 
--- a program of these parts and all of these tokens, of which those were left behind the parts
+-- a program of these parts and all of these tokens, of which those were left after the parts
 abbrev pub whole : List Lexeme → Parts → List Lexeme → Option Position → Result ProgramTree Stop
 whole ts x left (Some p) = Ok
     (record {
@@ -57,10 +57,10 @@ module _ (d : ℕ) where
   -- a directive, or the texts of an `abbreviate`
   unfoldable pub one_entry : Parse EntryTree
   one_entry ts =
-      if is_word w.Abbreviate (head ts) then (abbreviate_behind (tail ts) >>= λ xs. Ok (abbreviate xs.0, xs.1))
+      if is_word w.Abbreviate (head ts) then (abbreviate_after (tail ts) >>= λ xs. Ok (abbreviate xs.0, xs.1))
       else (directive d ts >>= λ x. Ok (entry x.0, x.1))
 
-  -- what was read before, with a directive behind it; and with an entry of either kind
+  -- what was read before, with a directive after it; and with an entry of either kind
 
   unfoldable pub directive_more : Parts → Parse Parts
   directive_more x ts = directive d ts >>= λ new. Ok ((x.0 ++ new.0 ∷ [], x.1), new.1)

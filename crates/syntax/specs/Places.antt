@@ -15,8 +15,8 @@ Begins front = (back : List Lexeme) × (p : ProgramTree) × IsProgram (front ++ 
 pub record IsFirstUnfit (most : ℕ) (ts : List Lexeme) (P : Position → Type 0) : Type 0 where
   pub front : List Lexeme
   pub token : Lexeme
-  pub behind : List Lexeme
-  pub is : ts ≡ front ++ token ∷ behind
+  pub after : List Lexeme
+  pub is : ts ≡ front ++ token ∷ after
   pub fits : Begins front
   pub does_not : Begins (front ++ token ∷ []) → ⊥
   pub none_deeper : (n : ℕ) → DeepProgram n ts → n ≤ most
@@ -26,19 +26,19 @@ pub record IsFirstUnfit (most : ℕ) (ts : List Lexeme) (P : Position → Type 0
 pub record IsFirstDeep (most : ℕ) (ts : List Lexeme) (P : Position → Type 0) : Type 0 where
   pub front : List Lexeme
   pub token : Lexeme
-  pub behind : List Lexeme
-  pub is : ts ≡ front ++ token ∷ behind
-  pub too_deep : DeepEntries (suc most) ts (token ∷ behind)
+  pub after : List Lexeme
+  pub is : ts ≡ front ++ token ∷ after
+  pub too_deep : DeepEntries (suc most) ts (token ∷ after)
   -- what stands before it stands no deeper
-  pub first : (n : ℕ) (u : List Lexeme) → DeepEntries n ts u → length (token ∷ behind) < length u → n ≤ most
+  pub first : (n : ℕ) (u : List Lexeme) → DeepEntries n ts u → length (token ∷ after) < length u → n ≤ most
   pub stands : P (position_of token)
 
 -- some program begins with so many tokens, and none with one more
-pub record IsUnfitBehind (ts : List Lexeme) (count : ℕ) : Type 0 where
+pub record IsUnfitAfter (ts : List Lexeme) (count : ℕ) : Type 0 where
   pub front : List Lexeme
   pub token : Lexeme
-  pub behind : List Lexeme
-  pub is : ts ≡ front ++ token ∷ behind
+  pub after : List Lexeme
+  pub is : ts ≡ front ++ token ∷ after
   pub counts : length front ≡ count
   pub fits : Begins front
   pub does_not : Begins (front ++ token ∷ []) → ⊥
@@ -46,4 +46,4 @@ pub record IsUnfitBehind (ts : List Lexeme) (count : ℕ) : Type 0 where
 -- the number of the first token with which no program begins; none, where the tokens are a program
 abbrev pub AnswersUnfit : List Lexeme → Option ℕ → Type 0
 AnswersUnfit ts None = (p : ProgramTree) × IsProgram ts p
-AnswersUnfit ts (Some n) = IsUnfitBehind ts n
+AnswersUnfit ts (Some n) = IsUnfitAfter ts n

@@ -33,7 +33,7 @@ fn add<'a>(directives: &mut Vec<Directive<'a>>, next: Box<Directive<'a>>) -> Res
     Ok(())
 }
 
-// The directive that comes next, behind what was read before.
+// The directive that comes next, after what was read before.
 #[tactic(auto, unfolding(crate::specs::Parse::directive_more), using(crate::proofs::EntriesRead::map_last))]
 fn add_directive<'t, 'a>(
     parser: &mut Parser<'t, 'a>,
@@ -52,7 +52,7 @@ fn add_directive<'t, 'a>(
     }
 }
 
-// The texts of an `abbreviate`, from its word on, behind what was read before.
+// The texts of an `abbreviate`, from its word on, after what was read before.
 #[tactic(auto, unfolding(crate::specs::Parse::texts_more), using(crate::proofs::EntriesRead::map_both))]
 fn add_texts<'t, 'a>(
     parser: &mut Parser<'t, 'a>,
@@ -67,7 +67,7 @@ fn add_texts<'t, 'a>(
     Ok(())
 }
 
-// A directive, or the texts of an `abbreviate`, behind what was read before.
+// A directive, or the texts of an `abbreviate`, after what was read before.
 #[tactic(auto, unfolding(crate::specs::Parse::one_more))]
 fn entry<'t, 'a>(
     parser: &mut Parser<'t, 'a>,

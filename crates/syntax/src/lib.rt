@@ -20,5 +20,5 @@ pub use syntax_trees::{
     Binary, Comparison, Containment, Equality, Expression, Name, ObjectTest, Prefix, Relative,
     Step, Width,
 };
-pub use tree::{Program, discard, leave};
+pub use tree::{Program, discard, leave_to_system};
 pub use unfit::first_unfit;

@@ -29,6 +29,6 @@ pub fn discard(program: Program<'_>) {
 }
 
 /// Leaves the memory of a program to the system, which takes it back when the process ends.
-pub fn leave(program: Program<'_>) {
+pub fn leave_to_system(program: Program<'_>) {
     forget(program);
 }

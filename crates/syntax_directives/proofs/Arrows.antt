@@ -49,10 +49,10 @@ arrows_more n i front ts lt e =
 
 -- ---- the parent
 
-pub parent_behind_arrows : (ps : List Position) (ts : List Lexeme) → 0 < length ps → parent ps ts ≡ Ok (None, ts)
+pub parent_after_arrows : (ps : List Position) (ts : List Lexeme) → 0 < length ps → parent ps ts ≡ Ok (None, ts)
 unfolding parent
-parent_behind_arrows [] ts lt = absurd (omega (arith, lt))
-parent_behind_arrows (p ∷ ps) ts lt = refl
+parent_after_arrows [] ts lt = absurd (omega (arith, lt))
+parent_after_arrows (p ∷ ps) ts lt = refl
 
 no_arrows : (ps : List Position) (ts : List Lexeme) → length ps ≡ 0 → parent ps ts ≡ parent_on (head ts) ts
 unfolding parent

@@ -14,7 +14,7 @@ use Rattle.syntax_expressions.specs.Nesting.{deep_p_in, DeepArguments, deep_argu
 use Rattle.syntax_statement_parts.specs.Nesting.{DeepItem, deep_item_parenthesis, deep_item_character}
 use Rattle.syntax_statement_parts.specs.Nesting.{deep_item_object_parenthesis, deep_item_object, deep_item_number}
 use Rattle.syntax_statement_parts.specs.Nesting.{DeepItems, deep_items_first, deep_items_next, DeepHeading}
-use Rattle.syntax_statement_parts.specs.Nesting.{deep_heading_before, deep_heading_test, deep_heading_behind}
+use Rattle.syntax_statement_parts.specs.Nesting.{deep_heading_before, deep_heading_test, deep_heading_after}
 use Rattle.syntax_statements.specs.Nesting.{begins_statement, begins_in_case, DeepS, deep_s_brace, deep_s_block}
 use Rattle.syntax_statements.specs.Nesting.{deep_s_print, deep_s_print_ret, deep_s_if, deep_s_if_condition}
 use Rattle.syntax_statements.specs.Nesting.{deep_s_if_then, deep_s_if_else, deep_s_while, deep_s_while_condition}
@@ -38,18 +38,18 @@ use Rattle.syntax_directives.proofs.SpelledStatements.{spelled_Loop, spelled_S, 
 pub record EndsAt (ts u : List Lexeme) : Type 0 where
   pub front : List Lexeme
   pub token : Lexeme
-  pub behind : List Lexeme
-  pub first : u ≡ token ∷ behind
+  pub after : List Lexeme
+  pub first : u ≡ token ∷ after
   pub at : ts ≡ front ++ u
 
 here : {t : Lexeme} {m : List Lexeme} → EndsAt (t ∷ m) (t ∷ m)
-here {t = t} {m = m} = record { front = []; token = t; behind = m; first = refl; at = refl }
+here {t = t} {m = m} = record { front = []; token = t; after = m; first = refl; at = refl }
 
 later : {t : Lexeme} {m u : List Lexeme} → EndsAt m u → EndsAt (t ∷ m) u
 later {t = t} a = record {
   front = t ∷ a.front;
   token = a.token;
-  behind = a.behind;
+  after = a.after;
   first = a.first;
   at = ap (λ us. t ∷ us) a.at;
 }
@@ -58,7 +58,7 @@ pub over : {ts m u : List Lexeme} (front : List Lexeme) → ts ≡ front ++ m �
 over {u = u} front is a = record {
   front = front ++ a.front;
   token = a.token;
-  behind = a.behind;
+  after = a.after;
   first = a.first;
   at = is ∙ ap (λ us. front ++ us) a.at ∙ sym (append_assoc front a.front u);
 }
@@ -147,7 +147,7 @@ ends_Items (deep_items_next a x) = past (spelled_Item a) (later (ends_Items x))
 ends_Heading : {n : ℕ} {ts u : List Lexeme} → DeepHeading n ts u → EndsAt ts u
 ends_Heading (deep_heading_before x) = ends_E x
 ends_Heading (deep_heading_test a f x) = past (spelled_Optional a) (later (ends_E x))
-ends_Heading (deep_heading_behind a f b x) =
+ends_Heading (deep_heading_after a f b x) =
     past (spelled_Optional a) (later (past (spelled_Optional b) (later (ends_E x))))
 
 ends_in_case : (ts : List Lexeme) → begins_in_case ts ≡ true → EndsAt ts ts

@@ -61,18 +61,18 @@ after t m r e = (t ∷ e.0, ap (λ u. t ∷ u) e.1)
 pub further_on : (ts m r : List Lexeme) → EndsWith ts m → EndsWith m r → EndsWith ts r
 further_on ts m r a b = (a.0 ++ b.0, a.1 ∙ ap (λ u. a.0 ++ u) b.1 ∙ sym (append_assoc a.0 b.0 r))
 
-behind_sign : (s : Sign) (ts r : List Lexeme) → expect s ts ≡ Ok r → EndsWith ts r
-behind_sign s ts r e = (sign s (position_of (head ts)) ∷ [], expect_ok s ts r e)
+after_sign : (s : Sign) (ts r : List Lexeme) → expect s ts ≡ Ok r → EndsWith ts r
+after_sign s ts r e = (sign s (position_of (head ts)) ∷ [], expect_ok s ts r e)
 
-pub behind_names : {ts r : List Lexeme} {ns : List NameTree} → IsNames ts ns r → EndsWith ts r
-behind_names l = let a = spelled_Names l in (a.front, a.at)
+pub past_names : {ts r : List Lexeme} {ns : List NameTree} → IsNames ts ns r → EndsWith ts r
+past_names l = let a = spelled_Names l in (a.front, a.at)
 
-pub behind_statements : {ts r : List Lexeme} {xs : StatementTrees} → IsSs ts xs r → EndsWith ts r
-behind_statements l = let a = spelled_Ss l in (a.front, a.at)
+pub after_statements : {ts r : List Lexeme} {xs : StatementTrees} → IsSs ts xs r → EndsWith ts r
+after_statements l = let a = spelled_Ss l in (a.front, a.at)
 
-behind_first : (ts r : List Lexeme) → EndsWith (tail ts) r → EndsWith ts r
-behind_first [] r e = e
-behind_first (t ∷ ts) r e = after t ts r e
+after_first : (ts r : List Lexeme) → EndsWith (tail ts) r → EndsWith ts r
+after_first [] r e = e
+after_first (t ∷ ts) r e = after t ts r e
 
 heading_ends : (ts : List Lexeme) → Judged (λ h r. EndsWith ts r) (λ i. ⊥) (routine_heading ts)
 unfolding routine_heading
@@ -82,7 +82,7 @@ heading_ends ts =
     (λ ns b l. judged_after (expect s.Semicolon b) _
     (λ m e. judged_read _ m
     (further_on ts a m (name n.text n.position ∷ [], q)
-    (further_on a b m (behind_names l) (behind_sign s.Semicolon b m e))))
+    (further_on a b m (past_names l) (after_sign s.Semicolon b m e))))
     (λ i e. absurd (expect_not_deep s.Semicolon b i e)))
     (λ i x. x))
     (λ i x. x)
@@ -93,7 +93,7 @@ closed_ends ts r e = go (expect s.CloseBracket ts) refl e
   where
     go : (R : Result (List Lexeme) Stop) → expect s.CloseBracket ts ≡ R → (R >>= λ u. expect s.Semicolon u) ≡ Ok r
         → EndsWith ts r
-    go (Ok u) g h = further_on ts u r (behind_sign s.CloseBracket ts u g) (behind_sign s.Semicolon u r h)
+    go (Ok u) g h = further_on ts u r (after_sign s.CloseBracket ts u g) (after_sign s.Semicolon u r h)
     go (Err f) g h = absurd cc
 
 closed_not_deep : (ts : List Lexeme) (k : ℕ) → closed ts ≡ Err (deep k) → ⊥
@@ -111,12 +111,12 @@ unfolding routine_body
 body_ends d ts =
     judged_then _ (judged_Ss d ts)
     (λ xs u l. judged_after (closed u) _
-    (λ r e. judged_read xs r (further_on ts u r (behind_statements l.0) (closed_ends u r e)))
+    (λ r e. judged_read xs r (further_on ts u r (after_statements l.0) (closed_ends u r e)))
     (λ i e. absurd (closed_not_deep u i e)))
     (λ i x. tt)
 
 pub routine_ends : (d : ℕ) (ts : List Lexeme) (h : NameTree × List NameTree) (m : List Lexeme)
     (xs : List StatementTree) (r : List Lexeme) → routine_heading (tail ts) ≡ Ok (h, m) → routine_body d m ≡ Ok (xs, r)
     → EndsWith ts r
-routine_ends d ts h m xs r a b = behind_first ts r
+routine_ends d ts h m xs r a b = after_first ts r
     (further_on (tail ts) m r ((heading_ends (tail ts)).read (h, m) a) ((body_ends d m).read (xs, r) b))

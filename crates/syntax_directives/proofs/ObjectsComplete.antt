@@ -17,8 +17,8 @@ use Rattle.syntax_directives.specs.Grammar.{head_arrows, head_parent, IsProp, pr
 use Rattle.syntax_directives.specs.Grammar.{props_comma, comma_none, comma_one, IsProperties, properties_none}
 use Rattle.syntax_directives.specs.Grammar.{properties_with, IsAttributes, attributes_none, attributes_has}
 use Rattle.syntax_directives.specs.Parse.{arrow, arrows, short_on, short, parent_on, parent, object_heading}
-use Rattle.syntax_directives.specs.Parse.{behind_comma, prop, lists_further, next_prop, props, properties, attributes}
-use Rattle.syntax_directives.specs.Parse.{object_behind}
+use Rattle.syntax_directives.specs.Parse.{past_comma, prop, lists_further, next_prop, props, properties, attributes}
+use Rattle.syntax_directives.specs.Parse.{object_after}
 use Rattle.syntax_directives.proofs.Lists.{some_names_read, values_read}
 use Rattle.syntax_directives.proofs.ObjectsRead.{short_Prop}
 
@@ -137,29 +137,29 @@ no_more (attributes_has comma_none a lt) = refl
 no_more (attributes_has comma_one a lt) = refl
 
 no_with : {l r : List Lexeme} {ns : List NameTree} {q : Position} → IsAttributes l ns (sign s.Semicolon q ∷ r)
-    → is_word w.With (head (behind_comma l)) ≡ false
-unfolding behind_comma
+    → is_word w.With (head (past_comma l)) ≡ false
+unfolding past_comma
 no_with attributes_none = refl
 no_with (attributes_has comma_none a lt) = refl
 no_with (attributes_has comma_one a lt) = refl
 
 properties_read : {k l r : List Lexeme} {xs : List PropertyTree} {ns : List NameTree} {q : Position}
     → IsProperties k xs l → IsAttributes l ns (sign s.Semicolon q ∷ r) → properties k ≡ Ok (xs, l)
-unfolding properties behind_comma
+unfolding properties past_comma
 properties_read properties_none b = rw (no_with b) refl
 properties_read (properties_with {m = m} comma_none a) b = props_read m a (no_value (attributes_end b)) (no_more b)
 properties_read (properties_with {m = m} comma_one a) b = props_read m a (no_value (attributes_end b)) (no_more b)
 
 attributes_read : {l r : List Lexeme} {ns : List NameTree} {q : Position}
     → IsAttributes l ns (sign s.Semicolon q ∷ r) → attributes l ≡ Ok (ns, sign s.Semicolon q ∷ r)
-unfolding attributes behind_comma
+unfolding attributes past_comma
 attributes_read attributes_none = refl
 attributes_read (attributes_has {m = m} comma_none a lt) = some_names_read m a lt refl
 attributes_read (attributes_has {m = m} comma_one a lt) = some_names_read m a lt refl
 
 pub object_read : {m k l r : List Lexeme} {q : Position} {h : HeadTree} {xs : List PropertyTree} {ns : List NameTree}
     → IsHead m h k → IsProperties k xs l → IsAttributes l ns (sign s.Semicolon q ∷ r)
-    → object_behind m ≡ Ok (
+    → object_after m ≡ Ok (
       record {
         arrows = h.arrows;
         name = h.name;
@@ -170,5 +170,5 @@ pub object_read : {m k l r : List Lexeme} {q : Position} {h : HeadTree} {xs : Li
       },
       r,
     )
-unfolding object_behind expect
+unfolding object_after expect
 object_read a b c = rw (heading_read a (properties_end b c), properties_read b c, attributes_read c) refl

@@ -18,8 +18,8 @@ use Rattle.syntax_directives.specs.Grammar.{IsShortName, head_arrows, head_paren
 use Rattle.syntax_directives.specs.Grammar.{props_last, props_comma, IsComma, comma_none, comma_one, IsProperties}
 use Rattle.syntax_directives.specs.Grammar.{properties_none, properties_with, IsAttributes, attributes_none}
 use Rattle.syntax_directives.specs.Grammar.{attributes_has, IsDirective, d_object}
-use Rattle.syntax_directives.specs.Parse.{arrow, arrows, short, parent, object_heading, behind_comma, prop}
-use Rattle.syntax_directives.specs.Parse.{lists_further, next_prop, props, properties, attributes, object_behind}
+use Rattle.syntax_directives.specs.Parse.{arrow, arrows, short, parent, object_heading, past_comma, prop}
+use Rattle.syntax_directives.specs.Parse.{lists_further, next_prop, props, properties, attributes, object_after}
 use Rattle.syntax_directives.proofs.Lists.{some_names_judged, short_Names, values_judged, short_Values}
 
 -- ---- what is read derives
@@ -78,8 +78,8 @@ heading_judged ts =
     (λ i x. x))
     (λ i x. x)
 
-comma_judged : (ts : List Lexeme) → IsComma ts (behind_comma ts)
-unfolding behind_comma
+comma_judged : (ts : List Lexeme) → IsComma ts (past_comma ts)
+unfolding past_comma
 comma_judged ts = go (is_sign s.Comma (head ts)) refl
   where
     go : (b : Bool) → is_sign s.Comma (head ts) ≡ b → IsComma ts (cond b (tail ts) ts)
@@ -96,7 +96,7 @@ prop_judged ts =
     (λ i x. x))
     (λ i x. x)
 
--- a property behind a comma
+-- a property after a comma
 record IsNext (ts : List Lexeme) (x : PropertyTree) (r : List Lexeme) : Type 0 where
   place : Position
   from : List Lexeme
@@ -134,25 +134,25 @@ props_judged ts =
 properties_judged : (ts : List Lexeme) → Judged (λ xs r. IsProperties ts xs r) (λ i. ⊥) (properties ts)
 unfolding properties
 properties_judged ts =
-    judged_by (is_word w.With (head (behind_comma ts))) _ _
-    (λ e. judged_as (props_judged (tail (behind_comma ts)))
-    (λ xs r l. properties_with (subst (λ v. IsComma ts v) (at_word w.With (behind_comma ts) e) (comma_judged ts)) l)
+    judged_by (is_word w.With (head (past_comma ts))) _ _
+    (λ e. judged_as (props_judged (tail (past_comma ts)))
+    (λ xs r l. properties_with (subst (λ v. IsComma ts v) (at_word w.With (past_comma ts) e) (comma_judged ts)) l)
     (λ i x. x))
     (λ e. judged_read [] ts properties_none)
 
 attributes_judged : (ts : List Lexeme) → Judged (λ ns r. IsAttributes ts ns r) (λ i. ⊥) (attributes ts)
 unfolding attributes
 attributes_judged ts =
-    judged_by (is_word w.Has (head (behind_comma ts))) _ _
-    (λ e. judged_as (some_names_judged (tail (behind_comma ts)))
+    judged_by (is_word w.Has (head (past_comma ts))) _ _
+    (λ e. judged_as (some_names_judged (tail (past_comma ts)))
     (λ ns r l. attributes_has
-    (subst (λ v. IsComma ts v) (at_word w.Has (behind_comma ts) e) (comma_judged ts)) l.0 l.1)
+    (subst (λ v. IsComma ts v) (at_word w.Has (past_comma ts) e) (comma_judged ts)) l.0 l.1)
     (λ i x. x))
     (λ e. judged_by (is_sign s.Comma (head ts)) _ _ (λ f. judged_grammar) (λ f. judged_read [] ts attributes_none))
 
 pub object_judged : (p : Position) (ts : List Lexeme)
-    → Judged (λ o r. IsDirective (reserved w.Object p ∷ ts) (object o) r) (λ i. ⊥) (object_behind ts)
-unfolding object_behind
+    → Judged (λ o r. IsDirective (reserved w.Object p ∷ ts) (object o) r) (λ i. ⊥) (object_after ts)
+unfolding object_after
 object_judged p ts =
     judged_then _ (heading_judged ts)
     (λ h a e. judged_then _ (properties_judged a)

@@ -39,16 +39,16 @@ pub record Prints (ts : List Lexeme) : Type 0 where
 pub after : {t : Lexeme} {ts : List Lexeme} → Prints (t ∷ ts) → Prints ts
 after {t} {ts} h = record { all = All-tail HasPrintableText t ts h.all }
 
-behind_front : (front r : List Lexeme) → Prints (front ++ r) → Prints r
-behind_front [] r h = h
-behind_front (t ∷ front) r h = behind_front front r (after h)
+after_front : (front r : List Lexeme) → Prints (front ++ r) → Prints r
+after_front [] r h = h
+after_front (t ∷ front) r h = after_front front r (after h)
 
 -- those after a part
 rest : {w : ℕ} {ts r : List Lexeme} → Spelled w ts r → Prints ts → Prints r
-rest {r = r} a h = behind_front a.front r (subst Prints a.at h)
+rest {r = r} a h = after_front a.front r (subst Prints a.at h)
 
 rest_about : {w n : ℕ} {ts r : List Lexeme} → SpelledAbout w n ts r → Prints ts → Prints r
-rest_about {r = r} a h = behind_front a.front r (subst Prints a.at h)
+rest_about {r = r} a h = after_front a.front r (subst Prints a.at h)
 
 rest_optional : {ts r : List Lexeme} {e : Option ExpressionTree} → IsOptional ts e r → Prints ts → Prints r
 rest_optional optional_none h = h

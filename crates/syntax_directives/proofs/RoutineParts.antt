@@ -22,24 +22,24 @@ made ts n ns xs r = (
 )
 
 module _ (d : ℕ) (ts : List Lexeme) where
-  -- what is read behind each part of a routine
+  -- what is read after each part of a routine
 
   abbrev last : NameTree → List NameTree → List StatementTree → List Lexeme → Result (RoutineTree × List Lexeme) Stop
   last n ns xs r = Ok (made ts n ns xs r)
 
-  abbrev behind_bracket : NameTree → List NameTree → List StatementTree → List Lexeme
+  abbrev after_bracket : NameTree → List NameTree → List StatementTree → List Lexeme
       → Result (RoutineTree × List Lexeme) Stop
-  behind_bracket n ns xs u = expect s.Semicolon u >>= last n ns xs
+  after_bracket n ns xs u = expect s.Semicolon u >>= last n ns xs
 
-  abbrev behind_body : NameTree → List NameTree → List StatementTree × List Lexeme
+  abbrev after_body : NameTree → List NameTree → List StatementTree × List Lexeme
       → Result (RoutineTree × List Lexeme) Stop
-  behind_body n ns xs = expect s.CloseBracket xs.1 >>= behind_bracket n ns xs.0
+  after_body n ns xs = expect s.CloseBracket xs.1 >>= after_bracket n ns xs.0
 
-  abbrev behind_locals : NameTree → List NameTree × List Lexeme → Result (RoutineTree × List Lexeme) Stop
-  behind_locals n ns = expect s.Semicolon ns.1 >>= λ m. statements d m >>= behind_body n ns.0
+  abbrev after_locals : NameTree → List NameTree × List Lexeme → Result (RoutineTree × List Lexeme) Stop
+  after_locals n ns = expect s.Semicolon ns.1 >>= λ m. statements d m >>= after_body n ns.0
 
-  abbrev behind_name : NameTree × List Lexeme → Result (RoutineTree × List Lexeme) Stop
-  behind_name n = names n.1 >>= behind_locals n.0
+  abbrev past_name : NameTree × List Lexeme → Result (RoutineTree × List Lexeme) Stop
+  past_name n = names n.1 >>= after_locals n.0
 
   -- the parts of a heading
 
@@ -65,9 +65,9 @@ module _ (d : ℕ) (ts : List Lexeme) where
       → Result (RoutineTree × List Lexeme) Stop
   whole_of n ns xs = Ok (made ts n ns xs.0 xs.1)
 
-  -- behind a heading
-  abbrev behind : (NameTree × List NameTree) × List Lexeme → Result (RoutineTree × List Lexeme) Stop
-  behind h = routine_body d h.1 >>= whole_of h.0.0 h.0.1
+  -- after a heading
+  abbrev after : (NameTree × List NameTree) × List Lexeme → Result (RoutineTree × List Lexeme) Stop
+  after h = routine_body d h.1 >>= whole_of h.0.0 h.0.1
 
   ended : (n : NameTree) (ns : List NameTree) (xs : List StatementTree) (R : Result (List Lexeme) Stop)
       → (R >>= last n ns xs) ≡ ((R >>= body_of xs) >>= whole_of n ns)
@@ -75,31 +75,31 @@ module _ (d : ℕ) (ts : List Lexeme) where
   ended n ns xs (Err f) = refl
 
   bracketed : (n : NameTree) (ns : List NameTree) (xs : List StatementTree) (R : Result (List Lexeme) Stop)
-      → (R >>= behind_bracket n ns xs) ≡ (((R >>= λ u. expect s.Semicolon u) >>= body_of xs) >>= whole_of n ns)
+      → (R >>= after_bracket n ns xs) ≡ (((R >>= λ u. expect s.Semicolon u) >>= body_of xs) >>= whole_of n ns)
   bracketed n ns xs (Ok u) = ended n ns xs (expect s.Semicolon u)
   bracketed n ns xs (Err f) = refl
 
   filled : (n : NameTree) (ns : List NameTree) (R : Result (List StatementTree × List Lexeme) Stop)
-      → (R >>= behind_body n ns) ≡ ((R >>= body_statements) >>= whole_of n ns)
+      → (R >>= after_body n ns) ≡ ((R >>= body_statements) >>= whole_of n ns)
   filled n ns (Ok xs) = bracketed n ns xs.0 (expect s.CloseBracket xs.1)
   filled n ns (Err f) = refl
 
   headed : (n : NameTree) (ns : List NameTree) (R : Result (List Lexeme) Stop)
-      → (R >>= λ m. statements d m >>= behind_body n ns) ≡ ((R >>= heading_of n ns) >>= behind)
+      → (R >>= λ m. statements d m >>= after_body n ns) ≡ ((R >>= heading_of n ns) >>= after)
   unfolding routine_body closed
   headed n ns (Ok m) = filled n ns (statements d m)
   headed n ns (Err f) = refl
 
   local : (n : NameTree) (R : Result (List NameTree × List Lexeme) Stop)
-      → (R >>= behind_locals n) ≡ ((R >>= heading_locals n) >>= behind)
+      → (R >>= after_locals n) ≡ ((R >>= heading_locals n) >>= after)
   local n (Ok ns) = headed n ns.0 (expect s.Semicolon ns.1)
   local n (Err f) = refl
 
-  named : (R : Result (NameTree × List Lexeme) Stop) → (R >>= behind_name) ≡ ((R >>= heading_name) >>= behind)
+  named : (R : Result (NameTree × List Lexeme) Stop) → (R >>= past_name) ≡ ((R >>= heading_name) >>= after)
   named (Ok n) = local n.0 (names n.1)
   named (Err f) = refl
 
-  parted : routine_at d ts ≡ (routine_heading (tail ts) >>= behind)
+  parted : routine_at d ts ≡ (routine_heading (tail ts) >>= after)
   unfolding routine_at routine_heading
   parted = named (expect_name (tail ts))
 

@@ -84,7 +84,7 @@ no_short : {x : Option TextTree}
     → ⊥
 no_short a = elim a [ ]
 
-no_parent_behind_arrows : (h : HeadTree)
+no_parent_after_arrows : (h : HeadTree)
     → IsHead (sign s.Arrow p ∷ name (codes "lamp") p ∷ name (codes "box") p ∷ sign s.Semicolon p ∷ []) h
     (sign s.Semicolon p ∷ []) → ⊥
-no_parent_behind_arrows h (head_arrows (arrows_next arrows_stop) b) = no_short b
+no_parent_after_arrows h (head_arrows (arrows_next arrows_stop) b) = no_short b

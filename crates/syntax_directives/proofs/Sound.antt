@@ -24,8 +24,8 @@ use Rattle.syntax_directives.specs.Grammar.{weight_of, IsNames, IsValues, kind_o
 use Rattle.syntax_directives.specs.Grammar.{d_global_value, d_constant, d_array, d_attribute, d_property}
 use Rattle.syntax_directives.specs.Grammar.{d_property_value, d_routine, directive_nesting}
 use Rattle.syntax_directives.specs.Nesting.{DeepDirective, deep_d_routine}
-use Rattle.syntax_directives.specs.Parse.{kind_on, kind, array_behind, ended, global_behind, constant_behind}
-use Rattle.syntax_directives.specs.Parse.{attribute_behind, property_behind, worded, routine_at, directive}
+use Rattle.syntax_directives.specs.Parse.{kind_on, kind, array_after, ended, global_after, constant_after}
+use Rattle.syntax_directives.specs.Parse.{attribute_after, property_after, worded, routine_at, directive}
 use Rattle.syntax_directives.proofs.Lists.{names_judged, values_judged}
 use Rattle.syntax_directives.proofs.ObjectsRead.{object_judged}
 
@@ -55,8 +55,8 @@ ended_judged x ts make =
 module _ (d : ℕ) where
   global_judged : (p : Position) (ts : List Lexeme)
       → Judged (λ x r. IsDirective (reserved w.Global p ∷ ts) x r × (directive_nesting x ≤ d))
-      (DeepDirective (suc d) (reserved w.Global p ∷ ts)) (global_behind ts)
-  unfolding global_behind
+      (DeepDirective (suc d) (reserved w.Global p ∷ ts)) (global_after ts)
+  unfolding global_after
   global_judged p ts =
       judged_then _ (name_judged ts)
       (λ n r q. judged_by (is_sign s.Assign (head r)) _ _
@@ -80,8 +80,8 @@ module _ (d : ℕ) where
 
   constant_judged : (p : Position) (ts : List Lexeme)
       → Judged (λ x r. IsDirective (reserved w.Constant p ∷ ts) x r × (directive_nesting x ≤ d))
-      (DeepDirective (suc d) (reserved w.Constant p ∷ ts)) (constant_behind ts)
-  unfolding constant_behind
+      (DeepDirective (suc d) (reserved w.Constant p ∷ ts)) (constant_after ts)
+  unfolding constant_after
   constant_judged p ts =
       judged_then _ (name_judged ts)
       (λ n r q. judged_after (expect s.Assign r) _
@@ -100,8 +100,8 @@ module _ (d : ℕ) where
 
   array_judged : (p : Position) (ts : List Lexeme)
       → Judged (λ x r. IsDirective (reserved w.Array p ∷ ts) (array x) r × (directive_nesting (array x) ≤ d))
-      (DeepDirective (suc d) (reserved w.Array p ∷ ts)) (array_behind ts)
-  unfolding array_behind
+      (DeepDirective (suc d) (reserved w.Array p ∷ ts)) (array_after ts)
+  unfolding array_after
   array_judged p ts =
       judged_then _ (name_judged ts)
       (λ n a q. judged_then _ (kind_judged a)
@@ -121,8 +121,8 @@ module _ (d : ℕ) where
 
   attribute_judged : (p : Position) (ts : List Lexeme)
       → Judged (λ x r. IsDirective (reserved w.Attribute p ∷ ts) x r × (directive_nesting x ≤ d))
-      (DeepDirective (suc d) (reserved w.Attribute p ∷ ts)) (attribute_behind ts)
-  unfolding attribute_behind
+      (DeepDirective (suc d) (reserved w.Attribute p ∷ ts)) (attribute_after ts)
+  unfolding attribute_after
   attribute_judged p ts =
       judged_then _ (name_judged ts)
       (λ n r q. ended_judged (attribute n) r
@@ -135,8 +135,8 @@ module _ (d : ℕ) where
 
   property_judged : (p : Position) (ts : List Lexeme)
       → Judged (λ x r. IsDirective (reserved w.Property p ∷ ts) x r × (directive_nesting x ≤ d))
-      (DeepDirective (suc d) (reserved w.Property p ∷ ts)) (property_behind ts)
-  unfolding property_behind
+      (DeepDirective (suc d) (reserved w.Property p ∷ ts)) (property_after ts)
+  unfolding property_after
   property_judged p ts =
       judged_then _ (name_judged ts)
       (λ n r q. judged_by (begins_value (head r)) _ _

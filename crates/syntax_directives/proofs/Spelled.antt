@@ -17,8 +17,8 @@ pub spelled_none : (r : List Lexeme) → Spelled 0 r r
 spelled_none r = record { front = []; at = refl; weight = refl }
 
 -- one token more
-pub behind : {w : ℕ} {m r : List Lexeme} (t : Lexeme) → Spelled w m r → Spelled (token_weight t + w) (t ∷ m) r
-behind t a = record { front = t ∷ a.front; at = ap (λ u. t ∷ u) a.at; weight = ap (λ n. token_weight t + n) a.weight }
+pub after : {w : ℕ} {m r : List Lexeme} (t : Lexeme) → Spelled w m r → Spelled (token_weight t + w) (t ∷ m) r
+after t a = record { front = t ∷ a.front; at = ap (λ u. t ∷ u) a.at; weight = ap (λ n. token_weight t + n) a.weight }
 
 pub joined : {v w : ℕ} {ts m r : List Lexeme} → Spelled v ts m → Spelled w m r → Spelled (v + w) ts r
 joined {r = r} a b = record {
@@ -45,9 +45,9 @@ pub about : {v w n : ℕ} {ts r : List Lexeme} → Spelled v ts r → v ≡ w �
 about a e =
     record { front = a.front; at = a.at; signs = 0; few = omega arith; weight = omega (arith, a.weight, e) }
 
-pub behind_about : {w n : ℕ} {m r : List Lexeme} (t : Lexeme) → SpelledAbout w n m r
+pub after_about : {w n : ℕ} {m r : List Lexeme} (t : Lexeme) → SpelledAbout w n m r
     → SpelledAbout (token_weight t + w) n (t ∷ m) r
-behind_about t a = record {
+after_about t a = record {
   front = t ∷ a.front;
   at = ap (λ u. t ∷ u) a.at;
   signs = a.signs;

@@ -1,4 +1,4 @@
--- The texts behind `abbreviate`: what is read derives, and what derives is read. In them no token stands too deep.
+-- The texts after `abbreviate`: what is read derives, and what derives is read. In them no token stands too deep.
 use Rattle.std.proofs.Common.{◌≡◌, ℕ, zero, suc, ◌<◌, ◌≤◌, false, List, ◌∷◌, length, Ok, refl, sym, subst, arith}
 use Rattle.syntax_lexer.specs.declared.token.Position.{Position}
 use Rattle.syntax_lexer.specs.declared.token.Sign.TheVariants as s
@@ -8,7 +8,7 @@ use Rattle.syntax_expression_parts.proofs.Judged.{Judged, judged_read, judged_gr
 use Rattle.syntax_statements.proofs.SoundRows.{repeated_judged}
 use Rattle.syntax_directives.specs.Tree.{TextTree}
 use Rattle.syntax_directives.specs.Grammar.{IsTexts, texts_stop, texts_next}
-use Rattle.syntax_directives.specs.Parse.{is_text, one_text, texts, abbreviate_behind}
+use Rattle.syntax_directives.specs.Parse.{is_text, one_text, texts, abbreviate_after}
 
 one_text_judged : (ts : List Lexeme) → Judged (λ x r. ts ≡ text x.bytes x.position ∷ r) (λ i. ⊥) (one_text ts)
 unfolding one_text
@@ -53,6 +53,6 @@ texts_read texts_stop lt e = absurd (omega arith)
 texts_read (texts_next {m = m} a) lt e = rw (turns_Texts a e (length m) (omega arith)) refl
 
 pub abbreviate_read : {m r : List Lexeme} {o : Position} {xs : List TextTree} → IsTexts m xs (sign s.Semicolon o ∷ r)
-    → 0 < length xs → abbreviate_behind m ≡ Ok (xs, r)
-unfolding abbreviate_behind expect
+    → 0 < length xs → abbreviate_after m ≡ Ok (xs, r)
+unfolding abbreviate_after expect
 abbreviate_read a lt = rw (texts_read a lt refl) refl

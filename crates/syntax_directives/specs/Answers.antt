@@ -1,4 +1,4 @@
--- What is left behind a part of the tokens.
+-- What is left after a part of the tokens.
 use Rattle.std.specs.Prelude.{◌≡◌, ◌++◌, List}
 use Rattle.syntax_lexer.specs.Token.{Lexeme}
 

@@ -41,8 +41,8 @@ kind_on ts (Some k) = Ok (k, tail ts)
 unfoldable pub kind : Parse ArrayKind
 kind ts = kind_on ts (kind_of (head ts))
 
-unfoldable pub array_behind : Parse ArrayTree
-array_behind ts = do
+unfoldable pub array_after : Parse ArrayTree
+array_after ts = do
   n ← expect_name ts
   k ← kind n.1
   vs ← values k.1
@@ -84,14 +84,14 @@ object_heading ts = do
   o ← parent a.0 x.1
   Ok (record { arrows = a.0; name = n.0; short = x.0; parent = o.0 }, o.1)
 
--- the tokens behind a comma, if one comes next
-unfoldable pub behind_comma : List Lexeme → List Lexeme
-behind_comma ts = if is_sign s.Comma (head ts) then tail ts else ts
+-- the tokens after a comma, if one comes next
+unfoldable pub past_comma : List Lexeme → List Lexeme
+past_comma ts = if is_sign s.Comma (head ts) then tail ts else ts
 
 unfoldable pub prop : Parse PropertyTree
 prop ts = expect_name ts >>= λ n. values n.1 >>= λ vs. Ok (record { name = n.0; values = vs.0 }, vs.1)
 
--- another property comes next, behind a comma
+-- another property comes next, after a comma
 unfoldable pub lists_further : List Lexeme → Bool
 lists_further ts = is_sign s.Comma (head ts) && is_name (head (tail ts))
 
@@ -102,7 +102,7 @@ unfoldable pub props : Parse (List PropertyTree)
 props ts = prop ts >>= λ x. as_long lists_further next_prop (length x.1) x.1 >>= λ xs. Ok (x.0 ∷ xs.0, xs.1)
 
 unfoldable pub properties : Parse (List PropertyTree)
-properties ts = if is_word w.With (head (behind_comma ts)) then props (tail (behind_comma ts)) else Ok ([], ts)
+properties ts = if is_word w.With (head (past_comma ts)) then props (tail (past_comma ts)) else Ok ([], ts)
 
 -- names, at least one
 abbrev pub some_on : List NameTree → Parse (List NameTree)
@@ -112,15 +112,15 @@ some_on (n ∷ ns) ts = Ok (n ∷ ns, ts)
 unfoldable pub some_names : Parse (List NameTree)
 some_names ts = names ts >>= λ ns. some_on ns.0 ns.1
 
--- a comma may stand before `with` and `has` alone: the token behind it does not fit
+-- a comma may stand before `with` and `has` alone: the token after it does not fit
 unfoldable pub attributes : Parse (List NameTree)
 attributes ts =
-    if is_word w.Has (head (behind_comma ts)) then some_names (tail (behind_comma ts))
-    else if is_sign s.Comma (head ts) then Err (unfit (length (behind_comma ts)))
+    if is_word w.Has (head (past_comma ts)) then some_names (tail (past_comma ts))
+    else if is_sign s.Comma (head ts) then Err (unfit (length (past_comma ts)))
     else Ok ([], ts)
 
-unfoldable pub object_behind : Parse ObjectTree
-object_behind ts = do
+unfoldable pub object_after : Parse ObjectTree
+object_after ts = do
   h ← object_heading ts
   xs ← properties h.1
   ns ← attributes xs.1
@@ -157,49 +157,49 @@ unfoldable pub texts : Parse (List TextTree)
 texts ts = one_text ts >>= λ x. repeated is_text one_text (length x.1) x.1 >>= λ xs. Ok (x.0 ∷ xs.0, xs.1)
 
 -- what follows `abbreviate`
-unfoldable pub abbreviate_behind : Parse (List TextTree)
-abbreviate_behind ts = texts ts >>= λ xs. expect s.Semicolon xs.1 >>= λ r. Ok (xs.0, r)
+unfoldable pub abbreviate_after : Parse (List TextTree)
+abbreviate_after ts = texts ts >>= λ xs. expect s.Semicolon xs.1 >>= λ r. Ok (xs.0, r)
 
--- ---- directives, behind their first token
+-- ---- directives, after their first token
 
 unfoldable pub ended : DirectiveTree → Parse DirectiveTree
 ended d ts = expect s.Semicolon ts >>= λ r. Ok (d, r)
 
-unfoldable pub global_behind : Parse DirectiveTree
-global_behind ts = do
+unfoldable pub global_after : Parse DirectiveTree
+global_after ts = do
   n ← expect_name ts
   if is_sign s.Assign (head n.1) then (known_value (tail n.1) >>= λ k. ended (global n.0 (Some k.0)) k.1)
       else ended (global n.0 None) n.1
 
-unfoldable pub constant_behind : Parse DirectiveTree
-constant_behind ts = do
+unfoldable pub constant_after : Parse DirectiveTree
+constant_after ts = do
   n ← expect_name ts
   m ← expect s.Assign n.1
   k ← known_value m
   ended (constant n.0 k.0) k.1
 
-unfoldable pub attribute_behind : Parse DirectiveTree
-attribute_behind ts = expect_name ts >>= λ n. ended (attribute n.0) n.1
+unfoldable pub attribute_after : Parse DirectiveTree
+attribute_after ts = expect_name ts >>= λ n. ended (attribute n.0) n.1
 
-unfoldable pub property_behind : Parse DirectiveTree
-property_behind ts = do
+unfoldable pub property_after : Parse DirectiveTree
+property_after ts = do
   n ← expect_name ts
   if begins_value (head n.1) then (known_value n.1 >>= λ k. ended (property n.0 (Some k.0)) k.1)
       else ended (property n.0 None) n.1
 
 -- the directive that begins with that word
 unfoldable pub worded : Word → Parse DirectiveTree
-worded w.Global ts = global_behind (tail ts)
-worded w.Constant ts = constant_behind (tail ts)
-worded w.Array ts = array_behind (tail ts) >>= λ x. Ok (array x.0, x.1)
-worded w.Attribute ts = attribute_behind (tail ts)
-worded w.Property ts = property_behind (tail ts)
-worded w.Object ts = object_behind (tail ts) >>= λ x. Ok (object x.0, x.1)
+worded w.Global ts = global_after (tail ts)
+worded w.Constant ts = constant_after (tail ts)
+worded w.Array ts = array_after (tail ts) >>= λ x. Ok (array x.0, x.1)
+worded w.Attribute ts = attribute_after (tail ts)
+worded w.Property ts = property_after (tail ts)
+worded w.Object ts = object_after (tail ts) >>= λ x. Ok (object x.0, x.1)
 worded _ ts = Err (unfit (length ts))
 
 -- ---- directives
 
--- what a routine begins with, behind its bracket: its name, its locals, and their `;`
+-- what a routine begins with, after its bracket: its name, its locals, and their `;`
 unfoldable pub routine_heading : Parse (NameTree × List NameTree)
 routine_heading ts = do
   n ← expect_name ts
@@ -207,7 +207,7 @@ routine_heading ts = do
   m ← expect s.Semicolon ns.1
   Ok ((n.0, ns.0), m)
 
--- the tokens behind what closes a routine
+-- the tokens after what closes a routine
 unfoldable pub closed : List Lexeme → Result (List Lexeme) Stop
 closed ts = expect s.CloseBracket ts >>= λ u. expect s.Semicolon u
 

@@ -54,7 +54,7 @@ fn placed<'t, 'a>(parser: &mut Parser<'t, 'a>) -> Result<ArrayValue<'a>, ParseEr
 ///
 /// # Errors
 ///
-/// `Fault::Grammar` at the first token: it begins no value; or behind `-`. `Memory` where a growth
+/// `Fault::Grammar` at the first token: it begins no value; or after `-`. `Memory` where a growth
 /// is refused.
 #[tactic(auto, unfolding(crate::specs::Parse::values), using(syntax_parsing::proofs::Loops::repeated_out, syntax_parsing::proofs::Loops::repeated_done, syntax_parsing::proofs::Loops::repeated_more, syntax_parsing::proofs::Loops::repeated_fails))]
 pub fn values<'t, 'a>(parser: &mut Parser<'t, 'a>) -> Result<Vec<ArrayValue<'a>>, ParseError>
@@ -80,7 +80,7 @@ pub fn values<'t, 'a>(parser: &mut Parser<'t, 'a>) -> Result<Vec<ArrayValue<'a>>
 ///
 /// `Fault::Grammar` at the first token with which no derivation goes on; `Memory` where a growth is
 /// refused.
-#[tactic(auto, unfolding(crate::specs::Parse::worded, crate::specs::Parse::array_behind))]
+#[tactic(auto, unfolding(crate::specs::Parse::worded, crate::specs::Parse::array_after))]
 pub fn array<'t, 'a>(parser: &mut Parser<'t, 'a>) -> Result<Box<Directive<'a>>, ParseError>
     ensures { TakesDirective result parser.new (spec.worded Word.Array (ahead parser.old)) }
 {

@@ -15,7 +15,7 @@ use syntax_parsing::{Fault, ParseError, Parser, expect, fault_at, is_sign, pass,
 use syntax_statement_parts::{begins_value, known_value};
 
 // A global variable, from its word on.
-#[tactic(auto, unfolding(crate::specs::Parse::worded, crate::specs::Parse::global_behind))]
+#[tactic(auto, unfolding(crate::specs::Parse::worded, crate::specs::Parse::global_after))]
 fn global<'t, 'a>(parser: &mut Parser<'t, 'a>) -> Result<Box<Directive<'a>>, ParseError>
     ensures { TakesDirective result parser.new (spec.worded Word.Global (ahead parser.old)) }
 {
@@ -30,7 +30,7 @@ fn global<'t, 'a>(parser: &mut Parser<'t, 'a>) -> Result<Box<Directive<'a>>, Par
 }
 
 // A constant, from its word on.
-#[tactic(auto, unfolding(crate::specs::Parse::worded, crate::specs::Parse::constant_behind))]
+#[tactic(auto, unfolding(crate::specs::Parse::worded, crate::specs::Parse::constant_after))]
 fn constant<'t, 'a>(parser: &mut Parser<'t, 'a>) -> Result<Box<Directive<'a>>, ParseError>
     ensures { TakesDirective result parser.new (spec.worded Word.Constant (ahead parser.old)) }
 {
@@ -42,7 +42,7 @@ fn constant<'t, 'a>(parser: &mut Parser<'t, 'a>) -> Result<Box<Directive<'a>>, P
 }
 
 // An attribute, from its word on.
-#[tactic(auto, unfolding(crate::specs::Parse::worded, crate::specs::Parse::attribute_behind))]
+#[tactic(auto, unfolding(crate::specs::Parse::worded, crate::specs::Parse::attribute_after))]
 fn attribute<'t, 'a>(parser: &mut Parser<'t, 'a>) -> Result<Box<Directive<'a>>, ParseError>
     ensures { TakesDirective result parser.new (spec.worded Word.Attribute (ahead parser.old)) }
 {
@@ -52,7 +52,7 @@ fn attribute<'t, 'a>(parser: &mut Parser<'t, 'a>) -> Result<Box<Directive<'a>>, 
 }
 
 // A property, from its word on.
-#[tactic(auto, unfolding(crate::specs::Parse::worded, crate::specs::Parse::property_behind))]
+#[tactic(auto, unfolding(crate::specs::Parse::worded, crate::specs::Parse::property_after))]
 fn property<'t, 'a>(parser: &mut Parser<'t, 'a>) -> Result<Box<Directive<'a>>, ParseError>
     ensures { TakesDirective result parser.new (spec.worded Word.Property (ahead parser.old)) }
 {

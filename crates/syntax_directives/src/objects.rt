@@ -64,7 +64,7 @@ fn short<'t, 'a>(parser: &mut Parser<'t, 'a>) -> Option<Text<'a>>
 }
 
 // The name of a parent, if one comes next where no arrow stands.
-#[tactic(auto, using(crate::proofs::Arrows::parent_behind_arrows, crate::proofs::Arrows::parent_found, crate::proofs::Arrows::parent_absent))]
+#[tactic(auto, using(crate::proofs::Arrows::parent_after_arrows, crate::proofs::Arrows::parent_found, crate::proofs::Arrows::parent_absent))]
 fn parent<'t, 'a>(parser: &mut Parser<'t, 'a>, arrows: &Vec<Position>) -> Option<Name<'a>>
     ensures { spec.parent arrows.now.items (ahead parser.old)
         ≡ Ok (option_map name_tree result, ahead parser.new) }
@@ -96,10 +96,10 @@ fn object_heading<'t, 'a>(parser: &mut Parser<'t, 'a>) -> Result<Head<'a>, Parse
     })
 }
 
-// The tokens behind a comma, if one comes next.
-#[tactic(auto, unfolding(crate::specs::Parse::behind_comma))]
-fn behind_comma<'t, 'a>(tokens: &'t [Token<'a>]) -> &'t [Token<'a>]
-    ensures { lexemes result.now ≡ spec.behind_comma (lexemes tokens.now) }
+// The tokens after a comma, if one comes next.
+#[tactic(auto, unfolding(crate::specs::Parse::past_comma))]
+fn past_comma<'t, 'a>(tokens: &'t [Token<'a>]) -> &'t [Token<'a>]
+    ensures { lexemes result.now ≡ spec.past_comma (lexemes tokens.now) }
 {
     if is_sign(peek(tokens), Sign::Comma) {
         skip(tokens)
@@ -118,7 +118,7 @@ fn property<'t, 'a>(parser: &mut Parser<'t, 'a>) -> Result<Property<'a>, ParseEr
     Ok(Property { name, values })
 }
 
-// Whether another property comes next, behind a comma.
+// Whether another property comes next, after a comma.
 #[tactic(auto, unfolding(crate::specs::Parse::lists_further))]
 fn lists_further(tokens: &[Token<'_>]) -> bool
     ensures { result ≡ spec.lists_further (lexemes tokens.now) }
@@ -126,7 +126,7 @@ fn lists_further(tokens: &[Token<'_>]) -> bool
     is_sign(peek(tokens), Sign::Comma) && name_of(peek(skip(tokens))).is_some()
 }
 
-// A property behind a comma.
+// A property after a comma.
 #[tactic(auto, unfolding(crate::specs::Parse::next_prop))]
 fn next_property<'t, 'a>(parser: &mut Parser<'t, 'a>) -> Result<Property<'a>, ParseError>
     ensures { Takes property_tree result parser.new (spec.next_prop (ahead parser.old)) }
@@ -154,34 +154,34 @@ fn listed<'t, 'a>(parser: &mut Parser<'t, 'a>) -> Result<Vec<Property<'a>>, Pars
     Ok(found)
 }
 
-// The properties that an object provides, behind `with`.
+// The properties that an object provides, after `with`.
 #[tactic(auto, unfolding(crate::specs::Parse::properties))]
 fn properties<'t, 'a>(parser: &mut Parser<'t, 'a>) -> Result<Vec<Property<'a>>, ParseError>
     ensures { Takes (λ xs. map property_tree xs.items) result parser.new
         (spec.properties (ahead parser.old)) }
 {
-    let behind = behind_comma(parser.tokens);
-    if is_word(peek(behind), Word::With) {
-        parser.tokens = skip(behind);
+    let after = past_comma(parser.tokens);
+    if is_word(peek(after), Word::With) {
+        parser.tokens = skip(after);
         return listed(parser);
     }
     Ok(Vec::new(parser.alloc))
 }
 
-// The names of an object's attributes, behind `has`. A comma that neither `with` nor `has` follows
+// The names of an object's attributes, after `has`. A comma that neither `with` nor `has` follows
 // is not in the grammar.
 #[tactic(auto, unfolding(crate::specs::Parse::attributes))]
 fn attributes<'t, 'a>(parser: &mut Parser<'t, 'a>) -> Result<Vec<Name<'a>>, ParseError>
     ensures { Takes (λ ns. map name_tree ns.items) result parser.new
         (spec.attributes (ahead parser.old)) }
 {
-    let behind = behind_comma(parser.tokens);
-    if is_word(peek(behind), Word::Has) {
-        parser.tokens = skip(behind);
+    let after = past_comma(parser.tokens);
+    if is_word(peek(after), Word::Has) {
+        parser.tokens = skip(after);
         return some_names(parser);
     }
     if is_sign(peek(parser.tokens), Sign::Comma) {
-        return Err(fault_at(Fault::Grammar, behind));
+        return Err(fault_at(Fault::Grammar, after));
     }
     Ok(Vec::new(parser.alloc))
 }
@@ -192,7 +192,7 @@ fn attributes<'t, 'a>(parser: &mut Parser<'t, 'a>) -> Result<Vec<Name<'a>>, Pars
 ///
 /// `Fault::Grammar` at the first token with which no derivation goes on; `Memory` where a growth is
 /// refused.
-#[tactic(auto, unfolding(crate::specs::Parse::worded, crate::specs::Parse::object_behind))]
+#[tactic(auto, unfolding(crate::specs::Parse::worded, crate::specs::Parse::object_after))]
 pub fn object<'t, 'a>(parser: &mut Parser<'t, 'a>) -> Result<Box<Directive<'a>>, ParseError>
     ensures { TakesDirective result parser.new (spec.worded Word.Object (ahead parser.old)) }
 {

@@ -1,5 +1,5 @@
 //! Directives made of their parts, where all that stands before their `;` is read already. Trees
-//! come and go in boxes, and are made last, behind all that can be at fault: where a function holds
+//! come and go in boxes, and are made last, after all that can be at fault: where a function holds
 //! a tree by value, its proof has all kinds of trees before it, with all that each holds, at every
 //! way out. The parser comes first among the arguments, as in the callers: else the prover compares
 //! the types of the arguments part by part.
@@ -19,7 +19,7 @@ ghost use Rattle.syntax_directives.specs.Parse as spec;
 
 use crate::tree::Directive;
 use syntax_lexer::Sign;
-use syntax_parsing::{ParseError, Parser, expect};
+use syntax_parsing::{ParseError, Parser, expect, memory};
 use syntax_statement_parts::Literal;
 use syntax_trees::Name;
 
@@ -31,10 +31,7 @@ pub fn in_box<'t, 'a>(
     ensures { TakesDirective result parser.now
         (Ok (directive_tree directive.entry, ahead parser.now)) }
 {
-    match Box::new(parser.alloc, directive) {
-        Ok(directive) => Ok(directive),
-        Err(refused) => Err(ParseError::from(refused)),
-    }
+    memory::in_box(parser.alloc, directive)
 }
 
 /// A global variable, with its `;`.

@@ -19,7 +19,7 @@ use syntax_parsing::{ParseError, Parser, expect, pass};
 use syntax_statements::Statement;
 use syntax_trees::Name;
 
-// What a routine begins with, behind its bracket: its name, its locals, and their `;`.
+// What a routine begins with, after its bracket: its name, its locals, and their `;`.
 #[tactic(auto, unfolding(crate::specs::Parse::routine_heading))]
 fn routine_heading<'t, 'a>(
     parser: &mut Parser<'t, 'a>,

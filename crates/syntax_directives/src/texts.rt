@@ -53,16 +53,16 @@ fn texts<'t, 'a>(parser: &mut Parser<'t, 'a>) -> Result<Vec<Text<'a>>, ParseErro
     Ok(found)
 }
 
-/// The texts behind `abbreviate`, with their `;`.
+/// The texts after `abbreviate`, with their `;`.
 ///
 /// # Errors
 ///
 /// `Fault::Grammar` at the first token with which no derivation goes on; `Memory` where a growth is
 /// refused.
-#[tactic(auto, unfolding(crate::specs::Parse::abbreviate_behind))]
+#[tactic(auto, unfolding(crate::specs::Parse::abbreviate_after))]
 pub fn abbreviate<'t, 'a>(parser: &mut Parser<'t, 'a>) -> Result<Vec<Text<'a>>, ParseError>
     ensures { Takes (λ xs. map text_tree xs.items) result parser.new
-        (spec.abbreviate_behind (ahead parser.old)) }
+        (spec.abbreviate_after (ahead parser.old)) }
 {
     let found = texts(parser)?;
     expect(parser, Sign::Semicolon)?;

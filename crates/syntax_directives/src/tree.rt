@@ -12,9 +12,9 @@ pub enum ArrayKind {
     Bytes,
     /// `-->`: words
     Words,
-    /// `string`: bytes, behind their number
+    /// `string`: bytes, after their number
     String,
-    /// `table`: words, behind their number
+    /// `table`: words, after their number
     Table,
 }
 

@@ -27,7 +27,7 @@ unfolding expect_name
 name_judged (name n p ∷ ts) = judged_read (record { text = n; position = p }) ts refl
 name_judged _ = judged_grammar
 
--- ---- a name with an arrow behind it
+-- ---- a name with an arrow after it
 
 pub entry_judged : (ts : List Lexeme)
     → Judged (λ n r. ts ≡ name n.text n.position ∷ sign s.LongArrow (position_of (head (tail ts))) ∷ r)

@@ -53,7 +53,7 @@ testing_word w.Hasnt = Some test.HasNot
 testing_word w.Provides = Some test.Provides
 testing_word _ = None
 
--- what a name behind it is tested for
+-- what a name after it is tested for
 abbrev pub testing : Lexeme → Option ObjectTest
 testing (reserved w _) = testing_word w
 testing _ = None

@@ -20,7 +20,7 @@ abbrev pub is_name : Lexeme → Bool
 is_name (name _ _) = true
 is_name _ = false
 
--- the array whose entry comes next, and the width of its entries: a name, and an arrow behind it
+-- the array whose entry comes next, and the width of its entries: a name, and an arrow after it
 abbrev pub array_of : Lexeme → Option Width → Option (NameTree × Width)
 array_of (name n p) (Some width) = Some (record { text = n; position = p }, width)
 array_of _ _ = None
@@ -51,9 +51,9 @@ valued (Some n) ts = Ok (constant n, tail ts)
 abbrev pub closed : {A B : Type 0} → (A → B) → A × List Lexeme → Result (B × List Lexeme) Stop
 closed make x = expect s.CloseParenthesis x.1 >>= λ r. Ok (make x.0, r)
 
--- ---- what stands behind an object
+-- ---- what follows an object
 
--- a property of an owner, from behind its sign on
+-- a property of an owner, after its sign
 unfoldable pub property_next : ExpressionTree → Parse ExpressionTree
 property_next e ts = expect_name ts >>= λ x. Ok (property e x.0, x.1)
 
@@ -63,11 +63,11 @@ properties zero e ts = Ok (e, ts)
 properties (suc n) e ts =
     if is_sign s.Dot (head ts) then (property_next e (tail ts) >>= λ x. properties n x.0 x.1) else Ok (e, ts)
 
--- the name of a property whose entry is read, behind its sign, and the arrow behind it
+-- the name of a property whose entry is read, after its sign, and the arrow after it
 unfoldable pub entry_of : Parse NameTree
 entry_of ts = expect_name ts >>= λ x. expect s.LongArrow x.1 >>= λ r. Ok (x.0, r)
 
--- the length of a property of an operand, from behind its sign on
+-- the length of a property of an operand, after its sign
 abbrev pub length_next : ExpressionTree → Parse ExpressionTree
 length_next e ts = expect_name ts >>= λ x. Ok (property_length e x.0, x.1)
 

@@ -119,7 +119,7 @@ fn containing_word(word: Word) -> Option<Containment>
     }
 }
 
-/// What the name behind the token is tested for, where it is `has`, `hasnt` or `provides`.
+/// What the name after the token is tested for, where it is `has`, `hasnt` or `provides`.
 pub fn testing(token: Token<'_>) -> Option<ObjectTest>
     ensures { result ≡ spec.testing (lexeme token.entry) }
 {

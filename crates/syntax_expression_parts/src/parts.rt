@@ -24,7 +24,9 @@ ghost use Rattle.syntax_expression_parts.specs.Returned.{TakesExpression};
 use crate::operators::{level, stepping, testing, word_value};
 use crate::reading::expect_name;
 use syntax_lexer::{Position, Sign, Word};
-use syntax_parsing::{Fault, ParseError, Parser, expect, fault_at, is_sign, pass, peek, position};
+use syntax_parsing::{
+    Fault, ParseError, Parser, expect, fault_at, is_sign, memory, pass, peek, position,
+};
 use syntax_trees::{
     Binary, Comparison, Containment, Equality, Expression, Name, ObjectTest, Prefix, Relative,
     Step, Width,
@@ -38,21 +40,7 @@ fn in_box<'t, 'a>(
     ensures { TakesExpression result parser.now
         (Ok (expression_tree tree.entry, ahead parser.now)) }
 {
-    match Box::new(parser.alloc, tree) {
-        Ok(tree) => Ok(tree),
-        Err(refused) => Err(ParseError::from(refused)),
-    }
-}
-
-// A name in a box.
-fn boxed_name<'t, 'a>(parser: &Parser<'t, 'a>, name: &Name<'a>) -> Result<Box<Name<'a>>, ParseError>
-    ensures ok { IfOk result (λ x. x.value ≡ name.now) }
-    ensures err { IfErr result (λ e. e ≡ ParseError.Memory) }
-{
-    match Box::new(parser.alloc, *name) {
-        Ok(name) => Ok(name),
-        Err(refused) => Err(ParseError::from(refused)),
-    }
+    memory::in_box(parser.alloc, tree)
 }
 
 /// Drops what was read, where an error follows. It is dropped here, since a function that drops a
@@ -281,7 +269,7 @@ pub fn property_entry<'t, 'a>(
     in_box(parser, Expression::PropertyEntry(owner, *name, index))
 }
 
-/// An owner, with the properties that stand behind it, each a property of what stands before it.
+/// An owner, with the properties that follow it, each a property of what stands before it.
 #[inline(never)]
 pub fn properties<'t, 'a>(
     parser: &mut Parser<'t, 'a>,
@@ -305,7 +293,7 @@ pub fn properties<'t, 'a>(
         let next = expect_name(parser)?;
         others.push(next)?;
     }
-    let name = boxed_name(parser, &first)?;
+    let name = memory::in_box(parser.alloc, first)?;
     in_box(parser, Expression::Property(owner, name, others))
 }
 
@@ -528,7 +516,7 @@ pub fn call<'t, 'a>(
         (map expression_tree arguments.entry.items, ahead parser.old)) }
 {
     expect(parser, Sign::CloseParenthesis)?;
-    let name = boxed_name(parser, name)?;
+    let name = memory::in_box(parser.alloc, *name)?;
     in_box(parser, Expression::Call(name, arguments))
 }
 
@@ -542,6 +530,6 @@ pub fn call_alone<'t, 'a>(
         (Ok (tree.call (name_tree name.now) tree.none, reading.tail (ahead parser.old))) }
 {
     pass(parser);
-    let name = boxed_name(parser, name)?;
+    let name = memory::in_box(parser.alloc, *name)?;
     in_box(parser, Expression::Call(name, Vec::new(parser.alloc)))
 }

@@ -25,7 +25,7 @@ pub fn name_of<'a>(token: Token<'a>) -> Option<Name<'a>>
     }
 }
 
-/// The array whose entry comes next, and the width of its entries: a name, and an arrow behind it.
+/// The array whose entry comes next, and the width of its entries: a name, and an arrow after it.
 #[tactic(auto, using(crate::proofs::Arrays::array_found, crate::proofs::Arrays::array_no_name, crate::proofs::Arrays::array_no_arrow))]
 pub fn array<'a>(tokens: &[Token<'a>]) -> Option<(Name<'a>, Width)>
     ensures { MatchOption result (spec.array_at (lexemes tokens.now) ≡ None)
@@ -56,7 +56,7 @@ pub fn expect_name<'t, 'a>(parser: &mut Parser<'t, 'a>) -> Result<Name<'a>, Pars
     Ok(found)
 }
 
-/// The name of a property whose entry is read, and the arrow behind it, from behind `.&` on.
+/// The name of a property whose entry is read, and the arrow after it, after `.&`.
 ///
 /// # Errors
 ///

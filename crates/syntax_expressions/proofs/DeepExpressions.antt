@@ -43,7 +43,7 @@ use Rattle.syntax_expressions.proofs.Arrays.{no_array_P, step_no_name}
 use Rattle.syntax_expressions.proofs.Short.{short_E, short_E1, short_E3, short_E4, short_P}
 use Rattle.syntax_expressions.proofs.Alternatives.{owner_ends}
 use Rattle.syntax_expressions.proofs.Complete.{at_E, at_E1, chain_E1, at_E3, chain_E3, chain_E4, owner_P}
-use Rattle.syntax_expressions.proofs.Deepened.{Deepened, deep_in, deep_behind, deep_same, deep_opened, deep_inside}
+use Rattle.syntax_expressions.proofs.Deepened.{Deepened, deep_in, deep_after, deep_same, deep_opened, deep_inside}
 use Rattle.syntax_expressions.proofs.Deepened.{deep_linked, DeepListed, deep_first_item, deep_next_item, deep_list}
 use Rattle.syntax_expressions.proofs.DeepBeginnings.{deep_begin_P, deep_begin_E5, deep_begin_E2, deep_begin_Arguments}
 use Rattle.syntax_expressions.proofs.DeepBeginnings.{deep_starts_E, deep_no_array}
@@ -62,7 +62,7 @@ module _ (d : ℕ) {n : ℕ} {ts u : List Lexeme} where
   unfolding expression assignment assigned
   step_e_right m a less e h =
       let right : Deepened (assigned (nested d) m) d n m u = deep_same (rw e refl) (omega arith) h in
-      deep_behind _ a (omega (arith, less)) (omega arith) (deep_in _ right)
+      deep_after _ a (omega (arith, less)) (omega arith) (deep_in _ right)
 
   step_e1_first : Deepened (negated (nested d) ts) d n ts u → Deepened (condition (nested d) ts) d n ts u
   unfolding condition
@@ -81,7 +81,7 @@ module _ (d : ℕ) {n : ℕ} {ts u : List Lexeme} where
       → Limited (sum (nested d) ts) d k a (t ∷ m) → length m < length ts → comparing t ≡ Some op
       → Deepened (sum (nested d) m) d n m u → Deepened (comparison (nested d) ts) d n ts u
   unfolding comparison compared
-  step_e2_compare {a = a} {op = op} {m = m} l less o h = deep_behind {us = m} _ l (omega (arith, less)) (omega arith)
+  step_e2_compare {a = a} {op = op} {m = m} l less o h = deep_after {us = m} _ l (omega (arith, less)) (omega arith)
       (deep_same {S = sum (nested d) m >>= λ x. Ok (compare op a x.0, x.1)} (rw o refl) (omega arith) (deep_in _ h))
 
   step_e2_equal : {k : ℕ} {a : ExpressionTree} {t : Lexeme} {op : Equality} {m : List Lexeme}
@@ -89,7 +89,7 @@ module _ (d : ℕ) {n : ℕ} {ts u : List Lexeme} where
       → Deepened (list (is_word w.Or) (sum (nested d)) m) d n m u → Deepened (comparison (nested d) ts) d n ts u
   unfolding comparison compared equated
   step_e2_equal {a = a} {t = t} {op = op} {m = m} l less o h =
-      deep_behind {us = m} _ l (omega (arith, less)) (omega arith)
+      deep_after {us = m} _ l (omega (arith, less)) (omega arith)
       (deep_same {S = list (is_word w.Or) (sum (nested d)) m >>= λ x. Ok (equal op a (trees_of x.0), x.1)}
       (rw (equating_only t op o, o) refl) (omega arith) (deep_in _ h))
 
@@ -99,7 +99,7 @@ module _ (d : ℕ) {n : ℕ} {ts u : List Lexeme} where
   unfolding comparison compared
   step_e2_contained {a = a} {t = t} {op = op} {m = m} l less o h =
       let not_these = containing_only t op o in
-      deep_behind {us = m} _ l (omega (arith, less)) (omega arith)
+      deep_after {us = m} _ l (omega (arith, less)) (omega arith)
       (deep_same {S = sum (nested d) m >>= λ x. Ok (contained op a x.0, x.1)} (rw (not_these.0, not_these.1, o) refl)
       (omega arith) (deep_in _ h))
 
@@ -135,7 +135,7 @@ module _ (d : ℕ) {n : ℕ} {ts u : List Lexeme} where
   unfolding indexed unindexed owned entry entry_of expect_name expect
   step_e5_entry {m = m} none o a less h =
       deep_same {S = primary (nested d) ts >>= λ x. owned (nested d) x.0 x.1} {us = ts} (rw (none, o) refl)
-      (omega arith) (deep_behind {us = m} _ a (omega (arith, less)) (omega arith) (deep_in _ h))
+      (omega arith) (deep_after {us = m} _ a (omega (arith, less)) (omega arith) (deep_in _ h))
 
   step_u_plain : is_sign s.Minus (head ts) ≡ false → stepping (head ts) ≡ None
       → Deepened (primary (nested d) ts) d n ts u → Deepened (unary (nested d) ts) d n ts u
@@ -147,7 +147,7 @@ module _ (d : ℕ) {n : ℕ} {ts u : List Lexeme} where
   unfolding primary
   step_p h = deep_in _ h
 
--- ---- tokens that open a nesting, and what stands behind them
+-- ---- tokens that open a nesting, and what follows them
 
 module _ (d : ℕ) (m : List Lexeme) where
   open_n1 : (p : Position) → Deepened (negated (nested d) (sign s.Not p ∷ m)) d 1 (sign s.Not p ∷ m)

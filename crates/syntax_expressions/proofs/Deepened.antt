@@ -22,10 +22,10 @@ pub deep_in : {A B : Type 0} {R : Result (A × List Lexeme) Stop} {d n : ℕ} {t
 deep_in f h = record { fewer = h.fewer; stops = λ lt. deep_before f (h.stops lt) }
 
 -- in the second
-pub deep_behind : {A B : Type 0} {R : Result (A × List Lexeme) Stop} {d m n : ℕ} {a : A} {ts us r u : List Lexeme}
+pub deep_after : {A B : Type 0} {R : Result (A × List Lexeme) Stop} {d m n : ℕ} {a : A} {ts us r u : List Lexeme}
     (f : A × List Lexeme → Result (B × List Lexeme) Stop) → Limited R d m a r → length r ≤ length ts
     → length us ≤ length r → Deepened (f (a, r)) d n us u → Deepened (R >>= f) d n ts u
-deep_behind {d = d} {m = m} f p le less q = record {
+deep_after {d = d} {m = m} f p le less q = record {
   fewer = omega (arith, le, less, q.fewer);
   stops = λ lt. elim (cases_lt d m) [
     | inl far ↦ deep_sooner (deep_before f (p.beyond far)) (omega (arith, less, q.fewer))

@@ -1,4 +1,4 @@
--- The token behind an expression: with which it goes on, and with which it has ended.
+-- The token after an expression: with which it goes on, and with which it has ended.
 use Rattle.std.proofs.Common.{◌≡◌, ℕ, ◌<◌, false, List, Some, None, refl, arith}
 use Rattle.syntax_lexer.specs.declared.token.Position.{Position}
 use Rattle.syntax_lexer.specs.declared.token.Sign.TheVariants as s

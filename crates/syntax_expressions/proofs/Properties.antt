@@ -1,4 +1,4 @@
--- Properties behind an owner, by what derives: after e the loop goes on at m.
+-- Properties after an owner, by what derives: after e the loop goes on at m.
 use Rattle.std.proofs.Common.{◌≡◌, ℕ, zero, suc, ◌-◌, ◌<◌, ◌≤◌, false, List, ◌∷◌, length, Result, refl, ◌∙◌, arith}
 use Rattle.syntax_lexer.specs.declared.token.Position.{Position}
 use Rattle.syntax_lexer.specs.declared.token.Sign.TheVariants as s

@@ -1,4 +1,4 @@
--- What is read of an operand, with what stands before and behind it, derives in the grammar and is nested no deeper
+-- What is read of an operand, with what stands before and after it, derives in the grammar and is nested no deeper
 -- than was allowed; and where the fault is that a token stands too deep, one does.
 use Rattle.std.proofs.Common.{◌≡◌, ℕ, zero, suc, ◌<◌, ◌≤◌, ◌⊎◌, true, List, [], ◌∷◌, length, Option, Some, None, refl}
 use Rattle.std.proofs.Common.{sym, ap, ◌∙◌, subst, inl, inr, arith}

@@ -131,7 +131,7 @@ mutual
     arguments_comma : {ts m r : List Lexeme} {p : Position} {e : ExpressionTree} {es : ExpressionTrees}
         → IsE ts e (sign s.Comma p ∷ m) → IsArguments m es r → IsArguments ts (more e es) r
 
--- How deep a tree is nested: a parenthesis, also that of a call or behind `parent`, `child` and `sibling`, and an
+-- How deep a tree is nested: a parenthesis, also that of a call or after `parent`, `child` and `sibling`, and an
 -- operator before its operand count from their own token on, the right side of an assignment from its first token on.
 -- Properties, and the index of an array or of a property, add none.
 abbrev mutual

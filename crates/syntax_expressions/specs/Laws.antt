@@ -11,7 +11,7 @@ use Rattle.syntax_expressions.specs.Grammar.{IsE, IsE1, nesting}
 use Rattle.syntax_expressions.specs.Nesting.{DeepE, DeepE1}
 use Rattle.syntax_expressions.specs.Parse.{condition, expression, nested}
 
--- the reserved words that go on with an expression behind it
+-- the reserved words that go on with an expression after it
 abbrev pub word_goes_on : Word → Bool
 word_goes_on w.Or = true
 word_goes_on w.In = true
@@ -21,7 +21,7 @@ word_goes_on w.Hasnt = true
 word_goes_on w.Provides = true
 word_goes_on _ = false
 
--- the tokens that go on with an expression without an assignment at its root, behind it
+-- the tokens that go on with an expression without an assignment at its root, after it
 abbrev pub continues : Lexeme → Bool
 continues (sign s.AndAlso _) = true
 continues (sign s.OrElse _) = true
@@ -49,7 +49,7 @@ continues (sign s.DotHash _) = true
 continues (sign s.OpenParenthesis _) = true
 continues _ = false
 
--- the tokens that go on with an expression behind it
+-- the tokens that go on with an expression after it
 abbrev pub goes_on : Lexeme → Bool
 goes_on (sign s.Assign _) = true
 goes_on t = continues t

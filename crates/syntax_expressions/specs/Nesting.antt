@@ -2,7 +2,7 @@
 -- one case for each place at which a part can stand in an alternative of the grammar.
 --
 -- DeepE n ts u: an expression that begins at ts can be read as far as the first token of u, which stands n nestings
--- deep in it. What lies before that token in its parts is complete. A parenthesis, also that of a call or behind
+-- deep in it. What lies before that token in its parts is complete. A parenthesis, also that of a call or after
 -- `parent`, `child` and `sibling`, and an operator before its operand stand one deeper than what holds them, and so
 -- does the first token of the right side of an assignment.
 use Rattle.std.specs.Prelude.{◌≡◌, true, ℕ, suc, List, ◌∷◌, Some}

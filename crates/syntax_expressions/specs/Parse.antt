@@ -50,17 +50,17 @@ pub data Level : Type 0 where
 -- over the levels one nesting further in, each with the number of tokens that are left from the token on that opens
 -- the nesting
 module _ (below : Level → ℕ → Parse ExpressionTree) where
-  -- a name, and behind a parenthesis its arguments
+  -- a name, and after a parenthesis its arguments
   unfoldable pub after_name : NameTree → Parse ExpressionTree
   after_name n ts =
       if is_sign s.OpenParenthesis (head ts) then below (arguments n) (length ts) (tail ts)
       else Ok (named n, ts)
 
-  -- behind a parenthesis
+  -- after a parenthesis
   unfoldable pub enclosed : ℕ → Parse ExpressionTree
   enclosed opening ts = below whole opening ts >>= closed parenthesised
 
-  -- behind `parent`, `child` or `sibling`
+  -- after `parent`, `child` or `sibling`
   unfoldable pub related : Relative → Parse ExpressionTree
   related which ts =
       if is_sign s.OpenParenthesis (head ts) then (below whole (length ts) (tail ts) >>= closed (relative_of which))
@@ -93,14 +93,14 @@ module _ (below : Level → ℕ → Parse ExpressionTree) where
   unary_on ts (Some op) =
       below operand (length ts) (tail ts) >>= λ x. Ok (step_before op (position_of (head ts)) x.0, x.1)
 
-  -- behind its sign
+  -- after its sign
   abbrev pub minus : ℕ → Parse ExpressionTree
   minus opening ts = below prefix opening ts >>= λ x. Ok (prefixed op.Minus x.0, x.1)
 
   unfoldable pub unary : Parse ExpressionTree
   unary ts = if is_sign s.Minus (head ts) then minus (length ts) (tail ts) else unary_on ts (stepping (head ts))
 
-  -- an entry of a property of an object, from behind its sign on
+  -- an entry of a property of an object, after its sign
   unfoldable pub entry : ExpressionTree → Parse ExpressionTree
   entry e ts = entry_of ts >>= λ x. unary x.1 >>= λ y. Ok (property_entry e x.0 y.0, y.1)
 
@@ -153,7 +153,7 @@ module _ (below : Level → ℕ → Parse ExpressionTree) where
   compared_on left ts None = equated_on left ts (equating (head ts))
   compared_on left ts (Some op) = compare_on left op (tail ts)
 
-  -- what stands behind a left side
+  -- what follows a left side
   unfoldable pub compared : ExpressionTree → Parse ExpressionTree
   compared left ts = compared_on left ts (comparing (head ts))
 
@@ -172,7 +172,7 @@ module _ (below : Level → ℕ → Parse ExpressionTree) where
   unfoldable pub assigned : Parse ExpressionTree
   assigned ts = if begins_expression (head ts) then below whole (length ts) ts else Err (unfit (length ts))
 
-  -- behind a left side
+  -- after a left side
   unfoldable pub assignment : ExpressionTree → Parse ExpressionTree
   assignment left ts =
       if is_sign s.Assign (head ts)
@@ -182,7 +182,7 @@ module _ (below : Level → ℕ → Parse ExpressionTree) where
   unfoldable pub expression : Parse ExpressionTree
   expression ts = condition ts >>= λ x. assignment x.0 x.1
 
-  -- the arguments of a call, behind its parenthesis
+  -- the arguments of a call, after its parenthesis
   unfoldable pub called : NameTree → Parse ExpressionTree
   called n ts =
       if is_sign s.CloseParenthesis (head ts) then Ok (call n none, tail ts)

@@ -34,7 +34,7 @@ use syntax_parsing::{
 use syntax_trees::{Comparison, Containment, Equality, Expression, Name, Prefix, Relative, Step};
 
 /// The expression at the front of the tokens. `depth` is how many nestings more may be opened: a
-/// parenthesis, also that of a call or behind `parent`, `child` and `sibling`, and an operator
+/// parenthesis, also that of a call or after `parent`, `child` and `sibling`, and an operator
 /// before its operand open one at their own token, the right side of an assignment at its first
 /// token.
 ///
@@ -133,7 +133,7 @@ fn chain<'t, 'a>(
     }
 }
 
-// What stands behind the first operand of a chain.
+// What follows the first operand of a chain.
 #[cycle(expression)]
 #[tactic(auto, using(crate::proofs::Chain::chain_stop))]
 fn links<'t, 'a>(
@@ -241,7 +241,7 @@ fn comparison<'t, 'a>(
     }
 }
 
-// What stands behind the left side of a comparison.
+// What follows the left side of a comparison.
 #[cycle(expression)]
 #[tactic(auto, unfolding(crate::specs::Parse::compared))]
 fn compared<'t, 'a>(
@@ -332,7 +332,7 @@ fn contain<'t, 'a>(
     }
 }
 
-// What stands behind `==` or `~=`: a value, and further values behind `or`.
+// What follows `==` or `~=`: a value, and further values after `or`.
 #[cycle(expression)]
 fn values<'t, 'a>(
     parser: &mut Parser<'t, 'a>,
@@ -436,7 +436,7 @@ fn unindexed<'t, 'a>(
     }
 }
 
-// An owner, with the entry of its property, `++`, `--` or `.#` where it stands behind it.
+// An owner, with the entry of its property, `++`, `--` or `.#` where it is followed by one.
 #[cycle(expression)]
 #[tactic(auto, unfolding(crate::specs::Parse::owned))]
 fn owned<'t, 'a>(
@@ -542,7 +542,7 @@ fn step_before<'t, 'a>(
     }
 }
 
-// A primary, with `++`, `--` or `.#` where it stands behind it.
+// A primary, with `++`, `--` or `.#` where it is followed by one.
 #[cycle(expression)]
 #[tactic(auto, unfolding(crate::specs::Parse::stepped))]
 fn stepped<'t, 'a>(
@@ -558,7 +558,7 @@ fn stepped<'t, 'a>(
     }
 }
 
-// An operand without operators: what `atom` reads, and properties behind it.
+// An operand without operators: what `atom` reads, and properties after it.
 #[cycle(expression)]
 #[tactic(auto, unfolding(crate::specs::Parse::primary))]
 fn primary<'t, 'a>(
@@ -603,7 +603,7 @@ fn atom<'t, 'a>(
     }
 }
 
-// A name, or its call where a parenthesis stands behind it, from the name on.
+// A name, or its call where a parenthesis follows it, from the name on.
 #[cycle(expression)]
 #[tactic(auto, unfolding(crate::specs::Parse::after_name), using(crate::proofs::Nested::nested_zero, crate::proofs::Nested::nested_arguments))]
 fn after_name<'t, 'a>(
@@ -693,7 +693,7 @@ fn related<'t, 'a>(
     }
 }
 
-// The call of a name, from behind its parenthesis.
+// The call of a name, from after its parenthesis.
 #[cycle(expression)]
 #[tactic(auto, unfolding(crate::specs::Parse::called))]
 fn called<'t, 'a>(

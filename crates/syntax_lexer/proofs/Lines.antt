@@ -140,7 +140,7 @@ one_line : (line : ℕ) (bs : List ℕ) → Each goes_on bs → line_behind line
 one_line line [] h = refl
 one_line line (b ∷ bs) h = ap (λ n. line_behind n bs) (same_line line b h.0) ∙ one_line line bs h.1
 
--- behind some bytes that end no line the line is the same
+-- after some bytes that end no line the line is the same
 pub line_on : (source : List ℕ) (at n : ℕ) → Each goes_on (take n (drop at source))
     → line_at source (at + n) ≡ line_at source at
 line_on source at n h =
@@ -151,22 +151,22 @@ first_byte : (source : List ℕ) (at : ℕ) → at < length source
     → drop at source ≡ get_or source at 0 ∷ drop (at + 1) source
 first_byte source at lt = rw (add-one at) (drop-cons source at 0 lt)
 
--- behind one byte
+-- after one byte
 pub line_next : (source : List ℕ) (at : ℕ) → at < length source
     → line_at source (at + 1) ≡ line_after (line_at source at) (get_or source at 0)
 line_next source at lt =
     ap (line_behind 1) (take-add at 1 source) ∙ joined_line 1 (take at source) (take 1 (drop at source))
     ∙ ap (λ xs. line_behind (line_at source at) (take 1 xs)) (first_byte source at lt)
 
--- behind a token
-pub line_behind_token : (source : List ℕ) (at n : ℕ) (x : Lexeme) → IsLongest (drop at source) x n
+-- after a token
+pub line_after_token : (source : List ℕ) (at n : ℕ) (x : Lexeme) → IsLongest (drop at source) x n
     → line_at source (at + n) ≡ line_at source at
-line_behind_token source at n x long = line_on source at n (token_goes_on x (take n (drop at source)) long.spelled)
+line_after_token source at n x long = line_on source at n (token_goes_on x (take n (drop at source)) long.spelled)
 
--- behind a comment
-pub line_behind_comment : (source : List ℕ) (at n : ℕ) → at < length source → get_or source at 0 ≡ 33
+-- after a comment
+pub line_after_comment : (source : List ℕ) (at n : ℕ) → at < length source → get_or source at 0 ≡ 33
     → n ≡ run is_comment_byte (drop (at + 1) source) → line_at source (at + (1 + n)) ≡ line_at source at
-line_behind_comment source at n lt first is =
+line_after_comment source at n lt first is =
     let places : at + (1 + n) ≡ at + 1 + n = omega arith in
     ap (line_at source) places
     ∙ line_on source (at + 1) n
@@ -259,7 +259,7 @@ lexed_in source (comment {at = at} {line = line} {b = b} {bs = bs} is h) e le th
     lexed_in source h (ap (drop n) rest ∙ drop-drop n (at + 1) source)
     (omega (arith, lt, run_within is_comment_byte bs, ap length rest, length-drop (at + 1) source))
     (ap (line_at source) places
-    ∙ line_behind_comment source at n lt (sym (first_is source at b bs e) ∙ is) (ap (run is_comment_byte) rest) ∙ there)
+    ∙ line_after_comment source at n lt (sym (first_is source at b bs e) ∙ is) (ap (run is_comment_byte) rest) ∙ there)
 lexed_in source (token {at = at} {line = line} {n = n} {bs = bs} {lexeme = x} {o = o} place long good h) e le there =
     let here : IsInLine source line at = record {
       within = le;
@@ -270,7 +270,7 @@ lexed_in source (token {at = at} {line = line} {n = n} {bs = bs} {lexeme = x} {o
     (subst (λ p. IsInLine source p.line p.offset) (sym place) here)
     (lexed_in source h (ap (drop n) e ∙ drop-drop n at source)
     (omega (arith, long.within, ap length e, length-drop at source))
-    (line_behind_token source at n x (subst (λ xs. IsLongest xs x n) e long) ∙ there))
+    (line_after_token source at n x (subst (λ xs. IsLongest xs x n) e long) ∙ there))
 lexed_in source (fault {at = at} {line = line} {bs = bs} g b) e le there = record {
   at = at;
   offset = refl;

@@ -18,7 +18,7 @@ abbrev pub unplaced : {A : Type 0} → Result A PlacedFault → Result A SourceF
 unplaced (Ok x) = Ok x
 unplaced (Err p) = Err p.fault
 
--- the line behind these bytes, which begin in a line
+-- the line after these bytes, which begin in a line
 abbrev pub line_behind : ℕ → List ℕ → ℕ
 line_behind line [] = line
 line_behind line (b ∷ bs) = line_behind (line_after line b) bs

@@ -142,18 +142,16 @@ pub fn byte_at(bytes: &[u8], at: usize) -> u8
     if at < bytes.len() { bytes[at] } else { 0 }
 }
 
-/// The bytes from a place on.
+/// The bytes from a place on, none if there are no more.
 pub fn from(bytes: &[u8], at: usize) -> &[u8]
-    requires { at ≤ length bytes.now }
     ensures { result.now ≡ drop at bytes.now }
 {
-    bytes.split_at(at).1
+    bytes.split_at(at.min(bytes.len())).1
 }
 
-/// The first bytes.
+/// The first `count` bytes, or all if there are no more.
 pub fn front(bytes: &[u8], count: usize) -> &[u8]
-    requires { count ≤ length bytes.now }
     ensures { result.now ≡ take count bytes.now }
 {
-    bytes.split_at(count).0
+    bytes.split_at(count.min(bytes.len())).0
 }

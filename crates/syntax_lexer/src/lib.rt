@@ -12,6 +12,7 @@ mod signs;
 mod source;
 mod token;
 
+pub use bytes::{from, front};
 pub use fault::{
     BAD_ABBREVIATION, BAD_ARRAY, BAD_NUMBER, BAD_TEXT, BREAK_OUTSIDE, DEFINED_TWICE,
     EXPRESSION_TOO_LARGE, NAME_TOO_LONG, NESTED_TOO_DEEP, NO_MEMORY, NO_PROPER_MAIN,

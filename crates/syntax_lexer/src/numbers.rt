@@ -52,7 +52,7 @@ fn value(base: Base, digits: &[u8]) -> Option<u16>
 ///
 /// # Errors
 ///
-/// `BadNumber`: no digit stands behind the prefix, the value is above 65,535, or a byte of names
+/// `BadNumber`: no digit follows the prefix, the value is above 65,535, or a byte of names
 /// stands directly after it.
 pub fn number_token<'a>(bytes: &'a [u8]) -> Result<(Kind<'a>, usize), LexicalFault>
     requires { (classes.is_digit (slice_index bytes.now 0)

@@ -289,7 +289,7 @@ fn repetition<'t, 'a>(
     }
 }
 
-// The statement behind `do`.
+// The statement after `do`.
 #[cycle(statement)]
 #[tactic(auto, unfolding(syntax_statements::specs::Parse::entered))]
 fn entered<'t, 'a>(
@@ -387,7 +387,7 @@ fn bodies<'t, 'a>(
     Ok(as_kept(found))
 }
 
-// A case: its ranges, and its statements behind a colon.
+// A case: its ranges, and its statements after a colon.
 #[cycle(statement)]
 #[tactic(auto, unfolding(syntax_statements::specs::Parse::one_case, syntax_statements::specs::Views::case_tree))]
 fn one_case<'t, 'a>(

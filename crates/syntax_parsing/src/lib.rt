@@ -3,6 +3,7 @@
 #![tactic(auto)]
 
 mod error;
+pub mod memory;
 mod parser;
 mod tokens;
 

@@ -1,6 +1,6 @@
 //! The tokens that are still to be read, and what is taken from their front.
 //!
-//! What reads a part of a source answers the tree alone, and leaves the tokens behind it here: a
+//! What reads a part of a source answers the tree alone, and leaves the tokens after it here: a
 //! result that held both would have its lifetimes compared part by part, wherever it is made or
 //! taken apart.
 

@@ -11,14 +11,14 @@ use Rattle.syntax_expressions.specs.Nesting.{DeepE}
 use Rattle.syntax_statement_parts.specs.Tree.{PrintItemTree}
 use Rattle.syntax_statement_parts.specs.Grammar.{IsOptional, effect_or_none, IsItem}
 
--- the tokens that can stand behind a value at the beginning of a case
+-- the tokens that can follow a value at the beginning of a case
 abbrev pub goes_on_in_case : Lexeme → Bool
 goes_on_in_case (sign s.Comma _) = true
 goes_on_in_case (sign s.Colon _) = true
 goes_on_in_case (reserved w.To _) = true
 goes_on_in_case _ = false
 
--- three tokens with which a case can begin: a value, and `,`, `to` or `:` behind it
+-- three tokens with which a case can begin: a value, and `,`, `to` or `:` after it
 abbrev pub case_begins : Lexeme → Lexeme → Lexeme → Bool
 case_begins (number _ _) t u = goes_on_in_case t
 case_begins (character _ _) t u = goes_on_in_case t
@@ -57,6 +57,6 @@ pub data DeepHeading : ℕ → List Lexeme → List Lexeme → Type 0 where
   deep_heading_before : {n : ℕ} {m u : List Lexeme} → DeepE n m u → DeepHeading n m u
   deep_heading_test : {n : ℕ} {m k u : List Lexeme} {p : Position} {a : Option ExpressionTree}
       → IsOptional m a (sign s.Colon p ∷ k) → effect_or_none a ≡ true → DeepE n k u → DeepHeading n m u
-  deep_heading_behind : {n : ℕ} {m k l u : List Lexeme} {p q : Position} {a b : Option ExpressionTree}
+  deep_heading_after : {n : ℕ} {m k l u : List Lexeme} {p q : Position} {a b : Option ExpressionTree}
       → IsOptional m a (sign s.Colon p ∷ k) → effect_or_none a ≡ true → IsOptional k b (sign s.Colon q ∷ l)
       → DeepE n l u → DeepHeading n m u

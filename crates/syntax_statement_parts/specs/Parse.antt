@@ -48,7 +48,7 @@ abbrev pub member : ExpressionTree → Option NameTree
 member (contained containment.In a e) = name_alone a
 member _ = None
 
--- what stands behind an `in`
+-- what follows an `in`
 abbrev pub holder : ExpressionTree → Option ExpressionTree
 holder (contained op a e) = Some e
 holder _ = None
@@ -106,7 +106,7 @@ ranges ts = list (is_sign s.Comma) range ts
 
 -- ---- what stands inside statements
 
--- behind the token that opens a nesting, from which on so many are left, where so many may be opened
+-- after the token that opens a nesting, from which on so many are left, where so many may be opened
 abbrev pub opened : {A : Type 0} → ℕ → ℕ → Result A Stop → Result A Stop
 opened zero opening R = Err (deep opening)
 opened (suc d) opening R = R
@@ -153,7 +153,7 @@ module _ (d : ℕ) where
   unfoldable pub optional_effect : Sign → Parse (Option ExpressionTree)
   optional_effect s ts = optional s ts >>= λ x. if effect_or_none x.0 then Ok x else Err (unfit (length x.1))
 
-  -- the parts of a `for`, with the parenthesis behind them
+  -- the parts of a `for`, with the parenthesis after them
   unfoldable pub heading : Parse HeadingTree
   heading ts = do
     a ← optional_effect s.Colon ts
@@ -162,9 +162,9 @@ module _ (d : ℕ) where
     l ← expect s.Colon b.1
     c ← optional_effect s.CloseParenthesis l
     r ← expect s.CloseParenthesis c.1
-    Ok (record { before = a.0; test = b.0; behind = c.0 }, r)
+    Ok (record { before = a.0; test = b.0; after = c.0 }, r)
 
-  -- what an `objectloop` goes over, with the parenthesis behind it
+  -- what an `objectloop` goes over, with the parenthesis after it
   unfoldable pub looped : Parse LoopTree
   looped ts = do
     n ← expect_name ts

@@ -22,7 +22,7 @@ use Rattle.syntax_statement_parts.specs.Tree.{character_item, object_item, numbe
 pub record HeadingTree : Type 0 where
   pub before : Option ExpressionTree
   pub test : Option ExpressionTree
-  pub behind : Option ExpressionTree
+  pub after : Option ExpressionTree
 
 abbrev pub literal_tree : Literal → LiteralTree
 literal_tree (values.Number n) = number_value n
@@ -39,7 +39,7 @@ abbrev pub part_tree : Option (Box Expression) → Option ExpressionTree
 part_tree e = option_map (λ x. expression_tree x.value) e
 
 abbrev pub heading_tree : Heading → HeadingTree
-heading_tree h = record { before = part_tree h.before; test = part_tree h.test; behind = part_tree h.behind }
+heading_tree h = record { before = part_tree h.before; test = part_tree h.test; after = part_tree h.after }
 
 abbrev pub loop_tree : Loop → LoopTree
 loop_tree (loops.All n) = over_all (name_tree n)

@@ -22,7 +22,7 @@ fn begins_flag(token: Token<'_>) -> bool
     }
 }
 
-// An attribute that is given, or behind `~` one that is taken.
+// An attribute that is given, or after `~` one that is taken.
 #[tactic(auto, unfolding(crate::specs::Parse::flag))]
 fn flag<'t, 'a>(parser: &mut Parser<'t, 'a>) -> Result<(bool, Name<'a>), ParseError>
     ensures { Takes flag_tree result parser.new (parts.flag (ahead parser.old)) }
@@ -36,11 +36,11 @@ fn flag<'t, 'a>(parser: &mut Parser<'t, 'a>) -> Result<(bool, Name<'a>), ParseEr
     Ok((true, name))
 }
 
-/// The attributes behind the object of `give`, at least one.
+/// The attributes after the object of `give`, at least one.
 ///
 /// # Errors
 ///
-/// `Fault::Grammar` at a token that is neither a name nor `~`, and behind `~` at one that is no
+/// `Fault::Grammar` at a token that is neither a name nor `~`, and after `~` at one that is no
 /// name.
 #[tactic(auto, unfolding(crate::specs::Parse::flags), using(syntax_parsing::proofs::Loops::repeated_out, syntax_parsing::proofs::Loops::repeated_done, syntax_parsing::proofs::Loops::repeated_more, syntax_parsing::proofs::Loops::repeated_fails))]
 pub fn flags<'t, 'a>(parser: &mut Parser<'t, 'a>) -> Result<Vec<(bool, Name<'a>)>, ParseError>

@@ -18,11 +18,11 @@ use syntax_trees::Expression;
 fn optional<'t, 'a>(
     parser: &mut Parser<'t, 'a>,
     depth: usize,
-    behind: Sign,
+    after: Sign,
 ) -> Result<Option<Box<Expression<'a>>>, ParseError>
-    ensures { Takes part_tree result parser.new (spec.optional depth behind (ahead parser.old)) }
+    ensures { Takes part_tree result parser.new (spec.optional depth after (ahead parser.old)) }
 {
-    if is_sign(peek(parser.tokens), behind) {
+    if is_sign(peek(parser.tokens), after) {
         return Ok(None);
     }
     match expression(parser, depth) {
@@ -46,12 +46,12 @@ fn effect_or_none(e: &Option<Box<Expression<'_>>>) -> bool
 fn optional_effect<'t, 'a>(
     parser: &mut Parser<'t, 'a>,
     depth: usize,
-    behind: Sign,
+    after: Sign,
 ) -> Result<Option<Box<Expression<'a>>>, ParseError>
     ensures { Takes part_tree result parser.new
-        (spec.optional_effect depth behind (ahead parser.old)) }
+        (spec.optional_effect depth after (ahead parser.old)) }
 {
-    match optional(parser, depth, behind) {
+    match optional(parser, depth, after) {
         Ok(found) => {
             if !effect_or_none(&found) {
                 return Err(fault_at(Fault::Grammar, parser.tokens));
@@ -62,7 +62,7 @@ fn optional_effect<'t, 'a>(
     }
 }
 
-// The parts, with the parenthesis behind them.
+// The parts, with the parenthesis after them.
 #[tactic(auto, unfolding(crate::specs::Parse::heading))]
 fn heading<'t, 'a>(
     parser: &mut Parser<'t, 'a>,
@@ -75,12 +75,12 @@ fn heading<'t, 'a>(
     expect(parser, Sign::Colon)?;
     let test = optional(parser, depth, Sign::Colon)?;
     expect(parser, Sign::Colon)?;
-    let behind = optional_effect(parser, depth, Sign::CloseParenthesis)?;
+    let after = optional_effect(parser, depth, Sign::CloseParenthesis)?;
     expect(parser, Sign::CloseParenthesis)?;
     let found = Heading {
         before,
         test,
-        behind,
+        after,
     };
     Ok(Box::new(parser.alloc, found)?)
 }
@@ -89,7 +89,7 @@ fn heading<'t, 'a>(
 ///
 /// # Errors
 ///
-/// Those of `expression`; `Fault::Grammar` where a sign is missing, and behind a part without an
+/// Those of `expression`; `Fault::Grammar` where a sign is missing, and after a part without an
 /// effect that needs one; `Fault::Deep` where no nesting is left.
 #[tactic(auto, unfolding(crate::specs::Parse::enclosed_heading), using(crate::proofs::Inside::heading_zero, crate::proofs::Inside::heading_more))]
 pub fn enclosed_heading<'t, 'a>(

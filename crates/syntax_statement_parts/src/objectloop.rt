@@ -69,7 +69,7 @@ fn member<'a>(e: &Expression<'a>) -> Option<Name<'a>>
     }
 }
 
-// What stands behind `in` or `notin`.
+// What follows `in` or `notin`.
 fn holder<'a>(e: Expression<'a>) -> Option<Box<Expression<'a>>>
     ensures { part_tree result ≡ spec.holder (expression_tree e.entry) }
 {
@@ -115,7 +115,7 @@ fn loop_of<'a>(variable: Name<'a>, found: Box<Expression<'a>>) -> Loop<'a>
     }
 }
 
-// What the loop goes over, with the parenthesis behind it.
+// What the loop goes over, with the parenthesis after it.
 #[tactic(auto, unfolding(crate::specs::Parse::looped), using(syntax_expression_parts::proofs::NamesRead::name_found, syntax_expression_parts::proofs::NamesRead::no_name))]
 fn looped<'t, 'a>(parser: &mut Parser<'t, 'a>, depth: usize) -> Result<Box<Loop<'a>>, ParseError>
     ensures { Takes (λ x. loop_tree x.value) result parser.new

@@ -25,12 +25,12 @@ pub struct Range<'a> {
 }
 
 /// What stands in the parentheses of a `for`: what is done before the first round, the test of each
-/// round, and what is done behind each round. A test that is absent is true.
+/// round, and what is done after each round. A test that is absent is true.
 #[derive(Drop)]
 pub struct Heading<'a> {
     pub before: Option<Box<Expression<'a>>>,
     pub test: Option<Box<Expression<'a>>>,
-    pub behind: Option<Box<Expression<'a>>>,
+    pub after: Option<Box<Expression<'a>>>,
 }
 
 /// What stands in the parentheses of an `objectloop`, which begins with its variable.

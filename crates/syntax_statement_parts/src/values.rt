@@ -13,7 +13,7 @@ use syntax_lexer::{Kind, Sign, Token, Word};
 use syntax_parsing::{Fault, ParseError, Parser, fault_at, is_sign, is_word, pass, peek, skip};
 use syntax_trees::Name;
 
-// The number behind a `-`.
+// The number after a `-`.
 fn negative<'t, 'a>(parser: &mut Parser<'t, 'a>) -> Result<Literal<'a>, ParseError>
     ensures { Takes literal_tree result parser.new
         (spec.negative_on (head (ahead parser.old)) (ahead parser.old)) }
@@ -67,7 +67,7 @@ pub fn begins_value(token: Token<'_>) -> bool
     }
 }
 
-// Whether the token can stand behind a value at the beginning of a case.
+// Whether the token can follow a value at the beginning of a case.
 fn goes_on_in_case(token: Token<'_>) -> bool
     ensures { result ≡ nesting.goes_on_in_case (lexeme token.entry) }
 {
@@ -95,13 +95,13 @@ fn case_begins(first: Token<'_>, second: Token<'_>, third: Token<'_>) -> bool
     }
 }
 
-/// Whether the tokens begin a case of a `switch`: a value, and `,`, `to` or `:` behind it.
+/// Whether the tokens begin a case of a `switch`: a value, and `,`, `to` or `:` after it.
 #[tactic(auto, unfolding(crate::specs::Nesting::begins_case))]
 pub fn begins_case(tokens: &[Token<'_>]) -> bool
     ensures { result ≡ nesting.begins_case (lexemes tokens.now) }
 {
-    let behind = skip(tokens);
-    case_begins(peek(tokens), peek(behind), peek(skip(behind)))
+    let after = skip(tokens);
+    case_begins(peek(tokens), peek(after), peek(skip(after)))
 }
 
 // The values for which a case is meant: one alone, or those from one to another.

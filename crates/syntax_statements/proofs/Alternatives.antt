@@ -147,7 +147,7 @@ module _ (d : ℕ) where
       → Limited (optional_effect d s.Colon ts) d n a (sign s.Colon i ∷ k)
       → Limited (optional d s.Colon k) d l b (sign s.Colon q ∷ m)
       → Limited (optional_effect d s.CloseParenthesis m) d j c (sign s.CloseParenthesis o ∷ r)
-      → Limited (heading d ts) d (max n (max l j)) (record { before = a; test = b; behind = c }) r
+      → Limited (heading d ts) d (max n (max l j)) (record { before = a; test = b; after = c }) r
   unfolding heading expect
   step_heading i q o ts first second a b c = bound _ a (omega (arith, first, second))
       (bound _ b (omega (arith, second)) (then _ c (omega arith) refl))
@@ -159,7 +159,7 @@ module _ (d : ℕ) where
   step_enclosed q m a = a
 
   pub step_for : {n l : ℕ} {a b c : Option ExpressionTree} {x : StatementTree} {k r : List Lexeme} (p : Position)
-      (ts : List Lexeme) → Limited (enclosed_heading d ts) d n (record { before = a; test = b; behind = c }) k
+      (ts : List Lexeme) → Limited (enclosed_heading d ts) d n (record { before = a; test = b; after = c }) k
       → length r ≤ length k → Limited (inside d k) d l x r
       → Limited (statement d (reserved w.For p ∷ ts)) d (max n l) (for_loop p a b c x) r
   unfolding statement statement_over iteration

@@ -1,4 +1,4 @@
--- What is read behind `if`, the words of loops and `switch`, by what reading their parts gave.
+-- What is read after `if`, the words of loops and `switch`, by what reading their parts gave.
 use Rattle.std.proofs.Common.{◌≡◌, ℕ, true, false, List, length, Option, Some, Result, Ok, Err, refl, sym, ap, ◌∙◌}
 use Rattle.syntax_lexer.specs.declared.token.Position.{Position}
 use Rattle.syntax_lexer.specs.declared.token.Sign.TheVariants as s
@@ -26,7 +26,7 @@ module _ (d : ℕ) (inside : Parse StatementTree) (p : Position) (ts m : List Le
 
 module _ (d : ℕ) (inside : Parse StatementTree) (p : Position) (ts : List Lexeme) where
   pub iteration_made : (h : HeadingTree) (x : StatementTree) (m r : List Lexeme) → enclosed_heading d ts ≡ Ok (h, m)
-      → inside m ≡ Ok (x, r) → iteration d inside p ts ≡ Ok (for_loop p h.before h.test h.behind x, r)
+      → inside m ≡ Ok (x, r) → iteration d inside p ts ≡ Ok (for_loop p h.before h.test h.after x, r)
   unfolding iteration
   iteration_made h x m r read g = rw (read, g) refl
 
@@ -35,10 +35,10 @@ module _ (d : ℕ) (inside : Parse StatementTree) (p : Position) (ts : List Lexe
   unfolding traversal
   traversal_made l x m r read g = rw (read, g) refl
 
-pub block_behind : (braces : ℕ → Parse (List StatementTree)) (left : ℕ) (ts : List Lexeme)
+pub block_after : (braces : ℕ → Parse (List StatementTree)) (left : ℕ) (ts : List Lexeme)
     → braced braces left ts ≡ (braces left ts >>= λ x. block_of x.0 x.1)
 unfolding braced
-block_behind braces left ts = refl
+block_after braces left ts = refl
 
 pub block_read : (braces : ℕ → Parse (List StatementTree)) (left : ℕ) (ts m : List Lexeme)
     (xs : List StatementTree) → braces left ts ≡ Ok (xs, m) → braced braces left ts ≡ block_of xs m
@@ -54,14 +54,14 @@ pub selection_made : (d : ℕ) (braces : ℕ → Parse (List StatementTree)) (bo
 unfolding selection
 selection_made d braces bodies p ts m us r k e cs o read h c g = rw (read, h, c, g) refl
 
--- what stands behind `default`, whose colon is looked at before its statements are read
+-- what follows `default`, whose colon is looked at before its statements are read
 
 module _ (braces : ℕ → Parse (List StatementTree)) (ts us : List Lexeme) (is : is_word w.Default (head ts) ≡ true)
-    (behind : us ≡ tail ts) where
+    (after : us ≡ tail ts) where
   pub otherwise_default : is_sign s.Colon (head us) ≡ true
       → otherwise braces ts ≡ (braces (length us) (tail us) >>= λ xs. Ok (Some xs.0, xs.1))
   unfolding otherwise expect
-  otherwise_default colon = rw (is, ← behind, colon) refl
+  otherwise_default colon = rw (is, ← after, colon) refl
 
   pub otherwise_made : (k : List Lexeme) (xs : List StatementTree) → is_sign s.Colon (head us) ≡ true
       → braces (length us) (tail us) ≡ Ok (xs, k) → otherwise braces ts ≡ Ok (Some xs, k)
@@ -69,7 +69,7 @@ module _ (braces : ℕ → Parse (List StatementTree)) (ts us : List Lexeme) (is
 
   pub otherwise_uncoloned : is_sign s.Colon (head us) ≡ false → otherwise braces ts ≡ Err (unfit (length us))
   unfolding otherwise expect
-  otherwise_uncoloned none = rw (is, ← behind, none) refl
+  otherwise_uncoloned none = rw (is, ← after, none) refl
 
 -- ---- a statement in its box, and the sign that ends it
 

@@ -112,7 +112,7 @@ case_ends cases_none = refl
 case_ends (cases_default a) = refl
 case_ends {ts} (cases_next g a b) = rw (case_Ranges g) (not_both (begins_statement (head ts)))
 
--- the cases of a tree are read from ts on, and its `default` behind them
+-- the cases of a tree are read from ts on, and its `default` after them
 record Cased (d n : ℕ) (ts : List Lexeme) (cs : CaseTrees) (r : List Lexeme) : Type 0 where
   rest : List Lexeme
   fewer : length rest ≤ length ts

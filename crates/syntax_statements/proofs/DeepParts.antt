@@ -22,7 +22,7 @@ use Rattle.syntax_expressions.specs.Nesting.{deep_p_arguments, deep_p_relative, 
 use Rattle.syntax_expressions.specs.Nesting.{deep_p_in}
 use Rattle.syntax_expressions.specs.Parse.{nested, expression}
 use Rattle.syntax_expressions.proofs.Limited.{Limited, deep_before, deep_as}
-use Rattle.syntax_expressions.proofs.Deepened.{Deepened, deep_in, deep_behind, deep_same, deep_opened, DeepListed}
+use Rattle.syntax_expressions.proofs.Deepened.{Deepened, deep_in, deep_after, deep_same, deep_opened, DeepListed}
 use Rattle.syntax_expressions.proofs.Deepened.{deep_first_item, deep_next_item, deep_list}
 use Rattle.syntax_expressions.proofs.DeepBeginnings.{deep_starts_E}
 use Rattle.syntax_expressions.proofs.DeepExpressions.{deep_E}
@@ -30,7 +30,7 @@ use Rattle.syntax_statement_parts.specs.Tree.{number_item}
 use Rattle.syntax_statement_parts.specs.Nesting.{DeepItem, deep_item_parenthesis, deep_item_character}
 use Rattle.syntax_statement_parts.specs.Nesting.{deep_item_object_parenthesis, deep_item_object, deep_item_number}
 use Rattle.syntax_statement_parts.specs.Nesting.{DeepItems, deep_items_first, deep_items_next, DeepHeading}
-use Rattle.syntax_statement_parts.specs.Nesting.{deep_heading_before, deep_heading_test, deep_heading_behind}
+use Rattle.syntax_statement_parts.specs.Nesting.{deep_heading_before, deep_heading_test, deep_heading_after}
 use Rattle.syntax_statement_parts.specs.Parse.{cast, value, item, items, optional, optional_effect, heading}
 use Rattle.syntax_statements.proofs.Follow.{stepping_opens, relating_opens, second_P, second_E1, second_E3, second_E4}
 use Rattle.syntax_statements.proofs.Follow.{no_character, no_object, either, short_Item, short_Optional}
@@ -54,9 +54,9 @@ module _ {A : Type 0} (begins : List Lexeme → Bool) (p : Parse A) (d : ℕ) wh
   unfolding as_long
   deep_later_turn {ts = ts} {m = m} turns e a less h =
       deep_same {S = p ts >>= λ x. as_long begins p turns x.1 >>= λ y. Ok (x.0 ∷ y.0, y.1)} {us = ts} (rw e refl)
-      (omega arith) (deep_behind {us = m} _ a less (omega arith) (deep_in _ h))
+      (omega arith) (deep_after {us = m} _ a less (omega arith) (deep_in _ h))
 
--- ---- behind a parenthesis before a token that is too deep an expression begins
+-- ---- after a parenthesis before a token that is too deep an expression begins
 
 deep_second_P : {n : ℕ} {ts u : List Lexeme} → DeepP n ts u → 1 < n → is_sign s.OpenParenthesis (head ts) ≡ true
     → begins_expression (head (tail ts)) ≡ true
@@ -225,14 +225,14 @@ module _ (d : ℕ) {n l : ℕ} {a : Option ExpressionTree} {k ts u : List Lexeme
     (before : Limited (optional_effect d s.Colon ts) d l a (sign s.Colon i ∷ k)) (less : length k < length ts) where
   in_test : Deepened (optional d s.Colon k) d n k u → Deepened (heading d ts) d n ts u
   unfolding heading expect
-  in_test h = deep_behind {us = k} _ before (omega (arith, less)) (omega arith) (deep_in _ h)
+  in_test h = deep_after {us = k} _ before (omega (arith, less)) (omega arith) (deep_in _ h)
 
-  in_behind : {j : ℕ} {b : Option ExpressionTree} {m : List Lexeme} (q : Position)
+  in_after : {j : ℕ} {b : Option ExpressionTree} {m : List Lexeme} (q : Position)
       → Limited (optional d s.Colon k) d j b (sign s.Colon q ∷ m) → length m < length k
       → Deepened (optional_effect d s.CloseParenthesis m) d n m u → Deepened (heading d ts) d n ts u
   unfolding heading expect
-  in_behind {m = m} q test fewer h = deep_behind {us = k} _ before (omega (arith, less)) (omega arith)
-      (deep_behind {us = m} _ test (omega (arith, fewer)) (omega arith) (deep_in _ h))
+  in_after {m = m} q test fewer h = deep_after {us = k} _ before (omega (arith, less)) (omega arith)
+      (deep_after {us = m} _ test (omega (arith, fewer)) (omega arith) (deep_in _ h))
 
 pub deep_Heading : {n : ℕ} {ts u : List Lexeme} → DeepHeading n ts u → (d : ℕ) → Deepened (heading d ts) d n ts u
 deep_Heading {ts = ts} (deep_heading_before x) d = in_before d
@@ -241,7 +241,7 @@ deep_Heading {ts = ts} (deep_heading_test {k = k} {p = p} a f x) d = in_test d p
     (step_effect d s.Colon ts f (at_Optional s.Colon expression_colon a d refl (omega arith)))
     (omega (arith, short_Optional a))
     (in_optional d s.Colon (expression_colon (head k) (deep_starts_E x)) (deep_E x d))
-deep_Heading {ts = ts} (deep_heading_behind {k = k} {l = l} {p = p} {q = q} a f b x) d = in_behind d p
+deep_Heading {ts = ts} (deep_heading_after {k = k} {l = l} {p = p} {q = q} a f b x) d = in_after d p
     (step_effect d s.Colon ts f (at_Optional s.Colon expression_colon a d refl (omega arith)))
     (omega (arith, short_Optional a)) q (at_Optional s.Colon expression_colon b d refl (omega arith))
     (omega (arith, short_Optional b))

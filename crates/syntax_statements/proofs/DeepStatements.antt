@@ -13,7 +13,7 @@ use Rattle.syntax_expressions.proofs.Limited as limited
 use Rattle.syntax_expressions.proofs.Limited.{Limited}
 use Rattle.syntax_expressions.proofs.Short.{short_E}
 use Rattle.syntax_expressions.proofs.Complete.{at_E}
-use Rattle.syntax_expressions.proofs.Deepened.{Deepened, deep_in, deep_behind, deep_same}
+use Rattle.syntax_expressions.proofs.Deepened.{Deepened, deep_in, deep_after, deep_same}
 use Rattle.syntax_expressions.proofs.DeepBeginnings.{deep_starts_E}
 use Rattle.syntax_expressions.proofs.DeepExpressions.{in_whole, deep_E, deep_E1}
 use Rattle.syntax_statement_parts.specs.Tree.{RangeTree}
@@ -56,7 +56,7 @@ use Rattle.syntax_statements.proofs.DeepSteps.{step_objectloop_body}
 
 -- ---- cases
 
--- a token of the cases from ts on is too deep: in one of them, or in the `default` behind them
+-- a token of the cases from ts on is too deep: in one of them, or in the `default` after them
 abbrev InCases : ℕ → ℕ → ℕ → List Lexeme → List Lexeme → Type 0
 InCases d n turns ts u = Deepened (repeated begins_value (one_case (bodies d)) turns ts) d n ts u
 
@@ -128,14 +128,14 @@ module _ (d : ℕ) {n l : ℕ} {m k u : List Lexeme} (p i : Position) {e : Expre
       → Deepened (statement d (reserved w.Switch p ∷ m)) d n (reserved w.Switch p ∷ m) u
   unfolding statement statement_over selection expect cases
   switch_case h = deep_same {us = m} refl (omega arith)
-      (deep_behind {us = k} _ t (omega (arith, less)) (omega arith) (deep_in _ h))
+      (deep_after {us = k} _ t (omega (arith, less)) (omega arith) (deep_in _ h))
 
   switch_default : InDefault d n (length k) k u
       → Deepened (statement d (reserved w.Switch p ∷ m)) d n (reserved w.Switch p ∷ m) u
   unfolding statement statement_over selection expect cases
   switch_default h = deep_same {us = m} refl (omega arith)
-      (deep_behind {us = k} _ t (omega (arith, less)) (omega arith)
-      (deep_behind {us = h.rest} _ h.before h.fewer (omega arith) (deep_in _ h.within)))
+      (deep_after {us = k} _ t (omega (arith, less)) (omega arith)
+      (deep_after {us = h.rest} _ h.before h.fewer (omega arith) (deep_in _ h.within)))
 
 -- where no nesting may be opened, the parenthesis of a `switch` is too deep
 switch_none : {n : ℕ} {m u : List Lexeme} (p q : Position) → length u ≤ length m

@@ -11,7 +11,7 @@ use Rattle.syntax_expression_parts.specs.Operators.{begins_expression}
 use Rattle.syntax_expression_parts.specs.Parse.{expect_name}
 use Rattle.syntax_expressions.specs.Parse.{whole, nested, condition, expression}
 use Rattle.syntax_expressions.proofs.Limited.{Limited}
-use Rattle.syntax_expressions.proofs.Deepened.{Deepened, deep_in, deep_behind, deep_same, deep_opened}
+use Rattle.syntax_expressions.proofs.Deepened.{Deepened, deep_in, deep_after, deep_same, deep_opened}
 use Rattle.syntax_expressions.proofs.DeepBeginnings.{deep_starts_E}
 use Rattle.syntax_statement_parts.specs.Tree.{LoopTree}
 use Rattle.syntax_statement_parts.specs.Views.{HeadingTree}
@@ -264,45 +264,45 @@ module _ (d : ℕ) {n l : ℕ} {m k u : List Lexeme} (p : Position) where
       → Deepened (statement d (reserved w.Move p ∷ m)) d n (reserved w.Move p ∷ m) u
   unfolding statement statement_over moved expect_word
   step_move_to a less h = deep_same {us = m} refl (omega arith)
-      (deep_behind {us = k} _ a (omega (arith, less)) (omega arith) (deep_in _ h))
+      (deep_after {us = k} _ a (omega (arith, less)) (omega arith) (deep_in _ h))
 
   module _ {c : ExpressionTree} (t : Limited (enclosed_condition d m) d l c k) (less : length k < length m) where
     pub step_if_then : Deepened (inside d k) d n k u
         → Deepened (statement d (reserved w.If p ∷ m)) d n (reserved w.If p ∷ m) u
     unfolding statement statement_over choice
     step_if_then h = deep_same {us = m} refl (omega arith)
-        (deep_behind {us = k} _ t (omega (arith, less)) (omega arith) (deep_in _ h))
+        (deep_after {us = k} _ t (omega (arith, less)) (omega arith) (deep_in _ h))
 
     pub step_if_else : {j : ℕ} {x : StatementTree} {e : Position} {q : List Lexeme}
         → Limited (inside d k) d j x (reserved w.Else e ∷ q) → length q < length k → Deepened (inside d q) d n q u
         → Deepened (statement d (reserved w.If p ∷ m)) d n (reserved w.If p ∷ m) u
     unfolding statement statement_over choice
     step_if_else {q = q} a fewer h = deep_same {us = m} refl (omega arith)
-        (deep_behind {us = k} _ t (omega (arith, less)) (omega arith)
-        (deep_behind {us = q} _ a (omega (arith, fewer)) (omega arith) (deep_in _ h)))
+        (deep_after {us = k} _ t (omega (arith, less)) (omega arith)
+        (deep_after {us = q} _ a (omega (arith, fewer)) (omega arith) (deep_in _ h)))
 
     pub step_while_do : Deepened (inside d k) d n k u
         → Deepened (statement d (reserved w.While p ∷ m)) d n (reserved w.While p ∷ m) u
     unfolding statement statement_over repetition
     step_while_do h = deep_same {us = m} refl (omega arith)
-        (deep_behind {us = k} _ t (omega (arith, less)) (omega arith) (deep_in _ h))
+        (deep_after {us = k} _ t (omega (arith, less)) (omega arith) (deep_in _ h))
 
   pub step_until : {x : StatementTree} {e : Position} → Limited (entered (inside d) m) d l x (reserved w.Until e ∷ k)
       → length k < length m → Deepened (enclosed_condition d k) d n k u
       → Deepened (statement d (reserved w.Do p ∷ m)) d n (reserved w.Do p ∷ m) u
   unfolding statement statement_over until expect_word
   step_until a less h = deep_same {us = m} refl (omega arith)
-      (deep_behind {us = k} _ a (omega (arith, less)) (omega arith) (deep_in _ h))
+      (deep_after {us = k} _ a (omega (arith, less)) (omega arith) (deep_in _ h))
 
   pub step_for_body : {x : HeadingTree} → Limited (enclosed_heading d m) d l x k → length k < length m
       → Deepened (inside d k) d n k u → Deepened (statement d (reserved w.For p ∷ m)) d n (reserved w.For p ∷ m) u
   unfolding statement statement_over iteration
   step_for_body t less h = deep_same {us = m} refl (omega arith)
-      (deep_behind {us = k} _ t (omega (arith, less)) (omega arith) (deep_in _ h))
+      (deep_after {us = k} _ t (omega (arith, less)) (omega arith) (deep_in _ h))
 
   pub step_objectloop_body : {x : LoopTree} → Limited (enclosed_loop d m) d l x k → length k < length m
       → Deepened (inside d k) d n k u
       → Deepened (statement d (reserved w.Objectloop p ∷ m)) d n (reserved w.Objectloop p ∷ m) u
   unfolding statement statement_over traversal
   step_objectloop_body t less h = deep_same {us = m} refl (omega arith)
-      (deep_behind {us = k} _ t (omega (arith, less)) (omega arith) (deep_in _ h))
+      (deep_after {us = k} _ t (omega (arith, less)) (omega arith) (deep_in _ h))

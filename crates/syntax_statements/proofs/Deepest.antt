@@ -56,7 +56,7 @@ pub listed_back : (xs : StatementTrees) → trees_of (listed xs) ≡ xs
 listed_back stop = refl
 listed_back (next x xs) = ap (next x) (listed_back xs)
 
--- the statements of a case stand behind a parenthesis and a brace that opened a nesting
+-- the statements of a case follow a parenthesis and a brace that opened a nesting
 pub in_bodies : {n : ℕ} {xs : List StatementTree} {r : List Lexeme} (ts : List Lexeme) (d : ℕ)
     → Limited (as_long begins_in_case (inside d) (length ts) ts) d n xs r
     → Limited (bodies (suc d) ts) (suc d) (suc n) xs r

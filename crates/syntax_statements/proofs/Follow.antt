@@ -97,7 +97,7 @@ mutual
 
 -- ---- tokens with which parts begin
 
--- behind a parenthesis an expression begins
+-- after a parenthesis an expression begins
 pub stepping_opens : (t : Lexeme) (op : Step) → stepping t ≡ Some op → is_sign s.OpenParenthesis t ≡ false
 stepping_opens (sign s.OpenParenthesis p) op e = absurd cc
 stepping_opens _ op e = refl

@@ -42,7 +42,7 @@ bodies_begun (suc d) k found ts more none =
     let all : length ts - 0 ≡ length (lexemes ts) = omega (arith, count ts) in
     rw (none, all, same) (joined_none _)
 
--- behind a brace: no nesting is left for it, or none for the statement that begins; nothing begins; a statement
+-- after a brace: no nesting is left for it, or none for the statement that begins; nothing begins; a statement
 -- begins
 
 pub braces_zero : (d left : ℕ) (ts : List Lexeme) → d ≡ 0 → braces d left ts ≡ Err (deep left)

@@ -1,4 +1,4 @@
--- No statement begins as a case does: with a value, and `,`, `to` or `:` behind it.
+-- No statement begins as a case does: with a value, and `,`, `to` or `:` after it.
 use Rattle.std.proofs.Common.{◌≡◌, false, List, [], ◌∷◌, Some, refl}
 use Rattle.syntax_lexer.specs.declared.token.Position.{Position}
 use Rattle.syntax_lexer.specs.declared.token.Sign.TheVariants as s
@@ -88,25 +88,25 @@ no_indexing _ width e = refl
 
 -- ---- expressions
 
-behind_minus : (p : Position) (ts : List Lexeme) → begins_case ts ≡ false → begins_case (sign s.Minus p ∷ ts) ≡ false
+after_minus : (p : Position) (ts : List Lexeme) → begins_case ts ≡ false → begins_case (sign s.Minus p ∷ ts) ≡ false
 unfolding begins_case
-behind_minus p [] e = refl
-behind_minus p (number n q ∷ ts) e = e
-behind_minus p (t ∷ ts) e = refl
+after_minus p [] e = refl
+after_minus p (number n q ∷ ts) e = e
+after_minus p (t ∷ ts) e = refl
 
-behind_step : (t : Lexeme) (op : Step) (ts : List Lexeme) → stepping t ≡ Some op → begins_case (t ∷ ts) ≡ false
+after_step : (t : Lexeme) (op : Step) (ts : List Lexeme) → stepping t ≡ Some op → begins_case (t ∷ ts) ≡ false
 unfolding begins_case
-behind_step (sign s.Increment p) op ts e = refl
-behind_step (sign s.Decrement p) op ts e = refl
-behind_step _ op ts e = absurd cc
+after_step (sign s.Increment p) op ts e = refl
+after_step (sign s.Decrement p) op ts e = refl
+after_step _ op ts e = absurd cc
 
-behind_relating : (t : Lexeme) (which : Relative) (ts : List Lexeme) → relating t ≡ Some which
+after_relating : (t : Lexeme) (which : Relative) (ts : List Lexeme) → relating t ≡ Some which
     → begins_case (t ∷ ts) ≡ false
 unfolding begins_case
-behind_relating (reserved w.Parent p) which ts e = refl
-behind_relating (reserved w.Child p) which ts e = refl
-behind_relating (reserved w.Sibling p) which ts e = refl
-behind_relating _ which ts e = absurd cc
+after_relating (reserved w.Parent p) which ts e = refl
+after_relating (reserved w.Child p) which ts e = refl
+after_relating (reserved w.Sibling p) which ts e = refl
+after_relating _ which ts e = absurd cc
 
 case_P : {ts r : List Lexeme} {e : ExpressionTree} → IsP ts e r → goes_on_in_case (head r) ≡ false
     → begins_case ts ≡ false
@@ -121,15 +121,15 @@ case_P p_nothing h = h
 case_P p_name h = h
 case_P p_call h = refl
 case_P (p_call_with a) h = refl
-case_P (p_relative {m = m} {p = p} {t = t} {which = which} o a) h = behind_relating t which
+case_P (p_relative {m = m} {p = p} {t = t} {which = which} o a) h = after_relating t which
     (sign s.OpenParenthesis p ∷ m) o
 case_P (p_parenthesised a) h = refl
 
 case_U : {ts r : List Lexeme} {e : ExpressionTree} → IsU ts e r → goes_on_in_case (head r) ≡ false
     → begins_case ts ≡ false
 case_U (u_plain a) h = case_P a h
-case_U (u_minus {m = m} {p = p} a) h = behind_minus p m (case_U a h)
-case_U (u_before {m = m} {t = t} {op = op} o a) h = behind_step t op m o
+case_U (u_minus {m = m} {p = p} a) h = after_minus p m (case_U a h)
+case_U (u_before {m = m} {t = t} {op = op} o a) h = after_step t op m o
 case_U (u_after {t = t} {op = op} a o) h = case_P a (no_stepping t op o)
 case_U (u_length a) h = case_P a refl
 

@@ -102,7 +102,7 @@ pub at_Heading : {m k l n : List Lexeme} {a b c : Option ExpressionTree} {i j o 
     → IsOptional m a (sign s.Colon i ∷ k) → effect_or_none a ≡ true → IsOptional k b (sign s.Colon j ∷ l)
     → IsOptional l c (sign s.CloseParenthesis o ∷ n) → effect_or_none c ≡ true → (d : ℕ)
     → Limited (heading d m) d (max (optional_nesting a) (max (optional_nesting b) (optional_nesting c)))
-    (record { before = a; test = b; behind = c }) n
+    (record { before = a; test = b; after = c }) n
 at_Heading {m} {k} {l} {i = i} {j = j} {o = o} a f b c g d = step_heading d i j o m
     (omega (arith, short_Optional b)) (omega (arith, short_Optional c))
     (step_effect d s.Colon m f (at_Optional s.Colon expression_colon a d refl (omega arith)))

@@ -19,7 +19,7 @@ use Rattle.syntax_statement_parts.specs.Views.{HeadingTree}
 use Rattle.syntax_statement_parts.specs.Grammar.{effect_or_none, IsOptional, optional_none, optional_some}
 use Rattle.syntax_statement_parts.specs.Grammar.{optional_nesting}
 use Rattle.syntax_statement_parts.specs.Nesting.{DeepHeading, deep_heading_before, deep_heading_test}
-use Rattle.syntax_statement_parts.specs.Nesting.{deep_heading_behind}
+use Rattle.syntax_statement_parts.specs.Nesting.{deep_heading_after}
 use Rattle.syntax_statement_parts.specs.Parse.{enclosed_condition, optional, optional_effect, heading, heading_in}
 use Rattle.syntax_statement_parts.specs.Parse.{enclosed_heading}
 use Rattle.syntax_statements.specs.Grammar.{else_follows}
@@ -46,19 +46,19 @@ effect_judged d z ts =
     (λ v x. x)
 
 abbrev pub heading_nesting : HeadingTree → ℕ
-heading_nesting h = max (optional_nesting h.before) (max (optional_nesting h.test) (optional_nesting h.behind))
+heading_nesting h = max (optional_nesting h.before) (max (optional_nesting h.test) (optional_nesting h.after))
 
 pub record IsHeading (ts : List Lexeme) (h : HeadingTree) (r : List Lexeme) : Type 0 where
   pub first : Position
   pub second : Position
   pub closes : Position
   pub from_test : List Lexeme
-  pub from_behind : List Lexeme
+  pub from_after : List Lexeme
   pub before : IsOptional ts h.before (sign s.Colon first ∷ from_test)
   pub before_effect : effect_or_none h.before ≡ true
-  pub test : IsOptional from_test h.test (sign s.Colon second ∷ from_behind)
-  pub behind : IsOptional from_behind h.behind (sign s.CloseParenthesis closes ∷ r)
-  pub behind_effect : effect_or_none h.behind ≡ true
+  pub test : IsOptional from_test h.test (sign s.Colon second ∷ from_after)
+  pub after : IsOptional from_after h.after (sign s.CloseParenthesis closes ∷ r)
+  pub after_effect : effect_or_none h.after ≡ true
 
 heading_judged : (d : ℕ) (ts : List Lexeme) → Judged (λ h r. IsHeading ts h r × (heading_nesting h ≤ d))
     (DeepHeading (suc d) ts) (heading d ts)
@@ -74,23 +74,23 @@ heading_judged d ts =
     let test = subst (λ x. IsOptional k b x) (expect_ok s.Colon v l f) g.0 in
     judged_then _ (effect_judged d s.CloseParenthesis l)
     (λ c x i. judged_after (expect s.CloseParenthesis x) _
-    (λ r j. judged_read (record { before = a; test = b; behind = c }) r (
+    (λ r j. judged_read (record { before = a; test = b; after = c }) r (
       record {
         first = position_of (head u);
         second = position_of (head v);
         closes = position_of (head x);
         from_test = k;
-        from_behind = l;
+        from_after = l;
         before = before;
         before_effect = h.1;
         test = test;
-        behind = subst (λ y. IsOptional l c y) (expect_ok s.CloseParenthesis x r j) i.0;
-        behind_effect = i.1;
+        after = subst (λ y. IsOptional l c y) (expect_ok s.CloseParenthesis x r j) i.0;
+        after_effect = i.1;
       },
       omega (arith, h.2, g.1, i.2),
     ))
     (λ n j. absurd (expect_not_deep s.CloseParenthesis x n j)))
-    (λ w z. deep_heading_behind before h.1 test z))
+    (λ w z. deep_heading_after before h.1 test z))
     (λ n f. absurd (expect_not_deep s.Colon v n f)))
     (λ w z. deep_heading_test before h.1 z))
     (λ n e. absurd (expect_not_deep s.Colon u n e)))

@@ -34,7 +34,7 @@ use Rattle.syntax_statements.specs.Parse.{traversal, choice, repetition, entered
 use Rattle.syntax_statements.specs.Parse.{otherwise, selection, braced, inside, braces, bodies}
 use Rattle.syntax_statements.proofs.KnownValues.{ranges_judged}
 use Rattle.syntax_statements.proofs.LoopHeads.{DeepLoop, nests_over, enclosed_loop_judged}
-use Rattle.syntax_statements.proofs.SoundRows.{behind, repeated_judged}
+use Rattle.syntax_statements.proofs.SoundRows.{after, repeated_judged}
 use Rattle.syntax_statements.proofs.SoundSimple.{ended_judged}
 use Rattle.syntax_statements.proofs.SoundHeads.{enclosed_judged, loop_deep, condition_judged, at_else}
 
@@ -112,14 +112,14 @@ module _ (d : ℕ) (inner : Inner d) where
       let parts = q.parts in
       judged_then _ (inner.in_statement r)
       (λ x u g. judged_read _ u (
-        subst (λ us. IsS (reserved w.For p ∷ us) (for_loop p h.before h.test h.behind x) u) (sym q.at)
-            (s_for parts.before parts.before_effect parts.test parts.behind parts.behind_effect g.0),
+        subst (λ us. IsS (reserved w.For p ∷ us) (for_loop p h.before h.test h.after x) u) (sym q.at)
+            (s_for parts.before parts.before_effect parts.test parts.after parts.after_effect g.0),
         omega (arith, q.within, g.1),
       ))
       (λ far z. subst (λ us. DeepS (suc d) (reserved w.For p ∷ us) far) (sym q.at)
-      (behind (λ n. DeepS n r) (λ n. DeepS n (reserved w.For p ∷ sign s.OpenParenthesis q.opens ∷ q.from)) d r far
+      (after (λ n. DeepS n r) (λ n. DeepS n (reserved w.For p ∷ sign s.OpenParenthesis q.opens ∷ q.from)) d r far
       (omega (arith, q.within))
-      (λ n x. deep_s_for_body parts.before parts.before_effect parts.test parts.behind parts.behind_effect x) z)))
+      (λ n x. deep_s_for_body parts.before parts.before_effect parts.test parts.after parts.after_effect x) z)))
       (λ far h. deeper (λ n. DeepHeading n h.from) (λ n. DeepS n (reserved w.For p ∷ ts)) d ts far
       (subst (λ us. DeepS 1 (reserved w.For p ∷ us) us) (sym h.at) deep_s_for)
       (λ n x. subst (λ us. DeepS (suc n) (reserved w.For p ∷ us) far) (sym h.at) (deep_s_for_parts x)) h.deep)
@@ -137,7 +137,7 @@ module _ (d : ℕ) (inner : Inner d) where
         omega (arith, q.within, g.1, nests_over p l x),
       ))
       (λ far z. subst (λ us. DeepS (suc d) (reserved w.Objectloop p ∷ us) far) (sym q.at)
-      (behind (λ n. DeepS n r)
+      (after (λ n. DeepS n r)
       (λ n. DeepS n (reserved w.Objectloop p ∷ sign s.OpenParenthesis q.opens ∷ q.from)) d r far
       (omega (arith, q.within)) (λ n x. deep_s_objectloop_body q.derives x) z)))
       (λ far h. deeper (λ n. DeepLoop n h.from) (λ n. DeepS n (reserved w.Objectloop p ∷ ts)) d ts far
@@ -245,7 +245,7 @@ module _ (d : ℕ) (inner : Inner d) where
         omega (arith, h.within, g.1, k.1),
       ))
       (λ far z. subst (λ us. DeepS (suc d) (reserved w.If p ∷ us) far) (sym h.at)
-      (behind (λ n. DeepS n (tail u)) (λ n. DeepS n (reserved w.If p ∷ sign s.OpenParenthesis h.opens ∷ h.from)) d
+      (after (λ n. DeepS n (tail u)) (λ n. DeepS n (reserved w.If p ∷ sign s.OpenParenthesis h.opens ∷ h.from)) d
       (tail u) far (omega (arith, h.within)) (λ n y. deep_s_if_else h.derives at y) z)))
       (λ e. judged_read _ u (
         subst (λ us. IsS (reserved w.If p ∷ us) (if_then p c x) u) (sym h.at) (s_if h.derives g.0 e),
@@ -253,7 +253,7 @@ module _ (d : ℕ) (inner : Inner d) where
             (arith, h.within, g.1),
       )))
       (λ far z. subst (λ us. DeepS (suc d) (reserved w.If p ∷ us) far) (sym h.at)
-      (behind (λ n. DeepS n r) (λ n. DeepS n (reserved w.If p ∷ sign s.OpenParenthesis h.opens ∷ h.from)) d r far
+      (after (λ n. DeepS n r) (λ n. DeepS n (reserved w.If p ∷ sign s.OpenParenthesis h.opens ∷ h.from)) d r far
       (omega (arith, h.within)) (λ n x. deep_s_if_then h.derives x) z)))
       (λ far h. deeper (λ n. DeepE n h.from) (λ n. DeepS n (reserved w.If p ∷ ts)) d ts far
       (subst (λ us. DeepS 1 (reserved w.If p ∷ us) us) (sym h.at) deep_s_if)
@@ -272,7 +272,7 @@ module _ (d : ℕ) (inner : Inner d) where
             (arith, h.within, g.1),
       ))
       (λ far z. subst (λ us. DeepS (suc d) (reserved w.While p ∷ us) far) (sym h.at)
-      (behind (λ n. DeepS n r) (λ n. DeepS n (reserved w.While p ∷ sign s.OpenParenthesis h.opens ∷ h.from)) d r far
+      (after (λ n. DeepS n r) (λ n. DeepS n (reserved w.While p ∷ sign s.OpenParenthesis h.opens ∷ h.from)) d r far
       (omega (arith, h.within)) (λ n x. deep_s_while_do h.derives x) z)))
       (λ far h. deeper (λ n. DeepE n h.from) (λ n. DeepS n (reserved w.While p ∷ ts)) d ts far
       (subst (λ us. DeepS 1 (reserved w.While p ∷ us) us) (sym h.at) deep_s_while)

@@ -5,11 +5,11 @@ use Rattle.syntax_lexer.specs.Token.{Lexeme}
 use Rattle.syntax_parsing.specs.Parse.{Parse, head, as_long, repeated}
 use Rattle.syntax_expression_parts.proofs.Judged.{Judged, judged_read, judged_then, judged_by}
 
--- one nesting further in, behind a token that opened one
-pub behind : (D E : ℕ → List Lexeme → Type 0) (d : ℕ) (opening u : List Lexeme) → 0 < d
+-- one nesting further in, after a token that opened one
+pub after : (D E : ℕ → List Lexeme → Type 0) (d : ℕ) (opening u : List Lexeme) → 0 < d
     → ((n : ℕ) → D n u → E (suc n) u) → ((d ≡ 0) × (u ≡ opening)) ⊎ D d u → E (suc d) u
-behind D E d opening u lt onward (inl e) = absurd (omega (arith, lt, e.0))
-behind D E d opening u lt onward (inr h) = onward d h
+after D E d opening u lt onward (inl e) = absurd (omega (arith, lt, e.0))
+after D E d opening u lt onward (inr h) = onward d h
 
 pub both : (a b : Bool) → (a && b) ≡ true → (a ≡ true) × (b ≡ true)
 both true b e = (refl, e)

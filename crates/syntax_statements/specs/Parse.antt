@@ -32,7 +32,7 @@ ended x ts = expect s.Semicolon ts >>= λ r. Ok (x, r)
 abbrev pub closed_by : Sign → StatementTree → Parse StatementTree
 closed_by mark x ts = expect mark ts >>= λ r. Ok (x, r)
 
--- the two names behind `read`
+-- the two names after `read`
 unfoldable pub line_read : Parse StatementTree
 line_read ts = do
   a ← expect_name ts
@@ -43,7 +43,7 @@ line_read ts = do
 abbrev pub block_of : List StatementTree → Parse StatementTree
 block_of xs ts = expect s.CloseBrace ts >>= λ r. Ok (block (trees_of xs), r)
 
--- a `switch` behind its cases and the statements of `default`, with its second brace
+-- a `switch` after its cases and the statements of `default`, with its second brace
 abbrev pub switch_of : Position → ExpressionTree → List CaseTree → Option (List StatementTree) → Parse StatementTree
 switch_of p e cs other ts = expect s.CloseBrace ts >>= λ r. Ok (switch_on p e (cases_of cs other), r)
 
@@ -95,7 +95,7 @@ module _ (d : ℕ) where
   plain_on (reserved w.Remove p) ts = removed p (tail ts)
   plain_on _ ts = alone ts
 
--- the statement behind `do`, over a statement one nesting further in
+-- the statement after `do`, over a statement one nesting further in
 unfoldable pub entered : Parse StatementTree → Parse StatementTree
 entered inside ts = if begins_statement (head ts) then inside ts else Err (unfit (length ts))
 
@@ -154,7 +154,7 @@ module _ (d : ℕ) where
     iteration p ts = do
       h ← enclosed_heading d ts
       x ← inside h.1
-      Ok (for_loop p h.0.before h.0.test h.0.behind x.0, x.1)
+      Ok (for_loop p h.0.before h.0.test h.0.after x.0, x.1)
 
     unfoldable pub traversal : Position → Parse StatementTree
     traversal p ts = do
@@ -195,7 +195,7 @@ unfoldable mutual
   inside zero ts = Err (deep (length ts))
   inside (suc d) ts = statement_over d (inside d) (braces d) (bodies d) ts
 
-  -- the statements of a block, behind its brace, from which on so many tokens are left
+  -- the statements of a block, after its brace, from which on so many tokens are left
   pub braces : ℕ → ℕ → Parse (List StatementTree)
   braces zero opening ts = Err (deep opening)
   braces (suc d) opening ts = repeated begins_statement (inside d) (length ts) ts

@@ -17,7 +17,7 @@ mutual
     if_else : Position → ExpressionTree → StatementTree → StatementTree → StatementTree
     while_do : Position → ExpressionTree → StatementTree → StatementTree
     do_until : Position → StatementTree → ExpressionTree → StatementTree
-    -- what is done before the first round, the test, and what is done behind each round
+    -- what is done before the first round, the test, and what is done after each round
     for_loop : Position → Option ExpressionTree → Option ExpressionTree → Option ExpressionTree → StatementTree
         → StatementTree
     switch_on : Position → ExpressionTree → CaseTrees → StatementTree

@@ -57,7 +57,7 @@ layer (Statement-F.IfElse p c x y) = if_else p (expression_tree c.value) x.value
 layer (Statement-F.While p c x) = while_do p (expression_tree c.value) x.value
 layer (Statement-F.Do p x c) = do_until p x.value (expression_tree c.value)
 layer (Statement-F.For p h x) = for_loop p (part_tree h.value.before) (part_tree h.value.test)
-    (part_tree h.value.behind) x.value
+    (part_tree h.value.after) x.value
 layer (Statement-F.Objectloop p l x) = loop_over p (loop_tree l.value) x.value
 layer (Statement-F.Switch p e cases) = switch_on p (expression_tree e.value)
     (cases_of (map (λ c. (map range_tree c.0.items, trees_of c.1.items)) cases.value.0.items)

@@ -89,7 +89,7 @@ pub fn for_loop<'t, 'a>(
 ) -> Statement<'a>
     ensures { statement_tree result
         ≡ tree.for_loop position (heading_tree heading.entry.value).before
-        (heading_tree heading.entry.value).test (heading_tree heading.entry.value).behind
+        (heading_tree heading.entry.value).test (heading_tree heading.entry.value).after
         (statement_tree body.entry.value) }
 {
     Statement::For(position, heading, body)

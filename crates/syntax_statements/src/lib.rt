@@ -2,7 +2,6 @@
 #![tactic(auto)]
 
 mod kinds;
-mod memory;
 pub mod parts;
 mod simple;
 mod tree;

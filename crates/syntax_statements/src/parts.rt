@@ -15,10 +15,10 @@ ghost use Rattle.syntax_statements.specs.Rows as rows;
 ghost use Rattle.syntax_statements.specs.Rows.{AddsStatement};
 
 use crate::kinds;
-use crate::memory::{self, make_room, push, push_boxed};
 use crate::simple::simple;
 use crate::tree::{SimpleStatement, Statement};
 use syntax_lexer::{Position, Sign};
+use syntax_parsing::memory::{self, make_room, push, push_boxed};
 use syntax_parsing::{ParseError, Parser, expect, is_sign, pass, peek};
 use syntax_statement_parts::{Heading, Loop, Range};
 use syntax_trees::Expression;
@@ -240,7 +240,7 @@ pub fn for_loop<'t, 'a>(
 ) -> Result<Box<Statement<'a>>, ParseError>
     ensures { TakesStatement result parser.now (Ok (
       tree.for_loop position (heading_tree heading.entry.value).before
-          (heading_tree heading.entry.value).test (heading_tree heading.entry.value).behind
+          (heading_tree heading.entry.value).test (heading_tree heading.entry.value).after
           (statement_tree body.entry.value),
       ahead parser.now,
     )) }

@@ -8,13 +8,12 @@ ghost use Rattle.syntax_statements.specs.Views.{simple_tree};
 ghost use Rattle.syntax_statements.specs.Returned.{TakesSimple};
 ghost use Rattle.syntax_statements.specs.Parse as spec;
 
-use crate::memory;
 use crate::tree::SimpleStatement;
 use syntax_expression_parts::expect_name;
 use syntax_expressions::expression;
 use syntax_lexer::{Kind, Position, Sign, Word};
 use syntax_parsing::{
-    Fault, ParseError, Parser, expect, expect_word, fault_at, is_sign, pass, peek, position,
+    Fault, ParseError, Parser, expect, expect_word, fault_at, is_sign, memory, pass, peek, position,
 };
 use syntax_statement_parts::{flags, has_effect, items};
 
@@ -30,9 +29,9 @@ fn in_box<'t, 'a>(
     memory::in_box(parser.alloc, statement)
 }
 
-// The statement, behind its `;`.
+// The statement, after its `;`.
 #[tactic(auto, unfolding(crate::specs::Parse::ended))]
-fn ended<'t, 'a>(
+fn end<'t, 'a>(
     parser: &mut Parser<'t, 'a>,
     statement: SimpleStatement<'a>,
 ) -> Result<Box<SimpleStatement<'a>>, ParseError>
@@ -62,7 +61,7 @@ fn print<'t, 'a>(
     ensures { TakesSimple result parser.new (spec.printed depth tree.print (ahead parser.old)) }
 {
     match items(parser, depth) {
-        Ok(found) => ended(parser, SimpleStatement::Print(found)),
+        Ok(found) => end(parser, SimpleStatement::Print(found)),
         Err(e) => Err(e),
     }
 }
@@ -81,7 +80,7 @@ fn print_return<'t, 'a>(
         (spec.printed depth tree.print_return (ahead parser.old)) }
 {
     match items(parser, depth) {
-        Ok(found) => ended(parser, SimpleStatement::PrintReturn(found)),
+        Ok(found) => end(parser, SimpleStatement::PrintReturn(found)),
         Err(e) => Err(e),
     }
 }
@@ -92,7 +91,7 @@ fn print_return<'t, 'a>(
 ///
 /// Those of `expression`, and `Fault::Grammar` where the `;` is missing.
 #[tactic(auto, unfolding(crate::specs::Parse::returned))]
-fn returned<'t, 'a>(
+fn return_value<'t, 'a>(
     parser: &mut Parser<'t, 'a>,
     depth: usize,
     position: Position,
@@ -104,7 +103,7 @@ fn returned<'t, 'a>(
         return in_box(parser, SimpleStatement::Return);
     }
     match expression(parser, depth) {
-        Ok(value) => ended(parser, SimpleStatement::ReturnValue(position, value)),
+        Ok(value) => end(parser, SimpleStatement::ReturnValue(position, value)),
         Err(e) => Err(e),
     }
 }
@@ -128,7 +127,7 @@ fn read<'t, 'a>(parser: &mut Parser<'t, 'a>) -> Result<Box<SimpleStatement<'a>>,
         Err(e) => return Err(e),
     };
     match memory::in_box(parser.alloc, (text, words)) {
-        Ok(names) => ended(parser, SimpleStatement::Read(names)),
+        Ok(names) => end(parser, SimpleStatement::Read(names)),
         Err(e) => Err(e),
     }
 }
@@ -139,7 +138,7 @@ fn read<'t, 'a>(parser: &mut Parser<'t, 'a>) -> Result<Box<SimpleStatement<'a>>,
 ///
 /// Those of `expression` and of `flags`, and `Fault::Grammar` where the `;` is missing.
 #[tactic(auto, unfolding(crate::specs::Parse::given))]
-fn given<'t, 'a>(
+fn give<'t, 'a>(
     parser: &mut Parser<'t, 'a>,
     depth: usize,
     position: Position,
@@ -149,7 +148,7 @@ fn given<'t, 'a>(
     let object = expression(parser, depth)?;
     match flags(parser) {
         Ok(found) => match memory::in_box(parser.alloc, found) {
-            Ok(found) => ended(parser, SimpleStatement::Give(position, object, found)),
+            Ok(found) => end(parser, SimpleStatement::Give(position, object, found)),
             Err(e) => Err(e),
         },
         Err(e) => Err(e),
@@ -162,7 +161,7 @@ fn given<'t, 'a>(
 ///
 /// Those of `expression`, and `Fault::Grammar` where `to` or the `;` is missing.
 #[tactic(auto, unfolding(crate::specs::Parse::moved))]
-fn moved<'t, 'a>(
+fn move_to<'t, 'a>(
     parser: &mut Parser<'t, 'a>,
     depth: usize,
     position: Position,
@@ -172,7 +171,7 @@ fn moved<'t, 'a>(
     let object = expression(parser, depth)?;
     expect_word(parser, Word::To)?;
     match expression(parser, depth) {
-        Ok(parent) => ended(parser, SimpleStatement::Move(position, object, parent)),
+        Ok(parent) => end(parser, SimpleStatement::Move(position, object, parent)),
         Err(e) => Err(e),
     }
 }
@@ -183,7 +182,7 @@ fn moved<'t, 'a>(
 ///
 /// Those of `expression`, and `Fault::Grammar` where the `;` is missing.
 #[tactic(auto, unfolding(crate::specs::Parse::removed))]
-fn removed<'t, 'a>(
+fn remove<'t, 'a>(
     parser: &mut Parser<'t, 'a>,
     depth: usize,
     position: Position,
@@ -191,7 +190,7 @@ fn removed<'t, 'a>(
     ensures { TakesSimple result parser.new (spec.removed depth position (ahead parser.old)) }
 {
     match expression(parser, depth) {
-        Ok(object) => ended(parser, SimpleStatement::Remove(position, object)),
+        Ok(object) => end(parser, SimpleStatement::Remove(position, object)),
         Err(e) => Err(e),
     }
 }
@@ -203,7 +202,7 @@ fn removed<'t, 'a>(
 /// Those of `expression`; `Fault::Grammar` at the token after the expression where it has no
 /// effect, or no `;` follows.
 #[tactic(auto, unfolding(crate::specs::Parse::alone))]
-fn alone<'t, 'a>(
+fn effect<'t, 'a>(
     parser: &mut Parser<'t, 'a>,
     depth: usize,
 ) -> Result<Box<SimpleStatement<'a>>, ParseError>
@@ -215,7 +214,7 @@ fn alone<'t, 'a>(
             if !has_effect(&value) {
                 return Err(fault_at(Fault::Grammar, parser.tokens));
             }
-            ended(parser, SimpleStatement::Effect(begin, value))
+            end(parser, SimpleStatement::Effect(begin, value))
         }
         Err(e) => Err(e),
     }
@@ -238,24 +237,24 @@ pub fn simple<'t, 'a>(
     let first = peek(opening);
     pass(parser);
     match first.kind {
-        Kind::Text(bytes) => ended(parser, SimpleStatement::Text(bytes)),
+        Kind::Text(bytes) => end(parser, SimpleStatement::Text(bytes)),
         Kind::Reserved(Word::Print) => print(parser, depth),
         Kind::Reserved(Word::PrintRet) => print_return(parser, depth),
-        Kind::Reserved(Word::NewLine) => ended(parser, SimpleStatement::NewLine),
-        Kind::Reserved(Word::Break) => ended(parser, SimpleStatement::Break(first.position)),
-        Kind::Reserved(Word::Continue) => ended(parser, SimpleStatement::Continue(first.position)),
-        Kind::Reserved(Word::Return) => returned(parser, depth, first.position),
-        Kind::Reserved(Word::Rtrue) => ended(parser, SimpleStatement::ReturnTrue),
-        Kind::Reserved(Word::Rfalse) => ended(parser, SimpleStatement::ReturnFalse),
-        Kind::Reserved(Word::Quit) => ended(parser, SimpleStatement::Quit),
+        Kind::Reserved(Word::NewLine) => end(parser, SimpleStatement::NewLine),
+        Kind::Reserved(Word::Break) => end(parser, SimpleStatement::Break(first.position)),
+        Kind::Reserved(Word::Continue) => end(parser, SimpleStatement::Continue(first.position)),
+        Kind::Reserved(Word::Return) => return_value(parser, depth, first.position),
+        Kind::Reserved(Word::Rtrue) => end(parser, SimpleStatement::ReturnTrue),
+        Kind::Reserved(Word::Rfalse) => end(parser, SimpleStatement::ReturnFalse),
+        Kind::Reserved(Word::Quit) => end(parser, SimpleStatement::Quit),
         Kind::Reserved(Word::Read) => read(parser),
-        Kind::Reserved(Word::Give) => given(parser, depth, first.position),
-        Kind::Reserved(Word::Move) => moved(parser, depth, first.position),
-        Kind::Reserved(Word::Remove) => removed(parser, depth, first.position),
+        Kind::Reserved(Word::Give) => give(parser, depth, first.position),
+        Kind::Reserved(Word::Move) => move_to(parser, depth, first.position),
+        Kind::Reserved(Word::Remove) => remove(parser, depth, first.position),
         _ => {
             // The token is the first of the expression.
             parser.tokens = opening;
-            alone(parser, depth)
+            effect(parser, depth)
         }
     }
 }

@@ -138,13 +138,13 @@ pub enum Expression<'a> {
     /// `parent`, `child` or `sibling`, of the object in its parentheses.
     RelativeOf(Relative, Box<Expression<'a>>),
 
-    /// Properties, one behind another: of an object, and then of each property's value.
+    /// Properties, one after another: of an object, and then of each property's value.
     Property(Box<Expression<'a>>, Box<Name<'a>>, Vec<Name<'a>>),
 
     /// The length of a property: `.#`
     PropertyLength(Box<Expression<'a>>, Name<'a>),
 
-    /// An entry of a property, with the index behind `-->`: `.&`
+    /// An entry of a property, with the index after `-->`: `.&`
     PropertyEntry(Box<Expression<'a>>, Name<'a>, Box<Expression<'a>>),
 
     Prefixed(Prefix, Box<Expression<'a>>),

@@ -84,13 +84,13 @@ operations::put_comparison-returns t c = on_ok c.put_operand.result
 
 pub operations::put_link-returns-in-Ok-put_value : goal.operations::put_link-returns-in-Ok-put_value
 operations::put_link-returns-in-Ok-put_value t c = and_written _ _ _ c.args.wanted _ c.in-Ok.when c.in-Ok.target _
-    c.args.operator _ _ c.in-AndAlso.is c.in-Ok.ensures c.written-end.ensures c.in-Ok-put_value.ensures
+    c.args.operator _ _ c.in-AndAlso.is c.in-Ok.ensures c.item_count-end.ensures c.in-Ok-put_value.ensures
     c.first_of_and.ensures
 
 pub operations::put_link-returns-in-Ok-put_value-2 : goal.operations::put_link-returns-in-Ok-put_value-2
 operations::put_link-returns-in-Ok-put_value-2 t c = or_written _ _ _ c.args.wanted _ c.in-Ok-put_truth.when
     c.in-Ok-put_truth.target _ c.args.operator _ _ c.in-OrElse.is c.in-Ok-put_truth.ensures
-    c.written-end-in-OrElse.ensures c.in-Ok-put_value-2.ensures c.first_of_or.ensures
+    c.item_count-end-in-OrElse.ensures c.in-Ok-put_value-2.ensures c.first_of_or.ensures
 
 pub operations::put_link-returns-in-Ok-put_right : goal.operations::put_link-returns-in-Ok-put_right
 operations::put_link-returns-in-Ok-put_right t c =
@@ -133,11 +133,11 @@ value::put_operands-loop-done-preserved t c = operand_round _ _ _ c.args.values.
 
 pub value::put_arguments-loop-done-preserved : goal.value::put_arguments-loop-done-preserved
 value::put_arguments-loop-done-preserved t c = (
-  argument_round c.args.values.now c.loop-done.done _ _ c.loop-done.behind c.loop-done-test.true
+  argument_round c.args.values.now c.loop-done.done _ _ c.loop-done.after c.loop-done-test.true
       c.index-values-number.is c.before-operand.ensures c.loop-done.invariant.1 _ _ _ c.args.several _
       c.argument_place-place.ensures c.loop-done.invariant.0 c.in-Ok.ensures,
-  pushed_round c.args.values.now c.loop-done.done _ _ c.loop-done.behind c.loop-done-test.true
-      c.index-values-number.is c.before-operand.ensures c.loop-done.invariant.1 _ c.are_behind-behind.ensures,
+  pushed_round c.args.values.now c.loop-done.done _ _ c.loop-done.after c.loop-done-test.true
+      c.index-values-number.is c.before-operand.ensures c.loop-done.invariant.1 _ c.is_pushed_or_later-after.ensures,
 )
 
 pub operations::put_links-loop-done-preserved : goal.operations::put_links-loop-done-preserved

@@ -14,7 +14,7 @@ abbrev pub invariant-value::put_arguments-loop-done : goal.invariant-value::put_
 invariant-value::put_arguments-loop-done l =
     WritesBefore (written_in l.initial.draft) (written_in l.draft) (λ n at. arguments_items l.several at
     (values_of (map value_of (drop (length l.values - l.done) l.values))))
-    × (l.behind ≡ is_any_pushed (operands_of (values_of (map value_of (drop (length l.values - l.done) l.values)))))
+    × (l.after ≡ is_any_pushed (operands_of (values_of (map value_of (drop (length l.values - l.done) l.values)))))
 
 abbrev pub invariant-operations::put_folded-loop-done : goal.invariant-operations::put_folded-loop-done
 invariant-operations::put_folded-loop-done l = WritesBefore (written_in l.initial.draft) (written_in l.draft)

@@ -9,10 +9,10 @@ loop-i-init c = refl
 
 pub loop-i-preserved : goal.loop-i-preserved
 loop-i-preserved c =
-    texts_next c.loop-i.least c.text_rule.new.least c.args.texts.now c.loop-i.i _ c.loop-i-test.true c.text_rule.ensures
+    texts_next c.loop-i.tally c.text_rule.new.tally c.args.texts.now c.loop-i.i _ c.loop-i-test.true c.text_rule.ensures
     ∙ c.loop-i.invariant
 
 pub returns : goal.returns
 returns c =
-    sym (texts_end c.loop-i.least c.args.texts.now c.loop-i.i (map text_tree (take c.loop-i.i c.args.texts.now))
+    sym (texts_end c.loop-i.tally c.args.texts.now c.loop-i.i (map text_tree (take c.loop-i.i c.args.texts.now))
     c.loop-i-test.false) ∙ c.loop-i.invariant

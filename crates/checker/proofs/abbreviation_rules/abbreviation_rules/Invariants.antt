@@ -7,5 +7,5 @@ use Rattle.checker.proofs.abbreviation_rules.abbreviation_rules.Given as goal
 
 abbrev pub invariant-loop-i : goal.invariant-loop-i
 invariant-loop-i l =
-    noted l.least (abbreviations_breaches (map text_tree (take l.i l.texts)) (map text_tree (drop l.i l.texts)))
-    ≡ noted l.fn.least (abbreviations_breaches [] (map text_tree l.texts))
+    noted l.tally (abbreviations_breaches (map text_tree (take l.i l.texts)) (map text_tree (drop l.i l.texts)))
+    ≡ noted l.fn.tally (abbreviations_breaches [] (map text_tree l.texts))

@@ -39,23 +39,23 @@ returns-clause-value c =
 
 pub returns-clause-breaches : goal.returns-clause-breaches
 returns-clause-breaches c =
-    program_break c.args.least.now c.all_directives.new.least c.parents.new.least
-    c.abbreviation_rules.new.least c.main_number-main.new.least
+    program_break c.args.tally.now c.all_directives.new.tally c.parents.new.tally
+    c.abbreviation_rules.new.tally c.main_number-main.new.tally
     c.args.program.now c.args.file.table.entries
     (ap (λ (f : File). f.table) c.requires.file ∙ file_table (program_tree c.args.program.now))
     (c.in_ok-found.ensures.breaches
-    ∙ ap (λ (ds : List Directive). noted c.args.least.now
+    ∙ ap (λ (ds : List Directive). noted c.args.tally.now
     (directives_breaches c.args.file.table.entries first_table no_counts (map directive_tree ds)))
     c.deref-directives.ensures.value)
     (c.in_ok-parents.ensures.breaches
-    ∙ ap (λ (ds : List Directive). noted c.all_directives.new.least
+    ∙ ap (λ (ds : List Directive). noted c.all_directives.new.tally
     (standing_breaches c.args.file.table.entries (object_trees (map directive_tree ds))))
     c.deref-directives.ensures.value)
     (c.abbreviation_rules.ensures
-    ∙ ap (λ (ts : List Text). noted c.parents.new.least (abbreviations_breaches [] (map text_tree ts)))
+    ∙ ap (λ (ts : List Text). noted c.parents.new.tally (abbreviations_breaches [] (map text_tree ts)))
     c.deref-texts.ensures.value)
     (c.main_number-main.ensures.breaches
-    ∙ ap (λ (ds : List Directive). noted c.abbreviation_rules.new.least
+    ∙ ap (λ (ds : List Directive). noted c.abbreviation_rules.new.tally
     (main_breaches c.args.program.now.end (first_routine (map directive_tree ds) main_key)
     (in_table c.args.file.table.entries main_key))) c.deref-directives.ensures.value)
 

@@ -19,12 +19,12 @@ loop-one-preserved c = record {
   adding = adding_more (file_in c.args.file.now) c.args.directives.now c.loop-one.one-index c.one-item.result
       c.args.found.now c.loop-one.found c.directive.new.found c.loop-one-test.true c.one-item.is
       c.in-Ok.ensures.added c.loop-one.invariant.adding;
-  least = breaches_step c.args.file.now.table.entries c.loop-one.names.table.entries c.add.new.self.table.entries
-      c.loop-one.names.counts c.add.new.self.counts c.loop-one.least c.directive.new.least c.args.directives.now
+  tally = breaches_step c.args.file.now.table.entries c.loop-one.names.table.entries c.add.new.self.table.entries
+      c.loop-one.names.counts c.add.new.self.counts c.loop-one.tally c.directive.new.tally c.args.directives.now
       c.loop-one.one-index c.one-item.result
       c.loop-one-test.true c.one-item.is
       c.in-Ok.ensures.breaches c.in-Ok-add.ensures.table c.in-Ok-add.ensures.counts
-      ∙ c.loop-one.invariant.least;
+      ∙ c.loop-one.invariant.tally;
 }
 
 pub returns-clause-added : goal.returns-clause-added
@@ -33,9 +33,9 @@ returns-clause-added c = adding_end (file_in c.args.file.now) c.args.directives.
 
 pub returns-clause-breaches : goal.returns-clause-breaches
 returns-clause-breaches c =
-    sym (noted_none c.loop-one.least)
-    ∙ ap (λ (ds : List Directive). noted c.loop-one.least
+    sym (noted_none c.loop-one.tally)
+    ∙ ap (λ (ds : List Directive). noted c.loop-one.tally
     (directives_breaches c.args.file.now.table.entries c.loop-one.names.table.entries c.loop-one.names.counts
     (map directive_tree ds)))
     (sym (drop_end c.args.directives.now c.loop-one.one-index c.loop-one-test.false))
-    ∙ c.loop-one.invariant.least
+    ∙ c.loop-one.invariant.tally

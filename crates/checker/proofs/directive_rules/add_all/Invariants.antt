@@ -13,9 +13,9 @@ invariant-loop-one l = record {
   few : AreFewer (l.one-index + 1) l.names.counts;
   adding : IsAdding (file_in l.file) (map directive_tree (drop l.one-index l.directives))
       (map directive_tree l.directives) l.fn.found l.found;
-  least : noted l.least
+  tally : noted l.tally
       (directives_breaches l.file.table.entries l.names.table.entries l.names.counts
       (map directive_tree (drop l.one-index l.directives)))
-      ≡ noted l.fn.least
+      ≡ noted l.fn.tally
       (directives_breaches l.file.table.entries l.fn.names.table.entries no_counts (map directive_tree l.directives));
 }

@@ -6,6 +6,6 @@ use Rattle.checker.proofs.directive_rules.attribute.Goals as goal
 
 pub returns : goal.returns
 returns c =
-    noted_two c.args.least.now c.twice.new.least c.limit.new.least
+    noted_two c.args.tally.now c.definition_rule.new.tally c.limit.new.tally
     (twice c.args.names.now.table.entries (name_tree c.args.name))
-    (limit_breaches 48 c.args.names.now.counts.attributes (name_tree c.args.name)) c.twice.ensures c.limit.ensures
+    (limit_breaches 48 c.args.names.now.counts.attributes (name_tree c.args.name)) c.definition_rule.ensures c.limit.ensures

@@ -13,6 +13,6 @@ returns-clause-breaches c =
     let own = twice c.args.names.now.table.entries name in
     let many = limit_breaches 2000 c.args.names.now.counts.objects name in
     let value = object_breaches c.args.file.now.table.entries (object_tree c.args.written.now) in
-    noted_two c.args.least.now c.twice.new.least c.object.new.least own (many ++ value) c.twice.ensures
-    (noted_two c.twice.new.least c.limit.new.least c.object.new.least many value c.limit.ensures
+    noted_two c.args.tally.now c.definition_rule.new.tally c.object.new.tally own (many ++ value) c.definition_rule.ensures
+    (noted_two c.definition_rule.new.tally c.limit.new.tally c.object.new.tally many value c.limit.ensures
     c.in_ok-made.ensures.breaches)

@@ -26,7 +26,7 @@ returns-in_ok-push-in-Global-clause-breaches c =
     let v : directive_tree c.args.directive.now ≡ global (name_tree c.in-Global.name)
     (optional_tree c.in-Global.value) = ap directive_tree c.in-Global.is in
     c.global.ensures.breaches
-    ∙ ap (λ (d : DirectiveTree). noted c.args.least.now
+    ∙ ap (λ (d : DirectiveTree). noted c.args.tally.now
     (directive_breaches c.args.file.now.table.entries c.args.names.now.table.entries c.args.names.now.counts d))
     (sym v)
 
@@ -39,11 +39,11 @@ pub returns-in-Constant-clause-breaches : goal.returns-in-Constant-clause-breach
 returns-in-Constant-clause-breaches c =
     let v : directive_tree c.args.directive.now ≡ constant (name_tree c.in-Constant.name)
     (literal_tree c.in-Constant.value) = ap directive_tree c.in-Constant.is in
-    noted_two c.args.least.now c.twice.new.least c.constant_value.new.least
+    noted_two c.args.tally.now c.definition_rule.new.tally c.constant_value.new.tally
     (twice c.args.names.now.table.entries (name_tree c.in-Constant.name))
     (named_breaches c.args.file.now.table.entries c.args.names.now.table.entries (literal_tree c.in-Constant.value))
-    c.twice.ensures c.constant_value.ensures
-    ∙ ap (λ (d : DirectiveTree). noted c.args.least.now
+    c.definition_rule.ensures c.constant_value.ensures
+    ∙ ap (λ (d : DirectiveTree). noted c.args.tally.now
     (directive_breaches c.args.file.now.table.entries c.args.names.now.table.entries c.args.names.now.counts d))
     (sym v)
 
@@ -59,11 +59,11 @@ pub returns-in_ok-push-in-Routine-clause-breaches : goal.returns-in_ok-push-in-R
 returns-in_ok-push-in-Routine-clause-breaches c =
     let v : directive_tree c.args.directive.now ≡ routine (routine_tree c.in-Routine.written) = ap directive_tree
     c.in-Routine.is in
-    noted_two c.args.least.now c.twice-in-Routine.new.least c.routine.new.least
+    noted_two c.args.tally.now c.definition_rule-in-Routine.new.tally c.routine.new.tally
     (twice c.args.names.now.table.entries (name_tree c.in-Routine.written.name))
-    (routine_breaches c.args.file.now.table.entries (routine_tree c.in-Routine.written)) c.twice-in-Routine.ensures
+    (routine_breaches c.args.file.now.table.entries (routine_tree c.in-Routine.written)) c.definition_rule-in-Routine.ensures
     c.in_ok-routine-in-Routine.ensures.breaches
-    ∙ ap (λ (d : DirectiveTree). noted c.args.least.now
+    ∙ ap (λ (d : DirectiveTree). noted c.args.tally.now
     (directive_breaches c.args.file.now.table.entries c.args.names.now.table.entries c.args.names.now.counts d))
     (sym v)
 
@@ -77,11 +77,11 @@ pub returns-in_ok-array-in-Array-clause-breaches : goal.returns-in_ok-array-in-A
 returns-in_ok-array-in-Array-clause-breaches c =
     let v : directive_tree c.args.directive.now ≡ array (array_tree c.in-Array.written) = ap directive_tree
     c.in-Array.is in
-    noted_two c.args.least.now c.twice-in-Array.new.least c.array.new.least
+    noted_two c.args.tally.now c.definition_rule-in-Array.new.tally c.array.new.tally
     (twice c.args.names.now.table.entries (name_tree c.in-Array.written.name))
-    (array_breaches c.args.file.now.table.entries (array_tree c.in-Array.written)) c.twice-in-Array.ensures
+    (array_breaches c.args.file.now.table.entries (array_tree c.in-Array.written)) c.definition_rule-in-Array.ensures
     c.in_ok-array-in-Array.ensures.breaches
-    ∙ ap (λ (d : DirectiveTree). noted c.args.least.now
+    ∙ ap (λ (d : DirectiveTree). noted c.args.tally.now
     (directive_breaches c.args.file.now.table.entries c.args.names.now.table.entries c.args.names.now.counts d))
     (sym v)
 
@@ -95,7 +95,7 @@ returns-in-Attribute-clause-breaches c =
     let v : directive_tree c.args.directive.now ≡ attribute (name_tree c.in-Attribute.name) = ap directive_tree
     c.in-Attribute.is in
     c.attribute.ensures
-    ∙ ap (λ (d : DirectiveTree). noted c.args.least.now
+    ∙ ap (λ (d : DirectiveTree). noted c.args.tally.now
     (directive_breaches c.args.file.now.table.entries c.args.names.now.table.entries c.args.names.now.counts d))
     (sym v)
 
@@ -111,7 +111,7 @@ returns-in_ok-push-in-Property-clause-breaches c =
     let v : directive_tree c.args.directive.now ≡ property (name_tree c.in-Property.name)
     (optional_tree c.in-Property.value) = ap directive_tree c.in-Property.is in
     c.property.ensures.breaches
-    ∙ ap (λ (d : DirectiveTree). noted c.args.least.now
+    ∙ ap (λ (d : DirectiveTree). noted c.args.tally.now
     (directive_breaches c.args.file.now.table.entries c.args.names.now.table.entries c.args.names.now.counts d))
     (sym v)
 
@@ -128,6 +128,6 @@ returns-in_ok-push-in-Object-clause-breaches c =
     let v : directive_tree c.args.directive.now ≡ object (object_tree c.in-Object.written) = ap directive_tree
     c.in-Object.is in
     c.in_ok-defined_object-in-Object.ensures.breaches
-    ∙ ap (λ (d : DirectiveTree). noted c.args.least.now
+    ∙ ap (λ (d : DirectiveTree). noted c.args.tally.now
     (directive_breaches c.args.file.now.table.entries c.args.names.now.table.entries c.args.names.now.counts d))
     (sym v)

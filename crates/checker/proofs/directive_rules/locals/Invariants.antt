@@ -11,7 +11,7 @@ abbrev pub invariant-loop-number : goal.invariant-loop-number
 invariant-loop-number l = record {
   table : (key : List ℕ) → in_table l.table.entries key
       ≡ local_binding (local_from 0 (map name_tree (take l.number l.names)) key);
-  least : noted l.least
+  tally : noted l.tally
       (locals_breaches (map name_tree (take l.number l.names)) (map name_tree (drop l.number l.names)))
-      ≡ noted l.fn.least (locals_breaches [] (map name_tree l.names));
+      ≡ noted l.fn.tally (locals_breaches [] (map name_tree l.names));
 }

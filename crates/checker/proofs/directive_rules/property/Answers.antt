@@ -13,6 +13,6 @@ returns-clause-breaches c =
     let own = twice c.args.names.now.table.entries (name_tree c.args.name) in
     let many = limit_breaches 62 c.args.names.now.counts.properties (name_tree c.args.name) in
     let value = initial_breaches whole (optional_tree c.args.value.now) in
-    noted_two c.args.least.now c.twice.new.least c.initial.new.least own (many ++ value) c.twice.ensures
-    (noted_two c.twice.new.least c.limit.new.least c.initial.new.least many value c.limit.ensures
+    noted_two c.args.tally.now c.definition_rule.new.tally c.initial.new.tally own (many ++ value) c.definition_rule.ensures
+    (noted_two c.definition_rule.new.tally c.limit.new.tally c.initial.new.tally many value c.limit.ensures
     c.initial.ensures.breaches)

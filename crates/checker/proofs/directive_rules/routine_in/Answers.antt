@@ -9,5 +9,5 @@ returns c =
     let count : c.len-locals.result ≡ length c.args.routine.now.locals.items = omega
     (arith, c.len-locals.ensures, c.args.routine.now.locals.ok.0) in
     routine_walked (seen_in c.args.scope.now) c.args.routine.now c.body_of.result.now c.len-locals.result
-    (map action_of c.in_ok-body.body.items) c.args.least.now c.all_statements.new.least
+    (map action_of c.in_ok-body.body.items) c.args.tally.now c.all_statements.new.tally
     c.body_of.ensures count c.in_ok-body.ensures

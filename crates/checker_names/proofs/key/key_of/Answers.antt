@@ -3,4 +3,4 @@ use Rattle.checker_names.proofs.Keys.{key_filled}
 use Rattle.checker_names.proofs.key.key_of.Goals as goal
 
 pub returns : goal.returns
-returns c = c.loop-i.invariant ∙ key_filled c.args.name.now c.loop-i.i _ c.held-i-end.ensures.all c.loop-i-test.false
+returns c = c.loop-i.invariant ∙ key_filled c.args.name.now c.loop-i.i _ c.key_length-i-end.ensures.all c.loop-i-test.false

@@ -8,9 +8,9 @@ loop-value-preserved c = record {
   bytes = entry_added (file_in c.args.file.now) c.args.width c.args.values.now c.loop-value.value-index _
       c.entry-number.result c.loop-value.bytes.items c.add_entry.new.bytes.items _ c.loop-value-test.true
       c.entry-number.ensures.value c.in_ok-add_entry.ensures c.loop-value.invariant.bytes;
-  least = entry_noted c.args.file.now.table.entries c.args.width c.args.values.now c.loop-value.value-index _
-      c.loop-value.least c.entry-number.new.least _ c.loop-value-test.true c.entry-number.ensures.breaches
-      c.loop-value.invariant.least;
+  tally = entry_noted c.args.file.now.table.entries c.args.width c.args.values.now c.loop-value.value-index _
+      c.loop-value.tally c.entry-number.new.tally _ c.loop-value-test.true c.entry-number.ensures.breaches
+      c.loop-value.invariant.tally;
 }
 
 pub returns-clause-bytes : goal.returns-clause-bytes
@@ -20,5 +20,5 @@ returns-clause-bytes c =
 
 pub returns-clause-breaches : goal.returns-clause-breaches
 returns-clause-breaches c =
-    all_noted c.args.file.now.table.entries c.args.width c.args.values.now c.loop-value.value-index c.loop-value.least _
-    c.loop-value-test.false c.loop-value.invariant.least
+    all_noted c.args.file.now.table.entries c.args.width c.args.values.now c.loop-value.value-index c.loop-value.tally _
+    c.loop-value-test.false c.loop-value.invariant.tally

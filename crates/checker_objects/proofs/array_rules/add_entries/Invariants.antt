@@ -9,6 +9,6 @@ abbrev pub invariant-loop-value : goal.invariant-loop-value
 invariant-loop-value l = record {
   bytes : l.bytes.items ++ flat_map (own_entry_bytes (file_in l.file) l.width) (drop l.value-index l.values)
       ≡ l.fn.bytes.items ++ flat_map (own_entry_bytes (file_in l.file) l.width) l.values;
-  least : noted l.least (flat_map (own_entry_breaches l.file.table.entries l.width) (drop l.value-index l.values))
-      ≡ noted l.fn.least (flat_map (own_entry_breaches l.file.table.entries l.width) l.values);
+  tally : noted l.tally (flat_map (own_entry_breaches l.file.table.entries l.width) (drop l.value-index l.values))
+      ≡ noted l.fn.tally (flat_map (own_entry_breaches l.file.table.entries l.width) l.values);
 }

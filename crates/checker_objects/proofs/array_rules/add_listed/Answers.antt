@@ -12,5 +12,5 @@ returns-clause-bytes c =
 pub returns-clause-breaches : goal.returns-clause-breaches
 returns-clause-breaches c =
     listed_breaks c.args.file.now.table.entries c.args.position c.args.kind c.args.values.now (length c.args.values.now)
-    c.width_of.result c.args.least.now c.count_rule.new.least c.add_entries.new.least c.requires.several refl
+    c.width_of.result c.args.tally.now c.count_rule.new.tally c.add_entries.new.tally c.requires.several refl
     c.width_of.ensures c.count_rule.ensures c.in_ok-add_entries.ensures.breaches

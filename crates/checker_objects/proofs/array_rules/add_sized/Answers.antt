@@ -19,5 +19,5 @@ returns-clause-bytes c =
 pub returns-clause-breaches : goal.returns-clause-breaches
 returns-clause-breaches c =
     sized_breaks c.args.file.now.table.entries c.args.position c.args.kind c.args.values.now _
-    c.literal-size.result c.args.least.now c.literal-size.new.least c.zeros_of-count.new.least c.requires.one
+    c.literal-size.result c.args.tally.now c.literal-size.new.tally c.zeros_of-count.new.tally c.requires.one
     c.literal-size.ensures.value c.literal-size.ensures.breaches c.zeros_of-count.ensures.breaches

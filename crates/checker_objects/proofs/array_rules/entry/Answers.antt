@@ -13,9 +13,9 @@ pub returns-clause-breaches : goal.returns-clause-breaches
 returns-clause-breaches c =
     let whole = c.args.file.now.table.entries in
     let tree = literal_tree c.args.value.now.value in
-    noted_two c.args.least.now c.literal.new.least c.wide_rule.new.least (literal_breaches whole tree)
+    noted_two c.args.tally.now c.literal.new.tally c.wide_rule.new.tally (literal_breaches whole tree)
     (wide_breaches c.args.value.now.position c.args.width (or_zero (literal_known whole tree)))
     c.literal.ensures.breaches
     (c.wide_rule.ensures
-    ∙ ap (λ (n : Known). noted c.literal.new.least (wide_breaches c.args.value.now.position c.args.width n))
+    ∙ ap (λ (n : Known). noted c.literal.new.tally (wide_breaches c.args.value.now.position c.args.width n))
     (c.or_zero-known.ensures ∙ ap or_zero c.literal.ensures.value))

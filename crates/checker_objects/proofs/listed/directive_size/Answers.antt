@@ -8,7 +8,7 @@ use Rattle.checker_objects.proofs.listed.directive_size.Goals as goal
 
 pub returns-in-Object-clause-size : goal.returns-in-Object-clause-size
 returns-in-Object-clause-size c =
-    c.folded.ensures.size
+    c.fold.ensures.size
     ∙ fold_part 14 (listed_table_size (object_tree c.in-Object.written)) c.table_size.result
     c.table_size.ensures.size
     ∙ ap (λ (d : Directive). folded (listed_directive_size (directive_tree d))) (sym c.in-Object.is)

@@ -10,9 +10,9 @@ loop-directive-preserved c =
     record {
       sum = sum_step directives_total directive_part refl directives_more c.args.directives.now i.directive-index i.size
           i.invariant.sum x _ c.loop-directive-test.true c.directive-item.is
-          (c.folded-size.ensures.size
+          (c.fold-size.ensures.size
           ∙ fold_part i.size (directive_part x) c.directive_size.result c.directive_size.ensures.size);
-      bound = c.folded-size.ensures.few;
+      bound = c.fold-size.ensures.few;
     }
 
 pub returns-clause-size : goal.returns-clause-size

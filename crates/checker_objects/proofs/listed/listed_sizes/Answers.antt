@@ -11,8 +11,8 @@ loop-one-preserved c =
     record {
       sum = sum_step properties_total property_part refl properties_more c.args.written.now i.one-index i.size
           i.invariant.sum x _ c.loop-one-test.true c.one-item.is
-          (c.folded-size.ensures.size ∙ ap (λ n. folded (i.size + n)) c.listed_size.ensures.size);
-      bound = c.folded-size.ensures.few;
+          (c.fold-size.ensures.size ∙ ap (λ n. folded (i.size + n)) c.listed_size.ensures.size);
+      bound = c.fold-size.ensures.few;
     }
 
 pub returns-clause-size : goal.returns-clause-size

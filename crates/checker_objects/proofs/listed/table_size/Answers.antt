@@ -17,5 +17,5 @@ returns-clause-size c =
     let words : c.name_words.result ≡ name_words (short_name o.short) =
     c.name_words.ensures.words ∙ ap name_words c.short_name.ensures in
     let sum : 2 + 2 * c.name_words.result + all ≡ listed_table_size o = omega (arith, words) in
-    c.folded.ensures.size
+    c.fold.ensures.size
     ∙ fold_part (2 + 2 * c.name_words.result) all c.listed_sizes-properties.result properties ∙ ap folded sum

@@ -7,12 +7,12 @@ use Rattle.checker_objects.proofs.object_rules.attributes.Goals as goal
 
 pub loop-name-preserved : goal.loop-name-preserved
 loop-name-preserved c = record {
-  found = list_there name_tree (given_of (file_in c.args.file.now)) c.loop-name.found.items _ _ c.given.result
+  found = list_there name_tree (given_of (file_in c.args.file.now)) c.loop-name.found.items _ _ c.given_attribute.result
       c.args.names.now c.loop-name.name-index _ c.loop-name-test.true
-      c.push_reserved.ensures.items c.given.ensures.value c.loop-name.invariant.found;
-  least = note_there name_tree (given_breaches c.args.file.now.table.entries) c.loop-name.least c.given.new.least _
+      c.push_reserved.ensures.items c.given_attribute.ensures.value c.loop-name.invariant.found;
+  tally = note_there name_tree (given_breaches c.args.file.now.table.entries) c.loop-name.tally c.given_attribute.new.tally _
       c.args.names.now c.loop-name.name-index _ c.loop-name-test.true
-      c.given.ensures.breaches c.loop-name.invariant.least;
+      c.given_attribute.ensures.breaches c.loop-name.invariant.tally;
   count = omega (arith, c.push_reserved.ensures.len, c.loop-name.invariant.count);
   room = omega (arith, c.push_reserved.ensures.capacity, c.loop-name.invariant.room);
 }
@@ -24,5 +24,5 @@ returns-clause-value c =
 
 pub returns-clause-breaches : goal.returns-clause-breaches
 returns-clause-breaches c =
-    note_end name_tree (given_breaches c.args.file.now.table.entries) c.loop-name.least _ c.args.names.now
-    c.loop-name.name-index c.loop-name-test.false c.loop-name.invariant.least
+    note_end name_tree (given_breaches c.args.file.now.table.entries) c.loop-name.tally _ c.args.names.now
+    c.loop-name.name-index c.loop-name-test.false c.loop-name.invariant.tally

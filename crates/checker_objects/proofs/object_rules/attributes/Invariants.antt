@@ -11,8 +11,8 @@ abbrev pub invariant-loop-name : goal.invariant-loop-name
 invariant-loop-name l = record {
   found : l.found.items ++ map (given_of (file_in l.file)) (map name_tree (drop l.name-index l.names))
       ≡ map (given_of (file_in l.file)) (map name_tree l.names);
-  least : noted l.least (flat_map (given_breaches l.file.table.entries) (map name_tree (drop l.name-index l.names)))
-      ≡ noted l.fn.least (flat_map (given_breaches l.file.table.entries) (map name_tree l.names));
+  tally : noted l.tally (flat_map (given_breaches l.file.table.entries) (map name_tree (drop l.name-index l.names)))
+      ≡ noted l.fn.tally (flat_map (given_breaches l.file.table.entries) (map name_tree l.names));
   count : vec_len l.found ≡ l.name-index;
   room : length l.names ≤ vec_capacity l.found;
 }

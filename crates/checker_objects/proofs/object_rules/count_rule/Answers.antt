@@ -8,12 +8,12 @@ use Rattle.checker_objects.proofs.object_rules.count_rule.Goals as goal
 pub returns-in-Some : goal.returns-in-Some
 returns-in-Some c =
     c.note-in-Some.ensures
-    ∙ ap (λ (bs : List Breach). noted c.args.least.now bs)
+    ∙ ap (λ (bs : List Breach). noted c.args.tally.now bs)
     (sym (counted_many c.args.name.position c.args.values.now c.in-Some.value.now c.in-Some.ensures.lookup.0
     c.in-Some.ensures.lookup.1))
 
 pub returns-in_default : goal.returns-in_default
 returns-in_default c =
-    sym (noted_none c.args.least.now)
-    ∙ ap (λ (bs : List Breach). noted c.args.least.now bs)
+    sym (noted_none c.args.tally.now)
+    ∙ ap (λ (bs : List Breach). noted c.args.tally.now bs)
     (sym (counted_few c.args.name.position c.args.values.now c.if-is_empty.ensures c.in_default.ensures.lookup.0))

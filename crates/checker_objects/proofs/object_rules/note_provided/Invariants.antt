@@ -8,5 +8,5 @@ use Rattle.checker_objects.proofs.object_rules.note_provided.Given as goal
 
 abbrev pub invariant-loop-one : goal.invariant-loop-one
 invariant-loop-one l =
-    noted l.least (flat_map (provided_breaches l.file.table.entries) (map property_tree (drop l.one-index l.written)))
-    ≡ noted l.fn.least (flat_map (provided_breaches l.file.table.entries) (map property_tree l.written))
+    noted l.tally (flat_map (provided_breaches l.file.table.entries) (map property_tree (drop l.one-index l.written)))
+    ≡ noted l.fn.tally (flat_map (provided_breaches l.file.table.entries) (map property_tree l.written))

@@ -21,19 +21,19 @@ returns-clause-breaches c =
     let twice = repeated_breaches [] (map property_name ps) in
     let provided = flat_map (provided_breaches whole) ps in
     let given = flat_map (given_breaches whole) (map name_tree c.args.written.now.attributes.items) in
-    noted_two c.args.least.now c.short_rule.new.least c.attributes.new.least short (twice ++ (provided ++ given))
+    noted_two c.args.tally.now c.short_rule.new.tally c.attributes.new.tally short (twice ++ (provided ++ given))
     c.short_rule.ensures
-    (noted_two c.short_rule.new.least c.repeated.new.least c.attributes.new.least twice (provided ++ given)
+    (noted_two c.short_rule.new.tally c.repeat_rules.new.tally c.attributes.new.tally twice (provided ++ given)
     (c.in-Ok.ensures
-    ∙ ap (λ (ns : List Name). noted c.short_rule.new.least (repeated_breaches [] (map name_tree ns)))
+    ∙ ap (λ (ns : List Name). noted c.short_rule.new.tally (repeated_breaches [] (map name_tree ns)))
     c.deref-2.ensures.value
-    ∙ ap (λ (ns : List NameTree). noted c.short_rule.new.least (repeated_breaches [] ns)) c.in_ok-names.ensures
-    ∙ ap (λ (xs : List Property). noted c.short_rule.new.least
+    ∙ ap (λ (ns : List NameTree). noted c.short_rule.new.tally (repeated_breaches [] ns)) c.in_ok-names.ensures
+    ∙ ap (λ (xs : List Property). noted c.short_rule.new.tally
     (repeated_breaches [] (map property_name (map property_tree xs)))) c.deref.ensures.value)
-    (noted_two c.repeated.new.least c.provided_of_listed.new.least c.attributes.new.least provided given
+    (noted_two c.repeat_rules.new.tally c.provided_of_listed.new.tally c.attributes.new.tally provided given
     (c.in-Ok-provided_of_listed.ensures.breaches
-    ∙ ap (λ (xs : List Property). noted c.repeated.new.least
+    ∙ ap (λ (xs : List Property). noted c.repeat_rules.new.tally
     (flat_map (provided_breaches whole) (map property_tree xs))) c.deref-3.ensures.value)
     (c.in-Ok-attributes.ensures.breaches
-    ∙ ap (λ (ns : List Name). noted c.provided_of_listed.new.least (flat_map (given_breaches whole) (map name_tree ns)))
+    ∙ ap (λ (ns : List Name). noted c.provided_of_listed.new.tally (flat_map (given_breaches whole) (map name_tree ns)))
     c.deref-4.ensures.value)))

@@ -15,9 +15,9 @@ loop-one-preserved c = record {
   found = properties_next (file_in c.args.file.now) (map property_of c.loop-one.found.items) _ _
       (property_of c.in-Ok.added) c.args.written.now c.loop-one.one-index c.one-item.result c.loop-one-test.true
       c.one-item.is c.in-Ok.ensures.value c.in-Ok-add_property.ensures c.loop-one.invariant.found;
-  least = note_next property_tree (provided_breaches c.args.file.now.table.entries) c.loop-one.least
-      c.provided.new.least _ c.args.written.now c.loop-one.one-index c.one-item.result c.loop-one-test.true
-      c.one-item.is c.in-Ok.ensures.breaches c.loop-one.invariant.least;
+  tally = note_next property_tree (provided_breaches c.args.file.now.table.entries) c.loop-one.tally
+      c.provided.new.tally _ c.args.written.now c.loop-one.one-index c.one-item.result c.loop-one-test.true
+      c.one-item.is c.in-Ok.ensures.breaches c.loop-one.invariant.tally;
 }
 
 pub returns-clause-value : goal.returns-clause-value
@@ -28,5 +28,5 @@ returns-clause-value c =
 
 pub returns-clause-breaches : goal.returns-clause-breaches
 returns-clause-breaches c =
-    note_end property_tree (provided_breaches c.args.file.now.table.entries) c.loop-one.least _ c.args.written.now
-    c.loop-one.one-index c.loop-one-test.false c.loop-one.invariant.least
+    note_end property_tree (provided_breaches c.args.file.now.table.entries) c.loop-one.tally _ c.args.written.now
+    c.loop-one.one-index c.loop-one-test.false c.loop-one.invariant.tally

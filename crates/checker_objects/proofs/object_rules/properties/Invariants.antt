@@ -13,7 +13,7 @@ invariant-loop-one l = record {
   found : with_properties (file_in l.file) (map property_of l.found.items)
       (map property_tree (drop l.one-index l.written))
       ≡ with_properties (file_in l.file) [] (map property_tree l.written);
-  least : noted l.least
+  tally : noted l.tally
       (flat_map (provided_breaches l.file.table.entries) (map property_tree (drop l.one-index l.written)))
-      ≡ noted l.fn.least (flat_map (provided_breaches l.file.table.entries) (map property_tree l.written));
+      ≡ noted l.fn.tally (flat_map (provided_breaches l.file.table.entries) (map property_tree l.written));
 }

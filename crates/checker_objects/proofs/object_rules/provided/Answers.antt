@@ -18,13 +18,13 @@ returns-clause-breaches c =
     let kind = property_breaches at (in_table whole (key_of c.args.written.now.name.text.now)) in
     let count = count_breaches at (map value_tree c.args.written.now.values.items) in
     let each = flat_map (value_breaches whole) (map value_tree c.args.written.now.values.items) in
-    noted_two c.args.least.now c.property-number.new.least c.words.new.least kind (count ++ each)
+    noted_two c.args.tally.now c.property-number.new.tally c.words.new.tally kind (count ++ each)
     (c.property-number.ensures.breaches
-    ∙ ap (λ (b : Option Binding). noted c.args.least.now (property_breaches at b)) c.find.ensures)
-    (noted_two c.property-number.new.least c.count_rule.new.least c.words.new.least count each
+    ∙ ap (λ (b : Option Binding). noted c.args.tally.now (property_breaches at b)) c.find.ensures)
+    (noted_two c.property-number.new.tally c.count_rule.new.tally c.words.new.tally count each
     (c.count_rule.ensures
-    ∙ ap (λ (vs : List ArrayValue). noted c.property-number.new.least (count_breaches at (map value_tree vs)))
+    ∙ ap (λ (vs : List ArrayValue). noted c.property-number.new.tally (count_breaches at (map value_tree vs)))
     c.deref.ensures.value)
     (c.in_ok-words.ensures.breaches
-    ∙ ap (λ (vs : List ArrayValue). noted c.count_rule.new.least (flat_map (value_breaches whole) (map value_tree vs)))
+    ∙ ap (λ (vs : List ArrayValue). noted c.count_rule.new.tally (flat_map (value_breaches whole) (map value_tree vs)))
     c.deref-2.ensures.value))

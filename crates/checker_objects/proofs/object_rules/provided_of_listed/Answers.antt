@@ -5,7 +5,7 @@ use Rattle.std.proofs.lemmas.List.{take_rest}
 use Rattle.syntax_directives.specs.declared.tree.Property.{Property}
 use Rattle.syntax_directives.specs.Tree.{PropertyTree}
 use Rattle.syntax_directives.specs.Views.{property_tree}
-use Rattle.checker_names.specs.declared.noting.Least.{Least}
+use Rattle.checker_names.specs.declared.noting.Tally.{Tally}
 use Rattle.checker_names.specs.Noted.{noted}
 use Rattle.checker_names.specs.Scope.{file_in}
 use Rattle.checker_objects.specs.Objects.{with_properties, provided_breaches}
@@ -26,7 +26,7 @@ returns-clause-breaches c =
     let count = c.min-count.result in
     let rest = take_rest c.args.written.now count in
     c.in-Ok.ensures
-    ∙ ap (λ (ps : List Property). noted c.properties.new.least (flat_map rules (map property_tree ps))) rest
-    ∙ ap (λ (m : Least). noted m (flat_map rules (map property_tree (drop count c.args.written.now))))
+    ∙ ap (λ (ps : List Property). noted c.properties.new.tally (flat_map rules (map property_tree ps))) rest
+    ∙ ap (λ (m : Tally). noted m (flat_map rules (map property_tree (drop count c.args.written.now))))
     c.in_ok-found.ensures.breaches
-    ∙ noted_apart rules c.args.least.now count c.args.written.now
+    ∙ noted_apart rules c.args.tally.now count c.args.written.now

@@ -10,9 +10,9 @@ loop-value-preserved c = record {
   found = list_there value_tree (word_of (file_in c.args.file.now)) c.loop-value.found.items _ _ c.word.result
       c.args.values.now c.loop-value.value-index _ c.loop-value-test.true
       c.push_reserved.ensures.items c.word.ensures.value c.loop-value.invariant.found;
-  least = note_there value_tree (value_breaches c.args.file.now.table.entries) c.loop-value.least c.word.new.least _
+  tally = note_there value_tree (value_breaches c.args.file.now.table.entries) c.loop-value.tally c.word.new.tally _
       c.args.values.now c.loop-value.value-index _ c.loop-value-test.true
-      c.word.ensures.breaches c.loop-value.invariant.least;
+      c.word.ensures.breaches c.loop-value.invariant.tally;
   count = omega (arith, c.push_reserved.ensures.len, c.loop-value.invariant.count);
   room = omega (arith, c.push_reserved.ensures.capacity, c.loop-value.invariant.room);
 }
@@ -24,5 +24,5 @@ returns-clause-words c =
 
 pub returns-clause-breaches : goal.returns-clause-breaches
 returns-clause-breaches c =
-    note_end value_tree (value_breaches c.args.file.now.table.entries) c.loop-value.least _ c.args.values.now
-    c.loop-value.value-index c.loop-value-test.false c.loop-value.invariant.least
+    note_end value_tree (value_breaches c.args.file.now.table.entries) c.loop-value.tally _ c.args.values.now
+    c.loop-value.value-index c.loop-value-test.false c.loop-value.invariant.tally

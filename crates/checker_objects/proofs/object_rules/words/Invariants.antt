@@ -11,8 +11,8 @@ abbrev pub invariant-loop-value : goal.invariant-loop-value
 invariant-loop-value l = record {
   found : l.found.items ++ map (word_of (file_in l.file)) (map value_tree (drop l.value-index l.values))
       ≡ map (word_of (file_in l.file)) (map value_tree l.values);
-  least : noted l.least (flat_map (value_breaches l.file.table.entries) (map value_tree (drop l.value-index l.values)))
-      ≡ noted l.fn.least (flat_map (value_breaches l.file.table.entries) (map value_tree l.values));
+  tally : noted l.tally (flat_map (value_breaches l.file.table.entries) (map value_tree (drop l.value-index l.values)))
+      ≡ noted l.fn.tally (flat_map (value_breaches l.file.table.entries) (map value_tree l.values));
   count : vec_len l.found ≡ l.value-index;
   room : length l.values ≤ vec_capacity l.found;
 }

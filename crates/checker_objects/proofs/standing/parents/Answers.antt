@@ -14,16 +14,16 @@ loop-directive-preserved c =
           c.loop-directive.parents.items c.push.new.self.items _ c.in-Ok.parent c.len-before.result
           (object_tree c.in-Object.object) _ _ trees count c.in_ok-push.ensures.items c.in-Ok.ensures.value
           c.in-Ok.ensures.chain c.loop-directive.invariant.value;
-      least = standing_next c.args.whole.now.entries c.loop-directive.chain.items c.stand.new.chain.items
+      tally = standing_next c.args.whole.now.entries c.loop-directive.chain.items c.stand.new.chain.items
           c.loop-directive.parents.items c.push.new.self.items c.in-Ok.parent c.len-before.result
-          c.loop-directive.least c.stand.new.least _ (object_tree c.in-Object.object) _ _ trees count
+          c.loop-directive.tally c.stand.new.tally _ (object_tree c.in-Object.object) _ _ trees count
           c.in_ok-push.ensures.items c.in-Ok.ensures.chain c.in-Ok.ensures.breaches
-          c.loop-directive.invariant.least;
+          c.loop-directive.invariant.tally;
     }
 
 pub returns-clause-breaches : goal.returns-clause-breaches
 returns-clause-breaches c =
     standing_end c.args.whole.now.entries c.loop-directive.chain.items (length c.loop-directive.parents.items)
-    c.loop-directive.least _ _
+    c.loop-directive.tally _ _
     (trees_end c.args.directives.now c.loop-directive.directive-index c.loop-directive-test.false)
-    c.loop-directive.invariant.least
+    c.loop-directive.invariant.tally

@@ -11,8 +11,8 @@ invariant-loop-directive l = record {
       ++ parents_from l.whole.entries l.chain.items (length l.parents.items)
       (object_trees (map directive_tree (drop l.directive-index l.directives)))
       ≡ parents_of l.whole.entries (object_trees (map directive_tree l.directives));
-  least : noted l.least
+  tally : noted l.tally
       (standing_from l.whole.entries l.chain.items (length l.parents.items)
       (object_trees (map directive_tree (drop l.directive-index l.directives))))
-      ≡ noted l.fn.least (standing_breaches l.whole.entries (object_trees (map directive_tree l.directives)));
+      ≡ noted l.fn.tally (standing_breaches l.whole.entries (object_trees (map directive_tree l.directives)));
 }

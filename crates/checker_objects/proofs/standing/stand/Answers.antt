@@ -17,11 +17,11 @@ returns-clause-breaches c =
     let above : c.copied-above.result ≡ above_of (length arrows) chain = c.copied-above.ensures ∙ c.last.ensures.value
     ∙ ap (λ (z : Open). slice_get z (length z - 1))
     (c.deref.ensures.value ∙ c.close.ensures ∙ ap (λ (k : ℕ). open_to k chain) count) in
-    noted_two c.args.least.now c.arrow_rule.new.least c.parent_rule.new.least
+    noted_two c.args.tally.now c.arrow_rule.new.tally c.parent_rule.new.tally
     (arrow_breaches (above_of (length arrows) chain) arrows)
     (named_parent_breaches c.args.whole.now.entries c.args.before (option_map name_tree c.args.object.now.parent))
     (c.arrow_rule.ensures
-    ∙ ap (λ (o : Option (ℕ × ℕ)). noted c.args.least.now (arrow_breaches o c.deref-2.result.now)) above
-    ∙ ap (λ (ps : List Position). noted c.args.least.now (arrow_breaches (above_of (length arrows) chain) ps))
+    ∙ ap (λ (o : Option (ℕ × ℕ)). noted c.args.tally.now (arrow_breaches o c.deref-2.result.now)) above
+    ∙ ap (λ (ps : List Position). noted c.args.tally.now (arrow_breaches (above_of (length arrows) chain) ps))
     c.deref-2.ensures.value)
     c.parent_rule.ensures

@@ -14,9 +14,9 @@ loop-x-preserved c =
       value = rw c.push_reserved.ensures.items
           (value_next f g range_of c.loop-x.found.items c.range-resolved.result c.args.given.now c.loop-x.x-index
           c.x-item.result c.loop-x-test.true c.x-item.is c.loop-x.invariant.value c.range-resolved.ensures.value);
-      least = rw c.range-resolved.ensures.breaches
-          (sym (each_next f g range_of c.loop-x.least c.args.given.now c.loop-x.x-index c.x-item.result
-          c.loop-x-test.true c.x-item.is) ∙ c.loop-x.invariant.least);
+      tally = rw c.range-resolved.ensures.breaches
+          (sym (each_next f g range_of c.loop-x.tally c.args.given.now c.loop-x.x-index c.x-item.result
+          c.loop-x-test.true c.x-item.is) ∙ c.loop-x.invariant.tally);
       count = omega (arith, c.push_reserved.ensures.len, c.loop-x.invariant.count);
       room = omega (arith, c.push_reserved.ensures.capacity, c.loop-x.invariant.room);
     }
@@ -28,6 +28,6 @@ returns c =
     record {
       value = c.loop-x.invariant.value ∙ value_end f g range_of c.args.given.now c.loop-x.x-index
           c.loop-x-test.false;
-      breaches = sym (each_end f g range_of c.loop-x.least c.args.given.now c.loop-x.x-index c.loop-x-test.false)
-          ∙ c.loop-x.invariant.least;
+      breaches = sym (each_end f g range_of c.loop-x.tally c.args.given.now c.loop-x.x-index c.loop-x-test.false)
+          ∙ c.loop-x.invariant.tally;
     }

@@ -10,8 +10,8 @@ use Rattle.checker_statements.proofs.case_rules.ranges.Given as goal
 abbrev pub invariant-loop-x : goal.invariant-loop-x
 invariant-loop-x l = record {
   value : map range_of l.found.items ≡ map (resolved_range (seen_in l.scope)) (take l.x-index l.given);
-  least : noted l.least (flat_map (own_range_breaches (seen_in l.scope)) (drop l.x-index l.given))
-      ≡ noted l.fn.least (flat_map (own_range_breaches (seen_in l.scope)) l.given);
+  tally : noted l.tally (flat_map (own_range_breaches (seen_in l.scope)) (drop l.x-index l.given))
+      ≡ noted l.fn.tally (flat_map (own_range_breaches (seen_in l.scope)) l.given);
   count : vec_len l.found ≡ l.x-index;
   room : length l.given ≤ vec_capacity l.found;
 }

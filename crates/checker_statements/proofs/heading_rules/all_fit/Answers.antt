@@ -10,8 +10,8 @@ returns c =
       c.fits_in-first_fits.ensures,
       c.fits_in-second_fits.ensures,
       c.fits_in-third_fits.ensures,
-      c.left_behind-third.ensures,
-      c.left_behind-second.ensures,
+      c.room_after-third.ensures,
+      c.room_after-second.ensures,
     )
     (parts_fit (part_tree c.args.heading.now.before) (part_tree c.args.heading.now.test)
-    (part_tree c.args.heading.now.behind))
+    (part_tree c.args.heading.now.after))

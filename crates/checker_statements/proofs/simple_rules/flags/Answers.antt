@@ -14,8 +14,8 @@ loop-x-preserved c =
       value = rw c.push_reserved.ensures.items
           (more_there g c.loop-x.found.items c.flag-resolved.result c.args.given.now c.loop-x.x-index _
           c.loop-x-test.true c.loop-x.invariant.value c.flag-resolved.ensures.value);
-      least = each_there f g (λ (x : Bool × ℕ). x) c.loop-x.least _ c.args.given.now c.loop-x.x-index _
-          c.loop-x-test.true c.flag-resolved.ensures.breaches ∙ c.loop-x.invariant.least;
+      tally = each_there f g (λ (x : Bool × ℕ). x) c.loop-x.tally _ c.args.given.now c.loop-x.x-index _
+          c.loop-x-test.true c.flag-resolved.ensures.breaches ∙ c.loop-x.invariant.tally;
       count = omega (arith, c.push_reserved.ensures.len, c.loop-x.invariant.count);
       room = omega (arith, c.push_reserved.ensures.capacity, c.loop-x.invariant.room);
     }
@@ -28,6 +28,6 @@ returns c =
       value = c.loop-x.invariant.value
           ∙ value_end f g (λ (x : Bool × ℕ). x) c.args.given.now c.loop-x.x-index c.loop-x-test.false;
       breaches = sym
-          (each_end f g (λ (x : Bool × ℕ). x) c.loop-x.least c.args.given.now c.loop-x.x-index c.loop-x-test.false)
-          ∙ c.loop-x.invariant.least;
+          (each_end f g (λ (x : Bool × ℕ). x) c.loop-x.tally c.args.given.now c.loop-x.x-index c.loop-x-test.false)
+          ∙ c.loop-x.invariant.tally;
     }

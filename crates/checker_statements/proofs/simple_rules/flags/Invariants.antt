@@ -9,8 +9,8 @@ use Rattle.checker_statements.proofs.simple_rules.flags.Given as goal
 abbrev pub invariant-loop-x : goal.invariant-loop-x
 invariant-loop-x l = record {
   value : l.found.items ≡ map (resolved_flag (seen_in l.scope)) (take l.x-index l.given);
-  least : noted l.least (flat_map (own_flag_breaches (seen_in l.scope)) (drop l.x-index l.given))
-      ≡ noted l.fn.least (flat_map (own_flag_breaches (seen_in l.scope)) l.given);
+  tally : noted l.tally (flat_map (own_flag_breaches (seen_in l.scope)) (drop l.x-index l.given))
+      ≡ noted l.fn.tally (flat_map (own_flag_breaches (seen_in l.scope)) l.given);
   count : vec_len l.found ≡ l.x-index;
   room : length l.given ≤ vec_capacity l.found;
 }

@@ -10,8 +10,8 @@ use Rattle.checker_statements.proofs.simple_rules.items.Given as goal
 abbrev pub invariant-loop-x : goal.invariant-loop-x
 invariant-loop-x l = record {
   value : map printed_of l.found.items ≡ map (resolved_item (seen_in l.scope)) (take l.x-index l.printed);
-  least : noted l.least (flat_map (own_item_breaches (seen_in l.scope)) (drop l.x-index l.printed))
-      ≡ noted l.fn.least (flat_map (own_item_breaches (seen_in l.scope)) l.printed);
+  tally : noted l.tally (flat_map (own_item_breaches (seen_in l.scope)) (drop l.x-index l.printed))
+      ≡ noted l.fn.tally (flat_map (own_item_breaches (seen_in l.scope)) l.printed);
   count : vec_len l.found ≡ l.x-index;
   room : length l.printed ≤ vec_capacity l.found;
 }

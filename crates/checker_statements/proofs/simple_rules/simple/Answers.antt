@@ -13,7 +13,7 @@ use Rattle.checker_statements.proofs.simple_rules.simple.Goals as goal
 
 pub returns-in-Text : goal.returns-in-Text
 returns-in-Text c = rw (c.in-Text.is, made_text c.in-Text.text)
-    (leaf c.args.least.now (values.text_alone c.in-Text.text.now))
+    (leaf c.args.tally.now (values.text_alone c.in-Text.text.now))
 
 pub returns-in-Print : goal.returns-in-Print
 returns-in-Print c = let v = c.in-Print in
@@ -26,18 +26,18 @@ returns-in-PrintReturn c = let v = c.in-PrintReturn in
     rw (is, ← c.deref-in-PrintReturn.ensures.value) (c.print_return.ensures c.args.around)
 
 pub returns-in-NewLine : goal.returns-in-NewLine
-returns-in-NewLine c = rw (c.in-NewLine.is, made_new_line) (leaf c.args.least.now values.new_line)
+returns-in-NewLine c = rw (c.in-NewLine.is, made_new_line) (leaf c.args.tally.now values.new_line)
 
 pub returns-in-Break : goal.returns-in-Break
-returns-in-Break c = rw (c.in-Break.is, made_break) (record { value = refl; breaches = c.outside.ensures })
+returns-in-Break c = rw (c.in-Break.is, made_break) (record { value = refl; breaches = c.break_rule.ensures })
 
 pub returns-in-Continue : goal.returns-in-Continue
 returns-in-Continue c = rw (c.in-Continue.is, made_continue)
-    (record { value = refl; breaches = c.outside-in-Continue.ensures })
+    (record { value = refl; breaches = c.break_rule-in-Continue.ensures })
 
 pub returns-in-Return : goal.returns-in-Return
 returns-in-Return c = rw (c.in-Return.is, made_return_value (made.Number 1), made_number 1)
-    (leaf c.args.least.now (values.return_value (values.number 1)))
+    (leaf c.args.tally.now (values.return_value (values.number 1)))
 
 pub returns-in-ReturnValue : goal.returns-in-ReturnValue
 returns-in-ReturnValue c = let v = c.in-ReturnValue in
@@ -47,14 +47,14 @@ returns-in-ReturnValue c = let v = c.in-ReturnValue in
 
 pub returns-in-ReturnTrue : goal.returns-in-ReturnTrue
 returns-in-ReturnTrue c = rw (c.in-ReturnTrue.is, made_return_value (made.Number 1), made_number 1)
-    (leaf c.args.least.now (values.return_value (values.number 1)))
+    (leaf c.args.tally.now (values.return_value (values.number 1)))
 
 pub returns-in-ReturnFalse : goal.returns-in-ReturnFalse
 returns-in-ReturnFalse c = rw (c.in-ReturnFalse.is, made_return_value (made.Number 0), made_number 0)
-    (leaf c.args.least.now (values.return_value (values.number 0)))
+    (leaf c.args.tally.now (values.return_value (values.number 0)))
 
 pub returns-in-Quit : goal.returns-in-Quit
-returns-in-Quit c = rw (c.in-Quit.is, made_quit) (leaf c.args.least.now values.quit)
+returns-in-Quit c = rw (c.in-Quit.is, made_quit) (leaf c.args.tally.now values.quit)
 
 pub returns-in-Read : goal.returns-in-Read
 returns-in-Read c = let v = c.in-Read in

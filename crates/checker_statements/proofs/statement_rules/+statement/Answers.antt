@@ -13,7 +13,7 @@ use Rattle.meaning.specs.Resolved as values
 use Rattle.meaning.specs.Resolved.{Value, Action}
 use Rattle.meaning.specs.Views.{boxed_value, action_of, case_of, other_of}
 use Rattle.meaning.proofs.Switches.{made_switch}
-use Rattle.checker_names.specs.declared.noting.Least.{Least}
+use Rattle.checker_names.specs.declared.noting.Tally.{Tally}
 use Rattle.checker_names.specs.Noted.{noted}
 use Rattle.checker_names.specs.Scope.{seen_in}
 use Rattle.checker_names.proofs.Each.{each_next, each_end, value_next, value_end}
@@ -47,9 +47,9 @@ all_statements-loop-s-preserved t c =
       value = rw c.push_reserved-in-loop-s.ensures.items
           (value_next f g action_of c.loop-s.found.items c.in-Ok.resolved c.args.all.now c.loop-s.s-index
           c.s-item.result c.loop-s-test.true c.s-item.is c.loop-s.invariant.value c.in-Ok.ensures.value);
-      least = rw c.in-Ok.ensures.breaches
-          (sym (each_next f g action_of c.loop-s.least c.args.all.now c.loop-s.s-index c.s-item.result
-          c.loop-s-test.true c.s-item.is) ∙ c.loop-s.invariant.least);
+      tally = rw c.in-Ok.ensures.breaches
+          (sym (each_next f g action_of c.loop-s.tally c.args.all.now c.loop-s.s-index c.s-item.result
+          c.loop-s-test.true c.s-item.is) ∙ c.loop-s.invariant.tally);
       count = omega (arith, c.push_reserved-in-loop-s.ensures.len, c.loop-s.invariant.count);
       room = omega (arith, c.push_reserved-in-loop-s.ensures.capacity, c.loop-s.invariant.room);
     }
@@ -58,15 +58,15 @@ pub all_statements-loop-s-preserved-then-is_empty : goal.all_statements-loop-s-p
 all_statements-loop-s-preserved-then-is_empty t c =
     let f = λ (x : Statement). own_statement_breaches (seen_in c.args.scope.now) c.args.around x in
     let g = λ (x : Statement). resolved_statement (seen_in c.args.scope.now) x in
-    let none = empty_walked (seen_in c.args.scope.now) c.args.around c.s-item.result c.loop-s.least
+    let none = empty_walked (seen_in c.args.scope.now) c.args.around c.s-item.result c.loop-s.tally
     (c.is_empty.ensures c.if-is_empty.true) in
     record {
       value = rw c.push_reserved.ensures.items
           (value_next f g action_of c.loop-s.found.items done.Empty c.args.all.now c.loop-s.s-index
           c.s-item.result c.loop-s-test.true c.s-item.is c.loop-s.invariant.value none.value);
-      least = ap (λ (m : Least). noted m (flat_map f (drop (c.loop-s.s-index + 1) c.args.all.now))) none.breaches
-          ∙ sym (each_next f g action_of c.loop-s.least c.args.all.now c.loop-s.s-index c.s-item.result
-          c.loop-s-test.true c.s-item.is) ∙ c.loop-s.invariant.least;
+      tally = ap (λ (m : Tally). noted m (flat_map f (drop (c.loop-s.s-index + 1) c.args.all.now))) none.breaches
+          ∙ sym (each_next f g action_of c.loop-s.tally c.args.all.now c.loop-s.s-index c.s-item.result
+          c.loop-s-test.true c.s-item.is) ∙ c.loop-s.invariant.tally;
       count = omega (arith, c.push_reserved.ensures.len, c.loop-s.invariant.count);
       room = omega (arith, c.push_reserved.ensures.capacity, c.loop-s.invariant.room);
     }
@@ -77,8 +77,8 @@ all_statements-returns t c =
     let g = λ (x : Statement). resolved_statement (seen_in c.args.scope.now) x in
     record {
       value = c.loop-s.invariant.value ∙ value_end f g action_of c.args.all.now c.loop-s.s-index c.loop-s-test.false;
-      breaches = sym (each_end f g action_of c.loop-s.least c.args.all.now c.loop-s.s-index c.loop-s-test.false)
-          ∙ c.loop-s.invariant.least;
+      breaches = sym (each_end f g action_of c.loop-s.tally c.args.all.now c.loop-s.s-index c.loop-s-test.false)
+          ∙ c.loop-s.invariant.tally;
     }
 
 pub block-returns : goal.block-returns
@@ -107,7 +107,7 @@ do_until-returns t c around = rw (made_do c.in-Ok.body c.in-Ok-boxed_whole.condi
     (two values.do_until c.in-Ok.ensures c.in-Ok-boxed_whole.ensures)
 
 pub for_loop-returns : goal.for_loop-returns
-for_loop-returns t c around = rw (made_for c.in-Ok.before c.in-Ok.test c.in-Ok.behind c.in-Ok-boxed.body)
+for_loop-returns t c around = rw (made_for c.in-Ok.before c.in-Ok.test c.in-Ok.after c.in-Ok-boxed.body)
     (two (λ (h : Option Value × Option Value × Option Value) (x : Action). values.for_loop h.0 h.1 h.2 x)
     c.in-Ok.ensures c.in-Ok-boxed.ensures)
 
@@ -122,9 +122,9 @@ all_cases-loop-c-preserved t c =
       value = rw c.push_reserved.ensures.items
           (value_next f g case_of c.loop-c.found.items (c.in-Ok.spans, c.in-Ok-all_statements.body) c.args.given.now
           c.loop-c.c-index c.c-item.result c.loop-c-test.true c.c-item.is c.loop-c.invariant.value one_more.value);
-      least = rw one_more.breaches
-          (sym (each_next f g case_of c.loop-c.least c.args.given.now c.loop-c.c-index c.c-item.result
-          c.loop-c-test.true c.c-item.is) ∙ c.loop-c.invariant.least);
+      tally = rw one_more.breaches
+          (sym (each_next f g case_of c.loop-c.tally c.args.given.now c.loop-c.c-index c.c-item.result
+          c.loop-c-test.true c.c-item.is) ∙ c.loop-c.invariant.tally);
       count = omega (arith, c.push_reserved.ensures.len, c.loop-c.invariant.count);
       room = omega (arith, c.push_reserved.ensures.capacity, c.loop-c.invariant.room);
     }
@@ -135,12 +135,12 @@ all_cases-returns t c =
     let g = λ (x : Vec Range × Vec Statement). resolved_case (seen_in c.args.scope.now) x in
     record {
       value = c.loop-c.invariant.value ∙ value_end f g case_of c.args.given.now c.loop-c.c-index c.loop-c-test.false;
-      breaches = sym (each_end f g case_of c.loop-c.least c.args.given.now c.loop-c.c-index c.loop-c-test.false)
-          ∙ c.loop-c.invariant.least;
+      breaches = sym (each_end f g case_of c.loop-c.tally c.args.given.now c.loop-c.c-index c.loop-c-test.false)
+          ∙ c.loop-c.invariant.tally;
     }
 
 pub otherwise-returns-in-None : goal.otherwise-returns-in-None
-otherwise-returns-in-None t c = rw c.in-None.is (leaf c.args.least.now None)
+otherwise-returns-in-None t c = rw c.in-None.is (leaf c.args.tally.now None)
 
 pub otherwise-returns-in-Ok : goal.otherwise-returns-in-Ok
 otherwise-returns-in-Ok t c = rw c.in-Some.is
@@ -218,7 +218,7 @@ statement-returns-in-While t c = let v = c.in-While in
 
 pub statement-returns-in-Empty : goal.statement-returns-in-Empty
 statement-returns-in-Empty t c =
-    empty_walked (seen_in c.args.scope.now) c.args.around c.args.s.now c.args.least.now c.in-Empty.is
+    empty_walked (seen_in c.args.scope.now) c.args.around c.args.s.now c.args.tally.now c.in-Empty.is
 
 pub statement-returns-in-Simple : goal.statement-returns-in-Simple
 statement-returns-in-Simple t c = rw

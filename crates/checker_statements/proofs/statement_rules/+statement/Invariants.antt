@@ -60,8 +60,8 @@ decreases-switch_on l = 8 * goal.size-switch_on l + 4
 abbrev pub invariant-all_cases-loop-c : goal.invariant-all_cases-loop-c
 invariant-all_cases-loop-c l = record {
   value : map case_of l.found.items ≡ map (resolved_case (seen_in l.scope)) (take l.c-index l.given);
-  least : noted l.least (flat_map (own_case_breaches (seen_in l.scope) l.around) (drop l.c-index l.given))
-      ≡ noted l.fn.least (flat_map (own_case_breaches (seen_in l.scope) l.around) l.given);
+  tally : noted l.tally (flat_map (own_case_breaches (seen_in l.scope) l.around) (drop l.c-index l.given))
+      ≡ noted l.fn.tally (flat_map (own_case_breaches (seen_in l.scope) l.around) l.given);
   count : vec_len l.found ≡ l.c-index;
   room : length l.given ≤ vec_capacity l.found;
 }
@@ -69,8 +69,8 @@ invariant-all_cases-loop-c l = record {
 abbrev pub invariant-all_statements-loop-s : goal.invariant-all_statements-loop-s
 invariant-all_statements-loop-s l = record {
   value : map action_of l.found.items ≡ map (resolved_statement (seen_in l.scope)) (take l.s-index l.all);
-  least : noted l.least (flat_map (own_statement_breaches (seen_in l.scope) l.around) (drop l.s-index l.all))
-      ≡ noted l.fn.least (flat_map (own_statement_breaches (seen_in l.scope) l.around) l.all);
+  tally : noted l.tally (flat_map (own_statement_breaches (seen_in l.scope) l.around) (drop l.s-index l.all))
+      ≡ noted l.fn.tally (flat_map (own_statement_breaches (seen_in l.scope) l.around) l.all);
   count : vec_len l.found ≡ l.s-index;
   room : length l.all ≤ vec_capacity l.found;
 }

@@ -37,9 +37,9 @@ all_expressions-loop-e-preserved t c =
       value = rw c.in_ok-add.ensures
           (value_next f g value_of c.loop-e.found.items c.in-Ok.resolved.value c.args.given.now c.loop-e.e-index
           c.e-item.result c.loop-e-test.true c.e-item.is c.loop-e.invariant.value c.in-Ok.ensures.value);
-      least = rw c.in-Ok.ensures.breaches
-          (sym (each_next f g value_of c.loop-e.least c.args.given.now c.loop-e.e-index c.e-item.result
-          c.loop-e-test.true c.e-item.is) ∙ c.loop-e.invariant.least);
+      tally = rw c.in-Ok.ensures.breaches
+          (sym (each_next f g value_of c.loop-e.tally c.args.given.now c.loop-e.e-index c.e-item.result
+          c.loop-e-test.true c.e-item.is) ∙ c.loop-e.invariant.tally);
     }
 
 pub all_expressions-returns : goal.all_expressions-returns
@@ -48,8 +48,8 @@ all_expressions-returns t c =
     let g = λ (x : Expression). resolved (seen_in c.args.scope.now) x in
     record {
       value = c.loop-e.invariant.value ∙ value_end f g value_of c.args.given.now c.loop-e.e-index c.loop-e-test.false;
-      breaches = sym (each_end f g value_of c.loop-e.least c.args.given.now c.loop-e.e-index c.loop-e-test.false)
-          ∙ c.loop-e.invariant.least;
+      breaches = sym (each_end f g value_of c.loop-e.tally c.args.given.now c.loop-e.e-index c.loop-e-test.false)
+          ∙ c.loop-e.invariant.tally;
     }
 
 pub chain_links-loop-link-preserved : goal.chain_links-loop-link-preserved
@@ -61,9 +61,9 @@ chain_links-loop-link-preserved t c =
           (value_next f g value_link c.loop-link.found.items (c.link-item.result.0, c.in-Ok.operand.value) c.args.links.now
           c.loop-link.link-index c.link-item.result c.loop-link-test.true c.link-item.is c.loop-link.invariant.value
           (ap (λ (v : Value). (c.link-item.result.0, v)) c.in-Ok.ensures.value));
-      least = rw c.in-Ok.ensures.breaches
-          (sym (each_next f g value_link c.loop-link.least c.args.links.now c.loop-link.link-index c.link-item.result
-          c.loop-link-test.true c.link-item.is) ∙ c.loop-link.invariant.least);
+      tally = rw c.in-Ok.ensures.breaches
+          (sym (each_next f g value_link c.loop-link.tally c.args.links.now c.loop-link.link-index c.link-item.result
+          c.loop-link-test.true c.link-item.is) ∙ c.loop-link.invariant.tally);
     }
 
 pub chain_links-returns : goal.chain_links-returns
@@ -74,14 +74,14 @@ chain_links-returns t c =
       value = c.loop-link.invariant.value ∙ value_end f g value_link c.args.links.now c.loop-link.link-index
           c.loop-link-test.false;
       breaches = sym
-          (each_end f g value_link c.loop-link.least c.args.links.now c.loop-link.link-index c.loop-link-test.false)
-          ∙ c.loop-link.invariant.least;
+          (each_end f g value_link c.loop-link.tally c.args.links.now c.loop-link.link-index c.loop-link-test.false)
+          ∙ c.loop-link.invariant.tally;
     }
 
 pub boxed-returns-in-Constant : goal.boxed-returns-in-Constant
 boxed-returns-in-Constant t c =
     rw (is_constant c.args.e.now c.in-Constant.number c.in-Constant.is)
-    (boxed_walked c.constant.result c.constant.ensures (leaf c.args.least.now (values.number c.in-Constant.number)))
+    (boxed_walked c.constant.result c.constant.ensures (leaf c.args.tally.now (values.number c.in-Constant.number)))
 
 pub boxed-returns-in-Chain : goal.boxed-returns-in-Chain
 boxed-returns-in-Chain t c =
@@ -98,7 +98,7 @@ boxed-returns-in-Named t c = rw (is_named c.args.e.now _ c.in-Named.is) c.boxed_
 pub boxed-returns-in-Word : goal.boxed-returns-in-Word
 boxed-returns-in-Word t c =
     rw (is_word c.args.e.now _ c.in-Word.is)
-    (boxed_walked c.word.result c.word.ensures (leaf c.args.least.now _))
+    (boxed_walked c.word.result c.word.ensures (leaf c.args.tally.now _))
 
 pub boxed-returns-in-Call : goal.boxed-returns-in-Call
 boxed-returns-in-Call t c =
@@ -228,7 +228,7 @@ variable-returns-in_ok-boxed-in-None t c =
     ∙ ap (option_map name_tree) c.in-None.is in
     rw is (record {
       value = refl;
-      breaches = noted_two c.args.least.now c.boxed.new.least c.note.new.least
+      breaches = noted_two c.args.tally.now c.boxed.new.tally c.note.new.tally
           (breaches (look_in c.args.scope.now) (expression_tree c.args.e.now)) (at c.args.operator 26)
           c.in_ok-boxed-in-None.ensures.breaches c.note.ensures;
     })

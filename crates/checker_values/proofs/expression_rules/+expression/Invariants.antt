@@ -74,13 +74,13 @@ decreases-equal l = 4 * max (goal.size-equal l) (max (size-Expression l.left.now
 abbrev pub invariant-all_expressions-loop-e : goal.invariant-all_expressions-loop-e
 invariant-all_expressions-loop-e l = record {
   value : map value_of l.found.items ≡ map (resolved (seen_in l.scope)) (take l.e-index l.given);
-  least : noted l.least (flat_map (own_breaches (seen_in l.scope)) (drop l.e-index l.given))
-      ≡ noted l.fn.least (flat_map (own_breaches (seen_in l.scope)) l.given);
+  tally : noted l.tally (flat_map (own_breaches (seen_in l.scope)) (drop l.e-index l.given))
+      ≡ noted l.fn.tally (flat_map (own_breaches (seen_in l.scope)) l.given);
 }
 
 abbrev pub invariant-chain_links-loop-link : goal.invariant-chain_links-loop-link
 invariant-chain_links-loop-link l = record {
   value : map value_link l.found.items ≡ map (resolved_link (seen_in l.scope)) (take l.link-index l.links);
-  least : noted l.least (flat_map (link_breaches (seen_in l.scope)) (drop l.link-index l.links))
-      ≡ noted l.fn.least (flat_map (link_breaches (seen_in l.scope)) l.links);
+  tally : noted l.tally (flat_map (link_breaches (seen_in l.scope)) (drop l.link-index l.links))
+      ≡ noted l.fn.tally (flat_map (link_breaches (seen_in l.scope)) l.links);
 }

@@ -9,7 +9,7 @@ use Rattle.checker_values.proofs.expression_rules.expression.Goals as goal
 pub returns-in-Constant : goal.returns-in-Constant
 returns-in-Constant c =
     rw (is_constant c.args.e.now c.in-Constant.number c.in-Constant.is, made_number c.in-Constant.number)
-    (record { value = refl; breaches = sym (noted_none c.args.least.now) })
+    (record { value = refl; breaches = sym (noted_none c.args.tally.now) })
 
 pub returns-in-Named : goal.returns-in-Named
 returns-in-Named c = rw (is_named c.args.e.now _ c.in-Named.is) c.named_value.ensures
@@ -20,7 +20,7 @@ returns-in-Word c =
     (record {
       value = ap values.number
           (c.number.ensures ∙ ap (number_at c.args.scope.now.file.now.numbers) c.key_of_word.ensures);
-      breaches = sym (noted_none c.args.least.now);
+      breaches = sym (noted_none c.args.tally.now);
     })
 
 pub returns-in-Assign : goal.returns-in-Assign

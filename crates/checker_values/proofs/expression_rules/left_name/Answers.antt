@@ -8,5 +8,5 @@ pub returns : goal.returns
 returns c = record {
   value = c.named.ensures ∙ ap (value_of_binding (number_at c.args.scope.now.file.now.numbers)) c.look-found.ensures;
   breaches = c.target_of.ensures.breaches
-      ∙ ap (λ f. noted c.args.least.now (target_breaches c.args.name.position c.args.operator f)) c.look-found.ensures;
+      ∙ ap (λ f. noted c.args.tally.now (target_breaches c.args.name.position c.args.operator f)) c.look-found.ensures;
 }

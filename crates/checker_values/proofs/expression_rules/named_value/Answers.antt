@@ -8,6 +8,6 @@ pub returns : goal.returns
 returns c = record {
   value = c.value.ensures.value ∙ ap (value_of_binding (number_at c.args.scope.now.file.now.numbers))
       c.look-found.ensures;
-  breaches = c.value.ensures.breaches ∙ ap (λ f. noted c.args.least.now (value_breaches c.args.name.now.position f))
+  breaches = c.value.ensures.breaches ∙ ap (λ f. noted c.args.tally.now (value_breaches c.args.name.now.position f))
       c.look-found.ensures;
 }

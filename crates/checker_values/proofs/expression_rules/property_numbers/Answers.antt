@@ -15,8 +15,8 @@ loop-name-preserved c =
       value = rw c.in_ok-push.ensures.items
           (more_there g c.loop-name.numbers.items c.property_of-number.result c.args.others.now c.loop-name.name-index _
           c.loop-name-test.true c.loop-name.invariant.value part.value);
-      least = each_there f g (λ (n : ℕ). n) c.loop-name.least _ c.args.others.now c.loop-name.name-index _
-          c.loop-name-test.true part.breaches ∙ c.loop-name.invariant.least;
+      tally = each_there f g (λ (n : ℕ). n) c.loop-name.tally _ c.args.others.now c.loop-name.name-index _
+          c.loop-name-test.true part.breaches ∙ c.loop-name.invariant.tally;
     }
 
 pub returns : goal.returns
@@ -27,7 +27,7 @@ returns c =
       value = c.loop-name.invariant.value
           ∙ value_end f g (λ (n : ℕ). n) c.args.others.now c.loop-name.name-index c.loop-name-test.false;
       breaches = sym
-          (each_end f g (λ (n : ℕ). n) c.loop-name.least c.args.others.now c.loop-name.name-index
+          (each_end f g (λ (n : ℕ). n) c.loop-name.tally c.args.others.now c.loop-name.name-index
           c.loop-name-test.false)
-          ∙ c.loop-name.invariant.least;
+          ∙ c.loop-name.invariant.tally;
     }

@@ -9,6 +9,6 @@ use Rattle.checker_values.proofs.expression_rules.property_numbers.Given as goal
 abbrev pub invariant-loop-name : goal.invariant-loop-name
 invariant-loop-name l = record {
   value : l.numbers.items ≡ map (resolved_property (seen_in l.scope)) (take l.name-index l.others);
-  least : noted l.least (flat_map (own_property_breaches (seen_in l.scope)) (drop l.name-index l.others))
-      ≡ noted l.fn.least (flat_map (own_property_breaches (seen_in l.scope)) l.others);
+  tally : noted l.tally (flat_map (own_property_breaches (seen_in l.scope)) (drop l.name-index l.others))
+      ≡ noted l.fn.tally (flat_map (own_property_breaches (seen_in l.scope)) l.others);
 }

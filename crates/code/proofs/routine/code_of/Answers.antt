@@ -1,6 +1,6 @@
 use Rattle.std.proofs.Common.{◌≡◌, ℕ, List, ◌+◌, reverse, ap, ◌∙◌, arith}
-use Rattle.code_branch_forms.specs.declared.layout.Part.{Part}
-use Rattle.code_branch_forms.specs.Layout.{lefts, uses}
+use Rattle.code_encoding.specs.declared.layout.Part.{Part}
+use Rattle.code_encoding.specs.Layout.{lefts, uses}
 use Rattle.code_drafts.specs.Code.{items_of}
 use Rattle.code_encoding.specs.Written.{sizes_in}
 use Rattle.code_instructions.specs.Places.{place_in}

@@ -37,7 +37,7 @@ loop-number-preserved c =
     let xs = c.args.items.now in
     let sizes = sizes_in c.args.sizes.now in
     other_copied sizes (addresses_of c.args.addresses.now) xs c.loop-number.bytes.items c.loop-number.rest.now _
-    c.extend_from_slice.new.self.items c.put_item.new.bytes.items c.after-rest.result.now c.loop-number.start
+    c.extend_from_slice.new.self.items c.put_item.new.bytes.items c.from-rest.result.now c.loop-number.start
     c.loop-number.number c.size_between-run.result c.offset_of-offset.result x (item_of x) c.loop-number.invariant
     c.loop-number-test.true (ap item_of c.index-items-number.is)
     (sym c.is_settled.ensures ∙ c.if-is_settled.false)
@@ -46,7 +46,7 @@ loop-number-preserved c =
     (c.in_ok-extend_from_slice.ensures.items ∙ ap (λ (l : List ℕ). c.loop-number.bytes.items ++ l) c.front.ensures)
     (c.offset_of-offset.ensures ∙ offset_is sizes c.args.near c.args.left.now (items_of xs) c.loop-number.number
     (item_of x) c.requires.near c.requires.left)
-    c.in_ok-put_item.ensures c.after-rest.ensures
+    c.in_ok-put_item.ensures c.from-rest.ensures
 
 pub loop-number-preserved-then-is_settled : goal.loop-number-preserved-then-is_settled
 loop-number-preserved-then-is_settled c =

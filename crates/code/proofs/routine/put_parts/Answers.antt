@@ -37,7 +37,7 @@ returns-clause-kept c =
     c.loop-item-test.false
     (c.in_ok-extend_from_slice-2.ensures.items
     ∙ ap (λ (l : List ℕ). c.loop-item.kept.items ++ l)
-    (c.after.ensures ∙ ap (drop c.loop-item.start) c.deref-2.ensures.value))
+    (c.from.ensures ∙ ap (drop c.loop-item.start) c.deref-2.ensures.value))
 
 -- the part and the sum, in both cases, are those of `part_next`; what is kept is by `settled_kept` or `other_kept`
 pub loop-item-preserved : goal.loop-item-preserved

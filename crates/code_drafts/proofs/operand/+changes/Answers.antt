@@ -15,11 +15,11 @@ changes-returns-in-Chain t c =
     ∙ ap (λ (e : code_value.Value). items.changes z (value_of e)) c.deref-in-Chain.ensures in
     let second = c.changes-second.ensures
     ∙ ap (λ (e : code_value.Value). items.changes z (value_of e)) c.deref-in-Chain-2.ensures in
-    let behind = c.links_change-behind.ensures
+    let behind = c.links_change-after.ensures
     ∙ ap (λ (ls : List (Binary × code_value.Value)). change_links z (map link_of ls))
     c.deref-in-Chain-3.ensures.value in
-    c.any_of.ensures ∙ ap (λ b. (b || c.changes-second.result) || c.links_change-behind.result) first
-    ∙ ap (λ b. (items.changes z (value_of c.in-Chain.first.value) || b) || c.links_change-behind.result) second
+    c.any_of.ensures ∙ ap (λ b. (b || c.changes-second.result) || c.links_change-after.result) first
+    ∙ ap (λ b. (items.changes z (value_of c.in-Chain.first.value) || b) || c.links_change-after.result) second
     ∙ ap (λ b. (items.changes z (value_of c.in-Chain.first.value) || items.changes z
     (value_of c.in-Chain.second.value)) || b) behind ∙ sym (chain_changes z _ _ _ _ _ c.in-Chain.is)
 

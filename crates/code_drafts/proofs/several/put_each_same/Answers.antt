@@ -9,8 +9,8 @@ loop-done-init c = round_begins _ _ (as_operand c.args.operand) c.args.others.no
 
 pub loop-done-preserved : goal.loop-done-preserved
 loop-done-preserved c = same_round _ _ _ (as_operand c.args.operand) c.args.others.now c.args.when c.args.target
-    c.written-end.result c.where_equal-found.result c.groups_before_last-count.result c.loop-done.done _ _
-    c.loop-done-test.true c.groups_before_last-count.ensures.before c.written-end.ensures
+    c.item_count-end.result c.where_equal-found.result c.groups_before_last-count.result c.loop-done.done _ _
+    c.loop-done-test.true c.groups_before_last-count.ensures.before c.item_count-end.ensures
     c.where_equal-found.ensures refl (omega arith) c.loop-done.invariant c.in-Ok-put_same.ensures
 
 pub returns : goal.returns

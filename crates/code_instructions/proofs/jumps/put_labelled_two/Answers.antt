@@ -5,5 +5,5 @@ use Rattle.code_instructions.proofs.jumps.put_labelled_two.Goals as goal
 pub returns : goal.returns
 returns c =
     two_labelled c.args.limit c.args.operation c.args.when c.args.offset (as_operand c.args.left)
-    (as_operand c.args.right) c.in_place.result c.named_second.result c.args.bytes.now.items
-    c.put_labelled_below.new.bytes.items c.in_place.ensures c.named_second.ensures c.in_ok-put_labelled_below.ensures
+    (as_operand c.args.right) c.in_place.result c.name_second.result c.args.bytes.now.items
+    c.put_labelled_below.new.bytes.items c.in_place.ensures c.name_second.ensures c.in_ok-put_labelled_below.ensures

@@ -9,7 +9,7 @@ pub loop-group-init : goal.loop-group-init
 loop-group-init c = λ d g w. w
 
 pub loop-group-preserved : goal.loop-group-preserved
-loop-group-preserved c = λ d g w. test_next d _ _ _ c.loop-group.group-index _ g c.args.inside c.args.behind
+loop-group-preserved c = λ d g w. test_next d _ _ _ c.loop-group.group-index _ g c.args.inside c.args.after
     c.loop-group-test.true c.group-item.is (c.loop-group.invariant d g w) c.in-Ok-put_group.ensures
 
 pub returns : goal.returns
@@ -20,5 +20,5 @@ returns c =
     ∙ ap (λ (l : List code_group.Group). slice_index_or l 0 c.index.result.now) (sym c.deref.ensures.value) in
     let same = ap (λ (l : List code_group.Group). reverse (map group_of l)) c.deref.ensures.value
     ∙ c.in-Ok.ensures in
-    tests_whole _ _ xs c.index.result.now _ c.loop-group.group-index c.args.inside c.args.behind some first same
+    tests_whole _ _ xs c.index.result.now _ c.loop-group.group-index c.args.inside c.args.after some first same
     c.loop-group-test.false (c.loop-group.invariant _ _ c.in-Ok-put_last.ensures)

@@ -13,10 +13,10 @@ returns c =
     let Q : List code_action.Action → Type 0 = λ xs. WritesBefore (written_in c.put.new.draft)
     (written_in c.put_statements.new.draft)
     (λ n at. actions_items
-    (exits_of n (record { breaks = c.written-end.result; continues = c.written-end.result })) at
+    (exits_of n (record { breaks = c.item_count-end.result; continues = c.item_count-end.result })) at
     (actions_of (map action_of xs))) in
     routine_more _ _ _ _ c.args.routine.now.locals
     (actions_of (map action_of c.args.routine.now.body.items))
     (c.in-Ok.ensures ∙ ap (λ xs. items_of xs ++ return_true ∷ []) c.new-items.ensures.items)
-    (subst Q c.deref.ensures.value c.in-Ok-put_statements.ensures) c.written-end.ensures c.written-end.ensures
-    c.in_order.ensures
+    (subst Q c.deref.ensures.value c.in-Ok-put_statements.ensures) c.item_count-end.ensures c.item_count-end.ensures
+    c.into_items.ensures

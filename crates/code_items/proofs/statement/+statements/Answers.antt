@@ -36,18 +36,18 @@ put_statements-loop-done-preserved t c =
 
 pub put_if-returns : goal.put_if-returns
 put_if-returns t c = on_ok c.put_value.result (if_more _ _ _ c.args.exits (value_of c.args.test.now)
-    (action_of c.args.then.now) c.written-end.result c.written-end.ensures c.in-Ok.ensures) c.put_value.ensures
+    (action_of c.args.then.now) c.item_count-end.result c.item_count-end.ensures c.in-Ok.ensures) c.put_value.ensures
 
 pub put_while-returns : goal.put_while-returns
 put_while-returns t c =
-    while_more _ _ _ _ _ (value_of c.args.test.now) (action_of c.args.body.now) _ c.written-behind.ensures
-    c.in-Ok.ensures c.written.ensures c.in-Ok-put_statement.ensures c.in-Ok-put_value.ensures c.lead_back.ensures
+    while_more _ _ _ _ _ (value_of c.args.test.now) (action_of c.args.body.now) _ c.item_count-after.ensures
+    c.in-Ok.ensures c.item_count.ensures c.in-Ok-put_statement.ensures c.in-Ok-put_value.ensures c.lead_back.ensures
 
 pub put_if_else-returns : goal.put_if_else-returns
 put_if_else-returns t c = on_ok c.put_value.result
     (else_more _ _ _ _ _ c.args.exits (value_of c.args.test.now) (action_of c.args.then.now)
-    (action_of c.args.otherwise.now) c.written-end.result c.written-next.result c.written-end.ensures
-    c.in-Ok.ensures c.written-next.ensures c.in-Ok-put.ensures c.in-Ok-put_statement.ensures) c.put_value.ensures
+    (action_of c.args.otherwise.now) c.item_count-end.result c.item_count-next.result c.item_count-end.ensures
+    c.in-Ok.ensures c.item_count-next.ensures c.in-Ok-put.ensures c.in-Ok-put_statement.ensures) c.put_value.ensures
 
 pub put_statement-returns-in-While : goal.put_statement-returns-in-While
 put_statement-returns-in-While t c = on_ok c.put_while.result (λ w.
@@ -70,22 +70,22 @@ put_statement-returns-in-ReturnValue t c = on_ok c.put_return.result (λ w.
 
 pub put_do_by_jump-returns : goal.put_do_by_jump-returns
 put_do_by_jump-returns t c = do_by_jump _ _ _ _ _ (value_of c.args.test.now) (action_of c.args.body.now) _
-    c.requires c.written-end.ensures c.in-Ok.ensures c.in-Ok-put_value.ensures c.written.ensures
+    c.requires c.item_count-end.ensures c.in-Ok.ensures c.in-Ok-put_value.ensures c.item_count.ensures
     c.in-Ok-put_statement.ensures c.lead_back.ensures
 
 pub put_do_by_test-turn_back-requires : goal.put_do_by_test-turn_back-requires
 put_do_by_test-turn_back-requires t c = do_turns _ _ _ (value_of c.args.test.now) (action_of c.args.body.now) _ _
-    c.requires c.written-end.ensures c.in-Ok.ensures c.in-Ok-put_statement.ensures
+    c.requires c.item_count-end.ensures c.in-Ok.ensures c.in-Ok-put_statement.ensures
 
 pub put_do_by_test-returns : goal.put_do_by_test-returns
 put_do_by_test-returns t c = do_by_test _ _ _ _ (value_of c.args.test.now) (action_of c.args.body.now) _
-    c.requires c.written-end.ensures c.in-Ok.ensures c.written.ensures c.in-Ok-put_statement.ensures
+    c.requires c.item_count-end.ensures c.in-Ok.ensures c.item_count.ensures c.in-Ok-put_statement.ensures
     c.turn_back.ensures
 
 pub put_for-returns : goal.put_for-returns
 put_for-returns t c = on_ok c.put_once-2.result (for_more _ _ _ _ _ _ _ (option_map boxed_value c.args.before.now)
-    (option_map boxed_value c.args.test.now) (option_map boxed_value c.args.behind.now) (action_of c.args.body.now) _
-    c.written-end.ensures c.in-Ok.ensures c.in-Ok-put_once.ensures c.written.ensures
+    (option_map boxed_value c.args.test.now) (option_map boxed_value c.args.after.now) (action_of c.args.body.now) _
+    c.item_count-end.ensures c.in-Ok.ensures c.in-Ok-put_once.ensures c.item_count.ensures
     c.in-Ok-put_statement.ensures c.in-Ok-put_test.ensures c.lead_back.ensures) c.put_once-2.ensures
 
 pub put_case-returns : goal.put_case-returns
@@ -96,11 +96,11 @@ put_case-returns t c =
     let P : List code_action.Action → Type 0 = λ l. WritesBefore (written_in over) (written_in body)
     (λ n at. actions_items (exits_of n c.args.exits) at (actions_of (map action_of l))) in
     let Q : List Span → Type 0 = λ l. WritesBefore (written_in body) (written_in c.put_tests.new.draft)
-    (λ n at. tests_items at (groups_of (map range_of l)) (n - c.written-inside.result) (n - c.written-behind.result)) in
+    (λ n at. tests_items at (groups_of (map range_of l)) (n - c.item_count-inside.result) (n - c.item_count-after.result)) in
     on_ok c.put_tests.result
     (λ w. case_leaves old over body c.put_tests.new.draft c.args.exits c.args.case.now c.args.end
-    c.written-inside.result c.written-behind.result c.written-behind.ensures c.in-Ok.ensures
-    (subst P c.deref.ensures.value c.in-Ok-put_statements.ensures) c.written-inside.ensures
+    c.item_count-inside.result c.item_count-after.result c.item_count-after.ensures c.in-Ok.ensures
+    (subst P c.deref.ensures.value c.in-Ok-put_statements.ensures) c.item_count-inside.ensures
     (subst Q c.deref-2.ensures.value w)) c.put_tests.ensures
 
 pub put_cases-loop-done-preserved : goal.put_cases-loop-done-preserved
@@ -118,7 +118,7 @@ put_cases-loop-done-preserved t c =
 pub put_switch-returns : goal.put_switch-returns
 put_switch-returns t c =
     let old = c.args.draft.now in
-    let end = c.written-end.result in
+    let end = c.item_count-end.result in
     let inside : Exits = record { breaks = end; continues = c.args.exits.continues } in
     let cs = map case_of c.args.cases.now.0.items in
     let other = other_of c.args.cases.now.1 in
@@ -127,10 +127,10 @@ put_switch-returns t c =
     let R : List (Vec Span × Vec code_action.Action) → Type 0 =
     λ l. LeavesCases c.put_other.new.draft c.put_cases.new.draft inside l end in
     on_ok c.put_value.result
-    (switch_more _ _ _ c.args.exits (value_of c.args.value.now) (cases_of cs other) inside c.written-end.ensures refl
+    (switch_more _ _ _ c.args.exits (value_of c.args.value.now) (cases_of cs other) inside c.item_count-end.ensures refl
     (subst P (cases_all cs other) (subst R c.deref.ensures.value c.in-Ok-put_cases.ensures (written_in old)
     (cases_of [] other)
-    (sym c.written-end.ensures) (c.in-Ok.ensures end)))) c.put_value.ensures
+    (sym c.item_count-end.ensures) (c.in-Ok.ensures end)))) c.put_value.ensures
 
 pub put_statement-returns-in-Do : goal.put_statement-returns-in-Do
 put_statement-returns-in-Do t c = on_ok c.put_do.result (λ w.
@@ -152,7 +152,7 @@ put_statement-returns-in-For t c = on_ok c.put_for.result (λ w.
     let Q : code_action.Action → Type 0 =
     λ s. WritesBefore (written_in c.args.draft.now) (written_in c.put_for.new.draft)
     (λ n at. action_items (exits_of n c.args.exits) at (for_loop (option_map boxed_value x.before)
-    (option_map boxed_value x.test) (option_map boxed_value x.behind) (action_of s))) in
+    (option_map boxed_value x.test) (option_map boxed_value x.after) (action_of s))) in
     subst P (sym (for_is _ _ _ _ _ x.is)) (subst Q c.deref-in-For.ensures
     (w c.args.exits))) c.put_for.ensures
 
@@ -177,7 +177,7 @@ put_each-returns t c =
     let next = c.in-Ok.ensures in
     on_ok c.put.result
     (λ w y. each_more _ _ _ _ _ c.args.variable (action_count a) (λ inside place. action_items inside place a)
-    c.in-Ok.inside c.written-end.result (λ e at. action_length e a at) c.written-end.ensures next.0 next.1
+    c.in-Ok.inside c.item_count-end.result (λ e at. action_length e a at) c.item_count-end.ensures next.0 next.1
     next.2 c.in-Ok-put_statement.ensures c.lead_back.ensures w) c.put.ensures
 
 pub put_each_where-returns : goal.put_each_where-returns
@@ -185,14 +185,14 @@ put_each_where-returns t c =
     let next = c.in-Ok.ensures in
     on_ok c.put.result
     (each_where_more _ _ _ _ _ _ c.args.variable (value_of c.args.test.now) (action_of c.args.body.now)
-    c.in-Ok.inside c.written-end.result c.written-end.ensures next.0 next.1 next.2
+    c.in-Ok.inside c.item_count-end.result c.item_count-end.ensures next.0 next.1 next.2
     c.in-Ok-put_statement.ensures c.in-Ok-put_value.ensures c.lead_back.ensures) c.put.ensures
 
 pub put_each_in-returns : goal.put_each_in-returns
 put_each_in-returns t c =
     on_ok c.put_operand.result
     (each_in_more _ _ _ _ _ _ _ c.args.variable _ (value_of c.args.parent.now) (action_of c.args.body.now) _
-    c.written-end.ensures c.in-Ok.ensures c.in-Ok-put_kin.ensures c.written.ensures c.in-Ok-put_statement.ensures
+    c.item_count-end.ensures c.in-Ok.ensures c.in-Ok-put_kin.ensures c.item_count.ensures c.in-Ok-put_statement.ensures
     c.lead_back.ensures c.alone-operand.ensures c.in-Ok-put_kin-2.ensures) c.put_operand.ensures
 
 pub put_statement-returns-in-Give : goal.put_statement-returns-in-Give

@@ -18,10 +18,10 @@ loop-mark-preserved c =
     let later : c.loop-mark.item ≤ c.saturating_add-item.result = omega (arith, c.saturating_add-item.ensures, few) in (
       omega (arith, c.saturating_add-item.ensures),
       mark_more c.args.beginning.name.text.now (reverse c.args.left.now) c.args.beginning.address
-          (place_in (reverse c.args.left.now) item) next c.saturating_add-behind.result c.loop-mark.mark-index
+          (place_in (reverse c.args.left.now) item) next c.saturating_add-after.result c.loop-mark.mark-index
           c.args.rows.now.items c.loop-mark.rows.items _ c.row_of.result c.loop-mark.invariant.1
           (c.requires item next later)
-          (c.saturating_add-behind.ensures ∙ ap (λ n. min (n + 1) (2 ^ 64 - 1)) c.place.ensures.value)
+          (c.saturating_add-after.ensures ∙ ap (λ n. min (n + 1) (2 ^ 64 - 1)) c.place.ensures.value)
           c.row_of.ensures.routine c.row_of.ensures.address c.in_ok-push.ensures.items,
     )
 

@@ -13,9 +13,9 @@ loop-object-preserved c =
     record {
       sum = sum_step objects_total object_part refl objects_more c.args.objects.now i.object-index i.size
           i.invariant.sum x _ c.loop-object-test.true c.object-item.is
-          (c.folded-size.ensures.size ∙ fold_part (i.size + 14) t c.table_size.result c.table_size.ensures.size
+          (c.fold-size.ensures.size ∙ fold_part (i.size + 14) t c.table_size.result c.table_size.ensures.size
           ∙ ap folded sum);
-      bound = c.folded-size.ensures.few;
+      bound = c.fold-size.ensures.few;
     }
 
 pub returns-clause-size : goal.returns-clause-size

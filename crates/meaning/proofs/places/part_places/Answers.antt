@@ -9,10 +9,10 @@ returns c =
     let p = program_of c.args.checked.now in
     let arrays = ap length c.array_bytes-arrays.ensures in
     let place = dictionary_is p (length c.array_bytes-arrays.result.now) c.objects_size.result
-    c.dictionary_behind-dictionary.result arrays
+    c.dictionary_after-dictionary.result arrays
     (c.objects_size.ensures.size ∙ ap (λ os. folded (objects_total os)) c.objects.ensures)
-    c.dictionary_behind-dictionary.ensures.place in
-    places_are p (length c.array_bytes-arrays.result.now) c.dictionary_behind-dictionary.result
-    (length c.args.checked.now.keys) c.texts_behind-texts.result c.abbreviations_size.result c.requires arrays place
-    refl c.texts_behind-texts.ensures.place
+    c.dictionary_after-dictionary.ensures.place in
+    places_are p (length c.array_bytes-arrays.result.now) c.dictionary_after-dictionary.result
+    (length c.args.checked.now.keys) c.texts_after-texts.result c.abbreviations_size.result c.requires arrays place
+    refl c.texts_after-texts.ensures.place
     (c.abbreviations_size.ensures.size ∙ ap (λ ts. folded (total (map text_size ts))) c.abbreviations.ensures)

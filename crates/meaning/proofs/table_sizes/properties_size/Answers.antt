@@ -12,8 +12,8 @@ loop-property-preserved c =
     record {
       sum = sum_step properties_total property_part refl properties_more c.args.properties.now i.property-index i.size
           i.invariant.sum x _ c.loop-property-test.true c.property-item.is
-          (c.folded-size.ensures.size ∙ ap (λ n. folded (i.size + n)) part);
-      bound = c.folded-size.ensures.few;
+          (c.fold-size.ensures.size ∙ ap (λ n. folded (i.size + n)) part);
+      bound = c.fold-size.ensures.few;
     }
 
 pub returns-clause-size : goal.returns-clause-size

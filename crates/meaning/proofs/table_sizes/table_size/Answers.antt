@@ -12,5 +12,5 @@ returns-clause-size c =
     c.properties_size-properties.ensures.size ∙ ap (λ ps. folded (properties_total ps)) c.deref.ensures.value in
     let sum : 2 + 2 * c.name_words.result + all ≡ table_size (object_of o) =
     omega (arith, c.name_words.ensures.words) in
-    c.folded.ensures.size
+    c.fold.ensures.size
     ∙ fold_part (2 + 2 * c.name_words.result) all c.properties_size-properties.result properties ∙ ap folded sum

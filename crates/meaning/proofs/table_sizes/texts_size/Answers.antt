@@ -12,8 +12,8 @@ loop-text-preserved c =
     record {
       sum = sum_step texts_total text_part refl texts_more c.args.texts.now i.text-index i.size
           i.invariant.sum x _ c.loop-text-test.true c.text-item.is
-          (c.folded-size.ensures.size ∙ ap (λ n. folded (i.size + n)) part);
-      bound = c.folded-size.ensures.few;
+          (c.fold-size.ensures.size ∙ ap (λ n. folded (i.size + n)) part);
+      bound = c.fold-size.ensures.few;
     }
 
 pub returns-clause-size : goal.returns-clause-size

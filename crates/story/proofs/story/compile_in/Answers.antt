@@ -71,15 +71,15 @@ story_by-found-requires c =
     let checked = c.in-Ok.ensures.answers in
     let tree = program_tree c.in_ok-program.program in
     record {
-      accepted = accepted c.accepted_programs.ensures c.printable_tokens.ensures c.printable_trees.ensures
-          c.printable_programs.ensures c.args.source.now c.deref.result.now tree c.in-Ok.checked lexed parsed
+      accepted = accepted c.laws.ensures.accepted c.laws.ensures.tokens c.laws.ensures.trees
+          c.laws.ensures.programs c.args.source.now c.deref.result.now tree c.in-Ok.checked lexed parsed
           checked.0 checked.1;
-      printable = printable c.accepted_programs.ensures c.printable_tokens.ensures c.printable_trees.ensures
-          c.printable_programs.ensures c.args.source.now c.deref.result.now tree c.in-Ok.checked lexed parsed
+      printable = printable c.laws.ensures.accepted c.laws.ensures.tokens c.laws.ensures.trees
+          c.laws.ensures.programs c.args.source.now c.deref.result.now tree c.in-Ok.checked lexed parsed
           checked.0 checked.1;
-      light = light c.accepted_programs.ensures c.printable_tokens.ensures c.printable_trees.ensures
-          c.printable_programs.ensures c.args.source.now c.deref.result.now tree c.in-Ok.checked lexed parsed
-          checked.0 checked.1 c.small_sources_have_small_code.ensures c.args.version;
+      light = light c.laws.ensures.accepted c.laws.ensures.tokens c.laws.ensures.trees
+          c.laws.ensures.programs c.args.source.now c.deref.result.now tree c.in-Ok.checked lexed parsed
+          checked.0 checked.1 c.laws.ensures.small c.args.version;
     }
 
 pub returns-in-Ok-sized-clause-compiles : goal.returns-in-Ok-sized-clause-compiles
@@ -91,10 +91,10 @@ returns-in-Ok-sized-clause-compiles c =
     let checked = c.in-Ok.ensures.answers in
     let sized = subst (IsStoryWithin c.args.limit c.args.version c.in-Ok.checked) c.in-Ok-sized.is
     c.in_ok-sized.ensures in
-    compiled c.accepted_programs.ensures c.printable_tokens.ensures c.printable_trees.ensures
-    c.printable_programs.ensures c.args.source.now c.deref.result.now (program_tree c.in_ok-program.program)
+    compiled c.laws.ensures.accepted c.laws.ensures.tokens c.laws.ensures.trees
+    c.laws.ensures.programs c.args.source.now c.deref.result.now (program_tree c.in_ok-program.program)
     c.in-Ok.checked lexed found.0 checked.0 checked.1
-    c.stories_hold.ensures c.code_plays.ensures c.args.limit c.args.version sized.0 sized.2
+    c.laws.ensures.hold c.laws.ensures.plays c.args.limit c.args.version sized.0 sized.2
     c.of_bytes.result c.of_bytes.ensures.small (c.of_bytes.ensures.value ∙ sized.1) found.1
 
 -- ---- the place of a fault

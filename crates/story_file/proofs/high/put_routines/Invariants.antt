@@ -1,4 +1,4 @@
-use Rattle.std.proofs.Common.{◌≡◌, ◌+◌, ◌++◌, ℕ, List, length, map, drop}
+use Rattle.std.proofs.Common.{◌≡◌, ◌++◌, ℕ, List, length, map, drop}
 use Rattle.zcore.specs.Header.{scale_of}
 use Rattle.code_encoding.specs.Written.{addresses_of}
 use Rattle.story_file.specs.Layout.{parts_from}
@@ -8,7 +8,7 @@ use Rattle.story_file.proofs.high.put_routines.Given as goal
 abbrev pub invariant-loop-code : goal.invariant-loop-code
 invariant-loop-code l =
     (parts : List (List ℕ))
-    → l.body.items ++ parts_from (scale_of l.version) (64 + length l.body.items)
+    → l.story.items ++ parts_from (scale_of l.version) (length l.story.items)
     (map (code_part (addresses_of l.addresses)) (drop l.code-index l.codes) ++ parts)
-    ≡ l.initial.body.items ++ parts_from (scale_of l.version) (64 + length l.initial.body.items)
+    ≡ l.initial.story.items ++ parts_from (scale_of l.version) (length l.initial.story.items)
     (map (code_part (addresses_of l.addresses)) l.codes ++ parts)

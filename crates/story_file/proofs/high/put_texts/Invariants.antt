@@ -1,4 +1,4 @@
-use Rattle.std.proofs.Common.{◌≡◌, ◌+◌, ◌++◌, ℕ, List, length, map, drop}
+use Rattle.std.proofs.Common.{◌≡◌, ◌++◌, ℕ, List, length, map, drop}
 use Rattle.zcore.specs.Header.{scale_of}
 use Rattle.story_file.specs.Layout.{parts_from}
 use Rattle.story_file.specs.Written.{bytes_in}
@@ -7,7 +7,7 @@ use Rattle.story_file.proofs.high.put_texts.Given as goal
 abbrev pub invariant-loop-text : goal.invariant-loop-text
 invariant-loop-text l =
     (parts : List (List ℕ))
-    → l.body.items ++ parts_from (scale_of l.version) (64 + length l.body.items)
+    → l.story.items ++ parts_from (scale_of l.version) (length l.story.items)
     (map bytes_in (drop l.text-index l.texts) ++ parts)
-    ≡ l.initial.body.items ++ parts_from (scale_of l.version) (64 + length l.initial.body.items)
+    ≡ l.initial.story.items ++ parts_from (scale_of l.version) (length l.initial.story.items)
     (map bytes_in l.texts ++ parts)

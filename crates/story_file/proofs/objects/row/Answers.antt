@@ -1,6 +1,6 @@
 use Rattle.std.proofs.Common.{◌+◌, map, slice_index_or, refl, ap, ◌∙◌}
 use Rattle.meaning.specs.Views.{property_of}
-use Rattle.code_object_memory.specs.Rows.{attribute_byte}
+use Rattle.story_tables.specs.Rows.{attribute_byte}
 use Rattle.story_file.proofs.ObjectRows.{attributes_are, first_is, row_made}
 use Rattle.story_file.proofs.objects.row.Goals as goal
 
@@ -8,7 +8,7 @@ pub returns : goal.returns
 returns c =
     row_made c.args.objects.now c.args.index c.index-objects-index.result c.requires.within c.index-objects-index.is
     _ _ _ _
-    c.in-Ok.name.items c.in-Ok-copied.properties.items
+    c.in-Ok.name.items c.in-Ok-copy_properties.properties.items
     (attributes_are c.index-objects-index.result.attributes.items _ _ _ _ _ _
     (c.attribute_byte.ensures ∙ ap (λ xs. attribute_byte xs 0) c.deref-2.ensures.value)
     (c.attribute_byte-2.ensures ∙ ap (λ xs. attribute_byte xs 8) c.deref-3.ensures.value)
@@ -21,4 +21,4 @@ returns c =
     _ _ _ c.requires.linked
     (c.number_at.ensures ∙ ap (λ ns. slice_index_or ns (c.args.index + 1) 0) c.deref-8.ensures.value))
     c.in-Ok.ensures
-    (c.in-Ok-copied.ensures ∙ ap (map property_of) c.deref.ensures.value)
+    (c.in-Ok-copy_properties.ensures ∙ ap (map property_of) c.deref.ensures.value)

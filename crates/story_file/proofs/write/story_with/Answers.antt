@@ -1,13 +1,16 @@
-use Rattle.std.proofs.Common.{◌≡◌, ◌++◌, ap, sym, subst, ◌∙◌, arith}
-use Rattle.meaning.specs.declared.places.Places.{Places}
+use Rattle.std.proofs.Common.{◌≡◌, ◌+◌, length, ap, sym, subst, ◌∙◌, arith}
+use Rattle.std.proofs.lemmas.List.{length-append}
 use Rattle.meaning.specs.Views.{program_of}
-use Rattle.story_file.specs.Layout.{body_of, header_of}
+use Rattle.story_file.specs.Layout.{body_of}
 use Rattle.story_file.specs.Written.{AreWords}
-use Rattle.story_file.proofs.Laid.{body_within, story_laid}
+use Rattle.story_file.proofs.Laid.{story_laid, story_within}
 use Rattle.story_file.proofs.write.story_with.Goals as goal
 
-pub put_header-requires-clause-words : goal.put_header-requires-clause-words
-put_header-requires-clause-words c =
+pub put_body-requires-clause-header : goal.put_body-requires-clause-header
+put_body-requires-clause-header c = c.in-Ok.ensures ∙ ap (λ bs. length bs + 64) c.new-story.ensures.items
+
+pub fill_header-requires-clause-words : goal.fill_header-requires-clause-words
+fill_header-requires-clause-words c =
     let placed = c.requires.fits.placed in
     subst AreWords (sym c.part_places-at.ensures) (record {
       globals = omega arith;
@@ -16,19 +19,25 @@ put_header-requires-clause-words c =
       start = omega (arith, placed);
     })
 
-pub put_header-requires-clause-length : goal.put_header-requires-clause-length
-put_header-requires-clause-length c =
-    body_within c.args.version (program_of c.args.checked.now) c.deref.result.now c.requires.fits (c.deref.ensures.value
-    ∙ c.in-Ok.ensures)
+pub fill_header-requires-clause-kept : goal.fill_header-requires-clause-kept
+fill_header-requires-clause-kept c =
+    let kept = c.in-Ok.ensures ∙ ap (λ bs. length bs + 64) c.new-story.ensures.items in
+    omega (
+      arith,
+      kept,
+      ap length c.in-Ok-put_body.ensures,
+      length-append c.keep_header.new.story.items (body_of c.args.version (program_of c.args.checked.now)),
+    )
+
+pub fill_header-requires-clause-length : goal.fill_header-requires-clause-length
+fill_header-requires-clause-length c =
+    let kept = c.in-Ok.ensures ∙ ap (λ bs. length bs + 64) c.new-story.ensures.items in
+    story_within c.args.version (program_of c.args.checked.now) c.keep_header.new.story.items
+    c.put_body.new.story.items c.requires.fits kept c.in-Ok-put_body.ensures
 
 pub returns : goal.returns
 returns c =
-    let body : c.deref.result.now ≡ body_of c.args.version (program_of c.args.checked.now) =
-    c.deref.ensures.value ∙ c.in-Ok.ensures in
-    let again : c.deref-2.result.now ≡ c.deref.result.now = cc in
-    story_laid c.args.version (program_of c.args.checked.now) c.deref.result.now c.new-story.result.items
-    c.put_header.new.story.items c.extend_from_slice.new.self.items
-    body c.new-story.ensures.items
-    (c.in-Ok-put_header.ensures ∙ ap (λ (at : Places). c.new-story.result.items
-    ++ header_of c.args.version at c.deref.result.now) c.part_places-at.ensures)
-    (c.in-Ok-extend_from_slice.ensures.items ∙ ap (λ z. c.put_header.new.story.items ++ z) again)
+    let kept = c.in-Ok.ensures ∙ ap (λ bs. length bs + 64) c.new-story.ensures.items in
+    story_laid c.args.version (program_of c.args.checked.now) c.part_places-at.result c.keep_header.new.story.items
+    c.put_body.new.story.items c.fill_header.new.story.items kept c.in-Ok-put_body.ensures c.part_places-at.ensures
+    c.in-Ok-fill_header.ensures

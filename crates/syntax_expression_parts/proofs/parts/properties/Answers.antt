@@ -53,4 +53,4 @@ returns c = rw
       | then-loop-turn-test+then-not-is_sign-2 q ↦ inr (grind arith)
     ]))
     (rw (properties_built c.args.owner c.in_ok-name.name c.loop-turn.others, c.in_ok-name.ensures.ok) at
-    c.in_box.ensures)
+    c.in_box-2.ensures)

@@ -9,7 +9,7 @@ use Rattle.syntax_statements.specs.Nesting.{begins_statement, begins_in_case}
 use Rattle.syntax_statements.specs.Rows.{contains_statements}
 use Rattle.syntax_statements.specs.Views.{statement_tree, case_tree}
 use Rattle.syntax_statements.specs.Parse.{one_case, statement, inside, braces, bodies}
-use Rattle.syntax_statements.proofs.Cases.{block_behind, block_read, repetition_made, iteration_made, traversal_made}
+use Rattle.syntax_statements.proofs.Cases.{block_after, block_read, repetition_made, iteration_made, traversal_made}
 use Rattle.syntax_statements.proofs.Cases.{otherwise_default, otherwise_made, otherwise_uncoloned, selection_made}
 use Rattle.syntax_statements.proofs.Inside.{bodies_begun, inside_more}
 use Rattle.syntax_statements.proofs.Rows.{as_long_adds, as_long_stops, repeated_adds, repeated_stops, after_fails}
@@ -27,7 +27,7 @@ block-returns-in-Ok t c = rw (block_read (braces c.args.depth) _ _ _ _ c.in-Ok.e
 
 pub block-returns-in-Err : goal.block-returns-in-Err
 block-returns-in-Err t c = part_fails c.in-Err.e _ _ _ c.in-Err.ensures
-    (block_behind (braces c.args.depth) _ (tail (ahead c.args.parser.now)))
+    (block_after (braces c.args.depth) _ (tail (ahead c.args.parser.now)))
 
 pub repetition-returns-in-Ok : goal.repetition-returns-in-Ok
 repetition-returns-in-Ok t c = rw

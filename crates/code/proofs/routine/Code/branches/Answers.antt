@@ -1,9 +1,9 @@
 use Rattle.std.proofs.Common.{List, ap, sym, ◌∙◌, subst}
 use Rattle.std.specs.Prelude.{map}
 use Rattle.std.specs.List.{All}
-use Rattle.code_branch_forms.specs.declared.layout.BranchUse.{BranchUse}
-use Rattle.code_branch_forms.specs.Layout.{IsShortest}
-use Rattle.code_branch_forms.proofs.Offsets.{all_shortest}
+use Rattle.code_encoding.specs.declared.layout.BranchUse.{BranchUse}
+use Rattle.code_encoding.specs.Layout.{IsShortest}
+use Rattle.code_encoding.proofs.Offsets.{all_shortest}
 use Rattle.code_drafts.specs.Code.{items_of}
 use Rattle.code_encoding.specs.Written.{sizes_in}
 use Rattle.code.specs.Bytes.{parts_of, place_of}

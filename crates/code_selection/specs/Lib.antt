@@ -1,3 +1,0 @@
-pub mod ItemCode
-pub mod ItemBytes
-pub mod Written

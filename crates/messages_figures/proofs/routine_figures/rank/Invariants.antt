@@ -1,8 +1,0 @@
-use Rattle.std.proofs.Common.{◌≡◌, ◌++◌, take, drop}
-use Rattle.messages_figures.specs.declared.routine_figures.RoutineFigures.{RoutineFigures}
-use Rattle.messages_figures.specs.Figures.{placed}
-use Rattle.messages_figures.proofs.routine_figures.rank.Given as goal
-
-abbrev pub invariant-loop-number : goal.invariant-loop-number
-invariant-loop-number l = (r : RoutineFigures) → r.weight ≡ l.weight
-    → placed r l.routines ≡ take l.number l.routines ++ placed r (drop l.number l.routines)

@@ -1,4 +1,0 @@
-pub mod Needs
-pub mod Walk
-pub mod Figures
-pub mod Measured

@@ -1,5 +1,0 @@
-use Rattle.story_sizes.proofs.SizesOfChecked as sizes
-use Rattle.story_sizes.proofs.laws.small_sources_have_small_code.Goals as goal
-
-pub returns : goal.returns
-returns c = sizes.small_sources_have_small_code

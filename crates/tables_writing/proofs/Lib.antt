@@ -1,5 +1,0 @@
-pub mod Written
-pub mod Sizes
-pub mod Names
-pub mod Listed
-pub mod ReadBack

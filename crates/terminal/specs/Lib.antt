@@ -1,0 +1,4 @@
+pub mod Escaped
+pub mod Broken
+pub mod Range
+pub mod Arguments

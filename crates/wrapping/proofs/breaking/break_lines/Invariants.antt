@@ -1,5 +1,0 @@
-use Rattle.wrapping.specs.Broken.{IsBroken}
-use Rattle.wrapping.proofs.breaking.break_lines.Given as goal
-
-abbrev pub invariant-loop-at : goal.invariant-loop-at
-invariant-loop-at l = IsBroken l.fn.text l.text
