@@ -24,7 +24,7 @@ use zcore::{Header, Next, OpcodeRow, Operand, Place};
 use zcore_standard::{Loaded, StandardOperation, decode_row};
 
 /// Does the instruction at the program counter, and answers where the turn goes on.
-pub(crate) fn step_standard(
+pub fn step_standard(
     header: &Header,
     store: &mut Recorded<Store>,
     text: &mut Vec<u8>,
