@@ -41,16 +41,16 @@ pub record Finds (o : Option StandardOperation) (operation : StandardOperation) 
   pub found : o ≡ Some operation
   pub row_is : row ≡ row_of operation
 
-same_pair : (operation other : StandardOperation) (row : OpcodeRow) → (let o : Option (StandardOperation × OpcodeRow) = Some (operation, row) in o) ≡ Some (other, row_of other)
-    → (operation ≡ other) × (row ≡ row_of other)
-same_pair operation other row e = (cc, cc)
+same_pair : (x y : StandardOperation × OpcodeRow) → Some x ≡ Some y → x ≡ y
+same_pair x y e = cc
 
 pub finds_some : (o : Option StandardOperation) (operation : StandardOperation) (row : OpcodeRow)
     → Some (operation, row) ≡ with_row o → Finds o operation row
 finds_some None operation row e = absurd (cc)
 finds_some (Some other) operation row e =
-    let same = same_pair operation other row e in
-    record { found = ap Some (sym same.0); row_is = same.1 ∙ ap row_of (sym same.0) }
+    let same = same_pair (operation, row) (other, row_of other) e in
+    let found : other ≡ operation = sym (ap (λ x. x.0) same) in
+    record { found = ap Some found; row_is = ap (λ x. x.1) same ∙ ap row_of found }
 
 -- a step where no further operation is found
 none_step : (loaded : Loaded) (here : Here) (s : State) → further_at s.memory here.next.program_counter ≡ None

@@ -183,7 +183,7 @@ pub standard_whole : (loaded : Loaded) (first : Here) (turn : TurnState) (here :
     → y ≡ z ++ notice end → long ≤ length z
     → TurnsBy (standard loaded) first s (whole_of n end (drop long y))
 standard_whole loaded first turn here end s m n x z y long h same counter kept cut text le =
-    let turn = stops_whole (standard loaded) first (place turn here) end s (state_of m (drop long x)) h in
+    let stopped = stops_whole (standard loaded) first (place turn here) end s (state_of m (drop long x)) h in
     let words : drop long y ≡ shown (place turn here) end (drop long x) ++ notice end = ap (drop long) text
     ∙ drop-append-le long z (notice end) le ∙ ap (λ l. l ++ notice end) cut in
     let e : standard_ended (place turn here) end (state_of m (drop long x))
@@ -191,7 +191,7 @@ standard_whole loaded first turn here end s m n x z y long h same counter kept c
     ap (standard_ended (place turn here) end) (sym (same (drop long x))) in
     let f : standard_ended (place turn here) end (state_of n (drop long x)) ≡ whole_of n end (drop long y) =
     rw (words, counter, kept) refl in
-    subst (λ w. TurnsBy (standard loaded) first s w) (e ∙ f) turn
+    subst (λ w. TurnsBy (standard loaded) first s w) (e ∙ f) stopped
 
 -- what the machine waits for can be given to a store of the same state
 pub right_after : (m n : Contents) (text : List ℕ) → WaitsRight (state_of m text)

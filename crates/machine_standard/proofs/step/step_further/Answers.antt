@@ -1,6 +1,8 @@
-use Rattle.std.proofs.Common.{◌<◌, ◌∙◌, ap, sym, subst, length, ℕ, List, arith}
+use Rattle.std.proofs.Common.{◌<◌, ◌≤◌, ◌∙◌, ap, sym, subst, length, ℕ, List, arith}
 use Rattle.std.proofs.lemmas.List.{length-take-le}
+use Rattle.zcore.specs.declared.operations.OpcodeRow.{OpcodeRow}
 use Rattle.zcore_standard.specs.Instruction.{decode_row}
+use Rattle.zcore_standard.specs.Operations.{row_of}
 use Rattle.zcore_standard_laws.proofs.Refusing.{stands}
 use Rattle.machine_frames.specs.Contents.{memory_of}
 use Rattle.machine_frames.proofs.Steps.{went_store}
@@ -42,11 +44,14 @@ pub perform_further-requires-clause-enough : goal.perform_further-requires-claus
 perform_further-requires-clause-enough c =
     let long = length-take-le c.in-Ok.read.0 c.operand_values.new.values
     (omega (arith, c.in-Ok.ensures.few, c.operand_values.array_long)) in
-    omega (arith, long, c.in-Ok.ensures.enough)
+    let enough : (row_of c.args.operation).least_operands ≤ c.in-Ok.read.0 =
+    subst (λ (row : OpcodeRow). row.least_operands ≤ c.in-Ok.read.0) c.requires.row c.in-Ok.ensures.enough in
+    omega (arith, long, enough)
 
 pub returns-clause-told : goal.returns-clause-told
 returns-clause-told c = executes_further _ c.args.loaded.now _ (place c.args.turn.now c.args.here) _ _ _ _
     (c.in-Ok.ensures.instruction ∙ ap (λ l. decode_row l c.args.here.program_counter c.args.row)
     (c.memory-memory.ensures ∙ ap memory_of c.store.ensures)
-    ∙ ap (λ row. decode_row (memory_of c.args.store.now.store) c.args.here.program_counter row) c.requires.row) c.in_ok-operand_values.ensures.went
+    ∙ ap (λ row. decode_row (memory_of c.args.store.now.store) c.args.here.program_counter row) c.requires.row)
+    c.in_ok-operand_values.ensures.went
     c.perform_further.ensures.told
