@@ -28,7 +28,7 @@ CITATION = re.compile(
 )
 EACH = re.compile(rf"each function of (?P<crates>{LIST})(?: but (?P<names>{LIST}))?, over (?P<words>{LIST})")
 TITLES = ("Contract", "Definition", "Refused by")
-TURNS = (("machine_decoding", "machine_flight"), ("machine_standard_windows", "machine_standard_steps"))
+TURNS = (("machine_decoding", "machine_flight"), ("machine_standard_windows", "machine_standard"))
 
 
 class NotThere(Exception):

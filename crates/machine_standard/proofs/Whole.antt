@@ -29,8 +29,8 @@ use Rattle.machine_frames.proofs.Steps.{store_after, goes_on_still}
 use Rattle.machine_lines.proofs.Lines.{base_kept}
 use Rattle.machine_arms.specs.Passed.{Passed}
 use Rattle.machine.proofs.Turning.{stops_whole}
-use Rattle.machine_standard_windows.specs.Around.{place, Keeps}
-use Rattle.machine_standard_windows.specs.declared.around.Around.{Around}
+use Rattle.machine_standard_windows.specs.TurnState.{place, Keeps}
+use Rattle.machine_standard_windows.specs.declared.turn_state.TurnState.{TurnState}
 use Rattle.machine_standard_words.specs.Taking.{CanBeGiven}
 use Rattle.machine_standard.specs.Loads.{IsStoreFor}
 use Rattle.machine_standard.specs.Playing.{Ahead, OpensStandard}
@@ -57,23 +57,23 @@ or_true true = refl
 or_true false = refl
 
 -- a step of the profile that goes on is a step of this machine
-standard_goes_on : (loaded : Loaded) (around : Around) (here next : Next) (s t : State)
+standard_goes_on : (loaded : Loaded) (turn : TurnState) (here next : Next) (s t : State)
     → loaded.own_alphabets ≡ None → step here s ≡ done next t
-    → standard_step loaded (place around here) s ≡ done (place around next) t
-standard_goes_on loaded around here next s t own e =
-    standard_steps loaded (place around here) s own (ap ends_in_fault e)
-    (ap (closes_none (place around here)) e ∙ or_true (is_plain (place around here)))
-    ∙ ap (within (place around here)) e
+    → standard_step loaded (place turn here) s ≡ done (place turn next) t
+standard_goes_on loaded turn here next s t own e =
+    standard_steps loaded (place turn here) s own (ap ends_in_fault e)
+    (ap (closes_none (place turn here)) e ∙ or_true (is_plain (place turn here)))
+    ∙ ap (within (place turn here)) e
 
-pub reaches_standard : (loaded : Loaded) (around : Around) (count : ℕ) (first here : Next) (s t : State)
+pub reaches_standard : (loaded : Loaded) (turn : TurnState) (count : ℕ) (first here : Next) (s t : State)
     → loaded.own_alphabets ≡ None → Reaches count first s here t
-    → ReachesBy (standard_step loaded) count (place around first) s (place around here) t
-reaches_standard loaded around zero first here s t own h = (ap (place around) h.0, h.1)
-reaches_standard loaded around (suc count) first here s t own h = (
-  place around h.0,
+    → ReachesBy (standard_step loaded) count (place turn first) s (place turn here) t
+reaches_standard loaded turn zero first here s t own h = (ap (place turn) h.0, h.1)
+reaches_standard loaded turn (suc count) first here s t own h = (
+  place turn h.0,
   h.1,
-  reaches_standard loaded around count first h.0 s h.1 own h.2,
-  standard_goes_on loaded around h.0 here h.1 t own h.3,
+  reaches_standard loaded turn count first h.0 s h.1 own h.2,
+  standard_goes_on loaded turn h.0 here h.1 t own h.3,
 )
 
 none_there : {A : Type 0} (o : Option A) → is_some o ≡ false → o ≡ None
@@ -88,10 +88,10 @@ quickly_ahead s t (Ok here) loaded first own passed =
     let p : Passed first s here t = passed in
     record {
       goes_on = p.goes_on;
-      reached = λ around text.
+      reached = λ turn text.
           let there = p.reached text in (
             there.0,
-            reaches_standard loaded around there.0 first here (state_of s.store text) (state_of t.store text)
+            reaches_standard loaded turn there.0 first here (state_of s.store text) (state_of t.store text)
                 (none_there loaded.own_alphabets own) there.1,
           );
       lighter = p.lighter;
@@ -103,7 +103,7 @@ pub not_ahead : (s : Recording Contents) (loaded : Loaded) (first : Next) → Is
     → Ahead loaded first s first s
 not_ahead s loaded first sound = record {
   goes_on = goes_on_still s sound;
-  reached = λ around text. (0, (refl, refl));
+  reached = λ turn text. (0, (refl, refl));
   lighter = λ text. omega arith;
 }
 
@@ -125,19 +125,19 @@ pub none_yet_by : {H : Type 0} (step : H → State → Out H) (first : H) (s : C
 none_yet_by step first s text = (0, (refl, ap (state_of s) (drop_all (length text) text (omega arith))))
 
 -- an instruction that ends the turn leaves window, dice and streams as they are
-pub stops_around : (loaded : Loaded) {first : Here} {s t : State} {here : Next} {p : Place} (a b : Around) → b ≡ a
+pub stops_around : (loaded : Loaded) {first : Here} {s t : State} {here : Next} {p : Place} (a b : TurnState) → b ≡ a
     → StopsBy (standard_step loaded) first s (place a here) p t
     → StopsBy (standard_step loaded) first s (place b here) p t
 stops_around loaded {first} {s} {t} {here} {p} a b e h =
     subst (λ x. StopsBy (standard_step loaded) first s (place x here) p t) (sym e) h
 
 -- where a turn begins
-pub begun_place : (around : Around) (standard_state : StandardState) (next : Next) → around.standard_state ≡ standard_state
-    → around.streams.items ≡ [] → around.upper ≡ (if standard_state.window == 0 then None else Some (begun_at 0))
-    → place around next ≡ begins standard_state next
-begun_place around standard_state next e f g =
-    ap (λ b. let h : Here = record (place around next) { standard_state = b } in h) e
-    ∙ ap (λ l. let h : Here = record (place around next) { standard_state = standard_state; streams = l } in h) f
+pub begun_place : (turn : TurnState) (standard_state : StandardState) (next : Next) → turn.standard_state ≡ standard_state
+    → turn.streams.items ≡ [] → turn.upper ≡ (if standard_state.window == 0 then None else Some (begun_at 0))
+    → place turn next ≡ begins standard_state next
+begun_place turn standard_state next e f g =
+    ap (λ b. let h : Here = record (place turn next) { standard_state = b } in h) e
+    ∙ ap (λ l. let h : Here = record (place turn next) { standard_state = standard_state; streams = l } in h) f
     ∙ ap (λ u. let h : Here = record (plain standard_state next) { upper = u } in h) g
 
 -- The text of a turn
@@ -175,21 +175,21 @@ ended_nothing standard_state next end m =
 -- The end of a turn
 
 -- the whole state that is left, where the text was cut
-pub standard_whole : (loaded : Loaded) (first : Here) (around : Around) (here : Next) (end : Place) (s : State)
+pub standard_whole : (loaded : Loaded) (first : Here) (turn : TurnState) (here : Next) (end : Place) (s : State)
     (m n : Contents) (x z y : List ℕ) (long : ℕ)
-    → StopsBy (standard_step loaded) first s (place around here) end (state_of m (drop long x))
+    → StopsBy (standard_step loaded) first s (place turn here) end (state_of m (drop long x))
     → ((l : List ℕ) → state_of n l ≡ state_of m l) → program_counter_of (slice_index n.cells) ≡ here.program_counter
-    → standard_state_of (slice_index n.cells) ≡ around.standard_state → drop long z ≡ shown (place around here) end (drop long x)
+    → standard_state_of (slice_index n.cells) ≡ turn.standard_state → drop long z ≡ shown (place turn here) end (drop long x)
     → y ≡ z ++ notice end → long ≤ length z
     → TurnsBy (standard loaded) first s (whole_of n end (drop long y))
-standard_whole loaded first around here end s m n x z y long h same counter kept cut text le =
-    let turn = stops_whole (standard loaded) first (place around here) end s (state_of m (drop long x)) h in
-    let words : drop long y ≡ shown (place around here) end (drop long x) ++ notice end = ap (drop long) text
+standard_whole loaded first turn here end s m n x z y long h same counter kept cut text le =
+    let turn = stops_whole (standard loaded) first (place turn here) end s (state_of m (drop long x)) h in
+    let words : drop long y ≡ shown (place turn here) end (drop long x) ++ notice end = ap (drop long) text
     ∙ drop-append-le long z (notice end) le ∙ ap (λ l. l ++ notice end) cut in
-    let e : standard_ended (place around here) end (state_of m (drop long x))
-    ≡ standard_ended (place around here) end (state_of n (drop long x)) =
-    ap (standard_ended (place around here) end) (sym (same (drop long x))) in
-    let f : standard_ended (place around here) end (state_of n (drop long x)) ≡ whole_of n end (drop long y) =
+    let e : standard_ended (place turn here) end (state_of m (drop long x))
+    ≡ standard_ended (place turn here) end (state_of n (drop long x)) =
+    ap (standard_ended (place turn here) end) (sym (same (drop long x))) in
+    let f : standard_ended (place turn here) end (state_of n (drop long x)) ≡ whole_of n end (drop long y) =
     rw (words, counter, kept) refl in
     subst (λ w. TurnsBy (standard loaded) first s w) (e ∙ f) turn
 

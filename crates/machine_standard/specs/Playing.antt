@@ -12,8 +12,8 @@ use Rattle.zcore_standard.specs.Reading.{standard_given}
 use Rattle.machine_frames.specs.Playing.{FollowsBy, IsOpening}
 use Rattle.machine_frames.specs.States.{state_of, pending_of, program_counter_of, standard_state_of}
 use Rattle.machine_frames.specs.Went.{GoesOn}
-use Rattle.machine_standard_windows.specs.Around.{place}
-use Rattle.machine_standard_windows.specs.declared.around.Around.{Around}
+use Rattle.machine_standard_windows.specs.TurnState.{place}
+use Rattle.machine_standard_windows.specs.declared.turn_state.TurnState.{TurnState}
 use Rattle.machine_standard_words.specs.Taking.{CanBeGiven}
 
 -- the turn of a store of a story that begins
@@ -46,6 +46,6 @@ IsReadyForStandard (Some line) = CanBeGiven
 pub record Ahead (loaded : Loaded) (first : Next) (old : Recording Contents) (here : Next)
     (new : Recording Contents) : Type 0 where
   pub goes_on : GoesOn old new
-  pub reached : (around : Around) (text : List ℕ) → (n : ℕ) × ReachesBy (standard_step loaded) n (place around first)
-      (state_of old.store text) (place around here) (state_of new.store text)
+  pub reached : (turn : TurnState) (text : List ℕ) → (n : ℕ) × ReachesBy (standard_step loaded) n (place turn first)
+      (state_of old.store text) (place turn here) (state_of new.store text)
   pub lighter : (text : List ℕ) → weight here (state_of new.store text) ≤ weight first (state_of old.store text)

@@ -38,7 +38,7 @@ use Rattle.machine_decoding.specs.Seen.{seen}
 use Rattle.machine_opcodes.proofs.Saying.{went_says}
 use Rattle.machine_standard_windows.proofs.TurnTexts.{text_cut, text_behind}
 
--- a text behind which something was added, and which is then cut
+-- a text after which something was added, and which is then cut
 pub cut_again : (from : ℕ) (x w y : List ℕ) → take (length x) w ≡ x → from ≤ length x → y ≡ take from w
     → y ≡ take from x
 cut_again from x w y front le is =
@@ -100,7 +100,7 @@ stream_stays {e = ends.Stop p} x extra stream w = record {
   told = (w.did.0, ap (λ o. bound o (λ _ u. done tt (record u { text = take stream.from u.text }))) (w.did.1 x));
 }
 
--- the same in a text whose front is not of the turn, and behind which something was added
+-- the same in a text whose front is not of the turn, and after which something was added
 
 pub closed_as : {s t : Recording Contents} (start kept : ℕ) (x w y extra : List ℕ) (stream : Stream) → start ≤ length x
     → kept ≡ min stream.from (length x - start) → take (length x) w ≡ x → y ≡ take (start + kept) w
@@ -129,7 +129,7 @@ stays_as {s} {t} start kept cut x w y extra stream e begun is front same all wen
     (stream_stays (drop start x) extra stream
     (subst (λ l. Went {A = Unit {0}} (Err e) s t (write_bytes stream.table (counted (zscii_in extra l)))) behind went))
 
--- what was added behind a text
+-- what was added after a text
 pub behind_text : (x y more : List ℕ) → y ≡ x ++ more → drop (length x) y ≡ more
 behind_text x y more is = ap (drop (length x)) is ∙ drop-append_seam x more
 

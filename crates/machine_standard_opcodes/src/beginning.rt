@@ -11,7 +11,7 @@ ghost use Rattle.machine_frames.specs.Went.{GivenUp};
 ghost use Rattle.machine_lines.specs.Lines.{Filled, Fills};
 ghost use Rattle.machine_opcodes.specs.Printed.{HasBegun, ToldFrom};
 ghost use Rattle.machine_decoding.specs.Seen.{seen};
-ghost use Rattle.machine_standard_windows.specs.Around.{place, Keeps};
+ghost use Rattle.machine_standard_windows.specs.TurnState.{place, Keeps};
 ghost use Rattle.machine_standard_opcodes.specs.Left.{Empties};
 
 use crate::streams::{FLAGS_2, cut_to_heard};
@@ -19,7 +19,7 @@ use journal::{NoMemory, Recorded};
 use machine_frames::layout::{FRAME_COUNT, HEIGHT, MEMORY, NO_VARIABLE, RECORD, RECORDS, WAITING};
 use machine_frames::{End, Store, put_all};
 use machine_standard_texts::spend_for;
-use machine_standard_windows::Around;
+use machine_standard_windows::TurnState;
 use zcore::layout::HEADER_LENGTH;
 use zcore::{Limit, Next, Place};
 use zcore_standard::Loaded;
@@ -37,16 +37,16 @@ pub fn restart(
     text: &mut Vec<u8>,
     start: usize,
     loaded: &Loaded,
-    around: &mut Around,
+    turn: &mut TurnState,
     here: Next,
 ) -> Result<Next, End>
     requires sound { IsSound store.old.store }
     requires dynamic { length loaded.now.dynamic ≡ static_base_of (memory_of store.old.store) }
     requires text { HasBegun start text.old.items }
-    ensures told { ToldFrom start (seen (place around.new) result) store.old text.old.items
-        store.new text.new.items (definitions.restart loaded.now (place around.old here)) }
+    ensures told { ToldFrom start (seen (place turn.new) result) store.old text.old.items
+        store.new text.new.items (definitions.restart loaded.now (place turn.old here)) }
     ensures text { Keeps start text.old.items text.new.items }
-    ensures around { OnErr result (around.new ≡ around.old) }
+    ensures turn { OnErr result (turn.new ≡ turn.old) }
 {
     if here.fuel == 0 {
         return Err(End::Stop(Place::Limit(Limit::Fuel)));
@@ -58,10 +58,10 @@ pub fn restart(
     fill(store, HEADER_LENGTH, after_header(dynamic))?;
     restore_flags(store, dynamic)?;
     empty(store)?;
-    cut_to_heard(text, start, around);
-    around.standard_state = loaded.dice();
-    around.streams.clear();
-    around.upper = None;
+    cut_to_heard(text, start, turn);
+    turn.standard_state = loaded.dice();
+    turn.streams.clear();
+    turn.upper = None;
     Ok(Next {
         program_counter,
         fuel,

@@ -5,12 +5,12 @@ ghost use Rattle.zcore_standard.specs.Dice as definitions;
 ghost use Rattle.machine_frames.specs.States.{IsStoreOf};
 ghost use Rattle.machine_frames.specs.Went.{Went};
 ghost use Rattle.machine_decoding.specs.Seen.{seen};
-ghost use Rattle.machine_standard_windows.specs.Around.{place};
+ghost use Rattle.machine_standard_windows.specs.TurnState.{place};
 
 use journal::Recorded;
 use machine_frames::{End, Store};
 use machine_opcodes::{NEGATIVE, give_result};
-use machine_standard_windows::Around;
+use machine_standard_windows::TurnState;
 use zcore::{Header, Next, StandardState};
 
 /// The generator takes 32 bits to so many times themselves and one more.
@@ -93,21 +93,21 @@ fn rolled(range: u16, dice: StandardState) -> (u16, StandardState)
 pub fn random(
     header: &Header,
     store: &mut Recorded<Store>,
-    around: &mut Around,
+    turn: &mut TurnState,
     here: Next,
     after: u32,
     result_variable: Option<u8>,
     range: u16,
 ) -> Result<Next, End>
     requires { IsStoreOf header.now store.old.store }
-    ensures went { Went (seen (place around.new) result) store.old store.new
-        (definitions.random (place around.old here) after result_variable range) }
-    ensures around { OnErr result (around.new ≡ around.old) }
+    ensures went { Went (seen (place turn.new) result) store.old store.new
+        (definitions.random (place turn.old here) after result_variable range) }
+    ensures turn { OnErr result (turn.new ≡ turn.old) }
 {
-    let (number, dice) = rolled(range, around.standard_state);
+    let (number, dice) = rolled(range, turn.standard_state);
     match give_result(header, store, here, after, result_variable, number) {
         Ok(next) => {
-            around.standard_state = dice;
+            turn.standard_state = dice;
             Ok(next)
         }
         Err(end) => Err(end),

@@ -3,12 +3,12 @@
 ghost use Rattle.zcore_standard.specs.Streams as definitions;
 ghost use Rattle.machine_frames.specs.States.{IsStoreOf};
 ghost use Rattle.machine_opcodes.specs.Printed.{HasBegun, ToldFrom};
-ghost use Rattle.machine_standard_windows.specs.Around.{place, Keeps};
+ghost use Rattle.machine_standard_windows.specs.TurnState.{place, Keeps};
 
 use crate::streams::close_all;
 use journal::Recorded;
 use machine_frames::{End, Store};
-use machine_standard_windows::{Around, show_upper};
+use machine_standard_windows::{TurnState, show_upper};
 use zcore::{Header, Next};
 use zcore_standard::Loaded;
 
@@ -24,16 +24,16 @@ pub fn begin_read(
     text: &mut Vec<u8>,
     start: usize,
     loaded: &Loaded,
-    around: &Around,
+    turn: &TurnState,
 ) -> Result<(), End>
     requires store { IsStoreOf header.now store.old.store }
     requires text { HasBegun start text.old.items }
     ensures told { (next : Next) → ToldFrom start result store.old text.old.items
         store.new text.new.items
-        (definitions.begin_read loaded.now.characters (place around.now next)) }
+        (definitions.begin_read loaded.now.characters (place turn.now next)) }
     ensures text { Keeps start text.old.items text.new.items }
 {
-    let streams = around.streams.as_slice();
+    let streams = turn.streams.as_slice();
     close_all(header, store, text, start, loaded.characters(), streams)?;
-    show_upper(store, text, start, around)
+    show_upper(store, text, start, turn)
 }

@@ -11,7 +11,7 @@ ghost use Rattle.machine_frames.specs.Went.{GivenUp, Went, Told};
 ghost use Rattle.machine_lines.specs.Lines.{Filled};
 ghost use Rattle.machine_opcodes.specs.Printed.{HasBegun, ToldFrom};
 ghost use Rattle.machine_decoding.specs.Seen.{seen};
-ghost use Rattle.machine_standard_windows.specs.Around.{place, Keeps};
+ghost use Rattle.machine_standard_windows.specs.TurnState.{place, Keeps};
 
 use crate::beginning::fill;
 use crate::zscii::{add_zscii, count_characters};
@@ -19,7 +19,7 @@ use journal::{NoMemory, Recorded};
 use machine_frames::layout::MEMORY;
 use machine_frames::{End, Store};
 use machine_standard_texts::spend_for;
-use machine_standard_windows::{Around, cut, drop_upper, settle};
+use machine_standard_windows::{TurnState, cut, drop_upper, settle};
 use zcore::layout::HEADER_LENGTH;
 use zcore::{Fault, Header, Next, Place};
 use zcore_standard::{Loaded, Stream};
@@ -55,7 +55,7 @@ pub fn output_stream(
     text: &mut Vec<u8>,
     start: usize,
     loaded: &Loaded,
-    around: &mut Around,
+    turn: &mut TurnState,
     here: Next,
     after: u32,
     values: &[u16],
@@ -63,19 +63,19 @@ pub fn output_stream(
     requires store { IsStoreOf header.now store.old.store }
     requires text { HasBegun start text.old.items }
     requires some { 1 ≤ length values.now }
-    ensures told { ToldFrom start (seen (place around.new) result) store.old text.old.items
+    ensures told { ToldFrom start (seen (place turn.new) result) store.old text.old.items
         store.new text.new.items
-        (definitions.output_stream loaded.now.characters (place around.old here) after values.now) }
+        (definitions.output_stream loaded.now.characters (place turn.old here) after values.now) }
     ensures text { Keeps start text.old.items text.new.items }
-    ensures around { OnErr result (around.new ≡ around.old) }
+    ensures turn { OnErr result (turn.new ≡ turn.old) }
 {
     let next = Next {
         program_counter: after,
         fuel: here.fuel,
     };
     match values[0] {
-        MEMORY_STREAM => open_table(store, text, start, around, here, after, values),
-        NO_MEMORY_STREAM => { close_first(header, store, text, start, loaded, around, here, after) }
+        MEMORY_STREAM => open_table(store, text, start, turn, here, after, values),
+        NO_MEMORY_STREAM => { close_first(header, store, text, start, loaded, turn, here, after) }
         TRANSCRIPT => {
             set_transcript(store, 1)?;
             Ok(next)
@@ -93,7 +93,7 @@ fn open_table(
     store: &Recorded<Store>,
     text: &Vec<u8>,
     start: usize,
-    around: &mut Around,
+    turn: &mut TurnState,
     here: Next,
     after: u32,
     values: &[u16],
@@ -101,15 +101,15 @@ fn open_table(
     requires sound { IsSound store.now.store }
     requires text { HasBegun start text.now.items }
     requires some { 1 ≤ length values.now }
-    ensures told { Told (seen (place around.new) result) store.now (drop start text.now.items)
+    ensures told { Told (seen (place turn.new) result) store.now (drop start text.now.items)
         store.now (drop start text.now.items)
-        (definitions.open_table (place around.old here) after values.now) }
-    ensures around { OnErr result (around.new ≡ around.old) }
+        (definitions.open_table (place turn.old here) after values.now) }
+    ensures turn { OnErr result (turn.new ≡ turn.old) }
 {
     if values.len() == 1 {
         return Err(End::Stop(Place::Fault(Fault::Opcode)));
     }
-    open_stream(store, text, start, around, here, after, values[1])
+    open_stream(store, text, start, turn, here, after, values[1])
 }
 
 /// Opens a stream to a table. M12.
@@ -117,21 +117,21 @@ fn open_stream(
     store: &Recorded<Store>,
     text: &Vec<u8>,
     start: usize,
-    around: &mut Around,
+    turn: &mut TurnState,
     here: Next,
     after: u32,
     table: u16,
 ) -> Result<Next, End>
     requires sound { IsSound store.now.store }
     requires text { HasBegun start text.now.items }
-    ensures told { Told (seen (place around.new) result) store.now (drop start text.now.items)
+    ensures told { Told (seen (place turn.new) result) store.now (drop start text.now.items)
         store.now (drop start text.now.items)
-        (definitions.open_stream (place around.old here) after table) }
-    ensures around { OnErr result (around.new ≡ around.old) }
+        (definitions.open_stream (place turn.old here) after table) }
+    ensures turn { OnErr result (turn.new ≡ turn.old) }
 {
     let _store = store;
     let from = (text.len() - start) as u32;
-    match around.streams.try_insert(0, Stream { table, from }) {
+    match turn.streams.try_insert(0, Stream { table, from }) {
         Ok(()) => Ok(Next {
             program_counter: after,
             fuel: here.fuel,
@@ -148,31 +148,31 @@ fn close_first(
     text: &mut Vec<u8>,
     start: usize,
     loaded: &Loaded,
-    around: &mut Around,
+    turn: &mut TurnState,
     here: Next,
     after: u32,
 ) -> Result<Next, End>
     requires store { IsStoreOf header.now store.old.store }
     requires text { HasBegun start text.old.items }
-    ensures told { ToldFrom start (seen (place around.new) result) store.old text.old.items
+    ensures told { ToldFrom start (seen (place turn.new) result) store.old text.old.items
         store.new text.new.items (definitions.close_first loaded.now.characters
-        (place around.old here) after around.old.streams.items) }
+        (place turn.old here) after turn.old.streams.items) }
     ensures text { Keeps start text.old.items text.new.items }
-    ensures around { OnErr result (around.new ≡ around.old) }
+    ensures turn { OnErr result (turn.new ≡ turn.old) }
 {
-    if around.streams.as_slice().len() == 0 {
+    if turn.streams.as_slice().len() == 0 {
         return Ok(Next {
             program_counter: after,
             fuel: here.fuel,
         });
     }
-    let stream = around.streams.as_slice()[0];
+    let stream = turn.streams.as_slice()[0];
     let given = given_to(text, start, stream);
     test_table(header, store, given, stream)?;
     let fuel = spend_for(given.len(), here.fuel)?;
     close(header, store, text, start, loaded.characters(), stream)?;
-    around.streams.remove(0);
-    settle(text, start, around);
+    turn.streams.remove(0);
+    settle(text, start, turn);
     Ok(Next {
         program_counter: after,
         fuel,
@@ -260,7 +260,7 @@ fn close(
     }
 }
 
-/// Writes the ZSCII codes of the bytes of a text from one on to a table. The text has them behind
+/// Writes the ZSCII codes of the bytes of a text from one on to a table. The text has them after
 /// it then, whole or in part. M4.
 fn write_zscii(
     header: &Header,
@@ -334,14 +334,14 @@ fn set_transcript(store: &mut Recorded<Store>, bit: u8) -> Result<(), NoMemory>
 
 /// Cuts from a text what was printed while a stream was open and what the upper window has, in a
 /// turn whose text begins at a place of it.
-pub fn cut_to_heard(text: &mut Vec<u8>, start: usize, around: &Around)
+pub fn cut_to_heard(text: &mut Vec<u8>, start: usize, turn: &TurnState)
     requires { HasBegun start text.old.items }
     ensures heard { (next : Next) → drop start text.new.items
-        ≡ definitions.heard_of (place around.now next) (drop start text.old.items) }
+        ≡ definitions.heard_of (place turn.now next) (drop start text.old.items) }
     ensures text { Keeps start text.old.items text.new.items }
 {
-    cut_streams(text, start, around.streams.as_slice());
-    drop_upper(text, start, around.upper);
+    cut_streams(text, start, turn.streams.as_slice());
+    drop_upper(text, start, turn.upper);
 }
 
 /// Cuts from a text what was printed while one of these streams was open.

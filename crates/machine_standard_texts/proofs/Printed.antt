@@ -16,7 +16,7 @@ use Rattle.machine_standard_texts.specs.declared.characters.Halt.{Halt}
 use Rattle.machine_standard_texts.specs.declared.characters.Halt.TheVariants as halts
 use Rattle.machine_standard_texts.specs.Put.{Extends, Prints, PrintsOn}
 
--- What stands behind a text
+-- What is after a text
 
 pub extends_still : (start : ℕ) (x : List ℕ) → HasBegun start x → Extends start x x
 extends_still start x h = record { longer = omega arith; stays = take_all _ x (omega arith); within = h.within }
@@ -211,7 +211,7 @@ pub three_are : (code : ℕ) → is_printed code ≡ true → 2048 ≤ code
     → (224 + code / 4096) ∷ (128 + code / 64 % 64) ∷ (128 + code % 64) ∷ [] ≡ transcript_of code
 three_are code e le = rw (e, le-ltb code 128 (omega arith), le-ltb code 2048 le) refl
 
--- Codes behind codes
+-- Codes after codes
 
 pub on_none : (characters : List ℕ) (h : Option Halt) (x : List ℕ) → PrintsOn characters h h x x []
 on_none characters h x = record {

@@ -21,43 +21,43 @@ use Rattle.machine_standard_texts.specs.declared.pieces.Piece.TheVariants as pie
 use Rattle.machine_standard_texts.specs.declared.pieces.State as declared
 use Rattle.machine_standard_texts.specs.declared.pieces.State.TheVariants as code
 use Rattle.machine_standard_texts.specs.declared.reading.Named.{Named}
-use Rattle.machine_standard_texts.specs.Pieces.{state_of, Comes, behind, ReadsPlain, IsNamedWithin}
+use Rattle.machine_standard_texts.specs.Pieces.{state_of, Comes, joined, ReadsPlain, IsNamedWithin}
 use Rattle.machine_standard_texts.specs.Read.{rest_of}
 
 -- codes, and then more codes
-pub behind_more : (codes more : List ℕ) (r : Result (List ℕ) Cause)
-    → behind codes (r >>= λ rest. Ok (more ++ rest)) ≡ behind (codes ++ more) r
-behind_more codes more (Ok x) = ap (λ y. Ok y) (sym (append_assoc codes more x))
-behind_more codes more (Err f) = refl
+pub joined_more : (codes more : List ℕ) (r : Result (List ℕ) Cause)
+    → joined codes (r >>= λ rest. Ok (more ++ rest)) ≡ joined (codes ++ more) r
+joined_more codes more (Ok x) = ap (λ y. Ok y) (sym (append_assoc codes more x))
+joined_more codes more (Err f) = refl
 
-pub behind_nothing : (r : Result (List ℕ) Cause) → behind [] r ≡ r
-behind_nothing (Ok x) = refl
-behind_nothing (Err f) = refl
+pub joined_nothing : (r : Result (List ℕ) Cause) → joined [] r ≡ r
+joined_nothing (Ok x) = refl
+joined_nothing (Err f) = refl
 
 module _ (alphabets : List ℕ) (expand : ℕ → Result (List ℕ) Cause) where
   -- codes, and then those that are read from a place on
   pub read_from : List ℕ → ℕ → List ℕ → ReadingState → ℕ → Result (List ℕ) Cause
   read_from bytes words got state place =
-      behind got (read_codes alphabets expand state (drop place (words_of words bytes)))
+      joined got (read_codes alphabets expand state (drop place (words_of words bytes)))
 
   codes_step : (s : ReadingState) (zs got more : List ℕ) (i : ℕ) → i < length zs
       → codes_of alphabets expand s (get_or zs i 0) ≡ Ok more
-      → behind got (read_codes alphabets expand s (drop i zs))
-      ≡ behind (got ++ more) (read_codes alphabets expand (next s (get_or zs i 0)) (drop (i + 1) zs))
+      → joined got (read_codes alphabets expand s (drop i zs))
+      ≡ joined (got ++ more) (read_codes alphabets expand (next s (get_or zs i 0)) (drop (i + 1) zs))
   unfolding read_codes
   codes_step s zs got more i lt e = rw (drop-cons zs i 0, e, add-one)
-      (behind_more got more (read_codes alphabets expand (next s (get_or zs i 0)) (drop (suc i) zs)))
+      (joined_more got more (read_codes alphabets expand (next s (get_or zs i 0)) (drop (suc i) zs)))
 
   codes_named : (s : ReadingState) (zs got : List ℕ) (i : ℕ) (r : Result (List ℕ) Cause) → i < length zs
       → codes_of alphabets expand s (get_or zs i 0) ≡ r
-      → behind got (read_codes alphabets expand s (drop i zs))
-      ≡ behind got (r >>= λ more. behind more
+      → joined got (read_codes alphabets expand s (drop i zs))
+      ≡ joined got (r >>= λ more. joined more
       (read_codes alphabets expand (next s (get_or zs i 0)) (drop (i + 1) zs)))
   unfolding read_codes
   codes_named s zs got i r lt e = rw (drop-cons zs i 0, e, add-one) refl
 
   codes_end : (s : ReadingState) (zs got : List ℕ) (i : ℕ) → length zs ≤ i
-      → behind got (read_codes alphabets expand s (drop i zs)) ≡ Ok got
+      → joined got (read_codes alphabets expand s (drop i zs)) ≡ Ok got
   unfolding read_codes
   codes_end s zs got i le = rw (drop_all i zs le) (ap (λ y. Ok y) (append-nil got))
 
@@ -72,7 +72,7 @@ module _ (alphabets : List ℕ) (expand : ℕ → Result (List ℕ) Cause) where
       let same : z ≡ get_or zs place 0 = is ∙ z_character-is words bytes place lt in
       codes_step state zs got more place (omega (arith, length-words_of words bytes))
       (ap (codes_of alphabets expand state) (sym same) ∙ e)
-      ∙ ap (λ s. behind (got ++ more) (read_codes alphabets expand s (drop (place + 1) zs)))
+      ∙ ap (λ s. joined (got ++ more) (read_codes alphabets expand s (drop (place + 1) zs)))
       (ap (next state) (sym same) ∙ sym moved)
 
   -- one that names an abbreviation
@@ -80,7 +80,7 @@ module _ (alphabets : List ℕ) (expand : ℕ → Result (List ℕ) Cause) where
       → z ≡ z_character_at bytes place → place < 3 * words → codes_of alphabets expand state z ≡ expand number
       → next state z ≡ Lower
       → read_from bytes words got state place
-      ≡ behind got (expand number >>= λ more. behind more
+      ≡ joined got (expand number >>= λ more. joined more
       (read_codes alphabets expand Lower (drop (place + 1) (words_of words bytes))))
   unfolding read_from
   read_named bytes words z number got state place is lt e lower =
@@ -88,7 +88,7 @@ module _ (alphabets : List ℕ) (expand : ℕ → Result (List ℕ) Cause) where
       let same : z ≡ get_or zs place 0 = is ∙ z_character-is words bytes place lt in
       codes_named state zs got place (expand number) (omega (arith, length-words_of words bytes))
       (ap (codes_of alphabets expand state) (sym same) ∙ e)
-      ∙ ap (λ s. behind got (expand number >>= λ more. behind more
+      ∙ ap (λ s. joined got (expand number >>= λ more. joined more
       (read_codes alphabets expand s (drop (place + 1) zs)))) (ap (next state) (sym same) ∙ lower)
 
   pub read_end : (bytes : List ℕ) (words : ℕ) (got : List ℕ) (state : ReadingState) (place : ℕ) → 3 * words ≤ place
@@ -100,7 +100,7 @@ module _ (alphabets : List ℕ) (expand : ℕ → Result (List ℕ) Cause) where
   pub read_begins : (bytes : List ℕ) (words place : ℕ)
       → read_from bytes words [] Lower place ≡ read_codes alphabets expand Lower (drop place (words_of words bytes))
   unfolding read_from
-  read_begins bytes words place = behind_nothing (read_codes alphabets expand Lower (drop place (words_of words bytes)))
+  read_begins bytes words place = joined_nothing (read_codes alphabets expand Lower (drop place (words_of words bytes)))
 
 -- What a piece says
 
@@ -116,7 +116,7 @@ pub named : (expand : ℕ → Result (List ℕ) Cause) (read : Result (List ℕ)
     → found ≡ pieces.Abbreviation number → Comes expand read found → (read ≡ expand number) × (number < 96)
 named expand read found number is h = subst (λ o. Comes expand read o) is h
 
--- an abbreviation stands behind its first Z-character, and no shift is left behind its second
+-- an abbreviation is after its first Z-character, and no shift is left after its second
 
 is_ok : (a b : Bool) (x y z : List ℕ) (f : Cause)
     → (if a then Ok x else (if b then Ok y else Ok z)) ≡ Err f → ⊥
@@ -181,10 +181,10 @@ abbrev pub IsNumbered : Option Named → Type 0
 IsNumbered None = Unit {0}
 IsNumbered (Some named) = named.number < 96
 
--- codes behind codes
-pub behind_behind : (codes more : List ℕ) (r : Result (List ℕ) Cause)
-    → behind codes (behind more r) ≡ behind (codes ++ more) r
-behind_behind codes more r = behind_more codes more r
+-- codes after codes
+pub joined_behind : (codes more : List ℕ) (r : Result (List ℕ) Cause)
+    → joined codes (joined more r) ≡ joined (codes ++ more) r
+joined_behind codes more r = joined_more codes more r
 
 module _ (alphabets story : List ℕ) (number : ℕ) where
   pub no_table : (fault : TextFault) → fault ≡ faults.Abbreviation → has_abbreviations story ≡ false
@@ -229,32 +229,32 @@ module _ (alphabets story : List ℕ) (number : ℕ) where
 
 module _ (alphabets : List ℕ) (expand : ℕ → Result (List ℕ) Cause) (zs : List ℕ) where
   pub plain_rest : (from : ℕ) (o : Option Named) (codes : List ℕ) → ReadsPlain alphabets zs from o codes
-      → read_codes alphabets expand Lower (drop from zs) ≡ behind codes (rest_of alphabets expand zs o)
+      → read_codes alphabets expand Lower (drop from zs) ≡ joined codes (rest_of alphabets expand zs o)
   plain_rest from None codes h = h expand ∙ ap (λ l. Ok l) (sym (append-nil codes))
   plain_rest from (Some named) codes h = h expand
 
-  -- an abbreviation that was read, and what stands behind it
+  -- an abbreviation that was read, and what is after it
   pub rest_on : (named : Named) (o : Option Named) (got first second : List ℕ) (whole : Result (List ℕ) Cause)
-      → behind got (rest_of alphabets expand zs (Some named)) ≡ whole → expand named.number ≡ Ok first
+      → joined got (rest_of alphabets expand zs (Some named)) ≡ whole → expand named.number ≡ Ok first
       → ReadsPlain alphabets zs named.after o second
-      → behind (got ++ (first ++ second)) (rest_of alphabets expand zs o) ≡ whole
+      → joined (got ++ (first ++ second)) (rest_of alphabets expand zs o) ≡ whole
   rest_on named o got first second whole so_far e h =
-      sym (behind_behind got (first ++ second) (rest_of alphabets expand zs o))
-      ∙ sym (ap (behind got) (ap (λ r. r >>= λ more. behind more
+      sym (joined_behind got (first ++ second) (rest_of alphabets expand zs o))
+      ∙ sym (ap (joined got) (ap (λ r. r >>= λ more. joined more
       (read_codes alphabets expand Lower (drop named.after zs))) e
-      ∙ ap (behind first) (plain_rest named.after o second h)
-      ∙ behind_behind first second (rest_of alphabets expand zs o)))
+      ∙ ap (joined first) (plain_rest named.after o second h)
+      ∙ joined_behind first second (rest_of alphabets expand zs o)))
       ∙ so_far
 
   pub rest_fails : (fault : TextFault) (named : Named) (got : List ℕ) (whole : Result (List ℕ) Cause)
-      → behind got (rest_of alphabets expand zs (Some named)) ≡ whole → FailsText fault (expand named.number)
+      → joined got (rest_of alphabets expand zs (Some named)) ≡ whole → FailsText fault (expand named.number)
       → FailsText fault whole
   rest_fails fault named got whole so_far h = subst (FailsText fault) so_far
       (fails_bind fault _ (λ more. Ok (got ++ more))
-      (fails_bind fault (expand named.number) (λ more. behind more
+      (fails_bind fault (expand named.number) (λ more. joined more
       (read_codes alphabets expand Lower (drop named.after zs))) h))
 
-pub rest_done : (got : List ℕ) (whole : Result (List ℕ) Cause) → behind got (Ok []) ≡ whole → whole ≡ Ok got
+pub rest_done : (got : List ℕ) (whole : Result (List ℕ) Cause) → joined got (Ok []) ≡ whole → whole ≡ Ok got
 rest_done got whole e = sym e ∙ ap (λ l. Ok l) (append-nil got)
 
 pub numbered : (from end : ℕ) (o : Option Named) → IsNamedWithin from end o → IsNumbered o
@@ -290,7 +290,7 @@ module _ (alphabets story bytes : List ℕ) (at after : ℕ) (zs : List ℕ) (fr
       → codes_at alphabets story at ≡ Ok (codes ++ more, after)
   whole_rest first codes more h e = whole
       ∙ ap (λ r. r >>= λ codes. Ok (codes, after))
-      (h (abbreviation_codes alphabets story) ∙ ap (behind codes) e)
+      (h (abbreviation_codes alphabets story) ∙ ap (joined codes) e)
 
   pub whole_fails : (fault : TextFault) (first : Named) (codes : List ℕ) → ReadsPlain alphabets zs 0 (Some first) codes
       → FailsText fault (rest_of alphabets (abbreviation_codes alphabets story) zs (Some first))

@@ -36,17 +36,17 @@ Comes expand read (pieces.Code c) = read ≡ Ok (c ∷ [])
 Comes expand read (pieces.Abbreviation number) = (read ≡ expand number) × (number < most_abbreviations)
 
 -- codes, and then those that are still read
-abbrev pub behind : List ℕ → Result (List ℕ) Cause → Result (List ℕ) Cause
-behind codes read = read >>= λ more. Ok (codes ++ more)
+abbrev pub joined : List ℕ → Result (List ℕ) Cause → Result (List ℕ) Cause
+joined codes read = read >>= λ more. Ok (codes ++ more)
 
--- what Z-characters come to from a place on: these codes, and then an abbreviation and what stands behind it
+-- what Z-characters come to from a place on: these codes, and then an abbreviation and what is after it
 abbrev pub ReadsPlain : List ℕ → List ℕ → ℕ → Option Named → List ℕ → Type 0
 ReadsPlain alphabets zs from None codes = (expand : ℕ → Result (List ℕ) Cause)
     → read_codes alphabets expand Lower (drop from zs) ≡ Ok codes
 ReadsPlain alphabets zs from (Some named) codes = (expand : ℕ → Result (List ℕ) Cause)
     → read_codes alphabets expand Lower (drop from zs)
-    ≡ behind codes (expand named.number >>= λ more.
-    behind more (read_codes alphabets expand Lower (drop named.after zs)))
+    ≡ joined codes (expand named.number >>= λ more.
+    joined more (read_codes alphabets expand Lower (drop named.after zs)))
 
 -- an abbreviation is one of 96, and is named between a place and the end
 abbrev pub IsNamedWithin : ℕ → ℕ → Option Named → Type 0

@@ -8,7 +8,7 @@ use Rattle.zcore_standard.specs.Characters.{print_codes}
 use Rattle.machine_standard_texts.specs.declared.characters.Halt.{Halt}
 use Rattle.machine_standard_texts.specs.declared.characters.Halt.TheVariants as halts
 
--- a text stands behind what was there, and the turn has printed no more than it may
+-- a text is after what was there, and the turn has printed no more than it may
 pub record Extends (start : ℕ) (was now : List ℕ) : Type 0 where
   pub longer : length was ≤ length now
   pub stays : take (length was) now ≡ was
@@ -24,7 +24,7 @@ PrintsBy (Some halts.Memory) was now f = Unit {0}
 pub record Prints (halted : Option Halt) (was now : List ℕ) (f : State → Out (Unit {0})) : Type 0 where
   pub by : PrintsBy halted was now f
 
--- behind codes that were printed, up to the end or to where they halted, so were these
+-- after codes that were printed, up to the end or to where they halted, so were these
 pub record PrintsOn (characters : List ℕ) (before after : Option Halt) (was now codes : List ℕ) : Type 0 where
   pub on : (first : List ℕ) (printed : List ℕ) → Prints before first was (print_codes characters printed)
       → Prints after first now (print_codes characters (printed ++ codes))

@@ -15,7 +15,7 @@ use Rattle.zcore.specs.declared.place.Fault.TheVariants as faults
 use Rattle.zcore.specs.declared.place.Place.TheVariants as places
 use Rattle.machine_standard_texts.specs.declared.characters.Halt.{Halt}
 use Rattle.machine_standard_texts.specs.declared.reading.Named.{Named}
-use Rattle.machine_standard_texts.specs.Pieces.{behind}
+use Rattle.machine_standard_texts.specs.Pieces.{joined}
 use Rattle.machine_standard_texts.specs.Put.{PrintsOn}
 
 -- codes were read and printed, or reading fails as the definition does
@@ -25,11 +25,11 @@ GivesCodes characters before after was now (Ok x) read = (codes : List ℕ) × (
     × PrintsOn characters before after was now codes
 GivesCodes characters before after was now (Err fault) read = FailsText fault read
 
--- what is left of a text: an abbreviation, and what stands behind it
+-- what is left of a text: an abbreviation, and what is after it
 abbrev pub rest_of : List ℕ → (ℕ → Result (List ℕ) Cause) → List ℕ → Option Named → Result (List ℕ) Cause
 rest_of alphabets expand zs None = Ok []
 rest_of alphabets expand zs (Some named) = expand named.number
-    >>= λ more. behind more (read_codes alphabets expand Lower (drop named.after zs))
+    >>= λ more. joined more (read_codes alphabets expand Lower (drop named.after zs))
 
 -- a text was read and printed, and the address after it is answered; or it could not be read, and nothing stays
 abbrev pub GivesText : List ℕ → ℕ → List ℕ → List ℕ → Result (ℕ × Option Halt) TextFault

@@ -21,7 +21,7 @@ use zcore::TextFault;
 pub(crate) struct Named {
     /// Its number, 0 to 95.
     number: usize,
-    /// The place of the Z-character behind it.
+    /// The place of the Z-character after it.
     after: usize,
 }
 
@@ -96,7 +96,7 @@ fn put_abbreviation(
     }
 }
 
-/// Adds what an abbreviation prints, and all that stands behind it in a text.
+/// Adds what an abbreviation prints, and all that is after it in a text.
 fn put_rest(
     text: &mut Vec<u8>,
     start: usize,

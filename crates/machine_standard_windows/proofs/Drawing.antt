@@ -22,9 +22,9 @@ use Rattle.machine_frames.specs.Went.{Told}
 use Rattle.machine_frames.specs.declared.end.End.TheVariants as ends
 use Rattle.machine_frames.proofs.Steps.{goes_on_still, told_halt}
 use Rattle.machine_opcodes.specs.Printed.{HasBegun}
-use Rattle.machine_standard_windows.specs.Around.{place, Keeps}
+use Rattle.machine_standard_windows.specs.TurnState.{place, Keeps}
 use Rattle.machine_standard_windows.specs.Drawn.{Redraws, Bounds, Way, Apart, place_at}
-use Rattle.machine_standard_windows.specs.declared.around.Around.{Around}
+use Rattle.machine_standard_windows.specs.declared.turn_state.TurnState.{TurnState}
 use Rattle.machine_standard_windows.proofs.TurnTexts.{text_cut, text_behind}
 use Rattle.machine_standard_windows.proofs.TextLines.{lines_apart}
 
@@ -374,7 +374,7 @@ set_apart_is (Err f) at n m before after x t y e size long items = tt
 
 -- A part that changes the text and the place alone
 
-pub redraws_told : (s : Recording Contents) (start : ℕ) (old new : Around) (x y : List ℕ) (f : Here → State → Out Here)
+pub redraws_told : (s : Recording Contents) (start : ℕ) (old new : TurnState) (x y : List ℕ) (f : Here → State → Out Here)
     (next : Next) → IsSound s.store → Redraws start old new x y f
     → Told (Ok (place new next)) s (drop start x) s (drop start y) (f (place old next))
 redraws_told s start old new x y f next sound r = record {

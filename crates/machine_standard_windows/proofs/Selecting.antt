@@ -20,9 +20,9 @@ use Rattle.machine_frames.specs.Went.{Told}
 use Rattle.machine_frames.specs.declared.end.End.{End}
 use Rattle.machine_frames.proofs.Steps.{goes_on_still, told_no_further, told_sound, told_still, told_then}
 use Rattle.machine_decoding.specs.Seen.{seen}
-use Rattle.machine_standard_windows.specs.Around.{place}
+use Rattle.machine_standard_windows.specs.TurnState.{place}
 use Rattle.machine_standard_windows.specs.Drawn.{Redraws}
-use Rattle.machine_standard_windows.specs.declared.around.Around.{Around}
+use Rattle.machine_standard_windows.specs.declared.turn_state.TurnState.{TurnState}
 use Rattle.machine_standard_windows.proofs.TurnTexts.{told_seen_err}
 
 -- Open streams
@@ -57,40 +57,40 @@ settled_shut : (here : Here) (s : State) → length here.streams ≡ 0 → settl
 unfolding settled
 settled_shut here s e = ap (λ l. settled_in l here s) (no_streams here.streams e)
 
-pub settles_open : (start : ℕ) (around : Around) (x : List ℕ) → length around.streams.items ≢ 0
-    → Redraws start around around x x settled
-settles_open start around x some next s =
-    settled_open (place around next) around.streams.items (record s { text = drop start x }) refl some
+pub settles_open : (start : ℕ) (turn : TurnState) (x : List ℕ) → length turn.streams.items ≢ 0
+    → Redraws start turn turn x x settled
+settles_open start turn x some next s =
+    settled_open (place turn next) turn.streams.items (record s { text = drop start x }) refl some
 
-pub settles_lower : (start : ℕ) (around : Around) (x y : List ℕ) → length around.streams.items ≡ 0
-    → around.standard_state.window ≡ 0 → drop start y ≡ lower around.upper (drop start x)
-    → Redraws start around (record around { upper = None }) x y settled
-settles_lower start around x y none e cut next s =
-    let first = settled_shut (place around next) (record s { text = drop start x }) none in
-    let second : settled_in [] (place around next) (record s { text = drop start x })
-    ≡ done (record (place around next) { upper = None }) (record s { text = lower around.upper (drop start x) }) =
-    rw (eq-eqb around.standard_state.window 0 e) refl in
-    first ∙ second ∙ ap (λ l. done (record (place around next) { upper = None }) (record s { text = l })) (sym cut)
+pub settles_lower : (start : ℕ) (turn : TurnState) (x y : List ℕ) → length turn.streams.items ≡ 0
+    → turn.standard_state.window ≡ 0 → drop start y ≡ lower turn.upper (drop start x)
+    → Redraws start turn (record turn { upper = None }) x y settled
+settles_lower start turn x y none e cut next s =
+    let first = settled_shut (place turn next) (record s { text = drop start x }) none in
+    let second : settled_in [] (place turn next) (record s { text = drop start x })
+    ≡ done (record (place turn next) { upper = None }) (record s { text = lower turn.upper (drop start x) }) =
+    rw (eq-eqb turn.standard_state.window 0 e) refl in
+    first ∙ second ∙ ap (λ l. done (record (place turn next) { upper = None }) (record s { text = l })) (sym cut)
 
-pub settles_begun : (start from : ℕ) (fresh : Upper) (around : Around) (x : List ℕ) → length around.streams.items ≡ 0
-    → around.standard_state.window ≢ 0 → around.upper ≡ None → fresh ≡ begun_at from → from ≡ length (drop start x)
-    → Redraws start around (record around { upper = Some fresh }) x x settled
-settles_begun start from fresh around x none not e new long next s =
-    let first = settled_shut (place around next) (record s { text = drop start x }) none in
-    let second : settled_in [] (place around next) (record s { text = drop start x })
-    ≡ done (record (place around next) { upper = Some fresh }) (record s { text = drop start x }) =
-    rw (ne_eqb around.standard_state.window 0 not, e, new, long) refl in
+pub settles_begun : (start from : ℕ) (fresh : Upper) (turn : TurnState) (x : List ℕ) → length turn.streams.items ≡ 0
+    → turn.standard_state.window ≢ 0 → turn.upper ≡ None → fresh ≡ begun_at from → from ≡ length (drop start x)
+    → Redraws start turn (record turn { upper = Some fresh }) x x settled
+settles_begun start from fresh turn x none not e new long next s =
+    let first = settled_shut (place turn next) (record s { text = drop start x }) none in
+    let second : settled_in [] (place turn next) (record s { text = drop start x })
+    ≡ done (record (place turn next) { upper = Some fresh }) (record s { text = drop start x }) =
+    rw (ne_eqb turn.standard_state.window 0 not, e, new, long) refl in
     first ∙ second
 
-pub settles_on : (start : ℕ) (around : Around) (upper : Upper) (x : List ℕ) → length around.streams.items ≡ 0
-    → around.standard_state.window ≢ 0 → around.upper ≡ Some upper → Redraws start around around x x settled
-settles_on start around upper x none not e next s =
-    let first = settled_shut (place around next) (record s { text = drop start x }) none in
-    let second : settled_in [] (place around next) (record s { text = drop start x })
-    ≡ done (record (place around next) { upper = Some upper }) (record s { text = drop start x }) =
-    rw (ne_eqb around.standard_state.window 0 not, e) refl in
+pub settles_on : (start : ℕ) (turn : TurnState) (upper : Upper) (x : List ℕ) → length turn.streams.items ≡ 0
+    → turn.standard_state.window ≢ 0 → turn.upper ≡ Some upper → Redraws start turn turn x x settled
+settles_on start turn upper x none not e next s =
+    let first = settled_shut (place turn next) (record s { text = drop start x }) none in
+    let second : settled_in [] (place turn next) (record s { text = drop start x })
+    ≡ done (record (place turn next) { upper = Some upper }) (record s { text = drop start x }) =
+    rw (ne_eqb turn.standard_state.window 0 not, e) refl in
     first ∙ second
-    ∙ ap (λ u. done (record (place around next) { upper = u }) (record s { text = drop start x })) (sym e)
+    ∙ ap (λ u. done (record (place turn next) { upper = u }) (record s { text = drop start x })) (sym e)
 
 -- set_window
 
@@ -144,31 +144,31 @@ cursor_stopped view r here upper row column h w = told_seen_err view r h (told_n
 
 -- Erasing
 
-pub erases_none : (start : ℕ) (around : Around) (x : List ℕ)
-    → ((next : Next) → None ≡ open_upper (place around next)) → Redraws start around around x x erase_upper
+pub erases_none : (start : ℕ) (turn : TurnState) (x : List ℕ)
+    → ((next : Next) → None ≡ open_upper (place turn next)) → Redraws start turn turn x x erase_upper
 unfolding erase_upper
-erases_none start around x e next s =
-    ap (λ u. erased_in u (place around next) (record s { text = drop start x })) (sym (e next))
+erases_none start turn x e next s =
+    ap (λ u. erased_in u (place turn next) (record s { text = drop start x })) (sym (e next))
 
-pub erases_some : (start : ℕ) (around : Around) (upper fresh : Upper) (x y : List ℕ)
-    → ((next : Next) → Some upper ≡ open_upper (place around next)) → fresh ≡ begun_at upper.from
+pub erases_some : (start : ℕ) (turn : TurnState) (upper fresh : Upper) (x y : List ℕ)
+    → ((next : Next) → Some upper ≡ open_upper (place turn next)) → fresh ≡ begun_at upper.from
     → drop start y ≡ lower (Some upper) (drop start x)
-    → Redraws start around (record around { upper = Some fresh }) x y erase_upper
+    → Redraws start turn (record turn { upper = Some fresh }) x y erase_upper
 unfolding erase_upper
-erases_some start around upper fresh x y e new cut next s =
-    ap (λ u. erased_in u (place around next) (record s { text = drop start x })) (sym (e next))
-    ∙ ap (λ l. done (record (place around next) { upper = Some (begun_at upper.from) }) (record s { text = l })) (sym cut)
-    ∙ ap (λ u. done (record (place around next) { upper = Some u }) (record s { text = drop start y })) (sym new)
+erases_some start turn upper fresh x y e new cut next s =
+    ap (λ u. erased_in u (place turn next) (record s { text = drop start x })) (sym (e next))
+    ∙ ap (λ l. done (record (place turn next) { upper = Some (begun_at upper.from) }) (record s { text = l })) (sym cut)
+    ∙ ap (λ u. done (record (place turn next) { upper = Some u }) (record s { text = drop start y })) (sym new)
 
 -- by another definition of the same
-pub redraws_by : (start : ℕ) (old new : Around) (x y : List ℕ) (f g : Here → State → Out Here)
+pub redraws_by : (start : ℕ) (old new : TurnState) (x y : List ℕ) (f g : Here → State → Out Here)
     → ((here : Here) → g here ≡ f here) → Redraws start old new x y f → Redraws start old new x y g
 redraws_by start old new x y f g e r next s =
     ap (λ k. k (record s { text = drop start x })) (e (place old next)) ∙ r next s
 
-pub redraws_nothing : (start : ℕ) (around : Around) (x : List ℕ) (g : Here → State → Out Here)
-    → ((here : Here) → g here ≡ done here) → Redraws start around around x x g
-redraws_nothing start around x g e next s = ap (λ k. k (record s { text = drop start x })) (e (place around next))
+pub redraws_nothing : (start : ℕ) (turn : TurnState) (x : List ℕ) (g : Here → State → Out Here)
+    → ((here : Here) → g here ≡ done here) → Redraws start turn turn x x g
+redraws_nothing start turn x g e next s = ap (λ k. k (record s { text = drop start x })) (e (place turn next))
 
 pub erases_upper : (window : ℕ) → (window ≡ 1) ⊎ (window ≡ 65534)
     → (here : Here) → erase_window here window ≡ erase_upper here

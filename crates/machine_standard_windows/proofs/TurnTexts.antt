@@ -14,7 +14,7 @@ use Rattle.machine_frames.specs.Went.{Told}
 use Rattle.machine_frames.specs.declared.end.End.{End}
 use Rattle.machine_opcodes.specs.Printed.{HasBegun, Grew}
 use Rattle.machine_decoding.specs.Seen.{seen}
-use Rattle.machine_standard_windows.specs.Around.{Keeps}
+use Rattle.machine_standard_windows.specs.TurnState.{Keeps}
 
 pub keeps_still : (start : ℕ) (x : List ℕ) → HasBegun start x → Keeps start x x
 keeps_still start x h = record { front = refl; begun = h.begun; within = h.within }

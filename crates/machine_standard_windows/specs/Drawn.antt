@@ -5,8 +5,8 @@ use Rattle.zcore.specs.State.{State, Out, done}
 use Rattle.zcore_standard.specs.Place.{Here}
 use Rattle.zcore_standard.specs.declared.windows.Upper.{Upper}
 use Rattle.zcore_standard.specs.Windows.{is_new_line, row_of, with_cursor, with_new_line, without_spaces}
-use Rattle.machine_standard_windows.specs.Around.{place}
-use Rattle.machine_standard_windows.specs.declared.around.Around.{Around}
+use Rattle.machine_standard_windows.specs.TurnState.{place}
+use Rattle.machine_standard_windows.specs.declared.turn_state.TurnState.{TurnState}
 
 abbrev pub is_in_line : ℕ → Bool
 is_in_line byte = not (is_new_line byte)
@@ -16,7 +16,7 @@ abbrev pub place_at : ℕ → ℕ → List ℕ → ℕ
 place_at start from text = start + min from (length text - start)
 
 -- a part changes the text of the turn, and what goes with its place, as a definition does
-abbrev pub Redraws : ℕ → Around → Around → List ℕ → List ℕ → (Here → State → Out Here) → Type 0
+abbrev pub Redraws : ℕ → TurnState → TurnState → List ℕ → List ℕ → (Here → State → Out Here) → Type 0
 Redraws start old new was now f =
     (next : Next) (s : State) → f (place old next) (record s { text = drop start was })
     ≡ done (place new next) (record s { text = drop start now })

@@ -1,2 +1,2 @@
-pub mod Around
+pub mod TurnState
 pub mod Drawn

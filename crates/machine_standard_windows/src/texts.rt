@@ -2,7 +2,7 @@
 
 ghost use Rattle.std.specs.Prelude.{◌≡◌, take, drop};
 ghost use Rattle.machine_opcodes.specs.Printed.{HasBegun};
-ghost use Rattle.machine_standard_windows.specs.Around.{Keeps};
+ghost use Rattle.machine_standard_windows.specs.TurnState.{Keeps};
 
 /// Cuts a text after so many bytes of the turn, if there are more.
 pub fn cut(text: &mut Vec<u8>, start: usize, from: u32)

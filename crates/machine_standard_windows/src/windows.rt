@@ -6,13 +6,13 @@ ghost use Rattle.zcore_standard.specs.Windows as definitions;
 ghost use Rattle.machine_frames.specs.States.{IsSound};
 ghost use Rattle.machine_opcodes.specs.Printed.{HasBegun, ToldFrom};
 ghost use Rattle.machine_decoding.specs.Seen.{seen};
-ghost use Rattle.machine_standard_windows.specs.Around.{place, Keeps};
+ghost use Rattle.machine_standard_windows.specs.TurnState.{place, Keeps};
 ghost use Rattle.machine_standard_windows.specs.Drawn as drawings;
 ghost use Rattle.machine_standard_windows.specs.Drawn.{Redraws, Bounds, Way, Apart};
 
-use crate::around::{Around, LOWER, UPPER};
 use crate::lines::{bare_length, count_new_lines, missing_lines, width};
 use crate::texts::cut;
+use crate::turn_state::{LOWER, TurnState, UPPER};
 use journal::Recorded;
 use machine_frames::{End, Store};
 use std::alloc::AllocError;
@@ -41,75 +41,75 @@ pub fn set_window(
     store: &mut Recorded<Store>,
     text: &mut Vec<u8>,
     start: usize,
-    around: &mut Around,
+    turn: &mut TurnState,
     next: Next,
     window: u16,
 ) -> Result<Next, End>
     requires sound { IsSound store.old.store }
     requires text { HasBegun start text.old.items }
-    ensures told { ToldFrom start (seen (place around.new) result) store.old text.old.items
-        store.new text.new.items (definitions.set_window (place around.old next) window) }
+    ensures told { ToldFrom start (seen (place turn.new) result) store.old text.old.items
+        store.new text.new.items (definitions.set_window (place turn.old next) window) }
     ensures text { Keeps start text.old.items text.new.items }
-    ensures around { OnErr result (around.new ≡ around.old) }
+    ensures turn { OnErr result (turn.new ≡ turn.old) }
 {
     if window == LOWER {
-        select_lower(text, start, around);
+        select_lower(text, start, turn);
         return Ok(next);
     }
-    match open_upper(around) {
+    match open_upper(turn) {
         None => {
-            begin_upper(text, start, around);
+            begin_upper(text, start, turn);
             Ok(next)
         }
         Some(upper) => {
             let moved = put_cursor(store, text, start, upper, 1, 1)?;
-            around.standard_state.window = UPPER;
-            around.upper = Some(moved);
+            turn.standard_state.window = UPPER;
+            turn.upper = Some(moved);
             Ok(next)
         }
     }
 }
 
 /// Selects the lower window.
-fn select_lower(text: &mut Vec<u8>, start: usize, around: &mut Around)
+fn select_lower(text: &mut Vec<u8>, start: usize, turn: &mut TurnState)
     requires { HasBegun start text.old.items }
-    ensures redraws { Redraws start around.old around.new text.old.items text.new.items
+    ensures redraws { Redraws start turn.old turn.new text.old.items text.new.items
         (λ here. definitions.set_window here 0) }
     ensures text { Keeps start text.old.items text.new.items }
 {
-    around.standard_state.window = LOWER;
-    settle(text, start, around);
+    turn.standard_state.window = LOWER;
+    settle(text, start, turn);
 }
 
 /// Selects the upper window where it is not there, or a stream is open.
-fn begin_upper(text: &mut Vec<u8>, start: usize, around: &mut Around)
+fn begin_upper(text: &mut Vec<u8>, start: usize, turn: &mut TurnState)
     requires { HasBegun start text.old.items }
-    ensures redraws { Redraws start around.old around.new text.old.items text.new.items
+    ensures redraws { Redraws start turn.old turn.new text.old.items text.new.items
         (λ here. definitions.settled (definitions.with_window here 1)) }
     ensures text { Keeps start text.old.items text.new.items }
 {
-    around.standard_state.window = UPPER;
-    settle(text, start, around);
+    turn.standard_state.window = UPPER;
+    settle(text, start, turn);
 }
 
 /// Where no stream is open, the upper window is there exactly if it is selected: it begins, or it
 /// is dropped with its text.
-pub fn settle(text: &mut Vec<u8>, start: usize, around: &mut Around)
+pub fn settle(text: &mut Vec<u8>, start: usize, turn: &mut TurnState)
     requires { HasBegun start text.old.items }
-    ensures redraws { Redraws start around.old around.new text.old.items text.new.items
+    ensures redraws { Redraws start turn.old turn.new text.old.items text.new.items
         definitions.settled }
     ensures text { Keeps start text.old.items text.new.items }
 {
-    if around.streams.as_slice().len() != 0 {
+    if turn.streams.as_slice().len() != 0 {
         return;
     }
-    if around.standard_state.window == LOWER {
-        drop_upper(text, start, around.upper);
-        around.upper = None;
+    if turn.standard_state.window == LOWER {
+        drop_upper(text, start, turn.upper);
+        turn.upper = None;
         return;
     }
-    match around.upper {
-        None => around.upper = Some(begun_at((text.len() - start) as u32)),
+    match turn.upper {
+        None => turn.upper = Some(begun_at((text.len() - start) as u32)),
         Some(_) => {}
     }
 }
@@ -139,13 +139,13 @@ fn begun_at(from: u32) -> Upper
 }
 
 /// The upper window, where it is there and no stream is open.
-fn open_upper(around: &Around) -> Option<Upper>
-    ensures { (next : Next) → result ≡ definitions.open_upper (place around.now next) }
+fn open_upper(turn: &TurnState) -> Option<Upper>
+    ensures { (next : Next) → result ≡ definitions.open_upper (place turn.now next) }
 {
-    if around.streams.as_slice().len() != 0 {
+    if turn.streams.as_slice().len() != 0 {
         return None;
     }
-    around.upper
+    turn.upper
 }
 
 /// Sets the cursor of the upper window: `set_cursor`.
@@ -157,26 +157,26 @@ pub fn set_cursor(
     store: &mut Recorded<Store>,
     text: &mut Vec<u8>,
     start: usize,
-    around: &mut Around,
+    turn: &mut TurnState,
     next: Next,
     row: u16,
     column: u16,
 ) -> Result<Next, End>
     requires sound { IsSound store.old.store }
     requires text { HasBegun start text.old.items }
-    ensures told { ToldFrom start (seen (place around.new) result) store.old text.old.items
-        store.new text.new.items (definitions.set_cursor (place around.old next) row column) }
+    ensures told { ToldFrom start (seen (place turn.new) result) store.old text.old.items
+        store.new text.new.items (definitions.set_cursor (place turn.old next) row column) }
     ensures text { Keeps start text.old.items text.new.items }
-    ensures around { OnErr result (around.new ≡ around.old) }
+    ensures turn { OnErr result (turn.new ≡ turn.old) }
 {
     if !are_places(row, column) {
         return Ok(next);
     }
-    match open_upper(around) {
+    match open_upper(turn) {
         None => Ok(next),
         Some(upper) => {
             let moved = put_cursor(store, text, start, upper, row, column)?;
-            around.upper = Some(moved);
+            turn.upper = Some(moved);
             Ok(next)
         }
     }
@@ -278,7 +278,7 @@ fn row_of(upper: Upper, text: &[u8], start: usize) -> usize
     upper.row as usize + count_new_lines(&text[at..])
 }
 
-/// The newlines and the spaces that take the cursor to a column, behind a text that has no spaces
+/// The newlines and the spaces that take the cursor to a column, after a text that has no spaces
 /// at its end.
 fn way_to(is_in_row: bool, column: usize, bare: &[u8]) -> (usize, usize)
     requires { 1 ≤ column }
@@ -311,45 +311,45 @@ fn add_blanks(text: &mut Vec<u8>, lines: usize, spaces: usize) -> Result<(), All
 
 /// Erases windows: `erase_window`. -1 also selects the lower one. While a stream is open, no text is
 /// erased.
-pub fn erase_window(text: &mut Vec<u8>, start: usize, around: &mut Around, window: u16)
+pub fn erase_window(text: &mut Vec<u8>, start: usize, turn: &mut TurnState, window: u16)
     requires { HasBegun start text.old.items }
-    ensures redraws { Redraws start around.old around.new text.old.items text.new.items
+    ensures redraws { Redraws start turn.old turn.new text.old.items text.new.items
         (λ here. definitions.erase_window here window) }
     ensures text { Keeps start text.old.items text.new.items }
 {
     match window {
-        UPPER => erase_upper(text, start, around),
-        BOTH => erase_upper(text, start, around),
-        UNSPLIT => select_lower(text, start, around),
+        UPPER => erase_upper(text, start, turn),
+        BOTH => erase_upper(text, start, turn),
+        UNSPLIT => select_lower(text, start, turn),
         _ => {}
     }
 }
 
 /// Sets how many lines the upper window has: `split_window`. Where it has none, it is erased.
-pub fn split_window(text: &mut Vec<u8>, start: usize, around: &mut Around, lines: u16)
+pub fn split_window(text: &mut Vec<u8>, start: usize, turn: &mut TurnState, lines: u16)
     requires { HasBegun start text.old.items }
-    ensures redraws { Redraws start around.old around.new text.old.items text.new.items
+    ensures redraws { Redraws start turn.old turn.new text.old.items text.new.items
         (λ here. definitions.split_window here lines) }
     ensures text { Keeps start text.old.items text.new.items }
 {
     if lines != 0 {
         return;
     }
-    erase_upper(text, start, around);
+    erase_upper(text, start, turn);
 }
 
 /// Erases the upper window, where it is there and no stream is open.
-fn erase_upper(text: &mut Vec<u8>, start: usize, around: &mut Around)
+fn erase_upper(text: &mut Vec<u8>, start: usize, turn: &mut TurnState)
     requires { HasBegun start text.old.items }
-    ensures redraws { Redraws start around.old around.new text.old.items text.new.items
+    ensures redraws { Redraws start turn.old turn.new text.old.items text.new.items
         definitions.erase_upper }
     ensures text { Keeps start text.old.items text.new.items }
 {
-    match open_upper(around) {
+    match open_upper(turn) {
         None => {}
         Some(upper) => {
             cut(text, start, upper.from);
-            around.upper = Some(begun_at(upper.from));
+            turn.upper = Some(begun_at(upper.from));
         }
     }
 }
@@ -360,17 +360,17 @@ pub fn show_upper(
     store: &mut Recorded<Store>,
     text: &mut Vec<u8>,
     start: usize,
-    around: &Around,
+    turn: &TurnState,
 ) -> Result<(), End>
     requires sound { IsSound store.old.store }
     requires text { HasBegun start text.old.items }
     ensures told { (next : Next) → ToldFrom start result store.old text.old.items
-        store.new text.new.items (definitions.show_upper (place around.now next)) }
+        store.new text.new.items (definitions.show_upper (place turn.now next)) }
     ensures text { Keeps start text.old.items text.new.items }
 {
-    match around.upper {
+    match turn.upper {
         None => Ok(()),
-        Some(upper) => show_or_drop(store, text, start, upper, around.standard_state.window),
+        Some(upper) => show_or_drop(store, text, start, upper, turn.standard_state.window),
     }
 }
 

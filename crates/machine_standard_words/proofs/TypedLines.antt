@@ -63,7 +63,7 @@ front_is memory text left new is within e =
     (omega (arith, within, length-drop (text + 2) memory)) ∙ many in
     ap (λ n. take n new) (sym long) ∙ e ∙ ap (λ n. slice_range memory (text + 2) (text + 2 + n)) is
 
--- and behind them those of the line
+-- and after them those of the line
 pub letters_are : (extra memory : List ℕ) (text end left most : ℕ) (line old new : List ℕ)
     → left ≡ slice_index memory (text + 1) → most ≡ slice_index memory text - left
     → take left old ≡ letters_in memory text

@@ -4,7 +4,7 @@ ghost use Rattle.std.specs.Prelude.{◌≡◌};
 ghost use Rattle.zcore_standard.specs.Input.{codes_typed};
 ghost use Rattle.zcore_standard.specs.Reading as definitions;
 
-use machine_standard_input::first_code;
+use crate::lines::first_code;
 use zcore::layout::NEW_LINE;
 
 // The ZSCII codes of keys that no line has a character for.

@@ -148,7 +148,7 @@ fn unknown(rt: &HostRuntime, name: OneLine<'_>, format: Format) -> io::Result<u8
 
 /// The status of a story that loads.
 fn status_of(contents: &Contents) -> u8 {
-    if contents.outside.is_empty() {
+    if contents.unplayed.is_empty() {
         0
     } else {
         OUTSIDE

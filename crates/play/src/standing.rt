@@ -3,8 +3,8 @@
 use messages_explanations::Program;
 use session::{Mode, Place, Session};
 use std::fmt;
-use survey_opcodes::Opcode;
 use zcore::Fault;
+use zcore_standard::Opcode;
 
 /// Where a story stands. `Display` writes it in words, a fault as `M7: division by zero at 0F31`.
 #[derive(Clone, Copy)]
@@ -17,6 +17,9 @@ pub struct Standing {
     /// The opcode there, where the memory has one.
     opcode: Option<Opcode>,
 
+    /// Its name, where the story's version has it.
+    name: Option<&'static str>,
+
     /// Which opcodes the story may use.
     mode: Mode,
 }
@@ -25,24 +28,31 @@ impl Standing {
     /// Where the story of a session stands that is played in a mode.
     pub fn of(session: &Session, mode: Mode) -> Standing {
         let at = session.program_counter();
+        let memory = session.memory();
+        let opcode = Opcode::read(memory, at as usize);
         Standing {
             place: session.place(),
             at,
-            opcode: Opcode::read(session.memory(), at as usize),
+            opcode,
+            name: name_in(memory, opcode),
             mode,
         }
     }
 }
 
+/// The name of an opcode in the version that a story's first byte states.
+fn name_in(story: &[u8], opcode: Option<Opcode>) -> Option<&'static str> {
+    let version = story.first()?;
+    let row = opcode?.row(*version)?;
+    Some(row.name)
+}
+
 impl Standing {
     /// What the story waits for: the instruction is that which reads it.
     fn awaited(&self) -> &'static str {
-        match self.opcode {
-            Some(opcode) => match opcode.name() {
-                Some(name) if name == "read_char" => "waits for a key",
-                _ => "waits for a line",
-            },
-            None => "waits for a line",
+        match self.name {
+            Some(name) if name == "read_char" => "waits for a key",
+            _ => "waits for a line",
         }
     }
 }
@@ -66,7 +76,7 @@ fn write_fault<W: fmt::Write>(
 ) -> fmt::Result {
     let at = standing.at;
     match (fault, standing.opcode) {
-        (Fault::Opcode, Some(opcode)) => write_opcode(f, opcode, at, standing.mode),
+        (Fault::Opcode, Some(opcode)) => write_opcode(f, opcode, standing),
         _ => match Program::Play.explanations().find(name_of(fault)) {
             Some(explanation) => {
                 let title = explanation.title;
@@ -99,35 +109,34 @@ fn name_of(fault: Fault) -> &'static str {
 fn write_opcode<W: fmt::Write>(
     f: &mut fmt::Formatter<W>,
     opcode: Opcode,
-    at: u32,
-    mode: Mode,
+    standing: &Standing,
 ) -> fmt::Result {
     let fault = Fault::Opcode;
-    let number = opcode.number_alone();
-    write!(f, "{fault}: opcode {number}")?;
-    if let Some(name) = opcode.name() {
+    write!(f, "{fault}: opcode {opcode}")?;
+    if let Some(name) = standing.name {
         write!(f, " ({name})")?;
     }
-    let wrong = match mode {
+    let wrong = match standing.mode {
         Mode::Profile => wrong_in_profile(opcode),
-        Mode::Standard(_) => wrong_in_standard(opcode),
+        Mode::Standard(_) => wrong_in_standard(standing.name),
     };
+    let at = standing.at;
     write!(f, " at {at:04X} {wrong}")
 }
 
 /// What is wrong with an opcode in the profile: it is outside, or has operands that it does not
 /// take.
 fn wrong_in_profile(opcode: Opcode) -> &'static str {
-    match opcode.operation() {
+    match opcode.profile() {
         Some(_) => "has operands that it does not take",
         None => "is outside the profile",
     }
 }
 
-/// What is wrong with an opcode with `--standard`: the Standard does not name it, or it has operands
-/// that it does not take.
-fn wrong_in_standard(opcode: Opcode) -> &'static str {
-    match opcode.name() {
+/// What is wrong with an opcode of this name with `--standard`: the Standard does not name it, or it
+/// has operands that it does not take.
+fn wrong_in_standard(name: Option<&str>) -> &'static str {
+    match name {
         Some(_) => "has operands that it does not take",
         None => "is not known",
     }

@@ -1,7 +1,7 @@
 //! A survey as columns of a table.
 
 use crate::contents::Contents;
-use crate::survey::{Survey, write_outside};
+use crate::survey::{Survey, write_unplayed};
 use std::fmt;
 use survey_headers::{Edition, Serial};
 
@@ -28,11 +28,11 @@ impl fmt::Display for Columns<'_> {
 
 /// Writes whether a story that loads needs opcodes outside the profile, and which.
 fn write_answer<W: fmt::Write>(f: &mut fmt::Formatter<W>, contents: &Contents) -> fmt::Result {
-    if contents.outside.is_empty() {
+    if contents.unplayed.is_empty() {
         return f.write_str("loads\t");
     }
     f.write_str("needs\t")?;
-    write_outside(f, contents)
+    write_unplayed(f, contents)
 }
 
 /// Writes the columns that the header fills, and the bytes that were read among them.

@@ -7,8 +7,8 @@ ghost use Rattle.zcore.specs.Layout.{longest_story};
 ghost use Rattle.survey.specs.Verdict.{HasWordsOf};
 
 use crate::mode::Mode;
-use crate::outside::Outside;
 use crate::reach::reach;
+use crate::unplayed::Unplayed;
 use std::alloc::{AllocError, Global};
 use std::fmt;
 use zcore::Header;
@@ -25,8 +25,8 @@ const NEGATIVE: u16 = 0x8000;
 /// What a story holds that loads. `Display` writes a line for each.
 #[derive(Drop)]
 pub struct Contents {
-    /// How many objects there are, as far as the table goes: to the first property table behind
-    /// it, or to what else the header names behind it.
+    /// How many objects there are, as far as the table goes: to the first property table after
+    /// it, or to what else the header names after it.
     pub objects: usize,
 
     /// How many words the dictionary has, whatever their order.
@@ -50,15 +50,15 @@ pub struct Contents {
 
     /// Each opcode among them that this machine does not play, or not with such operands, and then
     /// those in routines to which no direct call leads.
-    pub outside: Vec<Outside>,
+    pub unplayed: Vec<Unplayed>,
 }
 
 impl fmt::Display for Contents {
     fn fmt<W: fmt::Write>(&self, f: &mut fmt::Formatter<W>) -> fmt::Result {
         write_counts(f, self)?;
         let refusal = self.mode.refusal();
-        for outside in &self.outside {
-            writeln!(f, "{refusal}: {outside}")?;
+        for unplayed in &self.unplayed {
+            writeln!(f, "{refusal}: {unplayed}")?;
         }
         if self.computed {
             f.write_str("computed calls are not followed\n")
@@ -109,7 +109,7 @@ impl Contents {
             instructions: reached.instructions,
             mode,
             computed: reached.computed,
-            outside: reached.outside,
+            unplayed: reached.unplayed,
         })
     }
 }
@@ -142,7 +142,7 @@ fn count_objects(story: &[u8], header: &Header) -> usize {
     0
 }
 
-/// An end of the table, or an address behind an entry that is nearer.
+/// An end of the table, or an address after an entry that is nearer.
 fn nearer(entry: usize, end: usize, address: u16) -> usize
     ensures { result ≤ end }
 {

@@ -4,12 +4,16 @@
 mod columns;
 mod contents;
 mod mode;
-mod outside;
 mod reach;
+mod refusal;
+mod successors;
 mod survey;
+mod sweep;
+mod unplayed;
 
 pub use columns::Columns;
 pub use contents::Contents;
 pub use mode::Mode;
-pub use outside::Outside;
+pub use refusal::{Refusal, profile_refusal_at, standard_refusal_at};
 pub use survey::{Brief, Survey};
+pub use unplayed::Unplayed;

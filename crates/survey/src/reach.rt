@@ -7,16 +7,16 @@ ghost use Rattle.zcore.specs.Layout.{longest_story};
 ghost use Rattle.survey.specs.declared.mode.Mode.TheVariants.{Profile};
 
 use crate::mode::Mode;
-use crate::outside::{Outside, note};
+use crate::refusal::{Refusal, profile_refusal_at, standard_refusal_at};
+use crate::successors::{Successors, branch_target, constant, jump_target, successors_at};
+use crate::sweep::Sweep;
+use crate::unplayed::{Unplayed, note};
 use std::alloc::{AllocError, Global};
-use survey_opcodes::{
-    Lack, Lead, Onward, Opcode, Sweep, branch_target, constant, jump_target, lack_at,
-    standard_lack_at, way_on,
-};
 use zcore::layout::{HEADER_LENGTH, MOST_LOCALS};
 use zcore::{Header, Operand, Version};
+use zcore_standard::{Flow, Opcode, Row};
 
-/// Behind the last routine no other is looked for so many bytes away: instructions that are never
+/// After the last routine no other is looked for so many bytes away: instructions that are never
 /// run may stand between two.
 const MOST_BETWEEN: usize = 16;
 
@@ -35,7 +35,7 @@ pub(crate) struct Reached {
 
     /// Each opcode among them that the machine does not play, or not with such operands, in the
     /// order in which they were met, and then those in other routines.
-    pub outside: Vec<Outside>,
+    pub unplayed: Vec<Unplayed>,
 }
 
 /// A walk over a story. Each address is looked at once as an instruction, as a routine and as a
@@ -60,7 +60,7 @@ struct Walk {
     /// Those of the bytes of instructions and texts that were passed.
     covered: Vec<bool>,
 
-    /// The address behind the last of those.
+    /// The address after the last of those.
     end: usize,
 
     /// Whether what is looked at now was found by a sweep.
@@ -110,7 +110,7 @@ impl Walk {
                 routines: 0,
                 instructions: 0,
                 computed: false,
-                outside: Vec::new(alloc),
+                unplayed: Vec::new(alloc),
             },
         })
     }
@@ -128,7 +128,7 @@ impl Walk {
         self.start(first)?;
         self.look_at_all(story)?;
         self.is_swept = true;
-        let mut sweep = Sweep::new(alloc, story)?;
+        let mut sweep = Sweep::new(alloc, story, number_of(self.version))?;
         self.sweep(story, &mut sweep)
     }
 
@@ -147,7 +147,7 @@ impl Walk {
     }
 
     /// Looks at the routines to which no direct call leads. They begin at packed addresses between
-    /// what was passed, and behind it as long as one follows another closely.
+    /// what was passed, and after it as long as one follows another closely.
     fn sweep(&mut self, story: &[u8], sweep: &mut Sweep) -> Result<(), AllocError>
         requires { length story.now ≤ longest_story }
     {
@@ -187,21 +187,48 @@ impl Walk {
         let Some(opcode) = Opcode::read(story, at) else {
             return Ok(());
         };
-        let lack = lack_at(story, at);
-        if let Some(refused) = refused_at(self.mode, story, at, lack) {
-            note(&mut self.found.outside, opcode, refused, at, self.is_swept)?;
+        let row = opcode.row(number_of(self.version));
+        let refusal = profile_refusal_at(story, at);
+        if let Some(refusal) = refused_at(self.mode, story, at, refusal) {
+            self.meet_unplayed(opcode, row, refusal, at)?;
         }
-        let lead = way_on(story, opcode, at);
-        if lack.is_some() || lead.is_some() {
+        let successors = match row {
+            Some(row) => successors_at(story, at, row),
+            None => None,
+        };
+        if refusal.is_some() || successors.is_some() {
             self.count();
         }
-        match lead {
-            Some((onward, lead)) => {
-                self.cover(at, lead.after);
-                self.follow(story, onward, lead)
+        match successors {
+            Some(successors) => {
+                self.cover(at, successors.after);
+                self.follow(story, successors)
             }
             None => Ok(()),
         }
+    }
+
+    /// The instruction at an address is met, of whose opcode the machine refuses something.
+    fn meet_unplayed(
+        &mut self,
+        opcode: Opcode,
+        row: Option<Row>,
+        refusal: Refusal,
+        at: usize,
+    ) -> Result<(), AllocError> {
+        let name = match row {
+            Some(row) => Some(row.name),
+            None => None,
+        };
+        let found = Unplayed {
+            opcode,
+            name,
+            refusal,
+            first: at,
+            times: 1,
+            is_swept: self.is_swept,
+        };
+        note(&mut self.found.unplayed, found)
     }
 
     /// One instruction more.
@@ -227,30 +254,30 @@ impl Walk {
     }
 
     /// Reaches the instructions to which one leads.
-    fn follow(&mut self, story: &[u8], onward: Onward, lead: Lead) -> Result<(), AllocError>
-        requires { lead.after ≤ longest_story }
+    fn follow(&mut self, story: &[u8], successors: Successors) -> Result<(), AllocError>
+        requires { successors.after ≤ longest_story }
     {
-        let after = lead.after;
-        self.branch(lead.branch, after)?;
-        match onward {
-            Onward::Next => self.start(after),
-            Onward::Nowhere => Ok(()),
-            Onward::Jump => match constant(lead.first) {
+        let after = successors.after;
+        self.branch(successors.branch, after)?;
+        match successors.flow {
+            Flow::Next => self.start(after),
+            Flow::Nowhere => Ok(()),
+            Flow::Jump => match constant(successors.first) {
                 Some(offset) => self.start(jump_target(after, offset)),
                 None => {
                     self.meet_computed();
                     Ok(())
                 }
             },
-            Onward::Call => {
-                self.call(story, lead.first)?;
+            Flow::Call => {
+                self.call(story, successors.first)?;
                 self.start(after)
             }
-            Onward::Text => match self.text_end(story, after) {
+            Flow::Text => match self.text_end(story, after) {
                 Some(end) => self.start(end),
                 None => Ok(()),
             },
-            Onward::LastText => {
+            Flow::LastText => {
                 let _ = self.text_end(story, after);
                 Ok(())
             }
@@ -288,7 +315,7 @@ impl Walk {
     }
 
     /// Passes a text, which ends with the first word whose top bit is set (section 3.2), and says
-    /// where the instruction after it begins. Behind a word that was passed before nothing new is
+    /// where the instruction after it begins. After a word that was passed before nothing new is
     /// reached.
     fn text_end(&mut self, story: &[u8], from: usize) -> Option<usize> {
         let mut at = from;
@@ -307,14 +334,22 @@ impl Walk {
     }
 }
 
-/// What of the instruction at an address a machine does not play, of which the profile lacks this.
-fn refused_at(mode: Mode, story: &[u8], at: usize, lack: Option<Lack>) -> Option<Lack>
+/// What of the instruction at an address a machine refuses, of which the profile's refuses this.
+fn refused_at(mode: Mode, story: &[u8], at: usize, refusal: Option<Refusal>) -> Option<Refusal>
     requires { length story.now ≤ longest_story }
-    ensures profile { mode ≡ Profile → result ≡ lack }
+    ensures profile { mode ≡ Profile → result ≡ refusal }
 {
     match mode {
-        Mode::Profile => lack,
-        Mode::Standard => standard_lack_at(story, at),
+        Mode::Profile => refusal,
+        Mode::Standard => standard_refusal_at(story, at),
+    }
+}
+
+/// A version by its number.
+fn number_of(version: Version) -> u8 {
+    match version {
+        Version::V5 => 5,
+        Version::V8 => 8,
     }
 }
 

@@ -11,7 +11,7 @@ ghost use Rattle.survey.specs.declared.mode.Mode.TheVariants.{Profile, Standard}
 
 use crate::contents::Contents;
 use crate::mode::Mode;
-use crate::outside::Outside;
+use crate::unplayed::Unplayed;
 use std::alloc::{AllocError, Global};
 use std::fmt;
 use survey_headers::{Beginning, Edition, Facts, Misplaced, first_misplaced};
@@ -19,7 +19,7 @@ use zcore::layout::LONGEST_STORY;
 use zcore::{Header, HeaderFault};
 use zcore_standard_loading::load;
 
-/// So many bytes no story has with the filling behind it.
+/// So many bytes no story has with the filling after it.
 const TOO_LONG: usize = LONGEST_STORY + 512;
 
 /// What is found of a file without running it. `Display` writes a line for each fact, and the last
@@ -259,52 +259,52 @@ impl fmt::Display for Brief<'_> {
 
 /// Writes what a story that loads needs beyond what the machine plays.
 fn write_needs<W: fmt::Write>(f: &mut fmt::Formatter<W>, contents: &Contents) -> fmt::Result {
-    if contents.outside.is_empty() {
+    if contents.unplayed.is_empty() {
         return f.write_str("loads");
     }
     f.write_str("needs ")?;
-    write_outside(f, contents)
+    write_unplayed(f, contents)
 }
 
 /// Writes the opcodes that the machine does not play and a story reaches, with a comma between two.
-pub(crate) fn write_outside<W: fmt::Write>(
+pub(crate) fn write_unplayed<W: fmt::Write>(
     f: &mut fmt::Formatter<W>,
     contents: &Contents,
 ) -> fmt::Result {
     let mut before = "";
-    for outside in &contents.outside {
-        if outside.is_swept && is_reached(contents, outside) {
+    for unplayed in &contents.unplayed {
+        if unplayed.is_swept && is_reached(contents, unplayed) {
             continue;
         }
         f.write_str(before)?;
-        write_opcode(f, outside)?;
+        write_opcode(f, unplayed)?;
         before = ", ";
     }
     Ok(())
 }
 
 /// Writes an opcode that the machine does not play, without its address.
-fn write_opcode<W: fmt::Write>(f: &mut fmt::Formatter<W>, outside: &Outside) -> fmt::Result {
-    let lack = outside.lack;
-    let found = if outside.is_swept {
+fn write_opcode<W: fmt::Write>(f: &mut fmt::Formatter<W>, unplayed: &Unplayed) -> fmt::Result {
+    let refusal = unplayed.refusal;
+    let found = if unplayed.is_swept {
         " (no direct call)"
     } else {
         ""
     };
-    match outside.opcode.name() {
-        Some(name) => write!(f, "{name}{lack}{found}"),
+    match unplayed.name {
+        Some(name) => write!(f, "{name}{refusal}{found}"),
         None => {
-            let number = outside.opcode.number_alone();
-            write!(f, "{number}{lack}{found}")
+            let opcode = unplayed.opcode;
+            write!(f, "{opcode}{refusal}{found}")
         }
     }
 }
 
 /// Whether the same is also met where direct calls lead.
-fn is_reached(contents: &Contents, swept: &Outside) -> bool {
-    for outside in &contents.outside {
-        let is_same = outside.opcode == swept.opcode && outside.lack == swept.lack;
-        if is_same && !outside.is_swept {
+fn is_reached(contents: &Contents, swept: &Unplayed) -> bool {
+    for unplayed in &contents.unplayed {
+        let is_same = unplayed.opcode == swept.opcode && unplayed.refusal == swept.refusal;
+        if is_same && !unplayed.is_swept {
             return true;
         }
     }

@@ -29,7 +29,7 @@ pub struct Facts {
     /// Word $1A times the scale: how many bytes the story has.
     pub stated_length: usize,
 
-    /// Word $1C: the sum of the bytes behind the header, modulo 65,536.
+    /// Word $1C: the sum of the bytes after the header, modulo 65,536.
     pub stated_sum: u16,
 
     /// That sum as it is.

@@ -10,11 +10,11 @@ use Rattle.zcore.specs.Parts.{test_result, store_result, write_variable, write_l
 use Rattle.zcore.specs.Parts.{take_branch, branch_on}
 use Rattle.zcore.specs.State.{Frame, State, done, halt}
 use Rattle.zcore.specs.Turn.{first_environment, first_state}
-use Rattle.zcore_standard.specs.declared.operations.Further.TheVariants.{Piracy, Save, Restore, SaveUndo, RestoreUndo}
+use Rattle.zcore_standard.specs.declared.operations.StandardOperation.TheVariants.{Piracy, Save, Restore, SaveUndo, RestoreUndo}
 use Rattle.zcore_standard.specs.Flags.{with_kept_bits}
 use Rattle.zcore_standard.specs.Flow.{restart, catch, leave_frame, throw, verify}
 use Rattle.zcore_standard.specs.Fuel.{spend_for}
-use Rattle.zcore_standard.specs.Further.{perform_keeping}
+use Rattle.zcore_standard.specs.Performing.{perform_keeping}
 use Rattle.zcore_standard.specs.Place.{Here, plain}
 use Rattle.zcore_standard.specs.Loaded.{Loaded, seeded}
 

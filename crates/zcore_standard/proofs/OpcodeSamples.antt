@@ -3,9 +3,9 @@ use Rattle.std.proofs.Common.{◌≡◌, ℕ, List, [], ◌∷◌, ◌++◌, rep
 use Rattle.zcore.specs.declared.instruction.Operand.TheVariants.{Large, Small, Variable}
 use Rattle.zcore.specs.declared.place.Fault.TheVariants as faults
 use Rattle.zcore.specs.Instruction.{byte, large, operand, operands}
-use Rattle.zcore_standard.specs.declared.operations.Further.TheVariants as operations
-use Rattle.zcore_standard.specs.Instruction.{types_at, result_at, branch_after, decode_further}
-use Rattle.zcore_standard.specs.Operations.{of_bytes, further_at}
+use Rattle.zcore_standard.specs.declared.operations.StandardOperation.TheVariants as operations
+use Rattle.zcore_standard.specs.Instruction.{types_at, result_at, branch_after, decode_row}
+use Rattle.zcore_standard.specs.Operations.{row_of, of_bytes, further_at}
 
 -- no operand: 181, 182 and 190 are others
 restart : of_bytes 0xB7 0 ≡ Some operations.Restart
@@ -96,13 +96,13 @@ header : further_at (0xBE ∷ at_64 []) 0 ≡ None
 header = refl
 
 -- log_shift 5 local0 -> sp
-shift : decode_further (at_64 (0xBE ∷ 2 ∷ 0x6F ∷ 5 ∷ 1 ∷ 0 ∷ [])) 64 operations.LogShift
+shift : decode_row (at_64 (0xBE ∷ 2 ∷ 0x6F ∷ 5 ∷ 1 ∷ 0 ∷ [])) 64 (row_of operations.LogShift)
     ≡ Ok (record { operands = Small 5 ∷ Variable 1 ∷ []; result = Some 0; branch = None }, 70)
-unfolding decode_further types_at result_at branch_after byte operand operands
+unfolding decode_row types_at result_at branch_after byte operand operands
 shift = refl
 
 -- scan_table 300 16 4 -> 1 ?~ with a branch of one byte
-scan : decode_further (at_64 (0xF7 ∷ 0x17 ∷ 1 ∷ 44 ∷ 16 ∷ 4 ∷ 1 ∷ 0x48 ∷ [])) 64 operations.ScanTable
+scan : decode_row (at_64 (0xF7 ∷ 0x17 ∷ 1 ∷ 44 ∷ 16 ∷ 4 ∷ 1 ∷ 0x48 ∷ [])) 64 (row_of operations.ScanTable)
     ≡ Ok (
       record {
         operands = Large 300 ∷ Small 16 ∷ Small 4 ∷ [];
@@ -111,25 +111,25 @@ scan : decode_further (at_64 (0xF7 ∷ 0x17 ∷ 1 ∷ 44 ∷ 16 ∷ 4 ∷ 1 ∷ 
       },
       72,
     )
-unfolding decode_further types_at result_at branch_after byte large operand operands
+unfolding decode_row types_at result_at branch_after byte large operand operands
 scan = refl
 
 -- sound_effect without operands
-silence : decode_further (at_64 (0xF5 ∷ 0xFF ∷ [])) 64 operations.SoundEffect
+silence : decode_row (at_64 (0xF5 ∷ 0xFF ∷ [])) 64 (row_of operations.SoundEffect)
     ≡ Ok (record { operands = []; result = None; branch = None }, 66)
-unfolding decode_further types_at result_at branch_after byte operand operands
+unfolding decode_row types_at result_at branch_after byte operand operands
 silence = refl
 
 -- M1: log_shift with one operand, and aread without any
-few : decode_further (at_64 (0xBE ∷ 2 ∷ 0x7F ∷ 5 ∷ 0 ∷ [])) 64 operations.LogShift ≡ Err faults.Opcode
-unfolding decode_further types_at byte
+few : decode_row (at_64 (0xBE ∷ 2 ∷ 0x7F ∷ 5 ∷ 0 ∷ [])) 64 (row_of operations.LogShift) ≡ Err faults.Opcode
+unfolding decode_row types_at byte
 few = refl
 
-no_buffer : decode_further (at_64 (0xE4 ∷ 0xFF ∷ 0 ∷ [])) 64 operations.Read ≡ Err faults.Opcode
-unfolding decode_further types_at byte
+no_buffer : decode_row (at_64 (0xE4 ∷ 0xFF ∷ 0 ∷ [])) 64 (row_of operations.Read) ≡ Err faults.Opcode
+unfolding decode_row types_at byte
 no_buffer = refl
 
 -- M2: the story ends within the instruction
-cut : decode_further (at_64 (0xBE ∷ 2 ∷ 0x5F ∷ 5 ∷ [])) 64 operations.LogShift ≡ Err faults.Code
-unfolding decode_further types_at byte operand operands
+cut : decode_row (at_64 (0xBE ∷ 2 ∷ 0x5F ∷ 5 ∷ [])) 64 (row_of operations.LogShift) ≡ Err faults.Code
+unfolding decode_row types_at byte operand operands
 cut = refl

@@ -7,8 +7,8 @@ use Rattle.zcore.specs.Effects.{give_result}
 use Rattle.zcore.specs.Parts.{test_result, store_result, write_variable, push, write_word}
 use Rattle.zcore.specs.State.{State, done, halt}
 use Rattle.zcore.specs.Turn.{first_environment, first_state}
-use Rattle.zcore_standard.specs.declared.operations.Further.TheVariants.{ReadChar, SetTextStyle}
-use Rattle.zcore_standard.specs.Further.{perform_keeping}
+use Rattle.zcore_standard.specs.declared.operations.StandardOperation.TheVariants.{ReadChar, SetTextStyle}
+use Rattle.zcore_standard.specs.Performing.{perform_keeping}
 use Rattle.zcore_standard.specs.Loaded.{Loaded}
 use Rattle.zcore_standard.specs.Screen.{get_cursor, set_font}
 

@@ -10,8 +10,8 @@ use Rattle.zcore.specs.Parts.{wait, test_branch, branch_on}
 use Rattle.zcore.specs.State.{State, done, halt}
 use Rattle.zcore.specs.Turn.{first_environment, first_state}
 use Rattle.zcore_standard.specs.Dice.{random}
-use Rattle.zcore_standard.specs.Further.{perform_keeping, perform_further}
-use Rattle.zcore_standard.specs.Instruction.{types_at, result_at, branch_after, decode_further}
+use Rattle.zcore_standard.specs.Performing.{perform_keeping, perform_further}
+use Rattle.zcore_standard.specs.Instruction.{types_at, result_at, branch_after, decode_row}
 use Rattle.zcore_standard.specs.Machine.{begins, standard_step}
 use Rattle.zcore_standard.specs.Nothing.{perform_on_nothing, step_known}
 use Rattle.zcore_standard.specs.Place.{Here}
@@ -36,7 +36,7 @@ abbrev a_shift : List ℕ
 a_shift = 0xBE ∷ 2 ∷ 0x5F ∷ 5 ∷ 3 ∷ 0 ∷ []
 
 shift : (loaded : Loaded) → standard_step loaded (at 64) (story a_shift) ≡ done (at 70) (with_word a_shift 40)
-unfolding standard_step decode_further types_at result_at branch_after byte operand operands operand_values operand_value perform_further perform_keeping log_shift give_result test_result store_result write_variable push
+unfolding standard_step decode_row types_at result_at branch_after byte operand operands operand_values operand_value perform_further perform_keeping log_shift give_result test_result store_result write_variable push
 shift loaded = refl
 
 -- random 100 -> sp: the dice go on
@@ -45,7 +45,7 @@ a_roll = 0xE7 ∷ 0x7F ∷ 100 ∷ 0 ∷ []
 
 roll : (loaded : Loaded) → standard_step loaded (at 64) (story a_roll)
     ≡ done (record (at 68) { standard_state = seeded 1002789326 }) (with_word a_roll 2)
-unfolding standard_step decode_further types_at result_at branch_after byte operand operands operand_values operand_value perform_further random give_result test_result store_result write_variable push
+unfolding standard_step decode_row types_at result_at branch_after byte operand operands operand_values operand_value perform_further random give_result test_result store_result write_variable push
 roll loaded = refl
 
 -- aread 72 -> sp, where 72 has room for two letters: no parse buffer
@@ -56,7 +56,7 @@ read_one : (loaded : Loaded) → standard_step loaded (at 64) (story reads_one)
     ≡ halt places.Waiting (record (story reads_one) {
       pending = Some (record { text_buffer = 72; parse_buffer = 0; result = Some 0; return_address = 68 });
     })
-unfolding standard_step decode_further types_at result_at branch_after byte operand operands operand_values operand_value perform_further read_line begin_read show_upper close_all wait_for_line test_room test_slots_or_none test_result wait
+unfolding standard_step decode_row types_at result_at branch_after byte operand operands operand_values operand_value perform_further read_line begin_read show_upper close_all wait_for_line test_room test_slots_or_none test_result wait
 read_one loaded = refl
 
 -- aread 72 0 10 80 -> sp: the time is not used
@@ -67,7 +67,7 @@ read_four : (loaded : Loaded) → standard_step loaded (at 64) (story reads_four
     ≡ halt places.Waiting (record (story reads_four) {
       pending = Some (record { text_buffer = 72; parse_buffer = 0; result = Some 0; return_address = 71 });
     })
-unfolding standard_step decode_further types_at result_at branch_after byte operand operands operand_values operand_value perform_further read_line begin_read show_upper close_all wait_for_line test_room test_slots_or_none test_result wait
+unfolding standard_step decode_row types_at result_at branch_after byte operand operands operand_values operand_value perform_further read_line begin_read show_upper close_all wait_for_line test_room test_slots_or_none test_result wait
 read_four loaded = refl
 
 -- M12: the text buffer has no room
@@ -76,7 +76,7 @@ reads_nothing = 0xE4 ∷ 0x7F ∷ 72 ∷ 0 ∷ 0 ∷ 0 ∷ 0 ∷ 0 ∷ 0 ∷ 0 �
 
 read_nothing : (loaded : Loaded) → standard_step loaded (at 64) (story reads_nothing)
     ≡ halt (places.Fault faults.Buffer) (story reads_nothing)
-unfolding standard_step decode_further types_at result_at branch_after byte operand operands operand_values operand_value perform_further read_line begin_read show_upper close_all wait_for_line test_room
+unfolding standard_step decode_row types_at result_at branch_after byte operand operands operand_values operand_value perform_further read_line begin_read show_upper close_all wait_for_line test_room
 read_nothing loaded = refl
 
 -- aread 72 73 -> sp: 72 has room for two letters, and one is left over; 73 has room for no word
@@ -87,7 +87,7 @@ read_on : (loaded : Loaded) → standard_step loaded (at 64) (story reads_on)
     ≡ halt places.Waiting (record (story reads_on) {
       pending = Some (record { text_buffer = 72; parse_buffer = 76; result = Some 0; return_address = 69 });
     })
-unfolding standard_step decode_further types_at result_at branch_after byte operand operands operand_values operand_value perform_further read_line begin_read show_upper close_all wait_for_line test_room test_slots_or_none test_result wait
+unfolding standard_step decode_row types_at result_at branch_after byte operand operands operand_values operand_value perform_further read_line begin_read show_upper close_all wait_for_line test_room test_slots_or_none test_result wait
 read_on loaded = refl
 
 -- M12: more letters are left over than there is room for
@@ -96,7 +96,7 @@ reads_past = 0xE4 ∷ 0x7F ∷ 72 ∷ 0 ∷ 0 ∷ 0 ∷ 0 ∷ 0 ∷ 2 ∷ 3 ∷ 
 
 read_past : (loaded : Loaded) → standard_step loaded (at 64) (story reads_past)
     ≡ halt (places.Fault faults.Buffer) (story reads_past)
-unfolding standard_step decode_further types_at result_at branch_after byte operand operands operand_values operand_value perform_further read_line begin_read show_upper close_all wait_for_line test_room
+unfolding standard_step decode_row types_at result_at branch_after byte operand operands operand_values operand_value perform_further read_line begin_read show_upper close_all wait_for_line test_room
 read_past loaded = refl
 
 -- read_char -> sp, and read_char 1 10 80 -> sp: the operands are not used
@@ -107,7 +107,7 @@ read_a_key : (loaded : Loaded) → standard_step loaded (at 64) (story reads_key
     ≡ halt places.Waiting (record (story reads_key) {
       pending = Some (record { text_buffer = 0; parse_buffer = 0; result = Some 0; return_address = 67 });
     })
-unfolding standard_step decode_further types_at result_at branch_after byte operand operands operand_values operand_value perform_further read_key begin_read show_upper close_all wait_for_key test_result wait
+unfolding standard_step decode_row types_at result_at branch_after byte operand operands operand_values operand_value perform_further read_key begin_read show_upper close_all wait_for_key test_result wait
 read_a_key loaded = refl
 
 abbrev reads_timed_key : List ℕ
@@ -117,7 +117,7 @@ read_a_timed_key : (loaded : Loaded) → standard_step loaded (at 64) (story rea
     ≡ halt places.Waiting (record (story reads_timed_key) {
       pending = Some (record { text_buffer = 0; parse_buffer = 0; result = Some 0; return_address = 70 });
     })
-unfolding standard_step decode_further types_at result_at branch_after byte operand operands operand_values operand_value perform_further read_key begin_read show_upper close_all wait_for_key test_result wait
+unfolding standard_step decode_row types_at result_at branch_after byte operand operands operand_values operand_value perform_further read_key begin_read show_upper close_all wait_for_key test_result wait
 read_a_timed_key loaded = refl
 
 -- get_child 0 -> sp ?(66): the profile's instruction, which it plays with M8

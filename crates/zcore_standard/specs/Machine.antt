@@ -6,21 +6,21 @@ use Rattle.zcore.specs.declared.standard_state.StandardState.{StandardState}
 use Rattle.zcore.specs.State.{Pending, State, Out}
 use Rattle.zcore.specs.Turn.{StateOfPlay, Whole, Machine, Play, after_step, turn_by, weight, resumed}
 use Rattle.zcore.specs.Turn.{first_next, first_state, ended, is_waiting}
-use Rattle.zcore_standard.specs.declared.operations.Further.{Further}
+use Rattle.zcore_standard.specs.declared.operations.StandardOperation.{StandardOperation}
 use Rattle.zcore_standard.specs.Place.{Here, plain, within}
 use Rattle.zcore_standard.specs.Loaded.{Loaded}
-use Rattle.zcore_standard.specs.Operations.{further_at}
-use Rattle.zcore_standard.specs.Instruction.{decode_further}
-use Rattle.zcore_standard.specs.Further.{execute_further}
+use Rattle.zcore_standard.specs.Operations.{row_of, further_at}
+use Rattle.zcore_standard.specs.Instruction.{decode_row}
+use Rattle.zcore_standard.specs.Performing.{execute_further}
 use Rattle.zcore_standard.specs.Windows.{begun_at}
 use Rattle.zcore_standard.specs.Streams.{heard_of}
 use Rattle.zcore_standard.specs.Reading.{standard_given}
 use Rattle.zcore_standard.specs.Nothing.{step_known}
 
-abbrev pub chosen : Loaded → Option Further → Here → State → Out Here
+abbrev pub chosen : Loaded → Option StandardOperation → Here → State → Out Here
 chosen loaded None here s = within here (step_known loaded here.next s)
 chosen loaded (Some operation) here s =
-    execute_further loaded operation here (decode_further s.memory here.next.program_counter operation) s
+    execute_further loaded operation here (decode_row s.memory here.next.program_counter (row_of operation)) s
 
 unfoldable pub standard_step : Loaded → Here → State → Out Here
 standard_step loaded here s = chosen loaded (further_at s.memory here.next.program_counter) here s

@@ -63,7 +63,7 @@ read_key extra here after result = do
 
 -- The line that is given to aread
 
--- The letters that a text buffer has then: those that it had, and behind them those of the line for which it has room,
+-- The letters that a text buffer has then: those that it had, and after them those of the line for which it has room,
 -- in ZSCII and in small letters.
 abbrev pub letters_with : List ℕ → List ℕ → ℕ → List ℕ → List ℕ
 letters_with extra memory text line =

@@ -17,14 +17,14 @@ use Rattle.zcore.proofs.KeepingReads.{keeps_test, can_store_keeps, tested, passe
 use Rattle.zcore.proofs.FallsOfParts.{Falls, FallsFrom, returned, falls_alike, falls_then, goes_on_falls}
 use Rattle.zcore.proofs.FallsOfParts.{branch_on_falls}
 use Rattle.zcore.proofs.FallsOfEffects.{give_result_falls}
-use Rattle.zcore_standard.specs.declared.operations.Further.{Further}
-use Rattle.zcore_standard.specs.declared.operations.Further.TheVariants as operations
+use Rattle.zcore_standard.specs.declared.operations.StandardOperation.{StandardOperation}
+use Rattle.zcore_standard.specs.declared.operations.StandardOperation.TheVariants as operations
 use Rattle.zcore_standard.specs.Loaded.{Loaded, alphabets_of}
 use Rattle.zcore_standard.specs.Shifts.{log_shift, art_shift}
 use Rattle.zcore_standard.specs.Unicode.{transcript_of, print_whole, print_unicode, check_unicode}
 use Rattle.zcore_standard.specs.Flow.{catch, frames_at, leave_frame, throw, verify}
 use Rattle.zcore_standard.specs.Screen.{get_cursor, set_font}
-use Rattle.zcore_standard.specs.Further.{perform_keeping, words_of_table, one_row}
+use Rattle.zcore_standard.specs.Performing.{perform_keeping, words_of_table, one_row}
 use Rattle.zcore_standard_laws.proofs.TableFacts.{scan_table_falls, copy_table_falls, print_table_falls}
 use Rattle.zcore_standard_laws.proofs.WordFacts.{tokenise_falls, encode_text_falls}
 
@@ -163,7 +163,7 @@ throw_falls here word number s t next within h =
     (left_falls here number q.value.0 q.value.1 word q.between t next (omega (arith, few, same)) two.1 q.second)
 
 -- one case for each operation
-pub perform_keeping_falls : (loaded : Loaded) (operation : Further) (here : Next) (after : ℕ) (result : Option ℕ)
+pub perform_keeping_falls : (loaded : Loaded) (operation : StandardOperation) (here : Next) (after : ℕ) (result : Option ℕ)
     (branch : Option Branch) (values : List ℕ) → here.program_counter < after
     → FallsFrom here (perform_keeping loaded operation here after result branch values)
 unfolding perform_keeping

@@ -1,5 +1,6 @@
 -- A store to Flags 2 is a fault in the profile. Here it makes the weight of a turn fall, and does not wait.
-use Rattle.std.proofs.Common.{◌≡◌, ℕ, ◌+◌, ◌*◌, ◌/◌, ◌%◌, ◌<◌, List, length, refl, Bool, true, false, cond, slice_index, Option}
+use Rattle.std.proofs.Common.{◌≡◌, ℕ, ◌+◌, ◌*◌, ◌/◌, ◌%◌, ◌<◌, List, length, refl, Bool, true, false, cond, slice_index}
+use Rattle.std.proofs.Common.{Option}
 use Rattle.std.specs.Prelude.{◌||◌, ◌==◌}
 use Rattle.std.proofs.lemmas.Bool.{eqb-true}
 use Rattle.std.proofs.lemmas.List.{length-set}

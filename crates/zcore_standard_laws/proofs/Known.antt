@@ -1,7 +1,7 @@
 -- A step of an instruction that the profile knows is the profile's step, or one that the profile refuses: an operation on
 -- object 0, a store to Flags 2, or one that prints what the profile does not.
-use Rattle.std.proofs.Common.{◌≡◌, ℕ, List, refl, ap, sym, ◌∙◌, Bool, true, false, cond, Option, Some, None, Result, Ok, Err}
-use Rattle.std.proofs.Common.{◌<◌, arith}
+use Rattle.std.proofs.Common.{◌≡◌, ℕ, List, refl, ap, sym, ◌∙◌, Bool, true, false, cond, Option, Some, None, Result, Ok}
+use Rattle.std.proofs.Common.{Err, ◌<◌, arith}
 use Rattle.zcore.specs.declared.place.Fault.{Fault}
 use Rattle.zcore.specs.declared.place.Fault.TheVariants as faults
 use Rattle.zcore.specs.declared.place.Place.TheVariants as places
@@ -23,7 +23,8 @@ use Rattle.zcore_standard.specs.Loaded.{Loaded}
 use Rattle.zcore_standard.specs.Printing.{is_text, is_refused, by_alphabets, perform_text, perform_printing}
 use Rattle.zcore_standard_laws.proofs.FlagsFacts.{perform_flags_faults, perform_on_flags_falls, waits_perform_on_flags}
 use Rattle.zcore_standard_laws.proofs.Printing.{perform_text_falls, waits_perform_text, refused_faults}
-use Rattle.zcore_standard_laws.proofs.Objects.{perform_nothing_faults, perform_on_nothing_falls, waits_perform_on_nothing}
+use Rattle.zcore_standard_laws.proofs.Objects.{perform_nothing_faults, perform_on_nothing_falls}
+use Rattle.zcore_standard_laws.proofs.Objects.{waits_perform_on_nothing}
 
 neither : (b : Bool) → b ≡ false → b ≡ true → ⊥
 neither true e f = cc

@@ -18,13 +18,14 @@ use Rattle.zcore.specs.Parts.{is_code, operand_values, test, is_text_buffer, tes
 use Rattle.zcore.specs.Parts.{test_parse_buffer, can_store_in, test_result, wait}
 use Rattle.zcore.specs.State.{Frame, Pending, State, Out, done, halt, bound}
 use Rattle.zcore.proofs.Ahead as ahead
-use Rattle.zcore_standard.specs.declared.operations.Further.TheVariants.{Read}
+use Rattle.zcore_standard.specs.declared.operations.StandardOperation.TheVariants.{Read}
 use Rattle.zcore_standard.specs.declared.streams.Stream.{Stream}
 use Rattle.zcore_standard.specs.Place.{Here, within, is_none_open}
 use Rattle.zcore_standard.specs.Loaded.{Loaded}
 use Rattle.zcore_standard_laws.specs.Laws.{is_fault, ends_in_fault, waits, is_plain, closes_none}
-use Rattle.zcore_standard.specs.Instruction.{types_at, counted, result_at, branch_after, decode_further}
-use Rattle.zcore_standard.specs.Further.{perform_further, execute_further}
+use Rattle.zcore_standard.specs.Instruction.{types_at, counted, result_at, branch_after, decode_row}
+use Rattle.zcore_standard.specs.Operations.{row_of}
+use Rattle.zcore_standard.specs.Performing.{perform_further, execute_further}
 use Rattle.zcore_standard.specs.Reading.{has_room, test_room, has_slots_or_none, test_slots_or_none, wait_for_line}
 use Rattle.zcore_standard.specs.Reading.{read_line}
 use Rattle.zcore_standard.specs.Windows.{show_upper}
@@ -48,16 +49,16 @@ record ReadsAlike (memory : List ℕ) (at : ℕ) : Type 0 where
   after : ℕ
   plain : decode memory at
       ≡ Ok (record { operation = operations.Read; operands = given; result = result; branch = None }, after)
-  further : decode_further memory at Read ≡ Ok (record { operands = given; result = result; branch = None }, after)
+  further : decode_row memory at (row_of Read) ≡ Ok (record { operands = given; result = result; branch = None }, after)
 
 types_read : (memory : List ℕ) (first at : ℕ) (types : List ℕ × ℕ) (kept : List ℕ) → IsReadByte first
     → variable_types memory false (at + 1) ≡ Ok types → given_types types.0 ≡ Ok kept
-    → types_at memory first at ≡ Ok (kept, types.1)
+    → types_at memory false first at ≡ Ok (kept, types.1)
 unfolding types_at
 types_read memory first at types kept is e f = rw (is.no_extended, is.no_long, is.no_short, e, f) refl
 
 counted_two : (types : List ℕ) (place : ℕ) → (nat_le 2 (length types) && nat_le (length types) 2) ≡ true
-    → counted Read (types, place) ≡ Ok (types, place)
+    → counted (row_of Read) (types, place) ≡ Ok (types, place)
 counted_two types place e =
     let parts = and_parts (nat_le 2 (length types)) (nat_le (length types) 2) e in
     let least = leb-true 2 (length types) parts.0 in
@@ -68,10 +69,10 @@ counted_two types place e =
 -- the instruction, by what its parts read
 read_so : (memory : List ℕ) (at : ℕ) (types : List ℕ) (place : ℕ) (given : List Operand × ℕ) (result : Option ℕ × ℕ)
     → opcode memory at ≡ Ok (record { operation = operations.Read; types = types }, place)
-    → types_at memory (slice_index memory at) at ≡ Ok (types, place)
-    → counted Read (types, place) ≡ Ok (types, place) → operands memory types place ≡ Ok given
+    → types_at memory false (slice_index memory at) at ≡ Ok (types, place)
+    → counted (row_of Read) (types, place) ≡ Ok (types, place) → operands memory types place ≡ Ok given
     → result_variable memory operations.Read given.1 ≡ Ok result → ReadsAlike memory at
-unfolding decode branch decode_further branch_after result_at result_variable
+unfolding decode branch decode_row branch_after result_at result_variable
 read_so memory at types place given result e f g o r = record {
   given = given.0;
   result = result.0;
@@ -96,8 +97,8 @@ two_of types place code h =
 
 after_types : (memory : List ℕ) (at : ℕ) (types : List ℕ) (place : ℕ) (x : profile.Instruction × ℕ)
     → opcode memory at ≡ Ok (record { operation = operations.Read; types = types }, place)
-    → types_at memory (slice_index memory at) at ≡ Ok (types, place)
-    → counted Read (types, place) ≡ Ok (types, place)
+    → types_at memory false (slice_index memory at) at ≡ Ok (types, place)
+    → counted (row_of Read) (types, place) ≡ Ok (types, place)
     → (operands memory types place >>= λ given. result_variable memory operations.Read given.1 >>= λ into.
     branch memory operations.Read into.1 >>= λ to.
     Ok (record { operation = operations.Read; operands = given.0; result = into.0; branch = to.0 }, to.1)) ≡ Ok x
@@ -252,7 +253,7 @@ read_by : (loaded : Loaded) (here : Here) (s : State) (r : Result (profile.Instr
     → is_code s.memory here.next.program_counter ≡ true → here.next.program_counter < length s.memory
     → IsReadByte (slice_index s.memory here.next.program_counter) → decode s.memory here.next.program_counter ≡ r
     → ends_in_fault (step here.next s) ≡ false → closes_none here (step here.next s) ≡ true
-    → execute_further loaded Read here (decode_further s.memory here.next.program_counter Read) s
+    → execute_further loaded Read here (decode_row s.memory here.next.program_counter (row_of Read)) s
     ≡ within here (step here.next s)
 read_by loaded here s (Err cause) code inside is e plays quiet =
     absurd (neither _ plays (ap ends_in_fault (steps_as here.next s (Err cause) code e)))
@@ -269,7 +270,7 @@ read_by loaded here s (Ok x) code inside is e plays quiet =
 pub read_keeps : (loaded : Loaded) (here : Here) (s : State) → is_code s.memory here.next.program_counter ≡ true
     → here.next.program_counter < length s.memory → IsReadByte (slice_index s.memory here.next.program_counter)
     → ends_in_fault (step here.next s) ≡ false → closes_none here (step here.next s) ≡ true
-    → execute_further loaded Read here (decode_further s.memory here.next.program_counter Read) s
+    → execute_further loaded Read here (decode_row s.memory here.next.program_counter (row_of Read)) s
     ≡ within here (step here.next s)
 read_keeps loaded here s code inside is plays quiet =
     read_by loaded here s (decode s.memory here.next.program_counter) code inside is refl plays quiet

@@ -11,30 +11,34 @@ use Rattle.zcore.specs.declared.place.Place.TheVariants as places
 use Rattle.zcore.specs.declared.instruction.Operation.{Operation}
 use Rattle.zcore.specs.declared.next.Next.{Next}
 use Rattle.zcore.specs.Operations as profile
-use Rattle.zcore.specs.Instruction.{Opcode, byte, long_form, short_form, variable_form, opcode, decode}
+use Rattle.zcore.specs.Instruction as profile_instruction
+use Rattle.zcore.specs.Instruction.{byte, long_form, short_form, variable_form, opcode, decode}
 use Rattle.zcore.specs.State.{State, halt}
 use Rattle.zcore.specs.Parts.{is_code}
 use Rattle.zcore.specs.Execution.{step}
-use Rattle.zcore_standard.specs.declared.operations.Further.{Further}
-use Rattle.zcore_standard.specs.declared.operations.Further.TheVariants.{Restart, Catch, ShowStatus, Verify, Piracy}
-use Rattle.zcore_standard.specs.declared.operations.Further.TheVariants.{SetColour, Throw, Read, Random, SplitWindow}
-use Rattle.zcore_standard.specs.declared.operations.Further.TheVariants.{SetWindow, EraseWindow, EraseLine, SetCursor}
-use Rattle.zcore_standard.specs.declared.operations.Further.TheVariants.{GetCursor, SetTextStyle, BufferMode}
-use Rattle.zcore_standard.specs.declared.operations.Further.TheVariants.{OutputStream, InputStream, SoundEffect}
-use Rattle.zcore_standard.specs.declared.operations.Further.TheVariants.{ReadChar, ScanTable, Tokenise, EncodeText}
-use Rattle.zcore_standard.specs.declared.operations.Further.TheVariants.{CopyTable, PrintTable}
+use Rattle.zcore_standard.specs.declared.operations.StandardOperation.{StandardOperation}
+use Rattle.zcore_standard.specs.declared.operations.StandardOperation.TheVariants.{Restart, Catch, ShowStatus, Verify}
+use Rattle.zcore_standard.specs.declared.operations.StandardOperation.TheVariants.{Piracy, SetColour, Throw, Read}
+use Rattle.zcore_standard.specs.declared.operations.StandardOperation.TheVariants.{Random, SplitWindow, SetWindow}
+use Rattle.zcore_standard.specs.declared.operations.StandardOperation.TheVariants.{EraseWindow, EraseLine, SetCursor}
+use Rattle.zcore_standard.specs.declared.operations.StandardOperation.TheVariants.{GetCursor, SetTextStyle, BufferMode}
+use Rattle.zcore_standard.specs.declared.operations.StandardOperation.TheVariants.{OutputStream, InputStream}
+use Rattle.zcore_standard.specs.declared.operations.StandardOperation.TheVariants.{SoundEffect, ReadChar, ScanTable}
+use Rattle.zcore_standard.specs.declared.operations.StandardOperation.TheVariants.{Tokenise, EncodeText, CopyTable}
+use Rattle.zcore_standard.specs.declared.operations.StandardOperation.TheVariants.{PrintTable}
 use Rattle.zcore_standard.specs.Operations.{row_of, numbered, no_operand, two_operand, of_bytes}
-use Rattle.zcore_standard.specs.Operations.{further_at}
+use Rattle.zcore_standard.specs.declared.opcode.Opcode.{Opcode}
+use Rattle.zcore_standard.specs.Operations.{further_at, standard_of}
 
 -- The profile has no opcode of a number that a further one has
 
 -- one of two operations
-one_way : {P : Type 0} (b : Bool) (p q : Option Further) (x : Further) → (b ≡ true → p ≡ Some x → P)
+one_way : {P : Type 0} (b : Bool) (p q : Option StandardOperation) (x : StandardOperation) → (b ≡ true → p ≡ Some x → P)
     → (b ≡ false → q ≡ Some x → P) → cond b p q ≡ Some x → P
 one_way true p q x v w h = v refl h
 one_way false p q x v w h = w refl h
 
-none_at : {P : Type 0} (x : Further) → None ≡ Some x → P
+none_at : {P : Type 0} (x : StandardOperation) → None ≡ Some x → P
 none_at x h = absurd (cc)
 
 pub is_no_some : {A : Type 0} (o : Option A) → is_none o ≡ true → o ≡ None
@@ -42,10 +46,10 @@ is_no_some None e = refl
 is_no_some (Some a) e = absurd (cc)
 
 -- none of the numbers of these is one that the profile knows
-abbrev are_unknown : (ℕ → Option Operation) → List Further → Bool
+abbrev are_unknown : (ℕ → Option Operation) → List StandardOperation → Bool
 are_unknown known operations = list_all (λ o. is_none (known (row_of o).number)) operations
 
-unknown_number : (known : ℕ → Option Operation) (operations : List Further) (n : ℕ) (x : Further)
+unknown_number : (known : ℕ → Option Operation) (operations : List StandardOperation) (n : ℕ) (x : StandardOperation)
     → are_unknown known operations ≡ true → numbered n operations ≡ Some x → known n ≡ None
 unknown_number known [] n x all h = none_at x h
 unknown_number known (o ∷ others) n x all h =
@@ -57,7 +61,7 @@ unknown_number known (o ∷ others) n x all h =
 -- The first byte
 
 -- what the profile makes of it
-abbrev of_first : List ℕ → ℕ → ℕ → Result (Opcode × ℕ) Fault
+abbrev of_first : List ℕ → ℕ → ℕ → Result (profile_instruction.Opcode × ℕ) Fault
 of_first memory first at =
     if first == 190 then Err faults.Opcode
     else (if nat_lt first 128 then long_form first at
@@ -73,22 +77,30 @@ pub record IsReadByte (first : ℕ) : Type 0 where
   pub number : first % 32 ≡ 4
 
 -- the profile refuses an opcode, or it is `aread`
-abbrev RefusedOrRead : Result (Opcode × ℕ) Fault → ℕ → Further → Type 0
+abbrev RefusedOrRead : Result (profile_instruction.Opcode × ℕ) Fault → ℕ → StandardOperation → Type 0
 RefusedOrRead r first x = (r ≡ Err faults.Opcode) ⊎ ((x ≡ Read) × IsReadByte first)
 
 -- two choices by one test
-both_ways : (b : Bool) (p q : Option Further) (r s : Result (Opcode × ℕ) Fault) (first : ℕ) (x : Further)
-    → (b ≡ true → p ≡ Some x → RefusedOrRead r first x) → (b ≡ false → q ≡ Some x → RefusedOrRead s first x)
-    → cond b p q ≡ Some x → RefusedOrRead (cond b r s) first x
+both_ways : (b : Bool) (p q : Opcode) (r s : Result (profile_instruction.Opcode × ℕ) Fault) (first : ℕ)
+    (x : StandardOperation) → (b ≡ true → standard_of p ≡ Some x → RefusedOrRead r first x)
+    → (b ≡ false → standard_of q ≡ Some x → RefusedOrRead s first x)
+    → standard_of (cond b p q) ≡ Some x → RefusedOrRead (cond b r s) first x
 both_ways true p q r s first x v w h = v refl h
 both_ways false p q r s first x v w h = w refl h
 
-long_refused : (first at : ℕ) (x : Further) → two_operand (first % 32) ≡ Some x
+-- two opcodes by one test
+one_opcode : {P : Type 0} (b : Bool) (p q : Opcode) (x : StandardOperation)
+    → (b ≡ true → standard_of p ≡ Some x → P) → (b ≡ false → standard_of q ≡ Some x → P)
+    → standard_of (cond b p q) ≡ Some x → P
+one_opcode true p q x v w h = v refl h
+one_opcode false p q x v w h = w refl h
+
+long_refused : (first at : ℕ) (x : StandardOperation) → two_operand (first % 32) ≡ Some x
     → long_form first at ≡ Err faults.Opcode
 long_refused first at x h =
     rw (unknown_number profile.two_operand (SetColour ∷ Throw ∷ []) (first % 32) x refl h) refl
 
-short_refused : (first at : ℕ) (x : Further) → first / 16 % 4 ≡ 3 → no_operand (first % 16) ≡ Some x
+short_refused : (first at : ℕ) (x : StandardOperation) → first / 16 % 4 ≡ 3 → no_operand (first % 16) ≡ Some x
     → short_form first at ≡ Err faults.Opcode
 short_refused first at x form h =
     rw (
@@ -97,39 +109,39 @@ short_refused first at x form h =
           h,
     ) refl
 
-variable_two_refused : (memory : List ℕ) (first at : ℕ) (x : Further) → nat_lt first 224 ≡ true
+variable_two_refused : (memory : List ℕ) (first at : ℕ) (x : StandardOperation) → nat_lt first 224 ≡ true
     → two_operand (first % 32) ≡ Some x → variable_form memory first at ≡ Err faults.Opcode
 variable_two_refused memory first at x b h =
     rw (b, unknown_number profile.two_operand (SetColour ∷ Throw ∷ []) (first % 32) x refl h) refl
 
 -- those of the several-operand opcodes that the profile does not know with two operands
-abbrev others_than_read : List Further
+abbrev others_than_read : List StandardOperation
 others_than_read =
     Random ∷ SplitWindow ∷ SetWindow ∷ EraseWindow ∷ EraseLine ∷ SetCursor ∷ GetCursor ∷ SetTextStyle ∷ BufferMode ∷
     OutputStream ∷ InputStream ∷ SoundEffect ∷ ReadChar ∷ ScanTable ∷ Tokenise ∷ EncodeText ∷ CopyTable ∷
     PrintTable ∷ []
 
-several_refused : (memory : List ℕ) (first at : ℕ) (x : Further) → nat_lt first 224 ≡ false
+several_refused : (memory : List ℕ) (first at : ℕ) (x : StandardOperation) → nat_lt first 224 ≡ false
     → numbered (first % 32) others_than_read ≡ Some x → variable_form memory first at ≡ Err faults.Opcode
 several_refused memory first at x b h =
     rw (b, unknown_number profile.several_operand others_than_read (first % 32) x refl h) refl
 
-is_read : (x : Further) → Some Read ≡ Some x → x ≡ Read
+is_read : (x : StandardOperation) → Some Read ≡ Some x → x ≡ Read
 is_read x e = cc
 
-first_refused : (memory : List ℕ) (first second at : ℕ) (x : Further) → of_bytes first second ≡ Some x
+first_refused : (memory : List ℕ) (first second at : ℕ) (x : StandardOperation) → of_bytes first second ≡ Some x
     → RefusedOrRead (of_first memory first at) first x
 first_refused memory first second at x h =
     both_ways (first == 190) _ _ _ _ first x (λ _ _. inl refl)
     (λ extended h. both_ways (nat_lt first 128) _ _ _ _ first x
     (λ _ e. inl (long_refused first at x e))
-    (λ long h. one_way (nat_lt first 176) None _ x (λ _ e. none_at x e)
+    (λ long h. one_opcode (nat_lt first 176) _ _ x (λ _ e. none_at x e)
     (λ low h. both_ways (nat_lt first 192) _ _ _ _ first x
     (λ high e.
     let above = ltb-false first 176 low in
     let below = ltb-true first 192 high in
     inl (short_refused first at x (omega arith) e))
-    (λ short h. one_way (nat_lt first 224) _ _ x
+    (λ short h. one_opcode (nat_lt first 224) _ _ x
     (λ b e. inl (variable_two_refused memory first at x b e))
     (λ b e. one_way (first % 32 == 4) (Some Read) (numbered (first % 32) others_than_read) x
     (λ number f. inr (
@@ -147,12 +159,12 @@ first_refused memory first second at x h =
 -- The instruction
 
 -- a further operation at an address
-pub record Stands (memory : List ℕ) (at : ℕ) (x : Further) : Type 0 where
+pub record Stands (memory : List ℕ) (at : ℕ) (x : StandardOperation) : Type 0 where
   pub code : is_code memory at ≡ true
   pub within : at < length memory
   pub bytes : of_bytes (slice_index memory at) (slice_index memory (at + 1)) ≡ Some x
 
-pub stands : (memory : List ℕ) (at : ℕ) (x : Further) → further_at memory at ≡ Some x → Stands memory at x
+pub stands : (memory : List ℕ) (at : ℕ) (x : StandardOperation) → further_at memory at ≡ Some x → Stands memory at x
 stands memory at x h =
     one_way (is_code memory at) _ None x
     (λ code e. record { code = code; within = ltb-true at (length memory) (and_parts _ _ code).1; bytes = e })
@@ -173,7 +185,7 @@ step_of : (here : Next) (s : State) → is_code s.memory here.program_counter �
 unfolding step
 step_of here s code e = rw (code, e) refl
 
-refused_or_read : (here : Next) (s : State) (x : Further) → Stands s.memory here.program_counter x
+refused_or_read : (here : Next) (s : State) (x : StandardOperation) → Stands s.memory here.program_counter x
     → RefusedOrRead (of_first s.memory (slice_index s.memory here.program_counter) (here.program_counter + 1))
     (slice_index s.memory here.program_counter) x
     → (step here s ≡ halt (places.Fault faults.Opcode) s)
@@ -184,7 +196,7 @@ refused_or_read here s x a (inl e) =
 refused_or_read here s x a (inr r) = inr r
 
 -- M1, or `aread`
-pub step_refused : (here : Next) (s : State) (x : Further) → further_at s.memory here.program_counter ≡ Some x
+pub step_refused : (here : Next) (s : State) (x : StandardOperation) → further_at s.memory here.program_counter ≡ Some x
     → (step here s ≡ halt (places.Fault faults.Opcode) s)
     ⊎ ((x ≡ Read) × IsReadByte (slice_index s.memory here.program_counter))
 step_refused here s x h =

@@ -19,7 +19,8 @@ use Rattle.zcore.proofs.Waiting.{step_waits}
 use Rattle.zcore.proofs.WaitingTests.{WaitsWell, Waits, waits_bound}
 use Rattle.zcore.proofs.WaitingParts.{waits_store_result, waits_goes_on}
 use Rattle.zcore_standard_laws.specs.Laws.{WaitsAsTheProfile, is_fault, have_no_fault}
-use Rattle.zcore_standard.specs.Machine.{standard_pending, standard_turn_on, standard_opening, with_standard_state, by_standard}
+use Rattle.zcore_standard.specs.Machine.{standard_pending, standard_turn_on, standard_opening, with_standard_state}
+use Rattle.zcore_standard.specs.Machine.{by_standard}
 use Rattle.zcore_standard.specs.Loaded.{Loaded}
 use Rattle.zcore_standard.specs.Unicode.{is_ascii}
 use Rattle.zcore_standard_laws.proofs.Turning.{standard_turn_keeps, standard_turn_on_keeps}

@@ -19,17 +19,18 @@ use Rattle.zcore.proofs.KeepingReads.{done_state, done_value, never, both, keeps
 use Rattle.zcore.proofs.FallsOfParts as parts
 use Rattle.zcore.proofs.FallsOfParts.{Lighter, lighter_alike}
 use Rattle.zcore.proofs.FallsOfEffects.{give_result_falls}
-use Rattle.zcore_standard.specs.declared.operations.Further.{Further}
-use Rattle.zcore_standard.specs.declared.operations.Further.TheVariants as operations
+use Rattle.zcore_standard.specs.declared.operations.StandardOperation.{StandardOperation}
+use Rattle.zcore_standard.specs.declared.operations.StandardOperation.TheVariants as operations
 use Rattle.zcore_standard.specs.Place.{Here, on, within}
 use Rattle.zcore_standard.specs.Loaded.{Loaded}
 use Rattle.zcore_standard.specs.Operations.{row_of, further_at}
 use Rattle.zcore_standard.specs.Instruction.{Instruction, typed, types_at, counted, result_at, branch_after}
-use Rattle.zcore_standard.specs.Instruction.{decode_further}
+use Rattle.zcore_standard.specs.Instruction.{decode_row, row_types, short_types}
+use Rattle.zcore.specs.declared.operations.OpcodeRow.{OpcodeRow}
 use Rattle.zcore_standard.specs.Dice.{rolled, random}
 use Rattle.zcore_standard.specs.Flow.{restart}
 use Rattle.zcore_standard.specs.Fuel.{spend_for}
-use Rattle.zcore_standard.specs.Further.{perform_keeping, perform_further, execute_further}
+use Rattle.zcore_standard.specs.Performing.{perform_keeping, perform_further, execute_further}
 use Rattle.zcore_standard.specs.Nothing.{step_known}
 use Rattle.zcore_standard.specs.Machine.{chosen, standard_step}
 use Rattle.zcore_standard_laws.proofs.FuelFacts.{keeps_spend_for, spend_for_leaves}
@@ -94,13 +95,13 @@ restart_lighter loaded here s t next inside h =
     parts.spent_lighter here.next next.next s t memory (omega (arith, frames)) (omega (arith, fuel, few, less))
     (λ _. omega (arith, frames))
 
-keeping_falls : (loaded : Loaded) (operation : Further) (here : Here) (after : ℕ) (result : Option ℕ)
+keeping_falls : (loaded : Loaded) (operation : StandardOperation) (here : Here) (after : ℕ) (result : Option ℕ)
     (branch : Option Branch) (values : List ℕ) → here.next.program_counter < after
     → FallsFrom here (λ s. within here (perform_keeping loaded operation here.next after result branch values s))
 keeping_falls loaded operation here after result branch values past =
     within_falls here here _ (perform_keeping_falls loaded operation here.next after result branch values past)
 
-perform_further_lighter : (loaded : Loaded) (operation : Further) (here : Here) (after : ℕ) (result : Option ℕ)
+perform_further_lighter : (loaded : Loaded) (operation : StandardOperation) (here : Here) (after : ℕ) (result : Option ℕ)
     (branch : Option Branch) (values : List ℕ) → here.next.program_counter < after
     → LighterFrom here (perform_further loaded operation here after result branch values)
 unfolding perform_further
@@ -124,29 +125,30 @@ perform_further_lighter loaded operations.SplitWindow here after result branch v
 perform_further_lighter loaded operation here after result branch values past = lighter_from here _
     (keeping_falls loaded operation here after result branch values past)
 
--- The address after an instruction lies behind its own
+-- The address after an instruction lies after its own
 
-typed_ahead : (memory : List ℕ) (at : ℕ) (x : List ℕ × ℕ) → typed memory at ≡ Ok x → at ≤ x.1
-typed_ahead memory at x h =
-    let p = ahead.read (variable_types memory false at) _ x h in
+typed_ahead : (memory : List ℕ) (more : Bool) (at : ℕ) (x : List ℕ × ℕ) → typed memory more at ≡ Ok x → at ≤ x.1
+typed_ahead memory more at x h =
+    let p = ahead.read (variable_types memory more at) _ x h in
     let q = ahead.read (given_types p.value.0) _ x p.second in
-    let one = ahead.variable_types_ahead memory false at p.value p.first in
+    let one = ahead.variable_types_ahead memory more at p.value p.first in
     let e = ahead.ok_after _ x.0 p.value.1 x.1 q.second in
     omega arith
 
-types_ahead : (memory : List ℕ) (first at : ℕ) (x : List ℕ × ℕ) → types_at memory first at ≡ Ok x → at < x.1
+types_ahead : (memory : List ℕ) (more : Bool) (first at : ℕ) (x : List ℕ × ℕ) → types_at memory more first at ≡ Ok x
+    → at < x.1
 unfolding types_at
-types_ahead memory first at x h =
+types_ahead memory more first at x h =
     ahead.chosen (at < x.1) (first == 190) _ _ x
-    (λ _ e. let one = typed_ahead memory (at + 2) x e in omega arith)
+    (λ _ e. let one = typed_ahead memory more (at + 2) x e in omega arith)
     (λ _ e. ahead.chosen (at < x.1) (nat_lt first 128) _ _ x
     (λ _ f. let one = ahead.ok_after _ x.0 (at + 1) x.1 f in omega arith)
     (λ _ f. ahead.chosen (at < x.1) (nat_lt first 192) _ _ x
-    (λ _ g. let one = ahead.ok_after [] x.0 (at + 1) x.1 g in omega arith)
-    (λ _ g. let one = typed_ahead memory (at + 1) x g in omega arith) f) e) h
+    (λ _ g. let one = ahead.ok_after (short_types first) x.0 (at + 1) x.1 g in omega arith)
+    (λ _ g. let one = typed_ahead memory more (at + 1) x g in omega arith) f) e) h
 
-counted_same : (operation : Further) (types x : List ℕ × ℕ) → counted operation types ≡ Ok x → x.1 ≡ types.1
-counted_same operation types x h =
+counted_same : (row : OpcodeRow) (types x : List ℕ × ℕ) → counted row types ≡ Ok x → x.1 ≡ types.1
+counted_same row types x h =
     ahead.chosen (x.1 ≡ types.1) _ (Ok types) (Err faults.Opcode) x
     (λ _ e. ahead.ok_after types.0 x.0 types.1 x.1 e)
     (λ _ e. absurd (ahead.refused _ x e)) h
@@ -187,24 +189,24 @@ branch_ahead memory branches at x h =
     omega arith)
     (λ _ e. let f = ahead.ok_after None x.0 at x.1 e in omega arith) h
 
-decode_further_ahead : (memory : List ℕ) (at : ℕ) (operation : Further) (x : Instruction × ℕ)
-    → decode_further memory at operation ≡ Ok x → at < x.1
-unfolding decode_further
-decode_further_ahead memory at operation x h =
-    let p = ahead.read (types_at memory (slice_index memory at) at) _ x h in
-    let c = ahead.read (counted operation p.value) _ x p.second in
+decode_row_ahead : (memory : List ℕ) (at : ℕ) (row : OpcodeRow) (x : Instruction × ℕ)
+    → decode_row memory at row ≡ Ok x → at < x.1
+unfolding decode_row
+decode_row_ahead memory at row x h =
+    let p = ahead.read (row_types memory at row) _ x h in
+    let c = ahead.read (counted row p.value) _ x p.second in
     let q = ahead.read (operands memory c.value.0 c.value.1) _ x c.second in
-    let r = ahead.read (result_at memory (row_of operation).has_result q.value.1) _ x q.second in
-    let b = ahead.read (branch_after memory (row_of operation).has_branch r.value.1) _ x r.second in
-    let one = types_ahead memory (slice_index memory at) at p.value p.first in
-    let two = counted_same operation p.value c.value c.first in
+    let r = ahead.read (result_at memory row.has_result q.value.1) _ x q.second in
+    let b = ahead.read (branch_after memory row.has_branch r.value.1) _ x r.second in
+    let one = types_ahead memory (nat_lt 4 row.most_operands) (slice_index memory at) at p.value p.first in
+    let two = counted_same row p.value c.value c.first in
     let three = ahead.operands_ahead memory c.value.0 c.value.1 q.value q.first in
-    let four = result_ahead memory (row_of operation).has_result q.value.1 r.value r.first in
-    let five = branch_ahead memory (row_of operation).has_branch r.value.1 b.value b.first in
+    let four = result_ahead memory row.has_result q.value.1 r.value r.first in
+    let five = branch_ahead memory row.has_branch r.value.1 b.value b.first in
     let e = ahead.ok_after _ x.0 b.value.1 x.1 b.second in
     omega arith
 
-execute_further_lighter : (loaded : Loaded) (operation : Further) (here : Here) (r : Result (Instruction × ℕ) Fault)
+execute_further_lighter : (loaded : Loaded) (operation : StandardOperation) (here : Here) (r : Result (Instruction × ℕ) Fault)
     → ((x : Instruction × ℕ) → r ≡ Ok x → here.next.program_counter < x.1)
     → LighterFrom here (execute_further loaded operation here r)
 execute_further_lighter loaded operation here (Err cause) past s t next inside h = absurd (never _ next s t h)
@@ -216,7 +218,7 @@ execute_further_lighter loaded operation here (Ok x) past s t next inside h =
     (perform_further_lighter loaded operation here x.1 x.0.result x.0.branch p.value (past x refl) p.between t next
     (omega (arith, alike.memory)) p.second)
 
-chosen_lighter : (loaded : Loaded) (here : Here) (s t : State) (next : Here) (o : Option Further)
+chosen_lighter : (loaded : Loaded) (here : Here) (s t : State) (next : Here) (o : Option StandardOperation)
     → further_at s.memory here.next.program_counter ≡ o → chosen loaded o here s ≡ done next t
     → Lighter here.next s next.next t
 chosen_lighter loaded here s t next None e h =
@@ -224,8 +226,8 @@ chosen_lighter loaded here s t next None e h =
 chosen_lighter loaded here s t next (Some operation) e h =
     let memory = s.memory in
     let at = here.next.program_counter in
-    execute_further_lighter loaded operation here (decode_further memory at operation)
-    (λ x f. decode_further_ahead memory at operation x f) s t next (stands memory at operation e).within h
+    execute_further_lighter loaded operation here (decode_row memory at (row_of operation))
+    (λ x f. decode_row_ahead memory at (row_of operation) x f) s t next (stands memory at operation e).within h
 
 pub standard_step_lighter : (loaded : Loaded) (here next : Here) (s t : State)
     → standard_step loaded here s ≡ done next t → Lighter here.next s next.next t

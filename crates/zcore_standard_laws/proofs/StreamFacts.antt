@@ -12,9 +12,11 @@ use Rattle.zcore.proofs.FallsOfParts.{falls_alike}
 use Rattle.zcore.proofs.WaitingTests.{Waits, waits_done, waits_fault, waits_then, waits_chosen, waits_test}
 use Rattle.zcore_standard.specs.declared.streams.Stream.{Stream}
 use Rattle.zcore_standard.specs.Place.{Here, on, past}
-use Rattle.zcore_standard.specs.Streams.{most_streams, open_stream, written_by, close, test_table, spend_cut, close_first}
-use Rattle.zcore_standard.specs.Streams.{close_all, flags_2_low, set_transcript, closing, output_stream, begin_read}
-use Rattle.zcore_standard_laws.proofs.FuelFacts.{LeavesOf, keeps_spend_for, spend_for_leaves, waits_spend_for, falls_less}
+use Rattle.zcore_standard.specs.Streams.{most_streams, open_stream, written_by, close, test_table, spend_cut}
+use Rattle.zcore_standard.specs.Streams.{close_first, close_all, flags_2_low, set_transcript, closing, output_stream}
+use Rattle.zcore_standard.specs.Streams.{begin_read}
+use Rattle.zcore_standard_laws.proofs.FuelFacts.{LeavesOf, keeps_spend_for, spend_for_leaves, waits_spend_for}
+use Rattle.zcore_standard_laws.proofs.FuelFacts.{falls_less}
 use Rattle.zcore_standard_laws.proofs.WindowFacts.{FallsFrom, moves, either_falls, done_falls, settled_falls}
 use Rattle.zcore_standard_laws.proofs.WindowFacts.{waits_settled, waits_show_upper}
 use Rattle.zcore_standard_laws.proofs.WordFacts.{keeps_write_bytes, waits_write_bytes}

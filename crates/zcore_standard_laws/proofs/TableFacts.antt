@@ -1,6 +1,6 @@
 -- The opcodes on tables make the weight of a turn fall, and none of them ends a turn by waiting.
-use Rattle.std.proofs.Common.{◌≡◌, ℕ, zero, suc, ◌+◌, ◌*◌, ◌<◌, List, [], ◌∷◌, length, set, replicate, refl, ◌∙◌, take, drop}
-use Rattle.std.proofs.Common.{slice_index, Option, Some, None, Bool, true, false, cond}
+use Rattle.std.proofs.Common.{◌≡◌, ℕ, zero, suc, ◌+◌, ◌*◌, ◌<◌, List, [], ◌∷◌, length, set, replicate, refl, ◌∙◌, take}
+use Rattle.std.proofs.Common.{drop, slice_index, Option, Some, None, Bool, true, false, cond}
 use Rattle.std.specs.Prelude.{◌==◌}
 use Rattle.std.specs.Option.{is_some, unwrap_or}
 use Rattle.std.proofs.lemmas.List.{length-set}
@@ -17,9 +17,9 @@ use Rattle.zcore.proofs.FallsOfParts.{FallsFrom, falls_alike, falls_then, falls_
 use Rattle.zcore.proofs.WaitingTests.{Waits, waits_done, waits_then, waits_chosen, waits_test, waits_test_result}
 use Rattle.zcore.proofs.WaitingParts.{waits_read_byte, waits_read_word, waits_store_result, waits_goes_on}
 use Rattle.zcore.proofs.WaitingEffects.{waits_branch_on, waits_test_branch}
-use Rattle.zcore_standard.specs.Tables.{are_readable, are_writable, test_readable, test_writable, has_words, field_length}
-use Rattle.zcore_standard.specs.Tables.{read_field, find_field, give_found, scan_table, copied_forwards, copied_at_once}
-use Rattle.zcore_standard.specs.Tables.{write_table, copy_table, rows, rows_size, print_table}
+use Rattle.zcore_standard.specs.Tables.{are_readable, are_writable, test_readable, test_writable, has_words}
+use Rattle.zcore_standard.specs.Tables.{field_length, read_field, find_field, give_found, scan_table, copied_forwards}
+use Rattle.zcore_standard.specs.Tables.{copied_at_once, write_table, copy_table, rows, rows_size, print_table}
 use Rattle.zcore_standard_laws.proofs.FuelFacts.{keeps_spend_for, spend_for_leaves, waits_spend_for, falls_spent}
 use Rattle.zcore_standard_laws.proofs.PrintedCodes.{keeps_print_codes, waits_print_codes}
 

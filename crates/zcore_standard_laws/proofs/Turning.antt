@@ -15,8 +15,8 @@ use Rattle.zcore.specs.Parts.{is_text_buffer}
 use Rattle.zcore.specs.Turn.{StateOfPlay, Whole, TurnsBy, after_step, turn_by, turn_in, turn_from, weight}
 use Rattle.zcore.specs.Turn.{ended, is_waiting, given, resumed, turn_pending, turn_on}
 use Rattle.zcore.proofs.Turning.{IsWeight, weight_some, turn_by_ends, turns_by_same}
-use Rattle.zcore_standard.specs.declared.operations.Further.{Further}
-use Rattle.zcore_standard.specs.declared.operations.Further.TheVariants.{Read}
+use Rattle.zcore_standard.specs.declared.operations.StandardOperation.{StandardOperation}
+use Rattle.zcore_standard.specs.declared.operations.StandardOperation.TheVariants.{Read}
 use Rattle.zcore_standard.specs.Place.{Here, plain, within}
 use Rattle.zcore_standard.specs.Loaded.{Loaded}
 use Rattle.zcore_standard.specs.Operations.{further_at}
@@ -77,7 +77,7 @@ neither true e f = cc
 neither false e f = cc
 
 -- at a further operation the profile faults, or both read `aread`
-further_keeps : (loaded : Loaded) (here : Here) (s : State) (operation : Further)
+further_keeps : (loaded : Loaded) (here : Here) (s : State) (operation : StandardOperation)
     → Stands s.memory here.next.program_counter operation → ends_in_fault (step here.next s) ≡ false
     → closes_none here (step here.next s) ≡ true
     → (step here.next s ≡ halt (places.Fault faults.Opcode) s)
@@ -87,7 +87,7 @@ further_keeps loaded here s operation a plays quiet (inl e) = absurd (neither _ 
 further_keeps loaded here s operation a plays quiet (inr r) =
     ap (λ o. chosen loaded (Some o) here s) r.0 ∙ read_keeps loaded here s a.code a.within r.1 plays quiet
 
-chosen_keeps : (loaded : Loaded) (here : Here) (s : State) (o : Option Further) → loaded.own_alphabets ≡ None
+chosen_keeps : (loaded : Loaded) (here : Here) (s : State) (o : Option StandardOperation) → loaded.own_alphabets ≡ None
     → further_at s.memory here.next.program_counter ≡ o → ends_in_fault (step here.next s) ≡ false
     → closes_none here (step here.next s) ≡ true → chosen loaded o here s ≡ within here (step here.next s)
 chosen_keeps loaded here s None own e plays quiet = ap (within here) (known_keeps loaded here.next s own plays)

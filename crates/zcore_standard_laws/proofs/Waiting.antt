@@ -16,18 +16,18 @@ use Rattle.zcore.proofs.WaitingTests.{WaitsWell, Waits, waits_done, waits_fault,
 use Rattle.zcore.proofs.WaitingTests.{waits_bound, waits_test}
 use Rattle.zcore.proofs.WaitingParts.{waits_operand_values, waits_store_result, waits_goes_on, waits_write_word}
 use Rattle.zcore.proofs.WaitingEffects.{waits_branch_on, waits_give_result}
-use Rattle.zcore_standard.specs.declared.operations.Further.{Further}
-use Rattle.zcore_standard.specs.declared.operations.Further.TheVariants as operations
+use Rattle.zcore_standard.specs.declared.operations.StandardOperation.{StandardOperation}
+use Rattle.zcore_standard.specs.declared.operations.StandardOperation.TheVariants as operations
 use Rattle.zcore_standard.specs.Place.{Here, past, within}
 use Rattle.zcore_standard.specs.Loaded.{Loaded, alphabets_of}
-use Rattle.zcore_standard.specs.Operations.{further_at}
-use Rattle.zcore_standard.specs.Instruction.{Instruction, decode_further}
+use Rattle.zcore_standard.specs.Operations.{row_of, further_at}
+use Rattle.zcore_standard.specs.Instruction.{Instruction, decode_row}
 use Rattle.zcore_standard.specs.Shifts.{log_shift, art_shift}
 use Rattle.zcore_standard.specs.Dice.{rolled, random}
 use Rattle.zcore_standard.specs.Unicode.{transcript_of, print_whole, print_unicode, check_unicode}
 use Rattle.zcore_standard.specs.Flow.{restart, catch, frames_at, leave_frame, throw, verify}
 use Rattle.zcore_standard.specs.Screen.{get_cursor, set_font}
-use Rattle.zcore_standard.specs.Further.{perform_keeping, perform_further, execute_further, words_of_table, one_row}
+use Rattle.zcore_standard.specs.Performing.{perform_keeping, perform_further, execute_further, words_of_table, one_row}
 use Rattle.zcore_standard.specs.Nothing.{step_known}
 use Rattle.zcore_standard.specs.Machine.{chosen, standard_step}
 use Rattle.zcore_standard_laws.proofs.FuelFacts.{waits_spend_for}
@@ -114,7 +114,7 @@ waits_throw here word number =
     waits_then _ _ (waits_store_result caller.1 word) (λ _. waits_goes_on caller.0 here.fuel))))
 
 -- one case for each operation
-waits_perform_keeping : (loaded : Loaded) (operation : Further) (here : Next) (after : ℕ) (result : Option ℕ)
+waits_perform_keeping : (loaded : Loaded) (operation : StandardOperation) (here : Next) (after : ℕ) (result : Option ℕ)
     (branch : Option Branch) (values : List ℕ)
     → Waits (perform_keeping loaded operation here after result branch values)
 unfolding perform_keeping
@@ -186,13 +186,13 @@ waits_restart loaded here =
     waits_then _ _ (waits_spend here.next.fuel) (λ fuel.
     waits_then _ _ (λ s t h. waits_spend_for (static_base_of s.memory) fuel s t h) (λ _ s t h. waits_done _ _ t h))
 
-waits_keeping : (loaded : Loaded) (operation : Further) (here : Here) (after : ℕ) (result : Option ℕ)
+waits_keeping : (loaded : Loaded) (operation : StandardOperation) (here : Here) (after : ℕ) (result : Option ℕ)
     (branch : Option Branch) (values : List ℕ)
     → Waits (λ s. within here (perform_keeping loaded operation here.next after result branch values s))
 waits_keeping loaded operation here after result branch values =
     waits_within here _ (waits_perform_keeping loaded operation here.next after result branch values)
 
-waits_perform_further : (loaded : Loaded) (operation : Further) (here : Here) (after : ℕ) (result : Option ℕ)
+waits_perform_further : (loaded : Loaded) (operation : StandardOperation) (here : Here) (after : ℕ) (result : Option ℕ)
     (branch : Option Branch) (values : List ℕ)
     → WaitsFor (perform_further loaded operation here after result branch values)
 unfolding perform_further
@@ -216,18 +216,18 @@ waits_perform_further loaded operations.SplitWindow here after result branch val
 waits_perform_further loaded operation here after result branch values = for_well _ (waits_keeping loaded operation here
     after result branch values)
 
-waits_execute_further : (loaded : Loaded) (operation : Further) (here : Here) (r : Result (Instruction × ℕ) Fault)
+waits_execute_further : (loaded : Loaded) (operation : StandardOperation) (here : Here) (r : Result (Instruction × ℕ) Fault)
     → WaitsFor (execute_further loaded operation here r)
 waits_execute_further loaded operation here (Err cause) = for_well _ (λ s t h. waits_fault cause s t h)
 waits_execute_further loaded operation here (Ok x) = for_then _ _ (waits_operand_values x.0.operands)
     (λ values. waits_perform_further loaded operation here x.1 x.0.result x.0.branch values)
 
-waits_chosen_step : (loaded : Loaded) (here : Here) (s t : State) (o : Option Further)
+waits_chosen_step : (loaded : Loaded) (here : Here) (s t : State) (o : Option StandardOperation)
     → chosen loaded o here s ≡ halt places.Waiting t → WaitsRight t
 waits_chosen_step loaded here s t None h = waits_right t (waits_step_known loaded here.next s t
     (halt_within here (step_known loaded here.next s) t h))
 waits_chosen_step loaded here s t (Some operation) h =
-    waits_execute_further loaded operation here (decode_further s.memory here.next.program_counter operation) s t h
+    waits_execute_further loaded operation here (decode_row s.memory here.next.program_counter (row_of operation)) s t h
 
 pub standard_step_waits : (loaded : Loaded) (here : Here) (s t : State)
     → standard_step loaded here s ≡ halt places.Waiting t → WaitsRight t

@@ -13,7 +13,8 @@ use Rattle.zcore.proofs.WaitingParts.{waits_goes_on}
 use Rattle.zcore_standard.specs.Words.{dictionary_for, letters_in, slots_bytes, with_slots}
 use Rattle.zcore_standard.specs.Words.{test_letters, test_slots, test_dictionary, fill_slots, tokenise}
 use Rattle.zcore_standard.specs.Words.{searched_bytes, spend_search, form_at, write_bytes, encode_text}
-use Rattle.zcore_standard_laws.proofs.FuelFacts.{LeavesOf, keeps_spend_for, spend_for_leaves, waits_spend_for, falls_spent}
+use Rattle.zcore_standard_laws.proofs.FuelFacts.{LeavesOf, keeps_spend_for, spend_for_leaves, waits_spend_for}
+use Rattle.zcore_standard_laws.proofs.FuelFacts.{falls_spent}
 
 -- bytes that are written leave the memory as long
 pub length-with_bytes : (memory : List ℕ) (at : ℕ) (bytes : List ℕ) → length (with_bytes memory at bytes) ≡ length memory

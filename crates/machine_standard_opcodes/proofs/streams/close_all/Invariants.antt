@@ -1,5 +1,5 @@
 use Rattle.std.proofs.Common.{drop}
-use Rattle.machine_standard_windows.specs.Around.{Keeps}
+use Rattle.machine_standard_windows.specs.TurnState.{Keeps}
 use Rattle.machine_standard_opcodes.proofs.Cuts.{Closing}
 use Rattle.machine_standard_opcodes.proofs.streams.close_all.Given as goal
 

@@ -1,6 +1,6 @@
 use Rattle.std.proofs.Common.{◌≡◌, drop}
 use Rattle.zcore_standard.specs.Streams.{heard}
-use Rattle.machine_standard_windows.specs.Around.{Keeps}
+use Rattle.machine_standard_windows.specs.TurnState.{Keeps}
 use Rattle.machine_standard_opcodes.proofs.streams.cut_streams.Given as goal
 
 abbrev pub invariant-loop-i : goal.invariant-loop-i

@@ -8,7 +8,7 @@ pub drop_upper-requires : goal.drop_upper-requires
 drop_upper-requires c = keeps_begun c.cut_streams.ensures.text
 
 pub returns-clause-heard : goal.returns-clause-heard
-returns-clause-heard c = λ next. c.drop_upper.ensures.lower ∙ ap (lower c.args.around.now.upper)
+returns-clause-heard c = λ next. c.drop_upper.ensures.lower ∙ ap (lower c.args.turn.now.upper)
     (c.cut_streams.ensures.heard
     ∙ ap (λ l. heard l (drop c.args.start c.args.text.now.items)) c.as_slice.ensures.value)
 

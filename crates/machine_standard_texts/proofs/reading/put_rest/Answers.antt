@@ -2,9 +2,9 @@ use Rattle.std.proofs.Common.{◌∙◌, ◌++◌, ◌*◌, [], ap, sym}
 use Rattle.std.proofs.lemmas.Result.{err_from_is_err_and}
 use Rattle.ztext.specs.TextParts.{words_of}
 use Rattle.zcore_standard.specs.Texts.{abbreviation_codes}
-use Rattle.machine_standard_texts.specs.Pieces.{behind}
+use Rattle.machine_standard_texts.specs.Pieces.{joined}
 use Rattle.machine_standard_texts.specs.Read.{rest_of}
-use Rattle.machine_standard_texts.proofs.Read.{behind_nothing, rest_on, rest_fails, numbered, left_places, left_less}
+use Rattle.machine_standard_texts.proofs.Read.{joined_nothing, rest_on, rest_fails, numbered, left_places, left_less}
 use Rattle.machine_standard_texts.proofs.Printed.{begun_by, extends_after, extends_still, on_none, on_then}
 use Rattle.machine_standard_texts.proofs.reading.put_rest.Goals as goal
 
@@ -15,7 +15,7 @@ loop-named-init c = record {
   so_far = (
     [],
     on_none _ _ _,
-    behind_nothing _,
+    joined_nothing _,
   );
 }
 
@@ -34,7 +34,7 @@ returns-in_err-put_abbreviation-clause-read c =
     let so_far = c.loop-named.invariant.so_far in
     rw (p.1, p.2)
     (rest_fails c.args.alphabets.now expand zs c.in_err-put_abbreviation.field-0.0 c.in-Some.field-0 so_far.0 _
-    (sym (ap (λ o. behind so_far.0 (rest_of c.args.alphabets.now expand zs o)) c.in-Some.is) ∙ so_far.2)
+    (sym (ap (λ o. joined so_far.0 (rest_of c.args.alphabets.now expand zs o)) c.in-Some.is) ∙ so_far.2)
     c.in_err-put_abbreviation.ensures.read)
 
 pub returns-in_err-put_abbreviation-clause-text : goal.returns-in_err-put_abbreviation-clause-text
@@ -56,7 +56,7 @@ loop-named-preserved c =
         so_far.0 ++ (first.0 ++ second.0),
         on_then so_far.0 (first.0 ++ second.0) so_far.1 (on_then first.0 second.0 first.2 second.2),
         rest_on c.args.alphabets.now expand zs c.in-Some.field-0 c.put_plain-named.result so_far.0 first.0 second.0 _
-            (sym (ap (λ o. behind so_far.0 (rest_of c.args.alphabets.now expand zs o)) c.in-Some.is) ∙ so_far.2)
+            (sym (ap (λ o. joined so_far.0 (rest_of c.args.alphabets.now expand zs o)) c.in-Some.is) ∙ so_far.2)
             first.1 second.1,
       );
     }

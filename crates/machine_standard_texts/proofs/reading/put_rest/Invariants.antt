@@ -1,7 +1,7 @@
 use Rattle.std.proofs.Common.{◌≡◌, ◌*◌, ℕ, List, Some, drop}
 use Rattle.ztext.specs.TextParts.{words_of}
 use Rattle.zcore_standard.specs.Texts.{abbreviation_codes}
-use Rattle.machine_standard_texts.specs.Pieces.{behind}
+use Rattle.machine_standard_texts.specs.Pieces.{joined}
 use Rattle.machine_standard_texts.specs.Put.{Extends, PrintsOn}
 use Rattle.machine_standard_texts.specs.Read.{rest_of}
 use Rattle.machine_standard_texts.proofs.Read.{IsNumbered, left_places}
@@ -13,7 +13,7 @@ invariant-loop-named l = record {
   extends : Extends l.start l.fn.text.items l.text.items;
   so_far : (got : List ℕ)
       × PrintsOn l.characters l.fn.halted l.halted (drop l.start l.fn.text.items) (drop l.start l.text.items) got
-      × (behind got (rest_of l.alphabets (abbreviation_codes l.alphabets l.story) (words_of l.words l.bytes) l.named)
+      × (joined got (rest_of l.alphabets (abbreviation_codes l.alphabets l.story) (words_of l.words l.bytes) l.named)
       ≡ rest_of l.alphabets (abbreviation_codes l.alphabets l.story) (words_of l.words l.bytes) (Some l.fn.first));
 }
 

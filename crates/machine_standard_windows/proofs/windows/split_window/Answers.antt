@@ -3,10 +3,10 @@ use Rattle.machine_standard_windows.proofs.Selecting.{redraws_by, redraws_nothin
 use Rattle.machine_standard_windows.proofs.windows.split_window.Goals as goal
 
 pub returns-then-lines-ne0-clause-redraws : goal.returns-then-lines-ne0-clause-redraws
-returns-then-lines-ne0-clause-redraws c = redraws_nothing c.args.start c.args.around.now c.args.text.now.items
+returns-then-lines-ne0-clause-redraws c = redraws_nothing c.args.start c.args.turn.now c.args.text.now.items
     (λ here. split_window here c.args.lines) (splits_some c.args.lines c.if-lines-ne0.true)
 
 pub returns-clause-redraws : goal.returns-clause-redraws
-returns-clause-redraws c = redraws_by c.args.start c.args.around.now c.erase_upper.new.around _ _ erase_upper
+returns-clause-redraws c = redraws_by c.args.start c.args.turn.now c.erase_upper.new.turn _ _ erase_upper
     (λ here. split_window here c.args.lines) (splits_none c.args.lines c.if-lines-ne0.false)
     c.erase_upper.ensures.redraws

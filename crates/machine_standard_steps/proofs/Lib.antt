@@ -1,3 +1,0 @@
-pub mod Decoding
-pub mod Doing
-pub mod Stepping

@@ -1,3 +1,0 @@
-pub mod Opcodes
-pub mod Lacks
-pub mod Further
