@@ -98,7 +98,7 @@ pub fn into_items(draft: Draft<'_>) -> Vec<Item<'_>>
 /// Puts the items of a draft in order, from the first to the last, and numbers their targets.
 fn put_in_order(items: &mut [Item<'_>])
     ensures { items_of items.new
-        ≡ spec.into_items (length (items_of items.old)) (items_of items.old) }
+        ≡ spec.in_order (length (items_of items.old)) (items_of items.old) }
 {
     let count = items.len();
     items.reverse();

@@ -10,8 +10,8 @@ use Rattle.meaning.specs.Resolved as source
 use Rattle.meaning.specs.Accepted.{IsWhole, IsPart}
 use Rattle.meaning.specs.World.{Situation, Comes, to, Part, bound, ◌>>=◌, give, ended, spend, units}
 use Rattle.meaning.specs.World as world
-use Rattle.meaning.specs.Meaning.{is_true, evaluate, Ending, goes_on, breaks, continues, returns, behind_body, round}
-use Rattle.meaning.specs.Meaning.{rounds, once, tested, behind_round, until, run}
+use Rattle.meaning.specs.Meaning.{is_true, evaluate, Ending, goes_on, breaks, continues, returns, after_body, round}
+use Rattle.meaning.specs.Meaning.{rounds, once, tested, after_round, until, run}
 use Rattle.code_drafts.specs.Items.{nowhere, agrees, branch_count, branch_items, is_one_test, last_back}
 use Rattle.code_items.specs.Statements.{once_count, once_items, test_count, test_items, action_count, Exits, exits_to}
 use Rattle.code_items.specs.Statements.{action_items, until_count, until_items}
@@ -95,7 +95,7 @@ module _ (now : Running) where
         closing last = on now behind _ (closes last n) (λ wanted later _. told wanted later)
 
         left : (e : Ending) (last : Situation) → Leads now last n (ended_at now (exits_to close end) close e last)
-            (behind_body e (behind >>= λ wanted. if wanted then again else give goes_on) last) (ended_at now x end)
+            (after_body e (behind >>= λ wanted. if wanted then again else give goes_on) last) (ended_at now x end)
         left goes_on last = closing last
         left breaks last = goes_at now x end end refl
         left continues last = closing last
@@ -103,7 +103,7 @@ module _ (now : Running) where
 
         entered : (b : Bool) (last : Situation) → Leads now last n
             (stands now (if agrees b false then end else inside) [] last)
-            ((if b then (body >>= λ e. behind_body e (behind >>= λ wanted. if wanted then again else give goes_on))
+            ((if b then (body >>= λ e. after_body e (behind >>= λ wanted. if wanted then again else give goes_on))
             else give goes_on) last) (ended_at now x end)
         entered true last = on now body _ (runs last n) (λ e later _. left e later)
         entered false last = goes_at now x end end refl
@@ -224,7 +224,7 @@ module _ (now : Running) where
       (value_ok now v).branch s n pc t q [] false has le (omega (arith, fine.1))
 
   behind_does : (v : Option Value) → IsPart p (locals now) v → (s : Situation) (n pc t q : ℕ)
-      → HasAt (code now) pc (once_items pc v) q → Leads now s n (stands now pc [] s) (behind_round (setting now) v s)
+      → HasAt (code now) pc (once_items pc v) q → Leads now s n (stands now pc [] s) (after_round (setting now) v s)
       (λ wanted last. stands now (if wanted then q else t) [] last)
   behind_does v fine s n pc t q has = on now (once (setting now) v) _ (once_does v fine s n pc q has)
       (λ _ last _. given now {behind = λ wanted last. stands now (if wanted then q else t) [] last} true)
@@ -245,7 +245,7 @@ module _ (now : Running) where
       let hb = split (code now) c (once_items c behind) _ q (once_count behind) (once_length behind c) ha.1 in
       let each = run (setting now) a in
       let first = tested (setting now) test in
-      let last = behind_round (setting now) behind in
+      let last = after_round (setting now) behind in
       at_place now (ended_at now x) (e + 1) q hb.1.1
       (on now (once (setting now) before) _ (once_does before fine_before s n pc top h.0)
       (λ _ s1 _. loop_does x first each last top (e + 1)

@@ -9,7 +9,7 @@ use Rattle.meaning.specs.Resolved.{Value, RangeOf, CasesOf}
 use Rattle.meaning.specs.Resolved as source
 use Rattle.meaning.specs.Accepted.{IsWhole}
 use Rattle.meaning.specs.World.{Situation, Comes, to, Part}
-use Rattle.meaning.specs.Meaning.{evaluate, Ending, goes_on, breaks, continues, returns, holds_for, behind_case}
+use Rattle.meaning.specs.Meaning.{evaluate, Ending, goes_on, breaks, continues, returns, holds_for, after_case}
 use Rattle.meaning.specs.Meaning.{run_cases}
 use Rattle.code_drafts.specs.Items.{Item, aside, agrees, value_count, value_items, same, less, greater}
 use Rattle.code_items.specs.Statements.{Group, numbers, range, groups_of, group_count, group_items, last_items}
@@ -203,7 +203,7 @@ module _ (now : Running) where
       (λ ending s2 _. leaves e all ending s2))
     where
       leaves : (e : ℕ) → e ≡ q → (ending : Ending) (last : Situation)
-          → Leads now last n (ended_at now (record x { breaks = e }) q ending last) (to (behind_case ending) last)
+          → Leads now last n (ended_at now (record x { breaks = e }) q ending last) (to (after_case ending) last)
           (ended_at now x q)
       leaves e is goes_on last = goes_at now x q q refl
       leaves e is breaks last = goes_at now x e q is

@@ -2,8 +2,8 @@
 
 use crate::explanation::{Explanation, explanations};
 
-/// Z1 to Z9.
-pub(crate) static STORIES: [Explanation; 9] = explanations![
+/// Z1 to Z12.
+pub(crate) static STORIES: [Explanation; 12] = explanations![
     "Z1" "text with a bad character" =>
         "A text of the story has an escape for a character that cannot be printed: any
 other than 0 (none), 13 (a new line) and 32 to 126. In a turn this is machine
@@ -25,8 +25,8 @@ meant.";
     "Z5" "not of version 5 or 8" =>
         "The first byte of a story is its version, and only 5 and 8 are played. A file
 with another first byte is a story of another version, for another player, or
-not a story: a source file, a packed file, a Glulx story, or a Blorb file, from
-which the story must be extracted first. Compile it for version 5 or 8, or
+not a story: a source file, a packed file, or a Glulx story. Of a Blorb file,
+play --standard plays the story in it. Compile a story for version 5 or 8, or
 check that it is the file you meant.";
     "Z6" "a part outside its memory" =>
         "The header says that a part of the story is where it may not be: globals and
@@ -48,4 +48,18 @@ bytes 28 and 29.";
         "The system refused memory while the story was loaded. This says nothing about
 the story. End other programs or raise the memory limit (ulimit -v), and play it
 again.";
+    "Z10" "damaged Blorb file" =>
+        "A Blorb file packs a story with pictures and sounds, and begins with an index
+of them. This file is shorter than it states, its index is not as long as its
+entries, or the story is not between the index and the end. Or the file states
+more than 64 MB. It was cut off, or something in it was changed: copy or
+download it again.";
+    "Z11" "Blorb file without a program" =>
+        "The index of a Blorb file says which part of it is the program to run, and this
+index names none. Such a file has only pictures or sounds for a story that is in
+another file: play that file.";
+    "Z12" "Blorb file for another machine" =>
+        "The program in a Blorb file is not a story of the Z-machine. Mostly it is a
+Glulx story, in a file whose name ends in .gblorb: play it with a player for
+Glulx, or look for an edition of the game for the Z-machine.";
 ];

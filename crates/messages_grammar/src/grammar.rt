@@ -28,12 +28,12 @@ pub struct Told {
 
 /// What is known of a token that does not fit, and the memory for what is said of it.
 #[derive(Clone, Copy)]
-struct Found<'a, 't> {
+struct Found<'a, 't, 'w> {
     alloc: Global,
     tokens: &'t [Token<'a>],
 
     /// The kinds of tokens with which a program could go on, if they were asked for.
-    wanted: Expected<'t>,
+    wanted: Expected<'w>,
 
     number: usize,
     token: Token<'a>,
@@ -149,7 +149,7 @@ fn is_wanted(wanted: Expected<'_>, sign: Sign) -> bool {
 
 /// Whether a token begins a line, and `;` is expected or may be missing before it. Then the place to
 /// show is the end of the line before.
-fn is_after_line(found: Found<'_, '_>, cause: Cause) -> bool {
+fn is_after_line(found: Found<'_, '_, '_>, cause: Cause) -> bool {
     let is_missing = match cause {
         Cause::Missing(missing, _) => matches!(missing.sign, Sign::Semicolon),
         Cause::Unknown => false,
@@ -169,7 +169,7 @@ fn detail_of(wanted: Expected<'_>, missing: Missing) -> Detail {
 }
 
 /// What is wrong at the end of the line before a token, where signs may be missing or not.
-fn after_line(found: Found<'_, '_>, cause: Cause) -> Result<Told, AllocError> {
+fn after_line(found: Found<'_, '_, '_>, cause: Cause) -> Result<Told, AllocError> {
     let wanted = found.wanted;
     let line = line_of(found.tokens, before(found.number, 1));
     let detail = match cause {
@@ -186,7 +186,7 @@ fn after_line(found: Found<'_, '_>, cause: Cause) -> Result<Told, AllocError> {
 }
 
 /// What is wrong with a token before which signs may be missing.
-fn missing_before(found: Found<'_, '_>, missing: Missing) -> Result<String, AllocError> {
+fn missing_before(found: Found<'_, '_, '_>, missing: Missing) -> Result<String, AllocError> {
     let wanted = found.wanted;
     let met = Met(found.token);
     let detail = match open_before(found.tokens, found.number, missing.sign) {
@@ -205,7 +205,7 @@ fn is_brace(token: Token<'_>) -> bool {
 }
 
 /// What to do about a token that does not fit, by its likely cause, if the sentence ends with that.
-fn remedy_of<'a>(found: Found<'a, '_>, cause: Cause) -> Option<Remedy<'a>> {
+fn remedy_of<'a>(found: Found<'a, '_, '_>, cause: Cause) -> Option<Remedy<'a>> {
     let tokens = found.tokens;
     let last = before(found.number, 1);
     match cause {
@@ -229,14 +229,14 @@ fn remedy_of<'a>(found: Found<'a, '_>, cause: Cause) -> Option<Remedy<'a>> {
 }
 
 /// What is wrong with a token, and what to do.
-fn remedied(found: Found<'_, '_>, remedy: Remedy<'_>) -> Result<String, AllocError> {
+fn remedied(found: Found<'_, '_, '_>, remedy: Remedy<'_>) -> Result<String, AllocError> {
     let wanted = found.wanted;
     let met = Met(found.token);
     format!(in found.alloc; "{wanted} expected, not {met}: {remedy}")
 }
 
 /// What is wrong with a token that is a form of another language, or a slip of a known kind.
-fn advised(found: Found<'_, '_>, advice: Advice) -> Result<String, AllocError> {
+fn advised(found: Found<'_, '_, '_>, advice: Advice) -> Result<String, AllocError> {
     match advice {
         Advice::Do(what) => remedied(found, Remedy::Do(what)),
         Advice::Absent(what, feature) => format!(in found.alloc; "{}", Absent(what, feature)),
@@ -249,7 +249,7 @@ fn advised(found: Found<'_, '_>, advice: Advice) -> Result<String, AllocError> {
 
 /// What is wrong with a token that is a misspelt or a reserved word, the token of a number, or any
 /// other.
-fn by_word(found: Found<'_, '_>, cause: Cause) -> Result<String, AllocError> {
+fn by_word(found: Found<'_, '_, '_>, cause: Cause) -> Result<String, AllocError> {
     let wanted = found.wanted;
     match cause {
         Cause::Misspelt(place, word) => {
@@ -266,7 +266,7 @@ fn by_word(found: Found<'_, '_>, cause: Cause) -> Result<String, AllocError> {
 }
 
 /// What is wrong with a token, by its likely cause, in a sentence about the token itself.
-fn at_token(found: Found<'_, '_>, cause: Cause) -> Result<String, AllocError> {
+fn at_token(found: Found<'_, '_, '_>, cause: Cause) -> Result<String, AllocError> {
     if let Some(remedy) = remedy_of(found, cause) {
         return remedied(found, remedy);
     }
@@ -283,7 +283,7 @@ fn at_token(found: Found<'_, '_>, cause: Cause) -> Result<String, AllocError> {
 }
 
 /// What is wrong with a token, by its likely cause.
-fn by_cause(found: Found<'_, '_>, cause: Cause) -> Result<Told, AllocError> {
+fn by_cause(found: Found<'_, '_, '_>, cause: Cause) -> Result<Told, AllocError> {
     let is_earlier = match cause {
         Cause::Missing(_, place) => place < found.number,
         _ => false,
@@ -331,7 +331,7 @@ pub fn misfit_at<'a>(
 }
 
 /// What is wrong with the first token that does not fit.
-fn explained(source: &[u8], found: Found<'_, '_>) -> Result<Told, AllocError> {
+fn explained(source: &[u8], found: Found<'_, '_, '_>) -> Result<Told, AllocError> {
     let mut trial = Trial::of(found.alloc, found.tokens);
     let cause = likely_cause(&mut trial, source, found.number, found.wanted.0);
     if trial.is_refused {

@@ -3,7 +3,10 @@
 use crate::names::shown_mark;
 use crate::unread::{Unread, regular_story};
 use crate::{broken, refuse};
+use blorb::BlorbFault;
+use messages_explanations::Program;
 use session::{LoadFault, RunFault};
+use std::fmt::Display;
 use std::io;
 use std::process::ExitCode;
 use survey::{Brief, Columns, Contents, Mode, Survey};
@@ -49,8 +52,9 @@ fn shown(file: &str) -> OneLine<'_> {
 
 /// Says what is in a file.
 fn check_alone(rt: &HostRuntime, file: &str, mode: Mode) -> ExitCode {
-    let story = match regular_story(rt, file) {
-        Ok(story) => story,
+    let story = match regular_story(rt, file, mode) {
+        Ok(Ok(story)) => story,
+        Ok(Err(fault)) => return refuse_blorb(rt, fault),
         Err(cause) => return refuse(rt, format_args!("cannot read {}{cause}", shown(file))),
     };
     let Ok(survey) = Survey::read(rt.alloc(), story.as_slice(), mode) else {
@@ -80,12 +84,13 @@ fn check_each(rt: &HostRuntime, files: &[&str], mode: Mode, format: Format) -> E
 /// Says in a line whether a file loads, and returns its status.
 fn check_in_line(rt: &HostRuntime, file: &str, mode: Mode, format: Format) -> io::Result<u8> {
     let name = shown(file);
-    let story = match regular_story(rt, file) {
-        Ok(story) => story,
+    let story = match regular_story(rt, file, mode) {
+        Ok(Ok(story)) => story,
+        Ok(Err(fault)) => return refused(rt, name, format, fault),
         Err(cause) => return unread(rt, name, format, cause),
     };
     let Ok(survey) = Survey::read(rt.alloc(), story.as_slice(), mode) else {
-        return unknown(rt, name, format);
+        return refused(rt, name, format, LoadFault::Memory);
     };
     let status = match &survey.found {
         Ok(contents) => status_of(contents),
@@ -133,9 +138,14 @@ fn unread(rt: &HostRuntime, name: OneLine<'_>, format: Format, cause: Unread) ->
     }
 }
 
-/// Says in a line that memory was refused to look at a file, and returns the status.
-fn unknown(rt: &HostRuntime, name: OneLine<'_>, format: Format) -> io::Result<u8> {
-    let fault = LoadFault::Memory;
+/// Says in a line why there is no story to look at, and returns the status: a Blorb file has none, or
+/// memory was refused.
+fn refused<F: Display + Drop>(
+    rt: &HostRuntime,
+    name: OneLine<'_>,
+    format: Format,
+    fault: F,
+) -> io::Result<u8> {
     let printed = match format {
         Format::Words => println!(rt; "{name}: {fault}"),
         Format::Columns => println!(rt; "{name}\t{REFUSED}\t{fault}\t\t\t\t\t\t"),
@@ -144,6 +154,22 @@ fn unknown(rt: &HostRuntime, name: OneLine<'_>, format: Format) -> io::Result<u8
         Ok(()) => Ok(REFUSED),
         Err(error) => Err(error),
     }
+}
+
+/// Says why a Blorb file has no story that can be played.
+fn refuse_blorb(rt: &HostRuntime, fault: BlorbFault) -> ExitCode {
+    let name = match fault {
+        BlorbFault::Damaged => "Z10",
+        BlorbFault::NoProgram => "Z11",
+        BlorbFault::OtherProgram => "Z12",
+    };
+    if let Some(explanation) = Program::Play.explanations().find(name) {
+        let title = explanation.title;
+        if println!(rt; "{fault}: {title}").is_err() {
+            return broken(rt, RunFault::Writing);
+        }
+    }
+    refuse(rt, fault)
 }
 
 /// The status of a story that loads.

@@ -8,7 +8,7 @@ mod place;
 mod reading;
 mod screen;
 mod standing;
-mod terminal;
+mod transcript;
 mod unread;
 
 ghost use Rattle.terminal.specs.Range.{IsInRange};
@@ -16,15 +16,14 @@ ghost use Rattle.terminal.specs.Range.{IsInRange};
 use crate::checking::{check, take_mode};
 use crate::names::{given_words, has_marked};
 use crate::place::{Placed, map_in, rows_in};
-use crate::reading::read_story;
+use crate::reading::story_in;
 use crate::screen::Screen;
-use crate::terminal::Transcript;
+use crate::transcript::Transcript;
 use map_text::Row;
 use messages_explanations::Program;
 use session::{Mode, Place, RunFault, Session, run, status};
 use std::fmt::Display;
-use std::fs::File;
-use std::io::{self, IsTerminal, Write};
+use std::io::{IsTerminal, Write};
 use std::process::ExitCode;
 use terminal::play::{Asked, Words, take_format, words_of};
 use terminal::{OneLine, Wrapped};
@@ -95,9 +94,18 @@ pub(crate) fn broken(rt: &HostRuntime, fault: RunFault) -> ExitCode {
     ExitCode::from(BROKEN)
 }
 
-/// The story in a file of this name.
-pub(crate) fn story_in(rt: &HostRuntime, name: &str) -> io::Result<Vec<u8>> {
-    read_story(rt.alloc(), File::open(rt, name)?)
+/// The story that is to be played, or else the status with which the program ends, which has said
+/// why.
+fn story_of(rt: &HostRuntime, words: Words<'_>) -> Result<Vec<u8>, ExitCode> {
+    let mode = match words.seed {
+        Some(_) => survey::Mode::Standard,
+        None => survey::Mode::Profile,
+    };
+    match story_in(rt, words.story, mode) {
+        Ok(Ok(story)) => Ok(story),
+        Ok(Err(fault)) => Err(refuse(rt, fault)),
+        Err(_) => Err(refuse(rt, format_args!("cannot read {}", OneLine(words.story)))),
+    }
 }
 
 /// Plays a story file on the lines of standard input. The transcript goes to standard output, each
@@ -107,8 +115,9 @@ pub(crate) fn story_in(rt: &HostRuntime, name: &str) -> io::Result<Vec<u8>> {
 fn play(rt: &HostRuntime, words: Words<'_>) -> ExitCode
     requires { IsInRange words }
 {
-    let Ok(story) = story_in(rt, words.story) else {
-        return refuse(rt, format_args!("cannot read {}", OneLine(words.story)));
+    let story = match story_of(rt, words) {
+        Ok(story) => story,
+        Err(status) => return status,
     };
     let Some(map) = words.map else {
         return play_story(rt, words, story, &[]);

@@ -1,10 +1,12 @@
 //! Why a file is not read.
 
 use crate::names::shown_mark;
-use crate::story_in;
+use crate::reading::story_in;
+use blorb::BlorbFault;
 use std::fmt::{self, Display};
 use std::fs;
 use std::io::{self, ErrorKind};
+use survey::Mode;
 
 /// Why a file is not read. `Display` writes it after what cannot be read: a colon, and the words, if
 /// there are any.
@@ -63,9 +65,14 @@ impl Display for Unread {
     }
 }
 
-/// The story in a regular file of this name, or why it is not read. No other file is opened: to open a
-/// pipe that nobody writes to would take for ever.
-pub fn regular_story(rt: &HostRuntime, name: &str) -> Result<Vec<u8>, Unread> {
+/// The story in a regular file of this name for a machine, or why a Blorb file has none, or why the
+/// file is not read. No other file is opened: to open a pipe that nobody writes to would take for
+/// ever.
+pub fn regular_story(
+    rt: &HostRuntime,
+    name: &str,
+    mode: Mode,
+) -> Result<Result<Vec<u8>, BlorbFault>, Unread> {
     if shown_mark(name).is_some() {
         return Err(Unread::Unnamed);
     }
@@ -79,7 +86,7 @@ pub fn regular_story(rt: &HostRuntime, name: &str) -> Result<Vec<u8>, Unread> {
     if !metadata.is_file() {
         return Err(Unread::Irregular);
     }
-    match story_in(rt, name) {
+    match story_in(rt, name, mode) {
         Ok(story) => Ok(story),
         Err(error) => Err(Unread::of(&error)),
     }

@@ -7,7 +7,7 @@ use Rattle.std.proofs.lemmas.Bool.{cases_eq}
 use Rattle.std.proofs.lemmas.List.{length-map, get_or-map, map_push}
 use Rattle.tables.specs.declared.row.ObjectRow.{ObjectRow}
 use Rattle.meaning.specs.declared.checked.CheckedObject.{CheckedObject}
-use Rattle.meaning.specs.Objects.{ObjectOf, object_at, no_object, standing_in, first_of, behind_in}
+use Rattle.meaning.specs.Objects.{ObjectOf, object_at, no_object, standing_in, first_of, after_in}
 use Rattle.meaning.specs.Places.{machine_character}
 use Rattle.meaning.specs.Views.{CheckedProgram, object_of, program_of, property_of}
 use Rattle.meaning.proofs.ObjectLists.{if_same, if_other}
@@ -19,35 +19,35 @@ use Rattle.story_file.specs.Linked.{AreLinked, ArePlaced}
 
 -- past an object that stands earlier
 passed_by : (p o : ℕ) (x : ObjectOf) (xs : List ObjectOf) (i : ℕ) → (x.parent ≡ p) ⊎ (x.parent ≢ p)
-    → behind_in (suc o + i) (standing_in p (suc o) xs) ≡ first_of (standing_in p (suc o + i + 1) (drop (i + 1) xs))
-    → behind_in (o + suc i) (standing_in p o (x ∷ xs))
+    → after_in (suc o + i) (standing_in p (suc o) xs) ≡ first_of (standing_in p (suc o + i + 1) (drop (i + 1) xs))
+    → after_in (o + suc i) (standing_in p o (x ∷ xs))
     ≡ first_of (standing_in p (o + suc i + 1) (drop (suc i + 1) (x ∷ xs)))
 passed_by p o x xs i which follows =
     let rest : List ℕ = standing_in p (suc o) xs in
     let at : suc o + i ≡ o + suc i = omega arith in
     let index : suc (i + 1) ≡ suc i + 1 = omega arith in
-    let later : behind_in (o + suc i) rest ≡ first_of (standing_in p (o + suc i + 1) (drop (suc i + 1) (x ∷ xs))) =
-    ap (λ n. behind_in n rest) (sym at) ∙ follows
+    let later : after_in (o + suc i) rest ≡ first_of (standing_in p (o + suc i + 1) (drop (suc i + 1) (x ∷ xs))) =
+    ap (λ n. after_in n rest) (sym at) ∙ follows
     ∙ ap (λ n. first_of (standing_in p (n + 1) (drop (i + 1) xs))) at
     ∙ ap (λ n. first_of (standing_in p (o + suc i + 1) (drop n (x ∷ xs)))) index in
     elim which [
       | inl e ↦
-          ap (behind_in (o + suc i)) (if_same x.parent p (o ∷ rest) rest e)
-          ∙ if_other o (o + suc i) (first_of rest) (behind_in (o + suc i) rest) (λ f. omega (arith, f)) ∙ later
-      | inr e ↦ ap (behind_in (o + suc i)) (if_other x.parent p (o ∷ rest) rest e) ∙ later
+          ap (after_in (o + suc i)) (if_same x.parent p (o ∷ rest) rest e)
+          ∙ if_other o (o + suc i) (first_of rest) (after_in (o + suc i) rest) (λ f. omega (arith, f)) ∙ later
+      | inr e ↦ ap (after_in (o + suc i)) (if_other x.parent p (o ∷ rest) rest e) ∙ later
     ]
 
 -- the one after an object is the first of those that follow it
 pub behind_is : (p o : ℕ) (xs : List ObjectOf) (i : ℕ) → i < length xs
     → (slice_index_or xs i no_object).parent ≡ p
-    → behind_in (o + i) (standing_in p o xs) ≡ first_of (standing_in p (o + i + 1) (drop (i + 1) xs))
+    → after_in (o + i) (standing_in p o xs) ≡ first_of (standing_in p (o + i + 1) (drop (i + 1) xs))
 behind_is p o [] i lt same = absurd (omega (arith, lt))
 behind_is p o (x ∷ xs) zero lt same =
     let rest : List ℕ = standing_in p (suc o) xs in
     let at : o ≡ o + zero = omega arith in
     let next : suc o ≡ o + zero + 1 = omega arith in
-    ap (behind_in (o + zero)) (if_same x.parent p (o ∷ rest) rest same)
-    ∙ if_same o (o + zero) (first_of rest) (behind_in (o + zero) rest) at
+    ap (after_in (o + zero)) (if_same x.parent p (o ∷ rest) rest same)
+    ∙ if_same o (o + zero) (first_of rest) (after_in (o + zero) rest) at
     ∙ ap (λ n. first_of (standing_in p n xs)) next
 behind_is p o (x ∷ xs) (suc i) lt same =
     passed_by p o x xs i (cases_eq x.parent p) (behind_is p (suc o) xs i (omega (arith, lt)) same)
@@ -89,9 +89,9 @@ module _ (xs : List CheckedObject) (i : ℕ) (x : CheckedObject) (lt : i < lengt
         let there : (slice_index_or objects i no_object).parent ≡ x.parent =
         ap (λ o. o.parent) (get_or-map object_of xs i x no_object lt ∙ ap object_of (sym is)) in
         let within : i < length objects = omega (arith, lt, length-map xs object_of) in
-        sym (ap (λ p. behind_in (i + 1) (children p)) parent_is
-        ∙ ap (behind_in (i + 1)) (if_other x.parent 0 [] (standing_in x.parent 1 objects) some)
-        ∙ ap (λ n. behind_in n (standing_in x.parent 1 objects)) (sym at)
+        sym (ap (λ p. after_in (i + 1) (children p)) parent_is
+        ∙ ap (after_in (i + 1)) (if_other x.parent 0 [] (standing_in x.parent 1 objects) some)
+        ∙ ap (λ n. after_in n (standing_in x.parent 1 objects)) (sym at)
         ∙ behind_is x.parent 1 objects i within there
         ∙ ap (λ n. first_of (standing_in x.parent (n + 1) (drop (i + 1) objects))) at)
 

@@ -1,6 +1,6 @@
 //! The parts of a story that stand at packed addresses.
 
-ghost use Rattle.std.specs.Prelude.{◌≡◌, ◌+◌, ◌-◌, ◌++◌, [], ◌∷◌, true, IfOk, OnOk, length, map, replicate, ℕ, List};
+ghost use Rattle.std.specs.Prelude.{◌≡◌, ◌-◌, ◌++◌, [], ◌∷◌, true, IfOk, OnOk, length, map, replicate, ℕ, List};
 ghost use Rattle.std.specs.List.{All, list_all};
 ghost use Rattle.ztext.specs.Alphabets.{is_printable};
 ghost use Rattle.zcore.specs.Header.{scale_of};

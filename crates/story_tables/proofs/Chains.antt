@@ -3,7 +3,7 @@ use Rattle.std.proofs.Common.{◌≡◌, ◌==◌, ℕ, ◌≤◌, zero, suc, Bo
 use Rattle.std.proofs.Common.{Some, None, refl, ap, sym, ◌∙◌, arith, subst, inl, inr, ◌⊎◌}
 use Rattle.std.proofs.lemmas.Bool.{cases_eq}
 use Rattle.zcore.specs.Entries.{Link, Sibling, owner}
-use Rattle.meaning.specs.Objects.{without, first_of, behind_in}
+use Rattle.meaning.specs.Objects.{without, first_of, after_in}
 use Rattle.meaning.specs.Forests.{Among, Once, IsObjectNumber}
 use Rattle.meaning.proofs.ObjectLists.{if_same, if_other, without_other, without_absent}
 use Rattle.story_tables.specs.Links.{Links, IsChain}
@@ -21,7 +21,7 @@ pub record WroteLink (n : ℕ) (old : Links) (at : Link) (word : ℕ) (new : Lin
   pub here : new at ≡ word
   pub there : (d : Link) → IsObjectNumber n (owner d) → (d ≡ at → ⊥) → new d ≡ old d
 
-pub behind_absent : (o : ℕ) (xs : List ℕ) → (Among o xs → ⊥) → behind_in o xs ≡ 0
+pub behind_absent : (o : ℕ) (xs : List ℕ) → (Among o xs → ⊥) → after_in o xs ≡ 0
 behind_absent o [] not = refl
 behind_absent o (x ∷ xs) not =
     if_other x o _ _ (λ e. not (inl (sym e))) ∙ behind_absent o xs (λ a. not (inr a))
@@ -33,14 +33,14 @@ chain_first l c [] chain = chain
 chain_first l c (x ∷ xs) chain = chain.0
 
 pub chain_behind : (l : Links) (c : Link) (o : ℕ) (xs : List ℕ) → IsChain l c xs → Among o xs
-    → l (Sibling o) ≡ behind_in o xs
+    → l (Sibling o) ≡ after_in o xs
 chain_behind l c o [] chain a = absurd a
 chain_behind l c o (x ∷ xs) chain (inl e) = ap (λ y. l (Sibling y)) e ∙ chain_first l (Sibling x) xs chain.1
-    ∙ sym (if_same x o (first_of xs) (behind_in o xs) (sym e))
+    ∙ sym (if_same x o (first_of xs) (after_in o xs) (sym e))
 chain_behind l c o (x ∷ xs) chain (inr a) = elim (cases_eq x o) [
   | inl same ↦ ap (λ y. l (Sibling y)) (sym same) ∙ chain_first l (Sibling x) xs chain.1
-      ∙ sym (if_same x o (first_of xs) (behind_in o xs) same)
-  | inr other ↦ chain_behind l (Sibling x) o xs chain.1 a ∙ sym (if_other x o (first_of xs) (behind_in o xs) other)
+      ∙ sym (if_same x o (first_of xs) (after_in o xs) same)
+  | inr other ↦ chain_behind l (Sibling x) o xs chain.1 a ∙ sym (if_other x o (first_of xs) (after_in o xs) other)
 ]
 
 pub sibling_of : {x y : ℕ} → Sibling x ≡ Sibling y → x ≡ y

@@ -3,7 +3,7 @@ use Rattle.std.proofs.Common.{◌≡◌, ℕ, List, [], ◌∷◌, refl, ap, sym
 use Rattle.std.proofs.lemmas.Bool.{cases_eq}
 use Rattle.zcore.specs.Entries.{Link, Parent, Sibling, Child, owner}
 use Rattle.syntax_trees.specs.declared.tree.Relative.TheVariants as relatives
-use Rattle.meaning.specs.Objects.{Tree, first_of, behind_in, relative_in}
+use Rattle.meaning.specs.Objects.{Tree, first_of, after_in, relative_in}
 use Rattle.meaning.specs.Forests.{Among, Once, IsObjectNumber, IsForest}
 use Rattle.meaning.proofs.ObjectLists.{if_same, if_other}
 use Rattle.meaning.proofs.Forests.{nowhere}
@@ -40,13 +40,13 @@ tree_kept n t l m forest holds same = record {
 -- Links that tell of a tree hold it.
 
 chain_of : (l : Links) (c : Link) (xs : List ℕ) → Once xs → l c ≡ first_of xs
-    → ((x : ℕ) → Among x xs → l (Sibling x) ≡ behind_in x xs) → IsChain l c xs
+    → ((x : ℕ) → Among x xs → l (Sibling x) ≡ after_in x xs) → IsChain l c xs
 chain_of l c [] once is next = is
 chain_of l c (x ∷ xs) once is next =
-    let second : l (Sibling x) ≡ first_of xs = next x (inl refl) ∙ if_same x x (first_of xs) (behind_in x xs) refl in
-    let later : (y : ℕ) → Among y xs → l (Sibling y) ≡ behind_in y xs = λ y a.
+    let second : l (Sibling x) ≡ first_of xs = next x (inl refl) ∙ if_same x x (first_of xs) (after_in x xs) refl in
+    let later : (y : ℕ) → Among y xs → l (Sibling y) ≡ after_in y xs = λ y a.
     next y (inr a)
-    ∙ if_other x y (first_of xs) (behind_in y xs) (λ e. once.0 (subst (λ z. Among z xs) (sym e) a)) in
+    ∙ if_other x y (first_of xs) (after_in y xs) (λ e. once.0 (subst (λ z. Among z xs) (sym e) a)) in
     (is, chain_of l (Sibling x) xs once.1 second later)
 
 pub told_tree : (n : ℕ) (t : Tree) (l : Links) → IsForest n t
@@ -58,7 +58,7 @@ told_tree n t l forest parent child sibling = record {
   chains = λ p i.
       chain_of l (Child p) (t.children p) (forest.once p) (child p i)
       (λ x a. sibling x (forest.objects p x a)
-      ∙ ap (λ q. behind_in x (t.children q)) (forest.parents p x a).0);
+      ∙ ap (λ q. after_in x (t.children q)) (forest.parents p x a).0);
   alone = λ o i none.
       sibling o i
       ∙ behind_absent o (t.children (t.parent o)) (nowhere n t o (t.parent o) forest none);

@@ -1,31 +1,17 @@
-use Rattle.std.proofs.Common.{◌≡◌, ◌<◌, ◌≤◌, ◌++◌, ◌∙◌, ◌%◌, ◌==◌, ap, subst, arith, refl, ℕ, false, List, [], Option}
+use Rattle.std.proofs.Common.{◌≡◌, ◌<◌, ◌≤◌, ◌∙◌, ◌%◌, ◌==◌, ap, arith, refl, ℕ, false, List, Option}
 use Rattle.std.proofs.Common.{Some, None, length, take}
-use Rattle.std.specs.Prelude.{IfSome, option_map}
-use Rattle.std.specs.Io.Take.{take_remaining}
-use Rattle.std.specs.declared.io.traits.Take.{Take}
+use Rattle.std.specs.Prelude.{IfSome}
 use Rattle.std.proofs.lemmas.List.{length-take-le, take_all}
 use Rattle.zcore.specs.Layout.{longest_story}
 use Rattle.play.specs.Filling.{block, length_within, stated_length, without_filling}
 use Rattle.play.specs.Reading.{most_read}
+use Rattle.play.proofs.Playing.{start_read}
 use Rattle.play.proofs.reading.read_story.Given as given
 use Rattle.play.proofs.reading.read_story.Goals as goal
 
--- what is read up to a limit, where nothing was read before, is the beginning of the reader's bytes
-start_read : {R : Type 0} (remaining : R → Option (List ℕ)) (t : Take R) (file : R) (old new : List ℕ)
-    → t.limit ≡ most_read → t.inner ≡ file → old ≡ [] → IfSome (take_remaining remaining t) (λ xs. new ≡ old ++ xs)
-    → IfSome (remaining file) (λ bytes. new ≡ take most_read bytes)
-start_read {R} remaining t file old new limit inner empty read =
-    go (remaining file)
-    (subst (λ (f : R). IfSome (option_map (take t.limit) (remaining f)) (λ xs. new ≡ old ++ xs)) inner read)
-  where
-    go : (o : Option (List ℕ)) → IfSome (option_map (take t.limit) o) (λ xs. new ≡ old ++ xs)
-        → IfSome o (λ bytes. new ≡ take most_read bytes)
-    go None h = tt
-    go (Some bytes) h = h ∙ ap (λ (l : List ℕ). l ++ take t.limit bytes) empty ∙ ap (λ n. take n bytes) limit
-
 beginning : (g : given.Over) (c : goal.After-drop_filling g)
     → IfSome (g.R.Read.remaining c.args.file) (λ bytes. c.read_to_end.new.buf.items ≡ take most_read bytes)
-beginning g c = start_read g.R.Read.remaining c.take.result c.args.file c.new-story.result.items
+beginning g c = start_read most_read g.R.Read.remaining c.take.result c.args.file c.new-story.result.items
     c.read_to_end.new.buf.items c.take.ensures.limit c.take.ensures.inner c.new-story.ensures.items
     c.in_ok-read_to_end.ensures.bytes
 
