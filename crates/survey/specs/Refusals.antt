@@ -1,5 +1,5 @@
 -- What of an instruction a machine refuses with M1.
-use Rattle.std.specs.Prelude.{◌≡◌, ◌&&◌, ℕ, nat_le, Bool, true, false, List, Option, Some, None}
+use Rattle.std.specs.Prelude.{◌≡◌, ◌&&◌, ℕ, nat_le, Bool, true, false, List, Option, Some, None, IfSome}
 use Rattle.std.specs.Prelude.{Result, Ok, Err}
 use Rattle.zcore.specs.declared.place.Fault.{Fault}
 use Rattle.zcore.specs.declared.place.Fault.TheVariants as faults
@@ -9,6 +9,7 @@ use Rattle.zcore.specs.Operations.{row_of}
 use Rattle.ztext.specs.Results.{◌>>=◌}
 use Rattle.zcore_standard.specs.declared.opcode.Opcode.{Opcode}
 use Rattle.zcore_standard.specs.Instruction.{row_types, counted}
+use Rattle.zcore_standard.specs.Operations as table
 use Rattle.zcore_standard.specs.Operations.{profile_of}
 use Rattle.survey.specs.declared.refusal.Refusal.{Refusal}
 use Rattle.survey.specs.declared.refusal.Refusal.TheVariants as refusals
@@ -40,6 +41,11 @@ IsOperandsRefusal row refusals.Gap = Unit {0}
 abbrev pub IsRefusalBy : Option Operation → Refusal → Type 0
 IsRefusalBy None refusal = refusal ≡ refusals.Opcode
 IsRefusalBy (Some operation) refusal = IsOperandsRefusal (row_of operation) refusal
+
+-- of an operation that the profile does not have something is refused exactly if its operands are not as its row says
+abbrev pub SaysOfOperands : List ℕ → ℕ → Option Refusal → Opcode → Type 0
+SaysOfOperands story at refusal opcode = IfSome (table.standard_of opcode)
+    (λ operation. is_said refusal ≡ is_refused (counted_at story at (table.row_of operation)))
 
 abbrev pub IsProfileRefusal : Opcode → Refusal → Type 0
 IsProfileRefusal opcode refusal = IsRefusalBy (profile_of opcode) refusal

@@ -1,12 +1,12 @@
 //! What of an instruction a machine refuses.
 
-ghost use Rattle.std.specs.Prelude.{◌≡◌, ◌≤◌, ◌<◌, false, not, Some, None, IfSome, length};
+ghost use Rattle.std.specs.Prelude.{◌≡◌, ◌≤◌, ◌<◌, true, false, not, Some, None, IfSome, length};
 ghost use Rattle.zcore.specs.Instruction.{opcode};
 ghost use Rattle.zcore.specs.Layout.{longest_story};
 ghost use Rattle.zcore_standard.specs.Opcodes.{opcode_at};
 ghost use Rattle.zcore_standard.specs.Operations as table;
 ghost use Rattle.survey.specs.Refusals.{is_refused, is_said, takes, counted_at};
-ghost use Rattle.survey.specs.Refusals.{IsOperandsRefusal, IsProfileRefusal};
+ghost use Rattle.survey.specs.Refusals.{IsOperandsRefusal, IsProfileRefusal, SaysOfOperands};
 ghost use Rattle.survey.specs.declared.refusal.Refusal.TheVariants as refusals;
 
 use std::fmt;
@@ -70,6 +70,8 @@ pub fn standard_refusal_at(story: &[u8], at: usize) -> Option<Refusal>
     ensures kept { is_refused (opcode story.now at) ≡ false → result ≡ None }
     ensures unknown { IfSome (opcode_at story.now at) (λ x. table.profile_of x ≡ None
         → table.standard_of x ≡ None → result ≡ Some refusals.Opcode) }
+    ensures operands { is_refused (opcode story.now at) ≡ true
+        → IfSome (opcode_at story.now at) (SaysOfOperands story.now at result) }
 {
     let refusal = profile_refusal_at(story, at)?;
     match Opcode::read(story, at)?.standard() {

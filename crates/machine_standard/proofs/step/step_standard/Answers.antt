@@ -32,7 +32,8 @@ step_further-requires-clause-found c =
 
 pub returns-in-Some-clause-told : goal.returns-in-Some-clause-told
 returns-in-Some-clause-told c = stepped_some _ c.args.loaded.now (place c.args.turn.now c.args.here) _
-    (step_further-requires-clause-found c) c.step_further.ensures.told
+    (finds_some _ _ _ (c.in-Some.ensures ∙ ap (λ l. with_row (further_at l c.args.here.program_counter))
+    (c.memory.ensures ∙ ap memory_of c.store.ensures))).found c.step_further.ensures.told
 
 pub returns-in-Some-clause-falls : goal.returns-in-Some-clause-falls
 returns-in-Some-clause-falls c = standard_lighter c.step_further.result c.args.loaded.now
