@@ -1,14 +1,11 @@
 //! What a source is read as, once for all that is told of it.
 
-ghost use Rattle.syntax_lexer.specs.Token.{lexemes};
-ghost use Rattle.syntax_lexer.specs.Tokens.{EndsOnce};
-
 use messages_diagnosis::Limit;
 use messages_parts::Diagnosis;
 use std::alloc::{AllocError, Global};
 use std::mem::forget;
 use syntax::{Program, Token, parse};
-use syntax_lexer::{NO_MEMORY, SourceFault, lex};
+use syntax_lexer::{NO_MEMORY, NOT_IN_GRAMMAR, SourceFault, lex};
 use zcore::Version;
 
 /// A source that a version's compiler refuses by a limit, and what it is read as.
@@ -21,7 +18,8 @@ pub struct Analysis<'a> {
     /// The first broken rule.
     pub first: Diagnosis,
 
-    /// `None` where its bytes are no tokens.
+    /// `None` where its bytes are no tokens, and where these are not in the grammar: what is told of
+    /// that is found by parses of its own.
     pub parts: Option<Parts<'a>>,
 }
 
@@ -29,7 +27,6 @@ pub struct Analysis<'a> {
 #[derive(Drop)]
 pub struct Parts<'a> {
     pub tokens: Vec<Token<'a>>,
-    ghost ends_once: { EndsOnce (lexemes tokens.items) },
 
     /// `None` where the tokens are no program, and of a source that is too large as a whole.
     pub program: Option<Program<'a>>,
@@ -60,19 +57,32 @@ fn program_of<'a>(
     }
 }
 
-/// The tokens of a source and its tree. `None` where its bytes are no tokens.
+/// The tokens of a source and its tree. `None` where its bytes are no tokens, or these are not in the
+/// grammar.
 fn parts_of<'a>(
     alloc: Global,
     source: &'a [u8],
     first: Diagnosis,
 ) -> Result<Option<Parts<'a>>, AllocError> {
-    match lex(alloc, source) {
-        Ok(tokens) => match program_of(alloc, &tokens, first) {
-            Ok(program) => Ok(Some(Parts { tokens, program })),
-            Err(refused) => Err(refused),
-        },
-        Err(fault) if fault.number == NO_MEMORY => Err(AllocError),
-        Err(_) => Ok(None),
+    if first.fault.number == NOT_IN_GRAMMAR {
+        return Ok(None);
+    }
+    match unless_refused(lex(alloc, source)) {
+        Ok(Some(tokens)) => with_program(alloc, tokens, first),
+        Ok(None) => Ok(None),
+        Err(refused) => Err(refused),
+    }
+}
+
+/// Some tokens and their tree.
+fn with_program<'a>(
+    alloc: Global,
+    tokens: Vec<Token<'a>>,
+    first: Diagnosis,
+) -> Result<Option<Parts<'a>>, AllocError> {
+    match program_of(alloc, &tokens, first) {
+        Ok(program) => Ok(Some(Parts { tokens, program })),
+        Err(refused) => Err(refused),
     }
 }
 

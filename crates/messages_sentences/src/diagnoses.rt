@@ -1,7 +1,7 @@
 //! The sentence of a diagnosis.
 
 use crate::analysis::{Analysis, unless_refused};
-use crate::rules::{at_offset, at_place};
+use crate::rules::{at_offset, at_place, misfit_of};
 use meaning::greatest_weight;
 use messages_diagnosis::{Limit, MOST_TABLE_BYTES, greatest_length, measure};
 use messages_grammar::Told;
@@ -9,7 +9,7 @@ use messages_parts::{Diagnosis, Place};
 use messages_tokens::{Figure, some, source_sentence};
 use std::alloc::{AllocError, Global};
 use syntax_directives::weight_of;
-use syntax_lexer::{NAME_TOO_LONG, STORY_TOO_LARGE, SourceFault, TABLES_TOO_LARGE};
+use syntax_lexer::{NAME_TOO_LONG, NOT_IN_GRAMMAR, STORY_TOO_LARGE, SourceFault, TABLES_TOO_LARGE};
 use zcore::Version;
 
 /// What is wrong with a source that is refused.
@@ -135,7 +135,8 @@ fn told_at(
 ) -> Result<Option<Told>, AllocError> {
     match (rule, &analysis.parts) {
         (1..=NAME_TOO_LONG, _) => at_place(source_sentence(alloc, analysis.source, rule, offset)),
-        (_, Some(parts)) => at_offset(alloc, analysis.source, parts, rule, offset),
+        (NOT_IN_GRAMMAR, _) => misfit_of(alloc, analysis.source, offset),
+        (_, Some(parts)) => at_offset(alloc, parts, rule, offset),
         (_, None) => Ok(None),
     }
 }

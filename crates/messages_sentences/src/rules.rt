@@ -1,5 +1,8 @@
 //! The sentence of a fault of the grammar or of a program.
 
+ghost use Rattle.syntax_lexer.specs.Token.{lexemes};
+ghost use Rattle.syntax_lexer.specs.Tokens.{EndsOnce};
+
 use crate::analysis::Parts;
 use crate::arguments::too_many_arguments;
 use crate::arrays::bad_array;
@@ -12,10 +15,10 @@ use messages_grammar::{Told, misfit_at, too_deep};
 use messages_names::{Site, no_main, unknown, wrong_kind};
 use messages_tokens::some;
 use std::alloc::{AllocError, Global};
-use syntax::{Program, Token};
+use syntax::{Directive, Program, Token, lex};
 use syntax_lexer::{
     BAD_ABBREVIATION, BAD_ARRAY, BREAK_OUTSIDE, DEFINED_TWICE, EXPRESSION_TOO_LARGE,
-    NESTED_TOO_DEEP, NO_PROPER_MAIN, NOT_ASSIGNABLE, NOT_IN_GRAMMAR, ROUTINE_TOO_LARGE, TOO_MANY,
+    NESTED_TOO_DEEP, NO_MEMORY, NO_PROPER_MAIN, NOT_ASSIGNABLE, ROUTINE_TOO_LARGE, TOO_MANY,
     TOO_MANY_ARGUMENTS, UNKNOWN_NAME, WRONG_KIND,
 };
 
@@ -31,6 +34,12 @@ fn by_names(site: Site<'_, '_>, table: &Table, rule: u8) -> Result<Option<String
     }
 }
 
+/// What the names of a program stand for.
+fn table_of<'a>(alloc: Global, program: &Program<'a>) -> Result<Table, AllocError> {
+    let directives: &[Directive<'a>] = &program.directives;
+    tabulate(directives, alloc)
+}
+
 /// What is wrong at a token, by the number of a rule that the tree tells of.
 fn by_program(
     site: Site<'_, '_>,
@@ -40,7 +49,7 @@ fn by_program(
     if rule == EXPRESSION_TOO_LARGE {
         return too_large(site, program);
     }
-    match tabulate(&program.directives, site.alloc) {
+    match table_of(site.alloc, program) {
         Ok(table) => by_names(site, &table, rule),
         Err(refused) => Err(refused),
     }
@@ -101,16 +110,48 @@ pub fn at_place(sentence: Result<Option<String>, AllocError>) -> Result<Option<T
     }
 }
 
-/// What is wrong at an offset of a source whose tokens are right, by the number of the broken rule:
-/// E05, E10, E20 to E29, E32 and E33. `None` for another rule, and where no such thing stands
-/// there.
+/// What is wrong at an offset of tokens of which the one there does not fit (E10). `None` where none
+/// begins there.
+fn misfit_in(
+    alloc: Global,
+    source: &[u8],
+    tokens: &[Token<'_>],
+    offset: usize,
+) -> Result<Option<Told>, AllocError>
+    requires { EndsOnce (lexemes tokens.now) }
+{
+    let at = number_at(tokens, offset);
+    let Some(token) = tokens.get(at).copied() else {
+        return Ok(None);
+    };
+    match misfit_at(alloc, source, tokens, at, token) {
+        Ok(told) => Ok(Some(told)),
+        Err(refused) => Err(refused),
+    }
+}
+
+/// What is wrong at an offset of a source, where the token does not fit (E10). `None` where none
+/// begins there.
+///
+/// # Errors
+///
+/// `AllocError` where memory is refused.
+pub fn misfit_of(alloc: Global, source: &[u8], offset: usize) -> Result<Option<Told>, AllocError> {
+    match lex(alloc, source) {
+        Ok(tokens) => misfit_in(alloc, source, &tokens, offset),
+        Err(fault) if fault.number == NO_MEMORY => Err(AllocError),
+        Err(_) => Ok(None),
+    }
+}
+
+/// What is wrong at an offset of a source, by the number of the broken rule: E05, E20 to E29, E32
+/// and E33. `None` for another rule, and where no such thing stands there.
 ///
 /// # Errors
 ///
 /// `AllocError` where memory is refused.
 pub fn at_offset(
     alloc: Global,
-    source: &[u8],
     parts: &Parts<'_>,
     rule: u8,
     offset: usize,
@@ -120,12 +161,6 @@ pub fn at_offset(
     let Some(token) = tokens.get(at).copied() else {
         return Ok(None);
     };
-    if rule == NOT_IN_GRAMMAR {
-        return match misfit_at(alloc, source, tokens, at, token) {
-            Ok(told) => Ok(Some(told)),
-            Err(refused) => Err(refused),
-        };
-    }
     let site = Site {
         alloc,
         tokens,
