@@ -22,7 +22,7 @@ use Rattle.zcore_standard_laws.proofs.WindowFacts.{FallsFrom}
 
 -- It never goes on
 
-abbrev is_done : {H : Type 0} → Out H → Bool
+abbrev pub is_done : {H : Type 0} → Out H → Bool
 is_done (done next s) = true
 is_done (halt place s) = false
 
@@ -30,16 +30,16 @@ pub neither : {P : Type 0} (b : Bool) → b ≡ false → b ≡ true → P
 neither true e f = absurd (cc)
 neither false e f = absurd (cc)
 
-not_done : {A B : Type 0} (o : Out A) (k : A → State → Out B) → ((a : A) (t : State) → is_done (k a t) ≡ false)
+pub not_done : {A B : Type 0} (o : Out A) (k : A → State → Out B) → ((a : A) (t : State) → is_done (k a t) ≡ false)
     → is_done (bound o k) ≡ false
 not_done (done a s) k not = not a s
 not_done (halt place s) k not = refl
 
-wait_not_done : (pending : Pending) (s : State) → is_done (wait pending s) ≡ false
+pub wait_not_done : (pending : Pending) (s : State) → is_done (wait pending s) ≡ false
 unfolding wait
 wait_not_done pending s = refl
 
-within_not_done : (here : Here) (o : Out Next) → is_done o ≡ false → is_done (within here o) ≡ false
+pub within_not_done : (here : Here) (o : Out Next) → is_done o ≡ false → is_done (within here o) ≡ false
 within_not_done here (done next s) e = e
 within_not_done here (halt place s) e = refl
 

@@ -41,7 +41,7 @@ use Rattle.zcore_standard.specs.Unicode.{print_whole}
 
 -- What is kept
 
-keeps_read_text : (r : Result (List ℕ × ℕ) Cause) → Keeps (read_text r)
+pub keeps_read_text : (r : Result (List ℕ × ℕ) Cause) → Keeps (read_text r)
 keeps_read_text (Ok text) = keeps_done text
 keeps_read_text (Err cause) = keeps_halt _
 
@@ -52,12 +52,12 @@ keeps_any_text_at alphabets address s t a h = keeps_read_text (codes_at alphabet
 -- The address after a text
 
 -- two parts, one after the other, that were read
-record Read {A B : Type 0} (r : Result A Cause) (k : A → Result B Cause) (b : B) : Type 0 where
-  value : A
-  first : r ≡ Ok value
-  second : k value ≡ Ok b
+pub record Read {A B : Type 0} (r : Result A Cause) (k : A → Result B Cause) (b : B) : Type 0 where
+  pub value : A
+  pub first : r ≡ Ok value
+  pub second : k value ≡ Ok b
 
-read : {A B : Type 0} (r : Result A Cause) (k : A → Result B Cause) (b : B) → (r >>= k) ≡ Ok b → Read r k b
+pub read : {A B : Type 0} (r : Result A Cause) (k : A → Result B Cause) (b : B) → (r >>= k) ≡ Ok b → Read r k b
 read (Ok a) k b h = record { value = a; first = refl; second = h }
 read (Err cause) k b h = cc
 
@@ -69,7 +69,7 @@ picked P false q r a v w h = w h
 no_text : {A : Type 0} (cause : Cause) (a : A) → Err cause ≡ Ok a → ⊥
 no_text cause a h = cc
 
-ok_after : {A : Type 0} (a b : A) (at after : ℕ) → (let r : Result (A × ℕ) Cause = Ok (a, at) in r) ≡ Ok (b, after)
+pub ok_after : {A : Type 0} (a b : A) (at after : ℕ) → (let r : Result (A × ℕ) Cause = Ok (a, at) in r) ≡ Ok (b, after)
     → after ≡ at
 ok_after {A} a b at after h = let after_of : Result (A × ℕ) Cause → ℕ = λ r. elim r [ Ok x ↦ x.1 | Err e ↦ 0 ] in
     sym (ap after_of h)
@@ -80,7 +80,7 @@ last_word_after at high low x h =
     (λ e. absurd (no_text _ x e)) h
 
 -- a text has a word at least
-unpacked_ahead : (at : ℕ) (bytes : List ℕ) (x : List ℕ × ℕ) → unpacked_text at bytes ≡ Ok x → at < x.1
+pub unpacked_ahead : (at : ℕ) (bytes : List ℕ) (x : List ℕ × ℕ) → unpacked_text at bytes ≡ Ok x → at < x.1
 unfolding unpacked_text
 unpacked_ahead at [] x h = absurd (no_text _ x h)
 unpacked_ahead at (high ∷ []) x h = absurd (no_text _ x h)
@@ -93,7 +93,7 @@ unpacked_ahead at (high ∷ low ∷ bytes) x h =
     let two = ok_after _ x.0 p.value.1 x.1 p.second in
     omega arith) h
 
-codes_ahead : (alphabets story : List ℕ) (at : ℕ) (x : List ℕ × ℕ) → codes_at alphabets story at ≡ Ok x → at < x.1
+pub codes_ahead : (alphabets story : List ℕ) (at : ℕ) (x : List ℕ × ℕ) → codes_at alphabets story at ≡ Ok x → at < x.1
 unfolding codes_at
 codes_ahead alphabets story at x h =
     let p = read (z_text_at story at) _ x h in
@@ -103,7 +103,7 @@ codes_ahead alphabets story at x h =
     let two = ok_after _ x.0 p.value.1 x.1 q.second in
     omega arith
 
-read_ahead : (at : ℕ) (r : Result (List ℕ × ℕ) Cause) (s t : State) (x : List ℕ × ℕ)
+pub read_ahead : (at : ℕ) (r : Result (List ℕ × ℕ) Cause) (s t : State) (x : List ℕ × ℕ)
     → ((y : List ℕ × ℕ) → r ≡ Ok y → at < y.1) → read_text r s ≡ done x t → at < x.1
 read_ahead at (Ok y) s t x before h =
     let e = done_value y x s t h in
@@ -184,7 +184,7 @@ perform_text_falls loaded _ here after values past = fault_falls here faults.Opc
 
 -- None waits
 
-waits_read_text : (r : Result (List ℕ × ℕ) Cause) → Waits (read_text r)
+pub waits_read_text : (r : Result (List ℕ × ℕ) Cause) → Waits (read_text r)
 waits_read_text (Ok text) s t h = waits_done text s t h
 waits_read_text (Err cause) s t h = waits_fault _ s t h
 

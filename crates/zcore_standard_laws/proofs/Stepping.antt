@@ -51,7 +51,7 @@ within_done here next (done n u) t h =
     ap (λ x. done n x) (sym w) ∙ ap (λ (x : Here). done x.next t) (sym v)
 within_done here next (halt place u) t h = absurd (never place next u t h)
 
-within_falls : (here there : Here) (f : State → Out Next) → parts.FallsFrom here.next f
+pub within_falls : (here there : Here) (f : State → Out Next) → parts.FallsFrom here.next f
     → FallsFrom here (λ s. within there (f s))
 within_falls here there f falls s t next inside h =
     falls s t next.next inside (within_done there next (f s) t h)
@@ -189,7 +189,7 @@ branch_ahead memory branches at x h =
     omega arith)
     (λ _ e. let f = ahead.ok_after None x.0 at x.1 e in omega arith) h
 
-decode_row_ahead : (memory : List ℕ) (at : ℕ) (row : OpcodeRow) (x : Instruction × ℕ)
+pub decode_row_ahead : (memory : List ℕ) (at : ℕ) (row : OpcodeRow) (x : Instruction × ℕ)
     → decode_row memory at row ≡ Ok x → at < x.1
 unfolding decode_row
 decode_row_ahead memory at row x h =

@@ -1,0 +1,10 @@
+use Rattle.std.proofs.Common.{◌≡◌, ◌-◌, ◌<◌}
+use Rattle.zcore_versions.specs.SmallObjects.{named_from}
+use Rattle.machine_versions.proofs.links.named_from.Given as goal
+
+abbrev pub invariant-loop-step : goal.invariant-loop-step
+invariant-loop-step l = record {
+  inside : l.at < l.end;
+  same : named_from l.memory l.table l.end l.object l.at (256 - l.step)
+      ≡ named_from l.memory l.table l.end l.object l.fn.from 256;
+}

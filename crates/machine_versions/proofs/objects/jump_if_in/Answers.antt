@@ -1,0 +1,18 @@
+use Rattle.machine_frames.proofs.Steps.{went_then, went_no_further, went_err}
+use Rattle.zcore_versions.specs.SmallObjects.{jump_if_in}
+use Rattle.machine_versions.proofs.objects.jump_if_in.Goals as goal
+
+pub returns-in_err-test_object : goal.returns-in_err-test_object
+unfolding jump_if_in
+returns-in_err-test_object c = went_err _ c.from_residual.ensures.1
+    (went_no_further _ c.in_err-test_object.ensures.tested)
+
+pub returns-in_err-parent : goal.returns-in_err-parent
+unfolding jump_if_in
+returns-in_err-parent c = went_err _ c.from_residual-in_err-parent.ensures.1
+    (went_then _ c.in_ok-test_object.ensures.tested (went_no_further _ c.in_err-parent.ensures))
+
+pub returns : goal.returns
+unfolding jump_if_in
+returns c = went_then _ c.in_ok-test_object.ensures.tested
+    (went_then _ c.in_ok-parent.ensures c.branch_on.ensures)

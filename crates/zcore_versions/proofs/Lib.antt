@@ -1,0 +1,14 @@
+mod TextFacts
+mod SmallKeeping
+mod SmallFalls
+mod CallFalls
+mod Stepping
+mod SmallWaitingParts
+mod SmallWaiting
+mod Waiting
+pub mod Turning
+mod ObjectSamples
+mod OpcodeSamples
+mod TextSamples
+mod CallSamples
+mod LineSamples

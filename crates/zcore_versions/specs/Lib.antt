@@ -1,0 +1,12 @@
+pub mod Versions
+pub mod Operations
+pub mod Calls
+pub mod LockedTexts
+pub mod Printing
+pub mod SmallObjects
+pub mod SmallProperties
+pub mod Keys
+pub mod Reading
+pub mod Performing
+pub mod Machine
+pub mod Laws

@@ -1,0 +1,14 @@
+//! The definitions of a machine for story files of versions 1 to 4 and 7: what an instruction does there
+//! that it does otherwise in versions 5 and 8.
+#![tactic(auto)]
+
+mod laws;
+mod operations;
+mod version;
+
+pub use laws::{
+    every_turn_of_any_version_ends, keeps_what_the_profile_steps_elsewhere,
+    late_versions_are_standard, waits_for_what_can_be_given,
+};
+pub use operations::OlderOperation;
+pub use version::StoryVersion;
