@@ -1,6 +1,7 @@
 -- Rows of the table in a version.
-use Rattle.std.proofs.Common.{◌≡◌, ℕ, ap, sym, ◌∙◌, refl, Bool, true, false, cond, Option, Some, None}
+use Rattle.std.proofs.Common.{◌≡◌, ℕ, ◌<◌, ap, sym, ◌∙◌, subst, refl, Bool, true, false, Option, Some, None}
 use Rattle.std.specs.Prelude.{◌&&◌, nat_le, IfSome}
+use Rattle.std.proofs.lemmas.Bool.{lt-leb}
 use Rattle.zcore.specs.declared.instruction.Operation.{Operation}
 use Rattle.zcore.specs.declared.operations.OpcodeRow.{OpcodeRow}
 use Rattle.zcore.specs.Operations as profile
@@ -93,3 +94,21 @@ pub older_said : (version : ℕ) (opcode : Opcode) (r s : Option Row)
 older_said version opcode r s e not f = f
     ∙ ap (λ x. said_by version (or_else x (older_in version opcode)))
     (sym (newer_not version (profile_of opcode) (standard_of opcode) r e not))
+
+pub none_yet : (version : ℕ) (r : Option Row) (row : Row) → r ≡ Some row → version < row.since → IfSome r (HasNot version)
+none_yet version r row e less =
+    subst (λ o. IfSome o (HasNot version)) (sym e)
+    (ap (λ b. b && nat_le version last_version) (lt-leb row.since version less))
+
+false_last : (a b : Bool) → b ≡ false → (a && b) ≡ false
+false_last true b e = e
+false_last false b e = refl
+
+pub none_past : (version : ℕ) (r : Option Row) (row : Row) → r ≡ Some row → last_version < version
+    → IfSome r (HasNot version)
+none_past version r row e more =
+    subst (λ o. IfSome o (HasNot version)) (sym e)
+    (false_last (nat_le row.since version) (nat_le version last_version) (lt-leb version last_version more))
+
+pub none_at_all : (version : ℕ) (r : Option Row) → r ≡ None → IfSome r (HasNot version)
+none_at_all version r e = subst (λ o. IfSome o (HasNot version)) (sym e) tt
