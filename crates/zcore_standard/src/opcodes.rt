@@ -1,7 +1,7 @@
 //! The table of opcodes (Z-Machine Standards Document 1.1, section 14): a row for each opcode of
 //! versions 1 to 8, but for those of version 6 alone.
 
-ghost use Rattle.std.specs.Prelude.{◌≡◌, ◌≤◌, None, IfSome};
+ghost use Rattle.std.specs.Prelude.{◌≡◌, ◌≤◌, None, IfSome, is_some};
 ghost use Rattle.zcore.specs.Operations as profile;
 ghost use Rattle.zcore_standard.specs.Operations as table;
 ghost use Rattle.zcore_standard.specs.Rows.{newest, said_by, said_in, says, standard_in, with_row};
@@ -87,8 +87,8 @@ impl Flow {
 /// `zcore` knows the operands and what follows them. Of the others these columns say it: what
 /// follows the operands, the least and the greatest number of them.
 macro_rules! opcodes {
-    (Two $number:expr) => {
-        row_of! {
+    (Two $then:ident $number:expr) => {
+        $then! {
             $number, Two,
             profile {
                 1 "je" 1 JumpIfEqual Next,
@@ -124,8 +124,8 @@ macro_rules! opcodes {
             }
         }
     };
-    (One $number:expr) => {
-        row_of! {
+    (One $then:ident $number:expr) => {
+        $then! {
             $number, One,
             profile {
                 0 "jz" 1 JumpIfZero Next,
@@ -148,8 +148,8 @@ macro_rules! opcodes {
             standard {}
         }
     };
-    (Zero $number:expr) => {
-        row_of! {
+    (Zero $then:ident $number:expr) => {
+        $then! {
             $number, Zero,
             profile {
                 0 "rtrue" 1 ReturnTrue Nowhere,
@@ -170,8 +170,8 @@ macro_rules! opcodes {
             }
         }
     };
-    (Several $number:expr) => {
-        row_of! {
+    (Several $then:ident $number:expr) => {
+        $then! {
             $number, Several,
             profile {
                 0 "call_vs" 1 CallVs Call,
@@ -212,8 +212,8 @@ macro_rules! opcodes {
         }
     };
     // Extended opcodes have numbers of their own, counted from 0.
-    (Extended $number:expr) => {
-        row_of! {
+    (Extended $then:ident $number:expr) => {
+        $then! {
             $number, Several,
             profile {}
             standard {
@@ -256,6 +256,21 @@ macro_rules! row_of {
                 action: Action::Standard(StandardOperation::$o),
             }),)*
             _ => None,
+        }
+    };
+}
+
+/// Whether a row with this number is of an operation that the profile does not have.
+macro_rules! is_standard {
+    (
+        $value:expr, $count:ident,
+        profile { $($number:literal $name:literal $since:literal $operation:ident $flow:ident,)* }
+        standard { $($n:literal $m:literal $s:literal $follows:ident $least:literal $most:literal
+            $o:ident $f:ident,)* }
+    ) => {
+        match $value {
+            $($n => true,)*
+            _ => false,
         }
     };
 }
@@ -370,12 +385,25 @@ impl Opcode {
     pub fn standard(self) -> Option<(StandardOperation, OpcodeRow)>
         ensures { result ≡ with_row (table.standard_of self) }
     {
+        if self.is_standard() {
+            standard_in(self.last_row())
+        } else {
+            None
+        }
+    }
+
+    /// Whether the profile does not have its operation in versions 5 and 8: asked before its row is
+    /// looked up, since most steps are of the profile.
+    #[inline]
+    fn is_standard(self) -> bool
+        ensures { result ≡ is_some (table.standard_of self) }
+    {
         match self.numbering {
-            Numbering::Two => standard_in(two(self.number)),
-            Numbering::One => None,
-            Numbering::Zero => standard_in(zero(self.number)),
-            Numbering::Several => standard_in(several(self.number)),
-            Numbering::Extended => standard_in(extended(self.number)),
+            Numbering::Two => is_two(self.number),
+            Numbering::One => false,
+            Numbering::Zero => is_zero(self.number),
+            Numbering::Several => is_several(self.number),
+            Numbering::Extended => is_extended(self.number),
         }
     }
 
@@ -409,9 +437,7 @@ impl Opcode {
     }
 }
 
-/// The operation that a row has and the profile does not, and what its opcode takes. Taken in, with
-/// the row's look-up, so that no row is made where this alone is asked.
-#[inline(always)]
+/// The operation that a row has and the profile does not, and what its opcode takes.
 fn standard_in(row: Option<Row>) -> Option<(StandardOperation, OpcodeRow)>
     ensures { result ≡ standard_in row }
 {
@@ -424,42 +450,66 @@ fn standard_in(row: Option<Row>) -> Option<(StandardOperation, OpcodeRow)>
 }
 
 /// The row of an opcode with two operands.
-#[inline(always)]
 fn two(number: u8) -> Option<Row>
     ensures { says result ≡ newest (profile.two_operand number) (table.two_operand number) }
 {
-    opcodes!(Two number)
+    opcodes!(Two row_of number)
 }
 
 /// That of one with one operand.
 fn one(number: u8) -> Option<Row>
     ensures { says result ≡ newest (profile.one_operand number) None }
 {
-    opcodes!(One number)
+    opcodes!(One row_of number)
 }
 
 /// That of one without operands.
-#[inline(always)]
 fn zero(number: u8) -> Option<Row>
     ensures { says result ≡ newest (profile.no_operand number) (table.no_operand number) }
 {
-    opcodes!(Zero number)
+    opcodes!(Zero row_of number)
 }
 
 /// That of one with any number of operands.
-#[inline(always)]
 fn several(number: u8) -> Option<Row>
     ensures { says result ≡ newest (profile.several_operand number) (table.several_operand number) }
 {
-    opcodes!(Several number)
+    opcodes!(Several row_of number)
 }
 
 /// That of an extended one.
-#[inline(always)]
 fn extended(number: u8) -> Option<Row>
     ensures { says result ≡ newest None (table.extended number) }
 {
-    opcodes!(Extended number)
+    opcodes!(Extended row_of number)
+}
+
+/// Whether an opcode with two operands is none of the profile.
+fn is_two(number: u8) -> bool
+    ensures { result ≡ is_some (table.two_operand number) }
+{
+    opcodes!(Two is_standard number)
+}
+
+/// The same of one without operands.
+fn is_zero(number: u8) -> bool
+    ensures { result ≡ is_some (table.no_operand number) }
+{
+    opcodes!(Zero is_standard number)
+}
+
+/// The same of one with any number of operands.
+fn is_several(number: u8) -> bool
+    ensures { result ≡ is_some (table.several_operand number) }
+{
+    opcodes!(Several is_standard number)
+}
+
+/// The same of an extended one.
+fn is_extended(number: u8) -> bool
+    ensures { result ≡ is_some (table.extended number) }
+{
+    opcodes!(Extended is_standard number)
 }
 
 /// The row of an opcode with one operand that did something else up to version 4.
