@@ -12,3 +12,4 @@ mod OpcodeSamples
 mod TextSamples
 mod CallSamples
 mod LineSamples
+mod Finding
