@@ -356,11 +356,12 @@ impl Opcode {
     pub fn standard(self) -> Option<(StandardOperation, OpcodeRow)>
         ensures { result ≡ with_row (table.standard_of self) }
     {
-        let row = self.last_row()?;
-        match row.action {
-            Action::Standard(operation) => Some((operation, row.shape)),
-            Action::Profile(_) => None,
-            Action::Older => None,
+        match self.numbering {
+            Numbering::Two => standard_in(two(self.number)),
+            Numbering::One => None,
+            Numbering::Zero => standard_in(zero(self.number)),
+            Numbering::Several => standard_in(several(self.number)),
+            Numbering::Extended => standard_in(extended(self.number)),
         }
     }
 
@@ -386,7 +387,22 @@ impl Opcode {
     }
 }
 
+/// The operation that a row has and the profile does not, and what its opcode takes. Taken in, with
+/// the row's look-up, so that no row is made where this alone is asked.
+#[inline(always)]
+fn standard_in(row: Option<Row>) -> Option<(StandardOperation, OpcodeRow)>
+    ensures { result ≡ standard_in row }
+{
+    let row = row?;
+    match row.action {
+        Action::Standard(operation) => Some((operation, row.shape)),
+        Action::Profile(_) => None,
+        Action::Older => None,
+    }
+}
+
 /// The row of an opcode with two operands.
+#[inline(always)]
 fn two(number: u8) -> Option<Row>
     ensures { standard_in result ≡ with_row (table.two_operand number) }
 {
@@ -401,6 +417,7 @@ fn one(number: u8) -> Option<Row>
 }
 
 /// That of one without operands.
+#[inline(always)]
 fn zero(number: u8) -> Option<Row>
     ensures { standard_in result ≡ with_row (table.no_operand number) }
 {
@@ -408,6 +425,7 @@ fn zero(number: u8) -> Option<Row>
 }
 
 /// That of one with any number of operands.
+#[inline(always)]
 fn several(number: u8) -> Option<Row>
     ensures { standard_in result ≡ with_row (table.several_operand number) }
 {
@@ -415,6 +433,7 @@ fn several(number: u8) -> Option<Row>
 }
 
 /// That of an extended one.
+#[inline(always)]
 fn extended(number: u8) -> Option<Row>
     ensures { standard_in result ≡ with_row (table.extended number) }
 {
