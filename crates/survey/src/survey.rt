@@ -218,7 +218,11 @@ fn write_cause<W: fmt::Write>(
         }
         HeaderFault::UnknownVersion => {
             let beginning = survey.beginning;
-            writeln!(f, "{fault}: {beginning}")
+            let more = match (survey.mode, beginning) {
+                (Mode::Profile, Beginning::Blorb) => "; --standard plays the story in it",
+                _ => "",
+            };
+            writeln!(f, "{fault}: {beginning}{more}")
         }
         HeaderFault::WrongLength | HeaderFault::WrongSum | HeaderFault::WrongAddress => {
             match &survey.facts {

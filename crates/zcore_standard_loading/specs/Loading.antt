@@ -212,10 +212,13 @@ pub record IsHeadOf (story : List ℕ) (header : Header) : Type 0 where
   pub first_instruction : header.first_instruction ≡ first_instruction_of story
   pub dictionary : IsDictionaryOf story (dictionary_of story) header.dictionary
 
--- The memory of a story whose header is this, and which can be played. The order and the number of the dictionary's
--- entries refuse nothing.
-pub record IsPlayable (memory : List ℕ) (header : Header) : Type 0 where
-  pub version : is_played (number_of memory) ≡ true
+-- The memory of a story with this header and of this version, which can be played. The order and the number of the
+-- dictionary's entries refuse nothing.
+pub record IsPlayable (memory : List ℕ) (header : Header) (version : StoryVersion) : Type 0 where
+  pub version_read : version ≡ version_in memory
+  pub played : is_played version.number ≡ true
+  -- 8 times a word
+  pub near : (version.routine_offset ≤ longest_story) × (version.text_offset ≤ longest_story)
   pub read : IsHeadOf memory header
   pub placed : IsPlaced memory
   pub dictionary : HasDictionaryHead memory (dictionary_of memory)
@@ -233,9 +236,9 @@ IsNotWhole file causes.UnknownVersion = HasHeader file × (is_played (number_of 
 IsNotWhole file causes.WrongLength = HasHeader file × (is_played (number_of file) ≡ true) × ¬ HasStory file
 IsNotWhole file _ = ⊥
 
--- the header of a memory, or that an address is wrong
-abbrev pub ReadsMemory : List ℕ → Result Header HeaderFault → Type 0
-ReadsMemory memory (Ok header) = IsPlayable memory header
+-- the header and the version of a memory, or that an address is wrong
+abbrev pub ReadsMemory : List ℕ → Result (Header × StoryVersion) HeaderFault → Type 0
+ReadsMemory memory (Ok x) = IsPlayable memory x.0 x.1
 ReadsMemory memory (Err causes.WrongAddress) =
     ¬ (IsPlaced memory × HasDictionaryHead memory (dictionary_of memory))
 ReadsMemory memory (Err _) = ⊥
@@ -243,9 +246,8 @@ ReadsMemory memory (Err _) = ⊥
 -- what a file is read as
 abbrev pub ReadsFile : List ℕ → Result LoadedStory HeaderFault → Type 0
 ReadsFile file (Ok story) =
-    IsWhole file × ReadsMemory (memory_for file) (Ok story.header)
+    IsWhole file × IsPlayable (memory_for file) story.header story.version
     × (story.is_sum_right ≡ is_sum_right (story_in file))
-    × (story.version ≡ version_in (memory_for file))
 ReadsFile file (Err causes.WrongAddress) = IsWhole file × ReadsMemory (memory_for file) (Err causes.WrongAddress)
 ReadsFile file (Err cause) = IsNotWhole file cause
 

@@ -1,8 +1,8 @@
 //! Loading a file to play it by the whole Standard: which files are refused, what is read of the
 //! others, and what the player writes into their headers.
 
-ghost use Rattle.std.specs.Prelude.{◌≡◌, ◌+◌, ◌%◌, ◌≤◌, ℕ, List, length, drop, sum, slice_index, IfOk, IfErr};
-ghost use Rattle.zcore.specs.Layout.{header_size};
+ghost use Rattle.std.specs.Prelude.{◌≡◌, ◌+◌, ◌%◌, ◌≤◌, ℕ, List, true, length, drop, sum, slice_index, IfOk, IfErr};
+ghost use Rattle.zcore.specs.Layout.{header_size, longest_story};
 ghost use Rattle.zcore.specs.Header.{HasHeader, IsDictionaryOf, dictionary_of, scale_of};
 ghost use Rattle.zcore.specs.Parts.{scale_in};
 ghost use Rattle.zcore.specs.Turn.{with_bytes};
@@ -202,7 +202,8 @@ fn story_length(file: &[u8]) -> usize
 fn offset(memory: &[u8], word: usize) -> u32
     requires header { HasHeader memory.now }
     requires word { word + 2 ≤ header_size }
-    ensures { result ≡ definitions.offset_in memory.now word }
+    ensures offset { result ≡ definitions.offset_in memory.now word }
+    ensures near { result ≤ longest_story }
 {
     if memory[0] == 7 {
         8 * u32::from(read_word(memory, word))
@@ -214,7 +215,8 @@ fn offset(memory: &[u8], word: usize) -> u32
 /// The version of a memory.
 fn version(memory: &[u8]) -> StoryVersion
     requires header { HasHeader memory.now }
-    ensures { result ≡ definitions.version_in memory.now }
+    ensures version { result ≡ definitions.version_in memory.now }
+    ensures near { (result.routine_offset ≤ longest_story) × (result.text_offset ≤ longest_story) }
 {
     StoryVersion {
         number: memory[0],
@@ -268,8 +270,8 @@ fn header_of(memory: &[u8], dictionary: Dictionary) -> Header
     }
 }
 
-/// The header of a memory that can be played.
-fn read_header(memory: &[u8]) -> Result<Header, HeaderFault>
+/// The header of a memory that can be played, and its version.
+fn read_header(memory: &[u8]) -> Result<(Header, StoryVersion), HeaderFault>
     requires header { HasHeader memory.now }
     requires version { definitions.is_played (definitions.number_of memory.now) ≡ true }
     ensures { ReadsMemory memory.now result }
@@ -280,7 +282,7 @@ fn read_header(memory: &[u8]) -> Result<Header, HeaderFault>
     let Some(dictionary) = read_dictionary(memory, read_word(memory, DICTIONARY_WORD)) else {
         return Err(HeaderFault::WrongAddress);
     };
-    Ok(header_of(memory, dictionary))
+    Ok((header_of(memory, dictionary), version(memory)))
 }
 
 /// Cuts a file to its story.
@@ -318,10 +320,10 @@ pub fn load(file: &mut Vec<u8>) -> Result<LoadedStory, HeaderFault>
     cut(file)?;
     let is_sum_right = is_sum_right(file);
     set_header(file);
-    let header = read_header(file)?;
+    let (header, version) = read_header(file)?;
     Ok(LoadedStory {
         header,
-        version: version(file),
+        version,
         is_sum_right,
     })
 }

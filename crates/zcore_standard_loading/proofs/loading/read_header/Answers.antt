@@ -1,9 +1,12 @@
-use Rattle.std.proofs.Common.{rules}
+use Rattle.std.proofs.Common.{rules, ◌∙◌, ap}
+use Rattle.zcore_standard_loading.specs.Loading.{is_played}
 use Rattle.zcore_standard_loading.proofs.loading.read_header.Goals as goal
 
 pub returns : goal.returns
 returns c = record {
-  version = c.requires.version;
+  version_read = c.version.ensures.version;
+  played = search rules;
+  near = c.version.ensures.near;
   read = c.header_of.ensures;
   placed = c.if-not-is_placed.ensures.0 (search rules);
   dictionary = search rules;
