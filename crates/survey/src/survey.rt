@@ -24,6 +24,9 @@ use zcore_versions::StoryVersion;
 /// So many bytes no story has with the filling after it.
 const TOO_LONG: usize = LONGEST_STORY + 512;
 
+/// The version of games that draw pictures, which is not played.
+const GRAPHICAL: u8 = 6;
+
 /// What is found of a file without running it. `Display` writes a line for each fact, and the last
 /// lines say that it loads, and what it holds, or why it is refused.
 #[derive(Drop)]
@@ -218,11 +221,15 @@ fn write_cause<W: fmt::Write>(
         }
         HeaderFault::UnknownVersion => {
             let beginning = survey.beginning;
-            let more = match (survey.mode, beginning) {
-                (Mode::Profile, Beginning::Blorb) => "; --standard plays the story in it",
-                _ => "",
-            };
-            writeln!(f, "{fault}: {beginning}{more}")
+            match (survey.mode, beginning) {
+                (Mode::Standard, Beginning::Version(GRAPHICAL)) => {
+                    writeln!(f, "{fault}: version 6, the graphical one, is not played")
+                }
+                (Mode::Standard, Beginning::Version(version)) => {
+                    writeln!(f, "{fault}: version {version}; 3 to 5, 7 and 8 are played")
+                }
+                _ => writeln!(f, "{fault}: {beginning}"),
+            }
         }
         HeaderFault::WrongLength | HeaderFault::WrongSum | HeaderFault::WrongAddress => {
             match &survey.facts {

@@ -6,9 +6,6 @@ ghost use Rattle.survey_headers.specs.Beginnings.{beginning_of, is_text, is_text
 
 use std::fmt;
 
-/// The version of games that draw pictures, which no machine here plays.
-const GRAPHICAL: u8 = 6;
-
 /// How many bytes of a file are looked at.
 const LOOKED_AT: usize = 64;
 
@@ -34,13 +31,7 @@ pub enum Beginning {
 impl fmt::Display for Beginning {
     fn fmt<W: fmt::Write>(&self, f: &mut fmt::Formatter<W>) -> fmt::Result {
         match self {
-            Beginning::Version(GRAPHICAL) => {
-                f.write_str("version 6, the graphical one, which is not played")
-            }
-            Beginning::Version(version) => write!(
-                f,
-                "version {version}; 5 and 8 are played, with --standard 1 to 4 and 7 too"
-            ),
+            Beginning::Version(version) => write!(f, "version {version}; 5 and 8 are played"),
             Beginning::Glulx => f.write_str("this begins like a Glulx file"),
             Beginning::Blorb => f.write_str("this begins like a Blorb file"),
             Beginning::Gzip => f.write_str("this begins like a gzip file"),

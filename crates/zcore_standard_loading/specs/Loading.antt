@@ -1,5 +1,5 @@
--- How a file of any version but 6 is loaded: which files are refused, what memory holds then, and what loading fixes
--- (Z-Machine Standards Document 1.1, sections 1.1, 3.8.5, 11.1 and 15, `verify`).
+-- How a file is loaded: which files are refused, what memory holds then, and what loading fixes (Z-Machine Standards
+-- Document 1.1, sections 1.1, 3.8.5, 11.1 and 15, `verify`).
 use Rattle.std.specs.Prelude.{◌≡◌, ◌==◌, ◌&&◌, ◌||◌, ◌+◌, ◌*◌, ◌/◌, ◌%◌, ◌≤◌, ◌⊎◌, ℕ, zero, suc, nat_le, min, sum}
 use Rattle.std.specs.Prelude.{Bool, true, false, if◌then◌else◌, List, [], ◌∷◌, length, slice_index, slice_range, take, drop}
 use Rattle.std.specs.Prelude.{Option, Some, None, Result, Ok, Err}
@@ -26,9 +26,9 @@ use Rattle.zcore_versions.specs.Versions.{Story}
 abbrev pub number_of : List ℕ → ℕ
 number_of story = slice_index story 0
 
--- Version 6 is not played.
+-- Versions 1, 2 and 6 are not played.
 abbrev pub is_played : ℕ → Bool
-is_played number = (nat_le 1 number && nat_le number 5) || (nat_le 7 number && nat_le number 8)
+is_played number = (nat_le 3 number && nat_le number 5) || (nat_le 7 number && nat_le number 8)
 
 -- what packed addresses count from: in version 7 a word of the header says it, in eights of bytes (1.2.3)
 abbrev pub offset_in : List ℕ → ℕ → ℕ

@@ -166,11 +166,11 @@ fn set_header(memory: &mut [u8])
     write_extension_word(memory, BACKGROUND, 0);
 }
 
-/// Whether a version is played: each but 6.
+/// Whether a version is played: each but 1, 2 and 6.
 pub fn is_played(number: u8) -> bool
     ensures { result ≡ definitions.is_played number }
 {
-    matches!(number, 1..=5 | 7 | 8)
+    matches!(number, 3..=5 | 7 | 8)
 }
 
 /// By how many bytes the header of a version states the length of its story.
@@ -307,7 +307,7 @@ fn cut(file: &mut Vec<u8>) -> Result<(), HeaderFault>
     Ok(())
 }
 
-/// Loads a file of any version but 6: cuts it to its story, and sets the header.
+/// Loads a file of a version that is played: cuts it to its story, and sets the header.
 ///
 /// # Errors
 ///

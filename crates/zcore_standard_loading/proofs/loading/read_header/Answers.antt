@@ -1,5 +1,4 @@
-use Rattle.std.proofs.Common.{rules, ◌∙◌, ap}
-use Rattle.zcore_standard_loading.specs.Loading.{is_played}
+use Rattle.std.proofs.Common.{rules}
 use Rattle.zcore_standard_loading.proofs.loading.read_header.Goals as goal
 
 pub returns : goal.returns
