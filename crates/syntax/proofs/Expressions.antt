@@ -14,8 +14,8 @@ use Rattle.syntax_trees.specs.Tree.{NameTree, ExpressionTree, constant, word, na
 use Rattle.syntax_trees.specs.Tree.{prefixed, relative_of, property, property_length, property_entry, step_before}
 use Rattle.syntax_trees.specs.Tree.{step_after, binary, compare, equal, contained, tested, assign, none}
 use Rattle.syntax_trees.specs.Views.{trees_of}
-use Rattle.syntax_parsing.specs.Stop.{Stop, unfit}
-use Rattle.syntax_parsing.specs.Parse.{Parse, ◌>>=◌, head, tail, is_sign, is_word, expect, list}
+use Rattle.syntax_trees.specs.Stop.{Stop, unfit}
+use Rattle.syntax_trees.specs.Parse.{Parse, ◌>>=◌, head, tail, is_sign, is_word, expect, list}
 use Rattle.syntax_expression_parts.specs.Operators.{logical, comparing, equating, containing, testing, adding, scaling}
 use Rattle.syntax_expression_parts.specs.Operators.{stepping, prefixes, relating_word, indexing, begins_expression}
 use Rattle.syntax_expressions.specs.Parse as parse

@@ -6,8 +6,8 @@ use Rattle.syntax_lexer.specs.declared.token.Position.{Position}
 use Rattle.syntax_lexer.specs.declared.token.Sign.TheVariants as s
 use Rattle.syntax_lexer.specs.declared.token.Word.TheVariants as w
 use Rattle.syntax_lexer.specs.Token.{Lexeme, name, number, reserved, sign, end}
-use Rattle.syntax_parsing.specs.Stop.{unfit, deep}
-use Rattle.syntax_parsing.specs.Parse as tokens
+use Rattle.syntax_trees.specs.Stop.{unfit, deep}
+use Rattle.syntax_trees.specs.Parse as tokens
 use Rattle.syntax_expression_parts.specs.Parse as operands
 use Rattle.syntax_expressions.specs.Parse as expressions
 use Rattle.syntax_statement_parts.specs.Nesting as cases

@@ -6,7 +6,7 @@ use Rattle.syntax_lexer.specs.declared.token.Sign.TheVariants as s
 use Rattle.syntax_lexer.specs.declared.token.Word.TheVariants as w
 use Rattle.syntax_lexer.specs.Token.{Lexeme, name, text, reserved, sign}
 use Rattle.syntax_lexer.specs.Token.{position_of}
-use Rattle.syntax_parsing.specs.Parse.{head, tail, is_sign, repeated}
+use Rattle.syntax_trees.specs.Parse.{head, tail, is_sign, repeated}
 use Rattle.syntax_expression_parts.specs.Parse.{is_name, expect_name}
 use Rattle.syntax_statement_parts.specs.Parse as parts
 use Rattle.syntax_statement_parts.specs.Parse.{begins_flag, flags, begins_value}

@@ -2,13 +2,13 @@
 
 ghost use Rattle.std.specs.Prelude.{◌≡◌, IfErr, IfOk, [], ◌∷◌, ◌++◌};
 ghost use Rattle.syntax_lexer.specs.Token.{lexeme};
-ghost use Rattle.syntax_parsing.specs.Returned.{ahead, Takes};
+ghost use Rattle.syntax_trees.specs.Returned.{ahead, Takes};
 ghost use Rattle.syntax.specs.Parse as spec;
 ghost use Rattle.syntax.specs.Parse.{parts_in};
 
 use syntax_directives::{Directive, Text, abbreviate, directive};
 use syntax_lexer::{Kind, Token, Word};
-use syntax_parsing::{ParseError, Parser, is_word, pass, peek};
+use syntax_trees::{ParseError, Parser, is_word, pass, peek};
 
 /// What stands in a file: its directives, and the texts of all `abbreviate`, each in order.
 #[derive(Drop)]

@@ -5,8 +5,8 @@ ghost use Rattle.syntax_lexer.specs.FaultNumbers.{no_memory};
 ghost use Rattle.syntax_lexer.specs.Placed.{nowhere, unplaced};
 ghost use Rattle.syntax_lexer.specs.Token.{Lexeme, lexeme, lexemes};
 ghost use Rattle.syntax_lexer.specs.Tokens.{EndsOnce};
-ghost use Rattle.syntax_parsing.specs.Parse.{Gives};
-ghost use Rattle.syntax_parsing.specs.Returned.{ahead};
+ghost use Rattle.syntax_trees.specs.Parse.{Gives};
+ghost use Rattle.syntax_trees.specs.Returned.{ahead};
 ghost use Rattle.syntax.specs.Answers.{IfNumber, AnswersProgram};
 ghost use Rattle.syntax.specs.Grammar.{IsProgram, program_nesting};
 ghost use Rattle.syntax.specs.Nesting.{DeepProgram};
@@ -22,7 +22,7 @@ use crate::words::dictionary_words;
 use std::alloc::Global;
 use syntax_directives::weight_of;
 use syntax_lexer::{Kind, PlacedFault, Position, SourceFault, Token};
-use syntax_parsing::{Fault, ParseError, Parser, fault_at};
+use syntax_trees::{Fault, ParseError, Parser, fault_at};
 
 // How many nestings may be opened in a statement of a routine.
 const MOST_NESTED: usize = 100;

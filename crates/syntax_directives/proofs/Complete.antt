@@ -5,8 +5,8 @@ use Rattle.syntax_lexer.specs.declared.token.Sign.TheVariants as s
 use Rattle.syntax_lexer.specs.declared.token.Word.TheVariants as w
 use Rattle.syntax_lexer.specs.Token.{Lexeme, name, reserved, sign}
 use Rattle.syntax_trees.specs.Tree.{NameTree}
-use Rattle.syntax_parsing.specs.Stop.{Stop}
-use Rattle.syntax_parsing.specs.Parse.{head, expect}
+use Rattle.syntax_trees.specs.Stop.{Stop}
+use Rattle.syntax_trees.specs.Parse.{head, expect}
 use Rattle.syntax_expressions.proofs.Limited.{Limited, then, at_once}
 use Rattle.syntax_expression_parts.specs.Parse.{expect_name}
 use Rattle.syntax_statement_parts.specs.Tree.{LiteralTree}

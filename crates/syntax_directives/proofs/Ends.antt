@@ -6,8 +6,8 @@ use Rattle.syntax_lexer.specs.declared.token.Sign.{Sign}
 use Rattle.syntax_lexer.specs.declared.token.Sign.TheVariants as s
 use Rattle.syntax_lexer.specs.Token.{Lexeme, name, sign, lexeme, lexemes, position_of}
 use Rattle.syntax_trees.specs.Tree.{NameTree}
-use Rattle.syntax_parsing.specs.Stop.{Stop, deep, unfit}
-use Rattle.syntax_parsing.specs.Parse.{◌>>=◌, head, tail, expect}
+use Rattle.syntax_trees.specs.Stop.{Stop, deep, unfit}
+use Rattle.syntax_trees.specs.Parse.{◌>>=◌, head, tail, expect}
 use Rattle.syntax_expression_parts.proofs.Judged.{Judged, judged_read, judged_then, judged_after}
 use Rattle.syntax_expression_parts.proofs.Tokens.{expect_ok, expect_not_deep}
 use Rattle.syntax_expression_parts.proofs.NamesRead.{name_judged}

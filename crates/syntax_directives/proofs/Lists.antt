@@ -4,7 +4,7 @@ use Rattle.std.proofs.Common.{◌≡◌, ℕ, zero, suc, ◌<◌, ◌≤◌, tru
 use Rattle.std.proofs.Common.{arith}
 use Rattle.syntax_lexer.specs.Token.{Lexeme, name}
 use Rattle.syntax_trees.specs.Tree.{NameTree}
-use Rattle.syntax_parsing.specs.Parse.{head, as_long, repeated}
+use Rattle.syntax_trees.specs.Parse.{head, as_long, repeated}
 use Rattle.syntax_expression_parts.specs.Parse.{is_name, expect_name}
 use Rattle.syntax_expression_parts.proofs.Judged.{Judged, judged_read, judged_grammar, judged_then}
 use Rattle.syntax_expression_parts.proofs.NamesRead.{name_judged}

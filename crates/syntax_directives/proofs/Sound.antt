@@ -7,7 +7,7 @@ use Rattle.syntax_lexer.specs.declared.token.Sign.TheVariants as s
 use Rattle.syntax_lexer.specs.declared.token.Word.{Word}
 use Rattle.syntax_lexer.specs.declared.token.Word.TheVariants as w
 use Rattle.syntax_lexer.specs.Token.{Lexeme, name, reserved, sign, position_of}
-use Rattle.syntax_parsing.specs.Parse.{head, tail, is_sign, expect}
+use Rattle.syntax_trees.specs.Parse.{head, tail, is_sign, expect}
 use Rattle.syntax_expression_parts.proofs.Judged.{Judged, judged_read, judged_grammar, judged_then, judged_after}
 use Rattle.syntax_expression_parts.proofs.Judged.{judged_by}
 use Rattle.syntax_expression_parts.proofs.Tokens.{at_sign, expect_ok, expect_not_deep}

@@ -8,8 +8,8 @@ use Rattle.syntax_lexer.specs.declared.token.Word.{Word}
 use Rattle.syntax_lexer.specs.declared.token.Word.TheVariants as w
 use Rattle.syntax_lexer.specs.Token.{Lexeme, name, text, reserved, sign, position_of}
 use Rattle.syntax_trees.specs.Tree.{NameTree}
-use Rattle.syntax_parsing.specs.Stop.{Stop, unfit}
-use Rattle.syntax_parsing.specs.Parse.{Parse, ◌>>=◌, head, tail, is_sign, is_word, expect, as_long, repeated}
+use Rattle.syntax_trees.specs.Stop.{Stop, unfit}
+use Rattle.syntax_trees.specs.Parse.{Parse, ◌>>=◌, head, tail, is_sign, is_word, expect, as_long, repeated}
 use Rattle.syntax_expression_parts.specs.Parse.{is_name, expect_name}
 use Rattle.syntax_statement_parts.specs.Parse.{known_value, begins_value}
 use Rattle.syntax_statements.specs.Tree.{StatementTree}

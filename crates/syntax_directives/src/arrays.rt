@@ -2,7 +2,7 @@
 
 ghost use Rattle.std.specs.Prelude.{◌≡◌, map};
 ghost use Rattle.syntax_lexer.specs.Token.{lexeme};
-ghost use Rattle.syntax_parsing.specs.Returned.{ahead, Takes};
+ghost use Rattle.syntax_trees.specs.Returned.{ahead, Takes};
 ghost use Rattle.syntax_directives.specs.Views.{value_tree};
 ghost use Rattle.syntax_directives.specs.Returned.{TakesDirective};
 ghost use Rattle.syntax_directives.specs.Grammar as grammar;
@@ -12,8 +12,8 @@ use crate::parts::in_box;
 use crate::tree::{Array, ArrayKind, ArrayValue, Directive};
 use syntax_expression_parts::expect_name;
 use syntax_lexer::{Kind, Sign, Token, Word};
-use syntax_parsing::{Fault, ParseError, Parser, expect, fault_at, pass, peek, position};
 use syntax_statement_parts::{begins_value, known_value};
+use syntax_trees::{Fault, ParseError, Parser, expect, fault_at, pass, peek, position};
 
 // The kind of array that the token names.
 fn kind_of(token: Token<'_>) -> Option<ArrayKind>
@@ -56,7 +56,7 @@ fn placed<'t, 'a>(parser: &mut Parser<'t, 'a>) -> Result<ArrayValue<'a>, ParseEr
 ///
 /// `Fault::Grammar` at the first token: it begins no value; or after `-`. `Memory` where a growth
 /// is refused.
-#[tactic(auto, unfolding(crate::specs::Parse::values), using(syntax_parsing::proofs::Loops::repeated_out, syntax_parsing::proofs::Loops::repeated_done, syntax_parsing::proofs::Loops::repeated_more, syntax_parsing::proofs::Loops::repeated_fails))]
+#[tactic(auto, unfolding(crate::specs::Parse::values), using(syntax_trees::proofs::Loops::repeated_out, syntax_trees::proofs::Loops::repeated_done, syntax_trees::proofs::Loops::repeated_more, syntax_trees::proofs::Loops::repeated_fails))]
 pub fn values<'t, 'a>(parser: &mut Parser<'t, 'a>) -> Result<Vec<ArrayValue<'a>>, ParseError>
     ensures { Takes (λ vs. map value_tree vs.items) result parser.new
         (spec.values (ahead parser.old)) }

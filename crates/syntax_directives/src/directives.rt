@@ -1,6 +1,6 @@
 //! Directives, read from tokens.
 
-ghost use Rattle.syntax_parsing.specs.Returned.{ahead};
+ghost use Rattle.syntax_trees.specs.Returned.{ahead};
 ghost use Rattle.syntax_directives.specs.Returned.{TakesDirective};
 ghost use Rattle.syntax_directives.specs.Parse as spec;
 
@@ -11,8 +11,8 @@ use crate::routines::routine;
 use crate::tree::Directive;
 use syntax_expression_parts::expect_name;
 use syntax_lexer::{Kind, Sign, Word};
-use syntax_parsing::{Fault, ParseError, Parser, expect, fault_at, is_sign, pass, peek};
 use syntax_statement_parts::{begins_value, known_value};
+use syntax_trees::{Fault, ParseError, Parser, expect, fault_at, is_sign, pass, peek};
 
 // A global variable, from its word on.
 #[tactic(auto, unfolding(crate::specs::Parse::worded, crate::specs::Parse::global_after))]

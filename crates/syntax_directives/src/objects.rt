@@ -4,7 +4,7 @@ ghost use Rattle.std.specs.Prelude.{◌≡◌, map, Ok};
 ghost use Rattle.std.specs.Option.{option_map};
 ghost use Rattle.syntax_lexer.specs.Token.{lexemes};
 ghost use Rattle.syntax_trees.specs.Views.{name_tree};
-ghost use Rattle.syntax_parsing.specs.Returned.{ahead, Takes};
+ghost use Rattle.syntax_trees.specs.Returned.{ahead, Takes};
 ghost use Rattle.syntax_directives.specs.Views.{text_tree, head_tree, property_tree};
 ghost use Rattle.syntax_directives.specs.Returned.{TakesDirective};
 ghost use Rattle.syntax_directives.specs.Parse as spec;
@@ -15,10 +15,9 @@ use crate::parts::in_box;
 use crate::tree::{Directive, Object, Property, Text};
 use syntax_expression_parts::{expect_name, name_of};
 use syntax_lexer::{Kind, Position, Sign, Token, Word};
-use syntax_parsing::{
-    Fault, ParseError, Parser, expect, fault_at, is_sign, is_word, pass, peek, position, skip,
+use syntax_trees::{
+    Fault, Name, ParseError, Parser, expect, fault_at, is_sign, is_word, pass, peek, position, skip,
 };
-use syntax_trees::Name;
 
 // What an object begins with: where each arrow stands, its name, its short name and its parent.
 #[derive(Drop)]
@@ -30,7 +29,7 @@ struct Head<'a> {
 }
 
 // Where each arrow stands, up to a token that is none.
-#[tactic(auto, unfolding(crate::specs::Parse::arrows), using(crate::proofs::Arrows::arrows_out, crate::proofs::Arrows::arrows_done, crate::proofs::Arrows::arrows_more, syntax_parsing::proofs::Loops::joined_none))]
+#[tactic(auto, unfolding(crate::specs::Parse::arrows), using(crate::proofs::Arrows::arrows_out, crate::proofs::Arrows::arrows_done, crate::proofs::Arrows::arrows_more, syntax_trees::proofs::Loops::joined_none))]
 fn arrows<'t, 'a>(parser: &mut Parser<'t, 'a>) -> Result<Vec<Position>, ParseError>
     ensures { Takes (λ ps. ps.items) result parser.new (spec.arrows (ahead parser.old)) }
 {
@@ -136,7 +135,7 @@ fn next_property<'t, 'a>(parser: &mut Parser<'t, 'a>) -> Result<Property<'a>, Pa
 }
 
 // Properties, at least one, with commas between them.
-#[tactic(auto, unfolding(crate::specs::Parse::props), using(syntax_parsing::proofs::Loops::as_long_out, syntax_parsing::proofs::Loops::as_long_done, syntax_parsing::proofs::Loops::as_long_more, syntax_parsing::proofs::Loops::as_long_fails))]
+#[tactic(auto, unfolding(crate::specs::Parse::props), using(syntax_trees::proofs::Loops::as_long_out, syntax_trees::proofs::Loops::as_long_done, syntax_trees::proofs::Loops::as_long_more, syntax_trees::proofs::Loops::as_long_fails))]
 fn listed<'t, 'a>(parser: &mut Parser<'t, 'a>) -> Result<Vec<Property<'a>>, ParseError>
     ensures { Takes (λ xs. map property_tree xs.items) result parser.new
         (spec.props (ahead parser.old)) }

@@ -10,7 +10,7 @@
 
 ghost use Rattle.std.specs.Prelude.{Ok};
 ghost use Rattle.syntax_trees.specs.Views.{name_tree};
-ghost use Rattle.syntax_parsing.specs.Returned.{ahead};
+ghost use Rattle.syntax_trees.specs.Returned.{ahead};
 ghost use Rattle.syntax_statement_parts.specs.Views.{literal_tree};
 ghost use Rattle.syntax_directives.specs.Tree as tree;
 ghost use Rattle.syntax_directives.specs.Views.{directive_tree, optional_tree};
@@ -19,9 +19,8 @@ ghost use Rattle.syntax_directives.specs.Parse as spec;
 
 use crate::tree::Directive;
 use syntax_lexer::Sign;
-use syntax_parsing::{ParseError, Parser, expect, memory};
 use syntax_statement_parts::Literal;
-use syntax_trees::Name;
+use syntax_trees::{Name, ParseError, Parser, expect, memory};
 
 /// A directive in a box. Where memory is refused the directive is dropped here.
 pub fn in_box<'t, 'a>(

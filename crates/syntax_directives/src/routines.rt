@@ -2,8 +2,8 @@
 
 ghost use Rattle.std.specs.Prelude.{map};
 ghost use Rattle.syntax_trees.specs.Views.{name_tree};
-ghost use Rattle.syntax_parsing.specs.Parse.{Gives};
-ghost use Rattle.syntax_parsing.specs.Returned.{ahead, Takes};
+ghost use Rattle.syntax_trees.specs.Parse.{Gives};
+ghost use Rattle.syntax_trees.specs.Returned.{ahead, Takes};
 ghost use Rattle.syntax_statements.specs.Views.{statement_tree};
 ghost use Rattle.syntax_directives.specs.Returned.{TakesDirective};
 ghost use Rattle.syntax_directives.specs.Parse as spec;
@@ -15,9 +15,8 @@ use crate::weight::weight_before;
 use syntax_expression_parts::expect_name;
 use syntax_lexer::Sign;
 use syntax_nested_statements::statements;
-use syntax_parsing::{ParseError, Parser, expect, pass};
 use syntax_statements::Statement;
-use syntax_trees::Name;
+use syntax_trees::{Name, ParseError, Parser, expect, pass};
 
 // What a routine begins with, after its bracket: its name, its locals, and their `;`.
 #[tactic(auto, unfolding(crate::specs::Parse::routine_heading))]

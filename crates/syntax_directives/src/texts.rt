@@ -2,13 +2,13 @@
 
 ghost use Rattle.std.specs.Prelude.{◌≡◌, map};
 ghost use Rattle.syntax_lexer.specs.Token.{lexeme};
-ghost use Rattle.syntax_parsing.specs.Returned.{ahead, Takes};
+ghost use Rattle.syntax_trees.specs.Returned.{ahead, Takes};
 ghost use Rattle.syntax_directives.specs.Views.{text_tree};
 ghost use Rattle.syntax_directives.specs.Parse as spec;
 
 use crate::tree::Text;
 use syntax_lexer::{Kind, Sign, Token};
-use syntax_parsing::{Fault, ParseError, Parser, expect, fault_at, pass, peek};
+use syntax_trees::{Fault, ParseError, Parser, expect, fault_at, pass, peek};
 
 fn is_text(token: Token<'_>) -> bool
     ensures { result ≡ spec.is_text (lexeme token.entry) }
@@ -35,7 +35,7 @@ fn one_text<'t, 'a>(parser: &mut Parser<'t, 'a>) -> Result<Text<'a>, ParseError>
 }
 
 // Texts, at least one.
-#[tactic(auto, unfolding(crate::specs::Parse::texts), using(syntax_parsing::proofs::Loops::repeated_out, syntax_parsing::proofs::Loops::repeated_done, syntax_parsing::proofs::Loops::repeated_more, syntax_parsing::proofs::Loops::repeated_fails))]
+#[tactic(auto, unfolding(crate::specs::Parse::texts), using(syntax_trees::proofs::Loops::repeated_out, syntax_trees::proofs::Loops::repeated_done, syntax_trees::proofs::Loops::repeated_more, syntax_trees::proofs::Loops::repeated_fails))]
 fn texts<'t, 'a>(parser: &mut Parser<'t, 'a>) -> Result<Vec<Text<'a>>, ParseError>
     ensures { Takes (λ xs. map text_tree xs.items) result parser.new
         (spec.texts (ahead parser.old)) }

@@ -10,8 +10,8 @@ use Rattle.syntax_trees.specs.declared.tree.ObjectTest.{ObjectTest}
 use Rattle.syntax_trees.specs.declared.tree.Step.{Step}
 use Rattle.syntax_trees.specs.declared.tree.Width.{Width}
 use Rattle.syntax_trees.specs.Tree.{NameTree, ExpressionTree, constant, property, property_length, step_after, tested}
-use Rattle.syntax_parsing.specs.Parse.{Parse, ◌>>=◌, head, tail, is_sign, expect}
-use Rattle.syntax_parsing.specs.Stop.{Stop, unfit}
+use Rattle.syntax_trees.specs.Parse.{Parse, ◌>>=◌, head, tail, is_sign, expect}
+use Rattle.syntax_trees.specs.Stop.{Stop, unfit}
 use Rattle.syntax_expression_parts.specs.Operators.{testing, stepping, indexing}
 
 -- ---- one token

@@ -16,20 +16,17 @@ ghost use Rattle.std.specs.Prelude.{◌≡◌, ◌∷◌, IfErr, IfOk, Ok, Some,
 ghost use Rattle.syntax_lexer.specs.Token.{position_of};
 ghost use Rattle.syntax_trees.specs.Tree as tree;
 ghost use Rattle.syntax_trees.specs.Views.{chained, link, name_tree, expression_tree, trees_of};
-ghost use Rattle.syntax_parsing.specs.Parse as reading;
-ghost use Rattle.syntax_parsing.specs.Returned.{ahead};
+ghost use Rattle.syntax_trees.specs.Parse as reading;
+ghost use Rattle.syntax_trees.specs.Returned.{ahead};
 ghost use Rattle.syntax_expression_parts.specs.Parse as spec;
 ghost use Rattle.syntax_expression_parts.specs.Returned.{TakesExpression};
 
 use crate::operators::{level, stepping, testing, word_value};
 use crate::reading::expect_name;
 use syntax_lexer::{Position, Sign, Word};
-use syntax_parsing::{
-    Fault, ParseError, Parser, expect, fault_at, is_sign, memory, pass, peek, position,
-};
 use syntax_trees::{
-    Binary, Comparison, Containment, Equality, Expression, Name, ObjectTest, Prefix, Relative,
-    Step, Width,
+    Binary, Comparison, Containment, Equality, Expression, Fault, Name, ObjectTest, ParseError,
+    Parser, Prefix, Relative, Step, Width, expect, fault_at, is_sign, memory, pass, peek, position,
 };
 
 // A tree in a box. Where memory is refused the tree is dropped here.

@@ -3,13 +3,12 @@
 ghost use Rattle.std.specs.Prelude.{◌≡◌, false, MatchOption, None, Some};
 ghost use Rattle.syntax_lexer.specs.Token.{lexeme, lexemes, name};
 ghost use Rattle.syntax_trees.specs.Views.{name_tree};
-ghost use Rattle.syntax_parsing.specs.Returned.{ahead, Takes};
+ghost use Rattle.syntax_trees.specs.Returned.{ahead, Takes};
 ghost use Rattle.syntax_expression_parts.specs.Parse as spec;
 
 use crate::operators::indexing;
 use syntax_lexer::{Kind, Sign, Token};
-use syntax_parsing::{Fault, ParseError, Parser, expect, fault_at, pass, peek, skip};
-use syntax_trees::{Name, Width};
+use syntax_trees::{Fault, Name, ParseError, Parser, Width, expect, fault_at, pass, peek, skip};
 
 /// The name that the token is, with its position.
 pub fn name_of<'a>(token: Token<'a>) -> Option<Name<'a>>

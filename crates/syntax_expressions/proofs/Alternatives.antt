@@ -16,8 +16,8 @@ use Rattle.syntax_trees.specs.Tree.{NameTree, ExpressionTree, ExpressionTrees, c
 use Rattle.syntax_trees.specs.Tree.{parenthesised, relative_of, property_length, property_entry, prefixed, step_before}
 use Rattle.syntax_trees.specs.Tree.{step_after, compare, equal, contained, tested, assign, none, more}
 use Rattle.syntax_trees.specs.Views.{trees_of}
-use Rattle.syntax_parsing.specs.Stop.{Stop}
-use Rattle.syntax_parsing.specs.Parse.{◌>>=◌, head, is_sign, is_word, expect, list}
+use Rattle.syntax_trees.specs.Stop.{Stop}
+use Rattle.syntax_trees.specs.Parse.{◌>>=◌, head, is_sign, is_word, expect, list}
 use Rattle.syntax_expression_parts.specs.Operators.{logical, comparing, equating, containing, testing, adding, scaling}
 use Rattle.syntax_expression_parts.specs.Operators.{stepping, prefixes, relating, indexing, begins_expression}
 use Rattle.syntax_expressions.specs.Parse.{assignment, compared, whole, negation, complement, prefix, operand}

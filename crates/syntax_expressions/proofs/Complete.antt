@@ -5,7 +5,7 @@ use Rattle.syntax_lexer.specs.declared.token.Sign.TheVariants as s
 use Rattle.syntax_lexer.specs.declared.token.Word.TheVariants as w
 use Rattle.syntax_lexer.specs.Token.{Lexeme, reserved, sign}
 use Rattle.syntax_trees.specs.Tree.{ExpressionTree, ExpressionTrees}
-use Rattle.syntax_parsing.specs.Parse.{head, is_sign, is_word}
+use Rattle.syntax_trees.specs.Parse.{head, is_sign, is_word}
 use Rattle.syntax_expression_parts.specs.Operators.{logical, adding, scaling}
 use Rattle.syntax_expressions.specs.Parse.{nested, primary, unary, indexed, complemented, product, sum, comparison}
 use Rattle.syntax_expressions.specs.Parse.{negated, condition, expression}

@@ -13,7 +13,7 @@ use Rattle.syntax_trees.specs.declared.tree.Width.{Width}
 use Rattle.syntax_trees.specs.Tree.{NameTree, ExpressionTree, index, relative_of, step_before, compare, equal}
 use Rattle.syntax_trees.specs.Tree.{contained, call}
 use Rattle.syntax_trees.specs.Views.{trees_of}
-use Rattle.syntax_parsing.specs.Parse.{◌>>=◌, head, is_sign, is_word, expect, list}
+use Rattle.syntax_trees.specs.Parse.{◌>>=◌, head, is_sign, is_word, expect, list}
 use Rattle.syntax_expression_parts.specs.Operators.{comparing, equating, containing, stepping, prefixes, relating}
 use Rattle.syntax_expression_parts.specs.Operators.{indexing, begins_expression}
 use Rattle.syntax_expressions.specs.Nesting.{DeepE, deep_e_left, deep_e_first, deep_e_right, DeepE1, deep_e1_first}

@@ -5,8 +5,8 @@ use Rattle.std.proofs.lemmas.Bool.{cases_lt}
 use Rattle.syntax_lexer.specs.Token.{Lexeme}
 use Rattle.syntax_trees.specs.declared.tree.Binary.{Binary}
 use Rattle.syntax_trees.specs.Tree.{NameTree, ExpressionTree, binary}
-use Rattle.syntax_parsing.specs.Stop.{Stop, deep, TooDeep}
-use Rattle.syntax_parsing.specs.Parse.{◌>>=◌, Parse, head, further, list}
+use Rattle.syntax_trees.specs.Stop.{Stop, deep, TooDeep}
+use Rattle.syntax_trees.specs.Parse.{◌>>=◌, Parse, head, further, list}
 use Rattle.syntax_expressions.specs.Parse.{Level, whole, negation, complement, prefix, operand, arguments, chain}
 use Rattle.syntax_expressions.specs.Parse.{nested, expression, negated, complemented, unary, primary, called}
 use Rattle.syntax_expressions.proofs.Chain.{chain_stop}

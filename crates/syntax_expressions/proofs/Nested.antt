@@ -2,7 +2,7 @@
 use Rattle.std.proofs.Common.{◌≡◌, ℕ, zero, suc, ◌+◌, List, Err, refl, ap, arith}
 use Rattle.syntax_lexer.specs.Token.{Lexeme}
 use Rattle.syntax_trees.specs.Tree.{NameTree}
-use Rattle.syntax_parsing.specs.Stop.{deep}
+use Rattle.syntax_trees.specs.Stop.{deep}
 use Rattle.syntax_expressions.specs.Parse.{Level, whole, negation, complement, prefix, operand, arguments, nested}
 use Rattle.syntax_expressions.specs.Parse.{expression, negated, complemented, unary, primary, called}
 

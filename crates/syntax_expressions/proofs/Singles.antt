@@ -6,7 +6,7 @@ use Rattle.syntax_lexer.specs.declared.token.Position.{Position}
 use Rattle.syntax_lexer.specs.declared.token.Sign.TheVariants as s
 use Rattle.syntax_lexer.specs.Token.{Lexeme, name, number, reserved, sign}
 use Rattle.syntax_trees.specs.Tree.{ExpressionTree, constant, named}
-use Rattle.syntax_parsing.specs.Parse.{Parse}
+use Rattle.syntax_trees.specs.Parse.{Parse}
 use Rattle.syntax_expression_parts.specs.declared.operators.Operators.{Operators}
 use Rattle.syntax_expression_parts.specs.declared.operators.Operators.TheVariants as operators
 use Rattle.syntax_expression_parts.specs.Operators.{logical, adding, scaling}

@@ -13,7 +13,7 @@ use Rattle.syntax_trees.specs.declared.tree.ObjectTest.{ObjectTest}
 use Rattle.syntax_trees.specs.declared.tree.Prefix.TheVariants as op
 use Rattle.syntax_trees.specs.Tree.{ExpressionTree, call, prefixed, compare, equal, contained, tested, assign, none}
 use Rattle.syntax_trees.specs.Views.{trees_of}
-use Rattle.syntax_parsing.specs.Parse.{head, tail, is_sign, is_word, expect, list}
+use Rattle.syntax_trees.specs.Parse.{head, tail, is_sign, is_word, expect, list}
 use Rattle.syntax_expression_parts.specs.Operators.{logical, comparing, equating, containing, testing, adding, scaling}
 use Rattle.syntax_expression_parts.specs.Operators.{begins_expression}
 use Rattle.syntax_expressions.specs.Nesting.{DeepE, deep_e_left, deep_e_first, deep_e_right, DeepE1, deep_e1_first}

@@ -13,7 +13,7 @@ use Rattle.syntax_trees.specs.declared.tree.Step.{Step}
 use Rattle.syntax_trees.specs.declared.tree.Width.{Width}
 use Rattle.syntax_trees.specs.Tree.{ExpressionTree, constant, word, index, parenthesised, relative_of, property}
 use Rattle.syntax_trees.specs.Tree.{property_length, property_entry, prefixed, step_before, step_after}
-use Rattle.syntax_parsing.specs.Parse.{head, tail, is_sign, expect}
+use Rattle.syntax_trees.specs.Parse.{head, tail, is_sign, expect}
 use Rattle.syntax_expression_parts.specs.Operators.{stepping, prefixes, relating_word, relating, indexing}
 use Rattle.syntax_expressions.specs.Nesting.{DeepE, DeepN1, DeepN4, DeepE5, deep_e5_plain, deep_e5_index, deep_e5_entry}
 use Rattle.syntax_expressions.specs.Nesting.{DeepU, deep_u_plain, deep_u_minus, deep_u_minus_in, deep_u_before}

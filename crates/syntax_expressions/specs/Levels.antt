@@ -1,7 +1,7 @@
 -- Words of proofs: the levels whose operators group to the left: E1, E3 and E4, each with its operands.
 use Rattle.std.specs.Prelude.{ℕ}
 use Rattle.syntax_trees.specs.Tree.{ExpressionTree}
-use Rattle.syntax_parsing.specs.Parse.{Parse}
+use Rattle.syntax_trees.specs.Parse.{Parse}
 use Rattle.syntax_expression_parts.specs.declared.operators.Operators.{Operators}
 use Rattle.syntax_expression_parts.specs.declared.operators.Operators.TheVariants as operators
 use Rattle.syntax_expressions.specs.Parse.{Level, negated, condition, complemented, product, sum}

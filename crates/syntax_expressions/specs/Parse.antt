@@ -17,8 +17,8 @@ use Rattle.syntax_trees.specs.Tree.{NameTree, ExpressionTree, constant, word, na
 use Rattle.syntax_trees.specs.Tree.{prefixed, relative_of, property_entry, step_before, binary, compare, equal}
 use Rattle.syntax_trees.specs.Tree.{contained, assign, none}
 use Rattle.syntax_trees.specs.Views.{trees_of}
-use Rattle.syntax_parsing.specs.Parse.{Parse, ◌>>=◌, head, tail, is_sign, is_word, expect, list}
-use Rattle.syntax_parsing.specs.Stop.{Stop, unfit, deep}
+use Rattle.syntax_trees.specs.Parse.{Parse, ◌>>=◌, head, tail, is_sign, is_word, expect, list}
+use Rattle.syntax_trees.specs.Stop.{Stop, unfit, deep}
 use Rattle.syntax_expression_parts.specs.Operators.{logical, comparing, equating, containing, adding, scaling, stepping}
 use Rattle.syntax_expression_parts.specs.Operators.{prefixes, relating_word, begins_expression}
 use Rattle.syntax_expression_parts.specs.Parse.{closed, properties, entry_of, word_value, valued, suffixed, array_at}

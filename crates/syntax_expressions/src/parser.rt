@@ -12,9 +12,9 @@
 
 ghost use Rattle.std.specs.Prelude.{map, length, Some};
 ghost use Rattle.syntax_trees.specs.Views.{name_tree, expression_tree};
-ghost use Rattle.syntax_parsing.specs.Parse as reading;
-ghost use Rattle.syntax_parsing.specs.Parse.{tail};
-ghost use Rattle.syntax_parsing.specs.Returned.{ahead, Takes};
+ghost use Rattle.syntax_trees.specs.Parse as reading;
+ghost use Rattle.syntax_trees.specs.Parse.{tail};
+ghost use Rattle.syntax_trees.specs.Returned.{ahead, Takes};
 ghost use Rattle.syntax_expressions.specs.Parse as spec;
 ghost use Rattle.syntax_expression_parts.specs.Operators as operators;
 ghost use Rattle.syntax_expression_parts.specs.Returned.{TakesExpression};
@@ -28,10 +28,10 @@ use syntax_expression_parts::{
     prefixes, property_name, relating_word, stepping,
 };
 use syntax_lexer::{Kind, Sign, Word};
-use syntax_parsing::{
-    Fault, ParseError, Parser, fault_at, is_sign, is_word, open, pass, peek, position,
+use syntax_trees::{
+    Comparison, Containment, Equality, Expression, Fault, Name, ParseError, Parser, Prefix,
+    Relative, Step, fault_at, is_sign, is_word, open, pass, peek, position,
 };
-use syntax_trees::{Comparison, Containment, Equality, Expression, Name, Prefix, Relative, Step};
 
 /// The expression at the front of the tokens. `depth` is how many nestings more may be opened: a
 /// parenthesis, also that of a call or after `parent`, `child` and `sibling`, and an operator
@@ -716,7 +716,7 @@ fn called<'t, 'a>(
 // Arguments, at least one.
 #[cycle(expression)]
 #[inline(never)]
-#[tactic(auto, using(syntax_parsing::proofs::Loops::further_out, syntax_parsing::proofs::Loops::further_done))]
+#[tactic(auto, using(syntax_trees::proofs::Loops::further_out, syntax_trees::proofs::Loops::further_done))]
 fn arguments<'t, 'a>(
     parser: &mut Parser<'t, 'a>,
     depth: usize,

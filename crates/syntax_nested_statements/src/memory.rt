@@ -3,7 +3,7 @@
 
 ghost use Rattle.std.specs.Prelude.{◌≡◌, IfErr, IfOk, [], ◌∷◌, ◌++◌};
 
-use syntax_parsing::ParseError;
+use syntax_trees::ParseError;
 
 /// The value at the end of the row.
 ///

@@ -2,8 +2,8 @@
 
 ghost use Rattle.std.specs.Prelude.{◌≡◌, ◌<◌, length, map};
 ghost use Rattle.syntax_lexer.specs.Token.{lexeme, lexemes};
-ghost use Rattle.syntax_parsing.specs.Parse.{tail};
-ghost use Rattle.syntax_parsing.specs.Returned.{ahead, Takes};
+ghost use Rattle.syntax_trees.specs.Parse.{tail};
+ghost use Rattle.syntax_trees.specs.Returned.{ahead, Takes};
 ghost use Rattle.syntax_statements.specs.Grammar as grammar;
 ghost use Rattle.syntax_statements.specs.Nesting as nesting;
 ghost use Rattle.syntax_statements.specs.Views.{statement_tree, case_tree, other_tree};
@@ -15,14 +15,14 @@ ghost use Rattle.syntax_statements.specs.Rows.{AddsStatement};
 use crate::memory::{as_kept, push};
 use syntax_expression_parts::begins_expression;
 use syntax_lexer::{Kind, Position, Sign, Token, Word};
-use syntax_parsing::{
-    Fault, ParseError, Parser, expect, expect_word, fault_at, is_sign, is_word, open, pass, peek,
-};
 use syntax_statement_parts::{
     Range, begins_case, begins_value, enclosed_condition, enclosed_heading, enclosed_loop, ranges,
 };
 use syntax_statements::parts::plain;
 use syntax_statements::{Statement, parts};
+use syntax_trees::{
+    Fault, ParseError, Parser, expect, expect_word, fault_at, is_sign, is_word, open, pass, peek,
+};
 
 // Whether the word begins a statement.
 fn word_opens(word: Word) -> bool
@@ -138,7 +138,7 @@ fn else_follows(tokens: &[Token<'_>]) -> bool
 /// - `Fault::Deep` at the token for which no nesting is left.
 /// - `Memory`: a growth is refused.
 #[cycle(statement)]
-#[tactic(auto, unfolding(syntax_statements::specs::Parse::statements), using(syntax_parsing::proofs::Loops::joined_none))]
+#[tactic(auto, unfolding(syntax_statements::specs::Parse::statements), using(syntax_trees::proofs::Loops::joined_none))]
 pub fn statements<'t, 'a>(
     parser: &mut Parser<'t, 'a>,
     depth: usize,
@@ -407,7 +407,7 @@ fn one_case<'t, 'a>(
 
 // Cases, up to `default` or a brace.
 #[cycle(statement)]
-#[tactic(auto, unfolding(syntax_statements::specs::Parse::cases), using(syntax_parsing::proofs::Loops::joined_none))]
+#[tactic(auto, unfolding(syntax_statements::specs::Parse::cases), using(syntax_trees::proofs::Loops::joined_none))]
 fn cases<'t, 'a>(
     parser: &mut Parser<'t, 'a>,
     depth: usize,

@@ -1,14 +1,13 @@
 //! Conditions in parentheses, read from tokens.
 
 ghost use Rattle.std.specs.Prelude.{◌<◌, IfOk};
-ghost use Rattle.syntax_parsing.specs.Returned.{ahead};
+ghost use Rattle.syntax_trees.specs.Returned.{ahead};
 ghost use Rattle.syntax_expression_parts.specs.Returned.{TakesExpression};
 ghost use Rattle.syntax_statement_parts.specs.Parse as spec;
 
 use syntax_expressions::expression;
 use syntax_lexer::Sign;
-use syntax_parsing::{ParseError, Parser, expect, open};
-use syntax_trees::Expression;
+use syntax_trees::{Expression, ParseError, Parser, expect, open};
 
 /// A condition in parentheses, which are a nesting.
 ///

@@ -1,7 +1,7 @@
 //! What stands in the parentheses of a `for`, read from tokens.
 
 ghost use Rattle.std.specs.Prelude.{◌≡◌, ◌<◌, IfOk};
-ghost use Rattle.syntax_parsing.specs.Returned.{ahead, Takes};
+ghost use Rattle.syntax_trees.specs.Returned.{ahead, Takes};
 ghost use Rattle.syntax_statement_parts.specs.Grammar as grammar;
 ghost use Rattle.syntax_statement_parts.specs.Views.{part_tree, heading_tree};
 ghost use Rattle.syntax_statement_parts.specs.Parse as spec;
@@ -10,8 +10,7 @@ use crate::effects::has_effect;
 use crate::tree::Heading;
 use syntax_expressions::expression;
 use syntax_lexer::Sign;
-use syntax_parsing::{Fault, ParseError, Parser, expect, fault_at, is_sign, open, peek};
-use syntax_trees::Expression;
+use syntax_trees::{Expression, Fault, ParseError, Parser, expect, fault_at, is_sign, open, peek};
 
 // An expression, where the sign that follows it is not the next token.
 #[tactic(auto, unfolding(crate::specs::Parse::optional))]

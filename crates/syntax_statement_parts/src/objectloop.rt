@@ -3,7 +3,7 @@
 ghost use Rattle.std.specs.Prelude.{◌≡◌, ◌<◌, IfOk};
 ghost use Rattle.std.specs.Option.{option_map};
 ghost use Rattle.syntax_trees.specs.Views.{name_tree, expression_tree};
-ghost use Rattle.syntax_parsing.specs.Returned.{ahead, Takes};
+ghost use Rattle.syntax_trees.specs.Returned.{ahead, Takes};
 ghost use Rattle.syntax_statement_parts.specs.Views.{part_tree, loop_tree};
 ghost use Rattle.syntax_statement_parts.specs.Parse as spec;
 
@@ -11,8 +11,9 @@ use crate::tree::Loop;
 use syntax_expression_parts::name_of;
 use syntax_expressions::unassigned;
 use syntax_lexer::Sign;
-use syntax_parsing::{Fault, ParseError, Parser, expect, fault_at, open, peek};
-use syntax_trees::{Containment, Expression, Name};
+use syntax_trees::{
+    Containment, Expression, Fault, Name, ParseError, Parser, expect, fault_at, open, peek,
+};
 
 // The name that the expression is alone.
 fn name_alone<'a>(e: &Expression<'a>) -> Option<Name<'a>>

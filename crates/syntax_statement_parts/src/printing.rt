@@ -1,7 +1,7 @@
 //! What `print` prints, read from tokens.
 
 ghost use Rattle.std.specs.Prelude.{map};
-ghost use Rattle.syntax_parsing.specs.Returned.{ahead, Takes};
+ghost use Rattle.syntax_trees.specs.Returned.{ahead, Takes};
 ghost use Rattle.syntax_statement_parts.specs.Tree as tree;
 ghost use Rattle.syntax_statement_parts.specs.Views.{item_tree};
 ghost use Rattle.syntax_statement_parts.specs.Parse as spec;
@@ -9,7 +9,7 @@ ghost use Rattle.syntax_statement_parts.specs.Parse as spec;
 use crate::tree::PrintItem;
 use syntax_expressions::expression;
 use syntax_lexer::{Kind, Sign, Word};
-use syntax_parsing::{
+use syntax_trees::{
     ParseError, Parser, expect, is_sign, is_word, open, pass, peek, position, skip,
 };
 
@@ -75,7 +75,7 @@ fn item<'t, 'a>(parser: &mut Parser<'t, 'a>, depth: usize) -> Result<PrintItem<'
 ///
 /// Those of `expression`; and `Fault::Deep` at the parenthesis of `(char)` or `(object)` where no
 /// nesting is left.
-#[tactic(auto, unfolding(crate::specs::Parse::items, syntax_parsing::specs::Parse::list), using(syntax_parsing::proofs::Loops::further_out, syntax_parsing::proofs::Loops::further_done, syntax_parsing::proofs::Loops::further_more, syntax_parsing::proofs::Loops::further_fails))]
+#[tactic(auto, unfolding(crate::specs::Parse::items, syntax_trees::specs::Parse::list), using(syntax_trees::proofs::Loops::further_out, syntax_trees::proofs::Loops::further_done, syntax_trees::proofs::Loops::further_more, syntax_trees::proofs::Loops::further_fails))]
 pub fn items<'t, 'a>(
     parser: &mut Parser<'t, 'a>,
     depth: usize,

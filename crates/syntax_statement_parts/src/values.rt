@@ -2,16 +2,15 @@
 
 ghost use Rattle.std.specs.Prelude.{◌≡◌, map};
 ghost use Rattle.syntax_lexer.specs.Token.{lexeme, lexemes};
-ghost use Rattle.syntax_parsing.specs.Parse.{head};
-ghost use Rattle.syntax_parsing.specs.Returned.{ahead, Takes};
+ghost use Rattle.syntax_trees.specs.Parse.{head};
+ghost use Rattle.syntax_trees.specs.Returned.{ahead, Takes};
 ghost use Rattle.syntax_statement_parts.specs.Nesting as nesting;
 ghost use Rattle.syntax_statement_parts.specs.Views.{literal_tree, range_tree};
 ghost use Rattle.syntax_statement_parts.specs.Parse as spec;
 
 use crate::tree::{Literal, Range};
 use syntax_lexer::{Kind, Sign, Token, Word};
-use syntax_parsing::{Fault, ParseError, Parser, fault_at, is_sign, is_word, pass, peek, skip};
-use syntax_trees::Name;
+use syntax_trees::{Fault, Name, ParseError, Parser, fault_at, is_sign, is_word, pass, peek, skip};
 
 // The number after a `-`.
 fn negative<'t, 'a>(parser: &mut Parser<'t, 'a>) -> Result<Literal<'a>, ParseError>
@@ -127,7 +126,7 @@ fn range<'t, 'a>(parser: &mut Parser<'t, 'a>) -> Result<Range<'a>, ParseError>
 /// # Errors
 ///
 /// `Fault::Grammar`: the tokens begin no value; `Memory`: a growth is refused.
-#[tactic(auto, unfolding(crate::specs::Parse::ranges, syntax_parsing::specs::Parse::list), using(syntax_parsing::proofs::Loops::further_out, syntax_parsing::proofs::Loops::further_done, syntax_parsing::proofs::Loops::further_more, syntax_parsing::proofs::Loops::further_fails))]
+#[tactic(auto, unfolding(crate::specs::Parse::ranges, syntax_trees::specs::Parse::list), using(syntax_trees::proofs::Loops::further_out, syntax_trees::proofs::Loops::further_done, syntax_trees::proofs::Loops::further_more, syntax_trees::proofs::Loops::further_fails))]
 pub fn ranges<'t, 'a>(parser: &mut Parser<'t, 'a>) -> Result<Vec<Range<'a>>, ParseError>
     ensures { Takes (λ xs. map range_tree xs.items) result parser.new
         (spec.ranges (ahead parser.old)) }

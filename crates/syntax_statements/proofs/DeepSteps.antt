@@ -6,7 +6,7 @@ use Rattle.syntax_lexer.specs.declared.token.Sign.TheVariants as s
 use Rattle.syntax_lexer.specs.declared.token.Word.TheVariants as w
 use Rattle.syntax_lexer.specs.Token.{Lexeme, name, reserved, sign}
 use Rattle.syntax_trees.specs.Tree.{ExpressionTree}
-use Rattle.syntax_parsing.specs.Parse.{◌>>=◌, head, is_sign, expect, expect_word, as_long, repeated}
+use Rattle.syntax_trees.specs.Parse.{◌>>=◌, head, is_sign, expect, expect_word, as_long, repeated}
 use Rattle.syntax_expression_parts.specs.Operators.{begins_expression}
 use Rattle.syntax_expression_parts.specs.Parse.{expect_name}
 use Rattle.syntax_expressions.specs.Parse.{whole, nested, condition, expression}

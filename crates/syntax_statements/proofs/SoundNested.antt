@@ -5,7 +5,7 @@ use Rattle.syntax_lexer.specs.declared.token.Position.{Position}
 use Rattle.syntax_lexer.specs.declared.token.Sign.TheVariants as s
 use Rattle.syntax_lexer.specs.declared.token.Word.TheVariants as w
 use Rattle.syntax_lexer.specs.Token.{Lexeme, reserved, sign, position_of}
-use Rattle.syntax_parsing.specs.Parse.{head, tail, is_word, expect, expect_word}
+use Rattle.syntax_trees.specs.Parse.{head, tail, is_word, expect, expect_word}
 use Rattle.syntax_expressions.specs.Grammar.{IsE}
 use Rattle.syntax_expressions.specs.Nesting.{DeepE}
 use Rattle.syntax_expression_parts.proofs.Judged.{Judged, judged_read, judged_grammar, judged_then, judged_after}

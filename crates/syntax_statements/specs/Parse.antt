@@ -7,9 +7,9 @@ use Rattle.syntax_lexer.specs.declared.token.Sign.TheVariants as s
 use Rattle.syntax_lexer.specs.declared.token.Word.TheVariants as w
 use Rattle.syntax_lexer.specs.Token.{Lexeme, text, reserved, sign, position_of}
 use Rattle.syntax_trees.specs.Tree.{ExpressionTree}
-use Rattle.syntax_parsing.specs.Stop.{Stop, unfit, deep}
-use Rattle.syntax_parsing.specs.Parse.{Parse, ◌>>=◌, head, tail, is_sign, is_word, expect, expect_word, as_long}
-use Rattle.syntax_parsing.specs.Parse.{repeated}
+use Rattle.syntax_trees.specs.Stop.{Stop, unfit, deep}
+use Rattle.syntax_trees.specs.Parse.{Parse, ◌>>=◌, head, tail, is_sign, is_word, expect, expect_word, as_long}
+use Rattle.syntax_trees.specs.Parse.{repeated}
 use Rattle.syntax_expression_parts.specs.Parse.{expect_name}
 use Rattle.syntax_expressions.specs.Parse.{nested, expression}
 use Rattle.syntax_statement_parts.specs.Parse.{flags, begins_value, ranges, items, enclosed_condition, enclosed_heading}

@@ -4,8 +4,8 @@
 
 ghost use Rattle.std.specs.Prelude.{Ok, map};
 ghost use Rattle.syntax_trees.specs.Views.{expression_tree};
-ghost use Rattle.syntax_parsing.specs.Parse as reading;
-ghost use Rattle.syntax_parsing.specs.Returned.{ahead};
+ghost use Rattle.syntax_trees.specs.Parse as reading;
+ghost use Rattle.syntax_trees.specs.Returned.{ahead};
 ghost use Rattle.syntax_statement_parts.specs.Views.{heading_tree, loop_tree};
 ghost use Rattle.syntax_statements.specs.Tree as tree;
 ghost use Rattle.syntax_statements.specs.Views.{statement_tree, simple_tree, case_tree, other_tree};
@@ -18,10 +18,9 @@ use crate::kinds;
 use crate::simple::simple;
 use crate::tree::{SimpleStatement, Statement};
 use syntax_lexer::{Position, Sign};
-use syntax_parsing::memory::{self, make_room, push, push_boxed};
-use syntax_parsing::{ParseError, Parser, expect, is_sign, pass, peek};
 use syntax_statement_parts::{Heading, Loop, Range};
-use syntax_trees::Expression;
+use syntax_trees::memory::{self, make_room, push, push_boxed};
+use syntax_trees::{Expression, ParseError, Parser, expect, is_sign, pass, peek};
 
 /// A statement in a box. Where memory is refused the statement is dropped here. The parser comes
 /// first here and in what follows, also where nothing is read: so the lifetimes of the arguments

@@ -1,8 +1,8 @@
 //! Statements without statements inside them, read from tokens.
 
 ghost use Rattle.std.specs.Prelude.{Ok};
-ghost use Rattle.syntax_parsing.specs.Parse as reading;
-ghost use Rattle.syntax_parsing.specs.Returned.{ahead};
+ghost use Rattle.syntax_trees.specs.Parse as reading;
+ghost use Rattle.syntax_trees.specs.Returned.{ahead};
 ghost use Rattle.syntax_statements.specs.Tree as tree;
 ghost use Rattle.syntax_statements.specs.Views.{simple_tree};
 ghost use Rattle.syntax_statements.specs.Returned.{TakesSimple};
@@ -12,10 +12,10 @@ use crate::tree::SimpleStatement;
 use syntax_expression_parts::expect_name;
 use syntax_expressions::expression;
 use syntax_lexer::{Kind, Position, Sign, Word};
-use syntax_parsing::{
+use syntax_statement_parts::{flags, has_effect, items};
+use syntax_trees::{
     Fault, ParseError, Parser, expect, expect_word, fault_at, is_sign, memory, pass, peek, position,
 };
-use syntax_statement_parts::{flags, has_effect, items};
 
 // The statement in a box. The parser comes first here, in `ended` and in all that makes statements,
 // also where nothing is read: so the lifetimes of the arguments have the places that they have in

@@ -3,9 +3,9 @@ use Rattle.std.proofs.lemmas.Result.{err_from_is_err_and}
 use Rattle.syntax_lexer.specs.declared.token.Sign.TheVariants as s
 use Rattle.syntax_lexer.specs.declared.token.Word.TheVariants as w
 use Rattle.syntax_trees.specs.Views.{expression_tree}
-use Rattle.syntax_parsing.specs.Parse.{is_sign, is_word}
-use Rattle.syntax_parsing.specs.Returned.{ahead}
-use Rattle.syntax_parsing.proofs.Loops.{further_out, further_done, further_more, further_fails, list_fails, list_begins}
+use Rattle.syntax_trees.specs.Parse.{is_sign, is_word}
+use Rattle.syntax_trees.specs.Returned.{ahead}
+use Rattle.syntax_trees.proofs.Loops.{further_out, further_done, further_more, further_fails, list_fails, list_begins}
 use Rattle.syntax_expressions.specs.Parse.{nested, expression, sum}
 use Rattle.syntax_expression_parts.specs.Levels.{operator_of}
 use Rattle.syntax_expressions.specs.Levels.{operand_of}

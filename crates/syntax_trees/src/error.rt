@@ -2,8 +2,8 @@
 
 ghost use Rattle.std.specs.Prelude.{◌≡◌};
 ghost use Rattle.syntax_lexer.specs.Token.{lexemes};
-ghost use Rattle.syntax_parsing.specs.Errors.{fault_number, placed_fault};
-ghost use Rattle.syntax_parsing.specs.declared.error.ParseError.TheVariants.{Memory};
+ghost use Rattle.syntax_trees.specs.Errors.{fault_number, placed_fault};
+ghost use Rattle.syntax_trees.specs.declared.error.ParseError.TheVariants.{Memory};
 
 use crate::tokens::place_of;
 use std::alloc::{AllocError, AllocFailed};

@@ -1,7 +1,7 @@
 -- Words of contracts and proofs: why reading a list of tokens gives nothing, and where it stops.
 use Rattle.std.specs.Prelude.{◌≡◌, ◌≤◌, ℕ, Result, Err}
-use Rattle.syntax_parsing.specs.declared.error.Fault.{Fault}
-use Rattle.syntax_parsing.specs.declared.error.Fault.TheVariants.{Grammar, Deep}
+use Rattle.syntax_trees.specs.declared.error.Fault.{Fault}
+use Rattle.syntax_trees.specs.declared.error.Fault.TheVariants.{Grammar, Deep}
 
 pub data Stop : Type 0 where
   -- no derivation goes on with the token from which on so many are left

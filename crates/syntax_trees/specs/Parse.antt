@@ -7,9 +7,9 @@ use Rattle.syntax_lexer.specs.declared.token.Word.{Word}
 use Rattle.syntax_lexer.specs.declared.token.Word.TheVariants as w
 use Rattle.syntax_lexer.specs.Token.{Lexeme, reserved, sign}
 pub use Rattle.syntax_lexer.specs.Token.{head, tail}
-use Rattle.syntax_parsing.specs.Stop.{Stop, unfit, stop_of}
-use Rattle.syntax_parsing.specs.declared.error.ParseError.{ParseError}
-use Rattle.syntax_parsing.specs.declared.error.ParseError.TheVariants as errors
+use Rattle.syntax_trees.specs.Stop.{Stop, unfit, stop_of}
+use Rattle.syntax_trees.specs.declared.error.ParseError.{ParseError}
+use Rattle.syntax_trees.specs.declared.error.ParseError.TheVariants as errors
 
 -- what is read, and the tokens after it; or why nothing is, and where
 abbrev pub Parse : Type 0 → Type 0

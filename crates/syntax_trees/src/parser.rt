@@ -5,9 +5,9 @@
 //! taken apart.
 
 ghost use Rattle.std.specs.Prelude.{◌≡◌};
-ghost use Rattle.syntax_parsing.specs.Parse as spec;
-ghost use Rattle.syntax_parsing.specs.Parse.{Gives};
-ghost use Rattle.syntax_parsing.specs.Returned.{ahead};
+ghost use Rattle.syntax_trees.specs.Parse as spec;
+ghost use Rattle.syntax_trees.specs.Parse.{Gives};
+ghost use Rattle.syntax_trees.specs.Returned.{ahead};
 
 use crate::error::{Fault, ParseError};
 use crate::tokens::{fault_at, is_sign, is_word, peek, skip};

@@ -5,10 +5,10 @@ use Rattle.syntax_lexer.specs.declared.token.Position.{Position}
 use Rattle.syntax_lexer.specs.FaultNumbers.{no_memory}
 use Rattle.syntax_lexer.specs.Placed.{nowhere, at_offset}
 use Rattle.syntax_lexer.specs.Token.{Lexeme, head, position_of}
-use Rattle.syntax_parsing.specs.declared.error.Fault.{Fault}
-use Rattle.syntax_parsing.specs.declared.error.Fault.TheVariants.{Grammar, Deep}
-use Rattle.syntax_parsing.specs.declared.error.ParseError.{ParseError}
-use Rattle.syntax_parsing.specs.declared.error.ParseError.TheVariants as errors
+use Rattle.syntax_trees.specs.declared.error.Fault.{Fault}
+use Rattle.syntax_trees.specs.declared.error.Fault.TheVariants.{Grammar, Deep}
+use Rattle.syntax_trees.specs.declared.error.ParseError.{ParseError}
+use Rattle.syntax_trees.specs.declared.error.ParseError.TheVariants as errors
 
 abbrev pub fault_number : Fault → ℕ
 fault_number Grammar = 10

@@ -1,10 +1,10 @@
 -- Words of contracts: what a function that reads tokens in place returned, over what reading from their list gives.
 use Rattle.std.specs.Prelude.{List, Result}
 use Rattle.syntax_lexer.specs.Token.{Lexeme, lexemes}
-use Rattle.syntax_parsing.specs.Stop.{Stop}
-use Rattle.syntax_parsing.specs.declared.error.ParseError.{ParseError}
-use Rattle.syntax_parsing.specs.Parse.{Gives}
-use Rattle.syntax_parsing.specs.declared.parser.Parser.{Parser}
+use Rattle.syntax_trees.specs.Stop.{Stop}
+use Rattle.syntax_trees.specs.declared.error.ParseError.{ParseError}
+use Rattle.syntax_trees.specs.Parse.{Gives}
+use Rattle.syntax_trees.specs.declared.parser.Parser.{Parser}
 
 -- the tokens that are still to be read
 abbrev pub ahead : Parser → List Lexeme

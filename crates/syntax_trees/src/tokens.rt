@@ -2,8 +2,8 @@
 
 ghost use Rattle.std.specs.Prelude.{◌≡◌, ◌+◌, IfOk, IfErr, length};
 ghost use Rattle.syntax_lexer.specs.Token.{lexeme, lexemes, position_of};
-ghost use Rattle.syntax_parsing.specs.Errors as errors;
-ghost use Rattle.syntax_parsing.specs.Parse as spec;
+ghost use Rattle.syntax_trees.specs.Errors as errors;
+ghost use Rattle.syntax_trees.specs.Parse as spec;
 
 use crate::error::{Fault, ParseError};
 use syntax_lexer::{Kind, Position, Sign, Token, Word};

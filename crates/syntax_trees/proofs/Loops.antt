@@ -4,10 +4,10 @@ use Rattle.std.proofs.Common.{Err, refl, sym, ap, ◌∙◌, arith}
 use Rattle.std.specs.Prelude.{map, length}
 use Rattle.syntax_lexer.specs.declared.token.Token.{Token}
 use Rattle.syntax_lexer.specs.Token.{Lexeme, lexemes}
-use Rattle.syntax_parsing.specs.Stop.{Stop, stop_of}
-use Rattle.syntax_parsing.specs.declared.error.ParseError.{ParseError}
-use Rattle.syntax_parsing.specs.declared.error.ParseError.TheVariants as errors
-use Rattle.syntax_parsing.specs.Parse.{◌>>=◌, Fails, Parse, head, tail, further, list, as_long, repeated}
+use Rattle.syntax_trees.specs.Stop.{Stop, stop_of}
+use Rattle.syntax_trees.specs.declared.error.ParseError.{ParseError}
+use Rattle.syntax_trees.specs.declared.error.ParseError.TheVariants as errors
+use Rattle.syntax_trees.specs.Parse.{◌>>=◌, Fails, Parse, head, tail, further, list, as_long, repeated}
 
 abbrev pub joined : {A : Type 0} → List A → Result (List A × List Lexeme) Stop → Result (List A × List Lexeme) Stop
 joined front r = r >>= λ x. Ok (front ++ x.0, x.1)
