@@ -6,7 +6,7 @@ use Rattle.std.proofs.lemmas.Bool.{lt-ltb}
 use Rattle.meaning.specs.World.{Outcome, Situation, Comes, to, over, Part, ◌>>=◌, give, with_value}
 use Rattle.meaning.specs.Meaning.{truth, is_true}
 use Rattle.code_drafts.specs.Items.{Item, Operand, pushed, number, Destination, push, into, aside, nowhere, Test}
-use Rattle.code_drafts.specs.Items.{is_zero, branch_true, agrees, moved}
+use Rattle.code_drafts.specs.Items.{is_zero, branch_true, agrees, move_items}
 use Rattle.code_drafts.specs.Items as items
 use Rattle.code_items.specs.Stack.{Next, goes, stuck, with_operand, delivered, after_part, holds, act}
 use Rattle.code_items.specs.Stack as stack
@@ -131,7 +131,7 @@ module _ (now : Running) where
 
   -- an operand that stands in place is moved
   pub moved_does : {s : Situation} {n : ℕ} (o : Operand) (v : ℕ) (d : Destination) (pc q : ℕ) (words : List ℕ)
-      → HasAt (code now) pc (moved o d) q → ((k : ℕ → List ℕ → Next) → with_operand o s words k ≡ k v words)
+      → HasAt (code now) pc (move_items o d) q → ((k : ℕ → List ℕ → Next) → with_operand o s words k ≡ k v words)
       → length words + 1 ≤ 48 → Leads now s n (stands now pc words s) (to v s) (lands now d q words)
   moved_does o v nowhere pc q words has e le =
       begins_at now q pc words (sym has) (given now {behind = lands now nowhere q words} v)
