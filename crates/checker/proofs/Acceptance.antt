@@ -26,7 +26,7 @@ use Rattle.checker_names.proofs.Kept.{left_empty, right_empty, kept, below}
 use Rattle.checker_statements.specs.Statements.{statements_breaches}
 use Rattle.checker_objects.specs.Arrays.{array_breaches, array_bytes, arrays_of}
 use Rattle.checker_objects.proofs.ArraySizes.{array_short}
-use Rattle.checker_objects.specs.Objects.{object_breaches, standing_breaches, parents_of, object_in, placed}
+use Rattle.checker_objects.specs.Objects.{object_breaches, standing_breaches, parents_of, object_in, with_parents}
 use Rattle.checker_objects.specs.Objects.{all_defaults, objects_of, objects_in, object_trees}
 use Rattle.checker_names.specs.Names.{twice}
 use Rattle.checker_objects.proofs.Chains.{placed_many}
@@ -238,7 +238,7 @@ accepted ds ts end name keys file small ascending is h =
       arrays = arrays_within file first_table no_counts ds own;
       defaults = (defaults_many (defaults_in file ds), defaults_small file ds);
       few = omega (arith, many, as_many);
-      objects = λ (k : ℕ) lt. subst (λ (n : ℕ). IsObject (object_at (placed parents (objects_in file ds)) (k + 1)) n)
+      objects = λ (k : ℕ) lt. subst (λ (n : ℕ). IsObject (object_at (with_parents parents (objects_in file ds)) (k + 1)) n)
           (omega arith)
           (objects_placed 0 parents (objects_in file ds)
           (parents_rise file.table [] 0 (object_trees ds) tt (left_empty standing (texts ++ main) rest))

@@ -21,7 +21,7 @@ use Rattle.checker_names.specs.Names.{Table, File, in_table, first_table, no_cou
 use Rattle.checker_names.specs.Noted.{noted}
 use Rattle.checker_names.proofs.Noted.{noted_two}
 use Rattle.checker_objects.specs.Arrays.{arrays_of}
-use Rattle.checker_objects.specs.Objects.{all_defaults, standing_breaches, parents_of, placed, object_trees, objects_of}
+use Rattle.checker_objects.specs.Objects.{all_defaults, standing_breaches, parents_of, with_parents, object_trees, objects_of}
 use Rattle.checker.specs.declared.directive_rules.ResolvedFile.{ResolvedFile}
 use Rattle.checker.specs.Resolving.{IsFound}
 use Rattle.checker.specs.Programs.{main_key, first_routine, main_breaches, directives_breaches, program_breaches}
@@ -124,7 +124,7 @@ pub program_checked : (p : Program) (file : File) (keys : List ℕ) (given again
     → IsFound file (map directive_tree given) found
     → defaults ≡ all_defaults found.defaults.items
     → parents ≡ parents_of file.table (object_trees (map directive_tree again))
-    → map object_of objects ≡ placed parents (map object_of found.objects.items)
+    → map object_of objects ≡ with_parents parents (map object_of found.objects.items)
     → abbreviations ≡ map characters_of (map text_tree texts)
     → n ≡ routine_number (in_table file.table main_key)
     → c ≡ checked found.globals.items (cut found.arrays.sizes.items found.arrays.bytes.items) defaults objects keys
@@ -145,8 +145,8 @@ program_checked p file keys given again texts found defaults parents objects abb
           (cut_is found.arrays.sizes.items found.arrays.bytes.items
           (arrays_of file (map directive_tree p.directives.items)) g.sizes g.bytes)
           (d ∙ ap all_defaults g.defaults)
-          (os ∙ ap (λ (x : List ℕ). placed x (map object_of found.objects.items)) stand
-          ∙ ap (λ (x : List ObjectOf). placed (parents_of file.table (object_trees ds)) x)
+          (os ∙ ap (λ (x : List ℕ). with_parents x (map object_of found.objects.items)) stand
+          ∙ ap (λ (x : List ObjectOf). with_parents (parents_of file.table (object_trees ds)) x)
           (g.objects
           ∙ first_objects file (program_tree p)
           (ap (λ (x : File). x.table) w ∙ file_table (program_tree p)) unbroken)) k

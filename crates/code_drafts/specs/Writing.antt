@@ -168,8 +168,8 @@ abbrev pub PutsItem : Draft → Draft → Item → Type 0
 PutsItem old new i = written_in new ≡ written_in old ++ i ∷ []
 
 -- the whole routine of a draft
-abbrev pub ordered : Draft → List Item
-ordered draft = in_order (length (written_in draft)) (written_in draft)
+abbrev pub items_in_order : Draft → List Item
+items_in_order draft = in_order (length (written_in draft)) (written_in draft)
 
 -- the item of this number leads back to the first
 abbrev pub LeadsBack : Draft → Draft → ℕ → Type 0

@@ -12,7 +12,7 @@ use Rattle.code_drafts.specs.Items.{Operand, pushed, number, variable, Destinati
 use Rattle.code_drafts.specs.Items.{are_more_pushed, call_item, arguments_count, arguments_items}
 use Rattle.code_drafts.specs.Items as items
 use Rattle.code_drafts.proofs.Counts.{arguments_length}
-use Rattle.code_items.specs.Stack.{Next, goes, delivered, enter, act, ItemState}
+use Rattle.code_items.specs.Stack.{Next, goes, deliver, enter, act, ItemState}
 use Rattle.code_items.specs.Stack as stack
 use Rattle.code_items.proofs.Running.{steps_on, Running, code, setting, RunsTo}
 use Rattle.code_items.proofs.Standing.{HasAt, split}
@@ -124,7 +124,7 @@ module _ (now : Running) where
             (lower_calls rr xs (stack.caller dest words (here now m words s1) ∷ callers) s1 k (omega (arith, room))
             (λ v last e2 same low.
             subst (λ l. RunsTo p full
-            (delivered dest v (here now (m + 1) words (record { locals = l; world = last.world }))) (k v last)) same
+            (deliver dest v (here now (m + 1) words (record { locals = l; world = last.world }))) (k v last)) same
             (delivers now dest (m + 1) words v last (k v last) (omega (arith, le, some)) (hd v last e2 low))));
       }))
 

@@ -18,7 +18,7 @@ use Rattle.code_drafts.specs.Items.{alone, left_of, if_pushed, branch_true, agre
 use Rattle.code_drafts.specs.Items.{branch_count, value_items, branch_items, alone_items}
 use Rattle.code_drafts.specs.Items as items
 use Rattle.code_drafts.proofs.Counts.{branch_length, alone_length}
-use Rattle.code_items.specs.Stack.{with_operand, delivered, gives}
+use Rattle.code_items.specs.Stack.{with_operand, deliver, gives}
 use Rattle.code_items.proofs.Acts.{keeps_give, keeps_operate}
 use Rattle.code_items.proofs.Running.{Running, code, setting}
 use Rattle.code_items.proofs.Standing.{HasAt, split}
@@ -44,7 +44,7 @@ module _ (now : Running) where
       on now (evaluate (setting now) v) _ (operand_does now v none ok s n pc m words has (omega (arith, le)))
       (λ x s1 e1.
       one now m words dest (items.apply_prefix op (alone v) dest) (give (with_prefix op x)) (onto (alone v) x words) h
-      (with_held (alone v) x s1 words (λ y rest. delivered dest (with_prefix op y) (here now (m + 1) rest s1))
+      (with_held (alone v) x s1 words (λ y rest. deliver dest (with_prefix op y) (here now (m + 1) rest s1))
       (operand_held now v none s s1 x e1)) (keeps_give full (with_prefix op x)) (omega (arith, le)))
 
   operate_item : (op : Binary) (oa ob : Operand) (x y : ℕ) (s : Situation) (n m : ℕ) (words : List ℕ)

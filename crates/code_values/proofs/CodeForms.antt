@@ -22,7 +22,7 @@ use Rattle.code_drafts.specs.declared.item.Operand as code_operand
 use Rattle.code_drafts.specs.declared.wanted.Wanted.{Wanted}
 use Rattle.code_drafts.specs.declared.wanted.Wanted.TheVariants.{Word, Branch}
 use Rattle.code_drafts.specs.Writing.{wanted_items, alones, ReducesWord, ReducesTruth, WritesBefore}
-use Rattle.code_values.specs.ValueWriting.{pushes, placed, folded_items, ReducesLink, ReducesComparison, ReducesEquality}
+use Rattle.code_values.specs.ValueWriting.{pushes, operand_items, folded_items, ReducesLink, ReducesComparison, ReducesEquality}
 use Rattle.code_values.proofs.OperationForms.{not_logical, operate_link, compare_link}
 use Rattle.code_values.proofs.Values.{call_more, and_link_at, or_link_at}
 use Rattle.code_values.proofs.Assigned.{assign_nowhere, assign_pushed, assign_kept, assign_aside}
@@ -104,12 +104,12 @@ pub operation_written : (c c1 c2 c3 : List Item) (wanted : Wanted) (d place : De
     (o ob : Operand) (b : Value) (i : Item) → (op ≡ binaries.AndAlso → ⊥) → (op ≡ binaries.OrElse → ⊥) → ReducesWord c
     c1 wanted d
     → ob ≡ alone b → place ≡ right_place op o → i ≡ operation_item place op o ob d → c2 ≡ c1 ++ i ∷ []
-    → WritesBefore c2 c3 (placed place ob b)
+    → WritesBefore c2 c3 (operand_items place ob b)
     → ReducesLink c c3 wanted (Word destinations.Push) op o b
 operation_written c c1 c2 c3 wanted d place op o ob b i not_and not_or reduces eb is item e wb =
     operate_link c c1 c2 c3 wanted d op o ob b (not_logical op not_and not_or) reduces eb
     (e ∙ ap (λ x. c1 ++ x ∷ []) (item ∙ ap (λ p. operation_item p op o ob d) is))
-    (subst (λ p. WritesBefore c2 c3 (placed p ob b)) is wb)
+    (subst (λ p. WritesBefore c2 c3 (operand_items p ob b)) is wb)
 
 -- Comparisons
 

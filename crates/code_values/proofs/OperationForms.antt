@@ -19,7 +19,7 @@ use Rattle.code_drafts.specs.declared.wanted.Wanted.{Wanted}
 use Rattle.code_drafts.specs.declared.wanted.Wanted.TheVariants.{Word}
 use Rattle.code_drafts.specs.Writing.{numbered, wanted_items, is_logical, ReducesWord, ReducesTruth, WritesBefore}
 use Rattle.code_drafts.proofs.WrittenItems.{both, as_items, after_one}
-use Rattle.code_values.specs.ValueWriting.{pushes, placed, first_items, ReducesLink, ReducesLinks, ReducesComparison}
+use Rattle.code_values.specs.ValueWriting.{pushes, operand_items, first_items, ReducesLink, ReducesLinks, ReducesComparison}
 use Rattle.code_values.specs.ValueWriting.{ReducesAssignedEntry}
 use Rattle.code_values.proofs.Values.{pushes_length, placed_length}
 
@@ -65,7 +65,7 @@ number_kept nowhere op o ob d n = refl
 
 pub operate_link : (c c1 c2 c3 : List Item) (wanted : Wanted) (d : Destination) (op : Binary) (o ob : Operand)
     (b : Value) → is_logical op ≡ false → ReducesWord c c1 wanted d → ob ≡ alone b
-    → c2 ≡ c1 ++ operation_item (right_place op o) op o ob d ∷ [] → WritesBefore c2 c3 (placed (right_place op o) ob b)
+    → c2 ≡ c1 ++ operation_item (right_place op o) op o ob d ∷ [] → WritesBefore c2 c3 (operand_items (right_place op o) ob b)
     → ReducesLink c c3 wanted (Word destinations.Push) op o b
 operate_link c c1 c2 c3 wanted d op o ob b other reduces eb e wb v eo =
     let is = plain op v b other in
@@ -82,7 +82,7 @@ operate_link c c1 c2 c3 wanted d op o ob b other reduces eb e wb v eo =
           (as_items (λ n at _. ap (λ x. operation op x v ob b at d []) eo
           ∙ ap (λ y. operation op (left_of v b) v y b at d []) eb ∙ sym (is.value at d))
           (both k (λ n at. pushes_length o v n at)
-          (as_items (λ n at _. ap (λ i. placed (right_place op o) ob b n at ++ i ∷ [])
+          (as_items (λ n at _. ap (λ i. operand_items (right_place op o) ob b n at ++ i ∷ [])
           (number_kept (right_place op o) op o ob d n))
           (after_one _ (operation_item (right_place op o) op o ob d)
           (λ n at. placed_length (right_place op o) ob b n at) e wb)) first));
@@ -171,7 +171,7 @@ store_kept width a o q d n = go (is_any_pushed (o ∷ q ∷ []))
 
 pub entry_more : (c c1 c2 c3 : List Item) (wanted : Wanted) (d : Destination) (width : Width) (a : ℕ) (o : Operand)
     (i : Value) (k : Item) → ReducesWord c c1 wanted d → o ≡ alone i → k ≡ entry_item width a o d → c2 ≡ c1 ++ k ∷ []
-    → WritesBefore c2 c3 (placed aside o i)
+    → WritesBefore c2 c3 (operand_items aside o i)
     → WritesBefore c c3 (wanted_items wanted (source.entry width a i))
 entry_more c c1 c2 c3 wanted d width a o i k reduces eo is e w =
     (reduces (source.entry width a i)
@@ -188,7 +188,7 @@ entry_assigned width a o i ov v at d more = if_pushed o (value_items at i (index
 
 pub assigned_entry_link : (c c1 c2 c3 : List Item) (wanted : Wanted) (d : Destination) (width : Width) (a : ℕ)
     (o ov : Operand) (v : Value) (k : Item) → ReducesWord c c1 wanted d → ov ≡ alone v → k ≡ assign_entry_item width a o ov d
-    → c2 ≡ c1 ++ k ∷ [] → WritesBefore c2 c3 (placed aside ov v)
+    → c2 ≡ c1 ++ k ∷ [] → WritesBefore c2 c3 (operand_items aside ov v)
     → ReducesAssignedEntry c c3 wanted width a o v
 assigned_entry_link c c1 c2 c3 wanted d width a o ov v k reduces ev is e wv i eo =
     let place = index_place (alone v) in
@@ -213,7 +213,7 @@ assigned_entry_link c c1 c2 c3 wanted d width a o ov v k reduces ev is e wv i eo
 
 pub assigned_entry_more : (c c1 c2 : List Item) (wanted : Wanted) (width : Width) (a : ℕ) (o word : Operand)
     (place : Destination) (i v : Value) → o ≡ left_of i v → ReducesAssignedEntry c c1 wanted width a o v
-    → word ≡ alone v → place ≡ index_place word → WritesBefore c1 c2 (placed place o i)
+    → word ≡ alone v → place ≡ index_place word → WritesBefore c1 c2 (operand_items place o i)
     → WritesBefore c c2 (wanted_items wanted (source.assign_entry width a i v))
 assigned_entry_more c c1 c2 wanted width a o word place i v e link ew is w =
-    (link i e).with_rest c2 (subst (λ p. WritesBefore c1 c2 (placed p o i)) (is ∙ ap index_place ew) w)
+    (link i e).with_rest c2 (subst (λ p. WritesBefore c1 c2 (operand_items p o i)) (is ∙ ap index_place ew) w)

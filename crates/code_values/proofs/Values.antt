@@ -18,14 +18,14 @@ use Rattle.code_drafts.specs.Writing.{numbered, wanted_items, ReducesWord, Reduc
 use Rattle.code_drafts.proofs.CountedForms.{if_length}
 use Rattle.code_drafts.proofs.Counts.{value_length, branch_length, arguments_length}
 use Rattle.code_drafts.proofs.WrittenItems.{counted, both, as_items, after_one}
-use Rattle.code_values.specs.ValueWriting.{pushes, placed, ReducesLink}
+use Rattle.code_values.specs.ValueWriting.{pushes, operand_items, ReducesLink}
 
 pub pushes_length : (o : Operand) (v : Value) (n at : ℕ)
     → length (pushes o v n at) ≡ if_pushed o (value_count v push) 0
 pushes_length o v n at = if_length o (value_items at v push) (value_count v push) (value_length v push at)
 
 pub placed_length : (place : Destination) (o : Operand) (v : Value) (n at : ℕ)
-    → length (placed place o v n at) ≡ if_pushed o (value_count v place) 0
+    → length (operand_items place o v n at) ≡ if_pushed o (value_count v place) 0
 placed_length place o v n at = if_length o (value_items at v place) (value_count v place) (value_length v place at)
 
 -- a call has no target

@@ -13,7 +13,7 @@ use Rattle.syntax_statements.specs.Views.{trees_of}
 use Rattle.syntax_statements.specs.Parse.{statements}
 use Rattle.syntax_directives.specs.Grammar.{weight_of}
 use Rattle.syntax_directives.specs.Tree.{RoutineTree, routine}
-use Rattle.syntax_directives.specs.Parse.{names, routine_heading, closed, routine_body, routine_at, one_routine}
+use Rattle.syntax_directives.specs.Parse.{names, routine_heading, routine_end, routine_body, routine_at, one_routine}
 
 abbrev made : List Lexeme → NameTree → List NameTree → List StatementTree → List Lexeme → RoutineTree × List Lexeme
 made ts n ns xs r = (
@@ -86,7 +86,7 @@ module _ (d : ℕ) (ts : List Lexeme) where
 
   headed : (n : NameTree) (ns : List NameTree) (R : Result (List Lexeme) Stop)
       → (R >>= λ m. statements d m >>= after_body n ns) ≡ ((R >>= heading_of n ns) >>= after)
-  unfolding routine_body closed
+  unfolding routine_body routine_end
   headed n ns (Ok m) = filled n ns (statements d m)
   headed n ns (Err f) = refl
 

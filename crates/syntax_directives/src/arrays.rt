@@ -41,9 +41,9 @@ fn kind<'t, 'a>(parser: &mut Parser<'t, 'a>) -> Result<ArrayKind, ParseError>
 }
 
 // A value, with the position of its first token.
-#[tactic(auto, unfolding(crate::specs::Parse::placed))]
-fn placed<'t, 'a>(parser: &mut Parser<'t, 'a>) -> Result<ArrayValue<'a>, ParseError>
-    ensures { Takes value_tree result parser.new (spec.placed (ahead parser.old)) }
+#[tactic(auto, unfolding(crate::specs::Parse::array_value))]
+fn array_value<'t, 'a>(parser: &mut Parser<'t, 'a>) -> Result<ArrayValue<'a>, ParseError>
+    ensures { Takes value_tree result parser.new (spec.array_value (ahead parser.old)) }
 {
     let position = position(parser.tokens);
     let value = known_value(parser)?;
@@ -62,13 +62,13 @@ pub fn values<'t, 'a>(parser: &mut Parser<'t, 'a>) -> Result<Vec<ArrayValue<'a>>
         (spec.values (ahead parser.old)) }
 {
     let mut found = Vec::new(parser.alloc);
-    let first = placed(parser)?;
+    let first = array_value(parser)?;
     found.push(first)?;
     for _turn in 0..parser.tokens.len() {
         if !begins_value(peek(parser.tokens)) {
             break;
         }
-        let next = placed(parser)?;
+        let next = array_value(parser)?;
         found.push(next)?;
     }
     Ok(found)
@@ -80,9 +80,9 @@ pub fn values<'t, 'a>(parser: &mut Parser<'t, 'a>) -> Result<Vec<ArrayValue<'a>>
 ///
 /// `Fault::Grammar` at the first token with which no derivation goes on; `Memory` where a growth is
 /// refused.
-#[tactic(auto, unfolding(crate::specs::Parse::worded, crate::specs::Parse::array_after))]
+#[tactic(auto, unfolding(crate::specs::Parse::directive_of, crate::specs::Parse::array_after))]
 pub fn array<'t, 'a>(parser: &mut Parser<'t, 'a>) -> Result<Box<Directive<'a>>, ParseError>
-    ensures { TakesDirective result parser.new (spec.worded Word.Array (ahead parser.old)) }
+    ensures { TakesDirective result parser.new (spec.directive_of Word.Array (ahead parser.old)) }
 {
     pass(parser);
     let name = expect_name(parser)?;

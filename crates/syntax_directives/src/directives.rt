@@ -15,9 +15,9 @@ use syntax_statement_parts::{begins_value, known_value};
 use syntax_trees::{Fault, ParseError, Parser, expect, fault_at, is_sign, pass, peek};
 
 // A global variable, from its word on.
-#[tactic(auto, unfolding(crate::specs::Parse::worded, crate::specs::Parse::global_after))]
+#[tactic(auto, unfolding(crate::specs::Parse::directive_of, crate::specs::Parse::global_after))]
 fn global<'t, 'a>(parser: &mut Parser<'t, 'a>) -> Result<Box<Directive<'a>>, ParseError>
-    ensures { TakesDirective result parser.new (spec.worded Word.Global (ahead parser.old)) }
+    ensures { TakesDirective result parser.new (spec.directive_of Word.Global (ahead parser.old)) }
 {
     pass(parser);
     let name = expect_name(parser)?;
@@ -30,9 +30,9 @@ fn global<'t, 'a>(parser: &mut Parser<'t, 'a>) -> Result<Box<Directive<'a>>, Par
 }
 
 // A constant, from its word on.
-#[tactic(auto, unfolding(crate::specs::Parse::worded, crate::specs::Parse::constant_after))]
+#[tactic(auto, unfolding(crate::specs::Parse::directive_of, crate::specs::Parse::constant_after))]
 fn constant<'t, 'a>(parser: &mut Parser<'t, 'a>) -> Result<Box<Directive<'a>>, ParseError>
-    ensures { TakesDirective result parser.new (spec.worded Word.Constant (ahead parser.old)) }
+    ensures { TakesDirective result parser.new (spec.directive_of Word.Constant (ahead parser.old)) }
 {
     pass(parser);
     let name = expect_name(parser)?;
@@ -42,9 +42,9 @@ fn constant<'t, 'a>(parser: &mut Parser<'t, 'a>) -> Result<Box<Directive<'a>>, P
 }
 
 // An attribute, from its word on.
-#[tactic(auto, unfolding(crate::specs::Parse::worded, crate::specs::Parse::attribute_after))]
+#[tactic(auto, unfolding(crate::specs::Parse::directive_of, crate::specs::Parse::attribute_after))]
 fn attribute<'t, 'a>(parser: &mut Parser<'t, 'a>) -> Result<Box<Directive<'a>>, ParseError>
-    ensures { TakesDirective result parser.new (spec.worded Word.Attribute (ahead parser.old)) }
+    ensures { TakesDirective result parser.new (spec.directive_of Word.Attribute (ahead parser.old)) }
 {
     pass(parser);
     let name = expect_name(parser)?;
@@ -52,9 +52,9 @@ fn attribute<'t, 'a>(parser: &mut Parser<'t, 'a>) -> Result<Box<Directive<'a>>, 
 }
 
 // A property, from its word on.
-#[tactic(auto, unfolding(crate::specs::Parse::worded, crate::specs::Parse::property_after))]
+#[tactic(auto, unfolding(crate::specs::Parse::directive_of, crate::specs::Parse::property_after))]
 fn property<'t, 'a>(parser: &mut Parser<'t, 'a>) -> Result<Box<Directive<'a>>, ParseError>
-    ensures { TakesDirective result parser.new (spec.worded Word.Property (ahead parser.old)) }
+    ensures { TakesDirective result parser.new (spec.directive_of Word.Property (ahead parser.old)) }
 {
     pass(parser);
     let name = expect_name(parser)?;
@@ -66,9 +66,12 @@ fn property<'t, 'a>(parser: &mut Parser<'t, 'a>) -> Result<Box<Directive<'a>>, P
 }
 
 // The directive that begins with that word.
-#[tactic(auto, unfolding(crate::specs::Parse::worded))]
-fn worded<'t, 'a>(parser: &mut Parser<'t, 'a>, word: Word) -> Result<Box<Directive<'a>>, ParseError>
-    ensures { TakesDirective result parser.new (spec.worded word (ahead parser.old)) }
+#[tactic(auto, unfolding(crate::specs::Parse::directive_of))]
+fn directive_of<'t, 'a>(
+    parser: &mut Parser<'t, 'a>,
+    word: Word,
+) -> Result<Box<Directive<'a>>, ParseError>
+    ensures { TakesDirective result parser.new (spec.directive_of word (ahead parser.old)) }
 {
     match word {
         Word::Global => global(parser),
@@ -95,7 +98,7 @@ pub fn directive<'t, 'a>(
     ensures { TakesDirective result parser.new (spec.directive depth (ahead parser.old)) }
 {
     match peek(parser.tokens).kind {
-        Kind::Reserved(word) => worded(parser, word),
+        Kind::Reserved(word) => directive_of(parser, word),
         Kind::Sign(Sign::OpenBracket) => routine(parser, depth),
         _ => Err(fault_at(Fault::Grammar, parser.tokens)),
     }

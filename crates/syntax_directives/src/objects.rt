@@ -191,9 +191,9 @@ fn attributes<'t, 'a>(parser: &mut Parser<'t, 'a>) -> Result<Vec<Name<'a>>, Pars
 ///
 /// `Fault::Grammar` at the first token with which no derivation goes on; `Memory` where a growth is
 /// refused.
-#[tactic(auto, unfolding(crate::specs::Parse::worded, crate::specs::Parse::object_after))]
+#[tactic(auto, unfolding(crate::specs::Parse::directive_of, crate::specs::Parse::object_after))]
 pub fn object<'t, 'a>(parser: &mut Parser<'t, 'a>) -> Result<Box<Directive<'a>>, ParseError>
-    ensures { TakesDirective result parser.new (spec.worded Word.Object (ahead parser.old)) }
+    ensures { TakesDirective result parser.new (spec.directive_of Word.Object (ahead parser.old)) }
 {
     pass(parser);
     let head = object_heading(parser)?;

@@ -33,9 +33,9 @@ fn routine_heading<'t, 'a>(
 }
 
 // What closes a routine.
-#[tactic(auto, unfolding(crate::specs::Parse::closed))]
-fn closed<'t, 'a>(parser: &mut Parser<'t, 'a>) -> Result<(), ParseError>
-    ensures { Gives (λ _. ahead parser.new) result (spec.closed (ahead parser.old)) }
+#[tactic(auto, unfolding(crate::specs::Parse::routine_end))]
+fn routine_end<'t, 'a>(parser: &mut Parser<'t, 'a>) -> Result<(), ParseError>
+    ensures { Gives (λ _. ahead parser.new) result (spec.routine_end (ahead parser.old)) }
 {
     expect(parser, Sign::CloseBracket)?;
     expect(parser, Sign::Semicolon)
@@ -48,7 +48,7 @@ fn body<'t, 'a>(parser: &mut Parser<'t, 'a>, depth: usize) -> Result<Vec<Stateme
         (spec.routine_body depth (ahead parser.old)) }
 {
     match statements(parser, depth) {
-        Ok(found) => match closed(parser) {
+        Ok(found) => match routine_end(parser) {
             Ok(()) => Ok(found),
             Err(e) => Err(e),
         },

@@ -67,7 +67,7 @@ pub fn word_constant<'t, 'a>(
     word: Word,
 ) -> Result<Box<Expression<'a>>, ParseError>
     ensures { TakesExpression result parser.new
-        (spec.valued (spec.word_value word) (ahead parser.old)) }
+        (spec.constant_on (spec.word_value word) (ahead parser.old)) }
 {
     match word_value(word) {
         Some(value) => constant(parser, value),
@@ -128,7 +128,7 @@ fn is_chain_of(tree: &Expression<'_>, operator: Binary) -> bool {
 
 // A chain with one more operator and operand, where the tree is one.
 #[inline(never)]
-fn lengthened_chain<'t, 'a>(
+fn lengthen_chain<'t, 'a>(
     parser: &Parser<'t, 'a>,
     chain: Box<Expression<'a>>,
     operator: Binary,
@@ -186,7 +186,7 @@ pub fn link<'t, 'a>(
     )) }
 {
     if is_chain_of(&left, operator) {
-        return lengthened_chain(parser, left, operator, right);
+        return lengthen_chain(parser, left, operator, right);
     }
     pair(parser, left, operator, right)
 }
@@ -329,13 +329,13 @@ fn step_after<'t, 'a>(
 }
 
 // An operand, with the length of its property where that is asked for after it.
-#[tactic(auto, unfolding(crate::specs::Parse::lengthened))]
-fn lengthened<'t, 'a>(
+#[tactic(auto, unfolding(crate::specs::Parse::with_length))]
+fn with_length<'t, 'a>(
     parser: &mut Parser<'t, 'a>,
     operand: Box<Expression<'a>>,
 ) -> Result<Box<Expression<'a>>, ParseError>
     ensures { TakesExpression result parser.new
-        (spec.lengthened (expression_tree operand.entry.value) (ahead parser.old)) }
+        (spec.with_length (expression_tree operand.entry.value) (ahead parser.old)) }
 {
     if !is_sign(peek(parser.tokens), Sign::DotHash) {
         return Ok(operand);
@@ -358,17 +358,17 @@ fn property_length<'t, 'a>(
 }
 
 /// An operand, with `++`, `--` or `.#` where it stands after it.
-#[tactic(auto, unfolding(crate::specs::Parse::suffixed))]
-pub fn suffixed<'t, 'a>(
+#[tactic(auto, unfolding(crate::specs::Parse::after_operand))]
+pub fn after_operand<'t, 'a>(
     parser: &mut Parser<'t, 'a>,
     operand: Box<Expression<'a>>,
 ) -> Result<Box<Expression<'a>>, ParseError>
     ensures { TakesExpression result parser.new
-        (spec.suffixed (expression_tree operand.entry.value) (ahead parser.old)) }
+        (spec.after_operand (expression_tree operand.entry.value) (ahead parser.old)) }
 {
     match stepping(peek(parser.tokens)) {
         Some(step) => step_after(parser, operand, step),
-        None => lengthened(parser, operand),
+        None => with_length(parser, operand),
     }
 }
 

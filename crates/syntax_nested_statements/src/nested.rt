@@ -291,13 +291,13 @@ fn repetition<'t, 'a>(
 
 // The statement after `do`.
 #[cycle(statement)]
-#[tactic(auto, unfolding(syntax_statements::specs::Parse::entered))]
-fn entered<'t, 'a>(
+#[tactic(auto, unfolding(syntax_statements::specs::Parse::do_body))]
+fn do_body<'t, 'a>(
     parser: &mut Parser<'t, 'a>,
     depth: usize,
 ) -> Result<Box<Statement<'a>>, ParseError>
     ensures { TakesStatement result parser.new
-        (spec.entered (spec.inside depth) (ahead parser.old)) }
+        (spec.do_body (spec.inside depth) (ahead parser.old)) }
 {
     if !begins_statement(peek(parser.tokens)) {
         return Err(fault_at(Fault::Grammar, parser.tokens));
@@ -316,7 +316,7 @@ fn until<'t, 'a>(
     ensures { TakesStatement result parser.new
         (spec.until depth (spec.inside depth) position (ahead parser.old)) }
 {
-    match entered(parser, depth) {
+    match do_body(parser, depth) {
         Ok(body) => {
             expect_word(parser, Word::Until)?;
             let condition = enclosed_condition(parser, depth)?;

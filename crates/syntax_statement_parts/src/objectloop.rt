@@ -9,7 +9,7 @@ ghost use Rattle.syntax_statement_parts.specs.Parse as spec;
 
 use crate::tree::Loop;
 use syntax_expression_parts::name_of;
-use syntax_expressions::unassigned;
+use syntax_expressions::condition;
 use syntax_lexer::Sign;
 use syntax_trees::{
     Containment, Expression, Fault, Name, ParseError, Parser, expect, fault_at, open, peek,
@@ -125,7 +125,7 @@ fn looped<'t, 'a>(parser: &mut Parser<'t, 'a>, depth: usize) -> Result<Box<Loop<
     let Some(variable) = name_of(peek(parser.tokens)) else {
         return Err(fault_at(Fault::Grammar, parser.tokens));
     };
-    let found = unassigned(parser, depth)?;
+    let found = condition(parser, depth)?;
     expect(parser, Sign::CloseParenthesis)?;
     Ok(Box::new(parser.alloc, loop_of(variable, found))?)
 }
@@ -134,7 +134,7 @@ fn looped<'t, 'a>(parser: &mut Parser<'t, 'a>, depth: usize) -> Result<Box<Loop<
 ///
 /// # Errors
 ///
-/// Those of `unassigned`; `Fault::Grammar` where a parenthesis is missing, and at a first token
+/// Those of `condition`; `Fault::Grammar` where a parenthesis is missing, and at a first token
 /// that is no name; `Fault::Deep` where no nesting is left.
 #[tactic(auto, unfolding(crate::specs::Parse::enclosed_loop), using(crate::proofs::Inside::looped_zero, crate::proofs::Inside::looped_more))]
 pub fn enclosed_loop<'t, 'a>(

@@ -10,5 +10,5 @@ use Rattle.syntax_directives.proofs.arrays.values.Given as goal
 abbrev pub invariant-loop-turn : goal.invariant-loop-turn
 invariant-loop-turn l =
     joined (map value_tree l.found.items)
-    (repeated begins_value spec.placed (l._turn-end - l._turn) (ahead l.parser))
+    (repeated begins_value spec.array_value (l._turn-end - l._turn) (ahead l.parser))
     ≡ spec.values (ahead l.fn.parser)

@@ -35,8 +35,8 @@ decreases-choice l = 8 * l.depth + 5
 abbrev pub decreases-repetition : goal.decreases-repetition
 decreases-repetition l = 8 * l.depth + 5
 
-abbrev pub decreases-entered : goal.decreases-entered
-decreases-entered l = 8 * l.depth + 1
+abbrev pub decreases-do_body : goal.decreases-do_body
+decreases-do_body l = 8 * l.depth + 1
 
 abbrev pub decreases-until : goal.decreases-until
 decreases-until l = 8 * l.depth + 5

@@ -1,5 +1,5 @@
 use Rattle.syntax_expressions.proofs.Given.{sound_unassigned, complete_unassigned, deep_unassigned, unassigned_at_first, one_unassigned}
-use Rattle.syntax_expressions.proofs.laws.reads_unassigned.Goals as goal
+use Rattle.syntax_expressions.proofs.laws.reads_conditions.Goals as goal
 
 pub returns-clause-sound : goal.returns-clause-sound
 returns-clause-sound c = sound_unassigned

@@ -1,6 +1,6 @@
 use Rattle.std.proofs.Common.{sym, ◌∙◌}
 use Rattle.syntax_expression_parts.proofs.Built.{longer_built}
-use Rattle.syntax_expression_parts.proofs.parts.lengthened_chain.Goals as goal
+use Rattle.syntax_expression_parts.proofs.parts.lengthen_chain.Goals as goal
 
 pub returns-in-Ok : goal.returns-in-Ok
 returns-in-Ok c =
