@@ -26,7 +26,7 @@ use Rattle.meaning.specs.Meaning.{is_character}
 use Rattle.code_drafts.specs.Items.{Destination, Test, is_any_pushed}
 use Rattle.code_drafts.specs.Items as items
 use Rattle.code_encoding.specs.Addresses.{Addresses, fault_address}
-use Rattle.code_encoding.specs.Bytes.{character_of}
+use Rattle.meaning.specs.Places.{machine_character}
 use Rattle.code_encoding.specs.Instructions.{plain, giving, branching, number_of, temporary, constant, push, pull, copy}
 use Rattle.code_encoding.specs.Instructions.{store, fail, in_place, takes, operands, aside_variable, result_in, top}
 
@@ -159,7 +159,7 @@ tested_between a cause low end variable =
 
 -- a byte between the quotes of a text that is printed as it is
 abbrev pub prints_itself : ℕ → Bool
-prints_itself byte = is_printable byte && character_of byte == byte
+prints_itself byte = is_printable byte && machine_character byte == byte
 
 -- a character is 0, 13 or from 32 to 126, and else the fault's text is printed
 abbrev pub tested_character : Addresses → ℕ → List Instruction
