@@ -13,7 +13,7 @@ use crate::tree::{Array, ArrayKind, ArrayValue, Directive};
 use syntax_expression_parts::expect_name;
 use syntax_lexer::{Kind, Sign, Token, Word};
 use syntax_statement_parts::{begins_value, known_value};
-use syntax_trees::{Fault, ParseError, Parser, expect, fault_at, pass, peek, position};
+use syntax_trees::{Fault, Parsed, Parser, expect, fault_at, pass, peek, position};
 
 // The kind of array that the token names.
 fn kind_of(token: Token<'_>) -> Option<ArrayKind>
@@ -30,7 +30,7 @@ fn kind_of(token: Token<'_>) -> Option<ArrayKind>
 
 // The kind of array that comes next.
 #[tactic(auto, unfolding(crate::specs::Parse::kind))]
-fn kind<'t, 'a>(parser: &mut Parser<'t, 'a>) -> Result<ArrayKind, ParseError>
+fn kind<'t, 'a>(parser: &mut Parser<'t, 'a>) -> Parsed<ArrayKind>
     ensures { Takes (λ k. k) result parser.new (spec.kind (ahead parser.old)) }
 {
     let Some(kind) = kind_of(peek(parser.tokens)) else {
@@ -42,7 +42,7 @@ fn kind<'t, 'a>(parser: &mut Parser<'t, 'a>) -> Result<ArrayKind, ParseError>
 
 // A value, with the position of its first token.
 #[tactic(auto, unfolding(crate::specs::Parse::array_value))]
-fn array_value<'t, 'a>(parser: &mut Parser<'t, 'a>) -> Result<ArrayValue<'a>, ParseError>
+fn array_value<'t, 'a>(parser: &mut Parser<'t, 'a>) -> Parsed<ArrayValue<'a>>
     ensures { Takes value_tree result parser.new (spec.array_value (ahead parser.old)) }
 {
     let position = position(parser.tokens);
@@ -57,7 +57,7 @@ fn array_value<'t, 'a>(parser: &mut Parser<'t, 'a>) -> Result<ArrayValue<'a>, Pa
 /// `Fault::Grammar` at the first token: it begins no value; or after `-`. `Memory` where a growth
 /// is refused.
 #[tactic(auto, unfolding(crate::specs::Parse::values), using(syntax_trees::proofs::Loops::repeated_out, syntax_trees::proofs::Loops::repeated_done, syntax_trees::proofs::Loops::repeated_more, syntax_trees::proofs::Loops::repeated_fails))]
-pub fn values<'t, 'a>(parser: &mut Parser<'t, 'a>) -> Result<Vec<ArrayValue<'a>>, ParseError>
+pub fn values<'t, 'a>(parser: &mut Parser<'t, 'a>) -> Parsed<Vec<ArrayValue<'a>>>
     ensures { Takes (λ vs. map value_tree vs.items) result parser.new
         (spec.values (ahead parser.old)) }
 {
@@ -81,7 +81,7 @@ pub fn values<'t, 'a>(parser: &mut Parser<'t, 'a>) -> Result<Vec<ArrayValue<'a>>
 /// `Fault::Grammar` at the first token with which no derivation goes on; `Memory` where a growth is
 /// refused.
 #[tactic(auto, unfolding(crate::specs::Parse::directive_of, crate::specs::Parse::array_after))]
-pub fn array<'t, 'a>(parser: &mut Parser<'t, 'a>) -> Result<Box<Directive<'a>>, ParseError>
+pub fn array<'t, 'a>(parser: &mut Parser<'t, 'a>) -> Parsed<Box<Directive<'a>>>
     ensures { TakesDirective result parser.new (spec.directive_of Word.Array (ahead parser.old)) }
 {
     pass(parser);

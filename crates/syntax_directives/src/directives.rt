@@ -12,11 +12,11 @@ use crate::tree::Directive;
 use syntax_expression_parts::expect_name;
 use syntax_lexer::{Kind, Sign, Word};
 use syntax_statement_parts::{begins_value, known_value};
-use syntax_trees::{Fault, ParseError, Parser, expect, fault_at, is_sign, pass, peek};
+use syntax_trees::{Fault, Parsed, Parser, expect, fault_at, is_sign, pass, peek};
 
 // A global variable, from its word on.
 #[tactic(auto, unfolding(crate::specs::Parse::directive_of, crate::specs::Parse::global_after))]
-fn global<'t, 'a>(parser: &mut Parser<'t, 'a>) -> Result<Box<Directive<'a>>, ParseError>
+fn global<'t, 'a>(parser: &mut Parser<'t, 'a>) -> Parsed<Box<Directive<'a>>>
     ensures { TakesDirective result parser.new (spec.directive_of Word.Global (ahead parser.old)) }
 {
     pass(parser);
@@ -31,7 +31,7 @@ fn global<'t, 'a>(parser: &mut Parser<'t, 'a>) -> Result<Box<Directive<'a>>, Par
 
 // A constant, from its word on.
 #[tactic(auto, unfolding(crate::specs::Parse::directive_of, crate::specs::Parse::constant_after))]
-fn constant<'t, 'a>(parser: &mut Parser<'t, 'a>) -> Result<Box<Directive<'a>>, ParseError>
+fn constant<'t, 'a>(parser: &mut Parser<'t, 'a>) -> Parsed<Box<Directive<'a>>>
     ensures { TakesDirective result parser.new (spec.directive_of Word.Constant (ahead parser.old)) }
 {
     pass(parser);
@@ -43,7 +43,7 @@ fn constant<'t, 'a>(parser: &mut Parser<'t, 'a>) -> Result<Box<Directive<'a>>, P
 
 // An attribute, from its word on.
 #[tactic(auto, unfolding(crate::specs::Parse::directive_of, crate::specs::Parse::attribute_after))]
-fn attribute<'t, 'a>(parser: &mut Parser<'t, 'a>) -> Result<Box<Directive<'a>>, ParseError>
+fn attribute<'t, 'a>(parser: &mut Parser<'t, 'a>) -> Parsed<Box<Directive<'a>>>
     ensures { TakesDirective result parser.new (spec.directive_of Word.Attribute (ahead parser.old)) }
 {
     pass(parser);
@@ -53,7 +53,7 @@ fn attribute<'t, 'a>(parser: &mut Parser<'t, 'a>) -> Result<Box<Directive<'a>>, 
 
 // A property, from its word on.
 #[tactic(auto, unfolding(crate::specs::Parse::directive_of, crate::specs::Parse::property_after))]
-fn property<'t, 'a>(parser: &mut Parser<'t, 'a>) -> Result<Box<Directive<'a>>, ParseError>
+fn property<'t, 'a>(parser: &mut Parser<'t, 'a>) -> Parsed<Box<Directive<'a>>>
     ensures { TakesDirective result parser.new (spec.directive_of Word.Property (ahead parser.old)) }
 {
     pass(parser);
@@ -67,10 +67,7 @@ fn property<'t, 'a>(parser: &mut Parser<'t, 'a>) -> Result<Box<Directive<'a>>, P
 
 // The directive that begins with that word.
 #[tactic(auto, unfolding(crate::specs::Parse::directive_of))]
-fn directive_of<'t, 'a>(
-    parser: &mut Parser<'t, 'a>,
-    word: Word,
-) -> Result<Box<Directive<'a>>, ParseError>
+fn directive_of<'t, 'a>(parser: &mut Parser<'t, 'a>, word: Word) -> Parsed<Box<Directive<'a>>>
     ensures { TakesDirective result parser.new (spec.directive_of word (ahead parser.old)) }
 {
     match word {
@@ -91,10 +88,7 @@ fn directive_of<'t, 'a>(
 /// `Fault::Grammar` at the first token with which no derivation goes on, `Fault::Deep` at the token
 /// for which no nesting is left, and `Memory` where a growth is refused.
 #[tactic(auto, unfolding(crate::specs::Parse::directive))]
-pub fn directive<'t, 'a>(
-    parser: &mut Parser<'t, 'a>,
-    depth: usize,
-) -> Result<Box<Directive<'a>>, ParseError>
+pub fn directive<'t, 'a>(parser: &mut Parser<'t, 'a>, depth: usize) -> Parsed<Box<Directive<'a>>>
     ensures { TakesDirective result parser.new (spec.directive depth (ahead parser.old)) }
 {
     match peek(parser.tokens).kind {

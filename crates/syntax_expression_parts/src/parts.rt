@@ -26,14 +26,12 @@ use crate::reading::expect_name;
 use syntax_lexer::{Position, Sign, Word};
 use syntax_trees::{
     Binary, Comparison, Containment, Equality, Expression, Fault, Name, ObjectTest, ParseError,
-    Parser, Prefix, Relative, Step, Width, expect, fault_at, is_sign, memory, pass, peek, position,
+    Parsed, Parser, Prefix, Relative, Step, Width, expect, fault_at, is_sign, memory, pass, peek,
+    position,
 };
 
 // A tree in a box. Where memory is refused the tree is dropped here.
-fn in_box<'t, 'a>(
-    parser: &Parser<'t, 'a>,
-    tree: Expression<'a>,
-) -> Result<Box<Expression<'a>>, ParseError>
+fn in_box<'t, 'a>(parser: &Parser<'t, 'a>, tree: Expression<'a>) -> Parsed<Box<Expression<'a>>>
     ensures { TakesExpression result parser.now
         (Ok (expression_tree tree.entry, ahead parser.now)) }
 {
@@ -49,10 +47,7 @@ pub fn discard<T: Drop>(read: T) {
 
 /// A constant, which the next token is.
 #[inline(never)]
-pub fn constant<'t, 'a>(
-    parser: &mut Parser<'t, 'a>,
-    value: u16,
-) -> Result<Box<Expression<'a>>, ParseError>
+pub fn constant<'t, 'a>(parser: &mut Parser<'t, 'a>, value: u16) -> Parsed<Box<Expression<'a>>>
     ensures { TakesExpression result parser.new
         (Ok (tree.constant value, reading.tail (ahead parser.old))) }
 {
@@ -62,10 +57,7 @@ pub fn constant<'t, 'a>(
 
 /// The value of the reserved word that comes next.
 #[inline(never)]
-pub fn word_constant<'t, 'a>(
-    parser: &mut Parser<'t, 'a>,
-    word: Word,
-) -> Result<Box<Expression<'a>>, ParseError>
+pub fn word_constant<'t, 'a>(parser: &mut Parser<'t, 'a>, word: Word) -> Parsed<Box<Expression<'a>>>
     ensures { TakesExpression result parser.new
         (spec.constant_on (spec.word_value word) (ahead parser.old)) }
 {
@@ -77,10 +69,7 @@ pub fn word_constant<'t, 'a>(
 
 /// A dictionary word, which the next token is.
 #[inline(never)]
-pub fn word<'t, 'a>(
-    parser: &mut Parser<'t, 'a>,
-    word: &'a [u8],
-) -> Result<Box<Expression<'a>>, ParseError>
+pub fn word<'t, 'a>(parser: &mut Parser<'t, 'a>, word: &'a [u8]) -> Parsed<Box<Expression<'a>>>
     ensures { TakesExpression result parser.new
         (Ok (tree.word word.entry.now, reading.tail (ahead parser.old))) }
 {
@@ -90,10 +79,7 @@ pub fn word<'t, 'a>(
 
 /// The value of a name.
 #[inline(never)]
-pub fn named<'t, 'a>(
-    parser: &Parser<'t, 'a>,
-    name: &Name<'a>,
-) -> Result<Box<Expression<'a>>, ParseError>
+pub fn named<'t, 'a>(parser: &Parser<'t, 'a>, name: &Name<'a>) -> Parsed<Box<Expression<'a>>>
     ensures { TakesExpression result parser.now
         (Ok (tree.named (name_tree name.now), ahead parser.now)) }
 {
@@ -105,7 +91,7 @@ fn add_link<'a>(
     links: &mut Vec<(Binary, Expression<'a>)>,
     operator: Binary,
     operand: Box<Expression<'a>>,
-) -> Result<(), ParseError>
+) -> Parsed<()>
     ensures ok { IfOk result (λ _. links.new.items
         ≡ links.old.items ++ (operator, operand.entry.value) ∷ []) }
     ensures err { IfErr result (λ e. e ≡ ParseError.Memory) }
@@ -133,7 +119,7 @@ fn lengthen_chain<'t, 'a>(
     chain: Box<Expression<'a>>,
     operator: Binary,
     right: Box<Expression<'a>>,
-) -> Result<Box<Expression<'a>>, ParseError>
+) -> Parsed<Box<Expression<'a>>>
     ensures { TakesExpression result parser.now (Ok (
       tree.binary operator (expression_tree chain.entry.value) (expression_tree right.entry.value),
       ahead parser.now,
@@ -160,7 +146,7 @@ fn pair<'t, 'a>(
     left: Box<Expression<'a>>,
     operator: Binary,
     right: Box<Expression<'a>>,
-) -> Result<Box<Expression<'a>>, ParseError>
+) -> Parsed<Box<Expression<'a>>>
     ensures { TakesExpression result parser.now (Ok (
       tree.binary operator (expression_tree left.entry.value) (expression_tree right.entry.value),
       ahead parser.now,
@@ -179,7 +165,7 @@ pub fn link<'t, 'a>(
     left: Box<Expression<'a>>,
     operator: Binary,
     right: Box<Expression<'a>>,
-) -> Result<Box<Expression<'a>>, ParseError>
+) -> Parsed<Box<Expression<'a>>>
     ensures { TakesExpression result parser.now (Ok (
       tree.binary operator (expression_tree left.entry.value) (expression_tree right.entry.value),
       ahead parser.now,
@@ -197,7 +183,7 @@ pub fn link<'t, 'a>(
 pub fn alone<'t, 'a>(
     parser: &Parser<'t, 'a>,
     first: Box<Expression<'a>>,
-) -> Result<Vec<Expression<'a>>, ParseError>
+) -> Parsed<Vec<Expression<'a>>>
     ensures ok { IfOk result (λ xs. xs.items ≡ first.entry.value ∷ []) }
     ensures err { IfErr result (λ e. e ≡ ParseError.Memory) }
 {
@@ -208,10 +194,7 @@ pub fn alone<'t, 'a>(
 
 /// One more expression in a list.
 #[inline(never)]
-pub fn add<'a>(
-    expressions: &mut Vec<Expression<'a>>,
-    next: Box<Expression<'a>>,
-) -> Result<(), ParseError>
+pub fn add<'a>(expressions: &mut Vec<Expression<'a>>, next: Box<Expression<'a>>) -> Parsed<()>
     ensures ok { IfOk result (λ _. expressions.new.items
         ≡ expressions.old.items ++ next.entry.value ∷ []) }
     ensures err { IfErr result (λ e. e ≡ ParseError.Memory) }
@@ -226,7 +209,7 @@ pub fn prefixed<'t, 'a>(
     parser: &Parser<'t, 'a>,
     operator: Prefix,
     operand: Box<Expression<'a>>,
-) -> Result<Box<Expression<'a>>, ParseError>
+) -> Parsed<Box<Expression<'a>>>
     ensures { TakesExpression result parser.now
         (Ok (tree.prefixed operator (expression_tree operand.entry.value), ahead parser.now)) }
 {
@@ -240,7 +223,7 @@ pub fn index<'t, 'a>(
     array: &Name<'a>,
     width: Width,
     index: Box<Expression<'a>>,
-) -> Result<Box<Expression<'a>>, ParseError>
+) -> Parsed<Box<Expression<'a>>>
     ensures { TakesExpression result parser.now (Ok (
       tree.index (name_tree array.now) width (expression_tree index.entry.value),
       ahead parser.now,
@@ -256,7 +239,7 @@ pub fn property_entry<'t, 'a>(
     owner: Box<Expression<'a>>,
     name: &Name<'a>,
     index: Box<Expression<'a>>,
-) -> Result<Box<Expression<'a>>, ParseError>
+) -> Parsed<Box<Expression<'a>>>
     ensures { TakesExpression result parser.now (Ok (
       tree.property_entry (expression_tree owner.entry.value) (name_tree name.now)
           (expression_tree index.entry.value),
@@ -271,7 +254,7 @@ pub fn property_entry<'t, 'a>(
 pub fn properties<'t, 'a>(
     parser: &mut Parser<'t, 'a>,
     owner: Box<Expression<'a>>,
-) -> Result<Box<Expression<'a>>, ParseError>
+) -> Parsed<Box<Expression<'a>>>
     ensures { TakesExpression result parser.new (spec.properties (length (ahead parser.old))
         (expression_tree owner.entry.value) (ahead parser.old)) }
 {
@@ -301,7 +284,7 @@ pub fn step_before<'t, 'a>(
     step: Step,
     position: Position,
     operand: Box<Expression<'a>>,
-) -> Result<Box<Expression<'a>>, ParseError>
+) -> Parsed<Box<Expression<'a>>>
     ensures { TakesExpression result parser.now (Ok (
       tree.step_before step position (expression_tree operand.entry.value),
       ahead parser.now,
@@ -316,7 +299,7 @@ fn step_after<'t, 'a>(
     parser: &mut Parser<'t, 'a>,
     operand: Box<Expression<'a>>,
     step: Step,
-) -> Result<Box<Expression<'a>>, ParseError>
+) -> Parsed<Box<Expression<'a>>>
     ensures { TakesExpression result parser.new (Ok (
       tree.step_after (expression_tree operand.entry.value) step (position_of
           (reading.head (ahead parser.old))),
@@ -333,7 +316,7 @@ fn step_after<'t, 'a>(
 fn with_length<'t, 'a>(
     parser: &mut Parser<'t, 'a>,
     operand: Box<Expression<'a>>,
-) -> Result<Box<Expression<'a>>, ParseError>
+) -> Parsed<Box<Expression<'a>>>
     ensures { TakesExpression result parser.new
         (spec.with_length (expression_tree operand.entry.value) (ahead parser.old)) }
 {
@@ -348,7 +331,7 @@ fn with_length<'t, 'a>(
 fn property_length<'t, 'a>(
     parser: &mut Parser<'t, 'a>,
     operand: Box<Expression<'a>>,
-) -> Result<Box<Expression<'a>>, ParseError>
+) -> Parsed<Box<Expression<'a>>>
     ensures { TakesExpression result parser.new (spec.length_next
         (expression_tree operand.entry.value) (reading.tail (ahead parser.old))) }
 {
@@ -362,7 +345,7 @@ fn property_length<'t, 'a>(
 pub fn after_operand<'t, 'a>(
     parser: &mut Parser<'t, 'a>,
     operand: Box<Expression<'a>>,
-) -> Result<Box<Expression<'a>>, ParseError>
+) -> Parsed<Box<Expression<'a>>>
     ensures { TakesExpression result parser.new
         (spec.after_operand (expression_tree operand.entry.value) (ahead parser.old)) }
 {
@@ -377,7 +360,7 @@ pub fn after_operand<'t, 'a>(
 pub fn parenthesised<'t, 'a>(
     parser: &mut Parser<'t, 'a>,
     enclosed: Box<Expression<'a>>,
-) -> Result<Box<Expression<'a>>, ParseError>
+) -> Parsed<Box<Expression<'a>>>
     ensures { TakesExpression result parser.new (spec.closed tree.parenthesised
         (expression_tree enclosed.entry.value, ahead parser.old)) }
 {
@@ -391,7 +374,7 @@ pub fn relative_of<'t, 'a>(
     parser: &mut Parser<'t, 'a>,
     relative: Relative,
     enclosed: Box<Expression<'a>>,
-) -> Result<Box<Expression<'a>>, ParseError>
+) -> Parsed<Box<Expression<'a>>>
     ensures { TakesExpression result parser.new (spec.closed (tree.relative_of relative)
         (expression_tree enclosed.entry.value, ahead parser.old)) }
 {
@@ -406,7 +389,7 @@ pub fn contained<'t, 'a>(
     left: Box<Expression<'a>>,
     operator: Containment,
     right: Box<Expression<'a>>,
-) -> Result<Box<Expression<'a>>, ParseError>
+) -> Parsed<Box<Expression<'a>>>
     ensures { TakesExpression result parser.now
         (Ok (
           tree.contained operator (expression_tree left.entry.value)
@@ -422,7 +405,7 @@ pub fn contained<'t, 'a>(
 pub fn tested<'t, 'a>(
     parser: &mut Parser<'t, 'a>,
     left: Box<Expression<'a>>,
-) -> Result<Box<Expression<'a>>, ParseError>
+) -> Parsed<Box<Expression<'a>>>
     ensures { TakesExpression result parser.new
         (spec.tested_next (expression_tree left.entry.value) (ahead parser.old)) }
 {
@@ -438,7 +421,7 @@ fn object_test<'t, 'a>(
     parser: &mut Parser<'t, 'a>,
     left: Box<Expression<'a>>,
     test: ObjectTest,
-) -> Result<Box<Expression<'a>>, ParseError>
+) -> Parsed<Box<Expression<'a>>>
     ensures { TakesExpression result parser.new (spec.tested_on
         (expression_tree left.entry.value) (ahead parser.old) (Some test)) }
 {
@@ -454,7 +437,7 @@ pub fn compare<'t, 'a>(
     left: Box<Expression<'a>>,
     operator: Comparison,
     right: Box<Expression<'a>>,
-) -> Result<Box<Expression<'a>>, ParseError>
+) -> Parsed<Box<Expression<'a>>>
     ensures { TakesExpression result parser.now
         (Ok (
           tree.compare operator (expression_tree left.entry.value)
@@ -472,7 +455,7 @@ pub fn assign<'t, 'a>(
     left: Box<Expression<'a>>,
     position: Position,
     right: Box<Expression<'a>>,
-) -> Result<Box<Expression<'a>>, ParseError>
+) -> Parsed<Box<Expression<'a>>>
     ensures { TakesExpression result parser.now
         (Ok (
           tree.assign (expression_tree left.entry.value) position
@@ -491,7 +474,7 @@ pub fn equal<'t, 'a>(
     operator: Equality,
     first: Box<Expression<'a>>,
     others: Vec<Expression<'a>>,
-) -> Result<Box<Expression<'a>>, ParseError>
+) -> Parsed<Box<Expression<'a>>>
     ensures { TakesExpression result parser.now (Ok (
       tree.equal operator (expression_tree left.entry.value) (trees_of
           (expression_tree first.entry.value ∷ map expression_tree others.entry.items)),
@@ -507,7 +490,7 @@ pub fn call<'t, 'a>(
     parser: &mut Parser<'t, 'a>,
     name: &Name<'a>,
     arguments: Vec<Expression<'a>>,
-) -> Result<Box<Expression<'a>>, ParseError>
+) -> Parsed<Box<Expression<'a>>>
     ensures { TakesExpression result parser.new
         (spec.closed (λ xs. tree.call (name_tree name.now) (trees_of xs))
         (map expression_tree arguments.entry.items, ahead parser.old)) }
@@ -522,7 +505,7 @@ pub fn call<'t, 'a>(
 pub fn call_alone<'t, 'a>(
     parser: &mut Parser<'t, 'a>,
     name: &Name<'a>,
-) -> Result<Box<Expression<'a>>, ParseError>
+) -> Parsed<Box<Expression<'a>>>
     ensures { TakesExpression result parser.new
         (Ok (tree.call (name_tree name.now) tree.none, reading.tail (ahead parser.old))) }
 {

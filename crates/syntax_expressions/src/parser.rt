@@ -29,8 +29,8 @@ use syntax_expression_parts::{
 };
 use syntax_lexer::{Kind, Sign, Word};
 use syntax_trees::{
-    Comparison, Containment, Equality, Expression, Fault, Name, ParseError, Parser, Prefix,
-    Relative, Step, fault_at, is_sign, is_word, open, pass, peek, position,
+    Comparison, Containment, Equality, Expression, Fault, Name, Parsed, Parser, Prefix, Relative,
+    Step, fault_at, is_sign, is_word, open, pass, peek, position,
 };
 
 /// The expression at the front of the tokens. `depth` is how many nestings more may be opened: a
@@ -45,10 +45,7 @@ use syntax_trees::{
 /// - `Memory`: a growth is refused.
 #[cycle(expression)]
 #[tactic(auto, unfolding(crate::specs::Parse::expression))]
-pub fn expression<'t, 'a>(
-    parser: &mut Parser<'t, 'a>,
-    depth: usize,
-) -> Result<Box<Expression<'a>>, ParseError>
+pub fn expression<'t, 'a>(parser: &mut Parser<'t, 'a>, depth: usize) -> Parsed<Box<Expression<'a>>>
     ensures { TakesExpression result parser.new
         (spec.expression (spec.nested depth) (ahead parser.old)) }
 {
@@ -60,10 +57,7 @@ pub fn expression<'t, 'a>(
 
 /// The expression at the front of the tokens as far as an assignment sign at its root. Depth and
 /// errors are those of `expression`.
-pub fn condition<'t, 'a>(
-    parser: &mut Parser<'t, 'a>,
-    depth: usize,
-) -> Result<Box<Expression<'a>>, ParseError>
+pub fn condition<'t, 'a>(parser: &mut Parser<'t, 'a>, depth: usize) -> Parsed<Box<Expression<'a>>>
     ensures { TakesExpression result parser.new
         (spec.condition (spec.nested depth) (ahead parser.old)) }
 {
@@ -77,7 +71,7 @@ fn assignment<'t, 'a>(
     parser: &mut Parser<'t, 'a>,
     depth: usize,
     left: Box<Expression<'a>>,
-) -> Result<Box<Expression<'a>>, ParseError>
+) -> Parsed<Box<Expression<'a>>>
     ensures { TakesExpression result parser.new (spec.assignment (spec.nested depth)
         (expression_tree left.entry.value) (ahead parser.old)) }
 {
@@ -99,10 +93,7 @@ fn assignment<'t, 'a>(
 #[cycle(expression)]
 #[inline(never)]
 #[tactic(auto, unfolding(crate::specs::Parse::right_side), using(crate::proofs::Nested::nested_zero, crate::proofs::Nested::nested_whole))]
-fn right_side<'t, 'a>(
-    parser: &mut Parser<'t, 'a>,
-    depth: usize,
-) -> Result<Box<Expression<'a>>, ParseError>
+fn right_side<'t, 'a>(parser: &mut Parser<'t, 'a>, depth: usize) -> Parsed<Box<Expression<'a>>>
     ensures { TakesExpression result parser.new
         (spec.right_side (spec.nested depth) (ahead parser.old)) }
 {
@@ -120,7 +111,7 @@ fn chain<'t, 'a>(
     parser: &mut Parser<'t, 'a>,
     depth: usize,
     operators: Operators,
-) -> Result<Box<Expression<'a>>, ParseError>
+) -> Parsed<Box<Expression<'a>>>
     ensures { TakesExpression result parser.new
         (chain_of (spec.nested depth) operators (ahead parser.old)) }
 {
@@ -141,7 +132,7 @@ fn links<'t, 'a>(
     depth: usize,
     operators: Operators,
     first: Box<Expression<'a>>,
-) -> Result<Box<Expression<'a>>, ParseError>
+) -> Parsed<Box<Expression<'a>>>
     ensures { TakesExpression result parser.new
         (spec.chain (operator_of operators) (operand_of (spec.nested depth) operators)
         (length (ahead parser.old)) (expression_tree first.entry.value) (ahead parser.old)) }
@@ -161,7 +152,7 @@ fn read_links<'t, 'a>(
     depth: usize,
     operators: Operators,
     first: Box<Expression<'a>>,
-) -> Result<Box<Expression<'a>>, ParseError>
+) -> Parsed<Box<Expression<'a>>>
     ensures { TakesExpression result parser.new
         (spec.chain (operator_of operators) (operand_of (spec.nested depth) operators)
         (length (ahead parser.old)) (expression_tree first.entry.value) (ahead parser.old)) }
@@ -192,7 +183,7 @@ fn operand<'t, 'a>(
     parser: &mut Parser<'t, 'a>,
     depth: usize,
     operators: Operators,
-) -> Result<Box<Expression<'a>>, ParseError>
+) -> Parsed<Box<Expression<'a>>>
     ensures { TakesExpression result parser.new
         (operand_of (spec.nested depth) operators (ahead parser.old)) }
 {
@@ -206,10 +197,7 @@ fn operand<'t, 'a>(
 // `~~` before what it negates, or a comparison.
 #[cycle(expression)]
 #[tactic(auto, unfolding(crate::specs::Parse::logical_operand), using(crate::proofs::Nested::nested_zero, crate::proofs::Nested::nested_negation))]
-fn logical_operand<'t, 'a>(
-    parser: &mut Parser<'t, 'a>,
-    depth: usize,
-) -> Result<Box<Expression<'a>>, ParseError>
+fn logical_operand<'t, 'a>(parser: &mut Parser<'t, 'a>, depth: usize) -> Parsed<Box<Expression<'a>>>
     ensures { TakesExpression result parser.new
         (spec.logical_operand (spec.nested depth) (ahead parser.old)) }
 {
@@ -228,10 +216,7 @@ fn logical_operand<'t, 'a>(
 // another.
 #[cycle(expression)]
 #[tactic(auto, unfolding(crate::specs::Parse::comparison))]
-fn comparison<'t, 'a>(
-    parser: &mut Parser<'t, 'a>,
-    depth: usize,
-) -> Result<Box<Expression<'a>>, ParseError>
+fn comparison<'t, 'a>(parser: &mut Parser<'t, 'a>, depth: usize) -> Parsed<Box<Expression<'a>>>
     ensures { TakesExpression result parser.new
         (spec.comparison (spec.nested depth) (ahead parser.old)) }
 {
@@ -248,7 +233,7 @@ fn after_left<'t, 'a>(
     parser: &mut Parser<'t, 'a>,
     depth: usize,
     left: Box<Expression<'a>>,
-) -> Result<Box<Expression<'a>>, ParseError>
+) -> Parsed<Box<Expression<'a>>>
     ensures { TakesExpression result parser.new
         (spec.after_left (spec.nested depth) (expression_tree left.entry.value) (ahead parser.old)) }
 {
@@ -273,7 +258,7 @@ fn compare<'t, 'a>(
     depth: usize,
     left: Box<Expression<'a>>,
     operator: Comparison,
-) -> Result<Box<Expression<'a>>, ParseError>
+) -> Parsed<Box<Expression<'a>>>
     ensures { TakesExpression result parser.new (spec.compare_on (spec.nested depth)
         (expression_tree left.entry.value) operator (tail (ahead parser.old))) }
 {
@@ -296,7 +281,7 @@ fn equate<'t, 'a>(
     depth: usize,
     left: Box<Expression<'a>>,
     operator: Equality,
-) -> Result<Box<Expression<'a>>, ParseError>
+) -> Parsed<Box<Expression<'a>>>
     ensures { TakesExpression result parser.new (spec.equate_on (spec.nested depth)
         (expression_tree left.entry.value) operator (tail (ahead parser.old))) }
 {
@@ -318,7 +303,7 @@ fn contain<'t, 'a>(
     depth: usize,
     left: Box<Expression<'a>>,
     operator: Containment,
-) -> Result<Box<Expression<'a>>, ParseError>
+) -> Parsed<Box<Expression<'a>>>
     ensures { TakesExpression result parser.new (spec.contain_on (spec.nested depth)
         (expression_tree left.entry.value) operator (tail (ahead parser.old))) }
 {
@@ -337,7 +322,7 @@ fn contain<'t, 'a>(
 fn values<'t, 'a>(
     parser: &mut Parser<'t, 'a>,
     depth: usize,
-) -> Result<(Box<Expression<'a>>, Vec<Expression<'a>>), ParseError>
+) -> Parsed<(Box<Expression<'a>>, Vec<Expression<'a>>)>
     ensures { Takes values_tree result parser.new
         (reading.list (reading.is_word Word.Or) (spec.sum (spec.nested depth)) (ahead parser.old)) }
 {
@@ -374,10 +359,7 @@ fn values<'t, 'a>(
 // `~` before what it complements, or an operand with at most an index, `-`, `++` and `--`.
 #[cycle(expression)]
 #[tactic(auto, unfolding(crate::specs::Parse::factor), using(crate::proofs::Nested::nested_zero, crate::proofs::Nested::nested_complement))]
-fn factor<'t, 'a>(
-    parser: &mut Parser<'t, 'a>,
-    depth: usize,
-) -> Result<Box<Expression<'a>>, ParseError>
+fn factor<'t, 'a>(parser: &mut Parser<'t, 'a>, depth: usize) -> Parsed<Box<Expression<'a>>>
     ensures { TakesExpression result parser.new
         (spec.factor (spec.nested depth) (ahead parser.old)) }
 {
@@ -399,10 +381,7 @@ fn factor<'t, 'a>(
 // index is no nesting.
 #[cycle(expression)]
 #[tactic(auto, unfolding(crate::specs::Parse::array_entry))]
-fn array_entry<'t, 'a>(
-    parser: &mut Parser<'t, 'a>,
-    depth: usize,
-) -> Result<Box<Expression<'a>>, ParseError>
+fn array_entry<'t, 'a>(parser: &mut Parser<'t, 'a>, depth: usize) -> Parsed<Box<Expression<'a>>>
     ensures { TakesExpression result parser.new
         (spec.array_entry (spec.nested depth) (ahead parser.old)) }
 {
@@ -420,10 +399,7 @@ fn array_entry<'t, 'a>(
 // An entry of a property, or an operand with at most `-`, `++`, `--` and `.#`.
 #[cycle(expression)]
 #[tactic(auto, unfolding(crate::specs::Parse::object_entry))]
-fn object_entry<'t, 'a>(
-    parser: &mut Parser<'t, 'a>,
-    depth: usize,
-) -> Result<Box<Expression<'a>>, ParseError>
+fn object_entry<'t, 'a>(parser: &mut Parser<'t, 'a>, depth: usize) -> Parsed<Box<Expression<'a>>>
     ensures { TakesExpression result parser.new
         (spec.object_entry (spec.nested depth) (ahead parser.old)) }
 {
@@ -443,7 +419,7 @@ fn after_owner<'t, 'a>(
     parser: &mut Parser<'t, 'a>,
     depth: usize,
     owner: Box<Expression<'a>>,
-) -> Result<Box<Expression<'a>>, ParseError>
+) -> Parsed<Box<Expression<'a>>>
     ensures { TakesExpression result parser.new
         (spec.after_owner (spec.nested depth) (expression_tree owner.entry.value) (ahead parser.old)) }
 {
@@ -461,7 +437,7 @@ fn entry<'t, 'a>(
     parser: &mut Parser<'t, 'a>,
     depth: usize,
     owner: Box<Expression<'a>>,
-) -> Result<Box<Expression<'a>>, ParseError>
+) -> Parsed<Box<Expression<'a>>>
     ensures { TakesExpression result parser.new (spec.entry (spec.nested depth)
         (expression_tree owner.entry.value) (tail (ahead parser.old))) }
 {
@@ -485,10 +461,7 @@ fn entry<'t, 'a>(
 // `-` before its operand, or a primary with `++` or `--` before or after it, or with `.#` after it.
 #[cycle(expression)]
 #[tactic(auto, unfolding(crate::specs::Parse::unary))]
-fn unary<'t, 'a>(
-    parser: &mut Parser<'t, 'a>,
-    depth: usize,
-) -> Result<Box<Expression<'a>>, ParseError>
+fn unary<'t, 'a>(parser: &mut Parser<'t, 'a>, depth: usize) -> Parsed<Box<Expression<'a>>>
     ensures { TakesExpression result parser.new
         (spec.unary (spec.nested depth) (ahead parser.old)) }
 {
@@ -506,10 +479,7 @@ fn unary<'t, 'a>(
 #[cycle(expression)]
 #[inline(never)]
 #[tactic(auto, using(crate::proofs::Nested::nested_zero, crate::proofs::Nested::nested_prefix))]
-fn minus<'t, 'a>(
-    parser: &mut Parser<'t, 'a>,
-    depth: usize,
-) -> Result<Box<Expression<'a>>, ParseError>
+fn minus<'t, 'a>(parser: &mut Parser<'t, 'a>, depth: usize) -> Parsed<Box<Expression<'a>>>
     ensures { TakesExpression result parser.new
         (spec.minus (spec.nested depth) (length (ahead parser.old)) (tail (ahead parser.old))) }
 {
@@ -529,7 +499,7 @@ fn step_before<'t, 'a>(
     parser: &mut Parser<'t, 'a>,
     depth: usize,
     step: Step,
-) -> Result<Box<Expression<'a>>, ParseError>
+) -> Parsed<Box<Expression<'a>>>
     ensures { TakesExpression result parser.new
         (spec.unary_on (spec.nested depth) (ahead parser.old) (Some step)) }
 {
@@ -545,10 +515,7 @@ fn step_before<'t, 'a>(
 // A primary, with `++`, `--` or `.#` where it is followed by one.
 #[cycle(expression)]
 #[tactic(auto, unfolding(crate::specs::Parse::postfix))]
-fn postfix<'t, 'a>(
-    parser: &mut Parser<'t, 'a>,
-    depth: usize,
-) -> Result<Box<Expression<'a>>, ParseError>
+fn postfix<'t, 'a>(parser: &mut Parser<'t, 'a>, depth: usize) -> Parsed<Box<Expression<'a>>>
     ensures { TakesExpression result parser.new
         (spec.postfix (spec.nested depth) (ahead parser.old)) }
 {
@@ -561,10 +528,7 @@ fn postfix<'t, 'a>(
 // An operand without operators: what `atom` reads, and properties after it.
 #[cycle(expression)]
 #[tactic(auto, unfolding(crate::specs::Parse::primary))]
-fn primary<'t, 'a>(
-    parser: &mut Parser<'t, 'a>,
-    depth: usize,
-) -> Result<Box<Expression<'a>>, ParseError>
+fn primary<'t, 'a>(parser: &mut Parser<'t, 'a>, depth: usize) -> Parsed<Box<Expression<'a>>>
     ensures { TakesExpression result parser.new
         (spec.primary (spec.nested depth) (ahead parser.old)) }
 {
@@ -578,10 +542,7 @@ fn primary<'t, 'a>(
 // parentheses.
 #[cycle(expression)]
 #[tactic(auto, unfolding(crate::specs::Parse::atom))]
-fn atom<'t, 'a>(
-    parser: &mut Parser<'t, 'a>,
-    depth: usize,
-) -> Result<Box<Expression<'a>>, ParseError>
+fn atom<'t, 'a>(parser: &mut Parser<'t, 'a>, depth: usize) -> Parsed<Box<Expression<'a>>>
     ensures { TakesExpression result parser.new
         (spec.atom (spec.nested depth) (ahead parser.old)) }
 {
@@ -610,7 +571,7 @@ fn after_name<'t, 'a>(
     parser: &mut Parser<'t, 'a>,
     depth: usize,
     name: &Name<'a>,
-) -> Result<Box<Expression<'a>>, ParseError>
+) -> Parsed<Box<Expression<'a>>>
     ensures { TakesExpression result parser.new
         (spec.after_name (spec.nested depth) (name_tree name.now) (tail (ahead parser.old))) }
 {
@@ -627,10 +588,7 @@ fn after_name<'t, 'a>(
 #[cycle(expression)]
 #[inline(never)]
 #[tactic(auto, using(crate::proofs::Nested::nested_zero, crate::proofs::Nested::nested_whole))]
-fn within<'t, 'a>(
-    parser: &mut Parser<'t, 'a>,
-    depth: usize,
-) -> Result<Box<Expression<'a>>, ParseError>
+fn within<'t, 'a>(parser: &mut Parser<'t, 'a>, depth: usize) -> Parsed<Box<Expression<'a>>>
     ensures { TakesExpression result parser.new
         (spec.nested depth spec.whole (length (ahead parser.old)) (tail (ahead parser.old))) }
 {
@@ -642,10 +600,7 @@ fn within<'t, 'a>(
 // An expression in parentheses.
 #[cycle(expression)]
 #[tactic(auto, unfolding(crate::specs::Parse::in_parentheses))]
-fn in_parentheses<'t, 'a>(
-    parser: &mut Parser<'t, 'a>,
-    depth: usize,
-) -> Result<Box<Expression<'a>>, ParseError>
+fn in_parentheses<'t, 'a>(parser: &mut Parser<'t, 'a>, depth: usize) -> Parsed<Box<Expression<'a>>>
     ensures { TakesExpression result parser.new
         (spec.in_parentheses (spec.nested depth) (length (ahead parser.old)) (tail (ahead parser.old))) }
 {
@@ -661,7 +616,7 @@ fn reserved_word<'t, 'a>(
     parser: &mut Parser<'t, 'a>,
     depth: usize,
     word: Word,
-) -> Result<Box<Expression<'a>>, ParseError>
+) -> Parsed<Box<Expression<'a>>>
     ensures { TakesExpression result parser.new (spec.word_on (spec.nested depth) word
         (operators.relating_word word) (ahead parser.old)) }
 {
@@ -679,7 +634,7 @@ fn object_relative<'t, 'a>(
     parser: &mut Parser<'t, 'a>,
     depth: usize,
     relative: Relative,
-) -> Result<Box<Expression<'a>>, ParseError>
+) -> Parsed<Box<Expression<'a>>>
     ensures { TakesExpression result parser.new
         (spec.object_relative (spec.nested depth) relative (tail (ahead parser.old))) }
 {
@@ -700,7 +655,7 @@ fn rest_of_call<'t, 'a>(
     parser: &mut Parser<'t, 'a>,
     depth: usize,
     name: &Name<'a>,
-) -> Result<Box<Expression<'a>>, ParseError>
+) -> Parsed<Box<Expression<'a>>>
     ensures { TakesExpression result parser.new
         (spec.rest_of_call (spec.nested depth) (name_tree name.now) (ahead parser.old)) }
 {
@@ -717,10 +672,7 @@ fn rest_of_call<'t, 'a>(
 #[cycle(expression)]
 #[inline(never)]
 #[tactic(auto, using(syntax_trees::proofs::Loops::further_out, syntax_trees::proofs::Loops::further_done))]
-fn arguments<'t, 'a>(
-    parser: &mut Parser<'t, 'a>,
-    depth: usize,
-) -> Result<Vec<Expression<'a>>, ParseError>
+fn arguments<'t, 'a>(parser: &mut Parser<'t, 'a>, depth: usize) -> Parsed<Vec<Expression<'a>>>
     ensures { Takes (λ xs. map expression_tree xs.items) result parser.new (reading.list
         (reading.is_sign Sign.Comma) (spec.expression (spec.nested depth)) (ahead parser.old)) }
 {

@@ -21,7 +21,7 @@ use syntax_statement_parts::{
 use syntax_statements::parts::plain;
 use syntax_statements::{Statement, parts};
 use syntax_trees::{
-    Fault, ParseError, Parser, expect, expect_word, fault_at, is_sign, is_word, open, pass, peek,
+    Fault, Parsed, Parser, expect, expect_word, fault_at, is_sign, is_word, open, pass, peek,
 };
 
 // Whether the word begins a statement.
@@ -139,10 +139,7 @@ fn else_follows(tokens: &[Token<'_>]) -> bool
 /// - `Memory`: a growth is refused.
 #[cycle(statement)]
 #[tactic(auto, unfolding(syntax_statements::specs::Parse::statements), using(syntax_trees::proofs::Loops::joined_none))]
-pub fn statements<'t, 'a>(
-    parser: &mut Parser<'t, 'a>,
-    depth: usize,
-) -> Result<Vec<Statement<'a>>, ParseError>
+pub fn statements<'t, 'a>(parser: &mut Parser<'t, 'a>, depth: usize) -> Parsed<Vec<Statement<'a>>>
     ensures { Takes (λ xs. map statement_tree xs.items) result parser.new
         (spec.statements depth (ahead parser.old)) }
 {
@@ -166,7 +163,7 @@ fn add_next<'t, 'a>(
     parser: &mut Parser<'t, 'a>,
     depth: usize,
     row: &mut Vec<Statement<'a>>,
-) -> Result<(), ParseError>
+) -> Parsed<()>
     ensures { AddsStatement result row.old.items row.new.items parser.new
         (spec.statement depth (ahead parser.old)) }
 {
@@ -185,7 +182,7 @@ fn add_inside<'t, 'a>(
     parser: &mut Parser<'t, 'a>,
     depth: usize,
     row: &mut Vec<Statement<'a>>,
-) -> Result<(), ParseError>
+) -> Parsed<()>
     ensures { AddsStatement result row.old.items row.new.items parser.new
         (spec.inside depth (ahead parser.old)) }
 {
@@ -199,10 +196,7 @@ fn add_inside<'t, 'a>(
 // nesting, and so is each statement inside.
 #[cycle(statement)]
 #[tactic(auto, using(syntax_statements::proofs::Inside::braces_zero, syntax_statements::proofs::Inside::braces_last, syntax_statements::proofs::Inside::braces_empty, syntax_statements::proofs::Inside::braces_below))]
-fn braces<'t, 'a>(
-    parser: &mut Parser<'t, 'a>,
-    depth: usize,
-) -> Result<Vec<Statement<'a>>, ParseError>
+fn braces<'t, 'a>(parser: &mut Parser<'t, 'a>, depth: usize) -> Parsed<Vec<Statement<'a>>>
     ensures { Takes (λ xs. map statement_tree xs.items) result parser.new
         (spec.braces depth (length (ahead parser.old)) (tail (ahead parser.old))) }
 {
@@ -217,10 +211,7 @@ fn braces<'t, 'a>(
 
 // A block, from its brace on.
 #[cycle(statement)]
-fn block<'t, 'a>(
-    parser: &mut Parser<'t, 'a>,
-    depth: usize,
-) -> Result<Box<Statement<'a>>, ParseError>
+fn block<'t, 'a>(parser: &mut Parser<'t, 'a>, depth: usize) -> Parsed<Box<Statement<'a>>>
     ensures { TakesStatement result parser.new
         (spec.braced (spec.braces depth) (length (ahead parser.old)) (tail (ahead parser.old))) }
 {
@@ -233,10 +224,7 @@ fn block<'t, 'a>(
 // A statement one nesting further in than where `depth` may be opened.
 #[cycle(statement)]
 #[tactic(auto, using(syntax_statements::proofs::Inside::inside_zero, syntax_statements::proofs::Inside::inside_more))]
-fn further_in<'t, 'a>(
-    parser: &mut Parser<'t, 'a>,
-    depth: usize,
-) -> Result<Box<Statement<'a>>, ParseError>
+fn further_in<'t, 'a>(parser: &mut Parser<'t, 'a>, depth: usize) -> Parsed<Box<Statement<'a>>>
     ensures { TakesStatement result parser.new
         (spec.inside depth (ahead parser.old)) }
 {
@@ -251,7 +239,7 @@ fn choice<'t, 'a>(
     parser: &mut Parser<'t, 'a>,
     depth: usize,
     position: Position,
-) -> Result<Box<Statement<'a>>, ParseError>
+) -> Parsed<Box<Statement<'a>>>
     ensures { TakesStatement result parser.new
         (spec.choice depth (spec.inside depth) position (ahead parser.old)) }
 {
@@ -278,7 +266,7 @@ fn repetition<'t, 'a>(
     parser: &mut Parser<'t, 'a>,
     depth: usize,
     position: Position,
-) -> Result<Box<Statement<'a>>, ParseError>
+) -> Parsed<Box<Statement<'a>>>
     ensures { TakesStatement result parser.new
         (spec.repetition depth (spec.inside depth) position (ahead parser.old)) }
 {
@@ -292,10 +280,7 @@ fn repetition<'t, 'a>(
 // The statement after `do`.
 #[cycle(statement)]
 #[tactic(auto, unfolding(syntax_statements::specs::Parse::do_body))]
-fn do_body<'t, 'a>(
-    parser: &mut Parser<'t, 'a>,
-    depth: usize,
-) -> Result<Box<Statement<'a>>, ParseError>
+fn do_body<'t, 'a>(parser: &mut Parser<'t, 'a>, depth: usize) -> Parsed<Box<Statement<'a>>>
     ensures { TakesStatement result parser.new
         (spec.do_body (spec.inside depth) (ahead parser.old)) }
 {
@@ -312,7 +297,7 @@ fn until<'t, 'a>(
     parser: &mut Parser<'t, 'a>,
     depth: usize,
     position: Position,
-) -> Result<Box<Statement<'a>>, ParseError>
+) -> Parsed<Box<Statement<'a>>>
     ensures { TakesStatement result parser.new
         (spec.until depth (spec.inside depth) position (ahead parser.old)) }
 {
@@ -333,7 +318,7 @@ fn iteration<'t, 'a>(
     parser: &mut Parser<'t, 'a>,
     depth: usize,
     position: Position,
-) -> Result<Box<Statement<'a>>, ParseError>
+) -> Parsed<Box<Statement<'a>>>
     ensures { TakesStatement result parser.new
         (spec.iteration depth (spec.inside depth) position (ahead parser.old)) }
 {
@@ -351,7 +336,7 @@ fn traversal<'t, 'a>(
     parser: &mut Parser<'t, 'a>,
     depth: usize,
     position: Position,
-) -> Result<Box<Statement<'a>>, ParseError>
+) -> Parsed<Box<Statement<'a>>>
     ensures { TakesStatement result parser.new
         (spec.traversal depth (spec.inside depth) position (ahead parser.old)) }
 {
@@ -366,10 +351,7 @@ fn traversal<'t, 'a>(
 // each statement.
 #[cycle(statement)]
 #[tactic(auto, using(syntax_statements::proofs::Inside::bodies_zero))]
-fn bodies<'t, 'a>(
-    parser: &mut Parser<'t, 'a>,
-    depth: usize,
-) -> Result<Vec<Statement<'a>>, ParseError>
+fn bodies<'t, 'a>(parser: &mut Parser<'t, 'a>, depth: usize) -> Parsed<Vec<Statement<'a>>>
     ensures { Takes (λ xs. map statement_tree xs.items) result parser.new
         (spec.bodies depth (ahead parser.old)) }
 {
@@ -393,7 +375,7 @@ fn bodies<'t, 'a>(
 fn one_case<'t, 'a>(
     parser: &mut Parser<'t, 'a>,
     depth: usize,
-) -> Result<(Vec<Range<'a>>, Vec<Statement<'a>>), ParseError>
+) -> Parsed<(Vec<Range<'a>>, Vec<Statement<'a>>)>
     ensures { Takes case_tree result parser.new
         (spec.one_case (spec.bodies depth) (ahead parser.old)) }
 {
@@ -411,7 +393,7 @@ fn one_case<'t, 'a>(
 fn cases<'t, 'a>(
     parser: &mut Parser<'t, 'a>,
     depth: usize,
-) -> Result<Vec<(Vec<Range<'a>>, Vec<Statement<'a>>)>, ParseError>
+) -> Parsed<Vec<(Vec<Range<'a>>, Vec<Statement<'a>>)>>
     ensures { Takes (λ xs. map case_tree xs.items) result parser.new
         (spec.cases (spec.bodies depth) (ahead parser.old)) }
 {
@@ -434,7 +416,7 @@ fn cases<'t, 'a>(
 fn otherwise<'t, 'a>(
     parser: &mut Parser<'t, 'a>,
     depth: usize,
-) -> Result<Option<Vec<Statement<'a>>>, ParseError>
+) -> Parsed<Option<Vec<Statement<'a>>>>
     ensures { Takes other_tree result parser.new
         (spec.otherwise (spec.braces depth) (ahead parser.old)) }
 {
@@ -459,7 +441,7 @@ fn selection<'t, 'a>(
     parser: &mut Parser<'t, 'a>,
     depth: usize,
     position: Position,
-) -> Result<Box<Statement<'a>>, ParseError>
+) -> Parsed<Box<Statement<'a>>>
     ensures { TakesStatement result parser.new
         (spec.selection depth (spec.braces depth)
         (spec.bodies depth) position (ahead parser.old)) }
@@ -478,10 +460,7 @@ fn selection<'t, 'a>(
 // A statement in which `depth` nestings more may be opened.
 #[cycle(statement)]
 #[tactic(auto, unfolding(syntax_statements::specs::Parse::statement, syntax_statements::specs::Parse::statement_over))]
-fn statement<'t, 'a>(
-    parser: &mut Parser<'t, 'a>,
-    depth: usize,
-) -> Result<Box<Statement<'a>>, ParseError>
+fn statement<'t, 'a>(parser: &mut Parser<'t, 'a>, depth: usize) -> Parsed<Box<Statement<'a>>>
     ensures { TakesStatement result parser.new
         (spec.statement depth (ahead parser.old)) }
 {

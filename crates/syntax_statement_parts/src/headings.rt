@@ -10,7 +10,7 @@ use crate::effects::has_effect;
 use crate::tree::Heading;
 use syntax_expressions::expression;
 use syntax_lexer::Sign;
-use syntax_trees::{Expression, Fault, ParseError, Parser, expect, fault_at, is_sign, open, peek};
+use syntax_trees::{Expression, Fault, Parsed, Parser, expect, fault_at, is_sign, open, peek};
 
 // An expression, where the sign that follows it is not the next token.
 #[tactic(auto, unfolding(crate::specs::Parse::optional))]
@@ -18,7 +18,7 @@ fn optional<'t, 'a>(
     parser: &mut Parser<'t, 'a>,
     depth: usize,
     after: Sign,
-) -> Result<Option<Box<Expression<'a>>>, ParseError>
+) -> Parsed<Option<Box<Expression<'a>>>>
     ensures { Takes part_tree result parser.new (spec.optional depth after (ahead parser.old)) }
 {
     if is_sign(peek(parser.tokens), after) {
@@ -46,7 +46,7 @@ fn optional_effect<'t, 'a>(
     parser: &mut Parser<'t, 'a>,
     depth: usize,
     after: Sign,
-) -> Result<Option<Box<Expression<'a>>>, ParseError>
+) -> Parsed<Option<Box<Expression<'a>>>>
     ensures { Takes part_tree result parser.new
         (spec.optional_effect depth after (ahead parser.old)) }
 {
@@ -63,10 +63,7 @@ fn optional_effect<'t, 'a>(
 
 // The parts, with the parenthesis after them.
 #[tactic(auto, unfolding(crate::specs::Parse::heading))]
-fn heading<'t, 'a>(
-    parser: &mut Parser<'t, 'a>,
-    depth: usize,
-) -> Result<Box<Heading<'a>>, ParseError>
+fn heading<'t, 'a>(parser: &mut Parser<'t, 'a>, depth: usize) -> Parsed<Box<Heading<'a>>>
     ensures { Takes (λ x. heading_tree x.value) result parser.new
         (spec.heading depth (ahead parser.old)) }
 {
@@ -94,7 +91,7 @@ fn heading<'t, 'a>(
 pub fn enclosed_heading<'t, 'a>(
     parser: &mut Parser<'t, 'a>,
     depth: usize,
-) -> Result<Box<Heading<'a>>, ParseError>
+) -> Parsed<Box<Heading<'a>>>
     ensures gives { Takes (λ x. heading_tree x.value) result parser.new
         (spec.enclosed_heading depth (ahead parser.old)) }
     ensures open { IfOk result (λ x. 0 < depth) }

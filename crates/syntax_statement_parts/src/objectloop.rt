@@ -12,7 +12,7 @@ use syntax_expression_parts::name_of;
 use syntax_expressions::condition;
 use syntax_lexer::Sign;
 use syntax_trees::{
-    Containment, Expression, Fault, Name, ParseError, Parser, expect, fault_at, open, peek,
+    Containment, Expression, Fault, Name, Parsed, Parser, expect, fault_at, open, peek,
 };
 
 // The name that the expression is alone.
@@ -118,7 +118,7 @@ fn loop_of<'a>(variable: Name<'a>, found: Box<Expression<'a>>) -> Loop<'a>
 
 // What the loop goes over, with the parenthesis after it.
 #[tactic(auto, unfolding(crate::specs::Parse::looped), using(syntax_expression_parts::proofs::NamesRead::name_found, syntax_expression_parts::proofs::NamesRead::no_name))]
-fn looped<'t, 'a>(parser: &mut Parser<'t, 'a>, depth: usize) -> Result<Box<Loop<'a>>, ParseError>
+fn looped<'t, 'a>(parser: &mut Parser<'t, 'a>, depth: usize) -> Parsed<Box<Loop<'a>>>
     ensures { Takes (λ x. loop_tree x.value) result parser.new
         (spec.looped depth (ahead parser.old)) }
 {
@@ -137,10 +137,7 @@ fn looped<'t, 'a>(parser: &mut Parser<'t, 'a>, depth: usize) -> Result<Box<Loop<
 /// Those of `condition`; `Fault::Grammar` where a parenthesis is missing, and at a first token
 /// that is no name; `Fault::Deep` where no nesting is left.
 #[tactic(auto, unfolding(crate::specs::Parse::enclosed_loop), using(crate::proofs::Inside::looped_zero, crate::proofs::Inside::looped_more))]
-pub fn enclosed_loop<'t, 'a>(
-    parser: &mut Parser<'t, 'a>,
-    depth: usize,
-) -> Result<Box<Loop<'a>>, ParseError>
+pub fn enclosed_loop<'t, 'a>(parser: &mut Parser<'t, 'a>, depth: usize) -> Parsed<Box<Loop<'a>>>
     ensures gives { Takes (λ x. loop_tree x.value) result parser.new
         (spec.enclosed_loop depth (ahead parser.old)) }
     ensures open { IfOk result (λ x. 0 < depth) }

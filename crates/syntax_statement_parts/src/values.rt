@@ -10,10 +10,10 @@ ghost use Rattle.syntax_statement_parts.specs.Parse as spec;
 
 use crate::tree::{Literal, Range};
 use syntax_lexer::{Kind, Sign, Token, Word};
-use syntax_trees::{Fault, Name, ParseError, Parser, fault_at, is_sign, is_word, pass, peek, skip};
+use syntax_trees::{Fault, Name, Parsed, Parser, fault_at, is_sign, is_word, pass, peek, skip};
 
 // The number after a `-`.
-fn negative<'t, 'a>(parser: &mut Parser<'t, 'a>) -> Result<Literal<'a>, ParseError>
+fn negative<'t, 'a>(parser: &mut Parser<'t, 'a>) -> Parsed<Literal<'a>>
     ensures { Takes literal_tree result parser.new
         (spec.negative_on (head (ahead parser.old)) (ahead parser.old)) }
 {
@@ -32,7 +32,7 @@ fn negative<'t, 'a>(parser: &mut Parser<'t, 'a>) -> Result<Literal<'a>, ParseErr
 ///
 /// `Fault::Grammar`: the tokens begin no value.
 #[tactic(auto, unfolding(crate::specs::Parse::known_value))]
-pub fn known_value<'t, 'a>(parser: &mut Parser<'t, 'a>) -> Result<Literal<'a>, ParseError>
+pub fn known_value<'t, 'a>(parser: &mut Parser<'t, 'a>) -> Parsed<Literal<'a>>
     ensures { Takes literal_tree result parser.new (spec.known_value (ahead parser.old)) }
 {
     let opening = parser.tokens;
@@ -105,7 +105,7 @@ pub fn begins_case(tokens: &[Token<'_>]) -> bool
 
 // The values for which a case is meant: one alone, or those from one to another.
 #[tactic(auto, unfolding(crate::specs::Parse::range))]
-fn range<'t, 'a>(parser: &mut Parser<'t, 'a>) -> Result<Range<'a>, ParseError>
+fn range<'t, 'a>(parser: &mut Parser<'t, 'a>) -> Parsed<Range<'a>>
     ensures { Takes range_tree result parser.new (spec.range (ahead parser.old)) }
 {
     let low = known_value(parser)?;
@@ -127,7 +127,7 @@ fn range<'t, 'a>(parser: &mut Parser<'t, 'a>) -> Result<Range<'a>, ParseError>
 ///
 /// `Fault::Grammar`: the tokens begin no value; `Memory`: a growth is refused.
 #[tactic(auto, unfolding(crate::specs::Parse::ranges, syntax_trees::specs::Parse::list), using(syntax_trees::proofs::Loops::further_out, syntax_trees::proofs::Loops::further_done, syntax_trees::proofs::Loops::further_more, syntax_trees::proofs::Loops::further_fails))]
-pub fn ranges<'t, 'a>(parser: &mut Parser<'t, 'a>) -> Result<Vec<Range<'a>>, ParseError>
+pub fn ranges<'t, 'a>(parser: &mut Parser<'t, 'a>) -> Parsed<Vec<Range<'a>>>
     ensures { Takes (λ xs. map range_tree xs.items) result parser.new
         (spec.ranges (ahead parser.old)) }
 {

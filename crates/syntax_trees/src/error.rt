@@ -29,6 +29,9 @@ pub enum ParseError {
     Fault(Fault, usize),
 }
 
+/// What is read, or why nothing is.
+pub type Parsed<T> = Result<T, ParseError>;
+
 impl From<AllocError> for ParseError {
     ghost from_gives = { λ _ e. e ≡ Memory };
 

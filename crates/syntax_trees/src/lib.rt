@@ -8,7 +8,7 @@ mod parser;
 mod tokens;
 mod tree;
 
-pub use error::{Fault, ParseError};
+pub use error::{Fault, ParseError, Parsed};
 pub use parser::{Parser, expect, expect_word, pass};
 pub use tokens::{fault_at, is_sign, is_word, open, peek, position, skip};
 pub use tree::{

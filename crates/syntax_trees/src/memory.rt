@@ -7,11 +7,11 @@
 
 ghost use Rattle.std.specs.Prelude.{◌≡◌, ◌<◌, IfErr, IfOk, [], ◌∷◌, ◌++◌, vec_capacity, vec_len};
 
-use crate::error::ParseError;
+use crate::error::{ParseError, Parsed};
 use std::alloc::Global;
 
 /// The value in a box.
-pub fn in_box<T: Drop>(alloc: Global, value: T) -> Result<Box<T>, ParseError>
+pub fn in_box<T: Drop>(alloc: Global, value: T) -> Parsed<Box<T>>
     ensures ok { IfOk result (λ x. x.value ≡ value) }
     ensures err { IfErr result (λ e. e ≡ ParseError.Memory) }
 {
@@ -25,7 +25,7 @@ pub fn in_box<T: Drop>(alloc: Global, value: T) -> Result<Box<T>, ParseError>
 /// takes, and a first `push` would ask for several places.
 ///
 /// The value is made after this, in its place: a value that is there before is copied on its way.
-pub fn make_room<T>(row: &mut Vec<T>) -> Result<(), ParseError>
+pub fn make_room<T>(row: &mut Vec<T>) -> Parsed<()>
     ensures items { row.new.items ≡ row.old.items }
     ensures ok { IfOk result (λ _. vec_len row.new < vec_capacity row.new) }
     ensures err { IfErr result (λ e. e ≡ ParseError.Memory) }
@@ -38,7 +38,7 @@ pub fn make_room<T>(row: &mut Vec<T>) -> Result<(), ParseError>
 }
 
 /// The value at the end of a row.
-pub fn push<T: Drop>(row: &mut Vec<T>, value: T) -> Result<(), ParseError>
+pub fn push<T: Drop>(row: &mut Vec<T>, value: T) -> Parsed<()>
     ensures ok { IfOk result (λ _. row.new.items ≡ row.old.items ++ value ∷ []) }
     ensures stays { IfErr result (λ _. row.new.items ≡ row.old.items) }
     ensures err { IfErr result (λ e. e ≡ ParseError.Memory) }
@@ -56,7 +56,7 @@ pub fn push<T: Drop>(row: &mut Vec<T>, value: T) -> Result<(), ParseError>
 }
 
 /// The value in the box at the end of a row.
-pub fn push_boxed<T: Drop>(row: &mut Vec<T>, next: Box<T>) -> Result<(), ParseError>
+pub fn push_boxed<T: Drop>(row: &mut Vec<T>, next: Box<T>) -> Parsed<()>
     ensures ok { IfOk result (λ _. row.new.items ≡ row.old.items ++ next.value ∷ []) }
     ensures stays { IfErr result (λ _. row.new.items ≡ row.old.items) }
     ensures err { IfErr result (λ e. e ≡ ParseError.Memory) }

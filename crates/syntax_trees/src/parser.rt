@@ -9,7 +9,7 @@ ghost use Rattle.syntax_trees.specs.Parse as spec;
 ghost use Rattle.syntax_trees.specs.Parse.{Gives};
 ghost use Rattle.syntax_trees.specs.Returned.{ahead};
 
-use crate::error::{Fault, ParseError};
+use crate::error::{Fault, Parsed};
 use crate::tokens::{fault_at, is_sign, is_word, peek, skip};
 use std::alloc::Global;
 use syntax_lexer::{Sign, Token, Word};
@@ -34,7 +34,7 @@ pub fn pass<'t, 'a>(parser: &mut Parser<'t, 'a>)
 ///
 /// `Fault::Grammar` at the next token: it is not that sign.
 #[tactic(auto, unfolding(crate::specs::Parse::expect))]
-pub fn expect<'t, 'a>(parser: &mut Parser<'t, 'a>, sign: Sign) -> Result<(), ParseError>
+pub fn expect<'t, 'a>(parser: &mut Parser<'t, 'a>, sign: Sign) -> Parsed<()>
     ensures { Gives (λ _. ahead parser.new) result (spec.expect sign (ahead parser.old)) }
 {
     if !is_sign(peek(parser.tokens), sign) {
@@ -50,7 +50,7 @@ pub fn expect<'t, 'a>(parser: &mut Parser<'t, 'a>, sign: Sign) -> Result<(), Par
 ///
 /// `Fault::Grammar` at the next token: it is not that word.
 #[tactic(auto, unfolding(crate::specs::Parse::expect_word))]
-pub fn expect_word<'t, 'a>(parser: &mut Parser<'t, 'a>, word: Word) -> Result<(), ParseError>
+pub fn expect_word<'t, 'a>(parser: &mut Parser<'t, 'a>, word: Word) -> Parsed<()>
     ensures { Gives (λ _. ahead parser.new) result (spec.expect_word word (ahead parser.old)) }
 {
     if !is_word(peek(parser.tokens), word) {

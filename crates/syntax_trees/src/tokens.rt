@@ -5,7 +5,7 @@ ghost use Rattle.syntax_lexer.specs.Token.{lexeme, lexemes, position_of};
 ghost use Rattle.syntax_trees.specs.Errors as errors;
 ghost use Rattle.syntax_trees.specs.Parse as spec;
 
-use crate::error::{Fault, ParseError};
+use crate::error::{Fault, ParseError, Parsed};
 use syntax_lexer::{Kind, Position, Sign, Token, Word};
 
 /// The token that comes next. Without one it is an end of the source, at line 0.
@@ -79,7 +79,7 @@ pub fn fault_at(fault: Fault, tokens: &[Token<'_>]) -> ParseError
 /// # Errors
 ///
 /// `Fault::Deep` at that token: no nesting is left.
-pub fn open<'a>(depth: usize, tokens: &[Token<'a>]) -> Result<usize, ParseError>
+pub fn open<'a>(depth: usize, tokens: &[Token<'a>]) -> Parsed<usize>
     ensures opened { IfOk result (λ inside. depth ≡ inside + 1) }
     ensures refused { IfErr result (λ e. (depth ≡ 0)
         × (e ≡ ParseError.Fault Fault.Deep (length (lexemes tokens.now)))) }
