@@ -183,8 +183,13 @@ fn print_any_character(
     })
 }
 
-/// Prints the text at an address, and goes on.
-fn print_any_address(
+/// Prints the text at an address by the story's alphabets, and goes on.
+///
+/// # Errors
+///
+/// M3 where it passes the memory that can be read, M10 where an abbreviation is in another or there
+/// are none, the limit of text. `End::Memory` where memory was refused: the turn is given up.
+pub fn print_any_address(
     store: &mut Recorded<Store>,
     text: &mut Vec<u8>,
     start: usize,

@@ -2,12 +2,21 @@
 //! versions 1 to 8, but for those of version 6 alone.
 
 ghost use Rattle.std.specs.Prelude.{◌≡◌, ◌≤◌, None, IfSome, is_some};
+ghost use Rattle.zcore.specs.Operations as profile;
 ghost use Rattle.zcore_standard.specs.Operations as table;
-ghost use Rattle.zcore_standard.specs.Rows.{standard_in, with_row};
+ghost use Rattle.zcore_standard.specs.Rows.{newest, said_by, said_in, says, standard_in, with_row};
+ghost use Rattle.zcore_standard.specs.OlderOpcodes.{action_in, as_older, older_by, older_in};
+ghost use Rattle.zcore_standard.specs.declared.opcode.Numbering.TheVariants as numberings;
 
 use crate::opcode::{Numbering, Opcode};
-use crate::operations::StandardOperation;
+use crate::operations::{OlderOperation, StandardOperation};
 use zcore::{OpcodeRow, OperandCount, Operation};
+
+/// The first version.
+const FIRST: u8 = 1;
+
+/// The last version that has the older opcodes.
+const LAST_OLDER: u8 = 4;
 
 /// The last version.
 const LAST: u8 = 8;
@@ -20,9 +29,6 @@ pub struct Row {
 
     /// The first version that has it.
     pub since: u8,
-
-    /// The last one.
-    pub until: u8,
 
     /// How many operands it takes, and what follows them.
     pub shape: OpcodeRow,
@@ -43,8 +49,8 @@ pub enum Action {
     /// An operation that the profile does not have.
     Standard(StandardOperation),
 
-    /// What it did in versions up to 4 only. No machine here plays these.
-    Older,
+    /// An operation of versions up to 4 only.
+    Older(OlderOperation),
 }
 
 /// Where the machine goes on after an instruction.
@@ -238,7 +244,6 @@ macro_rules! row_of {
             $($number => Some(Row {
                 name: $name,
                 since: $since,
-                until: LAST,
                 shape: Operation::$operation.row(),
                 flow: Flow::$flow,
                 action: Action::Profile(Operation::$operation),
@@ -246,7 +251,6 @@ macro_rules! row_of {
             $($n => Some(Row {
                 name: $m,
                 since: $s,
-                until: LAST,
                 shape: shape!($count $n $follows $least $most),
                 flow: Flow::$f,
                 action: Action::Standard(StandardOperation::$o),
@@ -300,43 +304,52 @@ macro_rules! has_branch {
     ($other:ident) => { false };
 }
 
-/// The opcodes that did something else up to version 4, with the first and the last version.
+/// The opcodes that did something else up to version 4, and what follows the operands and how many of
+/// them there are, up to version 3 and in version 4.
 macro_rules! older_opcodes {
-    ($opcode:expr, $version:expr) => {
-        older_row! {
-            $opcode, $version,
-            One 15 "not" 1 4 storing 1 1,
-            Zero 5 "save" 1 3 branching 0 0,
-            Zero 5 "save" 4 4 storing 0 0,
-            Zero 6 "restore" 1 3 branching 0 0,
-            Zero 6 "restore" 4 4 storing 0 0,
-            Zero 9 "pop" 1 4 plain 0 0,
-            Several 4 "sread" 1 3 plain 2 2,
-            Several 4 "sread" 4 4 plain 2 4,
+    (One $number:expr, $version:expr) => {
+        older_row_of! {
+            $number, $version, One,
+            15 "not" storing 1 1 storing 1 1 Not,
+        }
+    };
+    (Zero $number:expr, $version:expr) => {
+        older_row_of! {
+            $number, $version, Zero,
+            5 "save" branching 0 0 storing 0 0 Save,
+            6 "restore" branching 0 0 storing 0 0 Restore,
+            9 "pop" plain 0 0 plain 0 0 Pop,
+        }
+    };
+    (Several $number:expr, $version:expr) => {
+        older_row_of! {
+            $number, $version, Several,
+            4 "sread" plain 2 2 plain 2 4 Read,
         }
     };
 }
 
-/// The row among these that an opcode has in a version.
-macro_rules! older_row {
+/// The row among these that has a number.
+macro_rules! older_row_of {
     (
-        $opcode:expr, $version:expr,
-        $($count:ident $number:literal $name:literal $since:literal $until:literal
-            $follows:ident $least:literal $most:literal,)*
+        $value:expr, $version:expr, $count:ident,
+        $($number:literal $name:literal $follows:ident $least:literal $most:literal
+            $follows_in_4:ident $least_in_4:literal $most_in_4:literal $operation:ident,)*
     ) => {
-        $(if $opcode == (Opcode { numbering: Numbering::$count, number: $number })
-            && $since <= $version
-            && $version <= $until
-        {
-            return Some(Row {
+        match $value {
+            $($number => Some(Row {
                 name: $name,
-                since: $since,
-                until: $until,
-                shape: shape!($count $number $follows $least $most),
+                since: FIRST,
+                shape: if $version < LAST_OLDER {
+                    shape!($count $number $follows $least $most)
+                } else {
+                    shape!($count $number $follows_in_4 $least_in_4 $most_in_4)
+                },
                 flow: Flow::Next,
-                action: Action::Older,
-            });
-        })*
+                action: Action::Older(OlderOperation::$operation),
+            }),)*
+            _ => None,
+        }
     };
 }
 
@@ -344,10 +357,11 @@ impl Opcode {
     /// The row that the opcode has in a version of the story file. `None` where that version does not
     /// have it.
     pub fn row(self, version: u8) -> Option<Row>
-        ensures { IfSome result (λ row. (row.since ≤ version) × (version ≤ row.until)) }
+        ensures since { IfSome result (λ row. row.since ≤ version) }
+        ensures said { said_in result ≡ said_by version (action_in version self) }
     {
         match self.last_row() {
-            Some(row) if row.since <= version && version <= row.until => Some(row),
+            Some(row) if row.since <= version && version <= LAST => Some(row),
             _ => self.older_row(version),
         }
     }
@@ -395,7 +409,7 @@ impl Opcode {
 
     /// Its row in the versions from 5 on.
     fn last_row(self) -> Option<Row>
-        ensures { standard_in result ≡ with_row (table.standard_of self) }
+        ensures { says result ≡ newest (table.profile_of self) (table.standard_of self) }
     {
         match self.numbering {
             Numbering::Two => two(self.number),
@@ -408,10 +422,18 @@ impl Opcode {
 
     /// Its row in a version up to 4, where it did something else.
     fn older_row(self, version: u8) -> Option<Row>
-        ensures { IfSome result (λ row. (row.since ≤ version) × (version ≤ row.until)) }
+        ensures since { IfSome result (λ row. row.since ≤ version) }
+        ensures said { said_in result ≡ said_by version (older_in version self) }
     {
-        older_opcodes!(self, version);
-        None
+        if version < FIRST || LAST_OLDER < version {
+            return None;
+        }
+        match self.numbering {
+            Numbering::One => older_one(self.number, version),
+            Numbering::Zero => older_zero(self.number, version),
+            Numbering::Several => older_several(self.number, version),
+            Numbering::Two | Numbering::Extended => None,
+        }
     }
 }
 
@@ -423,41 +445,41 @@ fn standard_in(row: Option<Row>) -> Option<(StandardOperation, OpcodeRow)>
     match row.action {
         Action::Standard(operation) => Some((operation, row.shape)),
         Action::Profile(_) => None,
-        Action::Older => None,
+        Action::Older(_) => None,
     }
 }
 
 /// The row of an opcode with two operands.
 fn two(number: u8) -> Option<Row>
-    ensures { standard_in result ≡ with_row (table.two_operand number) }
+    ensures { says result ≡ newest (profile.two_operand number) (table.two_operand number) }
 {
     opcodes!(Two row_of number)
 }
 
 /// That of one with one operand.
 fn one(number: u8) -> Option<Row>
-    ensures { standard_in result ≡ None }
+    ensures { says result ≡ newest (profile.one_operand number) None }
 {
     opcodes!(One row_of number)
 }
 
 /// That of one without operands.
 fn zero(number: u8) -> Option<Row>
-    ensures { standard_in result ≡ with_row (table.no_operand number) }
+    ensures { says result ≡ newest (profile.no_operand number) (table.no_operand number) }
 {
     opcodes!(Zero row_of number)
 }
 
 /// That of one with any number of operands.
 fn several(number: u8) -> Option<Row>
-    ensures { standard_in result ≡ with_row (table.several_operand number) }
+    ensures { says result ≡ newest (profile.several_operand number) (table.several_operand number) }
 {
     opcodes!(Several row_of number)
 }
 
 /// That of an extended one.
 fn extended(number: u8) -> Option<Row>
-    ensures { standard_in result ≡ with_row (table.extended number) }
+    ensures { says result ≡ newest None (table.extended number) }
 {
     opcodes!(Extended row_of number)
 }
@@ -488,4 +510,31 @@ fn is_extended(number: u8) -> bool
     ensures { result ≡ is_some (table.extended number) }
 {
     opcodes!(Extended is_standard number)
+}
+
+/// The row of an opcode with one operand that did something else up to version 4.
+fn older_one(number: u8, version: u8) -> Option<Row>
+    requires { 1 ≤ version }
+    ensures since { IfSome result (λ row. row.since ≤ version) }
+    ensures said { said_in result ≡ said_by version (as_older (older_by numberings.One number)) }
+{
+    older_opcodes!(One number, version)
+}
+
+/// That of one without operands.
+fn older_zero(number: u8, version: u8) -> Option<Row>
+    requires { 1 ≤ version }
+    ensures since { IfSome result (λ row. row.since ≤ version) }
+    ensures said { said_in result ≡ said_by version (as_older (older_by numberings.Zero number)) }
+{
+    older_opcodes!(Zero number, version)
+}
+
+/// That of one with any number of operands.
+fn older_several(number: u8, version: u8) -> Option<Row>
+    requires { 1 ≤ version }
+    ensures since { IfSome result (λ row. row.since ≤ version) }
+    ensures said { said_in result ≡ said_by version (as_older (older_by numberings.Several number)) }
+{
+    older_opcodes!(Several number, version)
 }
