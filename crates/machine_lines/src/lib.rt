@@ -6,4 +6,6 @@ mod fill;
 mod line;
 mod parse;
 
-pub use line::{give_line, test_parse_buffer, test_text_buffer, wait};
+pub use fill::{fill, fill_counted};
+pub use line::{give_line, lower_case, test_parse_buffer, test_text_buffer, wait};
+pub use parse::separators;

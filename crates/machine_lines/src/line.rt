@@ -256,9 +256,9 @@ fn lower(line: &[u8], letters: &mut [u8; 255])
     }
 }
 
-/// A capital as a small letter.
+/// A capital of ASCII as a small letter.
 #[inline]
-fn lower_case(letter: u8) -> u8
+pub fn lower_case(letter: u8) -> u8
     ensures { result ≡ texts.lower_case letter }
 {
     if b'A' <= letter && letter <= b'Z' {

@@ -10,7 +10,7 @@ put-requires-clause-within c = byte_within _ _ (omega (arith, c.type_inv.bytes c
 pub loop-i-preserved : goal.loop-i-preserved
 loop-i-preserved c =
     fill_more c.args.store.now c.loop-i.store c.put.new.self c.args.bytes.now c.args.at c.loop-i.i _
-    c.loop-i.invariant refl c.loop-i-test.true c.requires.behind_header c.requires.room c.in_ok-put.ensures.cells
+    c.loop-i.invariant refl c.loop-i-test.true c.requires.after_header c.requires.room c.in_ok-put.ensures.cells
     c.put.ensures.fixed c.in_ok-put.ensures.beginning
 
 pub overflow_add-at : goal.overflow_add-at
