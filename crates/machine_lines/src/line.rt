@@ -11,7 +11,7 @@ ghost use Rattle.machine_frames.specs.Playing.{IsWaiting, TakesLine};
 ghost use Rattle.machine_frames.specs.States.{IsSound, IsStoreOf};
 ghost use Rattle.machine_frames.specs.Went.{GivenUp, Went};
 
-use crate::fill::fill_counted;
+use crate::bytes::fill_counted;
 use crate::parse::{USUAL_LENGTH, USUAL_WORDS, WORDS_LENGTH, parse};
 use journal::{NoMemory, Recorded};
 use machine_frames::layout::{PARSE_BUFFER, RESULT_VARIABLE, RETURN_ADDRESS, TEXT_BUFFER, WAITING};
