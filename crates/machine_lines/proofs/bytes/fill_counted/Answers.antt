@@ -1,7 +1,7 @@
 use Rattle.std.proofs.Common.{arith}
 use Rattle.machine_frames.proofs.Kept.{length-memory}
 use Rattle.machine_lines.proofs.Filling.{counted_filled}
-use Rattle.machine_lines.proofs.fill.fill_counted.Goals as goal
+use Rattle.machine_lines.proofs.bytes.fill_counted.Goals as goal
 
 pub overflow_add-at : goal.overflow_add-at
 overflow_add-at c = omega (

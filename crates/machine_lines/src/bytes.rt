@@ -1,9 +1,8 @@
 //! Bytes that are written to dynamic memory one after another.
 
-ghost use Rattle.std.specs.Prelude.{◌≡◌, ◌+◌, ◌≤◌, ◌∷◌, ℕ, List, length, OnOk, OnErr};
+ghost use Rattle.std.specs.Prelude.{◌+◌, ◌≤◌, ◌∷◌, length, OnOk, OnErr};
 ghost use Rattle.zcore.specs.Header.{static_base_of};
 ghost use Rattle.zcore.specs.Layout.{header_size};
-ghost use Rattle.zcore_standard.specs.Words.{are_writable};
 ghost use Rattle.machine_frames.specs.Contents.{memory_of};
 ghost use Rattle.machine_lines.specs.Lines.{Fills};
 ghost use Rattle.machine_frames.specs.States.{IsSound};
@@ -12,28 +11,20 @@ ghost use Rattle.machine_frames.specs.Went.{GivenUp};
 use journal::{NoMemory, Recorded};
 use machine_frames::Store;
 use machine_frames::layout::MEMORY;
-use zcore::layout::HEADER_LENGTH;
 
-/// Whether so many bytes from an address on are in dynamic memory after the header, in a story with
-/// this static base.
-pub(crate) fn are_writable(static_base: u16, at: usize, count: usize) -> bool
-    requires address { at ≤ 65535 }
-    requires few { count ≤ 65535 }
-    ensures { (memory : List ℕ) → static_base ≡ static_base_of memory
-        → result ≡ are_writable memory at count }
-{
-    HEADER_LENGTH <= at && at + count <= static_base as usize
-}
-
-/// Writes a byte with a count, and the bytes after it.
-pub(crate) fn fill_counted(
+/// Writes a byte with a count, and the bytes after it, to dynamic memory after the header.
+///
+/// # Errors
+///
+/// `NoMemory` where memory was refused: the turn is given up.
+pub fn fill_counted(
     store: &mut Recorded<Store>,
     at: usize,
     count: u8,
     bytes: &[u8],
 ) -> Result<(), NoMemory>
     requires sound { IsSound store.old.store }
-    requires behind_header { header_size ≤ at }
+    requires after_header { header_size ≤ at }
     requires room { at + 1 + length bytes.now ≤ static_base_of (memory_of store.old.store) }
     ensures filled { OnOk result (Fills store.old store.new at (count ∷ bytes.now)) }
     ensures given_up { OnErr result (GivenUp store.old store.new) }
@@ -43,9 +34,13 @@ pub(crate) fn fill_counted(
 }
 
 /// Writes bytes one after another to dynamic memory after the header.
-pub(crate) fn fill(store: &mut Recorded<Store>, at: usize, bytes: &[u8]) -> Result<(), NoMemory>
+///
+/// # Errors
+///
+/// `NoMemory` where memory was refused: the turn is given up.
+pub fn fill(store: &mut Recorded<Store>, at: usize, bytes: &[u8]) -> Result<(), NoMemory>
     requires sound { IsSound store.old.store }
-    requires behind_header { header_size ≤ at }
+    requires after_header { header_size ≤ at }
     requires room { at + length bytes.now ≤ static_base_of (memory_of store.old.store) }
     ensures filled { OnOk result (Fills store.old store.new at bytes.now) }
     ensures given_up { OnErr result (GivenUp store.old store.new) }

@@ -2,7 +2,7 @@ use Rattle.std.proofs.Common.{arith, refl}
 use Rattle.machine_frames.proofs.Bytes.{byte_within}
 use Rattle.machine_frames.proofs.Kept.{length-memory}
 use Rattle.machine_lines.proofs.Filling.{fill_more}
-use Rattle.machine_standard_words.proofs.fill.fill.Goals as goal
+use Rattle.machine_lines.proofs.bytes.fill.Goals as goal
 
 pub put-requires-clause-within : goal.put-requires-clause-within
 put-requires-clause-within c = byte_within _ _ (omega (arith, c.type_inv.bytes c.loop-i.i))
@@ -10,7 +10,7 @@ put-requires-clause-within c = byte_within _ _ (omega (arith, c.type_inv.bytes c
 pub loop-i-preserved : goal.loop-i-preserved
 loop-i-preserved c =
     fill_more c.args.store.now c.loop-i.store c.put.new.self c.args.bytes.now c.args.at c.loop-i.i _
-    c.loop-i.invariant refl c.loop-i-test.true c.requires.behind_header c.requires.room c.in_ok-put.ensures.cells
+    c.loop-i.invariant refl c.loop-i-test.true c.requires.after_header c.requires.room c.in_ok-put.ensures.cells
     c.put.ensures.fixed c.in_ok-put.ensures.beginning
 
 pub overflow_add-at : goal.overflow_add-at
