@@ -67,6 +67,7 @@ no_locks (suc (suc (suc n))) e = refl
 played_version : (version : StoryVersion) → is_played version.number ≡ true
     → (version.routine_offset ≤ longest_story) × (version.text_offset ≤ longest_story) → IsPlayedVersion version
 played_version version played near = record {
+  played = played;
   unlocked = no_locks version.number played;
   routines = near.0;
   texts = near.1;

@@ -9,20 +9,18 @@ use Rattle.zcore.specs.declared.next.Next.{Next}
 use Rattle.zcore.specs.declared.place.Place.{Place}
 use Rattle.zcore.specs.declared.place.Place.TheVariants as places
 use Rattle.zcore.specs.State.{State, Out, done, halt}
-use Rattle.zcore.specs.Execution.{step}
-use Rattle.zcore.specs.Turn.{Reaches, ReachesBy, TurnsBy, Whole, ended, first_next, first_state, notice}
+use Rattle.zcore.specs.Turn.{ReachesBy, TurnsBy, Whole, ended, first_next, first_state, notice}
 use Rattle.zcore_standard_laws.specs.Laws.{ends_in_fault, is_plain, closes_none}
 use Rattle.zcore_standard.specs.Place.{Here, plain, within}
 use Rattle.zcore_standard.specs.Loaded.{Loaded}
-use Rattle.zcore_standard.specs.Machine.{standard_step, standard_ended, shown, with_standard_state, begins}
+use Rattle.zcore_standard.specs.Machine.{standard_ended, shown, with_standard_state, begins}
 use Rattle.zcore_standard.specs.Windows.{begun_at, lower}
 use Rattle.zcore_standard.specs.Streams.{heard_of}
-use Rattle.zcore_standard_laws.proofs.Turning.{standard_steps}
 use Rattle.zcore_versions.specs.Laws.{WaitsForLine}
 use Rattle.zcore_versions.specs.Machine.{any, any_step}
 use Rattle.zcore_versions.specs.Reading.{can_be_given}
-use Rattle.zcore_versions.specs.Versions.{Story, is_late}
-use Rattle.zcore_versions.proofs.Turning.{late_is_standard}
+use Rattle.zcore_versions.specs.Versions.{Story}
+use Rattle.zcore_versions.proofs.Turning.{steps_elsewhere}
 use Rattle.zcore_versions.proofs.Waiting.{any_step_waits}
 use Rattle.machine_frames.specs.Contents.{Contents, memory_of}
 use Rattle.machine_frames.specs.Playing.{StopsBy, IsOpening, IsWaiting, whole_of}
@@ -30,12 +28,14 @@ use Rattle.machine_frames.specs.States.{state_of, IsSound, program_counter_of, s
 use Rattle.machine_frames.specs.Went.{GoesOn}
 use Rattle.machine_frames.proofs.Steps.{store_after, goes_on_still}
 use Rattle.machine_lines.proofs.Lines.{base_kept}
-use Rattle.machine_arms.specs.Passed.{Passed}
+use Rattle.zcore_standard_loading.specs.Loading.{is_played}
+use Rattle.machine_arms.specs.Passed.{Passed, flown}
 use Rattle.machine.proofs.Turning.{stops_whole}
 use Rattle.machine_standard_windows.specs.TurnState.{place, Keeps}
 use Rattle.machine_standard_windows.specs.declared.turn_state.TurnState.{TurnState}
 use Rattle.machine_versions_words.specs.Taking.{CanBeGivenBy}
 use Rattle.machine_standard.specs.Loads.{IsStoreFor}
+use Rattle.machine_standard.proofs.Elsewhere.{flown_elsewhere}
 use Rattle.machine_standard.specs.Playing.{Ahead, OpensStandard}
 use Rattle.machine_standard.specs.declared.turn.StandardMachine.{StandardMachine}
 
@@ -60,54 +60,49 @@ or_true : (b : Bool) → (b || true) ≡ true
 or_true true = refl
 or_true false = refl
 
--- a step of the profile that goes on is a step of this machine
-standard_goes_on : (loaded : Loaded) (turn : TurnState) (here next : Next) (s t : State)
-    → loaded.own_alphabets ≡ None → step here s ≡ done next t
-    → standard_step loaded (place turn here) s ≡ done (place turn next) t
-standard_goes_on loaded turn here next s t own e =
-    standard_steps loaded (place turn here) s own (ap ends_in_fault e)
-    (ap (closes_none (place turn here)) e ∙ or_true (is_plain (place turn here)))
-    ∙ ap (within (place turn here)) e
-
--- and of the machine of any version, in versions 5 and 8
-any_goes_on : (story : Story) (turn : TurnState) (here next : Next) (s t : State) → story.loaded.own_alphabets ≡ None
-    → is_late story.version ≡ true → step here s ≡ done next t
+-- a step that units do is a step of this machine
+flown_goes_on : (story : Story) (turn : TurnState) (here next : Next) (s t : State) → story.loaded.own_alphabets ≡ None
+    → is_played story.version.number ≡ true → flown story.version.number here s ≡ done next t
     → any_step story (place turn here) s ≡ done (place turn next) t
-any_goes_on story turn here next s t own late e =
-    (late_is_standard story late).steps (place turn here) s ∙ standard_goes_on story.loaded turn here next s t own e
+flown_goes_on story turn here next s t own played e =
+    let x = flown_elsewhere story.version here next s t played e in
+    steps_elsewhere story (place turn here) s own x.1 (ap ends_in_fault x.0)
+    (ap (closes_none (place turn here)) x.0 ∙ or_true (is_plain (place turn here)))
+    ∙ ap (within (place turn here)) x.0
 
 pub reaches_any : (story : Story) (turn : TurnState) (count : ℕ) (first here : Next) (s t : State)
-    → story.loaded.own_alphabets ≡ None → is_late story.version ≡ true → Reaches count first s here t
+    → story.loaded.own_alphabets ≡ None → is_played story.version.number ≡ true
+    → ReachesBy (flown story.version.number) count first s here t
     → ReachesBy (any_step story) count (place turn first) s (place turn here) t
-reaches_any story turn zero first here s t own late h = (ap (place turn) h.0, h.1)
-reaches_any story turn (suc count) first here s t own late h = (
+reaches_any story turn zero first here s t own played h = (ap (place turn) h.0, h.1)
+reaches_any story turn (suc count) first here s t own played h = (
   place turn h.0,
   h.1,
-  reaches_any story turn count first h.0 s h.1 own late h.2,
-  any_goes_on story turn h.0 here h.1 t own late h.3,
+  reaches_any story turn count first h.0 s h.1 own played h.2,
+  flown_goes_on story turn h.0 here h.1 t own played h.3,
 )
 
 none_there : {A : Type 0} (o : Option A) → is_some o ≡ false → o ≡ None
 none_there None e = refl
 none_there (Some x) e = absurd (cc)
 
--- steps by units, in versions 5 and 8 where the story has no alphabets of its own
+-- steps by units, where the story has no alphabets of its own
 pub quickly_ahead : {E : Type 0} (s t : Recording Contents) (r : Result Next E) (story : Story) (first : Next)
-    → is_some story.loaded.own_alphabets ≡ false → is_late story.version ≡ true
-    → IfOk r (λ here. Passed first s here t) → IfOk r (λ here. Ahead story first s here t)
-quickly_ahead s t (Ok here) story first own late passed =
-    let p : Passed first s here t = passed in
+    → is_some story.loaded.own_alphabets ≡ false → is_played story.version.number ≡ true
+    → IfOk r (λ here. Passed story.version.number first s here t) → IfOk r (λ here. Ahead story first s here t)
+quickly_ahead s t (Ok here) story first own played passed =
+    let p : Passed story.version.number first s here t = passed in
     record {
       goes_on = p.goes_on;
       reached = λ turn text.
           let there = p.reached text in (
             there.0,
             reaches_any story turn there.0 first here (state_of s.store text) (state_of t.store text)
-                (none_there story.loaded.own_alphabets own) late there.1,
+                (none_there story.loaded.own_alphabets own) played there.1,
           );
       lighter = p.lighter;
     }
-quickly_ahead s t (Err e) story first own late passed = tt
+quickly_ahead s t (Err e) story first own played passed = tt
 
 -- none
 pub not_ahead : (s : Recording Contents) (story : Story) (first : Next) → IsSound s.store

@@ -1,10 +1,10 @@
 -- What loading a story comes to.
-use Rattle.std.specs.Prelude.{◌≡◌, ◌≤◌, ℕ, false, List, [], length, take, Result, Ok, Err}
+use Rattle.std.specs.Prelude.{◌≡◌, ◌≤◌, ℕ, true, false, List, [], length, take, Result, Ok, Err}
 use Rattle.zcore.specs.Header.{static_base_of}
 use Rattle.zcore.specs.Layout.{longest_story}
 use Rattle.zcore.specs.Turn.{first_state}
 use Rattle.zcore_standard_loading.specs.declared.loading.LoadedStory.{LoadedStory}
-use Rattle.zcore_standard_loading.specs.Loading.{ReadsFile, characters_of, own_alphabets_of, memory_for}
+use Rattle.zcore_standard_loading.specs.Loading.{ReadsFile, characters_of, is_played, own_alphabets_of, memory_for}
 use Rattle.zcore_standard_loading.specs.Loading as loading
 use Rattle.zcore_standard.specs.Loaded.{seeded}
 use Rattle.zcore_versions.specs.declared.version.StoryVersion.{StoryVersion}
@@ -22,6 +22,7 @@ story_of machine = versioned machine.loaded machine.version
 -- A version that is played: no text locks an alphabet, and packed addresses count from places that a word of the header
 -- can name.
 pub record IsPlayedVersion (version : StoryVersion) : Type 0 where
+  pub played : is_played version.number ≡ true
   pub unlocked : locks_alphabets version ≡ false
   pub routines : version.routine_offset ≤ longest_story
   pub texts : version.text_offset ≤ longest_story

@@ -7,11 +7,8 @@ pub returns-then-has_own_alphabets-clause-passed : goal.returns-then-has_own_alp
 returns-then-has_own_alphabets-clause-passed c =
     not_ahead c.args.store.now (story_of c.args.self.now) c.args.here c.requires.store.sound
 
-pub returns-then-is_late-clause-passed : goal.returns-then-is_late-clause-passed
-returns-then-is_late-clause-passed c =
-    quickly_ahead c.args.store.now c.go_quickly.new.store c.go_quickly.result (story_of c.args.self.now) c.args.here
-    (sym c.has_own_alphabets.ensures ∙ c.if-has_own_alphabets.false) (sym c.is_late.ensures ∙ c.if-is_late.true)
-    c.go_quickly.ensures.passed
-
 pub returns-clause-passed : goal.returns-clause-passed
-returns-clause-passed c = not_ahead c.args.store.now (story_of c.args.self.now) c.args.here c.requires.store.sound
+returns-clause-passed c =
+    quickly_ahead c.args.store.now c.go_quickly.new.store c.go_quickly.result (story_of c.args.self.now) c.args.here
+    (sym c.has_own_alphabets.ensures ∙ c.if-has_own_alphabets.false) c.requires.version.played
+    c.go_quickly.ensures.passed
