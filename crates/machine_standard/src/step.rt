@@ -1,6 +1,6 @@
 //! A step of the Standard's machine.
 
-ghost use Rattle.std.specs.Prelude.{◌≡◌, ◌≤◌, ◌<◌, length, drop, IfOk, OnErr, Some};
+ghost use Rattle.std.specs.Prelude.{◌≡◌, ◌≤◌, ◌<◌, false, length, drop, IfOk, OnErr, Some};
 ghost use Rattle.zcore.specs.Header.{static_base_of};
 ghost use Rattle.zcore.specs.Turn.{weight};
 ghost use Rattle.zcore_standard.specs.Performing as definitions;
@@ -14,7 +14,9 @@ ghost use Rattle.machine_decoding.specs.Seen.{seen};
 ghost use Rattle.machine_standard_windows.specs.TurnState.{place, Keeps};
 ghost use Rattle.machine_standard.specs.Loads.{IsPlayedVersion};
 ghost use Rattle.zcore_versions.specs.Machine.{any_step};
-ghost use Rattle.zcore_versions.specs.Versions.{versioned};
+ghost use Rattle.zcore_versions.specs.Operations as versions;
+ghost use Rattle.zcore_versions.specs.Operations.{older_at};
+ghost use Rattle.zcore_versions.specs.Versions.{is_late, versioned};
 
 use crate::opcodes::{operation_at, version_operation_at};
 use crate::perform::perform_further;
@@ -85,8 +87,39 @@ pub fn step_any(
     }
     match version_operation_at(store.store().memory(), here.program_counter as usize, version) {
         None => step_standard(header, store, text, start, loaded, turn, here),
-        Some((VersionOperation::Missing, _)) => Err(End::Stop(Place::Fault(Fault::Opcode))),
-        Some((operation, row)) => step_version(
+        Some((operation, row)) => step_other(
+            header, store, text, start, loaded, version, turn, here, operation, row,
+        ),
+    }
+}
+
+/// Does the instruction of an operation that the version performs otherwise than versions 5 and 8.
+fn step_other(
+    header: &Header,
+    store: &mut Recorded<Store>,
+    text: &mut Vec<u8>,
+    start: usize,
+    loaded: &Loaded,
+    version: StoryVersion,
+    turn: &mut TurnState,
+    here: Next,
+    operation: VersionOperation,
+    row: OpcodeRow,
+) -> Result<Next, End>
+    requires store { IsStoreOf header.now store.old.store }
+    requires text { HasBegun start text.old.items }
+    requires early { is_late version ≡ false }
+    requires version { IsPlayedVersion version }
+    requires row { row ≡ versions.row_of version.number operation }
+    requires found { older_at version (memory_of store.old.store) here.program_counter ≡ Some operation }
+    ensures told { ToldFrom start (seen (place turn.new) result) store.old text.old.items
+        store.new text.new.items (any_step (versioned loaded.now version) (place turn.old here)) }
+    ensures text { Keeps start text.old.items text.new.items }
+    ensures turn { OnErr result (turn.new ≡ turn.old) }
+{
+    match operation {
+        VersionOperation::Missing => Err(End::Stop(Place::Fault(Fault::Opcode))),
+        _ => step_version(
             header, store, text, start, loaded, version, turn, here, operation, row,
         ),
     }
