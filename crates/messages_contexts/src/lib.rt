@@ -26,7 +26,7 @@ pub use objects::{
 pub use operands::{
     begins_expression, ends_operand, is_loop_variable, is_step, open_after, owns_parentheses,
 };
-pub use places::Place;
+pub use places::{Conditions, NO_CONDITIONS, Place};
 pub use rules::{Say, Spot, Step, Test, Want};
 pub use spelling::{MOST_EDITS, in_small_letters, is_near};
 pub use statements::{

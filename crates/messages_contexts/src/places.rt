@@ -11,8 +11,9 @@ use crate::statements::{
 };
 use crate::tokens::{after, before, begins_statement, text_at};
 use crate::walks::{
-    begins_two_commas, bytes_after, count_of, ends_else, is_after, is_case, is_in_brackets,
-    is_in_constant, is_in_names, is_inequality, is_known, is_listed, is_negation, last_do,
+    begins_two_commas, bytes_after, count_of, end_of_definition, ends_else, is_after, is_case,
+    is_in_brackets, is_in_constant, is_in_names, is_inequality, is_known, is_listed, is_negation,
+    last_do, repeats,
 };
 use messages_parts::{Feature, habit_as_operand, habit_at_beginning, habit_between, named};
 use syntax_lexer::{Sign, Token};
@@ -22,8 +23,8 @@ use syntax_lexer::{Sign, Token};
 #[derive(Clone, Copy)]
 pub struct Place<'t, 's> {
     source: &'t [u8],
-    tokens: &'t [Token<'s>],
-    at: usize,
+    pub tokens: &'t [Token<'s>],
+    pub at: usize,
     /// What is expected at the place.
     wants: u64,
     /// The first of the statement or the definition around the place.
@@ -37,6 +38,21 @@ pub struct Place<'t, 's> {
     /// The last `do` before the place, or the `[` of its routine.
     last_do: usize,
 }
+
+/// What holds of the conditions of a rule, as far as they were asked.
+#[derive(Clone, Copy)]
+pub struct Conditions {
+    /// All after the last `|`.
+    all: bool,
+    /// All from one `|` to another.
+    pub any: bool,
+}
+
+/// None was asked.
+pub const NO_CONDITIONS: Conditions = Conditions {
+    all: true,
+    any: false,
+};
 
 impl<'t, 's> Place<'t, 's> {
     /// The place at the token of a number, where something is expected.
@@ -65,7 +81,7 @@ impl<'t, 's> Place<'t, 's> {
     }
 
     /// The number of the token at a spot; a number of none where there is none.
-    fn number(self, spot: Spot) -> usize {
+    pub fn number(self, spot: Spot) -> usize {
         match spot {
             Spot::FourthLast => before(self.at, 4),
             Spot::ThirdLast => before(self.at, 3),
@@ -87,6 +103,7 @@ impl<'t, 's> Place<'t, 's> {
             Spot::BeforeDo => before(self.last_do, 1),
             Spot::Do => self.last_do,
             Spot::AfterDo => after(self.last_do, 1),
+            Spot::AfterDefinition => end_of_definition(self.tokens, self.at),
         }
     }
 
@@ -106,6 +123,7 @@ impl<'t, 's> Place<'t, 's> {
             Test::Joined => is_joined(tokens, number),
             Test::First => number == self.start,
             Test::Continues => number < tokens.len() && start_of(tokens, number) < number,
+            Test::Repeats => repeats(tokens, number),
             Test::EndsOperand => ends_operand(tokens, number),
             Test::Closes(kinds) => is_of(tokens, before(group_at(tokens, number), 1), kinds),
             Test::After(kinds, ends) => is_after(tokens, number, kinds, ends, false),
@@ -135,7 +153,7 @@ impl<'t, 's> Place<'t, 's> {
     }
 
     /// The bytes of the token at a spot.
-    fn text(self, spot: Spot) -> &'s [u8] {
+    pub fn text(self, spot: Spot) -> &'s [u8] {
         text_at(self.tokens, self.number(spot))
     }
 
@@ -161,27 +179,40 @@ impl<'t, 's> Place<'t, 's> {
         }
     }
 
+    /// What holds of a rule after one more of its conditions.
+    pub fn passed(self, conditions: Conditions, step: Step) -> Conditions {
+        let Conditions { all, any } = conditions;
+        match step {
+            Step::Is(spot, test) => Conditions {
+                all: all && self.passes(spot, test),
+                any,
+            },
+            Step::Not(spot, test) => Conditions {
+                all: all && !self.passes(spot, test),
+                any,
+            },
+            _ => Conditions {
+                all: true,
+                any: any || all,
+            },
+        }
+    }
+
     /// What is told by the first rule that holds and tells something, or ends the table; none if no
     /// rule holds.
     fn answer(self, steps: &'static [Step]) -> Option<Option<Advice>> {
-        let mut holds = true;
-        let mut is_any = false;
+        let mut conditions = NO_CONDITIONS;
         for step in steps {
             match *step {
-                Step::Is(spot, test) => holds = holds && self.passes(spot, test),
-                Step::Not(spot, test) => holds = holds && !self.passes(spot, test),
-                Step::Or => {
-                    is_any = is_any || holds;
-                    holds = true;
-                }
-                Step::Say(say) if is_any => {
+                Step::Say(say) if conditions.any => {
                     let told = self.told_by(say);
                     if told.is_some() || matches!(say, Say::Nothing) {
                         return Some(told);
                     }
-                    is_any = false;
+                    conditions = NO_CONDITIONS;
                 }
-                Step::Say(_) => {}
+                Step::Say(_) => conditions = NO_CONDITIONS,
+                condition => conditions = self.passed(conditions, condition),
             }
         }
         None

@@ -34,6 +34,8 @@ pub enum Spot {
     /// The last `do` before the place, if it is in the same routine.
     Do,
     AfterDo,
+    /// The one after the definition that begins at the place.
+    AfterDefinition,
 }
 
 /// What may be expected at a place.
@@ -77,6 +79,8 @@ pub enum Test {
     First,
     /// It is not the first of its own statement or definition.
     Continues,
+    /// It is the same as the token before it.
+    Repeats,
     /// An operand ends with it.
     EndsOperand,
     /// It is the `)` of parentheses after a token of a kind in a set.

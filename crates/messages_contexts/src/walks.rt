@@ -195,3 +195,23 @@ pub fn is_negation(bytes: &[u8]) -> bool {
 pub fn is_inequality(bytes: &[u8]) -> bool {
     bytes.starts_with(b"!=") || bytes.starts_with(b"! =")
 }
+
+/// Whether the token of a number is the same as the one before it.
+pub fn repeats(tokens: &[Token<'_>], number: usize) -> bool {
+    match (tokens.get(before(number, 1)), tokens.get(number)) {
+        (Some(last), Some(token)) => last.text == token.text,
+        _ => false,
+    }
+}
+
+/// The number of the token after the end of the definition that begins with the token of a number.
+pub fn end_of_definition(tokens: &[Token<'_>], number: usize) -> usize {
+    let is_routine = is_sign(tokens, number, Sign::OpenBracket);
+    for at in number..tokens.len() {
+        let is_end = !is_routine || is_sign(tokens, before(at, 1), Sign::CloseBracket);
+        if is_end && is_sign(tokens, at, Sign::Semicolon) {
+            return after(at, 1);
+        }
+    }
+    tokens.len()
+}
