@@ -10,14 +10,9 @@ use crate::prints::{FORMS, FORMS_OF_ITEMS, ITEMS, ITEMS_BESIDE, WITHOUT_PRINT};
 use crate::signs::{COMMENTS, PAIRS};
 use crate::statements::{BEGINNINGS, OBJECT_STATEMENTS, WHOLE_STATEMENTS};
 use crate::switches::{CASES, COLONS, ELSES, NO_PAIRS, VALUES_OF_CASES};
-use messages_contexts::{Advice, Place, Want, is_in_routine};
+use messages_contexts::{Advice, Place, Want, is_in_routine, wants};
 use messages_tokens::Grouped;
 use syntax_lexer::{Sign, Token, Word};
-
-/// A set of one member if something is expected, and else of none.
-fn wants(want: Want, is_expected: bool) -> u64 {
-    u64::from(is_expected).wrapping_shl(u32::from(want as u8))
-}
 
 /// What of these kinds is expected.
 fn wants_of(wanted: Option<&Grouped>) -> u64 {

@@ -40,7 +40,11 @@ impl<'t, 'a> Trial<'t, 'a> {
             Ask::Fits => is_after(self.tokens, reach, place.at),
             Ask::Helps => is_after(self.tokens, reach, end_from(self.tokens, place.at)),
             Ask::HelpsNext => {
-                is_after(self.tokens, reach, end_from(self.tokens, place.number(Spot::Next)))
+                is_after(
+                    self.tokens,
+                    reach,
+                    end_from(self.tokens, place.number(Spot::Next)),
+                )
             }
             _ => reach == usize::MAX,
         }

@@ -177,12 +177,24 @@ impl Display for Remedy<'_, '_, '_> {
                 write!(f, ": write ',' for the ';' in line {line}")
             }
             Cause::ExtraBefore => {
-                write!(f, ": remove the {} before it", Quoted(place.text(Spot::Last)))
+                write!(
+                    f,
+                    ": remove the {} before it",
+                    Quoted(place.text(Spot::Last))
+                )
             }
             Cause::EndedEarly => {
-                write!(f, ": remove the '];' in line {}", self.0.line_before(Spot::Here))
+                write!(
+                    f,
+                    ": remove the '];' in line {}",
+                    self.0.line_before(Spot::Here)
+                )
             }
-            Cause::Missing(_, spot) => write!(f, ": put ';' after line {}", self.0.line_before(spot)),
+            Cause::Missing(_, spot) => write!(
+                f,
+                ": put ';' after line {}",
+                self.0.line_before(spot)
+            ),
             _ => Ok(()),
         }
     }
@@ -199,11 +211,18 @@ impl Display for Misfit<'_, '_, '_> {
             }
             Cause::Misspelt(number, word) => {
                 let meant = TokenKind::Reserved(word);
-                write!(f, "unknown word {}; did you mean {meant}?", self.quoted(number))
+                write!(
+                    f,
+                    "unknown word {}; did you mean {meant}?",
+                    self.quoted(number)
+                )
             }
             Cause::Reserved(spot) => {
                 let word = Quoted(self.place.text(spot));
-                write!(f, "{wanted} expected: {word} is reserved and cannot be a name")
+                write!(
+                    f,
+                    "{wanted} expected: {word} is reserved and cannot be a name"
+                )
             }
             Cause::Repeated => write!(f, "{wanted} expected: {met} is there twice"),
             Cause::Missing(sign, Spot::Here) => {
