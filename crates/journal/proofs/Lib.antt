@@ -1,3 +1,13 @@
-pub mod Held
+pub mod Swaps
+pub mod Pages
+pub mod Steps
+pub mod Flags
+pub mod PageEntries
+pub mod PageSwaps
+pub mod Packed
+pub mod PackedSwaps
 pub mod Runs
+pub mod Held
+pub mod HandedOut
 pub mod Lending
+pub mod Recordings

@@ -1,9 +1,9 @@
 -- What contracts say of a store of cells, and of a turn on it.
 use Rattle.std.specs.Prelude.{◌≡◌, ℕ, ◌+◌, ◌*◌, ◌<◌, ◌≤◌, List, [], length, slice_index, slice_set}
 use Rattle.journal.specs.declared.cells.Cells.{Ghosts}
-use Rattle.journal_pages.specs.Pages.{cells_of, whole_page}
+use Rattle.journal.specs.Pages.{cells_of, whole_page}
 use Rattle.journal.specs.Recording.{Recording}
-use Rattle.journal_pages.specs.Swap.{back, forward, Fits, Swapped}
+use Rattle.journal.specs.Swap.{back, forward, Fits, Swapped}
 
 module _ {C : Type 0} (g : Ghosts C) where
   -- each entry names a cell of the store, and a value within its bound

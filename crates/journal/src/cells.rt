@@ -1,7 +1,7 @@
 //! What a store has to offer for its writes to be recorded.
 
 ghost use Rattle.std.specs.Prelude.{◌≡◌, ℕ, ◌+◌, ◌*◌, ◌^◌, ◌<◌, ◌≤◌, List, length, slice_set, slice_index};
-ghost use Rattle.journal_pages.specs.Pages.{AreWithin, HoldsBytes, put_run, run_of, whole_page, word_pages};
+ghost use Rattle.journal.specs.Pages.{AreWithin, HoldsBytes, put_run, run_of, whole_page, word_pages};
 
 /// A store of numbered cells. Each holds a number from 0 to a bound of its own, at most 65,535.
 /// How many cells there are, and their bounds, stay the same under every write. Behind the first

@@ -3,14 +3,17 @@
 #![tactic(auto)]
 
 mod cells;
+mod few_numbers;
 mod overwrites;
 mod packing;
+mod page_flags;
+mod page_list;
 mod record;
 mod recorded;
 
 pub use cells::Cells;
-pub use journal_pages::{PAGE, PageFlags};
 pub use overwrites::Overwrites;
-pub use packing::WORD_PAGES;
+pub use packing::{PAGE, WORD_PAGES};
+pub use page_flags::PageFlags;
 pub use record::{Record, swap_back, swap_forward};
 pub use recorded::{NoMemory, Recorded};

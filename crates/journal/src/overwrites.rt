@@ -1,10 +1,10 @@
 //! What writes to a store in place.
 
 ghost use Rattle.std.specs.Prelude.{◌≡◌, Bool, List};
-ghost use Rattle.journal_pages.specs.Pages.{WritesKept, is_flagged};
+ghost use Rattle.journal.specs.Pages.{WritesKept, is_flagged};
 
 use crate::cells::Cells;
-use journal_pages::PageFlags;
+use crate::page_flags::PageFlags;
 
 /// A run of writes to the cells of a store, straight to where they are: only to cells of pages that the
 /// turn keeps, so that no write needs a record. `Recorded::lend` lends it the store.

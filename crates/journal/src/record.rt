@@ -2,13 +2,13 @@
 
 ghost use Rattle.std.specs.Prelude.{◌≡◌, ◌+◌, ◌*◌, ◌^◌, ◌<◌, ◌≤◌, ℕ, length};
 ghost use Rattle.std.specs.List.{All};
-ghost use Rattle.journal_pages.specs.Swap.{back, forward};
-ghost use Rattle.journal_pages.specs.Pages.{IsPaged, cells_of, entries_of, packed_len, page_entries, page_len, page_unpacked, whole_page, word_pages, words_of};
+ghost use Rattle.journal.specs.Swap.{back, forward};
+ghost use Rattle.journal.specs.Pages.{IsPaged, cells_of, entries_of, packed_len, page_entries, page_len, page_unpacked, whole_page, word_pages, words_of};
 ghost use Rattle.journal.specs.Stores.{FitsIn, GoesBack, GoesForward, swapped};
 
 use crate::cells::Cells;
-use crate::packing::{WORD_PAGES, packed_size};
-use journal_pages::{PAGE, PageList, pack, unpack};
+use crate::packing::{PAGE, WORD_PAGES, pack, packed_size, unpack};
+use crate::page_list::PageList;
 use std::marker::Model;
 
 /// What a turn overwrote: whole pages of a store, as they were when the turn began.
@@ -28,7 +28,7 @@ pub struct Record {
 
 impl Model for Record {
     ghost use Rattle.std.specs.Prelude.{List, ℕ};
-    ghost use Rattle.journal_pages.specs.Pages.{IsPaged, entries_of};
+    ghost use Rattle.journal.specs.Pages.{IsPaged, entries_of};
 
     ghost Value = { List (ℕ × ℕ) };
 

@@ -4,15 +4,16 @@ ghost use Rattle.std.specs.Prelude.{◌≡◌, ◌≢◌, ◌+◌, ◌*◌, ◌/
 ghost use Rattle.std.specs.Borrow.{sem, Lends};
 ghost use Rattle.journal.specs.contracts.recorded.Recorded.{the_row};
 ghost use Rattle.journal.specs.Recording.{IsNothingKept};
-ghost use Rattle.journal_pages.specs.Swap.{back, entry_cells, entry_values};
-ghost use Rattle.journal_pages.specs.Pages.{IsAdded, IsMarked, WritesKept, keeps, page_values, with_page, whole_page};
+ghost use Rattle.journal.specs.Swap.{back, entry_cells, entry_values};
+ghost use Rattle.journal.specs.Pages.{IsAdded, IsMarked, WritesKept, keeps, page_values, with_page, whole_page};
 ghost use Rattle.journal.specs.Stores.{FitsIn, IsPageWithin, Writes, begun, kept_cells};
 
 use crate::cells::Cells;
 use crate::overwrites::Overwrites;
-use crate::packing::{PAGE_BYTES, WORD_PAGES, read_bytes, read_words};
+use crate::packing::{PAGE, PAGE_BYTES, WORD_PAGES, read_bytes, read_words};
+use crate::page_flags::PageFlags;
+use crate::page_list::PageList;
 use crate::record::{Record, go_back, page_size};
-use journal_pages::{PAGE, PageFlags, PageList};
 use std::alloc::{AllocError, Global};
 use std::marker::Model;
 use std::mem;
@@ -51,8 +52,8 @@ pub struct Recorded<C: Cells> {
 impl<C: Cells> Model for Recorded<C> {
     ghost use Rattle.std.specs.Prelude.{length};
     ghost use Rattle.journal.specs.Recording.{Recording, recording_code};
-    ghost use Rattle.journal_pages.specs.Swap.{back};
-    ghost use Rattle.journal_pages.specs.Pages.{IsHeld, entries_of};
+    ghost use Rattle.journal.specs.Swap.{back};
+    ghost use Rattle.journal.specs.Pages.{IsHeld, entries_of};
 
     ghost Value = { Recording C };
 

@@ -7,11 +7,12 @@ use Rattle.zcore.specs.Turn.{first_state}
 use Rattle.machine_frames.specs.Contents.{Contents, memory_of}
 use Rattle.machine.specs.Loaded.{IsLoaded}
 use Rattle.machine_frames.specs.States.{state_of, IsSound, IsHeadedBy}
+use Rattle.machine_opcodes.proofs.Targets.{scale_is}
 use Rattle.machine.specs.declared.turn.Machine.{Machine}
 
 headed_by : (story : List ℕ) (header : Header) → Reads story (Ok header) → IsHeadedBy header story
 headed_by story header h = record {
-  version = h.5.version;
+  scale = scale_is story header.version h.5.version;
   static_base = h.5.static_base;
   globals = h.5.globals;
   defaults = h.5.defaults;

@@ -1,3 +1,4 @@
 pub mod Fronts
 pub mod Printed
 pub mod Says
+pub mod Routines

@@ -7,6 +7,7 @@ ghost use Rattle.zcore.specs.Parts.{call, give_back};
 ghost use Rattle.zcore.specs.Execution.{call_packed, return_popped};
 ghost use Rattle.machine_frames.specs.States.{IsSound, IsStoreOf};
 ghost use Rattle.machine_frames.specs.Went.{Went};
+ghost use Rattle.machine_opcodes.specs.Routines.{last_routine};
 
 use crate::arithmetic::give_result;
 use crate::jumps::spend;
@@ -56,9 +57,14 @@ pub fn unpacked(header: &Header, packed: u16) -> u32
     header.version.scale() * packed as u32
 }
 
-/// A call of a routine. M2, M6, the limit of calls, the limit of fuel.
+/// A call of a routine, whose code begins after the byte that counts its locals.
+///
+/// # Errors
+///
+/// M2 where no routine is there, M6 where its locals find no room, the limit of calls, the limit of
+/// fuel. `End::Memory` where memory was refused: the turn is given up.
 #[inline]
-fn call(
+pub fn call(
     store: &mut Recorded<Store>,
     here: Next,
     after: u32,
@@ -67,7 +73,7 @@ fn call(
     result_variable: Option<u8>,
 ) -> Result<Next, End>
     requires sound { IsSound store.old.store }
-    requires address { routine ≤ longest_story }
+    requires address { routine ≤ last_routine }
     requires few { length arguments.now ≤ 15 }
     ensures { Went result store.old store.new
         (call here after routine arguments.now result_variable) }

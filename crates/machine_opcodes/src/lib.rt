@@ -13,9 +13,9 @@ mod transcript;
 mod variables;
 
 pub use arithmetic::{
-    NEGATIVE, divide, equals_any, give_result, modulo, quotient, remainder, signed_less,
+    NEGATIVE, divide, equals_any, give_result, magnitude, modulo, quotient, remainder, signed_less,
 };
-pub use calls::{call_packed, give_back, return_popped, unpacked};
+pub use calls::{call, call_packed, give_back, return_popped, unpacked};
 pub use jumps::{branch_on, branch_target, check_argument_count, jump, test_branch};
 pub use lines::read;
 pub use machine_decoding::Ending;

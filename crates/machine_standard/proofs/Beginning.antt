@@ -16,12 +16,13 @@ use Rattle.zcore_standard_loading.proofs.Headers.{length_stays}
 use Rattle.zcore_standard.specs.Loaded.{Loaded}
 use Rattle.machine_frames.specs.Contents.{Contents, memory_of}
 use Rattle.machine_frames.specs.States.{state_of, IsSound, IsHeadedBy}
+use Rattle.machine_opcodes.proofs.Targets.{scale_is}
 use Rattle.machine_standard.specs.Loads.{Begins, IsLoaded}
 use Rattle.machine_standard.specs.declared.turn.StandardMachine.{StandardMachine}
 
 headed_by : (memory : List ℕ) (header : Header) → IsPlayable memory header → IsHeadedBy header memory
 headed_by memory header p = record {
-  version = p.read.version;
+  scale = scale_is memory header.version p.read.version;
   static_base = p.read.static_base;
   globals = p.read.globals;
   defaults = p.read.defaults;

@@ -13,6 +13,7 @@ use Rattle.zcore.specs.Operations.{count_of}
 use Rattle.zcore.specs.Objects.{remove_object}
 use Rattle.zcore.specs.State.{State, Out, done}
 use Rattle.zcore_standard.specs.Flags.{concerns_flags, perform_on_flags}
+use Rattle.zcore_standard.specs.Forgiving.{may_be_forgiven, perform_forgiving}
 use Rattle.zcore_standard.specs.Loaded.{Loaded}
 use Rattle.zcore_standard.specs.Nothing.{concerns_nothing, insert_nothing, perform_on_nothing, perform_known}
 use Rattle.zcore_standard.specs.Printing.{is_text, by_alphabets, perform_text, perform_printing}
@@ -22,7 +23,17 @@ use Rattle.machine_frames.specs.Went.{Went, Told}
 use Rattle.machine_frames.specs.declared.end.End.{End}
 use Rattle.machine_frames.proofs.Steps.{went_as, went_still, told_as}
 
--- on object 0, to Flags 2, as it prints, and in the profile
+-- an operation that prints a text forgives no slip
+text_unforgiven : (operation : Operation) (values : List ℕ) → is_text operation ≡ true
+    → may_be_forgiven operation values ≡ false
+text_unforgiven operations.TestAttribute values e = absurd (cc)
+text_unforgiven operations.SetAttribute values e = absurd (cc)
+text_unforgiven operations.ClearAttribute values e = absurd (cc)
+text_unforgiven operations.GetProperty values e = absurd (cc)
+text_unforgiven operations.PutProperty values e = absurd (cc)
+text_unforgiven _ values e = refl
+
+-- on object 0, to Flags 2, where it forgives a slip, as it prints, and in the profile
 
 module _ (loaded : Loaded) (operation : Operation) (here : Next) (after : ℕ) (result : Option ℕ)
     (branch : Option Branch) (values : List ℕ) where
@@ -31,10 +42,14 @@ module _ (loaded : Loaded) (operation : Operation) (here : Next) (after : ℕ) (
   prints = by_alphabets loaded.own_alphabets (perform operation here after result branch values)
       (perform_text loaded operation here after values)
 
+  -- not on object 0 and not to Flags 2
+  abbrev forgives : Bool → State → Out Next
+  forgives c = cond c (perform_forgiving operation here after result branch values)
+      (perform_printing loaded operation here after result branch values)
+
   -- not on object 0
   abbrev others : Bool → State → Out Next
-  others c = cond c (perform_on_flags operation here after values)
-      (perform_printing loaded operation here after result branch values)
+  others c = cond c (perform_on_flags operation here after values) (forgives (may_be_forgiven operation values))
 
   known_is : (s : State) (b : Bool) → concerns_nothing operation values ≡ b
       → perform_known loaded operation here after result branch values s
@@ -47,11 +62,16 @@ module _ (loaded : Loaded) (operation : Operation) (here : Next) (after : ℕ) (
       → perform_known loaded operation here after result branch values s ≡ others c s
   flags_is s c e f = known_is s false e ∙ ap (λ (x : Bool). others x s) f
 
+  forgiven_is : (s : State) (c : Bool) → concerns_nothing operation values ≡ false
+      → concerns_flags operation values ≡ false → may_be_forgiven operation values ≡ c
+      → perform_known loaded operation here after result branch values s ≡ forgives c s
+  forgiven_is s c e f v = flags_is s false e f ∙ ap (λ (x : Bool). forgives x s) v
+
   printing_is : (s : State) (d : Bool) → concerns_nothing operation values ≡ false
-      → concerns_flags operation values ≡ false → is_text operation ≡ d
+      → concerns_flags operation values ≡ false → may_be_forgiven operation values ≡ false → is_text operation ≡ d
       → perform_known loaded operation here after result branch values s
       ≡ cond d prints (perform operation here after result branch values) s
-  printing_is s d e f g = flags_is s false e f
+  printing_is s d e f v g = forgiven_is s false e f v
       ∙ ap (λ (x : Bool). cond x prints (perform operation here after result branch values) s) g
 
   pub nothing_went : {s t : Recording Contents} (r : Result Next End) → concerns_nothing operation values ≡ true
@@ -66,27 +86,35 @@ module _ (loaded : Loaded) (operation : Operation) (here : Next) (after : ℕ) (
   flags_went {s} r e f w = went_as r (perform_known loaded operation here after result branch values)
       (λ x. flags_is (state_of s.store x) true e f) w
 
+  pub forgiven_went : {s t : Recording Contents} (r : Result Next End) → concerns_nothing operation values ≡ false
+      → concerns_flags operation values ≡ false → may_be_forgiven operation values ≡ true
+      → Went r s t (perform_forgiving operation here after result branch values)
+      → Went r s t (perform_known loaded operation here after result branch values)
+  forgiven_went {s} r e f v w = went_as r (perform_known loaded operation here after result branch values)
+      (λ x. forgiven_is (state_of s.store x) true e f v) w
+
   pub known_went : {s t : Recording Contents} (r : Result Next End) → concerns_nothing operation values ≡ false
-      → concerns_flags operation values ≡ false → is_text operation ≡ false
+      → concerns_flags operation values ≡ false → may_be_forgiven operation values ≡ false
+      → is_text operation ≡ false
       → Went r s t (perform operation here after result branch values)
       → Went r s t (perform_known loaded operation here after result branch values)
-  known_went {s} r e f g w = went_as r (perform_known loaded operation here after result branch values)
-      (λ x. printing_is (state_of s.store x) false e f g) w
+  known_went {s} r e f v g w = went_as r (perform_known loaded operation here after result branch values)
+      (λ x. printing_is (state_of s.store x) false e f v g) w
 
   pub known_told : {s t : Recording Contents} {x y : List ℕ} (r : Result Next End)
       → concerns_nothing operation values ≡ false → concerns_flags operation values ≡ false
-      → is_text operation ≡ false
+      → may_be_forgiven operation values ≡ false → is_text operation ≡ false
       → Told r s x t y (perform operation here after result branch values)
       → Told r s x t y (perform_known loaded operation here after result branch values)
-  known_told {s} {x = x} r e f g w = told_as r (perform_known loaded operation here after result branch values)
-      (printing_is (state_of s.store x) false e f g) w
+  known_told {s} {x = x} r e f v g w = told_as r (perform_known loaded operation here after result branch values)
+      (printing_is (state_of s.store x) false e f v g) w
 
   pub text_told : {s t : Recording Contents} {x y : List ℕ} (r : Result Next End)
       → concerns_nothing operation values ≡ false → concerns_flags operation values ≡ false
       → is_text operation ≡ true → Told r s x t y prints
       → Told r s x t y (perform_known loaded operation here after result branch values)
   text_told {s} {x = x} r e f g w = told_as r (perform_known loaded operation here after result branch values)
-      (printing_is (state_of s.store x) true e f g) w
+      (printing_is (state_of s.store x) true e f (text_unforgiven operation values g) g) w
 
 -- which operations do not store to Flags 2
 
@@ -99,6 +127,22 @@ pub no_flags : (operation : Operation) (values : List ℕ) → is_several (count
 no_flags operations.StoreWord values e = absurd (cc)
 no_flags operations.StoreByte values e = absurd (cc)
 no_flags _ values e = refl
+
+-- which operations forgive no slip
+
+abbrev pub is_one_or_none : OperandCount → Bool
+is_one_or_none counts.One = true
+is_one_or_none counts.Zero = true
+is_one_or_none _ = false
+
+pub unforgiven : (operation : Operation) (values : List ℕ) → is_one_or_none (count_of operation) ≡ true
+    → may_be_forgiven operation values ≡ false
+unforgiven operations.TestAttribute values e = absurd (cc)
+unforgiven operations.SetAttribute values e = absurd (cc)
+unforgiven operations.ClearAttribute values e = absurd (cc)
+unforgiven operations.GetProperty values e = absurd (cc)
+unforgiven operations.PutProperty values e = absurd (cc)
+unforgiven _ values e = refl
 
 -- which operations print no text
 

@@ -1,5 +1,5 @@
 //! What a known instruction does with the values of its operands: what it does in the profile, on
-//! object 0, to Flags 2, or where it prints what the profile does not.
+//! object 0, to Flags 2, where it forgives a slip, or where it prints what the profile does not.
 
 ghost use Rattle.std.specs.Prelude.{◌≡◌, ◌≤◌, [], ◌∷◌, None, length};
 ghost use Rattle.zcore.specs.Layout.{longest_story};
@@ -12,6 +12,7 @@ ghost use Rattle.machine_frames.specs.Went.{Went};
 ghost use Rattle.machine_opcodes.specs.Printed.{HasBegun, Grew, ToldFrom};
 
 use crate::flags::{concerns_flags, perform_on_flags};
+use crate::forgiving::{may_be_forgiven, perform_forgiving};
 use crate::nothing::{concerns_nothing, perform_on_nothing};
 use journal::Recorded;
 use machine_frames::{End, Store};
@@ -44,6 +45,9 @@ pub(crate) fn two(
     if concerns_nothing(operation, &[x, y]) {
         return perform_on_nothing(header, store, here, operation, &[x, y], ending);
     }
+    if may_be_forgiven(operation, &[x, y]) {
+        return perform_forgiving(header, store, here, operation, &[x, y], ending);
+    }
     perform_two(header, store, here, operation, x, y, ending)
 }
 
@@ -67,6 +71,9 @@ pub(crate) fn many(
 {
     if concerns_nothing(operation, values) {
         return perform_on_nothing(header, store, here, operation, values, ending);
+    }
+    if may_be_forgiven(operation, values) {
+        return perform_forgiving(header, store, here, operation, values, ending);
     }
     perform_many(header, store, here, operation, values, ending)
 }
@@ -139,6 +146,9 @@ pub(crate) fn several(
     }
     if concerns_flags(operation, values) {
         return perform_on_flags(store, here, operation, values, ending.after);
+    }
+    if may_be_forgiven(operation, values) {
+        return perform_forgiving(header, store, here, operation, values, ending);
     }
     match operation {
         Operation::PrintCharacter => {

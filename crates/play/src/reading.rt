@@ -7,7 +7,7 @@ ghost use Rattle.play.specs.Filling.{without_filling};
 ghost use Rattle.play.specs.Reading.{IsPlayed, most_read};
 
 use crate::filling::drop_filling;
-use blorb::{BlorbFault, MOST_BYTES, unpack};
+use blorb::{BlorbFault, MOST_BYTES, is_blorb, unpack};
 use std::alloc::Global;
 use std::fs::File;
 use std::io::{self, Read};
@@ -69,11 +69,22 @@ pub fn read_unpacked<R: Read + Drop>(
 {
     let mut packed = Vec::new(alloc);
     file.take(MOST_BYTES as u64).read_to_end(&mut packed)?;
-    story_of(alloc, &packed)
+    story_of(alloc, packed)
 }
 
-/// The story in the bytes of a file, without the filling behind it.
-fn story_of(alloc: Global, file: &[u8]) -> io::Result<Result<Vec<u8>, BlorbFault>>
+/// The story in the bytes of a file, without the filling behind it. Only out of a Blorb file is it
+/// copied.
+fn story_of(alloc: Global, file: Vec<u8>) -> io::Result<Result<Vec<u8>, BlorbFault>>
+    ensures { IfOk result (IsPlayed (unpacked file.items)) }
+{
+    if !is_blorb(&file) {
+        return Ok(Ok(cut(file)));
+    }
+    unpacked_copy(alloc, &file)
+}
+
+/// A copy of the story in a file, or why a Blorb file has none.
+fn unpacked_copy(alloc: Global, file: &[u8]) -> io::Result<Result<Vec<u8>, BlorbFault>>
     ensures { IfOk result (IsPlayed (unpacked file.now)) }
 {
     match unpack(file) {
@@ -90,6 +101,15 @@ fn copy_of(alloc: Global, bytes: &[u8]) -> io::Result<Vec<u8>>
     story.extend_from_slice(first(bytes))?;
     drop_filling(&mut story);
     Ok(story)
+}
+
+/// A story cut down to what is played of it: as far as one is read, without the filling behind it.
+fn cut(mut story: Vec<u8>) -> Vec<u8>
+    ensures { result.items ≡ without_filling (take most_read story.items) }
+{
+    story.truncate(MOST_READ as usize);
+    drop_filling(&mut story);
+    story
 }
 
 /// The first bytes of a story, as many as are read.

@@ -8,7 +8,7 @@ use Rattle.std.proofs.lemmas.List.{get_or_append_left, get_or_push}
 use Rattle.std.proofs.Math.Nat.{eq-or-lt_of_le}
 use Rattle.journal.specs.Recording.{Recording, IsNothingKept}
 use Rattle.journal.specs.Swap.{back, Fits}
-use Rattle.journal.proofs.Held.{same_recording}
+use Rattle.journal.proofs.Recordings.{same_recording}
 use Rattle.zcore.specs.declared.header.Header.{Header}
 use Rattle.zcore.specs.declared.place.Place.{Place}
 use Rattle.zcore.specs.declared.place.Place.TheVariants as places

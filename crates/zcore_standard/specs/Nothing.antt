@@ -18,6 +18,7 @@ use Rattle.zcore.specs.Objects.{give_object, remove_object}
 use Rattle.zcore.specs.Parts.{fault, is_code, operand_values, goes_on, branch_on}
 use Rattle.zcore.specs.State.{State, Out, ◌>>=◌}
 use Rattle.zcore_standard.specs.Flags.{concerns_flags, perform_on_flags}
+use Rattle.zcore_standard.specs.Forgiving.{may_be_forgiven, perform_forgiving}
 use Rattle.zcore_standard.specs.Loaded.{Loaded}
 use Rattle.zcore_standard.specs.Printing.{perform_printing}
 
@@ -71,7 +72,8 @@ abbrev pub perform_known : Loaded → Operation → Next → ℕ → Option ℕ 
 perform_known loaded operation here after result branch values =
     if concerns_nothing operation values then perform_on_nothing operation here after result branch values
     else (if concerns_flags operation values then perform_on_flags operation here after values
-    else perform_printing loaded operation here after result branch values)
+    else (if may_be_forgiven operation values then perform_forgiving operation here after result branch values
+    else perform_printing loaded operation here after result branch values))
 
 abbrev pub execute_known : Loaded → Next → Result (Instruction × ℕ) Fault → State → Out Next
 execute_known loaded here (Err cause) = fault cause
@@ -79,7 +81,7 @@ execute_known loaded here (Ok x) = do
   values ← operand_values x.0.operands
   perform_known loaded x.0.operation here x.1 x.0.result x.0.branch values
 
--- a step of the profile, but for object 0, for Flags 2 and for what the profile does not print
+-- a step of the profile, but for object 0, for Flags 2, for slips, and for what the profile does not print
 unfoldable pub step_known : Loaded → Next → State → Out Next
 step_known loaded here s =
     if is_code s.memory here.program_counter

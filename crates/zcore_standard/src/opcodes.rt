@@ -1,13 +1,22 @@
 //! The table of opcodes (Z-Machine Standards Document 1.1, section 14): a row for each opcode of
 //! versions 1 to 8, but for those of version 6 alone.
 
-ghost use Rattle.std.specs.Prelude.{◌≡◌, ◌≤◌, None, IfSome};
+ghost use Rattle.std.specs.Prelude.{◌≡◌, ◌≤◌, None, IfSome, is_some};
+ghost use Rattle.zcore.specs.Operations as profile;
 ghost use Rattle.zcore_standard.specs.Operations as table;
-ghost use Rattle.zcore_standard.specs.Rows.{standard_in, with_row};
+ghost use Rattle.zcore_standard.specs.Rows.{newest, said_by, said_in, says, standard_in, with_row};
+ghost use Rattle.zcore_standard.specs.OlderOpcodes.{action_in, as_older, older_by, older_in};
+ghost use Rattle.zcore_standard.specs.declared.opcode.Numbering.TheVariants as numberings;
 
 use crate::opcode::{Numbering, Opcode};
-use crate::operations::StandardOperation;
+use crate::operations::{OlderOperation, StandardOperation};
 use zcore::{OpcodeRow, OperandCount, Operation};
+
+/// The first version.
+const FIRST: u8 = 1;
+
+/// The last version that has the older opcodes.
+const LAST_OLDER: u8 = 4;
 
 /// The last version.
 const LAST: u8 = 8;
@@ -20,9 +29,6 @@ pub struct Row {
 
     /// The first version that has it.
     pub since: u8,
-
-    /// The last one.
-    pub until: u8,
 
     /// How many operands it takes, and what follows them.
     pub shape: OpcodeRow,
@@ -43,8 +49,8 @@ pub enum Action {
     /// An operation that the profile does not have.
     Standard(StandardOperation),
 
-    /// What it did in versions up to 4 only. No machine here plays these.
-    Older,
+    /// An operation of versions up to 4 only.
+    Older(OlderOperation),
 }
 
 /// Where the machine goes on after an instruction.
@@ -81,8 +87,8 @@ impl Flow {
 /// `zcore` knows the operands and what follows them. Of the others these columns say it: what
 /// follows the operands, the least and the greatest number of them.
 macro_rules! opcodes {
-    (Two $number:expr) => {
-        row_of! {
+    (Two $then:ident $number:expr) => {
+        $then! {
             $number, Two,
             profile {
                 1 "je" 1 JumpIfEqual Next,
@@ -118,8 +124,8 @@ macro_rules! opcodes {
             }
         }
     };
-    (One $number:expr) => {
-        row_of! {
+    (One $then:ident $number:expr) => {
+        $then! {
             $number, One,
             profile {
                 0 "jz" 1 JumpIfZero Next,
@@ -142,8 +148,8 @@ macro_rules! opcodes {
             standard {}
         }
     };
-    (Zero $number:expr) => {
-        row_of! {
+    (Zero $then:ident $number:expr) => {
+        $then! {
             $number, Zero,
             profile {
                 0 "rtrue" 1 ReturnTrue Nowhere,
@@ -164,8 +170,8 @@ macro_rules! opcodes {
             }
         }
     };
-    (Several $number:expr) => {
-        row_of! {
+    (Several $then:ident $number:expr) => {
+        $then! {
             $number, Several,
             profile {
                 0 "call_vs" 1 CallVs Call,
@@ -206,8 +212,8 @@ macro_rules! opcodes {
         }
     };
     // Extended opcodes have numbers of their own, counted from 0.
-    (Extended $number:expr) => {
-        row_of! {
+    (Extended $then:ident $number:expr) => {
+        $then! {
             $number, Several,
             profile {}
             standard {
@@ -238,7 +244,6 @@ macro_rules! row_of {
             $($number => Some(Row {
                 name: $name,
                 since: $since,
-                until: LAST,
                 shape: Operation::$operation.row(),
                 flow: Flow::$flow,
                 action: Action::Profile(Operation::$operation),
@@ -246,12 +251,26 @@ macro_rules! row_of {
             $($n => Some(Row {
                 name: $m,
                 since: $s,
-                until: LAST,
                 shape: shape!($count $n $follows $least $most),
                 flow: Flow::$f,
                 action: Action::Standard(StandardOperation::$o),
             }),)*
             _ => None,
+        }
+    };
+}
+
+/// Whether a row with this number is of an operation that the profile does not have.
+macro_rules! is_standard {
+    (
+        $value:expr, $count:ident,
+        profile { $($number:literal $name:literal $since:literal $operation:ident $flow:ident,)* }
+        standard { $($n:literal $m:literal $s:literal $follows:ident $least:literal $most:literal
+            $o:ident $f:ident,)* }
+    ) => {
+        match $value {
+            $($n => true,)*
+            _ => false,
         }
     };
 }
@@ -285,43 +304,52 @@ macro_rules! has_branch {
     ($other:ident) => { false };
 }
 
-/// The opcodes that did something else up to version 4, with the first and the last version.
+/// The opcodes that did something else up to version 4, and what follows the operands and how many of
+/// them there are, up to version 3 and in version 4.
 macro_rules! older_opcodes {
-    ($opcode:expr, $version:expr) => {
-        older_row! {
-            $opcode, $version,
-            One 15 "not" 1 4 storing 1 1,
-            Zero 5 "save" 1 3 branching 0 0,
-            Zero 5 "save" 4 4 storing 0 0,
-            Zero 6 "restore" 1 3 branching 0 0,
-            Zero 6 "restore" 4 4 storing 0 0,
-            Zero 9 "pop" 1 4 plain 0 0,
-            Several 4 "sread" 1 3 plain 2 2,
-            Several 4 "sread" 4 4 plain 2 4,
+    (One $number:expr, $version:expr) => {
+        older_row_of! {
+            $number, $version, One,
+            15 "not" storing 1 1 storing 1 1 Not,
+        }
+    };
+    (Zero $number:expr, $version:expr) => {
+        older_row_of! {
+            $number, $version, Zero,
+            5 "save" branching 0 0 storing 0 0 Save,
+            6 "restore" branching 0 0 storing 0 0 Restore,
+            9 "pop" plain 0 0 plain 0 0 Pop,
+        }
+    };
+    (Several $number:expr, $version:expr) => {
+        older_row_of! {
+            $number, $version, Several,
+            4 "sread" plain 2 2 plain 2 4 Read,
         }
     };
 }
 
-/// The row among these that an opcode has in a version.
-macro_rules! older_row {
+/// The row among these that has a number.
+macro_rules! older_row_of {
     (
-        $opcode:expr, $version:expr,
-        $($count:ident $number:literal $name:literal $since:literal $until:literal
-            $follows:ident $least:literal $most:literal,)*
+        $value:expr, $version:expr, $count:ident,
+        $($number:literal $name:literal $follows:ident $least:literal $most:literal
+            $follows_in_4:ident $least_in_4:literal $most_in_4:literal $operation:ident,)*
     ) => {
-        $(if $opcode == (Opcode { numbering: Numbering::$count, number: $number })
-            && $since <= $version
-            && $version <= $until
-        {
-            return Some(Row {
+        match $value {
+            $($number => Some(Row {
                 name: $name,
-                since: $since,
-                until: $until,
-                shape: shape!($count $number $follows $least $most),
+                since: FIRST,
+                shape: if $version < LAST_OLDER {
+                    shape!($count $number $follows $least $most)
+                } else {
+                    shape!($count $number $follows_in_4 $least_in_4 $most_in_4)
+                },
                 flow: Flow::Next,
-                action: Action::Older,
-            });
-        })*
+                action: Action::Older(OlderOperation::$operation),
+            }),)*
+            _ => None,
+        }
     };
 }
 
@@ -329,10 +357,11 @@ impl Opcode {
     /// The row that the opcode has in a version of the story file. `None` where that version does not
     /// have it.
     pub fn row(self, version: u8) -> Option<Row>
-        ensures { IfSome result (λ row. (row.since ≤ version) × (version ≤ row.until)) }
+        ensures since { IfSome result (λ row. row.since ≤ version) }
+        ensures said { said_in result ≡ said_by version (action_in version self) }
     {
         match self.last_row() {
-            Some(row) if row.since <= version && version <= row.until => Some(row),
+            Some(row) if row.since <= version && version <= LAST => Some(row),
             _ => self.older_row(version),
         }
     }
@@ -356,17 +385,31 @@ impl Opcode {
     pub fn standard(self) -> Option<(StandardOperation, OpcodeRow)>
         ensures { result ≡ with_row (table.standard_of self) }
     {
-        let row = self.last_row()?;
-        match row.action {
-            Action::Standard(operation) => Some((operation, row.shape)),
-            Action::Profile(_) => None,
-            Action::Older => None,
+        if self.is_standard() {
+            standard_in(self.last_row())
+        } else {
+            None
+        }
+    }
+
+    /// Whether the profile does not have its operation in versions 5 and 8: asked before its row is
+    /// looked up, since most steps are of the profile.
+    #[inline]
+    fn is_standard(self) -> bool
+        ensures { result ≡ is_some (table.standard_of self) }
+    {
+        match self.numbering {
+            Numbering::Two => is_two(self.number),
+            Numbering::One => false,
+            Numbering::Zero => is_zero(self.number),
+            Numbering::Several => is_several(self.number),
+            Numbering::Extended => is_extended(self.number),
         }
     }
 
     /// Its row in the versions from 5 on.
     fn last_row(self) -> Option<Row>
-        ensures { standard_in result ≡ with_row (table.standard_of self) }
+        ensures { says result ≡ newest (table.profile_of self) (table.standard_of self) }
     {
         match self.numbering {
             Numbering::Two => two(self.number),
@@ -379,44 +422,119 @@ impl Opcode {
 
     /// Its row in a version up to 4, where it did something else.
     fn older_row(self, version: u8) -> Option<Row>
-        ensures { IfSome result (λ row. (row.since ≤ version) × (version ≤ row.until)) }
+        ensures since { IfSome result (λ row. row.since ≤ version) }
+        ensures said { said_in result ≡ said_by version (older_in version self) }
     {
-        older_opcodes!(self, version);
-        None
+        if version < FIRST || LAST_OLDER < version {
+            return None;
+        }
+        match self.numbering {
+            Numbering::One => older_one(self.number, version),
+            Numbering::Zero => older_zero(self.number, version),
+            Numbering::Several => older_several(self.number, version),
+            Numbering::Two | Numbering::Extended => None,
+        }
+    }
+}
+
+/// The operation that a row has and the profile does not, and what its opcode takes.
+fn standard_in(row: Option<Row>) -> Option<(StandardOperation, OpcodeRow)>
+    ensures { result ≡ standard_in row }
+{
+    let row = row?;
+    match row.action {
+        Action::Standard(operation) => Some((operation, row.shape)),
+        Action::Profile(_) => None,
+        Action::Older(_) => None,
     }
 }
 
 /// The row of an opcode with two operands.
 fn two(number: u8) -> Option<Row>
-    ensures { standard_in result ≡ with_row (table.two_operand number) }
+    ensures { says result ≡ newest (profile.two_operand number) (table.two_operand number) }
 {
-    opcodes!(Two number)
+    opcodes!(Two row_of number)
 }
 
 /// That of one with one operand.
 fn one(number: u8) -> Option<Row>
-    ensures { standard_in result ≡ None }
+    ensures { says result ≡ newest (profile.one_operand number) None }
 {
-    opcodes!(One number)
+    opcodes!(One row_of number)
 }
 
 /// That of one without operands.
 fn zero(number: u8) -> Option<Row>
-    ensures { standard_in result ≡ with_row (table.no_operand number) }
+    ensures { says result ≡ newest (profile.no_operand number) (table.no_operand number) }
 {
-    opcodes!(Zero number)
+    opcodes!(Zero row_of number)
 }
 
 /// That of one with any number of operands.
 fn several(number: u8) -> Option<Row>
-    ensures { standard_in result ≡ with_row (table.several_operand number) }
+    ensures { says result ≡ newest (profile.several_operand number) (table.several_operand number) }
 {
-    opcodes!(Several number)
+    opcodes!(Several row_of number)
 }
 
 /// That of an extended one.
 fn extended(number: u8) -> Option<Row>
-    ensures { standard_in result ≡ with_row (table.extended number) }
+    ensures { says result ≡ newest None (table.extended number) }
 {
-    opcodes!(Extended number)
+    opcodes!(Extended row_of number)
+}
+
+/// Whether an opcode with two operands is none of the profile.
+fn is_two(number: u8) -> bool
+    ensures { result ≡ is_some (table.two_operand number) }
+{
+    opcodes!(Two is_standard number)
+}
+
+/// The same of one without operands.
+fn is_zero(number: u8) -> bool
+    ensures { result ≡ is_some (table.no_operand number) }
+{
+    opcodes!(Zero is_standard number)
+}
+
+/// The same of one with any number of operands.
+fn is_several(number: u8) -> bool
+    ensures { result ≡ is_some (table.several_operand number) }
+{
+    opcodes!(Several is_standard number)
+}
+
+/// The same of an extended one.
+fn is_extended(number: u8) -> bool
+    ensures { result ≡ is_some (table.extended number) }
+{
+    opcodes!(Extended is_standard number)
+}
+
+/// The row of an opcode with one operand that did something else up to version 4.
+fn older_one(number: u8, version: u8) -> Option<Row>
+    requires { 1 ≤ version }
+    ensures since { IfSome result (λ row. row.since ≤ version) }
+    ensures said { said_in result ≡ said_by version (as_older (older_by numberings.One number)) }
+{
+    older_opcodes!(One number, version)
+}
+
+/// That of one without operands.
+fn older_zero(number: u8, version: u8) -> Option<Row>
+    requires { 1 ≤ version }
+    ensures since { IfSome result (λ row. row.since ≤ version) }
+    ensures said { said_in result ≡ said_by version (as_older (older_by numberings.Zero number)) }
+{
+    older_opcodes!(Zero number, version)
+}
+
+/// That of one with any number of operands.
+fn older_several(number: u8, version: u8) -> Option<Row>
+    requires { 1 ≤ version }
+    ensures since { IfSome result (λ row. row.since ≤ version) }
+    ensures said { said_in result ≡ said_by version (as_older (older_by numberings.Several number)) }
+{
+    older_opcodes!(Several number, version)
 }

@@ -112,3 +112,23 @@ pub enum StandardOperation {
     /// `set_true_colour`, which does nothing.
     SetTrueColour,
 }
+
+/// What an opcode does in versions up to 4 and no longer from version 5 on (Z-Machine Standards Document
+/// 1.1, section 15).
+#[derive(Clone, Copy, Debug, PartialEq, Eq)]
+pub enum OlderOperation {
+    /// `not` with an opcode of one operand.
+    Not,
+
+    /// `pop`: drops the top of the stack.
+    Pop,
+
+    /// `save`, which fails.
+    Save,
+
+    /// `restore`, which fails.
+    Restore,
+
+    /// `sread`: waits for a line.
+    Read,
+}

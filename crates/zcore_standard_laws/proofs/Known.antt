@@ -1,7 +1,7 @@
 -- A step of an instruction that the profile knows is the profile's step, or one that the profile refuses: an operation on
--- object 0, a store to Flags 2, or one that prints what the profile does not.
+-- object 0, a store to Flags 2, a slip that is forgiven, or one that prints what the profile does not.
 use Rattle.std.proofs.Common.{◌≡◌, ℕ, List, refl, ap, sym, ◌∙◌, Bool, true, false, cond, Option, Some, None, Result, Ok}
-use Rattle.std.proofs.Common.{Err, ◌<◌, arith}
+use Rattle.std.proofs.Common.{Err, ◌<◌, arith, inl, inr}
 use Rattle.zcore.specs.declared.place.Fault.{Fault}
 use Rattle.zcore.specs.declared.place.Fault.TheVariants as faults
 use Rattle.zcore.specs.declared.place.Place.TheVariants as places
@@ -18,10 +18,13 @@ use Rattle.zcore.proofs.Waiting.{step_waits}
 use Rattle.zcore.proofs.WaitingTests.{WaitsWell, Waits}
 use Rattle.zcore_standard_laws.specs.Laws.{ends_in_fault}
 use Rattle.zcore_standard.specs.Flags.{concerns_flags, perform_on_flags}
+use Rattle.zcore_standard.specs.Forgiving.{may_be_forgiven, perform_forgiving}
 use Rattle.zcore_standard.specs.Nothing.{concerns_nothing, perform_on_nothing, perform_known, execute_known, step_known}
 use Rattle.zcore_standard.specs.Loaded.{Loaded}
 use Rattle.zcore_standard.specs.Printing.{is_text, is_refused, by_alphabets, perform_text, perform_printing}
 use Rattle.zcore_standard_laws.proofs.FlagsFacts.{perform_flags_faults, perform_on_flags_falls, waits_perform_on_flags}
+use Rattle.zcore_standard_laws.proofs.ForgivingFacts.{SameOrRefused, forgiving_alike, perform_forgiving_falls}
+use Rattle.zcore_standard_laws.proofs.ForgivingFacts.{waits_perform_forgiving}
 use Rattle.zcore_standard_laws.proofs.Printing.{perform_text_falls, waits_perform_text, refused_faults}
 use Rattle.zcore_standard_laws.proofs.Objects.{perform_nothing_faults, perform_on_nothing_falls}
 use Rattle.zcore_standard_laws.proofs.Objects.{waits_perform_on_nothing}
@@ -34,7 +37,8 @@ not_both : (o : Option (List ℕ)) (alphabets : List ℕ) → o ≡ None → o �
 not_both None alphabets e f = cc
 not_both (Some x) alphabets e f = cc
 
--- what an instruction does with the values of its operands: in the profile, on object 0, to Flags 2, and as it prints
+-- what an instruction does with the values of its operands: in the profile, on object 0, to Flags 2, where it forgives a
+-- slip, and as it prints
 abbrev profile_does : Next → Instruction × ℕ → List ℕ → State → Out Next
 profile_does here x values = perform x.0.operation here x.1 x.0.result x.0.branch values
 
@@ -43,6 +47,9 @@ nothing_does here x values = perform_on_nothing x.0.operation here x.1 x.0.resul
 
 abbrev flags_does : Next → Instruction × ℕ → List ℕ → State → Out Next
 flags_does here x values = perform_on_flags x.0.operation here x.1 values
+
+abbrev forgiving_does : Next → Instruction × ℕ → List ℕ → State → Out Next
+forgiving_does here x values = perform_forgiving x.0.operation here x.1 x.0.result x.0.branch values
 
 abbrev text_does : Loaded → Next → Instruction × ℕ → List ℕ → State → Out Next
 text_does loaded here x values = perform_text loaded x.0.operation here x.1 values
@@ -104,11 +111,37 @@ module _ {P : Type 0} (loaded : Loaded) (here : Next) (s : State) (same : step_k
   known_printing x values t true g known = known_own x values t loaded.own_alphabets g refl known
   known_printing x values t false g known = same (known ∙ sym g.plain)
 
+  known_forgiven : (x : Instruction × ℕ) (values : List ℕ) (t : State) → Given here s x values t
+      → SameOrRefused (forgiving_does here x values t) (profile_does here x values t)
+      → step_known loaded here s ≡ forgiving_does here x values t → P
+  known_forgiven x values t g (inl alike) known = same (known ∙ alike ∙ sym g.plain)
+  known_forgiven x values t g (inr refused) known = instead (record {
+    x = x;
+    values = values;
+    between = t;
+    given = g;
+    does = forgiving_does here x values;
+    known = known;
+    refused = λ own. refused;
+    falls = λ ahead. perform_forgiving_falls x.0.operation here x.1 x.0.result x.0.branch values ahead;
+    waits = waits_perform_forgiving x.0.operation here x.1 x.0.result x.0.branch values;
+  })
+
+  known_forgiving : (x : Instruction × ℕ) (values : List ℕ) (t : State) (b : Bool) → Given here s x values t
+      → may_be_forgiven x.0.operation values ≡ b
+      → step_known loaded here s
+      ≡ cond b (forgiving_does here x values)
+      (perform_printing loaded x.0.operation here x.1 x.0.result x.0.branch values) t → P
+  known_forgiving x values t true g may known = known_forgiven x values t g
+      (forgiving_alike x.0.operation here x.1 x.0.result x.0.branch values t may) known
+  known_forgiving x values t false g may known = known_printing x values t (is_text x.0.operation) g known
+
   known_flags : (x : Instruction × ℕ) (values : List ℕ) (t : State) (b : Bool) → Given here s x values t
       → concerns_flags x.0.operation values ≡ b
       → step_known loaded here s
       ≡ cond b (flags_does here x values)
-      (perform_printing loaded x.0.operation here x.1 x.0.result x.0.branch values) t → P
+      (cond (may_be_forgiven x.0.operation values) (forgiving_does here x values)
+      (perform_printing loaded x.0.operation here x.1 x.0.result x.0.branch values)) t → P
   known_flags x values t true g flags known = instead (record {
     x = x;
     values = values;
@@ -120,14 +153,16 @@ module _ {P : Type 0} (loaded : Loaded) (here : Next) (s : State) (same : step_k
     falls = λ ahead. perform_on_flags_falls x.0.operation here x.1 values ahead;
     waits = waits_perform_on_flags x.0.operation here x.1 values;
   })
-  known_flags x values t false g flags known = known_printing x values t (is_text x.0.operation) g known
+  known_flags x values t false g flags known =
+      known_forgiving x values t (may_be_forgiven x.0.operation values) g refl known
 
   known_at : (x : Instruction × ℕ) (values : List ℕ) (t : State) (b : Bool) → Given here s x values t
       → concerns_nothing x.0.operation values ≡ b
       → step_known loaded here s
       ≡ cond b (nothing_does here x values)
       (cond (concerns_flags x.0.operation values) (flags_does here x values)
-      (perform_printing loaded x.0.operation here x.1 x.0.result x.0.branch values)) t → P
+      (cond (may_be_forgiven x.0.operation values) (forgiving_does here x values)
+      (perform_printing loaded x.0.operation here x.1 x.0.result x.0.branch values))) t → P
   known_at x values t true g none known = instead (record {
     x = x;
     values = values;

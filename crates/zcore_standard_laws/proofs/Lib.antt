@@ -9,6 +9,7 @@ pub mod Awaiting
 pub mod Falling
 pub mod Objects
 pub mod FlagsFacts
+pub mod ForgivingFacts
 pub mod Printing
 pub mod Known
 pub mod Refusing

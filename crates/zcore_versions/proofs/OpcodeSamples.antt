@@ -2,19 +2,19 @@
 use Rattle.std.proofs.Common.{◌≡◌, ℕ, List, [], ◌∷◌, ◌++◌, map, Option, Some, None, refl}
 use Rattle.zcore.specs.declared.instruction.Operation.TheVariants as known
 use Rattle.zcore_standard.specs.Opcodes.{opcode_of}
-use Rattle.zcore_versions.specs.declared.operations.OlderOperation.{OlderOperation}
-use Rattle.zcore_versions.specs.declared.operations.OlderOperation.TheVariants.{Known, Not, Pop, Save, Restore, Read}
-use Rattle.zcore_versions.specs.declared.operations.OlderOperation.TheVariants.{SplitWindow, Missing}
+use Rattle.zcore_standard.specs.declared.operations.OlderOperation.TheVariants.{Not, Pop, Save, Restore, Read}
+use Rattle.zcore_versions.specs.declared.operations.VersionOperation.{VersionOperation}
+use Rattle.zcore_versions.specs.declared.operations.VersionOperation.TheVariants.{Known, Older, SplitWindow, Missing}
 use Rattle.zcore_versions.specs.Operations.{of_opcode}
 
-abbrev in_version : ℕ → List ℕ → List (Option OlderOperation)
+abbrev in_version : ℕ → List ℕ → List (Option VersionOperation)
 in_version number bytes =
     map (λ first. of_opcode (record { number = number; routine_offset = 0; text_offset = 0 }) (opcode_of first 0)) bytes
 
-abbrev missing : List ℕ → List (Option OlderOperation)
+abbrev missing : List ℕ → List (Option VersionOperation)
 missing bytes = map (λ first. Some Missing) bytes
 
-abbrev as_in_5 : List ℕ → List (Option OlderOperation)
+abbrev as_in_5 : List ℕ → List (Option VersionOperation)
 as_in_5 bytes = map (λ first. None) bytes
 
 -- call_2s, call_1s, call_vs2, and the opcodes for windows, keys and tables that version 4 begins
@@ -37,8 +37,9 @@ from_1 = 0x01 ∷ 0x08 ∷ 0x0F ∷ 0x14 ∷ 0xC1 ∷ 0x80 ∷ 0x85 ∷ 0x8E ∷
 abbrev until_4 : List ℕ
 until_4 = 0x8F ∷ 0xB5 ∷ 0xB6 ∷ 0xB9 ∷ 0xE4 ∷ []
 
-abbrev until_4_operations : List (Option OlderOperation)
-until_4_operations = Some Not ∷ Some Save ∷ Some Restore ∷ Some Pop ∷ Some Read ∷ []
+abbrev until_4_operations : List (Option VersionOperation)
+until_4_operations =
+    Some (Older Not) ∷ Some (Older Save) ∷ Some (Older Restore) ∷ Some (Older Pop) ∷ Some (Older Read) ∷ []
 
 version_1 : in_version 1 (until_4 ++ from_1 ++ from_3 ++ 0xEA ∷ from_4 ++ from_5)
     ≡ until_4_operations ++ as_in_5 from_1 ++ missing (from_3 ++ 0xEA ∷ from_4 ++ from_5)

@@ -15,7 +15,7 @@ use Rattle.zcore_standard.specs.Machine.{standard, standard_step, standard_ended
 use Rattle.zcore_standard.specs.Machine.{standard_turn_on, begins}
 use Rattle.zcore_standard.specs.Reading.{standard_given}
 use Rattle.zcore_versions.specs.declared.version.StoryVersion.{StoryVersion}
-use Rattle.zcore_versions.specs.declared.operations.OlderOperation.{OlderOperation}
+use Rattle.zcore_versions.specs.declared.operations.VersionOperation.{VersionOperation}
 use Rattle.zcore_versions.specs.Versions.{Story, is_late, is_old}
 use Rattle.zcore_versions.specs.Laws.{EndsOneWay, IsStandard}
 use Rattle.zcore_versions.specs.Machine.{chosen, any, any_step, any_turn, any_pending, any_turn_on}
@@ -64,11 +64,11 @@ either_of : (a b : Bool) → (a || b) ≡ true → (a ≡ true) ⊎ (b ≡ true)
 either_of true b h = inl refl
 either_of false b h = inr h
 
-none_either : (b : Bool) (o p : Option OlderOperation) → o ≡ None → p ≡ None → cond b o p ≡ None
+none_either : (b : Bool) (o p : Option VersionOperation) → o ≡ None → p ≡ None → cond b o p ≡ None
 none_either true o p e f = e
 none_either false o p e f = f
 
-none_late : (b : Bool) (o : Option OlderOperation) → b ≡ true → cond b None o ≡ None
+none_late : (b : Bool) (o : Option VersionOperation) → b ≡ true → cond b None o ≡ None
 none_late true o e = refl
 none_late false o e = absurd (cc)
 

@@ -1,6 +1,6 @@
 -- What the machine of any version waits for can be given: a key, or a line in the form of the old versions.
 use Rattle.std.proofs.Common.{◌≡◌, ℕ, ◌+◌, ◌≤◌, List, [], ◌∷◌, drop, length, refl, ap, ◌∙◌, arith, Bool, true, false}
-use Rattle.std.proofs.Common.{slice_index, Option, Some, None, Result, Ok, Err, subst}
+use Rattle.std.proofs.Common.{slice_index, cond, Option, Some, None, Result, Ok, Err, subst}
 use Rattle.std.specs.Prelude.{◌==◌, ◌&&◌, ◌||◌, nat_le}
 use Rattle.std.proofs.lemmas.Bool.{and_parts, leb-true, le-leb}
 use Rattle.zcore.specs.declared.instruction.Branch.{Branch}
@@ -21,7 +21,7 @@ use Rattle.zcore_standard.specs.Instruction.{Instruction}
 use Rattle.zcore_standard.specs.Nothing.{concerns_nothing}
 use Rattle.zcore_standard.specs.Place.{Here, past}
 use Rattle.zcore_standard.specs.Reading as standard
-use Rattle.zcore_standard.specs.Reading.{has_slots_or_none}
+use Rattle.zcore_standard.specs.Reading.{can_take, has_slots_or_none}
 use Rattle.zcore_standard.specs.Streams.{begin_read}
 use Rattle.zcore_standard.specs.Words.{are_writable, has_slots, test_slots}
 use Rattle.zcore_standard_laws.proofs.Awaiting.{WaitsRight, waits_right, halt_within}
@@ -32,20 +32,22 @@ use Rattle.zcore_standard_laws.proofs.WindowFacts.{waits_split_window}
 use Rattle.zcore.specs.Parts.{store_result}
 use Rattle.zcore.proofs.WaitingParts.{waits_store_result}
 use Rattle.zcore_versions.specs.declared.version.StoryVersion.{StoryVersion}
-use Rattle.zcore_versions.specs.declared.operations.OlderOperation.{OlderOperation}
-use Rattle.zcore_versions.specs.declared.operations.OlderOperation.TheVariants.{Known, Not, Pop, Save, Restore, Read}
-use Rattle.zcore_versions.specs.declared.operations.OlderOperation.TheVariants.{SplitWindow, Missing}
+use Rattle.zcore_standard.specs.declared.operations.OlderOperation.TheVariants.{Not, Pop, Save, Restore, Read}
+use Rattle.zcore_versions.specs.declared.operations.VersionOperation.{VersionOperation}
+use Rattle.zcore_versions.specs.declared.operations.VersionOperation.TheVariants.{Known, Older, SplitWindow, Missing}
 use Rattle.zcore_versions.specs.Calls.{code_of, initial_values, has_values, test_values, set_locals, call_with_values}
 use Rattle.zcore_versions.specs.Calls.{call_older}
 use Rattle.zcore_versions.specs.Versions.{Story, is_small, is_old, routine_at, text_at}
 use Rattle.zcore_standard.specs.Instruction.{decode_row}
 use Rattle.zcore_versions.specs.Keys.{key_bytes, is_dictionary}
-use Rattle.zcore_versions.specs.Laws.{can_take_old, WaitsForLine}
+use Rattle.zcore_versions.specs.Laws.{WaitsForLine}
 use Rattle.zcore_versions.specs.Machine.{chosen, any_step}
 use Rattle.zcore_versions.specs.Performing.{perform_on_none, perform_other, drop_word, fail, perform_older, perform}
 use Rattle.zcore_versions.specs.Performing.{execute_older}
 use Rattle.zcore_versions.specs.Operations.{row_of, older_at}
-use Rattle.zcore_versions.specs.Reading.{has_room, test_room, test_dictionary, wait_for_line, read_older}
+use Rattle.zcore_versions.specs.Reading.{can_take_old, has_room, test_room, test_dictionary, wait_for_line}
+use Rattle.zcore_versions.specs.Reading.{read_older}
+use Rattle.zcore_versions.proofs.Finding.{found_old}
 use Rattle.zcore_versions.proofs.SmallWaiting.{waits_test_attribute, waits_set_attribute, waits_clear_attribute}
 use Rattle.zcore_versions.proofs.SmallWaiting.{waits_jump_if_in, waits_get_parent, waits_get_sibling, waits_get_child}
 use Rattle.zcore_versions.proofs.SmallWaiting.{waits_remove_object, waits_insert_object}
@@ -161,23 +163,23 @@ waits_fail story here after result branch =
     waits_chosen (is_small story.version) _ _ (waits_branch_on here after branch false)
     (waits_give_result here after result 0)
 
-waits_perform_older : (story : Story) (operation : OlderOperation) (here : Next) (after : ℕ) (result : Option ℕ)
+waits_perform_older : (story : Story) (operation : VersionOperation) (here : Next) (after : ℕ) (result : Option ℕ)
     (branch : Option Branch) (values : List ℕ) → Waits (perform_older story operation here after result branch values)
 unfolding perform_older
 waits_perform_older story (Known operation) here after result branch values =
     waits_chosen (concerns_nothing operation values) _ _
     (waits_perform_on_none operation here after result branch values)
     (perform_other_waits story operation here after result branch values)
-waits_perform_older story Not here after result branch values = waits_give_result here after result _
-waits_perform_older story Pop here after result branch values = waits_drop_word here after
-waits_perform_older story Save here after result branch values = waits_fail story here after result branch
-waits_perform_older story Restore here after result branch values = waits_fail story here after result branch
+waits_perform_older story (Older Not) here after result branch values = waits_give_result here after result _
+waits_perform_older story (Older Pop) here after result branch values = waits_drop_word here after
+waits_perform_older story (Older Save) here after result branch values = waits_fail story here after result branch
+waits_perform_older story (Older Restore) here after result branch values = waits_fail story here after result branch
 waits_perform_older story _ here after result branch values = λ s t h. waits_fault faults.Opcode s t h
 
 -- What is waited for
 
-abbrev WaitsFor : {A : Type 0} → (State → Out A) → Type 0
-WaitsFor {A} f = (s t : State) → f s ≡ halt places.Waiting t → WaitsForLine t
+abbrev WaitsFor : {A : Type 0} → Story → (State → Out A) → Type 0
+WaitsFor {A} story f = (s t : State) → f s ≡ halt places.Waiting t → WaitsForLine story t
 
 and_so : (a b : Bool) → a ≡ true → b ≡ true → (a && b) ≡ true
 and_so a b e f = rw (e, f) refl
@@ -190,6 +192,14 @@ or_last : (a b : Bool) → b ≡ true → (a || b) ≡ true
 or_last true b e = refl
 or_last false b e = e
 
+either_so : (b x y : Bool) → x ≡ true → y ≡ true → cond b x y ≡ true
+either_so true x y e f = e
+either_so false x y e f = f
+
+first_so : (b x y : Bool) → b ≡ true → x ≡ true → cond b x y ≡ true
+first_so true x y e f = f
+first_so false x y e f = absurd (cc)
+
 -- so many bytes less can be written too
 fewer_writable : (memory : List ℕ) (text more less : ℕ) → less ≤ more → are_writable memory text more ≡ true
     → are_writable memory text less ≡ true
@@ -199,63 +209,73 @@ fewer_writable memory text more less le e =
     (le-leb (text + less) (static_base_of memory)
     (omega (arith, le, leb-true (text + more) (static_base_of memory) p.1)))
 
--- what the Standard's `aread` tests is enough
-from_right : (t : State) → WaitsRight t → WaitsForLine t
-from_right t w =
-    let m = t.memory in
-    let text = w.pending.text_buffer in
+-- what the Standard's `aread` tests is enough in an old version too
+old_taken : (m : List ℕ) (text parse : ℕ) → can_take m text parse ≡ true → can_take_old m text parse ≡ true
+old_taken m text parse e =
     let room = slice_index m text in
-    record {
-      pending = w.pending;
-      waits = w.waits;
-      right = or_then (text == 0) (standard.has_room m text && has_slots_or_none m w.pending.parse_buffer) _ (λ e.
-          let p = and_parts (standard.has_room m text) (has_slots_or_none m w.pending.parse_buffer) e in
-          let q = and_parts (are_writable m text (2 + room) && nat_le 1 room) _ p.0 in
-          let r = and_parts (are_writable m text (2 + room)) (nat_le 1 room) q.0 in
-          and_so _ _ (and_so _ _ (fewer_writable m text (2 + room) (1 + room) (omega arith) r.0) r.1) p.1) w.right;
-    }
+    or_then (text == 0) (standard.has_room m text && has_slots_or_none m parse) _ (λ e.
+    let p = and_parts (standard.has_room m text) (has_slots_or_none m parse) e in
+    let q = and_parts (are_writable m text (2 + room) && nat_le 1 room) _ p.0 in
+    let r = and_parts (are_writable m text (2 + room)) (nat_le 1 room) q.0 in
+    and_so _ _ (and_so _ _ (fewer_writable m text (2 + room) (1 + room) (omega arith) r.0) r.1) p.1) e
+
+from_right : (story : Story) (t : State) → WaitsRight t → WaitsForLine story t
+from_right story t w = record {
+  pending = w.pending;
+  waits = w.waits;
+  right = either_so (is_old story.version) (can_take_old t.memory w.pending.text_buffer w.pending.parse_buffer) _
+      (old_taken t.memory w.pending.text_buffer w.pending.parse_buffer w.right) w.right;
+}
 
 ended_as : {A B : Type 0} (x : _) (s t : State) → ◌≡◌ {A = Out B} (halt x s) (halt places.Waiting t)
     → ◌≡◌ {A = Out A} (halt x s) (halt places.Waiting t)
 ended_as x s t h = cc
 
-for_bound : {A B : Type 0} (o : Out A) (k : A → State → Out B) (t : State)
-    → ((u : State) → o ≡ halt places.Waiting u → WaitsForLine u)
-    → ((a : A) (u : State) → o ≡ done a u → k a u ≡ halt places.Waiting t → WaitsForLine t)
-    → bound o k ≡ halt places.Waiting t → WaitsForLine t
-for_bound (done a s) k t v w h = w a s refl h
-for_bound (halt x s) k t v w h = v t (ended_as x s t h)
+for_bound : {A B : Type 0} (story : Story) (o : Out A) (k : A → State → Out B) (t : State)
+    → ((u : State) → o ≡ halt places.Waiting u → WaitsForLine story u)
+    → ((a : A) (u : State) → o ≡ done a u → k a u ≡ halt places.Waiting t → WaitsForLine story t)
+    → bound o k ≡ halt places.Waiting t → WaitsForLine story t
+for_bound story (done a s) k t v w h = w a s refl h
+for_bound story (halt x s) k t v w h = v t (ended_as x s t h)
 
-for_well : {A : Type 0} (f : State → Out A) → Waits f → WaitsFor f
-for_well f v s t h = from_right t (waits_right t (v s t h))
+for_well : {A : Type 0} (story : Story) (f : State → Out A) → Waits f → WaitsFor story f
+for_well story f v s t h = from_right story t (waits_right t (v s t h))
 
-for_then : {A B : Type 0} (f : State → Out A) (k : A → State → Out B) → Waits f → ((a : A) → WaitsFor (k a))
-    → WaitsFor (λ s. bound (f s) k)
-for_then f k v w s t h = for_bound (f s) k t (λ u e. for_well f v s u e) (λ a u _ e. w a u t e) h
+for_then : {A B : Type 0} (story : Story) (f : State → Out A) (k : A → State → Out B) → Waits f
+    → ((a : A) → WaitsFor story (k a)) → WaitsFor story (λ s. bound (f s) k)
+for_then story f k v w s t h =
+    for_bound story (f s) k t (λ u e. for_well story f v s u e) (λ a u _ e. w a u t e) h
 
 test_passed : (b : Bool) (cause : Fault) (s t : State) (a : Unit {0}) → test b cause s ≡ done a t → (b ≡ true) × (t ≡ s)
 test_passed true cause s t a h = (refl, done_state tt a s t h)
 test_passed false cause s t a h = absurd (never _ a s t h)
 
-waits_so : (pending : Pending) (s t : State) → can_take_old s.memory pending.text_buffer pending.parse_buffer ≡ true
-    → wait pending s ≡ halt places.Waiting t → WaitsForLine t
+waits_so : (story : Story) (pending : Pending) (s t : State) → is_old story.version ≡ true
+    → can_take_old s.memory pending.text_buffer pending.parse_buffer ≡ true
+    → wait pending s ≡ halt places.Waiting t → WaitsForLine story t
 unfolding wait
-waits_so pending s t right h =
+waits_so story pending s t old right h =
     let e : record s { pending = Some pending } ≡ t = cc in
-    subst WaitsForLine e (record { pending = pending; waits = refl; right = right })
+    subst (WaitsForLine story) e (record {
+      pending = pending;
+      waits = refl;
+      right = first_so (is_old story.version)
+          (can_take_old s.memory pending.text_buffer pending.parse_buffer) _ old right;
+    })
 
-line_waits : (story : Story) (after text parse : ℕ) → WaitsFor (wait_for_line story after text parse)
+line_waits : (story : Story) (after text parse : ℕ) → is_old story.version ≡ true
+    → WaitsFor story (wait_for_line story after text parse)
 unfolding wait_for_line test_room test_slots test_dictionary
-line_waits story after text parse s t h =
+line_waits story after text parse is s t h =
     let room = has_room s.memory text in
-    for_bound (test room faults.Buffer s) _ t
-    (λ u e. for_well (test room faults.Buffer) (waits_test room faults.Buffer) s u e) (λ a u d f.
+    for_bound story (test room faults.Buffer s) _ t
+    (λ u e. for_well story (test room faults.Buffer) (waits_test room faults.Buffer) s u e) (λ a u d f.
     let slots = has_slots u.memory parse in
-    for_bound (test slots faults.Buffer u) _ t
-    (λ v e. for_well (test slots faults.Buffer) (waits_test slots faults.Buffer) u v e) (λ b v e g.
+    for_bound story (test slots faults.Buffer u) _ t
+    (λ v e. for_well story (test slots faults.Buffer) (waits_test slots faults.Buffer) u v e) (λ b v e g.
     let words = is_dictionary (key_bytes story.version) v.memory (dictionary_of v.memory) in
-    for_bound (test words faults.Read v) _ t
-    (λ w k. for_well (test words faults.Read) (waits_test words faults.Read) v w k) (λ c w k l.
+    for_bound story (test words faults.Read v) _ t
+    (λ w k. for_well story (test words faults.Read) (waits_test words faults.Read) v w k) (λ c w k l.
     let p = test_passed room faults.Buffer s u a d in
     let o = test_passed slots faults.Buffer u v b e in
     let r = test_passed words faults.Read v w c k in
@@ -263,49 +283,58 @@ line_waits story after text parse s t h =
     let q = and_parts (are_writable m text (1 + slice_index m text)) (nat_le 2 (slice_index m text)) p.0 in
     let old : (are_writable m text (1 + slice_index m text) && nat_le 1 (slice_index m text)) ≡ true =
     and_so _ _ q.0 (le-leb 1 (slice_index m text) (omega (arith, leb-true 2 (slice_index m text) q.1))) in
-    waits_so _ w t (or_last (text == 0) _ (and_so _ _
+    waits_so story _ w t is (or_last (text == 0) _ (and_so _ _
     (ap (λ (x : State). are_writable x.memory text (1 + slice_index x.memory text) && nat_le 1 (slice_index x.memory text))
     (r.1 ∙ o.1 ∙ p.1) ∙ old)
     (or_last (parse == 0) _ (ap (λ (x : State). has_slots x.memory parse) (r.1 ∙ o.1) ∙ o.0)))) l) g) f) h
 
-read_waits : (story : Story) (here : Here) (after text parse : ℕ) → WaitsFor (read_older story here after text parse)
+read_waits : (story : Story) (here : Here) (after text parse : ℕ) → is_old story.version ≡ true
+    → WaitsFor story (read_older story here after text parse)
 unfolding read_older
-read_waits story here after text parse =
-    for_then (begin_read story.loaded.characters here) _ (waits_begin_read story.loaded.characters here)
-    (λ _ s t h. line_waits story after text parse s t (halt_within here (wait_for_line story after text parse s) t h))
+read_waits story here after text parse is =
+    for_then story (begin_read story.loaded.characters here) _ (waits_begin_read story.loaded.characters here)
+    (λ _ s t h. line_waits story after text parse is s t
+    (halt_within here (wait_for_line story after text parse s) t h))
 
-perform_waits : (story : Story) (operation : OlderOperation) (here : Here) (after : ℕ) (result : Option ℕ)
-    (branch : Option Branch) (values : List ℕ) → WaitsFor (perform story operation here after result branch values)
+-- a line is read by `sread` in an old version alone
+abbrev ReadsInOld : Story → VersionOperation → Type 0
+ReadsInOld story operation = operation ≡ Older Read → is_old story.version ≡ true
+
+perform_waits : (story : Story) (operation : VersionOperation) (here : Here) (after : ℕ) (result : Option ℕ)
+    (branch : Option Branch) (values : List ℕ) → ReadsInOld story operation
+    → WaitsFor story (perform story operation here after result branch values)
 unfolding perform
-perform_waits story Read here after result branch values =
-    read_waits story here after (slice_index values 0) (slice_index values 1)
-perform_waits story SplitWindow here after result branch values =
-    for_well _ (waits_split_window (past here after) 0)
-perform_waits story operation here after result branch values = λ s t h.
-    for_well _ (waits_perform_older story operation here.next after result branch values) s t
+perform_waits story (Older Read) here after result branch values is =
+    read_waits story here after (slice_index values 0) (slice_index values 1) (is refl)
+perform_waits story SplitWindow here after result branch values is =
+    for_well story _ (waits_split_window (past here after) 0)
+perform_waits story operation here after result branch values is = λ s t h.
+    for_well story _ (waits_perform_older story operation here.next after result branch values) s t
     (halt_within here (perform_older story operation here.next after result branch values s) t h)
 
-execute_waits : (story : Story) (operation : OlderOperation) (here : Here) (r : Result (Instruction × ℕ) Fault)
-    → WaitsFor (execute_older story operation here r)
-execute_waits story operation here (Err cause) = for_well _ (λ s t h. waits_fault cause s t h)
-execute_waits story operation here (Ok x) = for_then _ _ (waits_operand_values x.0.operands)
-    (λ values. perform_waits story operation here x.1 x.0.result x.0.branch values)
+execute_waits : (story : Story) (operation : VersionOperation) (here : Here) (r : Result (Instruction × ℕ) Fault)
+    → ReadsInOld story operation → WaitsFor story (execute_older story operation here r)
+execute_waits story operation here (Err cause) is = for_well story _ (λ s t h. waits_fault cause s t h)
+execute_waits story operation here (Ok x) is = for_then story _ _ (waits_operand_values x.0.operands)
+    (λ values. perform_waits story operation here x.1 x.0.result x.0.branch values is)
 
-found_waits : (story : Story) (operation : OlderOperation) (here : Here) (s t : State)
+found_waits : (story : Story) (operation : VersionOperation) (here : Here) (s t : State) → ReadsInOld story operation
     → execute_older story operation here
     (decode_row s.memory here.next.program_counter (row_of story.version.number operation)) s ≡ halt places.Waiting t
-    → WaitsForLine t
-found_waits story operation here s t h = execute_waits story operation here
-    (decode_row s.memory here.next.program_counter (row_of story.version.number operation)) s t h
+    → WaitsForLine story t
+found_waits story operation here s t is h = execute_waits story operation here
+    (decode_row s.memory here.next.program_counter (row_of story.version.number operation)) is s t h
 
-chosen_waits : (story : Story) (here : Here) (s t : State) (o : Option OlderOperation)
-    → chosen story o here s ≡ halt places.Waiting t → WaitsForLine t
-chosen_waits story here s t None h = from_right t (standard_step_waits story.loaded here s t h)
-chosen_waits story here s t (Some Missing) h = for_well _ (λ u v k. waits_fault faults.Opcode u v k) s t h
-chosen_waits story here s t (Some operation) h = found_waits story operation here s t h
+chosen_waits : (story : Story) (here : Here) (s t : State) (o : Option VersionOperation)
+    → older_at story.version s.memory here.next.program_counter ≡ o → chosen story o here s ≡ halt places.Waiting t
+    → WaitsForLine story t
+chosen_waits story here s t None e h = from_right story t (standard_step_waits story.loaded here s t h)
+chosen_waits story here s t (Some Missing) e h = for_well story _ (λ u v k. waits_fault faults.Opcode u v k) s t h
+chosen_waits story here s t (Some operation) e h = found_waits story operation here s t
+    (λ f. found_old story.version s.memory here.next.program_counter Read (e ∙ ap (λ x. Some x) f)) h
 
 pub any_step_waits : (story : Story) (here : Here) (s t : State) → any_step story here s ≡ halt places.Waiting t
-    → WaitsForLine t
+    → WaitsForLine story t
 unfolding any_step
 any_step_waits story here s t h =
-    chosen_waits story here s t (older_at story.version s.memory here.next.program_counter) h
+    chosen_waits story here s t (older_at story.version s.memory here.next.program_counter) refl h

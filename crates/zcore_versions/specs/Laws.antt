@@ -1,5 +1,5 @@
 -- The laws of the machine of any version that functions of `laws` carry as their contracts.
-use Rattle.std.specs.Prelude.{◌≡◌, ◌==◌, ◌&&◌, ◌||◌, ◌+◌, ℕ, nat_le, Bool, List, slice_index, Some, None, true, false}
+use Rattle.std.specs.Prelude.{◌≡◌, ℕ, List, Some, None, true, false}
 use Rattle.zcore.specs.Execution.{step}
 use Rattle.zcore.specs.declared.place.Place.TheVariants as places
 use Rattle.zcore.specs.State.{Pending, State, halt}
@@ -7,11 +7,10 @@ use Rattle.zcore.specs.Turn.{StateOfPlay, Whole, TurnsBy}
 use Rattle.zcore_standard.specs.Place.{Here, within}
 use Rattle.zcore_standard_laws.specs.Laws.{ends_in_fault, closes_none}
 use Rattle.zcore_standard.specs.Machine.{standard_step, standard_turn, standard_turn_on}
-use Rattle.zcore_standard.specs.Reading.{has_slots_or_none}
-use Rattle.zcore_standard.specs.Words.{are_writable}
 use Rattle.zcore_versions.specs.Versions.{Story, is_late}
 use Rattle.zcore_versions.specs.Machine.{any, any_step, any_turn, any_turn_on}
 use Rattle.zcore_versions.specs.Operations.{older_at}
+use Rattle.zcore_versions.specs.Reading.{can_be_given}
 
 -- a turn ends in a whole state, in this one only, and within its weight
 pub record EndsOneWay (story : Story) (here : Here) (s : State) : Type 0 where
@@ -42,19 +41,12 @@ KeepsWhatTheProfileStepsElsewhere =
     → ends_in_fault (step here.next s) ≡ false → closes_none here (step here.next s) ≡ true
     → any_step story here s ≡ within here (step here.next s)
 
--- What is waited for can be given: a key, or a line whose letters and the 0 after them have room in dynamic memory,
--- after the header.
-abbrev pub can_take_old : List ℕ → ℕ → ℕ → Bool
-can_take_old memory text parse =
-    (text == 0)
-    || (are_writable memory text (1 + slice_index memory text) && nat_le 1 (slice_index memory text)
-    && has_slots_or_none memory parse)
-
-pub record WaitsForLine (t : State) : Type 0 where
+-- what is waited for can be given
+pub record WaitsForLine (story : Story) (t : State) : Type 0 where
   pub pending : Pending
   pub waits : t.pending ≡ Some pending
-  pub right : can_take_old t.memory pending.text_buffer pending.parse_buffer ≡ true
+  pub right : can_be_given story t.memory pending.text_buffer pending.parse_buffer ≡ true
 
 abbrev pub WaitsForWhatCanBeGiven : Type 0
 WaitsForWhatCanBeGiven =
-    (story : Story) (here : Here) (s t : State) → any_step story here s ≡ halt places.Waiting t → WaitsForLine t
+    (story : Story) (here : Here) (s t : State) → any_step story here s ≡ halt places.Waiting t → WaitsForLine story t

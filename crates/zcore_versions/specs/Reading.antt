@@ -1,6 +1,6 @@
 -- `sread`, and the line that is then given, in versions 1 to 4: letters begin at byte 1 of the text buffer, and a 0
 -- ends them (Z-Machine Standards Document 1.1, section 15, `sread`).
-use Rattle.std.specs.Prelude.{◌==◌, ◌&&◌, ◌+◌, ◌-◌, ◌/◌, ◌%◌, ℕ, nat_le, Bool, if◌then◌else◌, List, [], ◌∷◌, ◌++◌}
+use Rattle.std.specs.Prelude.{◌==◌, ◌&&◌, ◌||◌, ◌+◌, ◌-◌, ◌/◌, ◌%◌, ℕ, nat_le, Bool, if◌then◌else◌, List, [], ◌∷◌, ◌++◌}
 use Rattle.std.specs.Prelude.{length, map, slice_index, take, None}
 use Rattle.std.specs.List.{flat_map}
 use Rattle.zcore.specs.declared.next.Next.{Next}
@@ -13,7 +13,7 @@ use Rattle.zcore.specs.State.{Pending, State, Out, ◌>>=◌}
 use Rattle.zcore.specs.Turn.{with_bytes}
 use Rattle.zcore_standard.specs.Input.{codes_typed, small}
 use Rattle.zcore_standard.specs.Place.{Here, within}
-use Rattle.zcore_standard.specs.Reading.{result_given, standard_given}
+use Rattle.zcore_standard.specs.Reading.{can_take, has_slots_or_none, result_given, standard_given}
 use Rattle.zcore_standard.specs.Streams.{begin_read}
 use Rattle.zcore_standard.specs.Words.{are_writable, test_slots}
 use Rattle.zcore_versions.specs.Keys.{key_bytes, is_dictionary, entry_for}
@@ -49,6 +49,17 @@ read_older story here after text parse = do
 
 -- The line
 
+-- what is waited for can be given: a key, or a line whose letters and the 0 after them have room
+abbrev pub can_take_old : List ℕ → ℕ → ℕ → Bool
+can_take_old memory text parse =
+    (text == 0)
+    || (are_writable memory text (1 + slice_index memory text) && nat_le 1 (slice_index memory text)
+    && has_slots_or_none memory parse)
+
+abbrev pub can_be_given : Story → List ℕ → ℕ → ℕ → Bool
+can_be_given story memory text parse =
+    if is_old story.version then can_take_old memory text parse else can_take memory text parse
+
 -- its letters, in ZSCII and in small letters, as many as there is room for
 abbrev pub letters_for : List ℕ → List ℕ → ℕ → List ℕ → List ℕ
 letters_for extra memory text line = map (small extra) (take (slice_index memory text - 1) (codes_typed extra line))
@@ -63,8 +74,10 @@ slot_bytes story memory w =
 -- The first words of the letters, as many as there are slots. What is looked up is read in the memory as it was.
 abbrev pub with_words : Story → List ℕ → ℕ → List ℕ → List ℕ → List ℕ
 with_words story memory parse letters written =
+    if parse == 0 then written
+    else (
     let words = first_words memory (dictionary_of memory) letters (slice_index memory parse) in
-    with_bytes written (parse + 1) (length words ∷ flat_map (slot_bytes story memory) words)
+    with_bytes written (parse + 1) (length words ∷ flat_map (slot_bytes story memory) words))
 
 -- first the text buffer, then the parse buffer; where a key was waited for, there is neither
 abbrev pub memory_given : Story → ℕ → ℕ → List ℕ → List ℕ → List ℕ

@@ -10,5 +10,5 @@ pub use laws::{
     every_turn_of_any_version_ends, keeps_what_the_profile_steps_elsewhere,
     late_versions_are_standard, waits_for_what_can_be_given,
 };
-pub use operations::OlderOperation;
+pub use operations::VersionOperation;
 pub use version::StoryVersion;

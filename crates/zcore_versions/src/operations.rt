@@ -1,31 +1,23 @@
 //! The operations that a version performs otherwise than versions 5 and 8.
 
 ghost use Rattle.std.specs.Prelude.{◌≡◌};
+ghost use Rattle.zcore.specs.Operations.{plain};
+ghost use Rattle.zcore.specs.declared.operations.OperandCount.TheVariants as counts;
 ghost use Rattle.zcore_versions.specs.Operations as table;
 
+use crate::version::StoryVersion;
 use zcore::{OpcodeRow, OperandCount, Operation};
+use zcore_standard::{Action, OlderOperation, Opcode, StandardOperation};
 
 /// What an opcode does in a version, where versions 5 and 8 do something else (Z-Machine Standards
 /// Document 1.1, section 15).
 #[derive(Clone, Copy, Debug, PartialEq, Eq)]
-pub enum OlderOperation {
+pub enum VersionOperation {
     /// An operation of the profile, on packed addresses, objects or texts of the version.
     Known(Operation),
 
-    /// `not` with an opcode of one operand.
-    Not,
-
-    /// `pop`: drops the top of the stack.
-    Pop,
-
-    /// `save`, which fails.
-    Save,
-
-    /// `restore`, which fails.
-    Restore,
-
-    /// `sread`: waits for a line.
-    Read,
+    /// An operation of versions up to 4.
+    Older(OlderOperation),
 
     /// `split_window` of version 3, which always empties the upper window.
     SplitWindow,
@@ -34,52 +26,107 @@ pub enum OlderOperation {
     Missing,
 }
 
-impl OlderOperation {
-    /// How many operands it takes in a version, and what follows them.
-    pub fn row(self, version: u8) -> OpcodeRow
-        ensures { result ≡ table.row_of version self }
+impl StoryVersion {
+    /// What the version makes of an opcode, where versions 5 and 8 make something else of it, with its
+    /// operands and what follows them.
+    pub fn operation(self, opcode: Opcode) -> Option<(VersionOperation, OpcodeRow)>
+        ensures { result ≡ table.with_row self.number (table.of_opcode self opcode) }
     {
-        match self {
-            OlderOperation::Known(operation) => operation.row(),
-            OlderOperation::Not => row(OperandCount::One, 15, 1, 1, true, false),
-            OlderOperation::Pop => row(OperandCount::Zero, 9, 0, 0, false, false),
-            OlderOperation::Save => file_row(5, version),
-            OlderOperation::Restore => file_row(6, version),
-            OlderOperation::Read => {
-                let most = if version <= 3 { 2 } else { 4 };
-                row(OperandCount::Several, 4, 2, most, false, false)
+        if self.is_late() {
+            return None;
+        }
+        let Some(row) = opcode.row(self.number) else {
+            return Some((VersionOperation::Missing, no_operands()));
+        };
+        match row.action {
+            Action::Profile(operation) if differs(self.number, operation) => {
+                Some((VersionOperation::Known(operation), row.shape))
             }
-            OlderOperation::SplitWindow => row(OperandCount::Several, 10, 1, 1, false, false),
-            OlderOperation::Missing => row(OperandCount::Zero, 0, 0, 0, false, false),
+            Action::Standard(StandardOperation::SplitWindow) if self.number == 3 => {
+                Some((VersionOperation::SplitWindow, row.shape))
+            }
+            Action::Older(operation) => Some((VersionOperation::Older(operation), row.shape)),
+            _ => None,
         }
     }
 }
 
-/// `save` and `restore` branch up to version 3, and give a result in version 4.
-fn file_row(number: u8, version: u8) -> OpcodeRow
-    ensures { result ≡ table.file_row version number }
-{
-    row(OperandCount::Zero, number, 0, 0, version > 3, version <= 3)
-}
-
-/// A row without a text.
-fn row(
-    count: OperandCount,
-    number: u8,
-    least: usize,
-    most: usize,
-    has_result: bool,
-    has_branch: bool,
-) -> OpcodeRow
-    ensures { result ≡ table.row count number least most has_result has_branch }
+/// The row of what is not there.
+fn no_operands() -> OpcodeRow
+    ensures { result ≡ plain counts.Zero 0 0 0 }
 {
     OpcodeRow {
-        count,
-        number,
-        least_operands: least,
-        most_operands: most,
-        has_result,
-        has_branch,
+        count: OperandCount::Zero,
+        number: 0,
+        least_operands: 0,
+        most_operands: 0,
+        has_result: false,
+        has_branch: false,
         has_text: false,
     }
+}
+
+/// Whether a version performs an operation of the profile otherwise than versions 5 and 8.
+fn differs(version: u8, operation: Operation) -> bool
+    ensures { result ≡ table.differs version operation }
+{
+    takes_packed_address(operation)
+        || (uses_objects(operation) && version <= 3)
+        || (prints_text(operation) && version <= 2)
+}
+
+/// Whether an operand of an operation is a packed address.
+fn takes_packed_address(operation: Operation) -> bool
+    ensures { result ≡ table.takes_packed_address operation }
+{
+    matches!(
+        operation,
+        Operation::CallVs
+            | Operation::CallVs2
+            | Operation::CallVn
+            | Operation::CallVn2
+            | Operation::Call1s
+            | Operation::Call2s
+            | Operation::Call1n
+            | Operation::Call2n
+            | Operation::PrintPacked
+    )
+}
+
+/// Whether an operation concerns an object or a property.
+fn uses_objects(operation: Operation) -> bool
+    ensures { result ≡ table.uses_objects operation }
+{
+    matches!(
+        operation,
+        Operation::JumpIfIn
+            | Operation::TestAttribute
+            | Operation::SetAttribute
+            | Operation::ClearAttribute
+            | Operation::InsertObject
+            | Operation::RemoveObject
+            | Operation::GetParent
+            | Operation::GetSibling
+            | Operation::GetChild
+            | Operation::GetProperty
+            | Operation::GetPropertyAddress
+            | Operation::GetPropertyLength
+            | Operation::GetNextProperty
+            | Operation::PutProperty
+            | Operation::PrintObject
+    )
+}
+
+/// Whether an operation prints a text of Z-characters.
+fn prints_text(operation: Operation) -> bool
+    ensures { result ≡ table.prints_text operation }
+{
+    matches!(
+        operation,
+        Operation::Print
+            | Operation::PrintReturn
+            | Operation::PrintAddress
+            | Operation::PrintPacked
+            | Operation::PrintObject
+    )
 }

@@ -1,5 +1,5 @@
 use Rattle.std.proofs.Common.{arith}
-use Rattle.journal_pages.proofs.Packed.{packed_len_bytes, packed_len_words}
+use Rattle.journal.proofs.Packed.{packed_len_bytes, packed_len_words}
 use Rattle.journal.proofs.packing.packed_size.Goals as goal
 
 pub returns-then-page-lt-WORD_PAGES : goal.returns-then-page-lt-WORD_PAGES

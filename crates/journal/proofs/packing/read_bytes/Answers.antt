@@ -1,6 +1,6 @@
 use Rattle.std.proofs.Common.{◌≡◌, ◌+◌, ◌*◌, ◌≤◌, [], slice_index, ap, arith, ◌∙◌}
 use Rattle.std.proofs.lemmas.List.{take_more_set}
-use Rattle.journal_pages.proofs.Pages.{below_next, run_more}
+use Rattle.journal.proofs.Pages.{below_next, run_more}
 use Rattle.journal.proofs.packing.read_bytes.Goals as goal
 
 pub cell_of-requires-clause-within : goal.cell_of-requires-clause-within

@@ -1,6 +1,6 @@
 use Rattle.std.proofs.Common.{◌≡◌, ◌+◌, ◌*◌, ◌≤◌, ℕ, slice_index, ap, arith, refl, ◌∙◌}
-use Rattle.journal_pages.proofs.Packed.{words_more}
-use Rattle.journal_pages.proofs.Pages.{below_next}
+use Rattle.journal.proofs.Packed.{words_more}
+use Rattle.journal.proofs.Pages.{below_next}
 use Rattle.journal.proofs.packing.read_words.Goals as goal
 
 pub cell_of-requires-clause-within : goal.cell_of-requires-clause-within

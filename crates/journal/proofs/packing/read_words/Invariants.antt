@@ -1,5 +1,5 @@
 use Rattle.std.proofs.Common.{◌≡◌, ℕ, ◌+◌, ◌-◌, ◌*◌, ◌<◌, ◌≤◌, slice_index}
-use Rattle.journal_pages.specs.Pages.{word_at}
+use Rattle.journal.specs.Pages.{word_at}
 use Rattle.journal.proofs.packing.read_words.Given as goal
 
 abbrev pub invariant-offsets : goal.invariant-offsets

@@ -1,8 +1,8 @@
 use Rattle.std.proofs.Common.{◌*◌, ◌<◌, ◌∙◌, ℕ, List, ap, arith, length, refl}
 use Rattle.std.proofs.lemmas.List.{take_all}
 use Rattle.std.proofs.lemmas.List.Elements.{All-get_or}
-use Rattle.journal_pages.specs.Pages.{cells_of}
-use Rattle.journal_pages.proofs.Steps.{page_at, page_within}
+use Rattle.journal.specs.Pages.{cells_of}
+use Rattle.journal.proofs.Steps.{page_at, page_within}
 use Rattle.journal.proofs.record.cell_count.Goals as goal
 
 pub loop-slot-init : goal.loop-slot-init

@@ -1,5 +1,5 @@
 use Rattle.std.proofs.Common.{◌≡◌, length, take}
-use Rattle.journal_pages.specs.Pages.{cells_of}
+use Rattle.journal.specs.Pages.{cells_of}
 use Rattle.journal.proofs.record.cell_count.Given as goal
 
 abbrev pub invariant-loop-slot : goal.invariant-loop-slot

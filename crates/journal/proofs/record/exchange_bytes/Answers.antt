@@ -1,6 +1,6 @@
 use Rattle.std.proofs.Common.{◌*◌, ℕ, length, arith, subst, sym}
-use Rattle.journal_pages.specs.Pages.{AreWithin}
-use Rattle.journal_pages.proofs.Runs.{are_within, exchanged, fit_within}
+use Rattle.journal.specs.Pages.{AreWithin}
+use Rattle.journal.proofs.Runs.{are_within, exchanged, fit_within}
 use Rattle.journal.proofs.record.exchange_bytes.Goals as goal
 
 pub exchange_bytes-requires-clause-within : goal.exchange_bytes-requires-clause-within

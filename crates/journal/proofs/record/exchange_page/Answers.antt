@@ -1,7 +1,7 @@
 use Rattle.std.proofs.Common.{◌∙◌, ℕ, List, length, arith, ap, sym, subst}
-use Rattle.journal_pages.specs.Swap.{Fits, back, forward}
-use Rattle.journal_pages.specs.Pages.{page_entries}
-use Rattle.journal_pages.proofs.Packed.{packed_len_bytes, packed_len_words, unpacked_bytes, unpacked_words}
+use Rattle.journal.specs.Swap.{Fits, back, forward}
+use Rattle.journal.specs.Pages.{page_entries}
+use Rattle.journal.proofs.Packed.{packed_len_bytes, packed_len_words, unpacked_bytes, unpacked_words}
 use Rattle.journal.proofs.record.exchange_page.Goals as goal
 
 pub exchange_words-requires-clause-packed : goal.exchange_words-requires-clause-packed

@@ -1,8 +1,8 @@
 use Rattle.std.proofs.Common.{◌≡◌, ◌*◌, ◌∙◌, ℕ, List, length, take, drop, ap, arith, subst, sym}
 use Rattle.std.proofs.lemmas.List.{length-take-le}
-use Rattle.journal_pages.specs.Swap.{Fits, back, forward}
-use Rattle.journal_pages.specs.Pages.{AreWithin, page_entries, words_of}
-use Rattle.journal_pages.proofs.Runs.{are_within, exchanged, fit_within, packed_front, unpacked_front}
+use Rattle.journal.specs.Swap.{Fits, back, forward}
+use Rattle.journal.specs.Pages.{AreWithin, page_entries, words_of}
+use Rattle.journal.proofs.Runs.{are_within, exchanged, fit_within, packed_front, unpacked_front}
 use Rattle.journal.proofs.record.exchange_words.Goals as goal
 
 pub exchange_words-requires-clause-within : goal.exchange_words-requires-clause-within

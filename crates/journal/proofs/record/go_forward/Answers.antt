@@ -1,13 +1,13 @@
 use Rattle.std.proofs.Common.{◌≡◌, ◌+◌, ◌-◌, ℕ, List, ◌++◌, length, get_or, take, drop, refl, ap, sym, subst}
 use Rattle.std.proofs.Common.{◌∙◌, arith}
 use Rattle.std.proofs.lemmas.List.{with_items_is}
-use Rattle.journal_pages.specs.Swap.{Fits}
-use Rattle.journal_pages.specs.Pages.{cells_of, page_entries, page_unpacked, values_of}
-use Rattle.journal_pages.proofs.Packed.{length-values_of, packed_at}
-use Rattle.journal_pages.proofs.PackedSwaps.{length-packed_row, length-packed_with}
-use Rattle.journal_pages.proofs.PackedSwaps.{packed_after, packed_forward_ends, packed_fits}
-use Rattle.journal_pages.proofs.PackedSwaps.{packed_gone_forward, packed_inside, start_of}
-use Rattle.journal_pages.proofs.Steps.{GoneForward, forward_starts}
+use Rattle.journal.specs.Swap.{Fits}
+use Rattle.journal.specs.Pages.{cells_of, page_entries, page_unpacked, values_of}
+use Rattle.journal.proofs.Packed.{length-values_of, packed_at}
+use Rattle.journal.proofs.PackedSwaps.{length-packed_row, length-packed_with}
+use Rattle.journal.proofs.PackedSwaps.{packed_after, packed_forward_ends, packed_fits}
+use Rattle.journal.proofs.PackedSwaps.{packed_gone_forward, packed_inside, start_of}
+use Rattle.journal.proofs.Steps.{GoneForward, forward_starts}
 use Rattle.journal.proofs.record.go_forward.Goals as goal
 
 pub pages-init : goal.pages-init

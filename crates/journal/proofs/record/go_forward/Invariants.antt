@@ -1,7 +1,7 @@
 use Rattle.std.proofs.Common.{◌≡◌, length, take}
-use Rattle.journal_pages.specs.Pages.{cells_of, packed_size, values_of}
-use Rattle.journal_pages.proofs.PackedSwaps.{start_of}
-use Rattle.journal_pages.proofs.Steps.{GoneForward}
+use Rattle.journal.specs.Pages.{cells_of, packed_size, values_of}
+use Rattle.journal.proofs.PackedSwaps.{start_of}
+use Rattle.journal.proofs.Steps.{GoneForward}
 use Rattle.journal.proofs.record.go_forward.Given as goal
 
 abbrev pub invariant-pages : goal.invariant-pages

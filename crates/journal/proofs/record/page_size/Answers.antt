@@ -1,5 +1,5 @@
 use Rattle.std.proofs.Common.{arith}
-use Rattle.journal_pages.proofs.Pages.{page_len_is}
+use Rattle.journal.proofs.Pages.{page_len_is}
 use Rattle.journal.proofs.record.page_size.Goals as goal
 
 pub returns-then-left-lt-PAGE-clause-result : goal.returns-then-left-lt-PAGE-clause-result

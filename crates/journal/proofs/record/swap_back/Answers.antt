@@ -1,5 +1,5 @@
 use Rattle.std.proofs.Common.{refl}
-use Rattle.journal_pages.proofs.Swaps.{forward-back}
+use Rattle.journal.proofs.Swaps.{forward-back}
 use Rattle.journal.proofs.record.swap_back.Goals as goal
 
 pub returns-clause-inverse : goal.returns-clause-inverse

@@ -1,5 +1,5 @@
 use Rattle.std.proofs.Common.{refl}
-use Rattle.journal_pages.proofs.Swaps.{back-forward}
+use Rattle.journal.proofs.Swaps.{back-forward}
 use Rattle.journal.proofs.record.swap_forward.Goals as goal
 
 pub returns-clause-inverse : goal.returns-clause-inverse

@@ -1,8 +1,8 @@
 use Rattle.std.proofs.Common.{◌*◌, ◌≤◌, ℕ, List, arith, length, slice_index, take}
 use Rattle.std.proofs.lemmas.List.FromFn.{length-map-range_with_len}
 use Rattle.std.proofs.lemmas.Result.{on_ok_weaker}
-use Rattle.journal_pages.specs.Pages.{page_values}
-use Rattle.journal_pages.proofs.Packed.{added, appended, bytes_read, packed_len_bytes, packed_len_words, words_read}
+use Rattle.journal.specs.Pages.{page_values}
+use Rattle.journal.proofs.Packed.{added, appended, bytes_read, packed_len_bytes, packed_len_words, words_read}
 use Rattle.journal.proofs.recorded.copy_cells.Goals as goal
 
 pub returns-then-page-lt-WORD_PAGES-clause-ok : goal.returns-then-page-lt-WORD_PAGES-clause-ok

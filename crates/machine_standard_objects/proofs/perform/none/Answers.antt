@@ -3,6 +3,7 @@ use Rattle.zcore.specs.declared.instruction.Branch.{Branch}
 use Rattle.zcore.specs.Execution.{perform}
 use Rattle.zcore_standard.specs.Printing.{is_text, perform_text}
 use Rattle.machine_standard_objects.proofs.Performing.{known_told, text_told, is_several, no_flags, none_plain, without_none}
+use Rattle.machine_standard_objects.proofs.Performing.{is_one_or_none, unforgiven}
 use Rattle.machine_standard_objects.proofs.perform.none.Goals as goal
 
 pub returns-in-Print-clause-told : goal.returns-in-Print-clause-told
@@ -32,5 +33,6 @@ returns-in_default-clause-told c =
     known_told c.args.loaded.now c.args.operation c.args.here c.args.after none stays [] _
     (without_none c.args.operation [] c.requires.count)
     (no_flags c.args.operation [] (ap is_several c.requires.count))
+    (unforgiven c.args.operation [] (ap is_one_or_none c.requires.count))
     (none_plain c.args.operation c.requires.count c.in_default.not-Print c.in_default.not-PrintReturn)
     c.perform_none.ensures.told

@@ -1,4 +1,4 @@
-use Rattle.std.proofs.Common.{◌≡◌, arith, subst, sym, List, ℕ, take}
+use Rattle.std.proofs.Common.{◌≡◌, arith, List, ℕ, take}
 use Rattle.std.specs.Prelude.{IfSome}
 use Rattle.blorb.specs.Stories.{most_bytes}
 use Rattle.play.proofs.Playing.{result_is_played, start_read}
@@ -10,8 +10,5 @@ returns g c =
     start_read most_bytes g.R.Read.remaining c.take.result c.args.file c.new-packed.result.items
     c.read_to_end.new.buf.items c.take.ensures.limit c.take.ensures.inner c.new-packed.ensures.items
     c.in_ok-read_to_end.ensures.bytes in
-    let all : IfSome (g.R.Read.remaining c.args.file) (λ bytes. c.deref.result.now ≡ take most_bytes bytes) =
-    subst (λ (l : List ℕ). IfSome (g.R.Read.remaining c.args.file) (λ bytes. l ≡ take most_bytes bytes))
-    (sym c.deref.ensures.value) read in
-    result_is_played c.story_of.result (g.R.Read.remaining c.args.file) most_bytes c.deref.result.now (omega arith) all
-    c.story_of.ensures
+    result_is_played c.story_of.result (g.R.Read.remaining c.args.file) most_bytes c.read_to_end.new.buf.items
+    (omega arith) read c.story_of.ensures

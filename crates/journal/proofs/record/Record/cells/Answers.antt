@@ -1,8 +1,8 @@
 use Rattle.std.proofs.Common.{◌≡◌, ◌≤◌, List, ℕ, ap, arith, length, subst, sym}
-use Rattle.journal_pages.specs.Pages.{cells_of, values_of}
-use Rattle.journal_pages.proofs.Packed.{length-values_of}
-use Rattle.journal_pages.proofs.Pages.{length-cells_of-le}
-use Rattle.journal_pages.proofs.Steps.{length-entries}
+use Rattle.journal.specs.Pages.{cells_of, values_of}
+use Rattle.journal.proofs.Packed.{length-values_of}
+use Rattle.journal.proofs.Pages.{length-cells_of-le}
+use Rattle.journal.proofs.Steps.{length-entries}
 use Rattle.journal.proofs.record.Record.cells.Goals as goal
 
 pub cell_count-requires-clause-within : goal.cell_count-requires-clause-within

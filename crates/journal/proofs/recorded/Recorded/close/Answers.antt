@@ -1,7 +1,7 @@
 use Rattle.std.proofs.Common.{◌∙◌, ap, arith, length, map, slice_index}
-use Rattle.journal_pages.specs.Pages.{cells_of}
-use Rattle.journal_pages.proofs.Held.{nothing_held}
-use Rattle.journal_pages.proofs.HandedOut.{handed_out}
+use Rattle.journal.specs.Pages.{cells_of}
+use Rattle.journal.proofs.Held.{nothing_held}
+use Rattle.journal.proofs.HandedOut.{handed_out}
 use Rattle.journal.proofs.recorded.Recorded.close.Goals as goal
 
 pub invariant_of-self : goal.invariant_of-self

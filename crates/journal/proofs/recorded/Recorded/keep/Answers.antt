@@ -1,9 +1,9 @@
 use Rattle.std.proofs.Common.{◌≡◌, ℕ, ◌<◌, ◌++◌, ◌∷◌, [], ◌*◌, ◌∙◌, Bool, List, ap, arith, length, slice_index, false}
 use Rattle.std.proofs.Common.{subst, sym}
 use Rattle.std.proofs.lemmas.Grind.{common_steps}
-use Rattle.journal_pages.specs.Pages.{IsHeld, keeps, page_len}
-use Rattle.journal.proofs.Held.{same_recording}
-use Rattle.journal_pages.proofs.Held.{beginning_push, held_push}
+use Rattle.journal.specs.Pages.{IsHeld, keeps, page_len}
+use Rattle.journal.proofs.Recordings.{same_recording}
+use Rattle.journal.proofs.Held.{beginning_push, held_push}
 use Rattle.journal.proofs.recorded.Recorded.keep.Goals as goal
 
 pub invariant_of-self-2 : goal.invariant_of-self-2

@@ -1,5 +1,5 @@
 use Rattle.std.proofs.Common.{ap, ◌∙◌, length}
-use Rattle.journal_pages.proofs.Lending.{beginning_kept, held_still, kept_by_flags}
+use Rattle.journal.proofs.Lending.{beginning_kept, held_still, kept_by_flags}
 use Rattle.journal.proofs.recorded.Recorded.lend.Goals as goal
 
 pub invariant_of-self : goal.invariant_of-self

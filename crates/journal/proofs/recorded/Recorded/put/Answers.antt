@@ -1,8 +1,8 @@
 use Rattle.std.proofs.Common.{◌≡◌, ◌/◌, ◌<◌, ◌∙◌, ap, sym, arith, true, length, [], ◌∷◌, ◌++◌}
 use Rattle.std.proofs.lemmas.Grind.{common_steps}
-use Rattle.journal_pages.specs.Pages.{keeps}
-use Rattle.journal.proofs.Held.{recording}
-use Rattle.journal_pages.proofs.Held.{beginning_put, keeps_push}
+use Rattle.journal.specs.Pages.{keeps}
+use Rattle.journal.proofs.Recordings.{recording}
+use Rattle.journal.proofs.Held.{beginning_put, keeps_push}
 use Rattle.journal.proofs.recorded.Recorded.put.Goals.{else-not-is_kept-via-then-not-is_kept+else-is_err}
 use Rattle.journal.proofs.recorded.Recorded.put.Goals.{else-not-is_kept-via-else-not-is_kept}
 use Rattle.journal.proofs.recorded.Recorded.put.Goals as goal

@@ -1,3 +1,0 @@
-pub mod Swap
-pub mod Pages
-pub mod PageNumbers
