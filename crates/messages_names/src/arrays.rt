@@ -1,11 +1,23 @@
 //! The entry or the size of an array (E28). The tokens are those of a program.
 
+use crate::kinds::{array_kind, most_entries};
+use crate::site::Site;
 use checker_names::{Known, Table, constant_known, find};
-use messages_contexts::{after, is_sign, is_word, kind_at};
-use messages_names::{Site, array_kind, most_entries};
+use messages_contexts::{after, is_sign, kind_at};
 use messages_tokens::{Figure, Quoted, some};
 use std::alloc::{AllocError, Global};
 use syntax::{ArrayKind, Kind, Sign, Token, Word};
+
+/// What is known of the value that begins with the token of a number.
+fn known_at(tokens: &[Token<'_>], at: usize, table: &Table) -> Option<Known> {
+    match kind_at(tokens, at) {
+        Kind::Sign(Sign::Minus) => match known_token(tokens, after(at, 1), table) {
+            Some(Known::Number(number)) => Some(Known::Number(0_u16.wrapping_sub(number))),
+            other => other,
+        },
+        _ => known_token(tokens, at, table),
+    }
+}
 
 /// What is known of the value that is the token of a number, but of one with `-` before it.
 fn known_token(tokens: &[Token<'_>], at: usize, table: &Table) -> Option<Known> {
@@ -14,42 +26,22 @@ fn known_token(tokens: &[Token<'_>], at: usize, table: &Table) -> Option<Known> 
         Kind::Character(character) => Some(Known::Number(character as u16)),
         Kind::DictionaryWord(_) => Some(Known::Key(0)),
         Kind::Name(text) => constant_known(find(table, text)),
-        Kind::Reserved(word) => Some(Known::Number((word as u8 == Word::True as u8) as u16)),
+        Kind::Reserved(word) => Some(Known::Number(matches!(word, Word::True) as u16)),
         _ => None,
-    }
-}
-
-/// The value that is a number with `-` before it.
-fn negative(known: Option<Known>) -> Option<Known> {
-    match known {
-        Some(Known::Number(number)) => Some(Known::Number(0_u16.wrapping_sub(number))),
-        other => other,
-    }
-}
-
-/// What is known of the value that begins with the token of a number.
-fn known_at(tokens: &[Token<'_>], at: usize, table: &Table) -> Option<Known> {
-    if is_sign(tokens, at, Sign::Minus) {
-        negative(known_token(tokens, after(at, 1), table))
-    } else {
-        known_token(tokens, at, table)
     }
 }
 
 /// The kind of the array of which the token of a number tells it.
 fn kind_told(tokens: &[Token<'_>], at: usize) -> ArrayKind {
-    if is_sign(tokens, at, Sign::Arrow) {
-        ArrayKind::Bytes
-    } else if is_sign(tokens, at, Sign::LongArrow) {
-        ArrayKind::Words
-    } else if is_word(tokens, at, Word::String) {
-        ArrayKind::String
-    } else {
-        ArrayKind::Table
+    match kind_at(tokens, at) {
+        Kind::Sign(Sign::Arrow) => ArrayKind::Bytes,
+        Kind::Sign(Sign::LongArrow) => ArrayKind::Words,
+        Kind::Reserved(Word::String) => ArrayKind::String,
+        _ => ArrayKind::Table,
     }
 }
 
-/// How many values stand from the token of a number to the end of a definition.
+/// How many values are from the token of a number to the end of a definition.
 fn values(tokens: &[Token<'_>], first: usize) -> usize {
     let mut count: usize = 0;
     for number in first..tokens.len() {
@@ -84,37 +76,28 @@ fn entry(alloc: Global, known: Option<Known>) -> Result<Option<String>, AllocErr
 /// What is wrong with a number of entries.
 fn size(site: Site<'_, '_>, kind: ArrayKind, count: usize) -> Result<String, AllocError> {
     let name = Quoted(site.token.text);
-    let count = Figure(count as u128);
-    let most = Figure(most_entries(kind) as u128);
+    let (count, most) = (Figure(count as u128), Figure(most_entries(kind) as u128));
     let kind = array_kind(kind);
     format!(in site.alloc; "{name} has {count} entries; {kind} has 1 to {most}")
-}
-
-/// What is wrong with the only value of an array.
-fn only(
-    site: Site<'_, '_>,
-    kind: ArrayKind,
-    known: Option<Known>,
-) -> Result<Option<String>, AllocError> {
-    match known {
-        Some(Known::Number(count)) => some(size(site, kind, count as usize)),
-        Some(Known::Key(_)) => {
-            let name = Quoted(site.token.text);
-            some(format!(in site.alloc;
-                "the size of {name} is a dictionary word; a number is expected"
-            ))
-        }
-        None => Ok(None),
-    }
 }
 
 /// What is wrong with the number of entries of the array whose name is a token.
 fn entries(site: Site<'_, '_>, table: &Table) -> Result<Option<String>, AllocError> {
     let kind = kind_told(site.tokens, after(site.at, 1));
     let first = after(site.at, 2);
-    match values(site.tokens, first) {
-        1 => only(site, kind, known_at(site.tokens, first, table)),
-        count => some(size(site, kind, count)),
+    match (
+        values(site.tokens, first),
+        known_at(site.tokens, first, table),
+    ) {
+        (1, Some(Known::Number(count))) => some(size(site, kind, count as usize)),
+        (1, Some(Known::Key(_))) => {
+            let name = Quoted(site.token.text);
+            some(format!(in site.alloc;
+                "the size of {name} is a dictionary word; a number is expected"
+            ))
+        }
+        (1, None) => Ok(None),
+        (count, _) => some(size(site, kind, count)),
     }
 }
 

@@ -1,13 +1,14 @@
 //! Reserved words that may be misspelt as names.
 
-use crate::repairs::{Change, Trial};
+use crate::attempts::Put;
+use crate::trials::Trial;
 use messages_contexts::{
     MOST_EDITS, before, in_small_letters, is_near, is_unknown, start_of, text_at,
 };
 use messages_parts::is_habit;
 use messages_tokens::RESERVED_WORDS;
 use strsim::generic_levenshtein;
-use syntax::{Kind, Word};
+use syntax::Word;
 
 /// How many tokens before one that does not fit may be misspelt, at most.
 const MOST_BEFORE: usize = 12;
@@ -29,7 +30,7 @@ fn word_at_distance(
         };
         if edits == distance
             && is_near(name, edits, written)
-            && trial.mends(Change::Instead(number, Kind::Reserved(word)))
+            && trial.reach(number, number.saturating_add(1), Put::Word(word)) == usize::MAX
         {
             return Some(word);
         }

@@ -1,13 +1,13 @@
 //! A call with more arguments than the routine has locals (E25).
 
+use crate::site::Site;
 use checker_names::{Binding, Table, find};
 use messages_contexts::{after, is_sign, open_after};
-use messages_names::Site;
 use messages_tokens::{Counted, Quoted, some};
 use std::alloc::AllocError;
 use syntax::{Sign, Token};
 
-/// How many commas stand in parentheses that open with the token of a number, in no others.
+/// How many commas are in parentheses that open with the token of a number, in no others.
 fn commas(tokens: &[Token<'_>], opening: usize) -> usize {
     let mut open: usize = 0;
     let mut commas: usize = 0;
@@ -23,33 +23,22 @@ fn commas(tokens: &[Token<'_>], opening: usize) -> usize {
     commas
 }
 
-/// How many arguments stand in parentheses that open with the token of a number.
-fn count(tokens: &[Token<'_>], opening: usize) -> usize {
-    if is_sign(tokens, after(opening, 1), Sign::CloseParenthesis) {
-        0
-    } else {
-        commas(tokens, opening).saturating_add(1)
-    }
-}
-
-/// How many locals a routine has. `None` where a name stands for no routine.
-fn locals_of(table: &Table, name: &[u8]) -> Option<usize> {
-    match find(table, name) {
-        Some(Binding::Routine(_, locals)) => Some(locals),
-        _ => None,
-    }
-}
-
 /// What is wrong with the arguments of the call that begins with a token.
 ///
 /// # Errors
 ///
 /// `AllocError` where memory is refused.
 pub fn too_many_arguments(site: Site<'_, '_>, table: &Table) -> Result<Option<String>, AllocError> {
-    let Some(locals) = locals_of(table, site.token.text) else {
+    let Some(Binding::Routine(_, locals)) = find(table, site.token.text) else {
         return Ok(None);
     };
-    let given = Counted(count(site.tokens, after(site.at, 1)) as u128, "argument");
+    let opening = after(site.at, 1);
+    let count = if is_sign(site.tokens, after(opening, 1), Sign::CloseParenthesis) {
+        0
+    } else {
+        commas(site.tokens, opening).saturating_add(1)
+    };
+    let given = Counted(count as u128, "argument");
     let locals = Counted(locals as u128, "local");
     let name = Quoted(site.token.text);
     some(format!(in site.alloc;
