@@ -7,7 +7,7 @@ ghost use Rattle.zcore_standard.specs.Loaded.{alphabets_of};
 ghost use Rattle.machine_frames.specs.States.{IsSound, IsStoreOf};
 ghost use Rattle.machine_frames.specs.Went.{Went};
 
-use crate::fill::{are_writable, fill};
+use crate::fill::{are_writable, fill_bytes};
 use crate::form::form_of;
 use journal::Recorded;
 use machine_frames::{End, Store};
@@ -92,6 +92,6 @@ fn write_form(
     if !are_writable(header.static_base, at, KEY_LENGTH) {
         return Err(End::Stop(Place::Fault(Fault::Write)));
     }
-    fill(store, at, form)?;
+    fill_bytes(store, at, form)?;
     Ok(())
 }

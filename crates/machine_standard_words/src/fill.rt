@@ -16,7 +16,7 @@ use zcore::layout::HEADER_LENGTH;
 
 /// Whether so many bytes from an address on are in dynamic memory after the header, in a story with
 /// this static base.
-pub(crate) fn are_writable(static_base: u16, at: usize, count: usize) -> bool
+pub fn are_writable(static_base: u16, at: usize, count: usize) -> bool
     requires address { at ≤ 65535 }
     requires few { count ≤ 65535 }
     ensures { (memory : List ℕ) → static_base ≡ static_base_of memory
@@ -26,7 +26,7 @@ pub(crate) fn are_writable(static_base: u16, at: usize, count: usize) -> bool
 }
 
 /// Writes a byte with a count, and the bytes after it.
-pub(crate) fn fill_counted(
+pub fn fill_counted(
     store: &mut Recorded<Store>,
     at: usize,
     count: u8,
@@ -38,12 +38,12 @@ pub(crate) fn fill_counted(
     ensures filled { OnOk result (Fills store.old store.new at (count ∷ bytes.now)) }
     ensures given_up { OnErr result (GivenUp store.old store.new) }
 {
-    fill(store, at, &[count])?;
-    fill(store, at + 1, bytes)
+    fill_bytes(store, at, &[count])?;
+    fill_bytes(store, at + 1, bytes)
 }
 
 /// Writes bytes one after another to dynamic memory after the header.
-pub(crate) fn fill(store: &mut Recorded<Store>, at: usize, bytes: &[u8]) -> Result<(), NoMemory>
+pub fn fill_bytes(store: &mut Recorded<Store>, at: usize, bytes: &[u8]) -> Result<(), NoMemory>
     requires sound { IsSound store.old.store }
     requires behind_header { header_size ≤ at }
     requires room { at + length bytes.now ≤ static_base_of (memory_of store.old.store) }

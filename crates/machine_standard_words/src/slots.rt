@@ -80,7 +80,7 @@ pub(crate) fn count_words(memory: &[u8], dictionary: u16, letters: &[u8], most: 
 }
 
 /// The bytes that a dictionary names as separators.
-fn separators(memory: &[u8], dictionary: u16) -> &[u8]
+pub fn separators(memory: &[u8], dictionary: u16) -> &[u8]
     requires { HasDictionaryHead memory.now dictionary }
     ensures { result.now ≡ separators_of memory.now dictionary }
 {
@@ -136,7 +136,8 @@ fn put_slot(
     }
 }
 
-fn put_four(bytes: &mut [u8; 1020], place: usize, a: u8, b: u8, c: u8, d: u8)
+/// Writes four bytes to a place of a row.
+pub fn put_four(bytes: &mut [u8; 1020], place: usize, a: u8, b: u8, c: u8, d: u8)
     requires { place + 4 ≤ 1020 }
     ensures { take (place + 4) bytes.new ≡ take place bytes.old ++ a ∷ b ∷ c ∷ d ∷ [] }
 {

@@ -8,6 +8,9 @@ pub record Story : Type 0 where
   pub loaded : Loaded
   pub version : StoryVersion
 
+abbrev pub versioned : Loaded → StoryVersion → Story
+versioned loaded version = record { loaded = loaded; version = version }
+
 -- versions 1 and 2: a text can lock an alphabet (3.2.2)
 abbrev pub locks_alphabets : StoryVersion → Bool
 locks_alphabets version = nat_le version.number 2

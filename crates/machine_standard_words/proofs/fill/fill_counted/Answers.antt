@@ -12,5 +12,5 @@ overflow_add-at c = omega (
 )
 
 pub returns-clause-filled : goal.returns-clause-filled
-returns-clause-filled c = counted_filled c.args.store.now c.fill.new.store c.fill-2.new.store c.args.at c.args.count
-    c.args.bytes.now c.fill-2.result c.in_ok-fill.ensures.filled c.fill-2.ensures.filled
+returns-clause-filled c = counted_filled c.args.store.now c.fill_bytes.new.store c.fill_bytes-2.new.store c.args.at c.args.count
+    c.args.bytes.now c.fill_bytes-2.result c.in_ok-fill_bytes.ensures.filled c.fill_bytes-2.ensures.filled

@@ -2,7 +2,7 @@ use Rattle.std.proofs.Common.{arith, refl}
 use Rattle.machine_frames.proofs.Bytes.{byte_within}
 use Rattle.machine_frames.proofs.Kept.{length-memory}
 use Rattle.machine_lines.proofs.Filling.{fill_more}
-use Rattle.machine_standard_words.proofs.fill.fill.Goals as goal
+use Rattle.machine_standard_words.proofs.fill.fill_bytes.Goals as goal
 
 pub put-requires-clause-within : goal.put-requires-clause-within
 put-requires-clause-within c = byte_within _ _ (omega (arith, c.type_inv.bytes c.loop-i.i))
