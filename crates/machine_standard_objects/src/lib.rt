@@ -9,4 +9,5 @@ mod nothing;
 mod perform;
 mod step;
 
+pub use nothing::{concerns_nothing, perform_on_nothing};
 pub use step::step_known;

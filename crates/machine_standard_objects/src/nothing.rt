@@ -62,7 +62,7 @@ fn is_into_object(operation: Operation) -> bool
 }
 
 /// Whether an operation on these values is one on object 0.
-pub(crate) fn concerns_nothing(operation: Operation, values: &[u16]) -> bool
+pub fn concerns_nothing(operation: Operation, values: &[u16]) -> bool
     ensures { result ≡ definitions.concerns_nothing operation values.now }
 {
     (is_on_object(operation) && value_of(values, 0) == NOTHING)
@@ -75,7 +75,7 @@ pub(crate) fn concerns_nothing(operation: Operation, values: &[u16]) -> bool
 ///
 /// M6 and M4 of the result, then the faults of the branch; those of `remove_object` where an object
 /// goes into object 0. `End::Memory` where memory was refused: the turn is given up.
-pub(crate) fn perform_on_nothing(
+pub fn perform_on_nothing(
     header: &Header,
     store: &mut Recorded<Store>,
     here: Next,

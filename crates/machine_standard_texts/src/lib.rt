@@ -13,6 +13,6 @@ mod words;
 pub use characters::{is_ascii, is_printed};
 pub use fuel::spend_for;
 pub use printing::{
-    print_address, print_character, print_code, print_inline, print_object, print_packed,
-    print_return, print_transcript,
+    print_address, print_any_address, print_character, print_code, print_inline, print_object,
+    print_packed, print_return, print_transcript,
 };

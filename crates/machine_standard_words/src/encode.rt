@@ -7,10 +7,11 @@ ghost use Rattle.zcore_standard.specs.Loaded.{alphabets_of};
 ghost use Rattle.machine_frames.specs.States.{IsSound, IsStoreOf};
 ghost use Rattle.machine_frames.specs.Went.{Went};
 
-use crate::fill::{are_writable, fill_bytes};
 use crate::form::form_of;
+use crate::writable::are_writable;
 use journal::Recorded;
 use machine_frames::{End, Store};
+use machine_lines::fill;
 use zcore::layout::{KEY_LENGTH, READABLE};
 use zcore::{Fault, Header, Next, Place};
 use zcore_standard::Loaded;
@@ -92,6 +93,6 @@ fn write_form(
     if !are_writable(header.static_base, at, KEY_LENGTH) {
         return Err(End::Stop(Place::Fault(Fault::Write)));
     }
-    fill_bytes(store, at, form)?;
+    fill(store, at, form)?;
     Ok(())
 }

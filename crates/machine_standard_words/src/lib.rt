@@ -5,7 +5,6 @@
 
 mod characters;
 mod encode;
-mod fill;
 mod form;
 mod given;
 mod key;
@@ -16,14 +15,15 @@ mod slots;
 mod small;
 mod typed;
 mod waiting;
+mod writable;
 
 pub use encode::encode_text;
-pub use fill::{are_writable, fill_bytes, fill_counted};
 pub use form::{nine_characters, packed, put_characters, word_bytes};
 pub use given::{give_typed, stop_waiting};
 pub use key::key_of_line;
 pub use lines::{can_be_typed, put_small_letters};
 pub use parsing::{has_slots, tokenise};
 pub use search::entry_with_form;
-pub use slots::{put_four, separators};
+pub use slots::put_four;
 pub use waiting::{wait_for_key, wait_for_line};
+pub use writable::are_writable;

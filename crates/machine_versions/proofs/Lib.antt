@@ -3,3 +3,7 @@ pub mod Naming
 pub mod Walking
 pub mod Listing
 pub mod Values
+mod Calling
+mod InitialValues
+mod Setting
+mod Printing

@@ -10,7 +10,8 @@ ghost use Rattle.tables.specs.Placed.{word_of};
 ghost use Rattle.zcore_versions.specs.Versions.{locks_alphabets, versioned};
 
 use crate::search::entry_for;
-use machine_standard_words::{put_four, separators};
+use machine_lines::separators;
+use machine_standard_words::put_four;
 use tables::{Word, cut_line};
 use zcore::Dictionary;
 use zcore_standard::Loaded;

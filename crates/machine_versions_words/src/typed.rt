@@ -15,7 +15,8 @@ ghost use Rattle.machine_versions_words.specs.Parts.{line_memory};
 use crate::slots::{SLOTS_LENGTH, slots};
 use journal::{NoMemory, Recorded};
 use machine_frames::Store;
-use machine_standard_words::{fill_bytes, fill_counted, put_small_letters};
+use machine_lines::{fill, fill_counted};
+use machine_standard_words::put_small_letters;
 use zcore::Header;
 use zcore_standard::Loaded;
 use zcore_versions::StoryVersion;
@@ -138,6 +139,6 @@ fn fill_ended(store: &mut Recorded<Store>, at: usize, letters: &[u8]) -> Result<
     ensures filled { OnOk result (Fills store.old store.new at (letters.now ++ 0 ∷ [])) }
     ensures given_up { OnErr result (GivenUp store.old store.new) }
 {
-    fill_bytes(store, at, letters)?;
-    fill_bytes(store, at + letters.len(), &[0])
+    fill(store, at, letters)?;
+    fill(store, at + letters.len(), &[0])
 }

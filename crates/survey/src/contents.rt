@@ -2,22 +2,19 @@
 
 ghost use Rattle.std.specs.Prelude.{◌≡◌, ◌≤◌, IfOk, length};
 ghost use Rattle.zcore.specs.Arithmetic.{magnitude};
-ghost use Rattle.zcore.specs.Header.{IsHeaderOf};
+ghost use Rattle.zcore.specs.Header.{IsDictionaryOf, dictionary_of};
 ghost use Rattle.zcore.specs.Layout.{longest_story};
 ghost use Rattle.survey.specs.Verdict.{HasWordsOf};
 
 use crate::mode::Mode;
 use crate::reach::reach;
+use crate::tables::{most_abbreviations, object_table};
 use crate::unplayed::Unplayed;
 use std::alloc::{AllocError, Global};
 use std::fmt;
 use zcore::Header;
-use zcore::layout::{DEFAULTS_LENGTH, OBJECT_ENTRY_LENGTH};
-use ztext::{MOST_ABBREVIATIONS, read_word};
-
-/// Where the address of its property table stands in an object's entry (Z-Machine Standards
-/// Document 1.1, section 12.3.2).
-const PROPERTIES: usize = 12;
+use zcore_versions::StoryVersion;
+use ztext::read_word;
 
 /// From this word on a signed word is negative (section 2.2).
 const NEGATIVE: u16 = 0x8000;
@@ -94,17 +91,19 @@ impl Contents {
         alloc: Global,
         story: &[u8],
         header: &Header,
+        version: StoryVersion,
         mode: Mode,
     ) -> Result<Contents, AllocError>
         requires length { length story.now ≤ longest_story }
-        requires header { IsHeaderOf story.now header.now }
+        requires header { IsDictionaryOf story.now (dictionary_of story.now) header.now.dictionary }
         ensures words { IfOk result (HasWordsOf story.now) }
     {
-        let reached = reach(alloc, story, header, mode)?;
+        let number = version.number;
+        let reached = reach(alloc, story, header, version, mode)?;
         Ok(Contents {
-            objects: count_objects(story, header),
+            objects: count_objects(story, header, number),
             words: count_words(header.dictionary.entries),
-            abbreviations: count_abbreviations(story, header.abbreviations),
+            abbreviations: count_abbreviations(story, header.abbreviations, number),
             routines: reached.routines,
             instructions: reached.instructions,
             mode,
@@ -126,18 +125,19 @@ fn count_words(stated: u16) -> u16
     }
 }
 
-/// How many entries of objects stand in the table.
-fn count_objects(story: &[u8], header: &Header) -> usize {
-    let mut entry = usize::from(header.defaults) + DEFAULTS_LENGTH;
+/// How many entries of objects are in the table of a version.
+fn count_objects(story: &[u8], header: &Header, version: u8) -> usize {
+    let table = object_table(version);
+    let mut entry = usize::from(header.defaults) + table.defaults;
     let mut end = nearer(entry, story.len(), header.static_base);
     end = nearer(entry, end, header.globals);
     end = nearer(entry, end, header.abbreviations);
     for objects in 0..story.len() {
-        if end < entry + OBJECT_ENTRY_LENGTH {
+        if end < entry + table.entry {
             return objects;
         }
-        end = nearer(entry, end, read_word(story, entry + PROPERTIES));
-        entry += OBJECT_ENTRY_LENGTH;
+        end = nearer(entry, end, read_word(story, entry + table.properties));
+        entry += table.entry;
     }
     0
 }
@@ -155,24 +155,21 @@ fn nearer(entry: usize, end: usize, address: u16) -> usize
 }
 
 /// How many abbreviations there are. Compilers fill the table up with one that is empty.
-fn count_abbreviations(story: &[u8], table: u16) -> usize {
-    if table == 0 {
+fn count_abbreviations(story: &[u8], table: u16, version: u8) -> usize {
+    let most = most_abbreviations(version);
+    if table == 0 || most == 0 {
         return 0;
     }
     let table = usize::from(table);
-    let last = table + 2 * (MOST_ABBREVIATIONS - 1);
+    let last = table + 2 * (most - 1);
     if story.len() < last + 2 {
         return 0;
     }
     let mut count = 0;
-    for place in 0..MOST_ABBREVIATIONS - 1 {
+    for place in 0..most - 1 {
         if read_word(story, table + 2 * place) != read_word(story, last) {
             count = place + 1;
         }
     }
-    if count == MOST_ABBREVIATIONS - 1 {
-        MOST_ABBREVIATIONS
-    } else {
-        count
-    }
+    if count == most - 1 { most } else { count }
 }

@@ -9,11 +9,12 @@ mod refusal;
 mod successors;
 mod survey;
 mod sweep;
+mod tables;
 mod unplayed;
 
 pub use columns::Columns;
 pub use contents::Contents;
 pub use mode::Mode;
-pub use refusal::{Refusal, profile_refusal_at, standard_refusal_at};
+pub use refusal::{Refusal, older_refusal_at, profile_refusal_at, standard_refusal_at};
 pub use survey::{Brief, Survey};
 pub use unplayed::Unplayed;

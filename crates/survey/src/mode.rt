@@ -1,5 +1,10 @@
 //! How a file is to be played.
 
+ghost use Rattle.std.specs.Prelude.{◌≡◌};
+ghost use Rattle.survey.specs.Verdict.{plays};
+
+use zcore_standard_loading::is_played;
+
 /// The machine for which a file is surveyed.
 #[derive(Clone, Copy)]
 pub enum Mode {
@@ -11,6 +16,16 @@ pub enum Mode {
 }
 
 impl Mode {
+    /// Whether this machine plays a version.
+    pub(crate) fn plays(self, version: u8) -> bool
+        ensures { result ≡ plays self version }
+    {
+        match self {
+            Mode::Profile => matches!(version, 5 | 8),
+            Mode::Standard => is_played(version),
+        }
+    }
+
     /// What is said of the opcodes that it does not play.
     pub(crate) fn refusal(self) -> &'static str {
         match self {

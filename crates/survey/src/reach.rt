@@ -1,20 +1,23 @@
 //! The instructions and routines that can be reached from the start of a story, and the routines to
 //! which no direct call leads.
 
-ghost use Rattle.std.specs.Prelude.{◌≡◌, ◌*◌, ◌≤◌, length};
-ghost use Rattle.zcore.specs.Header.{scale_of};
+ghost use Rattle.std.specs.Prelude.{◌≡◌, ◌≤◌, length};
 ghost use Rattle.zcore.specs.Layout.{longest_story};
+ghost use Rattle.zcore_versions.specs.Versions.{scale_of, routine_at};
 ghost use Rattle.survey.specs.declared.mode.Mode.TheVariants.{Profile};
 
 use crate::mode::Mode;
-use crate::refusal::{Refusal, profile_refusal_at, standard_refusal_at};
-use crate::successors::{Successors, branch_target, constant, jump_target, successors_at};
+use crate::refusal::{Refusal, older_refusal_at, profile_refusal_at, standard_refusal_at};
+use crate::successors::{
+    LAST_OLD, Successors, branch_target, constant, first_instruction, jump_target, successors_at,
+};
 use crate::sweep::Sweep;
 use crate::unplayed::{Unplayed, note};
 use std::alloc::{AllocError, Global};
 use zcore::layout::{HEADER_LENGTH, MOST_LOCALS};
-use zcore::{Header, Operand, Version};
+use zcore::{Header, Operand};
 use zcore_standard::{Flow, Opcode, Row};
+use zcore_versions::StoryVersion;
 
 /// After the last routine no other is looked for so many bytes away: instructions that are never
 /// run may stand between two.
@@ -42,8 +45,8 @@ pub(crate) struct Reached {
 /// word of a text, so that the walk takes time linear in the story.
 #[derive(Drop)]
 struct Walk {
-    /// By whose scale packed addresses count.
-    version: Version,
+    /// The version of the story.
+    version: StoryVersion,
 
     /// The machine that is to play the story.
     mode: Mode,
@@ -82,11 +85,12 @@ pub(crate) fn reach(
     alloc: Global,
     story: &[u8],
     header: &Header,
+    version: StoryVersion,
     mode: Mode,
 ) -> Result<Reached, AllocError>
     requires { length story.now ≤ longest_story }
 {
-    let mut walk = Walk::new(alloc, story, header.version, mode)?;
+    let mut walk = Walk::new(alloc, story, version, mode)?;
     match walk.look_everywhere(alloc, story, usize::from(header.first_instruction)) {
         Ok(()) => Ok(walk.found),
         Err(refused) => Err(refused),
@@ -95,7 +99,12 @@ pub(crate) fn reach(
 
 impl Walk {
     /// A walk that has reached nothing.
-    fn new(alloc: Global, story: &[u8], version: Version, mode: Mode) -> Result<Walk, AllocError> {
+    fn new(
+        alloc: Global,
+        story: &[u8],
+        version: StoryVersion,
+        mode: Mode,
+    ) -> Result<Walk, AllocError> {
         Ok(Walk {
             version,
             mode,
@@ -128,7 +137,7 @@ impl Walk {
         self.start(first)?;
         self.look_at_all(story)?;
         self.is_swept = true;
-        let mut sweep = Sweep::new(alloc, story, number_of(self.version))?;
+        let mut sweep = Sweep::new(alloc, story, self.version.number)?;
         self.sweep(story, &mut sweep)
     }
 
@@ -151,10 +160,11 @@ impl Walk {
     fn sweep(&mut self, story: &[u8], sweep: &mut Sweep) -> Result<(), AllocError>
         requires { length story.now ≤ longest_story }
     {
-        let scale = self.version.scale() as usize;
-        let from = first_covered(&self.covered) / scale;
+        let scale = scale(self.version);
+        let offset = self.version.routine_offset as usize;
+        let from = first_covered(&self.covered).saturating_sub(offset) / scale;
         for packed in from..story.len() {
-            let at = packed * scale;
+            let at = packed * scale + offset;
             if story.len() <= at {
                 break;
             }
@@ -163,7 +173,7 @@ impl Walk {
             }
             if sweep.finds_routine(story, &self.covered, at) {
                 mark(&mut self.routines, at);
-                self.start(at + 1)?;
+                self.start(first_instruction(story, at, self.version.number))?;
                 self.look_at_all(story)?;
             } else if MOST_BETWEEN <= at.saturating_sub(self.end) {
                 break;
@@ -187,9 +197,9 @@ impl Walk {
         let Some(opcode) = Opcode::read(story, at) else {
             return Ok(());
         };
-        let row = opcode.row(number_of(self.version));
+        let row = opcode.row(self.version.number);
         let refusal = profile_refusal_at(story, at);
-        if let Some(refusal) = refused_at(self.mode, story, at, refusal) {
+        if let Some(refusal) = refused_at(self.mode, self.version, story, at, refusal) {
             self.meet_unplayed(opcode, row, refusal, at)?;
         }
         let successors = match row {
@@ -302,14 +312,14 @@ impl Walk {
             return Ok(());
         };
         let at = unpacked(self.version, packed);
-        if at < HEADER_LENGTH || story.len() <= at {
+        if packed == 0 || at < HEADER_LENGTH || story.len() <= at {
             return Ok(());
         }
         if usize::from(story[at]) <= MOST_LOCALS && mark(&mut self.routines, at) {
             if !self.is_swept {
                 self.found.routines = self.found.routines.saturating_add(1);
             }
-            return self.start(at + 1);
+            return self.start(first_instruction(story, at, self.version.number));
         }
         Ok(())
     }
@@ -335,21 +345,22 @@ impl Walk {
 }
 
 /// What of the instruction at an address a machine refuses, of which the profile's refuses this.
-fn refused_at(mode: Mode, story: &[u8], at: usize, refusal: Option<Refusal>) -> Option<Refusal>
+fn refused_at(
+    mode: Mode,
+    version: StoryVersion,
+    story: &[u8],
+    at: usize,
+    refusal: Option<Refusal>,
+) -> Option<Refusal>
     requires { length story.now ≤ longest_story }
     ensures profile { mode ≡ Profile → result ≡ refusal }
 {
     match mode {
         Mode::Profile => refusal,
+        Mode::Standard if version.number <= LAST_OLD => {
+            older_refusal_at(story, at, version.number)
+        }
         Mode::Standard => standard_refusal_at(story, at),
-    }
-}
-
-/// A version by its number.
-fn number_of(version: Version) -> u8 {
-    match version {
-        Version::V5 => 5,
-        Version::V8 => 8,
     }
 }
 
@@ -372,12 +383,22 @@ fn mark(marks: &mut [bool], at: usize) -> bool {
     true
 }
 
-/// The byte address of a packed one (section 1.2.3).
-fn unpacked(version: Version, packed: u16) -> usize
-    ensures { result ≡ packed * scale_of version }
+/// By how many bytes packed addresses count (section 1.2.3).
+fn scale(version: StoryVersion) -> usize
+    ensures scale { result ≡ scale_of version }
+    ensures some { 1 ≤ result }
+    ensures small { result ≤ 8 }
 {
-    match version {
-        Version::V5 => usize::from(packed) * 4,
-        Version::V8 => usize::from(packed) * 8,
+    match version.number {
+        0..=3 => 2,
+        8 => 8,
+        _ => 4,
     }
+}
+
+/// The address for which a packed address of a routine stands.
+fn unpacked(version: StoryVersion, packed: u16) -> usize
+    ensures { result ≡ routine_at version packed }
+{
+    scale(version) * usize::from(packed) + version.routine_offset as usize
 }

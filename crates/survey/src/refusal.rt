@@ -80,6 +80,20 @@ pub fn standard_refusal_at(story: &[u8], at: usize) -> Option<Refusal>
     }
 }
 
+/// What of the instruction at an address of a story of version 1 to 4 `play --standard` answers with
+/// M1: an opcode that the version does not have, or a number of operands that it does not take.
+pub fn older_refusal_at(story: &[u8], at: usize, version: u8) -> Option<Refusal>
+    requires { length story.now ≤ longest_story }
+{
+    if story.len() <= at {
+        return None;
+    }
+    match Opcode::of_bytes(story[at], 0).row(version) {
+        Some(row) => operands_refusal(story, at, row.shape),
+        None => Some(Refusal::Opcode),
+    }
+}
+
 /// What is refused of the operands of the instruction at an address, whose opcode has a row.
 fn operands_refusal(story: &[u8], at: usize, row: OpcodeRow) -> Option<Refusal>
     requires short { length story.now ≤ longest_story }

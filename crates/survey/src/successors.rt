@@ -1,12 +1,16 @@
 //! Which instructions follow one.
 
-ghost use Rattle.std.specs.Prelude.{◌≡◌, ◌≤◌, IfSome, length};
+ghost use Rattle.std.specs.Prelude.{◌≡◌, ◌<◌, ◌≤◌, IfSome, length};
 ghost use Rattle.zcore.specs.Layout.{longest_story};
 ghost use Rattle.zcore.specs.Parts.{jump_target, branch_target};
 
 use machine_decoding::OPERANDS;
 use zcore::Operand;
 use zcore_standard::{Flow, Row, decode_any};
+
+/// The last version whose routines give initial values to their locals (Z-Machine Standards Document
+/// 1.1, section 5.2.1).
+pub(crate) const LAST_OLD: u8 = 4;
 
 /// What an instruction says of those that follow it.
 #[derive(Clone, Copy)]
@@ -49,6 +53,20 @@ pub(crate) fn successors_at(story: &[u8], at: usize, row: Row) -> Option<Success
         branch,
         after: ending.after as usize,
     })
+}
+
+/// The address of the first instruction of the routine at an address, after the initial values of
+/// its locals in the versions that have them.
+pub(crate) fn first_instruction(story: &[u8], routine: usize, version: u8) -> usize
+    requires within { routine < length story.now }
+    requires short { length story.now ≤ longest_story }
+    ensures { routine < result }
+{
+    if version <= LAST_OLD {
+        routine + 1 + 2 * usize::from(story[routine])
+    } else {
+        routine + 1
+    }
 }
 
 /// The value of an operand that is a constant.

@@ -1,12 +1,13 @@
 //! The survey of a file.
 
-ghost use Rattle.std.specs.Prelude.{◌≡◌, IfOk, IfSome, IfNone, length};
-ghost use Rattle.zcore.specs.Header.{HasHeader, IsKnownVersion};
+ghost use Rattle.std.specs.Prelude.{◌≡◌, IfOk, IfSome, IfNone, true, length};
+ghost use Rattle.zcore.specs.Header.{HasHeader};
+ghost use Rattle.zcore_standard_loading.specs.Loading.{number_of};
 ghost use Rattle.survey_headers.specs.Beginnings.{beginning_of};
 ghost use Rattle.survey_headers.specs.Editions.{HasEdition, IsEditionOf};
 ghost use Rattle.survey_headers.specs.Facts.{IsFactsOf};
 ghost use Rattle.survey_headers.specs.Misplaced.{first_misplaced};
-ghost use Rattle.survey.specs.Verdict.{IsVerdict};
+ghost use Rattle.survey.specs.Verdict.{IsVerdict, plays};
 ghost use Rattle.survey.specs.declared.mode.Mode.TheVariants.{Profile, Standard};
 
 use crate::contents::Contents;
@@ -16,11 +17,15 @@ use std::alloc::{AllocError, Global};
 use std::fmt;
 use survey_headers::{Beginning, Edition, Facts, Misplaced, first_misplaced};
 use zcore::layout::LONGEST_STORY;
-use zcore::{Header, HeaderFault};
+use zcore::{Header, HeaderFault, Version};
 use zcore_standard_loading::load;
+use zcore_versions::StoryVersion;
 
 /// So many bytes no story has with the filling after it.
 const TOO_LONG: usize = LONGEST_STORY + 512;
+
+/// The version of games that draw pictures, which is not played.
+const GRAPHICAL: u8 = 6;
 
 /// What is found of a file without running it. `Display` writes a line for each fact, and the last
 /// lines say that it loads, and what it holds, or why it is refused.
@@ -38,7 +43,7 @@ pub struct Survey {
     /// Which edition of which version its header names, where it has one of version 1 to 8.
     pub edition: Option<Edition>,
 
-    /// What its header says, where it has one of version 5 or 8.
+    /// What its header says, where it has one of a version that the machine plays.
     pub facts: Option<Facts>,
 
     /// The first address of the header that is wrong for the profile.
@@ -68,7 +73,7 @@ impl Survey {
         ensures verdict { IfOk result (λ s. IsVerdict mode story.now s.found) }
         ensures facts { IfOk result (λ s. IfSome s.facts (IsFactsOf story.now)) }
         ensures untold { IfOk result
-            (λ s. IfNone s.facts (¬ (HasHeader story.now × IsKnownVersion story.now))) }
+            (λ s. IfNone s.facts (¬ (HasHeader story.now × (plays mode (number_of story.now) ≡ true)))) }
         ensures edition { IfOk result (λ s. IfSome s.edition (IsEditionOf story.now)) }
         ensures unnamed { IfOk result (λ s. IfNone s.edition (¬ HasEdition story.now)) }
         ensures beginning { IfOk result (λ s. s.beginning ≡ beginning_of story.now) }
@@ -83,10 +88,23 @@ impl Survey {
             size: story.len(),
             beginning: Beginning::read(story),
             edition: Edition::read(story),
-            facts: Facts::read(story),
+            facts: facts_for(story, mode),
             misplaced: first_misplaced(story),
             found,
         })
+    }
+}
+
+/// What the header of a file says, where it has one of a version that a machine plays.
+fn facts_for(story: &[u8], mode: Mode) -> Option<Facts>
+    ensures facts { IfSome result (IsFactsOf story.now) }
+    ensures none { IfNone result (¬ (HasHeader story.now × (plays mode (number_of story.now) ≡ true))) }
+{
+    let facts = Facts::read(story)?;
+    if mode.plays(facts.version) {
+        Some(facts)
+    } else {
+        None
     }
 }
 
@@ -99,10 +117,23 @@ fn read_for_profile(
 {
     match Header::read(story) {
         Ok(header) => {
-            let contents = Contents::read(alloc, story, &header, Mode::Profile)?;
+            let version = profile_version(header.version);
+            let contents = Contents::read(alloc, story, &header, version, Mode::Profile)?;
             Ok(Ok(contents))
         }
         Err(fault) => Ok(Err(fault)),
+    }
+}
+
+/// A version of the profile, as one of all versions.
+fn profile_version(version: Version) -> StoryVersion {
+    StoryVersion {
+        number: match version {
+            Version::V5 => 5,
+            Version::V8 => 8,
+        },
+        routine_offset: 0,
+        text_offset: 0,
     }
 }
 
@@ -134,7 +165,13 @@ fn read_copy(alloc: Global, file: Vec<u8>) -> Result<Result<Contents, HeaderFaul
     let mut memory = file;
     match load(&mut memory) {
         Ok(story) => {
-            let contents = Contents::read(alloc, &memory, &story.header, Mode::Standard)?;
+            let contents = Contents::read(
+                alloc,
+                &memory,
+                &story.header,
+                story.version,
+                Mode::Standard,
+            )?;
             Ok(Ok(contents))
         }
         Err(fault) => Ok(Err(fault)),
@@ -189,7 +226,15 @@ fn write_cause<W: fmt::Write>(
         }
         HeaderFault::UnknownVersion => {
             let beginning = survey.beginning;
-            writeln!(f, "{fault}: {beginning}")
+            match (survey.mode, beginning) {
+                (Mode::Standard, Beginning::Version(GRAPHICAL)) => {
+                    writeln!(f, "{fault}: version 6, the graphical one, is not played")
+                }
+                (Mode::Standard, Beginning::Version(version)) => {
+                    writeln!(f, "{fault}: version {version}; 3 to 5, 7 and 8 are played")
+                }
+                _ => writeln!(f, "{fault}: {beginning}"),
+            }
         }
         HeaderFault::WrongLength | HeaderFault::WrongSum | HeaderFault::WrongAddress => {
             match &survey.facts {

@@ -3,7 +3,9 @@
 ghost use Rattle.std.specs.Prelude.{◌≤◌, ◌<◌, IfSome, length};
 ghost use Rattle.zcore.specs.Layout.{longest_story};
 
-use crate::successors::{Successors, branch_target, constant, jump_target, successors_at};
+use crate::successors::{
+    Successors, branch_target, constant, first_instruction, jump_target, successors_at,
+};
 use std::alloc::{AllocError, Global};
 use zcore::layout::MOST_LOCALS;
 use zcore_standard::{Flow, Opcode};
@@ -42,7 +44,7 @@ impl Sweep {
         if MOST_LOCALS < usize::from(story[at]) {
             return false;
         }
-        let mut next = at + 1;
+        let mut next = first_instruction(story, at, self.version);
         let mut furthest = next;
         for _ in 0..story.len() {
             if covered.len() <= next || covered[next] || !self.tries(next) {

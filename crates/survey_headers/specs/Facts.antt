@@ -2,13 +2,14 @@
 use Rattle.std.specs.Prelude.{◌≡◌, ◌*◌, ◌%◌, ℕ, List, take, drop, sum}
 use Rattle.ztext.specs.Bytes.{word_at}
 use Rattle.zcore.specs.Layout.{header_size}
-use Rattle.zcore.specs.Header.{scale_of, IsOfVersion, high_memory_of, first_instruction_of, dictionary_of, defaults_of}
+use Rattle.zcore.specs.Header.{high_memory_of, first_instruction_of, dictionary_of, defaults_of}
 use Rattle.zcore.specs.Header.{globals_of, static_base_of, abbreviations_of}
+use Rattle.zcore_standard_loading.specs.Loading.{number_of, length_unit}
 use Rattle.survey_headers.specs.declared.facts.Facts.{Facts}
 
 pub record IsFactsOf (story : List ℕ) (facts : Facts) : Type 0 where
-  pub version : IsOfVersion story facts.version
-  pub stated_length : facts.stated_length ≡ word_at story 0x1A * scale_of facts.version
+  pub version : facts.version ≡ number_of story
+  pub stated_length : facts.stated_length ≡ word_at story 0x1A * length_unit (number_of story)
   pub stated_sum : facts.stated_sum ≡ word_at story 0x1C
   pub sum : facts.sum ≡ sum (drop header_size story) % 65536
   pub release : facts.release ≡ word_at story 0x02

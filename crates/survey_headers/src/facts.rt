@@ -1,16 +1,17 @@
 //! What the header of a file says.
 
-ghost use Rattle.std.specs.Prelude.{◌≡◌, ◌%◌, ◌≤◌, IfSome, IfNone, length, take, drop, sum};
-ghost use Rattle.zcore.specs.Header.{HasHeader, IsKnownVersion};
+ghost use Rattle.std.specs.Prelude.{◌≡◌, ◌%◌, ◌≤◌, IfSome, IfNone, true, length, take, drop, sum};
+ghost use Rattle.zcore.specs.Header.{HasHeader};
 ghost use Rattle.zcore.specs.Layout.{header_size};
+ghost use Rattle.zcore_standard_loading.specs.Loading as loading;
 ghost use Rattle.survey_headers.specs.Facts.{IsFactsOf};
 
 use std::fmt;
-use zcore::Version;
 use zcore::layout::{
     ABBREVIATIONS_WORD, DEFAULTS_WORD, DICTIONARY_WORD, FIRST_INSTRUCTION_WORD, GLOBALS_WORD,
     HEADER_LENGTH, HIGH_MEMORY_WORD, LENGTH_WORD, STATIC_BASE_WORD, SUM_WORD,
 };
+use zcore_standard_loading::{is_played, length_unit};
 use ztext::read_word;
 
 /// Where the release number stands (Z-Machine Standards Document 1.1, section 11.1).
@@ -19,14 +20,14 @@ pub(crate) const RELEASE_WORD: usize = 0x02;
 /// Where the six bytes of the serial number begin.
 const SERIAL: usize = 0x12;
 
-/// What the header of a file of version 5 or 8 says, whether or not it is so (section 11.1).
+/// What the header of a file of version 3, 4, 5, 7 or 8 says, whether or not it is so (section 11.1).
 /// `Display` writes a line for each.
 #[derive(Clone, Copy)]
 pub struct Facts {
     /// Byte $00.
-    pub version: Version,
+    pub version: u8,
 
-    /// Word $1A times the scale: how many bytes the story has.
+    /// Word $1A times the version's unit: how many bytes the story has.
     pub stated_length: usize,
 
     /// Word $1C: the sum of the bytes after the header, modulo 65,536.
@@ -92,10 +93,7 @@ impl fmt::Display for Facts {
 
 /// Writes the lines of the version, and of the release with the serial number.
 fn write_edition<W: fmt::Write>(f: &mut fmt::Formatter<W>, facts: &Facts) -> fmt::Result {
-    let version = match facts.version {
-        Version::V5 => 5,
-        Version::V8 => 8,
-    };
+    let version = facts.version;
     let release = facts.release;
     let serial = Serial(facts.serial);
     writeln!(f, "version {version}")?;
@@ -121,22 +119,18 @@ fn write_places<W: fmt::Write>(f: &mut fmt::Formatter<W>, facts: &Facts) -> fmt:
 }
 
 impl Facts {
-    /// What the header of a file says, where the file has one of version 5 or 8.
+    /// What the header of a file says, where the file has one of version 3, 4, 5, 7 or 8.
     pub fn read(story: &[u8]) -> Option<Facts>
         ensures facts { IfSome result (IsFactsOf story.now) }
-        ensures none { IfNone result (¬ (HasHeader story.now × IsKnownVersion story.now)) }
+        ensures none { IfNone result
+            (¬ (HasHeader story.now × (loading.is_played (loading.number_of story.now) ≡ true))) }
     {
-        if story.len() < HEADER_LENGTH {
+        if story.len() < HEADER_LENGTH || !is_played(story[0]) {
             return None;
         }
-        let version = match story[0] {
-            5 => Version::V5,
-            8 => Version::V8,
-            _ => return None,
-        };
         Some(Facts {
-            version,
-            stated_length: usize::from(read_word(story, LENGTH_WORD)) * version.scale() as usize,
+            version: story[0],
+            stated_length: usize::from(read_word(story, LENGTH_WORD)) * length_unit(story[0]),
             stated_sum: read_word(story, SUM_WORD),
             sum: sum_from(story, HEADER_LENGTH),
             release: read_word(story, RELEASE_WORD),

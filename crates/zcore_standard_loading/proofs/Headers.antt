@@ -12,7 +12,7 @@ use Rattle.std.proofs.lemmas.List.{get_or-set_other}
 use Rattle.zcore.specs.Header.{static_base_of}
 use Rattle.ztext.specs.Bytes.{word_at}
 use Rattle.zcore_standard_loading.specs.Loading.{has_dynamic_word, extension_of, extension_place, with_extension, flags_1, flags_2}
-use Rattle.zcore_standard_loading.specs.Loading.{screen, colours, revision}
+use Rattle.zcore_standard_loading.specs.Loading.{number_of, screen, colours, revision}
 
 -- bytes that are written leave the memory as long
 length-with_bytes : (memory : List ℕ) (at : ℕ) (bytes : List ℕ) → length (with_bytes memory at bytes) ≡ length memory
@@ -75,19 +75,21 @@ extension_stays memory =
 pub header_stays : (story : List ℕ) → Stays story (with_header story)
 unfolding with_header
 header_stays story =
-    let one = with_bytes story 0x01 (flags_1 ∷ []) in
+    let number = number_of story in
+    let first = flags_1 number (slice_index story 1) ∷ [] in
+    let one = with_bytes story 0x01 first in
     let two = with_bytes one 0x10 (flags_2 story) in
-    let three = with_bytes two 0x1E screen in
-    let four = with_bytes three 0x2C colours in
+    let three = with_bytes two 0x1E (screen number) in
+    let four = with_bytes three 0x2C (colours number) in
     let five = with_bytes four 0x32 revision in
-    stays_then story one _ (bytes_stay story 0x01 (flags_1 ∷ []) (omega arith))
+    stays_then story one _ (bytes_stay story 0x01 first (omega arith))
     (stays_then one two _ (bytes_stay one 0x10 (flags_2 story) (omega arith))
-    (stays_then two three _ (bytes_stay two 0x1E screen (omega arith))
-    (stays_then three four _ (bytes_stay three 0x2C colours (omega arith))
+    (stays_then two three _ (bytes_stay two 0x1E (screen number) (omega arith))
+    (stays_then three four _ (bytes_stay three 0x2C (colours number) (omega arith))
     (stays_then four five _ (bytes_stay four 0x32 revision (omega arith)) (extension_stays five)))))
 
 -- the same with the names that callers want
-pub first_stays : (story : List ℕ) → slice_index (with_header story) 0 ≡ slice_index story 0
+pub first_stays : (story : List ℕ) → number_of (with_header story) ≡ number_of story
 first_stays story = (header_stays story).first
 
 pub length_stays : (story : List ℕ) → length (with_header story) ≡ length story

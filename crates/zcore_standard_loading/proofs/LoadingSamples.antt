@@ -2,7 +2,8 @@
 use Rattle.std.proofs.Common.{◌≡◌, ℕ, List, [], ◌∷◌, ◌++◌, length, replicate, true, false, refl, Some, None}
 use Rattle.std.specs.Prelude.{slice_range}
 use Rattle.zcore_standard_loading.specs.Loading.{story_length, story_in, with_header, is_sum_right, characters_of}
-use Rattle.zcore_standard_loading.specs.Loading.{own_alphabets_of}
+use Rattle.zcore_standard_loading.specs.Loading.{own_alphabets_of, is_played, version_in, defaults_size_in}
+use Rattle.zcore_standard_loading.specs.Loading.{abbreviation_table_of, abbreviations_size}
 use Rattle.zcore_standard.specs.Texts.{default_alphabets}
 use Rattle.zcore_standard.specs.Unicode.{default_characters}
 
@@ -73,9 +74,62 @@ no_extension : characters_of (story 0 bytes) ≡ default_characters
 no_extension = refl
 
 -- the word at $34 is the address of the alphabets
-own_alphabets : own_alphabets_of (replicate 52 0 ++ (0 ∷ 65 ∷ []) ++ replicate 11 0 ++ default_alphabets ++ (9 ∷ []))
-    ≡ Some default_alphabets
+abbrev with_alphabets : ℕ → List ℕ
+with_alphabets number =
+    (number ∷ []) ++ replicate 51 0 ++ (0 ∷ 65 ∷ []) ++ replicate 11 0 ++ default_alphabets ++ (9 ∷ [])
+
+own_alphabets : own_alphabets_of (with_alphabets 5) ≡ Some default_alphabets
 own_alphabets = refl
+
+-- before version 5 it is not
+unread_alphabets : own_alphabets_of (with_alphabets 4) ≡ None
+unread_alphabets = refl
 
 no_alphabets : own_alphabets_of (replicate 200 0) ≡ None
 no_alphabets = refl
+
+-- Other versions
+
+played : is_played 2 ∷ is_played 3 ∷ is_played 4 ∷ is_played 5 ∷ is_played 6 ∷ is_played 7 ∷ is_played 8 ∷ is_played 9
+    ∷ [] ≡ false ∷ true ∷ true ∷ true ∷ false ∷ true ∷ true ∷ false ∷ []
+played = refl
+
+-- a file of a version that states a length of 20
+abbrev stating : ℕ → List ℕ
+stating number = (number ∷ []) ++ replicate 26 0 ++ (20 ∷ []) ++ replicate 172 0
+
+lengths : story_length (stating 3) ∷ story_length (stating 4) ∷ story_length (stating 7) ∷ [] ≡ 40 ∷ 80 ∷ 160 ∷ []
+lengths = refl
+
+-- a header of a version, all bits of its flags set and 7 in each other byte
+abbrev set : ℕ → List ℕ
+set number = (number ∷ 255 ∷ []) ++ replicate 14 7 ++ (255 ∷ 255 ∷ []) ++ replicate 46 7
+
+-- In versions 1 and 2 bits 4 to 6 of Flags 1 are cleared, in version 3 the fifth is set.
+header_1 : with_header (set 1) ≡ (1 ∷ 143 ∷ []) ++ replicate 14 7 ++ (254 ∷ 7 ∷ []) ++ replicate 32 7 ++ (1 ∷ 1 ∷ []) ++ replicate 12 7
+unfolding with_header
+header_1 = refl
+
+header_3 : with_header (set 3) ≡ (3 ∷ 175 ∷ []) ++ replicate 14 7 ++ (254 ∷ 7 ∷ []) ++ replicate 32 7 ++ (1 ∷ 1 ∷ []) ++ replicate 12 7
+unfolding with_header
+header_3 = refl
+
+-- Version 4 is told of the interpreter and of the screen in characters.
+header_4 : with_header (set 4) ≡ (4 ∷ 16 ∷ []) ++ replicate 14 7 ++ (254 ∷ 7 ∷ []) ++ replicate 12 7
+    ++ (1 ∷ 70 ∷ 255 ∷ 80 ∷ []) ++ replicate 16 7 ++ (1 ∷ 1 ∷ []) ++ replicate 12 7
+unfolding with_header
+header_4 = refl
+
+version_4 : version_in (set 4) ≡ record { number = 4; routine_offset = 0; text_offset = 0 }
+version_4 = refl
+
+-- 8 times $0707
+version_7 : version_in (set 7) ≡ record { number = 7; routine_offset = 14392; text_offset = 14392 }
+version_7 = refl
+
+defaults : defaults_size_in (set 3) ∷ defaults_size_in (set 4) ∷ [] ≡ 62 ∷ 126 ∷ []
+defaults = refl
+
+abbreviations : abbreviation_table_of (set 1) ∷ abbreviation_table_of (set 2) ∷ abbreviations_size 2 ∷ abbreviations_size 3 ∷ []
+    ≡ 0 ∷ 1799 ∷ 64 ∷ 192 ∷ []
+abbreviations = refl

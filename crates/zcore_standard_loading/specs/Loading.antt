@@ -1,26 +1,56 @@
 -- How a file is loaded: which files are refused, what memory holds then, and what loading fixes (Z-Machine Standards
 -- Document 1.1, sections 1.1, 3.8.5, 11.1 and 15, `verify`).
-use Rattle.std.specs.Prelude.{◌≡◌, ◌==◌, ◌&&◌, ◌+◌, ◌*◌, ◌/◌, ◌%◌, ◌≤◌, ◌⊎◌, ℕ, zero, suc, nat_le, min, sum, Bool}
-use Rattle.std.specs.Prelude.{if◌then◌else◌, List, [], ◌∷◌, length, slice_index, slice_range, take, drop}
+use Rattle.std.specs.Prelude.{◌≡◌, ◌==◌, ◌&&◌, ◌||◌, ◌+◌, ◌*◌, ◌/◌, ◌%◌, ◌≤◌, ◌⊎◌, ℕ, zero, suc, nat_le, min, sum}
+use Rattle.std.specs.Prelude.{Bool, true, false, if◌then◌else◌, List, [], ◌∷◌, length, slice_index, slice_range, take, drop}
 use Rattle.std.specs.Prelude.{Option, Some, None, Result, Ok, Err}
 use Rattle.ztext.specs.Bytes.{word_at, most_abbreviations}
 use Rattle.zcore.specs.declared.header.Header.{Header}
 use Rattle.zcore.specs.declared.header.HeaderFault.{HeaderFault}
 use Rattle.zcore.specs.declared.header.HeaderFault.TheVariants as causes
-use Rattle.zcore.specs.Header.{HasHeader, IsKnownVersion, IsWithin, HasDictionaryHead, IsHeaderOf, static_end}
+use Rattle.zcore.specs.Header.{HasHeader, IsWithin, HasDictionaryHead, IsDictionaryOf, static_end, scale_of}
 use Rattle.zcore.specs.Header.{static_base_of, globals_of, defaults_of, abbreviations_of, dictionary_of, first_instruction_of}
+use Rattle.zcore.specs.Header.{high_memory_of}
 use Rattle.zcore.specs.Layout.{header_size, globals_size, defaults_size, longest_story}
 use Rattle.zcore.specs.Parts.{scale_in, with_word}
 use Rattle.zcore.specs.Turn.{with_bytes}
 use Rattle.zcore_standard_loading.specs.declared.loading.LoadedStory.{LoadedStory}
 use Rattle.zcore_standard.specs.Loaded.{Loaded, seeded}
 use Rattle.zcore_standard.specs.Unicode.{default_characters}
+use Rattle.zcore_versions.specs.declared.version.StoryVersion.{StoryVersion}
+use Rattle.zcore_versions.specs.SmallObjects.{small_defaults_size}
+use Rattle.zcore_versions.specs.Versions.{Story}
+
+-- The version (11.1)
+
+-- the number of a story's version
+abbrev pub number_of : List ℕ → ℕ
+number_of story = slice_index story 0
+
+-- Versions 1, 2 and 6 are not played.
+abbrev pub is_played : ℕ → Bool
+is_played number = (nat_le 3 number && nat_le number 5) || (nat_le 7 number && nat_le number 8)
+
+-- what packed addresses count from: in version 7 a word of the header says it, in eights of bytes (1.2.3)
+abbrev pub offset_in : List ℕ → ℕ → ℕ
+offset_in story word = if number_of story == 7 then 8 * word_at story word else 0
+
+abbrev pub version_in : List ℕ → StoryVersion
+version_in story = record {
+  number = number_of story;
+  routine_offset = offset_in story 0x28;
+  text_offset = offset_in story 0x2A;
+}
 
 -- The story in its file (11.1.6)
 
+-- by how many bytes the header of a version states a length
+abbrev pub length_unit : ℕ → ℕ
+length_unit number = if nat_le number 3 then 2 else (if nat_le number 5 then 4 else 8)
+
 -- how many bytes of a file are the story: as many as its header states, or all where it states 0
 abbrev pub story_length : List ℕ → ℕ
-story_length file = if word_at file 0x1A == 0 then length file else word_at file 0x1A * scale_in file
+story_length file =
+    if word_at file 0x1A == 0 then length file else word_at file 0x1A * length_unit (number_of file)
 
 -- the story, without the bytes that follow it
 abbrev pub story_in : List ℕ → List ℕ
@@ -38,9 +68,25 @@ pub record HasStory (file : List ℕ) : Type 0 where
 abbrev pub IsTable : List ℕ → ℕ → ℕ → Type 0
 IsTable story table bytes = (table ≡ 0) ⊎ IsWithin header_size (static_end story) table bytes
 
+-- how many bytes the defaults of properties have: 31 words up to version 3, then 63 (12.2)
+abbrev pub defaults_size_in : List ℕ → ℕ
+defaults_size_in story = if nat_le (number_of story) 3 then small_defaults_size else defaults_size
+
+-- how many bytes the addresses of abbreviations have: version 1 has none, version 2 has 32, then there are 96 (3.3)
+abbrev pub abbreviations_size : ℕ → ℕ
+abbreviations_size number = if nat_le number 2 then 64 else 2 * most_abbreviations
+
+-- the table of abbreviations, or 0
+abbrev pub abbreviation_table_of : List ℕ → ℕ
+abbreviation_table_of story = if number_of story == 1 then 0 else abbreviations_of story
+
+-- a word of the header from version 5 on, and 0 before
+abbrev pub late_word : List ℕ → ℕ → ℕ
+late_word story at = if nat_le 5 (number_of story) then word_at story at else 0
+
 -- the extension of the header (11.1.7), or 0
 abbrev pub extension_of : List ℕ → ℕ
-extension_of story = word_at story 0x36
+extension_of story = late_word story 0x36
 
 -- the extension has a word of a number; its word 0 tells how many follow
 abbrev pub has_extension_word : List ℕ → ℕ → Bool
@@ -56,11 +102,15 @@ unicode_table_of story = if has_extension_word story 3 then word_at story (exten
 
 -- the table of the story's own alphabets (3.5.5), or 0
 abbrev pub alphabet_table_of : List ℕ → ℕ
-alphabet_table_of story = word_at story 0x34
+alphabet_table_of story = late_word story 0x34
 
 -- how many bytes it has
 abbrev pub alphabet_table_size : ℕ
 alphabet_table_size = 78
+
+-- the table of abbreviations
+abbrev pub HasAbbreviations : List ℕ → Type 0
+HasAbbreviations story = IsTable story (abbreviation_table_of story) (abbreviations_size (number_of story))
 
 -- the extension is whole: the word that counts, and the words
 pub record IsExtension (story : List ℕ) : Type 0 where
@@ -81,8 +131,8 @@ pub record HasCharacters (story : List ℕ) : Type 0 where
 pub record IsPlaced (story : List ℕ) : Type 0 where
   pub static_base : IsWithin header_size (length story) (static_base_of story) 0
   pub globals : IsWithin header_size (static_base_of story) (globals_of story) globals_size
-  pub defaults : IsWithin header_size (static_base_of story) (defaults_of story) defaults_size
-  pub abbreviations : IsTable story (abbreviations_of story) (2 * most_abbreviations)
+  pub defaults : IsWithin header_size (static_base_of story) (defaults_of story) (defaults_size_in story)
+  pub abbreviations : HasAbbreviations story
   pub first_instruction : IsWithin header_size (length story) (first_instruction_of story) 1
   pub dictionary : static_base_of story ≤ dictionary_of story
   pub extension : IsExtension story
@@ -90,22 +140,28 @@ pub record IsPlaced (story : List ℕ) : Type 0 where
 
 -- What the player writes into the header (11.1)
 
--- Flags 1: a fixed-space style is there, and nothing else
-abbrev pub flags_1 : ℕ
-flags_1 = 0x10
+-- Flags 1. From version 4 on: a fixed-space style is there, and nothing else. Before: the status line is there (bit 4
+-- would say that it is not), in version 3 the screen can be split (bit 5), the pitch is not variable (bit 6).
+abbrev pub flags_1 : ℕ → ℕ → ℕ
+flags_1 number byte =
+    if nat_le 4 number then 0x10
+    else byte / 128 * 128 + (if number == 3 then 0x20 else 0) + byte % 16
 
 -- Flags 2: bits 3 to 8 are cleared, which ask for pictures, undo, a mouse, colours, sounds and menus
 abbrev pub flags_2 : List ℕ → List ℕ
 flags_2 story = (slice_index story 0x10 / 2 * 2) ∷ (slice_index story 0x11 % 8) ∷ []
 
--- From $1E on: interpreter number 1 and version F; 255 lines, which means no end, and 80 columns; the same size in units,
--- first the width; a font is one unit wide and one high (8.4, 11.1.3)
-abbrev pub screen : List ℕ
-screen = 1 ∷ 70 ∷ 255 ∷ 80 ∷ 0 ∷ 80 ∷ 0 ∷ 255 ∷ 1 ∷ 1 ∷ []
+-- From $1E on, in version 4: interpreter number 1 and version F; 255 lines, which means no end, and 80 columns. From
+-- version 5 on besides: the same size in units, first the width; a font is one unit wide and one high (8.4, 11.1.3)
+abbrev pub screen : ℕ → List ℕ
+screen number =
+    if nat_le number 3 then []
+    else (if nat_le number 4 then 1 ∷ 70 ∷ 255 ∷ 80 ∷ []
+    else 1 ∷ 70 ∷ 255 ∷ 80 ∷ 0 ∷ 80 ∷ 0 ∷ 255 ∷ 1 ∷ 1 ∷ [])
 
--- from $2C on: a black background, a white foreground (8.3.1)
-abbrev pub colours : List ℕ
-colours = 2 ∷ 9 ∷ []
+-- from $2C on, from version 5 on: a black background, a white foreground (8.3.1)
+abbrev pub colours : ℕ → List ℕ
+colours number = if nat_le number 4 then [] else 2 ∷ 9 ∷ []
 
 -- from $32 on: Standard 1.1 (11.1.5)
 abbrev pub revision : List ℕ
@@ -130,8 +186,9 @@ with_extension story = with_extension_word 6 0 (with_extension_word 5 0x7FFF (wi
 unfoldable pub with_header : List ℕ → List ℕ
 with_header story =
     with_extension
-    (with_bytes (with_bytes (with_bytes (with_bytes (with_bytes story 0x01 (flags_1 ∷ [])) 0x10 (flags_2 story)) 0x1E
-    screen) 0x2C colours) 0x32 revision)
+    (with_bytes (with_bytes (with_bytes (with_bytes (with_bytes story 0x01 (flags_1 (number_of story)
+    (slice_index story 1) ∷ [])) 0x10 (flags_2 story)) 0x1E (screen (number_of story))) 0x2C (colours (number_of story)))
+    0x32 revision)
 
 -- memory when the opening begins
 abbrev pub memory_for : List ℕ → List ℕ
@@ -143,29 +200,45 @@ memory_for file = with_header (story_in file)
 abbrev pub is_sum_right : List ℕ → Bool
 is_sum_right story = word_at story 0x1C == sum (drop header_size story) % 65536
 
--- The memory of a story whose header is this, and which can be played. The order and the number of the dictionary's
--- entries refuse nothing.
-pub record IsPlayable (memory : List ℕ) (header : Header) : Type 0 where
-  pub read : IsHeaderOf memory header
+-- What is read of a header. Its version tells by how many bytes a machine of versions 5 and 8 would count packed
+-- addresses.
+pub record IsHeadOf (story : List ℕ) (header : Header) : Type 0 where
+  pub scale : scale_of header.version ≡ scale_in story
+  pub static_base : header.static_base ≡ static_base_of story
+  pub globals : header.globals ≡ globals_of story
+  pub defaults : header.defaults ≡ defaults_of story
+  pub abbreviations : header.abbreviations ≡ abbreviations_of story
+  pub high_memory : header.high_memory ≡ high_memory_of story
+  pub first_instruction : header.first_instruction ≡ first_instruction_of story
+  pub dictionary : IsDictionaryOf story (dictionary_of story) header.dictionary
+
+-- The memory of a story with this header and of this version, which can be played. The order and the number of the
+-- dictionary's entries refuse nothing.
+pub record IsPlayable (memory : List ℕ) (header : Header) (version : StoryVersion) : Type 0 where
+  pub version_read : version ≡ version_in memory
+  pub played : is_played version.number ≡ true
+  -- 8 times a word
+  pub near : (version.routine_offset ≤ longest_story) × (version.text_offset ≤ longest_story)
+  pub read : IsHeadOf memory header
   pub placed : IsPlaced memory
   pub dictionary : HasDictionaryHead memory (dictionary_of memory)
 
 -- the story of a file is whole, and of a version that is played
 pub record IsWhole (file : List ℕ) : Type 0 where
   pub header : HasHeader file
-  pub version : IsKnownVersion file
+  pub version : is_played (number_of file) ≡ true
   pub story : HasStory file
 
 -- the first fact that does not hold of a file
 abbrev pub IsNotWhole : List ℕ → HeaderFault → Type 0
 IsNotWhole file causes.TooShort = ¬ HasHeader file
-IsNotWhole file causes.UnknownVersion = HasHeader file × ¬ IsKnownVersion file
-IsNotWhole file causes.WrongLength = HasHeader file × IsKnownVersion file × ¬ HasStory file
+IsNotWhole file causes.UnknownVersion = HasHeader file × (is_played (number_of file) ≡ false)
+IsNotWhole file causes.WrongLength = HasHeader file × (is_played (number_of file) ≡ true) × ¬ HasStory file
 IsNotWhole file _ = ⊥
 
--- the header of a memory, or that an address is wrong
-abbrev pub ReadsMemory : List ℕ → Result Header HeaderFault → Type 0
-ReadsMemory memory (Ok header) = IsPlayable memory header
+-- the header and the version of a memory, or that an address is wrong
+abbrev pub ReadsMemory : List ℕ → Result (Header × StoryVersion) HeaderFault → Type 0
+ReadsMemory memory (Ok x) = IsPlayable memory x.0 x.1
 ReadsMemory memory (Err causes.WrongAddress) =
     ¬ (IsPlaced memory × HasDictionaryHead memory (dictionary_of memory))
 ReadsMemory memory (Err _) = ⊥
@@ -173,7 +246,7 @@ ReadsMemory memory (Err _) = ⊥
 -- what a file is read as
 abbrev pub ReadsFile : List ℕ → Result LoadedStory HeaderFault → Type 0
 ReadsFile file (Ok story) =
-    IsWhole file × ReadsMemory (memory_for file) (Ok story.header)
+    IsWhole file × IsPlayable (memory_for file) story.header story.version
     × (story.is_sum_right ≡ is_sum_right (story_in file))
 ReadsFile file (Err causes.WrongAddress) = IsWhole file × ReadsMemory (memory_for file) (Err causes.WrongAddress)
 ReadsFile file (Err cause) = IsNotWhole file cause
@@ -210,3 +283,6 @@ loaded_of file seed = record {
   characters = characters_of (memory_for file);
   own_alphabets = own_alphabets_of (memory_for file);
 }
+
+abbrev pub story_of : List ℕ → ℕ → Story
+story_of file seed = record { loaded = loaded_of file seed; version = version_in (memory_for file) }

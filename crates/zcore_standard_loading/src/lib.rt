@@ -6,5 +6,5 @@ mod loading;
 mod placing;
 mod zscii;
 
-pub use loading::{LoadedStory, load};
+pub use loading::{LoadedStory, is_played, length_unit, load};
 pub use zscii::{characters_of, own_alphabets_of};

@@ -1,25 +1,32 @@
 //! Loading a file to play it by the whole Standard: which files are refused, what is read of the
 //! others, and what the player writes into their headers.
 
-ghost use Rattle.std.specs.Prelude.{◌≡◌, ◌+◌, ◌%◌, ◌≤◌, length, drop, sum, slice_index, IfOk, IfErr, MatchOption};
-ghost use Rattle.zcore.specs.Header.{HasHeader, IsKnownVersion, IsOfVersion, IsHeaderOf, IsDictionaryOf, dictionary_of};
+ghost use Rattle.std.specs.Prelude.{◌≡◌, ◌+◌, ◌%◌, ◌≤◌, ℕ, List, true, length, drop, sum, slice_index, IfOk, IfErr};
+ghost use Rattle.zcore.specs.Layout.{header_size, longest_story};
+ghost use Rattle.zcore.specs.Header.{HasHeader, IsDictionaryOf, dictionary_of, scale_of};
+ghost use Rattle.zcore.specs.Parts.{scale_in};
 ghost use Rattle.zcore.specs.Turn.{with_bytes};
 ghost use Rattle.zcore_standard_loading.specs.Loading as definitions;
-ghost use Rattle.zcore_standard_loading.specs.Loading.{IsNotWhole, IsWhole, ReadsFile, ReadsMemory};
+ghost use Rattle.zcore_standard_loading.specs.Loading.{IsHeadOf, IsNotWhole, IsWhole, ReadsFile, ReadsMemory};
 
-use crate::placing::{EXTENSION_WORD, is_placed, read_dictionary};
+use crate::placing::{extension, is_placed, read_dictionary};
 use zcore::layout::{
     ABBREVIATIONS_WORD, DEFAULTS_WORD, DICTIONARY_WORD, FIRST_INSTRUCTION_WORD, GLOBALS_WORD,
     HEADER_LENGTH, HIGH_MEMORY_WORD, LENGTH_WORD, LONGEST_STORY, STATIC_BASE_WORD, SUM_WORD,
 };
 use zcore::{Dictionary, Header, HeaderFault, Version};
+use zcore_versions::StoryVersion;
 use ztext::read_word;
 
 /// What loading tells of a file, besides its memory.
 #[derive(Clone, Copy, Debug, PartialEq, Eq)]
 pub struct LoadedStory {
-    /// What the header says.
+    /// What the header says. Its version is V8 in version 8, and V5 in all others, whose packed
+    /// addresses a machine of version 5 would count by 4.
     pub header: Header,
+
+    /// The version, and what its packed addresses count from.
+    pub version: StoryVersion,
 
     /// Whether the file has the sum that its header states (section 15, `verify`).
     pub is_sum_right: bool,
@@ -40,15 +47,28 @@ const COLOURS: usize = 0x2C;
 /// The revision of the Standard.
 const REVISION: usize = 0x32;
 
-/// A fixed-space style is there, and nothing else that Flags 1 tells of.
-const FIXED_SPACE: [u8; 1] = [0x10];
+/// The words from which packed addresses of routines and of texts count in version 7, in eights of
+/// bytes (section 1.2.3).
+const ROUTINES_WORD: usize = 0x28;
 
-/// Interpreter number 1 and version F; 255 lines, which means no end, and 80 columns; the same size
-/// in units, first the width; a font that is one unit wide and one high.
-const PLAIN_TERMINAL: [u8; 10] = [1, b'F', 255, 80, 0, 80, 0, 255, 1, 1];
+const TEXTS_WORD: usize = 0x2A;
+
+/// From version 4 on: a fixed-space style is there, and nothing else that Flags 1 tells of.
+const FIXED_SPACE: u8 = 0x10;
+
+/// In version 3: the screen can be split.
+const CAN_SPLIT: u8 = 0x20;
+
+/// From version 4 on: interpreter number 1 and version F; 255 lines, which means no end, and 80
+/// columns.
+static INTERPRETER: [u8; 4] = [1, b'F', 255, 80];
+
+/// From version 5 on: the same, and the same size in units, first the width; a font that is one unit
+/// wide and one high.
+static PLAIN_TERMINAL: [u8; 10] = [1, b'F', 255, 80, 0, 80, 0, 255, 1, 1];
 
 /// Black, and white.
-const BLACK_AND_WHITE: [u8; 2] = [2, 9];
+static BLACK_AND_WHITE: [u8; 2] = [2, 9];
 
 /// Standard 1.1.
 const STANDARD_1_1: [u8; 2] = [1, 1];
@@ -75,12 +95,46 @@ fn write_bytes(memory: &mut [u8], at: usize, bytes: &[u8])
     }
 }
 
+/// Flags 1 of a version, where the story has a byte there.
+fn flags_1(number: u8, byte: u8) -> u8
+    ensures { result ≡ definitions.flags_1 number byte }
+{
+    match number {
+        0..=2 => byte / 128 * 128 + byte % 16,
+        3 => byte / 128 * 128 + CAN_SPLIT + byte % 16,
+        _ => FIXED_SPACE,
+    }
+}
+
+/// What a version is told of the interpreter and the screen.
+fn screen(number: u8) -> &'static [u8]
+    ensures screen { result.now ≡ definitions.screen number }
+    ensures few { length result.now ≤ 10 }
+{
+    match number {
+        0..=3 => &[],
+        4 => &INTERPRETER,
+        _ => &PLAIN_TERMINAL,
+    }
+}
+
+/// And of the default colours.
+fn colours(number: u8) -> &'static [u8]
+    ensures colours { result.now ≡ definitions.colours number }
+    ensures few { length result.now ≤ 2 }
+{
+    match number {
+        0..=4 => &[],
+        _ => &BLACK_AND_WHITE,
+    }
+}
+
 /// Writes a word of the header's extension, if the story has it in dynamic memory.
 fn write_extension_word(memory: &mut [u8], number: u16, word: u16)
     requires { HasHeader memory.old }
     ensures { memory.new ≡ definitions.with_extension_word number word memory.old }
 {
-    let extension = usize::from(read_word(memory, EXTENSION_WORD));
+    let extension = usize::from(extension(memory));
     let at = extension + 2 * usize::from(number);
     let end = memory
         .len()
@@ -99,41 +153,87 @@ fn set_header(memory: &mut [u8])
     ensures header { HasHeader memory.new }
     ensures version { slice_index memory.new 0 ≡ slice_index memory.old 0 }
 {
+    let number = memory[0];
+    let flags_1 = [flags_1(number, memory[FLAGS_1])];
     // bits 3 to 8 are cleared
     let flags_2 = [memory[FLAGS_2] / 2 * 2, memory[FLAGS_2 + 1] % 8];
-    write_bytes(memory, FLAGS_1, &FIXED_SPACE);
+    write_bytes(memory, FLAGS_1, &flags_1);
     write_bytes(memory, FLAGS_2, &flags_2);
-    write_bytes(memory, SCREEN, &PLAIN_TERMINAL);
-    write_bytes(memory, COLOURS, &BLACK_AND_WHITE);
+    write_bytes(memory, SCREEN, screen(number));
+    write_bytes(memory, COLOURS, colours(number));
     write_bytes(memory, REVISION, &STANDARD_1_1);
     write_extension_word(memory, FLAGS_3, 0);
     write_extension_word(memory, FOREGROUND, WHITE);
     write_extension_word(memory, BACKGROUND, 0);
 }
 
-/// The version of a story, by its first byte.
-fn version(file: &[u8]) -> Option<Version>
-    requires { HasHeader file.now }
-    ensures { MatchOption result (¬ IsKnownVersion file.now) (IsOfVersion file.now) }
+/// Whether a version is played: each but 1, 2 and 6.
+pub fn is_played(number: u8) -> bool
+    ensures { result ≡ definitions.is_played number }
 {
-    match file[0] {
-        5 => Some(Version::V5),
-        8 => Some(Version::V8),
-        _ => None,
+    matches!(number, 3..=5 | 7 | 8)
+}
+
+/// By how many bytes the header of a version states the length of its story.
+pub fn length_unit(number: u8) -> usize
+    ensures unit { result ≡ definitions.length_unit number }
+    ensures small { result ≤ 8 }
+{
+    match number {
+        0..=3 => 2,
+        4 | 5 => 4,
+        _ => 8,
     }
 }
 
-/// How many bytes of a file of a version are its story.
-fn story_length(file: &[u8], version: Version) -> usize
+/// How many bytes of a file are its story.
+fn story_length(file: &[u8]) -> usize
     requires header { HasHeader file.now }
-    requires version { IsOfVersion file.now version }
     ensures { result ≡ definitions.story_length file.now }
 {
     let stated = usize::from(read_word(file, LENGTH_WORD));
     if stated == 0 {
         file.len()
     } else {
-        stated * version.scale() as usize
+        stated * length_unit(file[0])
+    }
+}
+
+/// From where packed addresses count that a word of the header tells of.
+fn offset(memory: &[u8], word: usize) -> u32
+    requires header { HasHeader memory.now }
+    requires word { word + 2 ≤ header_size }
+    ensures offset { result ≡ definitions.offset_in memory.now word }
+    ensures near { result ≤ longest_story }
+{
+    if memory[0] == 7 {
+        8 * u32::from(read_word(memory, word))
+    } else {
+        0
+    }
+}
+
+/// The version of a memory.
+fn version(memory: &[u8]) -> StoryVersion
+    requires header { HasHeader memory.now }
+    ensures version { result ≡ definitions.version_in memory.now }
+    ensures near { (result.routine_offset ≤ longest_story) × (result.text_offset ≤ longest_story) }
+{
+    StoryVersion {
+        number: memory[0],
+        routine_offset: offset(memory, ROUTINES_WORD),
+        text_offset: offset(memory, TEXTS_WORD),
+    }
+}
+
+/// The version by which a machine of versions 5 and 8 counts packed addresses.
+fn counted_as(number: u8) -> Version
+    ensures { (memory : List ℕ) → slice_index memory 0 ≡ number → scale_of result ≡ scale_in memory }
+{
+    if number == 8 {
+        Version::V8
+    } else {
+        Version::V5
     }
 }
 
@@ -158,14 +258,13 @@ fn is_sum_right(story: &[u8]) -> bool
 }
 
 /// What a header says.
-fn header_of(memory: &[u8], version: Version, dictionary: Dictionary) -> Header
+fn header_of(memory: &[u8], dictionary: Dictionary) -> Header
     requires header { HasHeader memory.now }
-    requires version { IsOfVersion memory.now version }
     requires dictionary { IsDictionaryOf memory.now (dictionary_of memory.now) dictionary }
-    ensures { IsHeaderOf memory.now result }
+    ensures { IsHeadOf memory.now result }
 {
     Header {
-        version,
+        version: counted_as(memory[0]),
         static_base: read_word(memory, STATIC_BASE_WORD),
         globals: read_word(memory, GLOBALS_WORD),
         defaults: read_word(memory, DEFAULTS_WORD),
@@ -176,10 +275,10 @@ fn header_of(memory: &[u8], version: Version, dictionary: Dictionary) -> Header
     }
 }
 
-/// The header of a memory that can be played.
-fn read_header(memory: &[u8], version: Version) -> Result<Header, HeaderFault>
+/// The header of a memory that can be played, and its version.
+fn read_header(memory: &[u8]) -> Result<(Header, StoryVersion), HeaderFault>
     requires header { HasHeader memory.now }
-    requires version { IsOfVersion memory.now version }
+    requires version { definitions.is_played (definitions.number_of memory.now) ≡ true }
     ensures { ReadsMemory memory.now result }
 {
     if !is_placed(memory) {
@@ -188,32 +287,32 @@ fn read_header(memory: &[u8], version: Version) -> Result<Header, HeaderFault>
     let Some(dictionary) = read_dictionary(memory, read_word(memory, DICTIONARY_WORD)) else {
         return Err(HeaderFault::WrongAddress);
     };
-    Ok(header_of(memory, version, dictionary))
+    Ok((header_of(memory, dictionary), version(memory)))
 }
 
-/// Cuts a file to its story, and tells its version.
-fn cut(file: &mut Vec<u8>) -> Result<Version, HeaderFault>
+/// Cuts a file to its story.
+fn cut(file: &mut Vec<u8>) -> Result<(), HeaderFault>
     ensures whole { IfOk result (λ _. IsWhole file.old.items) }
     ensures story { IfOk result (λ _. file.new.items ≡ definitions.story_in file.old.items) }
     ensures header { IfOk result (λ _. HasHeader file.new.items) }
-    ensures version { IfOk result (λ version. IsOfVersion file.new.items version) }
+    ensures version { IfOk result (λ _. definitions.is_played (definitions.number_of file.new.items) ≡ true) }
     ensures refused { IfErr result (λ cause. IsNotWhole file.old.items cause) }
 {
     if file.len() < HEADER_LENGTH {
         return Err(HeaderFault::TooShort);
     }
-    let Some(version) = version(file) else {
+    if !is_played(file[0]) {
         return Err(HeaderFault::UnknownVersion);
-    };
-    let length = story_length(file, version);
+    }
+    let length = story_length(file);
     if length < HEADER_LENGTH || file.len() < length || LONGEST_STORY < length {
         return Err(HeaderFault::WrongLength);
     }
     file.truncate(length);
-    Ok(version)
+    Ok(())
 }
 
-/// Loads a file: cuts it to its story, and sets the header.
+/// Loads a file of a version that is played: cuts it to its story, and sets the header.
 ///
 /// # Errors
 ///
@@ -223,12 +322,13 @@ pub fn load(file: &mut Vec<u8>) -> Result<LoadedStory, HeaderFault>
     ensures read { ReadsFile file.old.items result }
     ensures memory { IfOk result (λ _. file.new.items ≡ definitions.memory_for file.old.items) }
 {
-    let version = cut(file)?;
+    cut(file)?;
     let is_sum_right = is_sum_right(file);
     set_header(file);
-    let header = read_header(file, version)?;
+    let (header, version) = read_header(file)?;
     Ok(LoadedStory {
         header,
+        version,
         is_sum_right,
     })
 }

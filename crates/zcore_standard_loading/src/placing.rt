@@ -3,7 +3,8 @@
 ghost use Rattle.std.specs.Prelude.{◌≡◌, ◌+◌, ◌*◌, ◌≤◌, ◌↔◌, IsTrue, MatchOption};
 ghost use Rattle.zcore.specs.Header.{HasDictionaryHead, HasHeader, IsDictionary, IsDictionaryOf, IsWithin, static_end};
 ghost use Rattle.zcore_standard_loading.specs.Loading as definitions;
-ghost use Rattle.zcore_standard_loading.specs.Loading.{HasCharacters, IsPlaced, IsTable, IsExtension, IsUnicode};
+ghost use Rattle.zcore_standard_loading.specs.Loading.{HasAbbreviations, HasCharacters, IsPlaced, IsTable, IsExtension, IsUnicode};
+ghost use Rattle.zcore.specs.Layout.{header_size};
 
 use zcore::Dictionary;
 use zcore::layout::{
@@ -13,13 +14,19 @@ use zcore::layout::{
 use ztext::{MOST_ABBREVIATIONS, read_word};
 
 /// The header's word for the address of its extension (section 11.1.7).
-pub(crate) const EXTENSION_WORD: usize = 0x36;
+const EXTENSION_WORD: usize = 0x36;
 
 /// Globals are words (section 6.2).
 const GLOBALS_LENGTH: usize = 2 * GLOBAL_COUNT;
 
 /// So are addresses of abbreviations (section 3.3).
 const ABBREVIATIONS_LENGTH: usize = 2 * MOST_ABBREVIATIONS;
+
+/// Version 2 has 32 of them.
+const FEWER_ABBREVIATIONS_LENGTH: usize = 64;
+
+/// The defaults of properties up to version 3: 31 words (section 12.2).
+const SMALL_DEFAULTS_LENGTH: usize = 62;
 
 /// The word of the extension that is the address of the Unicode table (section 11.1.7).
 const UNICODE_TABLE: u16 = 3;
@@ -59,12 +66,33 @@ fn end_of_static(story: &[u8]) -> usize
     story.len().min(READABLE)
 }
 
+/// A word of the header from version 5 on, and 0 before.
+fn late_word(story: &[u8], at: usize) -> u16
+    requires header { HasHeader story.now }
+    requires at { at + 2 ≤ header_size }
+    ensures { result ≡ definitions.late_word story.now at }
+{
+    if story[0] >= 5 {
+        read_word(story, at)
+    } else {
+        0
+    }
+}
+
+/// The address of the header's extension, or 0.
+pub(crate) fn extension(story: &[u8]) -> u16
+    requires { HasHeader story.now }
+    ensures { result ≡ definitions.extension_of story.now }
+{
+    late_word(story, EXTENSION_WORD)
+}
+
 /// Whether the extension of the header is whole.
 fn has_extension(story: &[u8]) -> bool
     requires { HasHeader story.now }
     ensures { IsTrue result ↔ IsExtension story.now }
 {
-    let extension = read_word(story, EXTENSION_WORD);
+    let extension = extension(story);
     if !is_table(story, extension, 2) {
         return false;
     }
@@ -78,7 +106,7 @@ pub(crate) fn unicode_table(story: &[u8]) -> u16
     requires extension { IsExtension story.now }
     ensures { result ≡ definitions.unicode_table_of story.now }
 {
-    let extension = read_word(story, EXTENSION_WORD);
+    let extension = extension(story);
     let at = usize::from(extension);
     if 1 <= extension && UNICODE_TABLE <= read_word(story, at) {
         read_word(story, at + 2 * usize::from(UNICODE_TABLE))
@@ -106,7 +134,7 @@ pub(crate) fn alphabet_table(story: &[u8]) -> u16
     requires { HasHeader story.now }
     ensures { result ≡ definitions.alphabet_table_of story.now }
 {
-    read_word(story, ALPHABETS_WORD)
+    late_word(story, ALPHABETS_WORD)
 }
 
 /// Whether the Unicode table is whole, and the table of the story's own alphabets, if it has them.
@@ -116,6 +144,32 @@ fn has_characters(story: &[u8]) -> bool
     ensures { IsTrue result ↔ HasCharacters story.now }
 {
     has_unicode(story) && is_table(story, alphabet_table(story), ALPHABETS_LENGTH)
+}
+
+/// How many bytes the defaults of properties have.
+fn defaults_length(story: &[u8]) -> usize
+    requires { HasHeader story.now }
+    ensures length { result ≡ definitions.defaults_size_in story.now }
+    ensures short { result ≤ DEFAULTS_LENGTH }
+{
+    if story[0] <= 3 {
+        SMALL_DEFAULTS_LENGTH
+    } else {
+        DEFAULTS_LENGTH
+    }
+}
+
+/// Whether the table of abbreviations lies where instructions can read it, if the version has one.
+fn has_abbreviations(story: &[u8]) -> bool
+    requires { HasHeader story.now }
+    ensures { IsTrue result ↔ HasAbbreviations story.now }
+{
+    let table = read_word(story, ABBREVIATIONS_WORD);
+    match story[0] {
+        1 => true,
+        0 | 2 => is_table(story, table, FEWER_ABBREVIATIONS_LENGTH),
+        _ => is_table(story, table, ABBREVIATIONS_LENGTH),
+    }
 }
 
 /// Whether each address that the header names lies in the memory that it belongs to.
@@ -128,12 +182,11 @@ pub(crate) fn is_placed(story: &[u8]) -> bool
     let base = usize::from(static_base);
     let globals = read_word(story, GLOBALS_WORD);
     let defaults = read_word(story, DEFAULTS_WORD);
-    let abbreviations = read_word(story, ABBREVIATIONS_WORD);
     let first_instruction = read_word(story, FIRST_INSTRUCTION_WORD);
     is_within(HEADER_LENGTH, length, static_base, 0)
         && is_within(HEADER_LENGTH, base, globals, GLOBALS_LENGTH)
-        && is_within(HEADER_LENGTH, base, defaults, DEFAULTS_LENGTH)
-        && is_table(story, abbreviations, ABBREVIATIONS_LENGTH)
+        && is_within(HEADER_LENGTH, base, defaults, defaults_length(story))
+        && has_abbreviations(story)
         && is_within(HEADER_LENGTH, length, first_instruction, 1)
         && static_base <= read_word(story, DICTIONARY_WORD)
         && has_extension(story)

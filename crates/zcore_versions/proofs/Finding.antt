@@ -1,5 +1,7 @@
 -- Where an operation of versions up to 4 is found, the version is one of them.
-use Rattle.std.proofs.Common.{◌≡◌, ℕ, List, refl, Bool, true, false, cond, Option, Some, None, slice_index, ◌+◌}
+use Rattle.std.proofs.Common.{◌≡◌, ◌<◌, ℕ, List, length, refl, subst, Bool, true, false, cond, Option, Some, None}
+use Rattle.std.proofs.Common.{slice_index, ◌+◌}
+use Rattle.std.proofs.lemmas.Bool.{and_parts, ltb-true}
 use Rattle.std.specs.Prelude.{◌==◌, ◌&&◌, nat_le}
 use Rattle.zcore.specs.declared.instruction.Operation.{Operation}
 use Rattle.zcore.specs.Parts.{is_code}
@@ -85,3 +87,55 @@ found_old version memory at operation e =
     opcode_old version.number opcode operation
     (action_older version.number (action_in version.number opcode) operation
     (not_late (is_late version) _ operation (in_code (is_code memory at) (of_opcode version opcode) operation e)))
+
+-- Where an operation of the profile is found, the version performs it otherwise.
+
+known_differs : (b : Bool) (o operation : Operation) → cond b (Some (Known o)) None ≡ Some (Known operation)
+    → (b ≡ true) × (o ≡ operation)
+known_differs true o operation e = (refl, cc)
+known_differs false o operation e = absurd (cc)
+
+split_not_known : {P : Type 0} (b : Bool) (operation : Operation)
+    → cond b (Some SplitWindow) None ≡ Some (Known operation) → P
+split_not_known true operation e = absurd (cc)
+split_not_known false operation e = absurd (cc)
+
+action_differs : (version : ℕ) (action : Option Action) (operation : Operation)
+    → otherwise version action ≡ Some (Known operation) → differs version operation ≡ true
+action_differs version None operation e = absurd (cc)
+action_differs version (Some (actions.Profile o)) operation e =
+    let p = known_differs (differs version o) o operation e in
+    subst (λ x. differs version x ≡ true) p.1 p.0
+action_differs version (Some (actions.Standard o)) operation e =
+    split_not_known (version == 3 && splits o) operation e
+action_differs version (Some (actions.Older o)) operation e = absurd (cc)
+
+known_in_code : (b : Bool) (o : Option VersionOperation) (operation : Operation)
+    → cond b o None ≡ Some (Known operation) → o ≡ Some (Known operation)
+known_in_code true o operation e = e
+known_in_code false o operation e = absurd (cc)
+
+known_early : (b : Bool) (o : Option VersionOperation) (operation : Operation)
+    → cond b None o ≡ Some (Known operation) → o ≡ Some (Known operation)
+known_early true o operation e = absurd (cc)
+known_early false o operation e = e
+
+pub found_differs : (version : StoryVersion) (memory : List ℕ) (at : ℕ) (operation : Operation)
+    → older_at version memory at ≡ Some (Known operation) → differs version.number operation ≡ true
+found_differs version memory at operation e =
+    let opcode = opcode_of (slice_index memory at) (slice_index memory (at + 1)) in
+    action_differs version.number (action_in version.number opcode) operation
+    (known_early (is_late version) _ operation (known_in_code (is_code memory at) (of_opcode version opcode) operation e))
+
+-- An operation is found in code alone.
+
+code_within : (b : Bool) (memory : List ℕ) (at : ℕ) (o : Option VersionOperation) (operation : VersionOperation)
+    → is_code memory at ≡ b → cond b o None ≡ Some operation → at < length memory
+code_within true memory at o operation code h = ltb-true at (length memory) (and_parts _ _ code).1
+code_within false memory at o operation code h = absurd (cc)
+
+pub found_within : (version : StoryVersion) (memory : List ℕ) (at : ℕ) (operation : VersionOperation)
+    → older_at version memory at ≡ Some operation → at < length memory
+found_within version memory at operation e =
+    code_within (is_code memory at) memory at
+    (of_opcode version (opcode_of (slice_index memory at) (slice_index memory (at + 1)))) operation refl e

@@ -2,14 +2,14 @@ mod TextFacts
 mod SmallKeeping
 mod SmallFalls
 mod CallFalls
-mod Stepping
+pub mod Stepping
 mod SmallWaitingParts
 mod SmallWaiting
-mod Waiting
+pub mod Waiting
 pub mod Turning
 mod ObjectSamples
 mod OpcodeSamples
 mod TextSamples
 mod CallSamples
 mod LineSamples
-mod Finding
+pub mod Finding

@@ -14,6 +14,6 @@ returns-then-not-are_writable c =
 pub returns : goal.returns
 returns c =
     let m = memory_of c.args.store.now.store in
-    bytes_written c.args.store.now c.fill_bytes.new.store c.args.coded c.args.form.now
+    bytes_written c.args.store.now c.fill.new.store c.args.coded c.args.form.now
     (ap (are_writable m c.args.coded) c.told-form ∙ sym (c.are_writable.ensures m c.requires.headed.static_base)
-    ∙ c.if-not-are_writable.false) c.in_ok-fill_bytes.ensures.filled
+    ∙ c.if-not-are_writable.false) c.in_ok-fill.ensures.filled

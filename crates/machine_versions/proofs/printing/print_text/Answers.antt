@@ -1,0 +1,11 @@
+use Rattle.zcore_versions.specs.Printing.{print_text}
+use Rattle.zcore_versions.specs.Versions.{versioned}
+use Rattle.machine_frames.proofs.Steps.{told_as}
+use Rattle.machine_versions.proofs.Printing.{text_printed}
+use Rattle.machine_versions.proofs.printing.print_text.Goals as goal
+
+pub returns-clause-told : goal.returns-clause-told
+returns-clause-told c =
+    told_as _ (print_text (versioned c.args.loaded.now c.args.version) c.args.here c.args.after c.args.address)
+    (text_printed c.args.loaded.now c.args.version c.args.here c.args.after c.args.address _ c.requires.unlocked)
+    c.print_any_address.ensures.told

@@ -1,0 +1,2 @@
+mod Performing
+pub mod Stepping
