@@ -1,7 +1,7 @@
 use Rattle.std.proofs.Common.{◌≤◌, take}
 use Rattle.ztext.specs.TextParts.{IsFilledKey}
 use Rattle.zcore_standard.specs.Texts.{spelled_by}
-use Rattle.machine_standard_words.proofs.form.form_of.Given as goal
+use Rattle.machine_standard_words.proofs.form.nine_characters.Given as goal
 
 abbrev pub invariant-loop-c : goal.invariant-loop-c
 invariant-loop-c l = record {
