@@ -1,5 +1,6 @@
 -- The first six Z-characters of a word in two words of memory.
-use Rattle.std.proofs.Common.{◌≡◌, ◌<◌, ℕ, List, ◌∷◌, [], length, get_or, take, drop, refl, sym, ap, ◌∙◌, arith, drop-cons}
+use Rattle.std.proofs.Common.{◌≡◌, ◌≤◌, ℕ, zero, suc, List, ◌∷◌, [], ◌++◌, length, get_or, take, drop, refl, sym, ap, ◌∙◌, arith, drop-cons}
+use Rattle.std.specs.Prelude.{replicate}
 use Rattle.ztext.specs.Words.{packed, word_of}
 use Rattle.ztext.specs.TextParts.{filled}
 use Rattle.zcore_standard.specs.Loaded.{alphabets_of}
@@ -25,12 +26,19 @@ pub packed_is : (zs p q : List ℕ) → length zs ≡ 9 → p ≡ word_of 0 (get
 unfolding packed
 packed_is zs p q e ep eq = rw (ep, eq) (sym (ap packed (six zs e)))
 
+take_fewer : (k n : ℕ) (zs : List ℕ) → k ≤ n → take k (take n zs) ≡ take k zs
+take_fewer zero n zs le = refl
+take_fewer (suc k) zero zs le = absurd (omega (arith, le))
+take_fewer (suc k) (suc n) [] le = refl
+take_fewer (suc k) (suc n) (z ∷ zs) le = ap (λ l. z ∷ l) (take_fewer k n zs (omega (arith, le)))
+
 -- of nine Z-characters the first six are those of the word
 pub key_is : (story : Story) (word zs key : List ℕ) → is_small story.version ≡ true
     → zs ≡ filled (spelled_in story word) → key ≡ packed (take 6 zs) → key ≡ form_in story word
 unfolding form_in filled
 key_is story word zs key small is e =
-    e ∙ ap (λ l. packed (take 6 l)) is ∙ rw small refl
+    let zs9 = spelled_in story word ++ replicate 9 5 in
+    e ∙ ap (λ l. packed (take 6 l)) is ∙ ap packed (take_fewer 6 9 zs9 (omega arith)) ∙ rw small refl
 
 pub not_locked : (story : Story) (word zs : List ℕ) → locks_alphabets story.version ≡ false
     → zs ≡ filled (spelled_by (alphabets_of story.loaded) word) → zs ≡ filled (spelled_in story word)
