@@ -26,14 +26,15 @@ use Rattle.checker_names.proofs.Kept.{left_empty, right_empty, kept, below}
 use Rattle.checker_statements.specs.Statements.{statements_breaches}
 use Rattle.checker_objects.specs.Arrays.{array_breaches, array_bytes, arrays_of}
 use Rattle.checker_objects.proofs.ArraySizes.{array_short}
-use Rattle.checker_objects.specs.Objects.{object_breaches, standing_breaches, parents_of, object_in, placed}
+use Rattle.checker_objects.specs.Objects.{object_breaches, standing_breaches, parents_of, object_in, with_parents}
 use Rattle.checker_objects.specs.Objects.{all_defaults, objects_of, objects_in, object_trees}
 use Rattle.checker_names.specs.Names.{twice}
 use Rattle.checker_objects.proofs.Chains.{placed_many}
 use Rattle.checker.specs.Programs.{limit_breaches, defaults_in, locals_breaches, routine_breaches, directive_breaches}
 use Rattle.checker.specs.Programs.{directives_breaches, main_key, first_routine, position_or, main_breaches}
 use Rattle.checker.specs.Programs.{program_breaches, globals_of, resolve_routine, routines_of, abbreviations_breaches}
-use Rattle.checker.specs.Programs.{routine_number, resolve_with, file_of, resolve_program}
+use Rattle.checker.specs.Programs.{resolve_with, file_of, resolve_program}
+use Rattle.checker_values.specs.Expressions.{routine_of_binding}
 use Rattle.checker.proofs.Whole.{characters_of, made}
 use Rattle.checker.specs.Laws.{AcceptedPrograms}
 use Rattle.checker.proofs.AbbreviationLimits.{texts_few, texts_long}
@@ -180,7 +181,7 @@ module _ (p : ProgramOf) (file : File) (attributes properties : ℕ) (few : attr
     alone : (routine_at p.routines main).locals ≡ 0
 
   main_within : (end : Position) (name : Option NameTree) (o : Option Binding) → IsMeant p 0 o
-      → main_breaches end name o ≡ [] → IsMain (routine_number o)
+      → main_breaches end name o ≡ [] → IsMain (routine_of_binding o)
   main_within end name None m h = absurd cc
   main_within end name (Some (bindings.Constant n)) m h = absurd cc
   main_within end name (Some (bindings.Global g)) m h = absurd cc
@@ -204,11 +205,11 @@ accepted : (ds : List DirectiveTree) (ts : List TextTree) (end : Position) (name
     ≡ []
     → IsAccepted
     (made (globals_of file ds) (arrays_of file ds) (all_defaults (defaults_in file ds)) (objects_of file ds) keys
-    (map characters_of ts) (routines_of file ds) (routine_number (in_table file.table main_key)))
+    (map characters_of ts) (routines_of file ds) (routine_of_binding (in_table file.table main_key)))
 accepted ds ts end name keys file small ascending is h =
     let p : ProgramOf = made (globals_of file ds) (arrays_of file ds) (all_defaults (defaults_in file ds))
     (objects_of file ds) keys (map characters_of ts) (routines_of file ds)
-    (routine_number (in_table file.table main_key)) in
+    (routine_of_binding (in_table file.table main_key)) in
     let attributes : ℕ = attributes_in ds in
     let properties : ℕ = length (defaults_in file ds) in
     let all = directives_breaches file.table first_table no_counts ds in
@@ -238,7 +239,7 @@ accepted ds ts end name keys file small ascending is h =
       arrays = arrays_within file first_table no_counts ds own;
       defaults = (defaults_many (defaults_in file ds), defaults_small file ds);
       few = omega (arith, many, as_many);
-      objects = λ (k : ℕ) lt. subst (λ (n : ℕ). IsObject (object_at (placed parents (objects_in file ds)) (k + 1)) n)
+      objects = λ (k : ℕ) lt. subst (λ (n : ℕ). IsObject (object_at (with_parents parents (objects_in file ds)) (k + 1)) n)
           (omega arith)
           (objects_placed 0 parents (objects_in file ds)
           (parents_rise file.table [] 0 (object_trees ds) tt (left_empty standing (texts ++ main) rest))

@@ -17,7 +17,7 @@ use Rattle.meaning.proofs.Folding.{fold_small, fold_great, fold_part}
 use Rattle.checker_names.specs.Keys.{keys_of}
 use Rattle.checker_names.specs.Names.{Table, File, table_of}
 use Rattle.checker_objects.specs.Arrays.{arrays_of}
-use Rattle.checker_objects.specs.Objects.{placed, parents_of, object_trees, objects_in}
+use Rattle.checker_objects.specs.Objects.{with_parents, parents_of, object_trees, objects_in}
 use Rattle.checker_objects.specs.Sizes.{listed_objects_size}
 use Rattle.checker_objects.proofs.Chains.{placed_many}
 use Rattle.checker_objects.proofs.Sizes.{objects_sized}
@@ -31,7 +31,7 @@ numbers_by place keys key = key_number place keys key % 65536
 
 -- parents add nothing
 
-placed_sizes : (ps : List ℕ) (os : List ObjectOf) → total (map table_size (placed ps os)) ≡ total (map table_size os)
+placed_sizes : (ps : List ℕ) (os : List ObjectOf) → total (map table_size (with_parents ps os)) ≡ total (map table_size os)
 placed_sizes ps [] = refl
 placed_sizes [] (o ∷ os) = ap (λ (n : ℕ). table_size o + n) (placed_sizes [] os)
 placed_sizes (p ∷ ps) (o ∷ os) = ap (λ (n : ℕ). table_size o + n) (placed_sizes ps os)
@@ -43,8 +43,8 @@ unfolding resolve_with
 place_is file p =
     let ps : List ℕ = parents_of file.table (object_trees p.directives) in
     let os : List ObjectOf = objects_in file p.directives in
-    summed (length (concat (arrays_of file p.directives))) (length (placed ps os)) (length os)
-    (total (map table_size (placed ps os))) (total (map table_size os)) (placed_many ps os) (placed_sizes ps os)
+    summed (length (concat (arrays_of file p.directives))) (length (with_parents ps os)) (length os)
+    (total (map table_size (with_parents ps os))) (total (map table_size os)) (placed_many ps os) (placed_sizes ps os)
   where
     summed : (a l m s t : ℕ) → l ≡ m → s ≡ t → 64 + 192 + 2 + 480 + a + 126 + 14 * l + s ≡ 864 + a + (14 * m + t)
     summed a l m s t h k = omega (arith, h, k)

@@ -26,7 +26,7 @@ use Rattle.checker_objects.specs.Objects.{property_name, given_breaches, short_b
 use Rattle.checker_objects.specs.Objects.{above_of, opened, arrow_breaches, parent_breaches, named_parent_breaches}
 use Rattle.checker_objects.specs.Objects.{stand_breaches, standing_from, word_of, with_property}
 use Rattle.checker_objects.specs.Objects.{provided_of, with_properties, given_of, short_name, object_in, above_number}
-use Rattle.checker_objects.specs.Objects.{object_of_binding, parent_number, parents_from, placed, exactly, all_defaults}
+use Rattle.checker_objects.specs.Objects.{object_of_binding, parent_number, parents_from, with_parents, exactly, all_defaults}
 use Rattle.checker.specs.Programs.{defaults_in}
 use Rattle.checker.proofs.MeantNames.{attribute_within, property_within}
 use Rattle.checker.proofs.Bindings.{AreEntries, found_meant}
@@ -211,25 +211,25 @@ alone_object o p before h le = record {
 }
 
 object_there : (before : ℕ) (ps : List ℕ) (os : List ObjectOf) → Rise before ps → All IsAlone os → (k : ℕ)
-    → k < length (placed ps os) → IsObject (slice_index_or (placed ps os) k no_object) (before + k)
+    → k < length (with_parents ps os) → IsObject (slice_index_or (with_parents ps os) k no_object) (before + k)
 object_there before ps [] rise all k lt = absurd (omega (arith, lt))
 object_there before [] (o ∷ os) rise all zero lt =
     alone_object o 0 (before + zero) (All-head IsAlone o os all) (omega arith)
 object_there before [] (o ∷ os) rise all (suc k) lt =
-    subst (λ (n : ℕ). IsObject (slice_index_or (placed [] os) k no_object) n) (omega arith)
+    subst (λ (n : ℕ). IsObject (slice_index_or (with_parents [] os) k no_object) n) (omega arith)
     (object_there (before + 1) [] os tt (All-tail IsAlone o os all) k (omega (arith, lt)))
 object_there before (p ∷ ps) (o ∷ os) rise all zero lt =
     let first = rise.0 in
     alone_object o p (before + zero) (All-head IsAlone o os all) (omega (arith, first))
 object_there before (p ∷ ps) (o ∷ os) rise all (suc k) lt =
-    subst (λ (n : ℕ). IsObject (slice_index_or (placed ps os) k no_object) n) (omega arith)
+    subst (λ (n : ℕ). IsObject (slice_index_or (with_parents ps os) k no_object) n) (omega arith)
     (object_there (before + 1) ps os rise.1 (All-tail IsAlone o os all) k (omega (arith, lt)))
 
 pub objects_placed : (before : ℕ) (ps : List ℕ) (os : List ObjectOf) → Rise before ps → All IsAlone os → (k : ℕ)
-    → k < length (placed ps os) → IsObject (object_at (placed ps os) (k + 1)) (before + k)
+    → k < length (with_parents ps os) → IsObject (object_at (with_parents ps os) (k + 1)) (before + k)
 objects_placed before ps os rise all k lt =
     let next : k + 1 ≡ suc k = omega arith in
-    subst (λ (n : ℕ). IsObject (object_at (placed ps os) n) (before + k)) (sym next)
+    subst (λ (n : ℕ). IsObject (object_at (with_parents ps os) n) (before + k)) (sym next)
     (object_there before ps os rise all k lt)
 
 -- Defaults

@@ -18,7 +18,7 @@ use Rattle.meaning.specs.Printable.{IsPrintableItem, IsPrintableAction, ArePrint
 use Rattle.meaning.specs.Printable.{IsPrintableRoutine}
 use Rattle.checker_names.specs.Names.{File, Seen, seen_from}
 use Rattle.checker_statements.specs.Statements.{resolve_item, resolve_statement, resolve_statements, resolve_cases}
-use Rattle.checker_objects.specs.Objects.{short_name, object_in, placed, parents_of, object_trees, objects_in}
+use Rattle.checker_objects.specs.Objects.{short_name, object_in, with_parents, parents_of, object_trees, objects_in}
 use Rattle.checker.specs.Programs.{resolve_routine, routines_of, resolve_with, file_of, resolve_program}
 use Rattle.checker.specs.Laws.{PrintablePrograms}
 use Rattle.checker.proofs.AbbreviationLimits.{texts_print}
@@ -122,13 +122,13 @@ names_print file (object o ∷ ds) h =
     (short_prints o.short (All-head source.IsPrintableDirective (object o) ds h))
     (names_print file ds (All-tail source.IsPrintableDirective (object o) ds h))
 
-placed_print : (ps : List ℕ) (os : List ObjectOf) → All NamePrints os → All NamePrints (placed ps os)
+placed_print : (ps : List ℕ) (os : List ObjectOf) → All NamePrints os → All NamePrints (with_parents ps os)
 placed_print ps [] h = All-nil NamePrints
 placed_print [] (o ∷ os) h =
-    All-cons NamePrints (record o { parent = 0 }) (placed [] os) (All-head NamePrints o os h)
+    All-cons NamePrints (record o { parent = 0 }) (with_parents [] os) (All-head NamePrints o os h)
     (placed_print [] os (All-tail NamePrints o os h))
 placed_print (p ∷ ps) (o ∷ os) h =
-    All-cons NamePrints (record o { parent = p }) (placed ps os) (All-head NamePrints o os h)
+    All-cons NamePrints (record o { parent = p }) (with_parents ps os) (All-head NamePrints o os h)
     (placed_print ps os (All-tail NamePrints o os h))
 
 pub printable_programs : PrintablePrograms

@@ -21,11 +21,12 @@ use Rattle.checker_names.specs.Names.{Table, File, in_table, first_table, no_cou
 use Rattle.checker_names.specs.Noted.{noted}
 use Rattle.checker_names.proofs.Noted.{noted_two}
 use Rattle.checker_objects.specs.Arrays.{arrays_of}
-use Rattle.checker_objects.specs.Objects.{all_defaults, standing_breaches, parents_of, placed, object_trees, objects_of}
+use Rattle.checker_objects.specs.Objects.{all_defaults, standing_breaches, parents_of, with_parents, object_trees, objects_of}
 use Rattle.checker.specs.declared.directive_rules.ResolvedFile.{ResolvedFile}
 use Rattle.checker.specs.Resolving.{IsFound}
 use Rattle.checker.specs.Programs.{main_key, first_routine, main_breaches, directives_breaches, program_breaches}
-use Rattle.checker.specs.Programs.{defaults_in, globals_of, routines_of, routine_number, resolve_with, file_of}
+use Rattle.checker.specs.Programs.{defaults_in, globals_of, routines_of, resolve_with, file_of}
+use Rattle.checker_values.specs.Expressions.{routine_of_binding}
 use Rattle.checker.specs.Programs.{abbreviations_breaches, resolve_program}
 use Rattle.checker.specs.Checked.{IsCheckedOf}
 use Rattle.checker.proofs.FewListed.{first_objects}
@@ -58,7 +59,7 @@ pub program_value : (p : Program) (file : File) (gs : List ℕ) (arrays : List (
     → keys ≡ keys_of (program_tree p).words
     → texts ≡ map characters_of (program_tree p).abbreviations
     → rs ≡ routines_of file (map directive_tree p.directives.items)
-    → n ≡ routine_number (in_table file.table main_key)
+    → n ≡ routine_of_binding (in_table file.table main_key)
     → made gs arrays ws os keys texts rs n ≡ resolve_program (program_tree p)
 unfolding resolve_program resolve_with
 program_value p file gs arrays ws os keys texts rs n w g a d o k t r m =
@@ -67,11 +68,11 @@ program_value p file gs arrays ws os keys texts rs n w g a d o k t r m =
     let written = map characters_of (program_tree p).abbreviations in
     let here : made gs arrays ws os keys texts rs n
     ≡ made (globals_of file ds) (arrays_of file ds) (all_defaults (defaults_in file ds)) (objects_of file ds)
-    (keys_of words) written (routines_of file ds) (routine_number (in_table file.table main_key)) =
+    (keys_of words) written (routines_of file ds) (routine_of_binding (in_table file.table main_key)) =
     rw (g, a, d, o, k, t, r, m) refl in
     here
     ∙ ap (λ (f : File). made (globals_of f ds) (arrays_of f ds) (all_defaults (defaults_in f ds)) (objects_of f ds)
-    (keys_of words) written (routines_of f ds) (routine_number (in_table f.table main_key))) w
+    (keys_of words) written (routines_of f ds) (routine_of_binding (in_table f.table main_key))) w
 
 -- the names of a program's file are those of its table
 pub file_table : (p : ProgramTree) → (file_of p).table ≡ table_of p.directives
@@ -124,9 +125,9 @@ pub program_checked : (p : Program) (file : File) (keys : List ℕ) (given again
     → IsFound file (map directive_tree given) found
     → defaults ≡ all_defaults found.defaults.items
     → parents ≡ parents_of file.table (object_trees (map directive_tree again))
-    → map object_of objects ≡ placed parents (map object_of found.objects.items)
+    → map object_of objects ≡ with_parents parents (map object_of found.objects.items)
     → abbreviations ≡ map characters_of (map text_tree texts)
-    → n ≡ routine_number (in_table file.table main_key)
+    → n ≡ routine_of_binding (in_table file.table main_key)
     → c ≡ checked found.globals.items (cut found.arrays.sizes.items found.arrays.bytes.items) defaults objects keys
     abbreviations found.routines.items n p.weight p.end.line
     → program_breaches (program_tree p) ≡ []
@@ -145,8 +146,8 @@ program_checked p file keys given again texts found defaults parents objects abb
           (cut_is found.arrays.sizes.items found.arrays.bytes.items
           (arrays_of file (map directive_tree p.directives.items)) g.sizes g.bytes)
           (d ∙ ap all_defaults g.defaults)
-          (os ∙ ap (λ (x : List ℕ). placed x (map object_of found.objects.items)) stand
-          ∙ ap (λ (x : List ObjectOf). placed (parents_of file.table (object_trees ds)) x)
+          (os ∙ ap (λ (x : List ℕ). with_parents x (map object_of found.objects.items)) stand
+          ∙ ap (λ (x : List ObjectOf). with_parents (parents_of file.table (object_trees ds)) x)
           (g.objects
           ∙ first_objects file (program_tree p)
           (ap (λ (x : File). x.table) w ∙ file_table (program_tree p)) unbroken)) k

@@ -22,6 +22,7 @@ use Rattle.checker_names.specs.Keys.{keys_of}
 use Rattle.checker_names.specs.Names.{Table, File, key_of, same_key, in_table, first_table, no_counts, with_directive}
 use Rattle.checker_names.specs.Names.{counts_after, table_of, look_up, Seen, seen_from}
 use Rattle.checker_names.specs.Names.{twice, has_name}
+use Rattle.checker_values.specs.Expressions.{routine_of_binding}
 use Rattle.checker_values.specs.Literals.{initial_breaches, named_breaches, initial_value}
 use Rattle.checker_statements.specs.Statements.{statements_breaches, resolve_statements}
 use Rattle.checker_objects.specs.Arrays.{array_breaches, arrays_of}
@@ -155,10 +156,6 @@ routines_of file [] = []
 routines_of file (routine r ∷ ds) = resolve_routine file r ∷ routines_of file ds
 routines_of file (_ ∷ ds) = routines_of file ds
 
-abbrev pub routine_number : Option Binding → ℕ
-routine_number (Some (bindings.Routine r locals)) = r
-routine_number _ = 0
-
 -- with the names of a file and these numbers of keys
 unfoldable pub resolve_with : File → ProgramTree → ProgramOf
 resolve_with file p = record {
@@ -169,7 +166,7 @@ resolve_with file p = record {
   keys = keys_of p.words;
   abbreviations = map (λ (t : TextTree). map machine_character t.bytes) p.abbreviations;
   routines = routines_of file p.directives;
-  main = routine_number (in_table file.table main_key);
+  main = routine_of_binding (in_table file.table main_key);
 }
 
 abbrev pub no_numbers : ProgramTree → File

@@ -6,7 +6,8 @@ ghost use Rattle.syntax_trees.specs.Views.{name_tree};
 ghost use Rattle.syntax_directives.specs.Views.{directive_tree};
 ghost use Rattle.checker_names.specs.Names.{in_table};
 ghost use Rattle.checker_names.specs.Noted.{noted};
-ghost use Rattle.checker.specs.Programs.{main_key, position_or, main_breaches, routine_number};
+ghost use Rattle.checker.specs.Programs.{main_key, position_or, main_breaches};
+ghost use Rattle.checker_values.specs.Expressions.{routine_of_binding};
 ghost use Rattle.checker.specs.Programs as spec;
 
 use checker_names::{Binding, Key, Table, Tally, find, key_of, note};
@@ -47,7 +48,7 @@ pub fn main_number(
     whole: &Table,
     tally: &mut Tally,
 ) -> usize
-    ensures value { result ≡ routine_number (in_table whole.now.entries main_key) }
+    ensures value { result ≡ routine_of_binding (in_table whole.now.entries main_key) }
     ensures breaches { tally.new ≡ noted tally.old
         (main_breaches end (spec.first_routine (map directive_tree directives.now) main_key)
         (in_table whole.now.entries main_key)) }

@@ -1,7 +1,8 @@
 -- Keys, a byte at a time.
 use Rattle.std.proofs.Common.{◌≡◌, ℕ, zero, suc, ◌+◌, ◌<◌, ◌≤◌, List, [], ◌∷◌, slice_index_or, slice_set, refl, ap}
 use Rattle.std.proofs.Common.{length, ◌⊎◌, inl, inr, arith}
-use Rattle.checker_names.specs.Names.{lower_case, padded, key_of}
+use Rattle.checker_names.specs.Names.{padded, key_of}
+use Rattle.ztext.specs.Text.{lower_case}
 
 -- so many bytes, of which i are filled
 abbrev pub fill : ℕ → ℕ → List ℕ → List ℕ

@@ -1,8 +1,9 @@
 -- What names stand for. Case is ignored; all names of a file share one space, and a local hides a name of the file in
 -- its whole routine.
-use Rattle.std.specs.Prelude.{◌&&◌, ◌+◌, ◌%◌, ◌<◌, ℕ, zero, suc, nat_eq, nat_le, Bool, true, false, if◌then◌else◌, List}
+use Rattle.std.specs.Prelude.{◌+◌, ◌%◌, ◌<◌, ℕ, zero, suc, nat_eq, Bool, true, false, if◌then◌else◌, List}
 use Rattle.std.specs.Prelude.{[], ◌∷◌, ◌++◌, codes, length, Option, Some, None, is_some}
 use Rattle.std.specs.Cmp.Lexicographic.{pointwise}
+use Rattle.ztext.specs.Text.{lower_case}
 use Rattle.syntax_lexer.specs.FaultNumbers.{defined_twice}
 use Rattle.syntax_trees.specs.Tree as trees
 use Rattle.syntax_trees.specs.Tree.{NameTree, ExpressionTree}
@@ -16,9 +17,6 @@ use Rattle.checker_names.specs.declared.known.Known.{Known}
 use Rattle.checker_names.specs.declared.known.Known.TheVariants as knowns
 use Rattle.checker_names.specs.Breaches.{at}
 use Rattle.checker_names.specs.Keys.{key_of_word, value_of_known, or_zero}
-
-abbrev pub lower_case : ℕ → ℕ
-lower_case c = if nat_le 65 c && nat_le c 90 then c + 32 else c
 
 -- so many bytes of a name, with zeros after it
 abbrev pub padded : ℕ → List ℕ → List ℕ

@@ -4,6 +4,7 @@ ghost use Rattle.std.specs.Prelude.{◌≡◌, ◌≤◌, ◌⊎◌, ℕ, List, 
 ghost use Rattle.std.proofs.Common.{ap};
 ghost use Rattle.std.specs.Cmp.{partial_equiv_from_equiv};
 ghost use Rattle.std.specs.Cmp.Lexicographic.{bytes_decides, nat_list_eq_equiv, pointwise};
+ghost use Rattle.ztext.specs.Text as text;
 ghost use Rattle.checker_names.specs.Names as spec;
 
 use std::hash::{Hash, Hasher};
@@ -47,7 +48,7 @@ impl Hash for Key {
 }
 
 fn lower_case(byte: u8) -> u8
-    ensures { result ≡ spec.lower_case byte }
+    ensures { result ≡ text.lower_case byte }
 {
     if byte >= b'A' && byte <= b'Z' {
         byte + 32

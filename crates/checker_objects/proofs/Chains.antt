@@ -19,7 +19,7 @@ use Rattle.meaning.specs.declared.checked.CheckedObject.{CheckedObject}
 use Rattle.meaning.specs.Views.{object_of}
 use Rattle.meaning.specs.Objects.{ObjectOf}
 use Rattle.checker_objects.specs.Objects.{object_trees, Open, open_to, opened, above_of, stand_breaches}
-use Rattle.checker_objects.specs.Objects.{standing_from, parent_number, parents_from, placed, exactly}
+use Rattle.checker_objects.specs.Objects.{standing_from, parent_number, parents_from, with_parents, exactly}
 use Rattle.checker_names.proofs.Mapped.{nothing_more}
 
 -- those that stay open come first
@@ -141,12 +141,12 @@ tail_of [] = []
 tail_of (p ∷ ps) = ps
 
 abbrev pub placing : ℕ → List ℕ → List CheckedObject → List ObjectOf
-placing zero ps xs = placed ps (map object_of xs)
+placing zero ps xs = with_parents ps (map object_of xs)
 placing (suc i) ps [] = []
 placing (suc i) ps (x ∷ xs) = object_of x ∷ placing i (tail_of ps) xs
 
 place_first : (ps : List ℕ) (o : ObjectOf) (os : List ObjectOf)
-    → record o { parent = slice_index_or ps 0 0 } ∷ placed (tail_of ps) os ≡ placed ps (o ∷ os)
+    → record o { parent = slice_index_or ps 0 0 } ∷ with_parents (tail_of ps) os ≡ with_parents ps (o ∷ os)
 place_first [] o os = refl
 place_first (p ∷ ps) o os = refl
 
@@ -182,7 +182,7 @@ pub place_end : (ps : List ℕ) (xs : List CheckedObject) (i : ℕ) (all : List 
 place_end ps xs i all end h = place_all ps xs i end ∙ h
 
 -- as many have a parent
-pub placed_many : (ps : List ℕ) (os : List ObjectOf) → length (placed ps os) ≡ length os
+pub placed_many : (ps : List ℕ) (os : List ObjectOf) → length (with_parents ps os) ≡ length os
 placed_many ps [] = refl
 placed_many [] (o ∷ os) = ap suc (placed_many [] os)
 placed_many (p ∷ ps) (o ∷ os) = ap suc (placed_many ps os)

@@ -177,10 +177,10 @@ abbrev pub parents_of : Table → List ObjectTree → List ℕ
 parents_of whole os = parents_from whole [] 0 os
 
 -- objects with their parents
-abbrev pub placed : List ℕ → List ObjectOf → List ObjectOf
-placed parents [] = []
-placed [] (o ∷ os) = record o { parent = 0 } ∷ placed [] os
-placed (p ∷ parents) (o ∷ os) = record o { parent = p } ∷ placed parents os
+abbrev pub with_parents : List ℕ → List ObjectOf → List ObjectOf
+with_parents parents [] = []
+with_parents [] (o ∷ os) = record o { parent = 0 } ∷ with_parents [] os
+with_parents (p ∷ parents) (o ∷ os) = record o { parent = p } ∷ with_parents parents os
 
 -- so many words, with zeros after those that are given
 abbrev pub exactly : ℕ → List ℕ → List ℕ
@@ -204,4 +204,4 @@ abbrev pub objects_in : File → List DirectiveTree → List ObjectOf
 objects_in file ds = map (object_in file) (object_trees ds)
 
 abbrev pub objects_of : File → List DirectiveTree → List ObjectOf
-objects_of file ds = placed (parents_of file.table (object_trees ds)) (objects_in file ds)
+objects_of file ds = with_parents (parents_of file.table (object_trees ds)) (objects_in file ds)

@@ -184,7 +184,7 @@ fn parent_at(parents: &[u16], index: usize) -> u16
 
 /// Gives each object its parent.
 pub fn place(parents: &[u16], objects: &mut [CheckedObject<'_>])
-    ensures { map object_of objects.new ≡ spec.placed parents.now (map object_of objects.old) }
+    ensures { map object_of objects.new ≡ spec.with_parents parents.now (map object_of objects.old) }
 {
     for i in 0..objects.len() {
         objects[i].parent = parent_at(parents, i);

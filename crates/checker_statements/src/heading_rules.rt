@@ -13,7 +13,7 @@ ghost use Rattle.checker_statements.specs.Walk.{part_fits, room_after, IsPart, I
 ghost use Rattle.checker_statements.specs.Walk.{parts_of};
 
 use checker_names::{Scope, Tally, note};
-use checker_values::{boxed, fits};
+use checker_values::{boxed_expression, fits};
 use meaning::Value;
 use meaning::limits::MOST_TEMPORARIES;
 use std::alloc::{AllocError, Global};
@@ -83,7 +83,7 @@ fn part(
     match given {
         None => Ok(None),
         Some(e) => {
-            let Ok(value) = boxed(e, alloc, scope, tally) else {
+            let Ok(value) = boxed_expression(e, alloc, scope, tally) else {
                 return Err(AllocError);
             };
             Ok(Some(value))

@@ -14,7 +14,7 @@ ghost use Rattle.checker_statements.specs.Walk.{IsWhole, IsFlag, AreFlags, IsIte
 
 use crate::buffer_rules::read;
 use checker_names::{Scope, Tally, note};
-use checker_values::{attribute, both_fit, boxed, expression, fits};
+use checker_values::{attribute, both_fit, boxed_expression, expression, fits};
 use meaning::limits::MOST_TEMPORARIES;
 use meaning::{Action, Enclosure, Printed, Value};
 use std::alloc::{AllocError, Global};
@@ -65,7 +65,7 @@ pub fn boxed_whole(
         tally.old tally.new (boxed_value v)) }
 {
     temporaries(e, position, tally);
-    boxed(e, alloc, scope, tally)
+    boxed_expression(e, alloc, scope, tally)
 }
 
 #[tactic(auto, using(checker_names::proofs::Noted::noted_none))]
@@ -259,10 +259,10 @@ fn move_to<'a>(
         (trees.move position (expression_tree object.now) (expression_tree parent.now)) }
 {
     move_temporaries(object, parent, position, tally);
-    let Ok(object) = boxed(object, alloc, scope, tally) else {
+    let Ok(object) = boxed_expression(object, alloc, scope, tally) else {
         return Err(AllocError);
     };
-    let Ok(parent) = boxed(parent, alloc, scope, tally) else {
+    let Ok(parent) = boxed_expression(parent, alloc, scope, tally) else {
         drop(object);
         return Err(AllocError);
     };

@@ -96,7 +96,7 @@ fn statement<'a>(
 
 // The same for a statement inside another, in its box.
 #[cycle(statement)]
-fn boxed<'a>(
+fn boxed_statement<'a>(
     s: &Box<Statement<'a>>,
     alloc: Global,
     scope: &Scope<'_>,
@@ -176,7 +176,7 @@ fn if_then<'a>(
     let Ok(condition) = boxed_whole(condition, alloc, scope, position, tally) else {
         return Err(AllocError);
     };
-    let Ok(body) = boxed(body, alloc, scope, around, tally) else {
+    let Ok(body) = boxed_statement(body, alloc, scope, around, tally) else {
         drop(condition);
         return Err(AllocError);
     };
@@ -201,11 +201,11 @@ fn if_else<'a>(
     let Ok(condition) = boxed_whole(condition, alloc, scope, position, tally) else {
         return Err(AllocError);
     };
-    let Ok(first) = boxed(first, alloc, scope, around, tally) else {
+    let Ok(first) = boxed_statement(first, alloc, scope, around, tally) else {
         drop(condition);
         return Err(AllocError);
     };
-    let Ok(otherwise) = boxed(otherwise, alloc, scope, around, tally) else {
+    let Ok(otherwise) = boxed_statement(otherwise, alloc, scope, around, tally) else {
         drop(condition);
         return Err(AllocError);
     };
@@ -227,7 +227,7 @@ fn while_do<'a>(
     let Ok(condition) = boxed_whole(condition, alloc, scope, position, tally) else {
         return Err(AllocError);
     };
-    let Ok(body) = boxed(body, alloc, scope, IN_LOOP, tally) else {
+    let Ok(body) = boxed_statement(body, alloc, scope, IN_LOOP, tally) else {
         drop(condition);
         return Err(AllocError);
     };
@@ -246,7 +246,7 @@ fn do_until<'a>(
     ensures { (around : _) → GivesAction (seen_in scope.now) around result tally.old tally.new
         (trees.do_until position (statement_tree body.now.value) (expression_tree condition.now)) }
 {
-    let Ok(body) = boxed(body, alloc, scope, IN_LOOP, tally) else {
+    let Ok(body) = boxed_statement(body, alloc, scope, IN_LOOP, tally) else {
         return Err(AllocError);
     };
     let Ok(condition) = boxed_whole(condition, alloc, scope, position, tally) else {
@@ -271,7 +271,7 @@ fn for_loop<'a>(
     let Ok((before, test, after)) = resolved_heading(given, alloc, scope, position, tally) else {
         return Err(AllocError);
     };
-    let Ok(body) = boxed(body, alloc, scope, IN_LOOP, tally) else {
+    let Ok(body) = boxed_statement(body, alloc, scope, IN_LOOP, tally) else {
         drop(before);
         drop(test);
         drop(after);
@@ -292,7 +292,7 @@ fn each<'a>(
         (trees.each (name_tree name.entry) (statement_tree body.now.value)) }
 {
     let variable = loop_variable(name, scope.look(name.text), tally);
-    let Ok(body) = boxed(body, alloc, scope, IN_LOOP, tally) else {
+    let Ok(body) = boxed_statement(body, alloc, scope, IN_LOOP, tally) else {
         return Err(AllocError);
     };
     Ok(Action::EachObject(variable, body))
@@ -316,7 +316,7 @@ fn each_in<'a>(
     let Ok(parent) = boxed_whole(parent, alloc, scope, position, tally) else {
         return Err(AllocError);
     };
-    let Ok(body) = boxed(body, alloc, scope, IN_LOOP, tally) else {
+    let Ok(body) = boxed_statement(body, alloc, scope, IN_LOOP, tally) else {
         drop(parent);
         return Err(AllocError);
     };
@@ -341,7 +341,7 @@ fn each_where<'a>(
     let Ok(condition) = boxed_whole(condition, alloc, scope, position, tally) else {
         return Err(AllocError);
     };
-    let Ok(body) = boxed(body, alloc, scope, IN_LOOP, tally) else {
+    let Ok(body) = boxed_statement(body, alloc, scope, IN_LOOP, tally) else {
         drop(condition);
         return Err(AllocError);
     };

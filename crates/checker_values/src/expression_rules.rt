@@ -1,8 +1,8 @@
 //! Expressions: the rules that they can break, and what they resolve to.
 //!
 //! What an expression resolves to goes on in a box, and what walks one kind of expression is no part
-//! of `boxed` in machine code: a walk over a tree then takes little stack for each kind on its way,
-//! and none for others.
+//! of `boxed_expression` in machine code: a walk over a tree then takes little stack for each kind
+//! on its way, and none for others.
 
 ghost use Rattle.std.specs.Prelude.{◌≡◌, ◌++◌, [], ◌∷◌, if◌then◌else◌, IfOk, map};
 ghost use Rattle.std.specs.Option.{option_map};
@@ -305,7 +305,7 @@ pub fn expression(
         Expression::Named(name) => Ok(named_value(name, scope, tally)),
         Expression::Assign(left, at, right) => assign(left, right, alloc, scope, *at, tally),
         _ => {
-            let Ok(found) = boxed(e, alloc, scope, tally) else {
+            let Ok(found) = boxed_expression(e, alloc, scope, tally) else {
                 return Err(AllocError);
             };
             Ok(Box::into_inner(found))
@@ -319,7 +319,7 @@ pub fn expression(
 ///
 /// `AllocError` where memory is refused.
 #[cycle(expression)]
-pub fn boxed(
+pub fn boxed_expression(
     e: &Expression<'_>,
     alloc: Global,
     scope: &Scope<'_>,
@@ -333,7 +333,7 @@ pub fn boxed(
         Expression::Named(name) => boxed_name(name, alloc, scope, tally),
         Expression::Call(name, given) => call(given, name, alloc, scope, tally),
         Expression::Index(name, width, inside) => index(inside, name, alloc, scope, *width, tally),
-        Expression::Parenthesised(inside) => boxed(inside, alloc, scope, tally),
+        Expression::Parenthesised(inside) => boxed_expression(inside, alloc, scope, tally),
         Expression::RelativeOf(which, object) => relative_of(object, alloc, scope, *which, tally),
         Expression::Property(object, name, others) => {
             properties(object, name, others, alloc, scope, tally)
@@ -381,7 +381,7 @@ fn all_expressions(
 {
     let mut found = Vec::with_capacity(alloc, given.len())?;
     for e in given {
-        let Ok(resolved) = boxed(e, alloc, scope, tally) else {
+        let Ok(resolved) = boxed_expression(e, alloc, scope, tally) else {
             return Err(AllocError);
         };
         add(&mut found, resolved)?;
@@ -403,7 +403,7 @@ fn chain_links(
 {
     let mut found = Vec::with_capacity(alloc, links.len())?;
     for link in links {
-        let Ok(operand) = boxed(&link.1, alloc, scope, tally) else {
+        let Ok(operand) = boxed_expression(&link.1, alloc, scope, tally) else {
             return Err(AllocError);
         };
         add_link(&mut found, link.0, operand)?;
@@ -427,7 +427,7 @@ fn variable(
     match name_of(e) {
         Some(name) => Ok(target_of(name, operator, scope.look(name.text), tally)),
         None => {
-            drop(boxed(e, alloc, scope, tally)?);
+            drop(boxed_expression(e, alloc, scope, tally)?);
             note(tally, NOT_ASSIGNABLE, operator);
             Ok(Variable::Local(0))
         }
@@ -467,7 +467,7 @@ fn index(
         (trees.index (name_tree name.now) width (expression_tree operand.now)) }
 {
     let number = array_of(name, scope, tally);
-    let Ok(operand) = boxed(operand, alloc, scope, tally) else {
+    let Ok(operand) = boxed_expression(operand, alloc, scope, tally) else {
         return Err(AllocError);
     };
     in_box(Value::Entry(width, number, operand), alloc)
@@ -485,7 +485,7 @@ fn relative_of(
     ensures { GivesBoxed (seen_in scope.now) result tally.old tally.new
         (trees.relative_of relative (expression_tree object.now)) }
 {
-    let Ok(object) = boxed(object, alloc, scope, tally) else {
+    let Ok(object) = boxed_expression(object, alloc, scope, tally) else {
         return Err(AllocError);
     };
     in_box(Value::Relative(relative, object), alloc)
@@ -505,7 +505,7 @@ fn properties(
         (propertied (trees.property (expression_tree object.now) (name_tree name.now))
         others.now) }
 {
-    let Ok(object) = boxed(object, alloc, scope, tally) else {
+    let Ok(object) = boxed_expression(object, alloc, scope, tally) else {
         return Err(AllocError);
     };
     let number = property_of(name, scope, tally);
@@ -527,7 +527,7 @@ fn length_of(
     ensures { GivesBoxed (seen_in scope.now) result tally.old tally.new
         (trees.property_length (expression_tree object.now) (name_tree name.now)) }
 {
-    let Ok(object) = boxed(object, alloc, scope, tally) else {
+    let Ok(object) = boxed_expression(object, alloc, scope, tally) else {
         return Err(AllocError);
     };
     let number = property_of(name, scope, tally);
@@ -548,11 +548,11 @@ fn property_entry(
         (trees.property_entry (expression_tree object.now) (name_tree name.now)
         (expression_tree index.now)) }
 {
-    let Ok(object) = boxed(object, alloc, scope, tally) else {
+    let Ok(object) = boxed_expression(object, alloc, scope, tally) else {
         return Err(AllocError);
     };
     let number = property_of(name, scope, tally);
-    let Ok(index) = boxed(index, alloc, scope, tally) else {
+    let Ok(index) = boxed_expression(index, alloc, scope, tally) else {
         return Err(AllocError);
     };
     in_box(Value::PropertyWord(object, number, index), alloc)
@@ -570,7 +570,7 @@ fn prefixed(
     ensures { GivesBoxed (seen_in scope.now) result tally.old tally.new
         (trees.prefixed prefix (expression_tree operand.now)) }
 {
-    let Ok(operand) = boxed(operand, alloc, scope, tally) else {
+    let Ok(operand) = boxed_expression(operand, alloc, scope, tally) else {
         return Err(AllocError);
     };
     in_box(Value::Prefixed(prefix, operand), alloc)
@@ -630,10 +630,10 @@ fn chain(
         (trees.binary operator (expression_tree first.now) (expression_tree second.now))
         (map link links.now)) }
 {
-    let Ok(first) = boxed(first, alloc, scope, tally) else {
+    let Ok(first) = boxed_expression(first, alloc, scope, tally) else {
         return Err(AllocError);
     };
-    let Ok(second) = boxed(second, alloc, scope, tally) else {
+    let Ok(second) = boxed_expression(second, alloc, scope, tally) else {
         return Err(AllocError);
     };
     let Ok(links) = chain_links(links, alloc, scope, tally) else {
@@ -655,10 +655,10 @@ fn compare(
     ensures { GivesBoxed (seen_in scope.now) result tally.old tally.new
         (trees.compare comparison (expression_tree left.now) (expression_tree right.now)) }
 {
-    let Ok(left) = boxed(left, alloc, scope, tally) else {
+    let Ok(left) = boxed_expression(left, alloc, scope, tally) else {
         return Err(AllocError);
     };
-    let Ok(right) = boxed(right, alloc, scope, tally) else {
+    let Ok(right) = boxed_expression(right, alloc, scope, tally) else {
         return Err(AllocError);
     };
     in_box(Value::Compare(left, comparison, right), alloc)
@@ -679,10 +679,10 @@ fn equal(
         (trees.equal equality (expression_tree left.now)
         (trees.more (expression_tree right.now) (trees_of (map expression_tree others.now)))) }
 {
-    let Ok(left) = boxed(left, alloc, scope, tally) else {
+    let Ok(left) = boxed_expression(left, alloc, scope, tally) else {
         return Err(AllocError);
     };
-    let Ok(right) = boxed(right, alloc, scope, tally) else {
+    let Ok(right) = boxed_expression(right, alloc, scope, tally) else {
         return Err(AllocError);
     };
     let Ok(others) = all_expressions(others, alloc, scope, tally) else {
@@ -704,10 +704,10 @@ fn contained(
     ensures { GivesBoxed (seen_in scope.now) result tally.old tally.new
         (trees.contained containment (expression_tree left.now) (expression_tree right.now)) }
 {
-    let Ok(left) = boxed(left, alloc, scope, tally) else {
+    let Ok(left) = boxed_expression(left, alloc, scope, tally) else {
         return Err(AllocError);
     };
-    let Ok(right) = boxed(right, alloc, scope, tally) else {
+    let Ok(right) = boxed_expression(right, alloc, scope, tally) else {
         return Err(AllocError);
     };
     in_box(Value::Contained(left, containment, right), alloc)
@@ -726,7 +726,7 @@ fn tested(
     ensures { GivesBoxed (seen_in scope.now) result tally.old tally.new
         (trees.tested test (expression_tree object.now) (name_tree name.now)) }
 {
-    let Ok(object) = boxed(object, alloc, scope, tally) else {
+    let Ok(object) = boxed_expression(object, alloc, scope, tally) else {
         return Err(AllocError);
     };
     let found = scope.look(name.text);
@@ -761,7 +761,7 @@ fn left_side(
     match name_of(e) {
         Some(name) => Ok(left_name(name, scope, operator, tally)),
         None => {
-            let left = boxed(e, alloc, scope, tally)?;
+            let left = boxed_expression(e, alloc, scope, tally)?;
             not_place(is_place(e), operator, tally);
             Ok(Box::into_inner(left))
         }
@@ -784,7 +784,7 @@ fn assign(
     let Ok(left) = left_side(left, alloc, scope, position, tally) else {
         return Err(AllocError);
     };
-    let Ok(right) = boxed(right, alloc, scope, tally) else {
+    let Ok(right) = boxed_expression(right, alloc, scope, tally) else {
         drop(left);
         return Err(AllocError);
     };

@@ -7,7 +7,7 @@ mod memory;
 mod name_rules;
 mod temporaries;
 
-pub use expression_rules::{boxed, expression};
+pub use expression_rules::{boxed_expression, expression};
 pub use literal_rules::{constant_name, constant_value, initial, literal};
 pub use memory::in_box;
 pub use name_rules::{attribute, property};

@@ -118,7 +118,7 @@ module _ (c : Running) where
       (at_words (around c) other locals rest world.text))
       → Leads (point (here c) world.fuel) (at_words (around c) m locals before world.text) (point q world.fuel)
       (at_words (around c) other locals mid world.text)
-      → LedFrom c before (stack.delivered d w (stack.after (at c before) rest (situation_here c)))
+      → LedFrom c before (stack.deliver d w (stack.after (at c before) rest (situation_here c)))
   gives_here_led op os d w q before mid rest other values is scratch room from shaped h end taken performs leads =
       let i = giving op os (result_in d) in
       let after = q + length (bytes_of i) in
@@ -144,7 +144,7 @@ module _ (c : Running) where
       ≡ give_result before after (Some (result_in d)) w st)
       → Leads (point (here c) world.fuel) (at_words (around c) m locals before world.text) (point q world.fuel)
       (at_words (around c) other locals mid world.text)
-      → LedFrom c before (stack.delivered d w (stack.after (at c before) rest (situation_here c)))
+      → LedFrom c before (stack.deliver d w (stack.after (at c before) rest (situation_here c)))
   gives_led op os d w q before mid rest other values is scratch room from shaped h end taken performs leads =
       gives_here_led op os d w q before mid rest other values is scratch room from shaped h end taken
       (λ after. performs (point q world.fuel) after (at_words (around c) other locals rest world.text)) leads

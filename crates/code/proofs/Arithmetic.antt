@@ -57,7 +57,7 @@ module _ (c : Running) where
 
   -- where a word that operands give goes
   abbrev pub to : Destination → ℕ → List ℕ → List ℕ → stack.Next
-  to d w before rest = stack.delivered d w (stack.after (at c before) rest (situation_here c))
+  to d w before rest = stack.deliver d w (stack.after (at c before) rest (situation_here c))
 
   -- Prefixes
 

@@ -14,7 +14,7 @@ use Rattle.code_drafts.specs.Items as items
 use Rattle.code_encoding.specs.Bytes.{bytes_of_all}
 use Rattle.code_encoding.specs.Instructions.{plain, branching, top, takes, operands}
 use Rattle.code_instructions.specs.Instructions.{labelled_below, ordered_below, tested_below, branch_below, back_limit}
-use Rattle.code_instructions.specs.Instructions.{test_operation, turned, are_both_pushed, asks_none, least_word}
+use Rattle.code_instructions.specs.Instructions.{test_operation, reverse_test, are_both_pushed, asks_none, least_word}
 use Rattle.code.proofs.AddressLengths.{all_length, one_length}
 use Rattle.code.proofs.BackForms.{BackForm}
 use Rattle.code.proofs.BranchLengths.{beside, branching_length, jump_length, before_label}
@@ -56,10 +56,10 @@ module _ (test : Test) (when : Bool) where
   tested_back near os test offset form = go (are_both_pushed os)
     where
       go : (both : Bool) → length (bytes_of_all (if both
-          then labelled_below back_limit (test_operation (turned test)) (top ∷ top ∷ []) when offset
+          then labelled_below back_limit (test_operation (reverse_test test)) (top ∷ top ∷ []) when offset
           else ordered_below back_limit test os when offset))
           ≡ before_label both test os + label near
-      go true = labelled_back near (test_operation (turned test)) (top ∷ top ∷ []) when offset form
+      go true = labelled_back near (test_operation (reverse_test test)) (top ∷ top ∷ []) when offset form
       go false = omega (
         arith,
         all_length (takes os) (labelled_below back_limit (test_operation test) (operands os) when offset),
@@ -72,10 +72,10 @@ module _ (test : Test) (when : Bool) where
   tested_first os test = go (are_both_pushed os)
     where
       go : (both : Bool) → length (bytes_of_all (if both
-          then labelled_below back_limit (test_operation (turned test)) (top ∷ top ∷ []) when 2
+          then labelled_below back_limit (test_operation (reverse_test test)) (top ∷ top ∷ []) when 2
           else ordered_below back_limit test os when 2))
           ≡ before_label both test os + 1
-      go true = labelled_first (test_operation (turned test)) (top ∷ top ∷ []) when
+      go true = labelled_first (test_operation (reverse_test test)) (top ∷ top ∷ []) when
       go false = omega (
         arith,
         all_length (takes os) (labelled_below back_limit (test_operation test) (operands os) when 2),

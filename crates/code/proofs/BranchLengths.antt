@@ -19,8 +19,8 @@ use Rattle.code_drafts.specs.Items as items
 use Rattle.meaning.specs.declared.cause.Cause.TheVariants as causes
 use Rattle.code_encoding.specs.Addresses.{Addresses}
 use Rattle.code_encoding.specs.Instructions.{plain, branching, top, takes, operands, pulled_into}
-use Rattle.code_instructions.specs.Instructions.{labelled, test_operation, turned, are_both_pushed, ordered_code, tested_code}
-use Rattle.code_instructions.specs.Instructions.{asks_none, least_word, branch_code, compared, case_code}
+use Rattle.code_instructions.specs.Instructions.{labelled, test_operation, reverse_test, are_both_pushed, ordered_code, tested_code}
+use Rattle.code_instructions.specs.Instructions.{asks_none, least_word, branch_code, case_operands, case_code}
 use Rattle.code_encoding.specs.Bytes.{bytes_of_all}
 use Rattle.code_objects.specs.ObjectCode.{tests_in}
 use Rattle.code.proofs.AddressLengths.{all_length, one_length, tests_same}
@@ -93,7 +93,7 @@ both_pushed (items.pushed ∷ items.pushed ∷ o ∷ os) e = absurd (cc)
 
 -- the bytes of a test beside its label
 abbrev pub before_label : Bool → Test → List items.Operand → ℕ
-before_label both test os = if both then beside (test_operation (turned test)) (top ∷ top ∷ [])
+before_label both test os = if both then beside (test_operation (reverse_test test)) (top ∷ top ∷ [])
     else length (bytes_of_all (takes os)) + beside (test_operation test) (operands os)
 
 tested_length : (test : Test) (os : List items.Operand) (when : Bool) (offset : ℕ)
@@ -102,9 +102,9 @@ tested_length : (test : Test) (os : List items.Operand) (when : Bool) (offset : 
 tested_length test os when offset = go (are_both_pushed os)
   where
     go : (both : Bool) → length (bytes_of_all (if both
-        then labelled (test_operation (turned test)) (top ∷ top ∷ []) when offset else ordered_code test os when offset))
+        then labelled (test_operation (reverse_test test)) (top ∷ top ∷ []) when offset else ordered_code test os when offset))
         ≡ before_label both test os + size_with (form_for offset)
-    go true = labelled_length (test_operation (turned test)) (top ∷ top ∷ []) when offset
+    go true = labelled_length (test_operation (reverse_test test)) (top ∷ top ∷ []) when offset
     go false = omega (
       arith,
       all_length (takes os) (labelled (test_operation test) (operands os) when offset),
@@ -144,12 +144,12 @@ case_length test ns when offset =
     let op = test_operation test in
     omega (
       arith,
-      labelled_length op (compared ns) when offset,
-      labelled_length op (compared ns) when 2,
+      labelled_length op (case_operands ns) when offset,
+      labelled_length op (case_operands ns) when 2,
     )
 
 pub case_some : (test : Test) (ns : List ℕ) (when : Bool) → 1 ≤ length (bytes_of_all (case_code test ns when 2))
-case_some test ns when = omega (arith, labelled_length (test_operation test) (compared ns) when 2)
+case_some test ns when = omega (arith, labelled_length (test_operation test) (case_operands ns) when 2)
 
 -- a branch by an object likewise, after its tests
 pub label_length : (a b : Addresses) (objects : ℕ) (o : items.Operand) (before : List Instruction) (op : Operation)

@@ -17,7 +17,7 @@ use Rattle.code_drafts.specs.Items as items
 use Rattle.code_items.specs.Laws.{IsTestedValue}
 use Rattle.code_items.specs.Stack as stack
 use Rattle.code_encoding.specs.Instructions.{operands, takes, top, most_tested}
-use Rattle.code_instructions.specs.Instructions.{ahead_limit, labelled, test_operation, ordered_code, turned}
+use Rattle.code_instructions.specs.Instructions.{ahead_limit, labelled, test_operation, ordered_code, reverse_test}
 use Rattle.code_instructions.specs.Instructions.{are_both_pushed, tested_code, branch_code}
 use Rattle.code.specs.ItemBytes.{text_bytes}
 use Rattle.code.specs.Bytes.{place_of}
@@ -209,7 +209,7 @@ module _ (c : Running) where
   turned_led : (item : Item) (test : Test) (when : Bool) (target : ℕ) (aside : Option ℕ)
       (words vs rest : List ℕ) → Counted test 2 → length words ≤ 48 → ArrivesAt c item
       → text_bytes p.abbreviations item ≡ []
-      → code_here c item ≡ labelled (test_operation (turned test)) (top ∷ top ∷ []) when (2 + over target)
+      → code_here c item ≡ labelled (test_operation (reverse_test test)) (top ∷ top ∷ []) when (2 + over target)
       → GivesOperands (items.pushed ∷ items.pushed ∷ []) (situation_here c) words vs rest
       → LedFrom c words (stack.branch (agrees (stack.holds test vs) when) target rest (at_aside c aside words))
   turned_led item test when target aside words [] rest is room stands none code g = absurd g
@@ -219,11 +219,11 @@ module _ (c : Running) where
       let st = at_words (around c) m locals words world.text in
       let st1 = at_words (around c) m locals (v ∷ rest) world.text in
       let st2 = at_words (around c) m locals rest world.text in
-      let code1 = labelled (test_operation (turned test)) (top ∷ top ∷ []) when (2 + over target) in
+      let code1 = labelled (test_operation (reverse_test test)) (top ∷ top ∷ []) when (2 + over target) in
       subst (λ b. LedFrom c words (stack.branch (agrees b when) target rest (at_aside c aside words)))
       (holds_turned test v w)
-      (labelled_led (turned test) (top ∷ top ∷ []) when target aside words words (w ∷ v ∷ []) rest m (here c)
-      (test_of (turned test) (top ∷ top ∷ []) (w ∷ v ∷ []) refl (counted_turned test 2 is))
+      (labelled_led (reverse_test test) (top ∷ top ∷ []) when target aside words words (w ∷ v ∷ []) rest m (here c)
+      (test_of (reverse_test test) (top ∷ top ∷ []) (w ∷ v ∷ []) refl (counted_turned test 2 is))
       (omega (arith, room, ap length g)) (scratch_here c) (omega arith)
       (subst (λ is. Holds m (here c) (flat_map bytes_of is)) code (code_held c item stands))
       (item_ends item code1 stands none code)
@@ -243,7 +243,7 @@ module _ (c : Running) where
     where
       go : (b : Bool) → are_both_pushed os ≡ b
           → code_here c item
-          ≡ (if b then labelled (test_operation (turned test)) (top ∷ top ∷ []) when (2 + over target)
+          ≡ (if b then labelled (test_operation (reverse_test test)) (top ∷ top ∷ []) when (2 + over target)
           else ordered_code test os when (2 + over target))
           → LedFrom c words (stack.branch (agrees (stack.holds test vs) when) target rest (at_aside c aside words))
       go true e code =

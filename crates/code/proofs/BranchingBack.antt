@@ -23,7 +23,7 @@ use Rattle.code_drafts.specs.Items as items
 use Rattle.code_items.specs.Laws.{IsTestedValue}
 use Rattle.code_items.specs.Stack as stack
 use Rattle.code_encoding.specs.Instructions.{plain, branching, operands, takes, top, most_tested, jump_offset}
-use Rattle.code_instructions.specs.Instructions.{labelled_below, back_limit, test_operation, ordered_below, turned}
+use Rattle.code_instructions.specs.Instructions.{labelled_below, back_limit, test_operation, ordered_below, reverse_test}
 use Rattle.code_instructions.specs.Instructions.{are_both_pushed, tested_below, branch_below}
 use Rattle.code_instructions.specs.Places.{back_offset}
 use Rattle.code.specs.ItemBytes.{text_bytes}
@@ -318,7 +318,7 @@ module _ (c : Running) where
       → (nearness ≡ true → code_size (sizes_of p) (is_in c) ≤ 8190) → ArrivesAt c item
       → text_bytes p.abbreviations item ≡ []
       → code_here c item
-      ≡ labelled_below back_limit (test_operation (turned test)) (top ∷ top ∷ []) when (offset_back target)
+      ≡ labelled_below back_limit (test_operation (reverse_test test)) (top ∷ top ∷ []) when (offset_back target)
       → GivesOperands (items.pushed ∷ items.pushed ∷ []) (situation_here c) words vs rest
       → LedFrom c words (stack.branch_back (agrees (stack.holds test vs) when) target rest (at_aside c aside words))
   turned_back_led item test when target aside words [] rest is room few stands none code g = absurd g
@@ -328,12 +328,12 @@ module _ (c : Running) where
       let st = at_words (around c) m locals words world.text in
       let st1 = at_words (around c) m locals (v ∷ rest) world.text in
       let st2 = at_words (around c) m locals rest world.text in
-      let code1 = labelled_below back_limit (test_operation (turned test)) (top ∷ top ∷ []) when
+      let code1 = labelled_below back_limit (test_operation (reverse_test test)) (top ∷ top ∷ []) when
       (offset_back target) in
       subst (λ b. LedFrom c words (stack.branch_back (agrees b when) target rest (at_aside c aside words)))
       (holds_turned test v w)
-      (labelled_back_led (turned test) (top ∷ top ∷ []) when target aside words words (w ∷ v ∷ []) rest m (here c)
-      (test_of (turned test) (top ∷ top ∷ []) (w ∷ v ∷ []) refl (counted_turned test 2 is)) (omega arith)
+      (labelled_back_led (reverse_test test) (top ∷ top ∷ []) when target aside words words (w ∷ v ∷ []) rest m (here c)
+      (test_of (reverse_test test) (top ∷ top ∷ []) (w ∷ v ∷ []) refl (counted_turned test 2 is)) (omega arith)
       (omega (arith, room, ap length g)) (scratch_here c) (omega arith) few
       (subst (λ is. Holds m (here c) (flat_map bytes_of is)) code (code_held c item stands))
       (item_ends c item code1 stands none code)
@@ -354,7 +354,7 @@ module _ (c : Running) where
     where
       go : (b : Bool) → are_both_pushed os ≡ b
           → code_here c item
-          ≡ (if b then labelled_below back_limit (test_operation (turned test)) (top ∷ top ∷ []) when
+          ≡ (if b then labelled_below back_limit (test_operation (reverse_test test)) (top ∷ top ∷ []) when
           (offset_back target) else ordered_below back_limit test os when (offset_back target))
           → LedFrom c words (stack.branch_back (agrees (stack.holds test vs) when) target rest (at_aside c aside words))
       go true e code =

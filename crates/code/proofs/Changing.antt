@@ -103,7 +103,7 @@ module _ (c : Running) where
 
     pub high_same : drop (static_base_of story) memory ≡ drop (static_base_of story) m
     high_same =
-        ap (λ n. drop n memory) (sym (static_same story other scratch.stored.header)) ∙ keeps.behind
+        ap (λ n. drop n memory) (sym (static_same story other scratch.stored.header)) ∙ keeps.after
         ∙ ap (λ n. drop n other) (static_same story other scratch.stored.header) ∙ scratch.kept
 
     pub stored_objects : (objects : Objects) (tables : List PropertyTable)
@@ -168,7 +168,7 @@ module _ (c : Running) where
         → there + length (flat_map bytes_of (passed_on d (assigned_word o))) ≡ next_place c
         → Leads (point (here c) world.fuel) (at_words (around c) m locals before world.text) (point there world.fuel)
         (at_words (around c) memory locals rest world.text)
-        → LedFrom c before (stack.delivered d v (stack.after (at c before) rest next_situation))
+        → LedFrom c before (stack.deliver d v (stack.after (at c before) rest next_situation))
     unfolding perform push_word
     passed_led o v items.push before rest there is word is_d room from h end leads =
         let k = push (assigned_word o) in

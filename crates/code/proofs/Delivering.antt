@@ -98,7 +98,7 @@ module _ (c : Running) where
       → length rest ≤ 48 → end ≡ address story a p routine (place + 1)
       → Leads (point (here c) world.fuel) (at_words (around c) m locals before world.text) (point end world.fuel)
       (at_words (around c) (memory_after d word other) (locals_after d word) (stack_after d word rest) world.text)
-      → LedFrom c before (stack.delivered d word (stack.after (at c before) rest (situation_here c)))
+      → LedFrom c before (stack.deliver d word (stack.after (at c before) rest (situation_here c)))
   delivered_led items.push word end before rest other is scratch room next leads =
       arrives c before (word ∷ rest) other (situation_here c) end next scratch.stored refl refl refl leads
   delivered_led (items.into (variables.Local i)) word end before rest other is scratch room next leads =

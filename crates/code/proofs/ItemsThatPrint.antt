@@ -26,7 +26,7 @@ use Rattle.meaning.specs.World as source
 use Rattle.code_drafts.specs.Items as items
 use Rattle.code_items.specs.Stack as stack
 use Rattle.code_encoding.specs.Instructions.{plain, in_place, fail}
-use Rattle.code_encoding.specs.Bytes.{character_of}
+use Rattle.meaning.specs.Places.{machine_character}
 use Rattle.code.specs.ItemBytes.{text_bytes}
 use Rattle.code.proofs.Behind.{Holds}
 use Rattle.code.specs.HeldProgram.{fault_line, HoldsText}
@@ -146,7 +146,7 @@ module _ (c : Running) where
   print_text_led bytes s texts printable short stands =
       let st = at_words (around c) m locals s world.text in
       let i = plain operations.Print [] in
-      let line = map character_of bytes in
+      let line = map machine_character bytes in
       let shown_bytes = map shown bytes in
       let shaped : Shaped i = record { least = omega arith; most = omega arith; result_fits = tt; branch_fits = tt } in
       let same = printable_kept bytes printable in

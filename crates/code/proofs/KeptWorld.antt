@@ -172,7 +172,7 @@ after_keeps w (to a s) k h next = next a s h
 after_keeps w (over o) k h next = h
 
 pub delivered_keeps : (w : World) (d : Destination) (v : ℕ) (s : stack.ItemState) → Same w s.situation.world
-    → Keeps w (stack.delivered d v s)
+    → Keeps w (stack.deliver d v s)
 delivered_keeps w items.push v s h = within_keeps w (nat_le (length (v ∷ s.stack)) 48) _ h
 delivered_keeps w (items.into x) v s h =
     then_same w s.situation.world (with_value x v s.situation).world h (value_keeps x v s.situation)

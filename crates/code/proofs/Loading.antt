@@ -125,7 +125,7 @@ module _ (c : Running) where
       stack.after_part
       (if b then to (entry_at width (bytes_in n) i) (situation_here c)
       else source.fault causes.IndexOutOfRange (situation_here c))
-      (λ v situation. stack.delivered d v (stack.after (at c before) rest situation))
+      (λ v situation. stack.deliver d v (stack.after (at c before) rest situation))
 
   -- at an index that is one
   loads_led : (width : Width) (n i : ℕ) (d : Destination) (before rest : List ℕ) → n < length p.arrays → IsHere c d
@@ -157,7 +157,7 @@ module _ (c : Running) where
       loads_led width n i d before rest known is_d room index t
   read_led false width n i d before rest known is_d room index r =
       fails_led c causes.IndexOutOfRange (fault_address a causes.IndexOutOfRange) r.q before rest r.memory
-      (λ v situation. stack.delivered d v (stack.after (at c before) rest situation))
+      (λ v situation. stack.deliver d v (stack.after (at c before) rest situation))
       (cause_line causes.IndexOutOfRange) (holds.faults causes.IndexOutOfRange) r.from r.scratch r.held r.leads
 
   pub entry_led : (width : Width) (n : ℕ) (o : items.Operand) (d : Destination) (s : List ℕ) → n < length p.arrays

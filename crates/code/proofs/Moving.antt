@@ -43,7 +43,7 @@ module _ (c : Running) where
 
   abbrev Moved : items.Operand → Destination → List ℕ → Type 0
   Moved o d s = LedFrom c s (stack.with_operand o (situation_here c) s
-      (λ v rest. stack.delivered d v (stack.after (at c s) rest (situation_here c))))
+      (λ v rest. stack.deliver d v (stack.after (at c s) rest (situation_here c))))
 
   push_led : (o : items.Operand) (s : List ℕ) → IsOperandHere c o → length s ≤ 48
       → ArrivesAt c (items.move o items.push)
@@ -51,7 +51,7 @@ module _ (c : Running) where
   unfolding perform push_word
   push_led o s is short stands =
       by_operand o (situation_here c) s (LedFrom c s)
-      (λ v rest. stack.delivered items.push v (stack.after (at c s) rest (situation_here c))) tt (λ v rest h.
+      (λ v rest. stack.deliver items.push v (stack.after (at c s) rest (situation_here c))) tt (λ v rest h.
       let st = at_words (around c) m locals s world.text in
       let st1 = at_words (around c) m locals rest world.text in
       let i = push (in_place o) in
@@ -73,7 +73,7 @@ module _ (c : Running) where
   unfolding perform
   store_led o d s is is_d short code stands writes same =
       by_operand o (situation_here c) s (LedFrom c s)
-      (λ v rest. stack.delivered d v (stack.after (at c s) rest (situation_here c))) tt (λ v rest h.
+      (λ v rest. stack.deliver d v (stack.after (at c s) rest (situation_here c))) tt (λ v rest h.
       let st = at_words (around c) m locals s world.text in
       let st1 = at_words (around c) m locals rest world.text in
       let i = store (result_in d) (in_place o) in

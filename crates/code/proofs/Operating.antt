@@ -82,7 +82,7 @@ module _ (c : Running) where
   Divided faulty w d before rest =
       stack.after_part
       ((if faulty then source.fault causes.DivisionByZero else source.give w) (situation_here c))
-      (λ v situation. stack.delivered d v (stack.after (at c before) rest situation))
+      (λ v situation. stack.deliver d v (stack.after (at c before) rest situation))
 
   -- what stands after the test
   record Tested (op : Operation) (x : items.Operand) (variable q : ℕ) (d : Destination) : Type 0 where
@@ -164,7 +164,7 @@ module _ (c : Running) where
           let there = subst (λ b. Leads (point q world.fuel) st (point (landing false b (q + 3) 4) world.fuel) st) e
           tests in
           fails_led c causes.DivisionByZero (fault_address a causes.DivisionByZero) (q + 3) before mid other
-          (λ v situation. stack.delivered d v (stack.after (at c before) rest situation))
+          (λ v situation. stack.deliver d v (stack.after (at c before) rest situation))
           (cause_line causes.DivisionByZero)
           (holds.faults causes.DivisionByZero)
           (omega (arith, from)) scratch parts.fault
@@ -204,7 +204,7 @@ module _ (c : Running) where
   number_led op f x n d s true e is is_d short h end least most result branch performs =
       by_operand x (situation_here c) s (LedFrom c s) (λ v rest. Divided true (f v n) d s rest) tt (λ v rest alone.
       fails_led c causes.DivisionByZero (fault_address a causes.DivisionByZero) (here c) s s m
-      (λ v situation. stack.delivered d v (stack.after (at c s) rest situation)) (cause_line causes.DivisionByZero)
+      (λ v situation. stack.deliver d v (stack.after (at c s) rest situation)) (cause_line causes.DivisionByZero)
       (holds.faults causes.DivisionByZero)
       (omega arith) (scratch_here c) h
       (stays (point (here c) world.fuel) (at_words (around c) m locals s world.text)))

@@ -7,7 +7,7 @@ use Rattle.syntax_lexer.specs.Printable.{IsPrintable}
 use Rattle.syntax_trees.specs.declared.tree.Step.{Step}
 use Rattle.meaning.specs.declared.resolved.Variable.{Variable}
 use Rattle.code_drafts.specs.Items.{Item, Operand, pushed, number, variable, Destination, push, into, aside, nowhere}
-use Rattle.code_drafts.specs.Items.{if_pushed, moved, truth_items, after_items, kept_items}
+use Rattle.code_drafts.specs.Items.{if_pushed, move_items, truth_items, after_items, kept_items}
 use Rattle.code_drafts.specs.Items as items
 
 -- a text that an item prints has only bytes from 32 to 126
@@ -41,7 +41,7 @@ pub either_fine : (b : Bool) (xs ys : List Item) → Fine xs → Fine ys → Fin
 either_fine true xs ys h k = h
 either_fine false xs ys h k = k
 
-pub moved_fine : (o : Operand) (d : Destination) → Fine (moved o d)
+pub moved_fine : (o : Operand) (d : Destination) → Fine (move_items o d)
 moved_fine o push = first _ _ tt nothing
 moved_fine o (into x) = first _ _ tt nothing
 moved_fine o aside = first _ _ tt nothing

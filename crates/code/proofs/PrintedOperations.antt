@@ -10,9 +10,9 @@ use Rattle.syntax_trees.specs.declared.tree.Width.{Width}
 use Rattle.meaning.specs.Resolved.{Value, Values}
 use Rattle.meaning.specs.Resolved as source
 use Rattle.code_drafts.specs.Items.{Item, Operand, pushed, number, variable, Destination, push, into, aside, nowhere}
-use Rattle.code_drafts.specs.Items.{right_place, operated, operand_of, operands_of, alone, left_of, if_pushed}
+use Rattle.code_drafts.specs.Items.{right_place, operation_item, operand_of, operands_of, alone, left_of, if_pushed}
 use Rattle.code_drafts.specs.Items.{is_direct, same_count, same_items, value_count, is_any_pushed}
-use Rattle.code_drafts.specs.Items.{loaded, index_place, stored}
+use Rattle.code_drafts.specs.Items.{entry_item, index_place, assign_entry_item}
 use Rattle.code_drafts.specs.Items.{operand_count, operands_count, branch_count, many_count, value_items}
 use Rattle.code_drafts.specs.Items.{operands_items, arguments_items, branch_items, many_items, also_items}
 use Rattle.code_drafts.specs.Items as items
@@ -44,7 +44,7 @@ prefixed_fine op v f = record {
 
 -- an operation prints no text
 no_text : (place : Destination) (op : Binary) (o q : Operand) (d : Destination)
-    → HasPrintableText (operated place op o q d)
+    → HasPrintableText (operation_item place op o q d)
 no_text aside op o pushed d = tt
 no_text aside op o (number n) d = tt
 no_text aside op o (variable x) d = tt
@@ -127,12 +127,12 @@ equal_fine op a bs f g = record {
     several at when t = joined (value_items at a push) _ (f.value at push)
         (g.many (at + value_count a push) op when t)
 
-loaded_text : (width : Width) (n : ℕ) (o : Operand) (d : Destination) → HasPrintableText (loaded width n o d)
+loaded_text : (width : Width) (n : ℕ) (o : Operand) (d : Destination) → HasPrintableText (entry_item width n o d)
 loaded_text width n pushed d = tt
 loaded_text width n (number k) d = tt
 loaded_text width n (variable x) d = tt
 
-stored_text : (width : Width) (n : ℕ) (o q : Operand) (d : Destination) → HasPrintableText (stored width n o q d)
+stored_text : (width : Width) (n : ℕ) (o q : Operand) (d : Destination) → HasPrintableText (assign_entry_item width n o q d)
 stored_text width n o q d = go (is_any_pushed (o ∷ q ∷ []))
   where
     go : (b : Bool)

@@ -13,7 +13,7 @@ use Rattle.meaning.specs.Printable.{IsPrintableItem, IsPrintableAction, ArePrint
 use Rattle.code_drafts.specs.Items.{Item, Operand, number, variable, push, into, aside, nowhere, operand_of, alone}
 use Rattle.code_drafts.specs.Items.{left_of, if_pushed, agrees, value_count, operand_count, branch_count, value_items}
 use Rattle.code_drafts.specs.Items.{branch_items, alone_items, Destination, operands_of, is_any_pushed}
-use Rattle.code_drafts.specs.Items.{are_more_pushed, argument_place, called, arguments_items, is_one_test, turned_back}
+use Rattle.code_drafts.specs.Items.{are_more_pushed, argument_place, call_item, arguments_items, is_one_test, turned_back}
 use Rattle.code_drafts.specs.Items.{last_back}
 use Rattle.code_drafts.specs.Items as items
 use Rattle.code_items.specs.Statements.{each_items, relative_items, children_items, printed_count, action_count}
@@ -55,7 +55,7 @@ more_fine v vs f g = record {
 }
 
 -- a call prints no text itself
-call_text : (several : Bool) (r : ℕ) (os : List Operand) (d : Destination) → HasPrintableText (called several r os d)
+call_text : (several : Bool) (r : ℕ) (os : List Operand) (d : Destination) → HasPrintableText (call_item several r os d)
 call_text true r os d = tt
 call_text false r os d = tt
 

@@ -47,7 +47,7 @@ module _ (c : Running) where
   open c use {story, a, p, accepted, holds, full, m, count, counts, routine, place, callers, locals, world, good}
 
   abbrev pub Delivered : Destination → List ℕ → List ℕ → ℕ → Situation → stack.Next
-  Delivered d before rest w situation = stack.delivered d w (stack.after (at c before) rest situation)
+  Delivered d before rest w situation = stack.deliver d w (stack.after (at c before) rest situation)
 
   -- An object's property is found: its address is in a variable of the compiler
   module _ (n : ℕ) (before rest : List ℕ) (v : ℕ) (named : IsProperty n) (object : IsObjectHere c v)

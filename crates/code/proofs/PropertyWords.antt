@@ -49,7 +49,7 @@ module _ (c : Running) where
   Load x words = test_word x words >>= λ _. source.give (slice_index words x)
 
   abbrev onward : Destination → List ℕ → List ℕ → ℕ → Situation → stack.Next
-  onward d before rest w situation = stack.delivered d w (stack.after (at c before) rest situation)
+  onward d before rest w situation = stack.deliver d w (stack.after (at c before) rest situation)
 
   module _ (q v x : ℕ) (i : items.Operand) (d : Destination) (before rest other : List ℕ) (known : IsObjectHere c v)
       (is_i : IsOperandHere c i) (is_d : IsHere c d) (room : length rest ≤ 48) (followed : next_place c < length m)

@@ -130,7 +130,7 @@ module _ (c : Running) where
 
   abbrev Given : Destination → ℕ → List ℕ → List ℕ → Type 0
   Given d w before rest =
-      LedFrom c before (stack.delivered d w (stack.after (at c before) rest (situation_here c)))
+      LedFrom c before (stack.deliver d w (stack.after (at c before) rest (situation_here c)))
 
   -- an instruction that gives an object and branches
   object_led : (op : Operation) (d : Destination) (w v : ℕ) (before rest : List ℕ) → IsHere c d → length rest ≤ 48
@@ -216,7 +216,7 @@ module _ (c : Running) where
       let item = items.relative r o d in
       let act : Operand → List Instruction = λ x. relative_of r x (result_in d) ∷ [] in
       tests_led c o s s m act (λ v. source.relative_of r v)
-      (λ rest w situation. stack.delivered d w (stack.after (at c s) rest situation))
+      (λ rest w situation. stack.deliver d w (stack.after (at c s) rest situation))
       (object_tests c o act s s m is (begins c item s stands) (begun_end c item s refl stands) stands.followed)
       (λ v rest alone object t.
       relative_given r d v s rest is_d (omega (arith, short, alone_count o (situation_here c) s v rest alone))

@@ -304,7 +304,7 @@ module _ (c : Running) where
     gives_back words left v backs = go d.destination refl here_is.destination
       where
         go : (to : Destination) → d.destination ≡ to → IsDestination p (routine_at p.routines d.routine).locals to
-            → LedBy (d ∷ callers) counts words (stack.delivered to v (resumed d.stack (situation_here caller_runs)))
+            → LedBy (d ∷ callers) counts words (stack.deliver to v (resumed d.stack (situation_here caller_runs)))
         go items.push is h = pushes_back words left v is backs (nat_le (length (v ∷ d.stack)) 48) refl
         go (items.into x) is h = stores_back x words left v is h backs
         go items.aside is h = puts_back words left v is backs

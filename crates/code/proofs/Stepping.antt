@@ -138,7 +138,7 @@ module _ (c : Running) where
 
   step_push_led : (op : Step) (x : source.Variable) (s : List ℕ) → IsVariableHere c x → length s ≤ 48
       → ArrivesAt c (items.step op x items.push)
-      → LedFrom c s (stack.delivered items.push (new_word op x) (stack.after (at c s) s (new_situation op x)))
+      → LedFrom c s (stack.deliver items.push (new_word op x) (stack.after (at c s) s (new_situation op x)))
   unfolding perform push_word
   step_push_led op x s is short stands =
       let held = variable_held c m x (scratch_here c) is in
@@ -169,7 +169,7 @@ module _ (c : Running) where
   step_into_led : (op : Step) (x y : source.Variable) (s : List ℕ) → IsVariableHere c x → IsVariableHere c y
       → length s ≤ 48
       → ArrivesAt c (items.step op x (items.into y))
-      → LedFrom c s (stack.delivered (items.into y) (new_word op x) (stack.after (at c s) s (new_situation op x)))
+      → LedFrom c s (stack.deliver (items.into y) (new_word op x) (stack.after (at c s) s (new_situation op x)))
   unfolding perform
   step_into_led op x y s is is_y short stands =
       let held = variable_held c m x (scratch_here c) is in
@@ -205,7 +205,7 @@ module _ (c : Running) where
 
   step_aside_led : (op : Step) (x : source.Variable) (s : List ℕ) → IsVariableHere c x → length s ≤ 48
       → ArrivesAt c (items.step op x items.aside)
-      → LedFrom c s (stack.delivered items.aside (new_word op x) (stack.after (at c s) s (new_situation op x)))
+      → LedFrom c s (stack.deliver items.aside (new_word op x) (stack.after (at c s) s (new_situation op x)))
   unfolding perform
   step_aside_led op x s is short stands =
       let held = variable_held c m x (scratch_here c) is in
@@ -237,7 +237,7 @@ module _ (c : Running) where
 
   pub step_led : (op : Step) (x : source.Variable) (d : Destination) (s : List ℕ) → IsVariableHere c x → IsHere c d
       → length s ≤ 48 → ArrivesAt c (items.step op x d)
-      → LedFrom c s (stack.delivered d (new_word op x) (stack.after (at c s) s (new_situation op x)))
+      → LedFrom c s (stack.deliver d (new_word op x) (stack.after (at c s) s (new_situation op x)))
   step_led op x items.push s is is_d short stands = step_push_led op x s is short stands
   step_led op x (items.into y) s is is_d short stands = step_into_led op x y s is is_d short stands
   step_led op x items.aside s is is_d short stands = step_aside_led op x s is short stands

@@ -44,7 +44,7 @@ module _ (c : Running) where
       stack.after_part
       (bound {A = Unit {0}} (if b then to tt (with_array n (with_entry width (bytes_in c n) i v) (situation_here c))
       else source.fault causes.IndexOutOfRange (situation_here c)) (λ _. source.give v))
-      (λ w situation. stack.delivered d w (stack.after (at c before) rest situation))
+      (λ w situation. stack.deliver d w (stack.after (at c before) rest situation))
 
   -- a pushed word is in the temporary of this number
   assigns_led : (b : Bool) (width : Width) (n i v t : ℕ) (q : items.Operand) (d : Destination)
@@ -58,7 +58,7 @@ module _ (c : Running) where
       (word_still c t q v other r.memory (r.unwritten (248 + t) (omega (arith, some)) (omega (arith, small))) h) d before
       rest r.q there.operand is_d room r.from r.held there.end there.value r.leads
   assigns_led false width n i v t q d before rest other known some small is is_d room index h r =
-      let k : ℕ → Situation → stack.Next = λ w situation. stack.delivered d w
+      let k : ℕ → Situation → stack.Next = λ w situation. stack.deliver d w
       (stack.after (at c before) rest situation) in
       subst (LedFrom c before)
       (sym (after_bound {A = Unit {0}} (source.fault causes.IndexOutOfRange (situation_here c)) (λ _. source.give v)

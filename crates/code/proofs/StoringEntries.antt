@@ -138,7 +138,7 @@ module _ (c : Running) where
         → there + length (flat_map bytes_of (passed_on d (word_in t q))) ≡ next_place c
         → Leads (point (here c) world.fuel) (at_words (around c) m locals before world.text) (point there world.fuel)
         (at_words (around c) next_memory locals rest world.text)
-        → LedFrom c before (stack.delivered d v (stack.after (at c before) rest next_situation))
+        → LedFrom c before (stack.deliver d v (stack.after (at c before) rest next_situation))
     unfolding perform push_word
     passed items.push before rest there is_d room from h end leads =
         let k = push (word_in t q) in
@@ -225,7 +225,7 @@ module _ (c : Running) where
         ≡ done i (at_words (around c) other locals rest world.text)
         → Leads (point (here c) world.fuel) (at_words (around c) m locals before world.text) (point there world.fuel)
         (at_words (around c) other locals rest world.text)
-        → LedFrom c before (stack.delivered d v (stack.after (at c before) rest next_situation))
+        → LedFrom c before (stack.deliver d v (stack.after (at c before) rest next_situation))
     assigned d before rest there o is_d room from h end value leads =
         let k = assign o in
         let base = slice_index a.arrays n in

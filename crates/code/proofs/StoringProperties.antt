@@ -61,7 +61,7 @@ module _ (c : Running) where
       plain operations.StoreWord (Variable 250 ∷ i ∷ assigned_word o ∷ []) ∷ passed_on d (assigned_word o)
 
   abbrev pub onward : Destination → List ℕ → List ℕ → ℕ → Situation → stack.Next
-  onward d before rest w situation = stack.delivered d w (stack.after (at c before) rest situation)
+  onward d before rest w situation = stack.deliver d w (stack.after (at c before) rest situation)
 
   module _ (q v w : ℕ) (o : items.Operand) (d : Destination) (before rest : List ℕ) (known : IsObjectHere c v)
       (is_o : IsOperandHere c o) (is_d : IsHere c d) (room : length rest ≤ 48) (followed : next_place c < length m)

@@ -23,7 +23,7 @@ use Rattle.code_drafts.specs.Items as items
 use Rattle.code_items.specs.Laws.{IsOperand, IsTestedValue}
 use Rattle.code_items.specs.Stack as stack
 use Rattle.code_encoding.specs.Instructions.{plain, branching}
-use Rattle.code_instructions.specs.Instructions.{labelled_below, test_operation, turned, tested_below, least_word}
+use Rattle.code_instructions.specs.Instructions.{labelled_below, test_operation, reverse_test, tested_below, least_word}
 use Rattle.code_instructions.specs.Instructions.{branch_below}
 use Rattle.code.proofs.Fitting.{AreBytes, first_part, all_fit}
 use Rattle.code.proofs.ItemOperands.{gives_length, GivesOperands}
@@ -218,7 +218,7 @@ test_of items.same os (v ∷ vs) e is =
 
 -- Two operands the other way round
 
-pub counted_turned : (test : Test) (n : ℕ) → Counted test n → Counted (turned test) n
+pub counted_turned : (test : Test) (n : ℕ) → Counted test n → Counted (reverse_test test) n
 counted_turned items.is_zero n is = is
 counted_turned items.less n is = is
 counted_turned items.greater n is = is
@@ -231,7 +231,7 @@ equal_turned v w = go (v == w) refl
     go true e = sym (eq-eqb w v (sym (eqb-true v w e)))
     go false e = sym (ne_eqb w v (λ f. eqb-false v w e (sym f)))
 
-pub holds_turned : (test : Test) (v w : ℕ) → stack.holds (turned test) (w ∷ v ∷ []) ≡ stack.holds test (v ∷ w ∷ [])
+pub holds_turned : (test : Test) (v w : ℕ) → stack.holds (reverse_test test) (w ∷ v ∷ []) ≡ stack.holds test (v ∷ w ∷ [])
 holds_turned items.is_zero v w = refl
 holds_turned items.less v w = refl
 holds_turned items.greater v w = refl

@@ -16,7 +16,7 @@ use Rattle.ztext.proofs.Expanding.{round_trip_with, some_if_two}
 use Rattle.meaning.specs.World.{shown, words_of}
 use Rattle.meaning.specs.declared.cause.Cause.{Cause}
 use Rattle.meaning.specs.declared.cause.Cause.TheVariants as causes
-use Rattle.code_encoding.specs.Bytes.{character_of}
+use Rattle.meaning.specs.Places.{machine_character}
 use Rattle.syntax_lexer.specs.Printable.{IsPrintable}
 use Rattle.code.specs.HeldProgram.{fault_line}
 
@@ -69,11 +69,11 @@ shown_by false true c from = refl
 shown_by false false c from = prints_itself c from
 
 pub text_prints : (bytes : List ℕ) → All IsPrintable bytes
-    → flat_map transcribed (map character_of bytes) ≡ map shown bytes
+    → flat_map transcribed (map machine_character bytes) ≡ map shown bytes
 text_prints [] h = refl
 text_prints (c ∷ cs) h =
     let here : (32 ≤ c) × (c ≤ 126) = h 0 c (omega arith) in
-    ap (λ x. x ++ flat_map transcribed (map character_of cs))
+    ap (λ x. x ++ flat_map transcribed (map machine_character cs))
     (shown_by (nat_eq c 94) (nat_eq c 126) c (omega (arith, here.0)))
     ∙ ap (λ xs. shown c ∷ xs) (text_prints cs (λ k d l. h (suc k) d (omega (arith, l))))
 
@@ -89,7 +89,7 @@ printable_by false false c h k =
     let high : nat_le c 126 ≡ true = le-leb c 126 k in
     printable_or (nat_eq c 13) (nat_le 32 c && nat_le c 126) (rw (low, high) refl)
 
-text_printable : (bytes : List ℕ) → All IsPrintable bytes → list_all is_printable (map character_of bytes) ≡ true
+text_printable : (bytes : List ℕ) → All IsPrintable bytes → list_all is_printable (map machine_character bytes) ≡ true
 text_printable [] h = refl
 text_printable (c ∷ cs) h =
     let here : (32 ≤ c) × (c ≤ 126) = h 0 c (omega arith) in
@@ -104,21 +104,21 @@ kept_by (c ∷ cs) e = let parts = and_parts (is_printable c) (list_all is_print
     rw parts.0 (ap (λ xs. c ∷ xs) (kept_by cs parts.1))
 
 pub printable_kept : (bytes : List ℕ) → All IsPrintable bytes
-    → filter is_printable (map character_of bytes) ≡ map character_of bytes
-printable_kept bytes printable = kept_by (map character_of bytes) (text_printable bytes printable)
+    → filter is_printable (map machine_character bytes) ≡ map machine_character bytes
+printable_kept bytes printable = kept_by (map machine_character bytes) (text_printable bytes printable)
 
 -- the text of an item is read back
 pub text_read : (abbreviations : List (List ℕ)) (bytes story : List ℕ) (q : ℕ)
     → All (λ (a : List ℕ). 2 ≤ length a) abbreviations → HasAbbreviations story abbreviations → All IsPrintable bytes
-    → Holds story q (encoded_with abbreviations (map character_of bytes))
-    → q + length (encoded_with abbreviations (map character_of bytes)) < 2 ^ 32
+    → Holds story q (encoded_with abbreviations (map machine_character bytes))
+    → q + length (encoded_with abbreviations (map machine_character bytes)) < 2 ^ 32
     → decoded story q ≡ Ok (
-      map character_of bytes,
+      map machine_character bytes,
       q
-          + length (encoded_with abbreviations (map character_of bytes)),
+          + length (encoded_with abbreviations (map machine_character bytes)),
     )
 text_read abbreviations bytes story q two has printable h low =
-    round_trip_with abbreviations (map character_of bytes) story q (some_if_two abbreviations two)
+    round_trip_with abbreviations (map machine_character bytes) story q (some_if_two abbreviations two)
     (text_printable bytes printable) has h low
 
 -- Faults

@@ -11,8 +11,8 @@ use Rattle.meaning.specs.declared.resolved.Variable.{Variable}
 use Rattle.meaning.specs.Resolved.{Value}
 use Rattle.meaning.specs.Resolved as source
 use Rattle.code_drafts.specs.Items.{Item, Operand, pushed, number, variable, Destination, push, into, aside, nowhere}
-use Rattle.code_drafts.specs.Items.{right_place, operated, alone, left_of, if_pushed, branch_true, moved_count, truth_count, after_count, kept_count}
-use Rattle.code_drafts.specs.Items.{value_count, operand_count, branch_count, moved, truth_items, after_items}
+use Rattle.code_drafts.specs.Items.{right_place, operation_item, alone, left_of, if_pushed, branch_true, moved_count, truth_count, after_count, kept_count}
+use Rattle.code_drafts.specs.Items.{value_count, operand_count, branch_count, move_items, truth_items, after_items}
 use Rattle.code_drafts.specs.Items.{kept_items, and_items, or_items, value_items, branch_items}
 use Rattle.code_drafts.specs.Items as items
 
@@ -24,7 +24,7 @@ if_length pushed xs n e = e
 if_length (number k) xs n e = refl
 if_length (variable x) xs n e = refl
 
-pub moved_length : (o : Operand) (d : Destination) → length (moved o d) ≡ moved_count d
+pub moved_length : (o : Operand) (d : Destination) → length (move_items o d) ≡ moved_count d
 moved_length o push = refl
 moved_length o (into x) = refl
 moved_length o aside = refl
@@ -152,12 +152,12 @@ binary_counted binaries.OrElse a b ca cb = record {
 }
 binary_counted op a b ca cb = record {
   value = λ d at. two_length (left_of a b) (alone b) _ _
-      (operated (right_place op (left_of a b)) op (left_of a b) (alone b) d ∷ []) _ _ 1 (ca.value push at)
+      (operation_item (right_place op (left_of a b)) op (left_of a b) (alone b) d ∷ []) _ _ 1 (ca.value push at)
       (cb.value (right_place op (left_of a b)) (at + operand_count a (left_of a b))) refl;
   branch = λ when at t. omega (
     arith,
     two_length (left_of a b) (alone b) _ _
-        (operated (right_place op (left_of a b)) op (left_of a b) (alone b) push ∷ branch_true pushed when t ∷ []) _ _
+        (operation_item (right_place op (left_of a b)) op (left_of a b) (alone b) push ∷ branch_true pushed when t ∷ []) _ _
         2 (ca.value push at) (cb.value (right_place op (left_of a b)) (at + operand_count a (left_of a b))) refl,
   );
 }
@@ -169,7 +169,7 @@ entry_counted width a i c = record {
   branch = λ when at t. omega (
     arith,
     joined (if_pushed (alone i) (value_items at i aside) [])
-        (items.loaded width a (alone i) push ∷ branch_true pushed when t ∷ []) _ 2
+        (items.entry_item width a (alone i) push ∷ branch_true pushed when t ∷ []) _ 2
         (if_length (alone i) _ _ (c.value aside at)) refl,
   );
 }
@@ -179,14 +179,14 @@ pub assign_entry_counted : (width : Width) (a : ℕ) (i v : Value) → Counted i
 assign_entry_counted width a i v ci cv = record {
   value = λ d at.
       let place = items.index_place (alone v) in
-      two_length (left_of i v) (alone v) _ _ (items.stored width a (left_of i v) (alone v) d ∷ []) _ _ 1
+      two_length (left_of i v) (alone v) _ _ (items.assign_entry_item width a (left_of i v) (alone v) d ∷ []) _ _ 1
       (ci.value place at) (cv.value aside (at + if_pushed (left_of i v) (value_count i place) 0)) refl;
   branch = λ when at t.
       let place = items.index_place (alone v) in
       omega (
         arith,
         two_length (left_of i v) (alone v) _ _
-            (items.stored width a (left_of i v) (alone v) push ∷ branch_true pushed when t ∷ []) _ _ 2
+            (items.assign_entry_item width a (left_of i v) (alone v) push ∷ branch_true pushed when t ∷ []) _ _ 2
             (ci.value place at) (cv.value aside (at + if_pushed (left_of i v) (value_count i place) 0)) refl,
       );
 }

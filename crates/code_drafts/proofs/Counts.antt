@@ -9,7 +9,7 @@ use Rattle.code_drafts.specs.Items.{containment_when, first_of, operands_of, alo
 use Rattle.code_drafts.specs.Items.{agrees, is_direct, same_count, comparison_test, comparison_when, equality_when, truth_count}
 use Rattle.code_drafts.specs.Items.{value_count, operand_count, operands_count, branch_count, many_count, also_count}
 use Rattle.code_drafts.specs.Items.{same_items, value_items, operands_items, branch_items, many_items, also_items}
-use Rattle.code_drafts.specs.Items.{alone_items, is_any_pushed, are_more_pushed, argument_place, called}
+use Rattle.code_drafts.specs.Items.{alone_items, is_any_pushed, are_more_pushed, argument_place, call_item}
 use Rattle.code_drafts.specs.Items.{arguments_count, arguments_items}
 use Rattle.code_drafts.specs.Items as items
 use Rattle.code_drafts.proofs.InPlace.{same_length}
@@ -70,7 +70,7 @@ mutual
         omega (
           arith,
           joined (arguments_items several at vs)
-              (called several r (operands_of vs) push ∷ branch_true pushed when t ∷ []) _ 2
+              (call_item several r (operands_of vs) push ∷ branch_true pushed when t ∷ []) _ 2
               (arguments_length several vs at) refl,
         );
   }

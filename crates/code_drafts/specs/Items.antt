@@ -210,9 +210,9 @@ right_place binaries.Remainder left = aside
 right_place op left = push
 
 -- an operation, where a right operand that does not stand in place went there
-abbrev pub operated : Destination → Binary → Operand → Operand → Destination → Item
-operated aside op left pushed d = operate_aside op left d
-operated place op left right d = operate op left right d
+abbrev pub operation_item : Destination → Binary → Operand → Operand → Destination → Item
+operation_item aside op left pushed d = operate_aside op left d
+operation_item place op left right d = operate op left right d
 
 -- one of some operands is pushed
 abbrev pub is_any_pushed : List Operand → Bool
@@ -232,14 +232,14 @@ argument_place true false = aside
 argument_place false false = push
 
 -- a call, where there are several of those
-abbrev pub called : Bool → ℕ → List Operand → Destination → Item
-called true r os d = call_aside r os d
-called false r os d = call r os d
+abbrev pub call_item : Bool → ℕ → List Operand → Destination → Item
+call_item true r os d = call_aside r os d
+call_item false r os d = call r os d
 
 -- an entry is read, where an index that does not stand in place went aside
-abbrev pub loaded : Width → ℕ → Operand → Destination → Item
-loaded width a pushed d = entry_aside width a d
-loaded width a index d = entry width a index d
+abbrev pub entry_item : Width → ℕ → Operand → Destination → Item
+entry_item width a pushed d = entry_aside width a d
+entry_item width a index d = entry width a index d
 
 -- where the index of an entry goes that does not stand in place, by the word that is assigned: aside, if that stands in
 -- place, since the last of both goes there
@@ -247,8 +247,8 @@ abbrev pub index_place : Operand → Destination
 index_place word = argument_place true (if_pushed word true false)
 
 -- an entry is assigned, where the last of index and word that does not stand in place went aside
-abbrev pub stored : Width → ℕ → Operand → Operand → Destination → Item
-stored width a index word d =
+abbrev pub assign_entry_item : Width → ℕ → Operand → Operand → Destination → Item
+assign_entry_item width a index word d =
     if is_any_pushed (index ∷ word ∷ []) then assign_entry_aside width a index word d
     else assign_entry width a index word d
 
@@ -475,11 +475,11 @@ operand_count v o = if_pushed o (value_count v push) 0
 -- The items; `at` is the number of the first
 
 -- an operand in place goes to a destination
-abbrev pub moved : Operand → Destination → List Item
-moved o nowhere = []
-moved o push = move o push ∷ []
-moved o (into x) = move o (into x) ∷ []
-moved o aside = move o aside ∷ []
+abbrev pub move_items : Operand → Destination → List Item
+move_items o nowhere = []
+move_items o push = move o push ∷ []
+move_items o (into x) = move o (into x) ∷ []
+move_items o aside = move o aside ∷ []
 
 -- A condition as a word, where `count` items branch if it is true: 0, or 1. Only what it does is wanted where the
 -- word goes nowhere.
@@ -526,11 +526,11 @@ same_items o os at when target = branch same (o ∷ os) when target ∷ []
 abbrev mutual
   -- an expression, whose word goes to a destination
   pub value_items : ℕ → Value → Destination → List Item
-  value_items at (source.number n) d = moved (number n) d
-  value_items at (source.read x) d = moved (variable x) d
+  value_items at (source.number n) d = move_items (number n) d
+  value_items at (source.read x) d = move_items (variable x) d
   value_items at (source.call r vs) d =
       arguments_items (are_more_pushed (operands_of vs)) at vs
-      ++ called (are_more_pushed (operands_of vs)) r (operands_of vs) d ∷ []
+      ++ call_item (are_more_pushed (operands_of vs)) r (operands_of vs) d ∷ []
   value_items at (source.prefixed prefixes.Not v) d =
       truth_items at (branch_count v false) d (λ target. branch_items at v false target)
   value_items at (source.prefixed op v) d =
@@ -549,7 +549,7 @@ abbrev mutual
       if_pushed (left_of a b) (value_items at a push) []
       ++ (if_pushed (alone b)
       (value_items (at + operand_count a (left_of a b)) b (right_place op (left_of a b))) []
-      ++ operated (right_place op (left_of a b)) op (left_of a b) (alone b) d ∷ [])
+      ++ operation_item (right_place op (left_of a b)) op (left_of a b) (alone b) d ∷ [])
   value_items at (source.compare op a b) d =
       truth_items at (operand_count a (left_of a b) + operand_count b (alone b) + 1) d (λ target.
       if_pushed (left_of a b) (value_items at a push) []
@@ -567,12 +567,12 @@ abbrev mutual
   value_items at (source.assign x v) d =
       kept_items x d (value_items at v (into x)) (value_items at v push)
   value_items at (source.entry width a i) d =
-      if_pushed (alone i) (value_items at i aside) [] ++ loaded width a (alone i) d ∷ []
+      if_pushed (alone i) (value_items at i aside) [] ++ entry_item width a (alone i) d ∷ []
   value_items at (source.assign_entry width a i v) d =
       if_pushed (left_of i v) (value_items at i (index_place (alone v))) []
       ++ (if_pushed (alone v)
       (value_items (at + if_pushed (left_of i v) (value_count i (index_place (alone v))) 0) v aside) []
-      ++ stored width a (left_of i v) (alone v) d ∷ [])
+      ++ assign_entry_item width a (left_of i v) (alone v) d ∷ [])
   value_items at (source.relative r v) d = if_pushed (alone v) (value_items at v push) [] ++ relative r (alone v) d ∷ []
   value_items at (source.contained op a b) d =
       truth_items at (operand_count a (left_of a b) + operand_count b (alone b) + 1) d (λ target.
@@ -627,7 +627,7 @@ abbrev mutual
   branch_items at (source.read x) when target = branch_true (variable x) when target ∷ []
   branch_items at (source.call r vs) when target =
       arguments_items (are_more_pushed (operands_of vs)) at vs
-      ++ called (are_more_pushed (operands_of vs)) r (operands_of vs) push ∷ branch_true pushed when target ∷ []
+      ++ call_item (are_more_pushed (operands_of vs)) r (operands_of vs) push ∷ branch_true pushed when target ∷ []
   branch_items at (source.prefixed prefixes.Not v) when target = branch_items at v (not when) target
   branch_items at (source.prefixed op v) when target =
       if_pushed (alone v) (value_items at v push) []
@@ -646,7 +646,7 @@ abbrev mutual
       if_pushed (left_of a b) (value_items at a push) []
       ++ (if_pushed (alone b)
       (value_items (at + operand_count a (left_of a b)) b (right_place op (left_of a b))) []
-      ++ operated (right_place op (left_of a b)) op (left_of a b) (alone b) push
+      ++ operation_item (right_place op (left_of a b)) op (left_of a b) (alone b) push
       ∷ branch_true pushed when target ∷ [])
   branch_items at (source.compare op a b) when target =
       if_pushed (left_of a b) (value_items at a push) []
@@ -663,12 +663,12 @@ abbrev mutual
       value_items at v push ++ keep x ∷ branch_true pushed when target ∷ []
   branch_items at (source.entry width a i) when target =
       if_pushed (alone i) (value_items at i aside) []
-      ++ loaded width a (alone i) push ∷ branch_true pushed when target ∷ []
+      ++ entry_item width a (alone i) push ∷ branch_true pushed when target ∷ []
   branch_items at (source.assign_entry width a i v) when target =
       if_pushed (left_of i v) (value_items at i (index_place (alone v))) []
       ++ (if_pushed (alone v)
       (value_items (at + if_pushed (left_of i v) (value_count i (index_place (alone v))) 0) v aside) []
-      ++ stored width a (left_of i v) (alone v) push ∷ branch_true pushed when target ∷ [])
+      ++ assign_entry_item width a (left_of i v) (alone v) push ∷ branch_true pushed when target ∷ [])
   branch_items at (source.relative r v) when target =
       if_pushed (alone v) (value_items at v push) []
       ++ relative r (alone v) push ∷ branch_true pushed when target ∷ []

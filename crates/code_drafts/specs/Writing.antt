@@ -9,7 +9,7 @@ use Rattle.meaning.specs.Resolved.{Value, Values, none, more}
 use Rattle.meaning.specs.Views.{value_of, values_of}
 use Rattle.code_drafts.specs.Items.{Item, Operand, pushed, changes, Destination, push, alone, operand_of, operands_of}
 use Rattle.code_drafts.specs.Items.{is_direct}
-use Rattle.code_drafts.specs.Items.{branch_true, branch_count, truth_items, value_items, branch_items, moved}
+use Rattle.code_drafts.specs.Items.{branch_true, branch_count, truth_items, value_items, branch_items, move_items}
 use Rattle.code_drafts.specs.Items as items
 use Rattle.code_drafts.specs.Code.{as_operand, as_operands, as_destination, items_of}
 use Rattle.code_drafts.specs.declared.item.Operand as code_operand
@@ -161,15 +161,15 @@ WritesChoice old new d left = ReducesChoice (written_in old) (written_in new) (a
 
 -- an operand in place goes to a destination
 abbrev pub WritesMoved : Draft → Draft → code_operand.Operand → code_destination.Destination → Type 0
-WritesMoved old new o d = Writes old new (λ n at. moved (as_operand o) (as_destination d))
+WritesMoved old new o d = Writes old new (λ n at. move_items (as_operand o) (as_destination d))
 
 -- one item more, as it stands
 abbrev pub PutsItem : Draft → Draft → Item → Type 0
 PutsItem old new i = written_in new ≡ written_in old ++ i ∷ []
 
 -- the whole routine of a draft
-abbrev pub ordered : Draft → List Item
-ordered draft = in_order (length (written_in draft)) (written_in draft)
+abbrev pub items_in_order : Draft → List Item
+items_in_order draft = in_order (length (written_in draft)) (written_in draft)
 
 -- the item of this number leads back to the first
 abbrev pub LeadsBack : Draft → Draft → ℕ → Type 0

@@ -3,7 +3,7 @@
 ghost use Rattle.std.specs.Prelude.{◌≡◌, ◌<◌, ◌-◌, length, OnOk};
 ghost use Rattle.code_drafts.specs.Items.{branch_true, turned_back};
 ghost use Rattle.code_drafts.specs.Code.{as_operand, item_of, items_of};
-ghost use Rattle.code_drafts.specs.Writing.{written_in, numbered, ordered, LeadsBack, PutsItem};
+ghost use Rattle.code_drafts.specs.Writing.{written_in, numbered, items_in_order, LeadsBack, PutsItem};
 ghost use Rattle.code_drafts.specs.Writing.{TurnsBack};
 ghost use Rattle.code_drafts.specs.Writing as spec;
 
@@ -88,7 +88,7 @@ fn turn_item_back(item: &mut Item<'_>, first: usize)
 
 /// The items from the first to the last, with the numbers of their targets.
 pub fn into_items(draft: Draft<'_>) -> Vec<Item<'_>>
-    ensures { items_of result.items ≡ ordered draft.entry }
+    ensures { items_of result.items ≡ items_in_order draft.entry }
 {
     let mut items = draft.items;
     put_in_order(&mut items);

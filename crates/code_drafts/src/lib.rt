@@ -15,10 +15,10 @@ pub use operand::{
     is_pushed, left_of, push_alone, push_operands, side_operands,
 };
 pub use parts::{
-    argument_place, called, comparison_test, comparison_when, containment_when, equality_when,
-    first_of_and, first_of_or, has_when, index_place, is_logical, is_pushed_or_later, loaded,
-    operated, put_number, put_read, put_step_after, put_step_before, put_truth, put_word,
-    right_place, stored,
+    argument_place, assign_entry_item, call_item, comparison_test, comparison_when,
+    containment_when, entry_item, equality_when, first_of_and, first_of_or, has_when, index_place,
+    is_logical, is_pushed_or_later, operation_item, put_number, put_read, put_step_after,
+    put_step_before, put_truth, put_word, right_place,
 };
 pub use several::put_each_same;
 pub use wanted::Wanted;

@@ -250,14 +250,14 @@ pub fn right_place(operator: Binary, left: Operand) -> Destination
 }
 
 /// An operation, where a right operand that does not stand in place went to `place`.
-pub fn operated<'a>(
+pub fn operation_item<'a>(
     operator: Binary,
     left: Operand,
     right: Operand,
     place: Destination,
     destination: Destination,
 ) -> Item<'a>
-    ensures { item_of result ≡ items.operated (as_destination place) operator (as_operand left)
+    ensures { item_of result ≡ items.operation_item (as_destination place) operator (as_operand left)
         (as_operand right) (as_destination destination) }
 {
     match place {
@@ -286,13 +286,13 @@ pub fn argument_place(several: bool, after: bool) -> Destination
 }
 
 /// A call, where there are several of those.
-pub fn called<'a>(
+pub fn call_item<'a>(
     routine: usize,
     operands: Vec<Operand>,
     several: bool,
     destination: Destination,
 ) -> Item<'a>
-    ensures { item_of result ≡ items.called several routine (as_operands operands.items)
+    ensures { item_of result ≡ items.call_item several routine (as_operands operands.items)
         (as_destination destination) }
 {
     if several {
@@ -303,8 +303,13 @@ pub fn called<'a>(
 }
 
 /// An entry that is read, where an index that does not stand in place went aside.
-pub fn loaded<'a>(width: Width, array: usize, index: Operand, destination: Destination) -> Item<'a>
-    ensures { item_of result ≡ items.loaded width array (as_operand index)
+pub fn entry_item<'a>(
+    width: Width,
+    array: usize,
+    index: Operand,
+    destination: Destination,
+) -> Item<'a>
+    ensures { item_of result ≡ items.entry_item width array (as_operand index)
         (as_destination destination) }
 {
     match index {
@@ -323,14 +328,14 @@ pub fn index_place(word: Operand) -> Destination
 
 /// An entry that is assigned, where the last of index and word that does not stand in place went
 /// aside.
-pub fn stored<'a>(
+pub fn assign_entry_item<'a>(
     width: Width,
     array: usize,
     index: Operand,
     word: Operand,
     destination: Destination,
 ) -> Item<'a>
-    ensures { item_of result ≡ items.stored width array (as_operand index) (as_operand word)
+    ensures { item_of result ≡ items.assign_entry_item width array (as_operand index) (as_operand word)
         (as_destination destination) }
 {
     if is_any_pushed(&[index, word]) {

@@ -1,5 +1,5 @@
 -- The bytes of instructions, and the characters of texts.
-use Rattle.std.specs.Prelude.{◌≡◌, ◌==◌, ◌++◌, ℕ, if◌then◌else◌, List}
+use Rattle.std.specs.Prelude.{◌≡◌, ◌++◌, ℕ, List}
 use Rattle.std.specs.List.{flat_map}
 use Rattle.std.specs.Global.{Vec}
 use Rattle.zcore.specs.Instruction.{Instruction}
@@ -15,10 +15,3 @@ Adds old new more = new.items ≡ old.items ++ more
 -- the bytes of these instructions stand after those that were there
 abbrev pub AddsCode : Vec ℕ → Vec ℕ → List Instruction → Type 0
 AddsCode old new code = Adds old new (bytes_of_all code)
-
--- a character between the quotes of a text: `^` is a new line, `~` a double quote
-abbrev pub character_of : ℕ → ℕ
-character_of byte =
-    if byte == 94 then 13
-    else (if byte == 126 then 34
-    else byte)

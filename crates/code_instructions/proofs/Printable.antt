@@ -12,7 +12,8 @@ use Rattle.ztext.specs.Text.{encoded}
 use Rattle.ztext.specs.Words.{packed, padded}
 use Rattle.zcore.specs.declared.instruction.Operation.TheVariants.{Print}
 use Rattle.zcore.specs.InstructionBytes.{bytes_of}
-use Rattle.code_encoding.specs.Bytes.{bytes_of_all, character_of}
+use Rattle.code_encoding.specs.Bytes.{bytes_of_all}
+use Rattle.meaning.specs.Places.{machine_character}
 use Rattle.code_encoding.specs.Instructions.{plain}
 use Rattle.code_instructions.specs.Instructions.{prints_itself}
 
@@ -34,17 +35,17 @@ both_parts true true false e = absurd (false≢true e)
 both_parts true false more e = absurd (false≢true e)
 both_parts false q more e = absurd (false≢true e)
 
-one_itself : (c : ℕ) (rest : List ℕ) → is_printable c ≡ true → (character_of c == c) ≡ true
-    → filter is_printable (character_of c ∷ rest) ≡ c ∷ filter is_printable rest
+one_itself : (c : ℕ) (rest : List ℕ) → is_printable c ≡ true → (machine_character c == c) ≡ true
+    → filter is_printable (machine_character c ∷ rest) ≡ c ∷ filter is_printable rest
 one_itself c rest p same =
-    ap (λ (n : ℕ). filter is_printable (n ∷ rest)) (eqb-true (character_of c) c same)
+    ap (λ (n : ℕ). filter is_printable (n ∷ rest)) (eqb-true (machine_character c) c same)
     ∙ ap (λ (x : Bool). if x then c ∷ filter is_printable rest else filter is_printable rest) p
 
-pub themselves : (cs : List ℕ) → list_all prints_itself cs ≡ true → filter is_printable (map character_of cs) ≡ cs
+pub themselves : (cs : List ℕ) → list_all prints_itself cs ≡ true → filter is_printable (map machine_character cs) ≡ cs
 themselves [] e = refl
 themselves (c ∷ cs) e =
-    let parts = both_parts (is_printable c) (character_of c == c) (list_all prints_itself cs) e in
-    one_itself c (map character_of cs) parts.0 parts.1 ∙ ap (λ l. c ∷ l) (themselves cs parts.2)
+    let parts = both_parts (is_printable c) (machine_character c == c) (list_all prints_itself cs) e in
+    one_itself c (map machine_character cs) parts.0 parts.1 ∙ ap (λ l. c ∷ l) (themselves cs parts.2)
 
 -- Abbreviations that there are none of
 

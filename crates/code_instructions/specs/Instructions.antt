@@ -26,7 +26,7 @@ use Rattle.meaning.specs.Meaning.{is_character}
 use Rattle.code_drafts.specs.Items.{Destination, Test, is_any_pushed}
 use Rattle.code_drafts.specs.Items as items
 use Rattle.code_encoding.specs.Addresses.{Addresses, fault_address}
-use Rattle.code_encoding.specs.Bytes.{character_of}
+use Rattle.meaning.specs.Places.{machine_character}
 use Rattle.code_encoding.specs.Instructions.{plain, giving, branching, number_of, temporary, constant, push, pull, copy}
 use Rattle.code_encoding.specs.Instructions.{store, fail, in_place, takes, operands, aside_variable, result_in, top}
 
@@ -159,7 +159,7 @@ tested_between a cause low end variable =
 
 -- a byte between the quotes of a text that is printed as it is
 abbrev pub prints_itself : ℕ → Bool
-prints_itself byte = is_printable byte && character_of byte == byte
+prints_itself byte = is_printable byte && machine_character byte == byte
 
 -- a character is 0, 13 or from 32 to 126, and else the fault's text is printed
 abbrev pub tested_character : Addresses → ℕ → List Instruction
@@ -208,11 +208,11 @@ abbrev pub ordered_code : Test → List items.Operand → Bool → ℕ → List 
 ordered_code test os when offset = ordered_below ahead_limit test os when offset
 
 -- the test of two operands that stand the other way round
-abbrev pub turned : Test → Test
-turned items.is_zero = items.is_zero
-turned items.less = items.greater
-turned items.greater = items.less
-turned items.same = items.same
+abbrev pub reverse_test : Test → Test
+reverse_test items.is_zero = items.is_zero
+reverse_test items.less = items.greater
+reverse_test items.greater = items.less
+reverse_test items.same = items.same
 
 abbrev pub are_both_pushed : List items.Operand → Bool
 are_both_pushed (items.pushed ∷ items.pushed ∷ []) = true
@@ -221,7 +221,7 @@ are_both_pushed os = false
 -- of two pushed words the right one is on the top: they are taken as they stand, by the turned test
 abbrev pub tested_below : ℕ → Test → List items.Operand → Bool → ℕ → List Instruction
 tested_below limit test os when offset =
-    if are_both_pushed os then labelled_below limit (test_operation (turned test)) (top ∷ top ∷ []) when offset
+    if are_both_pushed os then labelled_below limit (test_operation (reverse_test test)) (top ∷ top ∷ []) when offset
     else ordered_below limit test os when offset
 
 abbrev pub tested_code : Test → List items.Operand → Bool → ℕ → List Instruction
@@ -251,11 +251,11 @@ abbrev pub most_compared : ℕ
 most_compared = 3
 
 -- the word that was put aside, and some numbers
-abbrev pub compared : List ℕ → List Operand
-compared ns = Variable aside_variable ∷ map constant (take most_compared ns)
+abbrev pub case_operands : List ℕ → List Operand
+case_operands ns = Variable aside_variable ∷ map constant (take most_compared ns)
 
 abbrev pub case_code : Test → List ℕ → Bool → ℕ → List Instruction
-case_code test ns when offset = labelled (test_operation test) (compared ns) when offset
+case_code test ns when offset = labelled (test_operation test) (case_operands ns) when offset
 
 -- Calls and returns
 

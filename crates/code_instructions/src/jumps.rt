@@ -121,8 +121,8 @@ fn asks_none(test: Test, operands: &[code_drafts::Operand]) -> bool
 }
 
 /// The test of two operands that stand the other way round.
-fn turned(test: Test) -> Test
-    ensures { as_test result ≡ spec.turned (as_test test) }
+fn reverse_test(test: Test) -> Test
+    ensures { as_test result ≡ spec.reverse_test (as_test test) }
 {
     match test {
         Test::IsZero => Test::IsZero,
@@ -275,7 +275,7 @@ fn put_tested(
         put_labelled_below(
             bytes,
             limit,
-            operation_of(turned(test)),
+            operation_of(reverse_test(test)),
             &[top, top],
             when,
             offset,
@@ -361,8 +361,8 @@ pub fn put_branch_back(
 }
 
 /// The word of a `switch` and the numbers that a test of its cases compares it with.
-fn compared(alloc: Global, numbers: &[u16]) -> Result<Vec<Operand>, AllocError>
-    ensures { IfOk result (λ v. v.items ≡ spec.compared numbers.now) }
+fn case_operands(alloc: Global, numbers: &[u16]) -> Result<Vec<Operand>, AllocError>
+    ensures { IfOk result (λ v. v.items ≡ spec.case_operands numbers.now) }
 {
     let mut operands = Vec::new(alloc);
     operands.push(Operand::Variable(ASIDE))?;
@@ -390,7 +390,7 @@ pub fn put_case(
         put_labelled(bytes, operation_of(test), &operands, when, offset)?;
         return Ok(());
     }
-    let operands = compared(alloc, numbers)?;
+    let operands = case_operands(alloc, numbers)?;
     put_labelled(bytes, operation_of(test), &operands, when, offset)?;
     Ok(())
 }

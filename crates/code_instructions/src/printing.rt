@@ -7,12 +7,12 @@ ghost use Rattle.ztext.specs.Alphabets.{is_printable};
 ghost use Rattle.ztext.specs.Abbreviations.{encoded_with};
 ghost use Rattle.ztext.specs.Text.{encoded};
 ghost use Rattle.meaning.specs.Meaning as meaning;
+ghost use Rattle.meaning.specs.Places as places;
 ghost use Rattle.code_drafts.specs.Items as source_items;
 ghost use Rattle.code_drafts.specs.Code.{as_operand};
 ghost use Rattle.code_instructions.specs.Instructions.{character_code, prints_itself, tested_character};
 ghost use Rattle.code_encoding.specs.Instructions as spec;
 ghost use Rattle.code_encoding.specs.Bytes.{Adds, AddsCode, bytes_of_all};
-ghost use Rattle.code_encoding.specs.Bytes as definitions;
 ghost use Rattle.code_encoding.specs.Written.{addresses_of};
 
 use code_encoding::{
@@ -32,7 +32,7 @@ const PRINT: u8 = 0xB2;
 
 /// A character between the quotes of a text: `^` is a new line, `~` a double quote.
 fn character_of(byte: u8) -> u8
-    ensures { result ≡ definitions.character_of byte }
+    ensures { result ≡ places.machine_character byte }
 {
     match byte {
         b'^' => 13,
@@ -64,7 +64,7 @@ fn print_themselves(text: &[u8]) -> bool
 /// The characters of what stands between the quotes of a text; what cannot be printed is left out.
 fn characters(alloc: Global, text: &[u8]) -> Result<Vec<u8>, AllocError>
     ensures { IfOk result (λ v.
-        v.items ≡ filter is_printable (map definitions.character_of text.now)) }
+        v.items ≡ filter is_printable (map places.machine_character text.now)) }
 {
     let mut characters = Vec::with_capacity(alloc, text.len())?;
     for byte in text {
@@ -115,7 +115,7 @@ fn text_by_characters(
     text: &[u8],
 ) -> Result<Vec<u8>, AllocError>
     ensures { IfOk result (λ v. v.items ≡ encoded_with abbreviations.now
-        (filter is_printable (map definitions.character_of text.now))) }
+        (filter is_printable (map places.machine_character text.now))) }
 {
     let characters = characters(alloc, text)?;
     z_text(alloc, abbreviations, &characters)
@@ -129,7 +129,7 @@ fn quoted_text(
     text: &[u8],
 ) -> Result<Vec<u8>, AllocError>
     ensures { IfOk result (λ v. v.items ≡ encoded_with abbreviations.now
-        (filter is_printable (map definitions.character_of text.now))) }
+        (filter is_printable (map places.machine_character text.now))) }
 {
     if text.len() > SHORT_TEXT {
         return text_by_characters(alloc, abbreviations, text);
@@ -151,7 +151,7 @@ pub fn put_text(
     ensures { OnOk result (Adds bytes.old bytes.new
         (bytes_of_all (spec.plain Print [] ∷ [])
         ++ encoded_with abbreviations.now
-        (filter is_printable (map definitions.character_of text.now)))) }
+        (filter is_printable (map places.machine_character text.now)))) }
 {
     bytes.push(PRINT)?;
     let text = quoted_text(alloc, abbreviations, text)?;

@@ -9,10 +9,10 @@ use Rattle.meaning.specs.Accepted.{needs_of}
 use Rattle.meaning.specs.World.{Situation, Comes}
 use Rattle.meaning.specs.Meaning.{evaluate, evaluate_all}
 use Rattle.code_drafts.specs.Items.{Operand, pushed, number, variable, Destination, push, operands_of, is_any_pushed}
-use Rattle.code_drafts.specs.Items.{are_more_pushed, called, arguments_count, arguments_items}
+use Rattle.code_drafts.specs.Items.{are_more_pushed, call_item, arguments_count, arguments_items}
 use Rattle.code_drafts.specs.Items as items
 use Rattle.code_drafts.proofs.Counts.{arguments_length}
-use Rattle.code_items.specs.Stack.{Next, goes, delivered, enter, act, ItemState}
+use Rattle.code_items.specs.Stack.{Next, goes, deliver, enter, act, ItemState}
 use Rattle.code_items.specs.Stack as stack
 use Rattle.code_items.proofs.Running.{steps_on, Running, code, setting, RunsTo}
 use Rattle.code_items.proofs.Standing.{HasAt, split}
@@ -80,7 +80,7 @@ module _ (now : Running) where
         ∙ with_all_held os xs s words (λ taken rest. enter p rr taken (stack.caller dest rest state ∷ callers) s) held
 
     acts : (b : Bool) → (b ≡ true → is_any_pushed os ≡ true)
-        → act p full (Some (called b rr os dest)) (caller_state b m (onto_all os xs words) s)
+        → act p full (Some (call_item b rr os dest)) (caller_state b m (onto_all os xs words) s)
         ≡ entered rr xs dest m words s
     acts false some =
         with_all_held os xs s words
@@ -104,7 +104,7 @@ module _ (now : Running) where
   call_piece : (b : Bool) (rr : ℕ) (vs : Values) → ArgumentsOk now vs → are_more_pushed (operands_of vs) ≡ b
       → (s : Situation) (n pc m : ℕ) (words : List ℕ) (dest : Destination)
       → HasAt (code now) pc (arguments_items b pc vs) m
-      → slice_get (code now) m ≡ Some (called b rr (operands_of vs) dest)
+      → slice_get (code now) m ≡ Some (call_item b rr (operands_of vs) dest)
       → length words + operands 0 (needs_of vs) ≤ 48
       → Leads now s n (stands now pc words s) (evaluate (setting now) (source.call rr vs) s)
       (lands now dest (m + 1) words)
@@ -119,12 +119,12 @@ module _ (now : Running) where
       starts _ _ (sym (arrives b os m words xs s1)) (record {
         does = λ k _ hd.
             steps_on p full from _ _
-            (steps_there b m (onto_all os xs words) s1 (called b rr os dest) h
+            (steps_there b m (onto_all os xs words) s1 (call_item b rr os dest) h
             ∙ acts rr os dest m words xs s1 held b (λ e. any_of_more os (more ∙ e)))
             (lower_calls rr xs (stack.caller dest words (here now m words s1) ∷ callers) s1 k (omega (arith, room))
             (λ v last e2 same low.
             subst (λ l. RunsTo p full
-            (delivered dest v (here now (m + 1) words (record { locals = l; world = last.world }))) (k v last)) same
+            (deliver dest v (here now (m + 1) words (record { locals = l; world = last.world }))) (k v last)) same
             (delivers now dest (m + 1) words v last (k v last) (omega (arith, le, some)) (hd v last e2 low))));
       }))
 

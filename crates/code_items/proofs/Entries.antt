@@ -8,7 +8,7 @@ use Rattle.meaning.specs.Resolved as source
 use Rattle.meaning.specs.World.{Situation, Comes, to, over, Part, bound, ◌>>=◌, give, read_entry}
 use Rattle.meaning.specs.Meaning.{evaluate}
 use Rattle.code_drafts.specs.Items.{Item, Operand, pushed, number, variable, Destination, aside, alone, left_of}
-use Rattle.code_drafts.specs.Items.{value_count, value_items, if_pushed, loaded, index_place, stored, branch_true, push}
+use Rattle.code_drafts.specs.Items.{value_count, value_items, if_pushed, entry_item, index_place, assign_entry_item, branch_true, push}
 use Rattle.code_drafts.specs.Items.{is_any_pushed, arguments_items}
 use Rattle.code_drafts.specs.Items as items
 use Rattle.code_items.specs.Stack.{goes, with_operand, gives, assigned_entry}
@@ -59,7 +59,7 @@ module _ (now : Running) where
       (keeps_read_entry full width a x) le
 
   loaded_by : (width : Width) (a : ℕ) (o : Operand) (x : ℕ) (s : Situation) (n m : ℕ) (words : List ℕ)
-      (d : Destination) → slice_get (code now) m ≡ Some (loaded width a o d) → Held o x s → length words + 1 ≤ 48
+      (d : Destination) → slice_get (code now) m ≡ Some (entry_item width a o d) → Held o x s → length words + 1 ≤ 48
       → Leads now s n (arrived now (is_any_pushed (o ∷ [])) (o ∷ []) m words (x ∷ []) s) (read_entry width a x s)
       (lands now d (m + 1) words)
   loaded_by width a pushed x s n m words d h held le =
@@ -69,7 +69,7 @@ module _ (now : Running) where
   loaded_by width a (variable z) x s n m words d h held le = loads width a (variable z) x s n m words d h held le
 
   loaded_does : (width : Width) (a : ℕ) (i : Value)
-      → Does now (more i none) (with_one (read_entry width a)) (loaded width a (alone i))
+      → Does now (more i none) (with_one (read_entry width a)) (entry_item width a (alone i))
   loaded_does width a i s n m words d [] h held le = absurd held
   loaded_does width a i s n m words d (x ∷ y ∷ xs) h held le = absurd held.1
   loaded_does width a i s n m words d (x ∷ []) h held le =
@@ -106,7 +106,7 @@ module _ (now : Running) where
       (keeps_assigned_entry full width a x y) le
 
   stored_by : (width : Width) (a : ℕ) (o q : Operand) (x y : ℕ) (s : Situation) (n m : ℕ) (words : List ℕ)
-      (d : Destination) → slice_get (code now) m ≡ Some (stored width a o q d) → AllHeld (o ∷ q ∷ []) (x ∷ y ∷ []) s
+      (d : Destination) → slice_get (code now) m ≡ Some (assign_entry_item width a o q d) → AllHeld (o ∷ q ∷ []) (x ∷ y ∷ []) s
       → length words + 1 ≤ 48
       → Leads now s n (arrived now (is_any_pushed (o ∷ q ∷ [])) (o ∷ q ∷ []) m words (x ∷ y ∷ []) s)
       (assigned_entry width a x y s) (lands now d (m + 1) words)
@@ -130,7 +130,7 @@ module _ (now : Running) where
       stores width a (variable z) (variable u) x y s n m words d h held le
 
   stored_does : (width : Width) (a : ℕ) (i v : Value)
-      → Does now (more i (more v none)) (with_two (assigned_entry width a)) (stored width a (left_of i v) (alone v))
+      → Does now (more i (more v none)) (with_two (assigned_entry width a)) (assign_entry_item width a (left_of i v) (alone v))
   stored_does width a i v s n m words d [] h held le = absurd held
   stored_does width a i v s n m words d (x ∷ []) h held le = absurd held.1
   stored_does width a i v s n m words d (x ∷ y ∷ z ∷ xs) h held le = absurd held.1.1
@@ -140,10 +140,10 @@ module _ (now : Running) where
   pub entry_ok : (width : Width) (a : ℕ) (i : Value) → ValueOk now i → ValueOk now (source.entry width a i)
   entry_ok width a i ok =
       last_aside_ok now (more i none) (arguments_more now i none ok (arguments_none now)) (with_one (read_entry width a))
-      (loaded width a (alone i)) (loaded_does width a i) (source.entry width a i)
-      (λ at d. sym (append_assoc (if_pushed (alone i) (value_items at i aside) []) [] (loaded width a (alone i) d ∷ [])))
+      (entry_item width a (alone i)) (loaded_does width a i) (source.entry width a i)
+      (λ at d. sym (append_assoc (if_pushed (alone i) (value_items at i aside) []) [] (entry_item width a (alone i) d ∷ [])))
       (λ at t when. sym (append_assoc (if_pushed (alone i) (value_items at i aside) []) []
-      (loaded width a (alone i) push ∷ branch_true pushed when t ∷ [])))
+      (entry_item width a (alone i) push ∷ branch_true pushed when t ∷ [])))
       (λ s. one_means (evaluate (setting now) i s) (read_entry width a)) refl
 
   both_items : (i v : Value) (at : ℕ) (tail : List Item)
@@ -162,7 +162,7 @@ module _ (now : Running) where
   assign_entry_ok width a i v oki okv =
       last_aside_ok now (more i (more v none))
       (arguments_more now i (more v none) oki (arguments_more now v none okv (arguments_none now)))
-      (with_two (assigned_entry width a)) (stored width a (left_of i v) (alone v)) (stored_does width a i v)
-      (source.assign_entry width a i v) (λ at d. both_items i v at (stored width a (left_of i v) (alone v) d ∷ []))
-      (λ at t when. both_items i v at (stored width a (left_of i v) (alone v) push ∷ branch_true pushed when t ∷ []))
+      (with_two (assigned_entry width a)) (assign_entry_item width a (left_of i v) (alone v)) (stored_does width a i v)
+      (source.assign_entry width a i v) (λ at d. both_items i v at (assign_entry_item width a (left_of i v) (alone v) d ∷ []))
+      (λ at t when. both_items i v at (assign_entry_item width a (left_of i v) (alone v) push ∷ branch_true pushed when t ∷ []))
       (λ s. two_means (evaluate (setting now) i s) (evaluate (setting now) v) (assigned_entry width a)) refl

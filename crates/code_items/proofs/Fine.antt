@@ -12,7 +12,7 @@ use Rattle.meaning.specs.Accepted.{IsVariable, IsValue, AreValues}
 use Rattle.code_drafts.specs.Items.{Item, Operand, pushed, number, variable, Destination, push, into, aside, nowhere}
 use Rattle.code_drafts.specs.Items.{prefix_operand, operand_of, operands_of, if_pushed, change, branch_true}
 use Rattle.code_drafts.specs.Items.{comparison_test, same_count, same_items}
-use Rattle.code_drafts.specs.Items.{truth_count, kept_count, moved, truth_items, after_items, kept_items}
+use Rattle.code_drafts.specs.Items.{truth_count, kept_count, move_items, truth_items, after_items, kept_items}
 use Rattle.code_drafts.specs.Items as items
 use Rattle.code_items.specs.Laws.{IsOperand, IsDestination, IsItem, IsTestedValue}
 
@@ -84,7 +84,7 @@ module _ (here : Bounds) where
   -- Parts
 
   pub moved_fine : (o : Operand) (d : Destination) → IsOperand p locals o → IsDestination p locals d
-      → Fine (moved o d)
+      → Fine (move_items o d)
   moved_fine o nowhere ho hd = nothing
   moved_fine o push ho hd = first _ _ (ho, hd) nothing
   moved_fine o (into x) ho hd = first _ _ (ho, hd) nothing

@@ -13,11 +13,11 @@ use Rattle.meaning.specs.Resolved.{Value, Values, none, more}
 use Rattle.meaning.specs.Resolved as source
 use Rattle.meaning.specs.Accepted.{IsVariable, IsValue, AreValues}
 use Rattle.code_drafts.specs.Items.{Item, Operand, pushed, number, variable, Destination, push, into, aside}
-use Rattle.code_drafts.specs.Items.{right_place, loaded, index_place, stored}
-use Rattle.code_drafts.specs.Items.{operated, operand_of, operands_of, alone}
+use Rattle.code_drafts.specs.Items.{right_place, entry_item, index_place, assign_entry_item}
+use Rattle.code_drafts.specs.Items.{operation_item, operand_of, operands_of, alone}
 use Rattle.code_drafts.specs.Items.{left_of, if_pushed, is_direct, same_count, comparison_when, equality_when, truth_count}
 use Rattle.code_drafts.specs.Items.{value_count, operand_count, operands_count, branch_count, many_count, also_count}
-use Rattle.code_drafts.specs.Items.{same_items, is_any_pushed, are_more_pushed, argument_place, called}
+use Rattle.code_drafts.specs.Items.{same_items, is_any_pushed, are_more_pushed, argument_place, call_item}
 use Rattle.code_drafts.specs.Items.{arguments_count, arguments_items}
 use Rattle.code_drafts.specs.Items.{value_items, operands_items, branch_items, many_items, also_items}
 use Rattle.code_drafts.specs.Items as items
@@ -60,12 +60,12 @@ module _ (here : Bounds) where
       two_fine here (left_of a b) (alone b) _ _ tail (value_count a push) (value_count b push) at lt
       (λ lt. fa.value at push tt lt) (λ lt. fb.value (at + operand_count a (left_of a b)) push tt lt) ht
 
-  call_item : (r : ℕ) (vs : Values) → IsValue p locals (source.call r vs) → (d : Destination)
+  call_fine : (r : ℕ) (vs : Values) → IsValue p locals (source.call r vs) → (d : Destination)
       → IsDestination p locals d
-      → IsItem p locals count (called (are_more_pushed (operands_of vs)) r (operands_of vs) d)
-  call_item r vs h d hd = go (are_more_pushed (operands_of vs)) refl
+      → IsItem p locals count (call_item (are_more_pushed (operands_of vs)) r (operands_of vs) d)
+  call_fine r vs h d hd = go (are_more_pushed (operands_of vs)) refl
     where
-      go : (b : Bool) → are_more_pushed (operands_of vs) ≡ b → IsItem p locals count (called b r (operands_of vs) d)
+      go : (b : Bool) → are_more_pushed (operands_of vs) ≡ b → IsItem p locals count (call_item b r (operands_of vs) d)
       go true e =
           let n = operands_counted vs in (
             h.0,
@@ -83,10 +83,10 @@ module _ (here : Bounds) where
       → FineValue (source.call r vs)
   call_fine r vs h f = record {
     value = λ at d hd lt. last here (arguments_items (are_more_pushed (operands_of vs)) at vs) _
-        (f.arguments (are_more_pushed (operands_of vs)) at (omega (arith, lt))) (call_item r vs h d hd);
+        (f.arguments (are_more_pushed (operands_of vs)) at (omega (arith, lt))) (call_fine r vs h d hd);
     branch = λ at when t lt le. last_two here (arguments_items (are_more_pushed (operands_of vs)) at vs) _ _
         (f.arguments (are_more_pushed (operands_of vs)) at (omega (arith, lt)))
-        (call_item r vs h push tt) (true_fine here pushed when t tt le);
+        (call_fine r vs h push tt) (true_fine here pushed when t tt le);
   }
 
   pub prefixed_fine : (op : Prefix) (v : Value) → IsValue p locals v → FineValue v → FineValue (source.prefixed op v)
@@ -129,7 +129,7 @@ module _ (here : Bounds) where
 
   operated_fine : (op : Binary) (o q : Operand) (d : Destination) → (op ≡ binaries.AndAlso → ⊥)
       → (op ≡ binaries.OrElse → ⊥) → IsOperand p locals o → IsOperand p locals q → IsDestination p locals d
-      → IsItem p locals count (operated (right_place op o) op o q d)
+      → IsItem p locals count (operation_item (right_place op o) op o q d)
   operated_fine binaries.AndAlso o q d no_and no_or ho hq hd = absurd (no_and refl)
   operated_fine binaries.OrElse o q d no_and no_or ho hq hd = absurd (no_or refl)
   operated_fine binaries.Subtract pushed pushed d no_and no_or ho hq hd = (ho, hd)
@@ -147,7 +147,7 @@ module _ (here : Bounds) where
 
   operation_fine : (op : Binary) (a b : Value) (d : Destination) → (op ≡ binaries.AndAlso → ⊥)
       → (op ≡ binaries.OrElse → ⊥) → IsValue p locals a → IsValue p locals b → IsDestination p locals d
-      → IsItem p locals count (operated (right_place op (left_of a b)) op (left_of a b) (alone b) d)
+      → IsItem p locals count (operation_item (right_place op (left_of a b)) op (left_of a b) (alone b) d)
   operation_fine op a b d no_and no_or ha hb hd =
       operated_fine op (left_of a b) (alone b) d no_and no_or (operand_fine here a (more b none) ha)
       (operand_fine here b none hb) hd
@@ -254,14 +254,14 @@ module _ (here : Bounds) where
   argument_fine false false = tt
 
   loaded_fine : (width : Width) (a : ℕ) (o : Operand) (d : Destination) → a < length p.arrays → IsOperand p locals o
-      → IsDestination p locals d → IsItem p locals count (loaded width a o d)
+      → IsDestination p locals d → IsItem p locals count (entry_item width a o d)
   loaded_fine width a pushed d ha ho hd = (ha, hd)
   loaded_fine width a (number n) d ha ho hd = (ha, ho, hd)
   loaded_fine width a (variable x) d ha ho hd = (ha, ho, hd)
 
   stored_fine : (width : Width) (a : ℕ) (o q : Operand) (d : Destination) → a < length p.arrays
       → IsOperand p locals o → IsOperand p locals q → IsDestination p locals d
-      → IsItem p locals count (stored width a o q d)
+      → IsItem p locals count (assign_entry_item width a o q d)
   stored_fine width a o q d ha ho hq hd = go (is_any_pushed (o ∷ q ∷ [])) refl
     where
       go : (b : Bool) → is_any_pushed (o ∷ q ∷ []) ≡ b → IsItem p locals count
@@ -299,7 +299,7 @@ module _ (here : Bounds) where
       place = index_place (alone v)
 
       item : (d : Destination) → IsDestination p locals d
-          → IsItem p locals count (stored width a (left_of i v) (alone v) d)
+          → IsItem p locals count (assign_entry_item width a (left_of i v) (alone v) d)
       item d hd = stored_fine width a (left_of i v) (alone v) d ha (operand_fine here i (more v none) hi)
           (operand_fine here v none hv) hd
 

@@ -4,7 +4,7 @@ use Rattle.std.specs.Prelude.{if◌then◌else◌}
 use Rattle.meaning.specs.World.{Outcome, Situation, Comes, to, Part, bound, ◌>>=◌, units, with_value}
 use Rattle.meaning.specs.Meaning.{is_true}
 use Rattle.code_drafts.specs.Items.{Destination, push, into, aside, nowhere, agrees}
-use Rattle.code_items.specs.Stack.{Next, goes, delivered, ItemState}
+use Rattle.code_items.specs.Stack.{Next, goes, deliver, ItemState}
 use Rattle.code_items.proofs.Acts.{hand, hand_bound, Lower, bound_bound}
 use Rattle.code_items.proofs.Running.{fits, Running, RunsTo}
 
@@ -88,7 +88,7 @@ module _ (now : Running) where
   goes_by when t q words v s = stands (if agrees (is_true v) when then t else q) words s
 
   pub delivers : (d : Destination) (q : ℕ) (words : List ℕ) (v : ℕ) (s : Situation) (o : Outcome)
-      → length words + 1 ≤ 48 → RunsTo p full (lands d q words v s) o → RunsTo p full (delivered d v (here q words s)) o
+      → length words + 1 ≤ 48 → RunsTo p full (lands d q words v s) o → RunsTo p full (deliver d v (here q words s)) o
   delivers push q words v s o le h = fits p full (here q (v ∷ words) s) o (omega (arith, le)) h
   delivers (into x) q words v s o le h = h
   delivers aside q words v s o le h = h

@@ -13,12 +13,12 @@ use Rattle.meaning.specs.Accepted.{need_of}
 use Rattle.meaning.specs.World.{Situation, to, ◌>>=◌, give, value_in}
 use Rattle.meaning.specs.Meaning.{truth, is_true, operate, with_prefix, evaluate}
 use Rattle.code_drafts.specs.Items.{Operand, pushed, number, variable, Destination, push, aside, right_place}
-use Rattle.code_drafts.specs.Items.{operated, is_zero}
+use Rattle.code_drafts.specs.Items.{operation_item, is_zero}
 use Rattle.code_drafts.specs.Items.{alone, left_of, if_pushed, branch_true, agrees, operand_count}
 use Rattle.code_drafts.specs.Items.{branch_count, value_items, branch_items, alone_items}
 use Rattle.code_drafts.specs.Items as items
 use Rattle.code_drafts.proofs.Counts.{branch_length, alone_length}
-use Rattle.code_items.specs.Stack.{with_operand, delivered, gives}
+use Rattle.code_items.specs.Stack.{with_operand, deliver, gives}
 use Rattle.code_items.proofs.Acts.{keeps_give, keeps_operate}
 use Rattle.code_items.proofs.Running.{Running, code, setting}
 use Rattle.code_items.proofs.Standing.{HasAt, split}
@@ -44,7 +44,7 @@ module _ (now : Running) where
       on now (evaluate (setting now) v) _ (operand_does now v none ok s n pc m words has (omega (arith, le)))
       (λ x s1 e1.
       one now m words dest (items.apply_prefix op (alone v) dest) (give (with_prefix op x)) (onto (alone v) x words) h
-      (with_held (alone v) x s1 words (λ y rest. delivered dest (with_prefix op y) (here now (m + 1) rest s1))
+      (with_held (alone v) x s1 words (λ y rest. deliver dest (with_prefix op y) (here now (m + 1) rest s1))
       (operand_held now v none s s1 x e1)) (keeps_give full (with_prefix op x)) (omega (arith, le)))
 
   operate_item : (op : Binary) (oa ob : Operand) (x y : ℕ) (s : Situation) (n m : ℕ) (words : List ℕ)
@@ -77,7 +77,7 @@ module _ (now : Running) where
       (le : length words + 1 ≤ 48) where
     -- by that place, and the right operand
     abbrev FromPlace : Destination → Operand → Type 0
-    FromPlace place ob = slice_get (code now) m ≡ Some (operated place op oa ob dest)
+    FromPlace place ob = slice_get (code now) m ≡ Some (operation_item place op oa ob dest)
         → AllHeld (oa ∷ ob ∷ []) (x ∷ y ∷ []) s
         → Leads now s n (placed_at now place ob m (onto oa x words) y s) (operate op x y s)
         (lands now dest (m + 1) words)
@@ -93,7 +93,7 @@ module _ (now : Running) where
     from_aside (variable z) h held = operate_item op oa (variable z) x y s n m words dest h held le
 
   operated_item : (op : Binary) (oa ob : Operand) (x y : ℕ) (s : Situation) (n m : ℕ) (words : List ℕ)
-      (dest : Destination) → slice_get (code now) m ≡ Some (operated (right_place op oa) op oa ob dest)
+      (dest : Destination) → slice_get (code now) m ≡ Some (operation_item (right_place op oa) op oa ob dest)
       → AllHeld (oa ∷ ob ∷ []) (x ∷ y ∷ []) s → length words + 1 ≤ 48
       → Leads now s n (placed_at now (right_place op oa) ob m (onto oa x words) y s) (operate op x y s)
       (lands now dest (m + 1) words)
@@ -176,7 +176,7 @@ module _ (now : Running) where
         let m = placed_end op a b pc in
         as_part now _ _ (means s)
         (placed_operands now {behind = lands now dest q words} op a b oka okb s n pc q words
-        (operated (right_place op (left_of a b)) op (left_of a b) (alone b) dest ∷ []) (operate op)
+        (operation_item (right_place op (left_of a b)) op (left_of a b) (alone b) dest ∷ []) (operate op)
         (subst (λ l. HasAt (code now) pc l q) (ev pc dest) has) le (λ x y s2 h held.
         at_place now (λ z. lands now dest z words) (m + 1) q h.1
         (operated_item op (left_of a b) (alone b) x y s2 n m words dest h.0 held (omega (arith, le)))));
@@ -184,7 +184,7 @@ module _ (now : Running) where
         let m = placed_end op a b pc in
         as_part now _ _ (means s)
         (placed_operands now {behind = goes_by now when t q words} op a b oka okb s n pc q words
-        (operated (right_place op (left_of a b)) op (left_of a b) (alone b) push ∷ branch_true pushed when t ∷ [])
+        (operation_item (right_place op (left_of a b)) op (left_of a b) (alone b) push ∷ branch_true pushed when t ∷ [])
         (operate op)
         (subst (λ l. HasAt (code now) pc l q) (eb pc t when) has) le (λ x y s2 h held.
         by_word now _ (m + 1) t q words when

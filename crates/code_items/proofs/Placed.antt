@@ -9,7 +9,7 @@ use Rattle.meaning.specs.Accepted.{need_of}
 use Rattle.meaning.specs.World.{Situation, to, Part, ◌>>=◌, value_in}
 use Rattle.meaning.specs.Meaning.{evaluate}
 use Rattle.code_drafts.specs.Items.{Item, Operand, pushed, number, variable, Destination, push, alone, left_of}
-use Rattle.code_drafts.specs.Items.{if_pushed, operand_count, value_count, value_items, right_place, operated}
+use Rattle.code_drafts.specs.Items.{if_pushed, operand_count, value_count, value_items, right_place, operation_item}
 use Rattle.code_drafts.specs.Items.{prefix_operand, operand_of, change}
 use Rattle.code_drafts.proofs.CountedForms.{if_length}
 use Rattle.code_drafts.proofs.Counts.{value_length}
@@ -24,7 +24,7 @@ use Rattle.code_items.proofs.Evaluated.{ValueOk, operand_held, operand_does, com
 abbrev pub operated_items : ℕ → Binary → Value → Value → Destination → List Item → List Item
 operated_items at op a b d rest = if_pushed (left_of a b) (value_items at a push) []
     ++ (if_pushed (alone b) (value_items (at + operand_count a (left_of a b)) b (right_place op (left_of a b))) []
-    ++ operated (right_place op (left_of a b)) op (left_of a b) (alone b) d ∷ rest)
+    ++ operation_item (right_place op (left_of a b)) op (left_of a b) (alone b) d ∷ rest)
 
 -- after the operands
 abbrev pub placed_end : Binary → Value → Value → ℕ → ℕ

@@ -6,9 +6,9 @@ use Rattle.std.proofs.lemmas.Bool.{lt-ltb}
 use Rattle.meaning.specs.World.{Outcome, Situation, Comes, to, over, Part, ◌>>=◌, give, with_value}
 use Rattle.meaning.specs.Meaning.{truth, is_true}
 use Rattle.code_drafts.specs.Items.{Item, Operand, pushed, number, Destination, push, into, aside, nowhere, Test}
-use Rattle.code_drafts.specs.Items.{is_zero, branch_true, agrees, moved}
+use Rattle.code_drafts.specs.Items.{is_zero, branch_true, agrees, move_items}
 use Rattle.code_drafts.specs.Items as items
-use Rattle.code_items.specs.Stack.{Next, goes, stuck, with_operand, delivered, after_part, holds, act}
+use Rattle.code_items.specs.Stack.{Next, goes, stuck, with_operand, deliver, after_part, holds, act}
 use Rattle.code_items.specs.Stack as stack
 use Rattle.code_items.proofs.Acts.{hand, Lower, Kept, Keeps, keeps_give}
 use Rattle.code_items.proofs.Running.{ends_there, steps_on, Running, code, RunsTo}
@@ -26,7 +26,7 @@ module _ (now : Running) where
       (f : Part ℕ) (before : List ℕ)
       → slice_get (code now) m ≡ Some i
       → act p full (Some i) (here_with now w m before s) ≡ after_part (f s)
-      (λ v last. delivered d v (here now (m + 1) words last))
+      (λ v last. deliver d v (here now (m + 1) words last))
       → Keeps full f → length words + 1 ≤ 48
       → Leads now s n (goes (here_with now w m before s)) (f s) (lands now d (m + 1) words)
   one_with {s = s} w m words d i f before h e keeps le =
@@ -39,7 +39,7 @@ module _ (now : Running) where
       reach : (k : ℕ → Situation → Outcome) (c : Comes ℕ)
           → ((v : ℕ) (last : Situation) → c ≡ to v last → Lower full s last
           → RunsTo p full (lands now d (m + 1) words v last) (k v last)) → Kept full s c
-          → RunsTo p full (after_part c (λ v last. delivered d v (here now (m + 1) words last))) (hand c k)
+          → RunsTo p full (after_part c (λ v last. deliver d v (here now (m + 1) words last))) (hand c k)
       reach k (to v last) hd low = delivers now d (m + 1) words v last (k v last) le (hd v last refl low)
       reach k (over outcome) hd low = ends_there p full outcome
 
@@ -47,7 +47,7 @@ module _ (now : Running) where
       (before : List ℕ)
       → slice_get (code now) m ≡ Some i
       → act p full (Some i) (here now m before s) ≡ after_part (f s)
-      (λ v last. delivered d v (here now (m + 1) words last))
+      (λ v last. deliver d v (here now (m + 1) words last))
       → Keeps full f → length words + 1 ≤ 48 → Leads now s n (stands now m before s) (f s) (lands now d (m + 1) words)
   one m words d i f before h e keeps le = one_with None m words d i f before h e keeps le
 
@@ -131,19 +131,19 @@ module _ (now : Running) where
 
   -- an operand that stands in place is moved
   pub moved_does : {s : Situation} {n : ℕ} (o : Operand) (v : ℕ) (d : Destination) (pc q : ℕ) (words : List ℕ)
-      → HasAt (code now) pc (moved o d) q → ((k : ℕ → List ℕ → Next) → with_operand o s words k ≡ k v words)
+      → HasAt (code now) pc (move_items o d) q → ((k : ℕ → List ℕ → Next) → with_operand o s words k ≡ k v words)
       → length words + 1 ≤ 48 → Leads now s n (stands now pc words s) (to v s) (lands now d q words)
   moved_does o v nowhere pc q words has e le =
       begins_at now q pc words (sym has) (given now {behind = lands now nowhere q words} v)
   moved_does o v push pc q words has e le = at_place now (λ x. lands now push x words) (pc + 1) q has.1
       (one pc words push (items.move o push) (give v) words has.0
-      (e (λ v rest. delivered push v (here now (pc + 1) rest _))) (keeps_give full v) le)
+      (e (λ v rest. deliver push v (here now (pc + 1) rest _))) (keeps_give full v) le)
   moved_does o v (into x) pc q words has e le = at_place now (λ y. lands now (into x) y words) (pc + 1) q has.1
       (one pc words (into x) (items.move o (into x)) (give v) words has.0
-      (e (λ v rest. delivered (into x) v (here now (pc + 1) rest _))) (keeps_give full v) le)
+      (e (λ v rest. deliver (into x) v (here now (pc + 1) rest _))) (keeps_give full v) le)
   moved_does o v aside pc q words has e le = at_place now (λ y. lands now aside y words) (pc + 1) q has.1
       (one pc words aside (items.move o aside) (give v) words has.0
-      (e (λ v rest. delivered aside v (here now (pc + 1) rest _))) (keeps_give full v) le)
+      (e (λ v rest. deliver aside v (here now (pc + 1) rest _))) (keeps_give full v) le)
 
   -- one item `move` of a number
   pub number_does : {s : Situation} {n : ℕ} (w : ℕ) (d : Destination) (m : ℕ) (words : List ℕ)

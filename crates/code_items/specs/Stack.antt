@@ -79,11 +79,11 @@ abbrev pub within : ItemState → Next
 within s = if nat_le (length s.stack) 48 then goes s else stuck
 
 -- a word goes to its destination
-abbrev pub delivered : Destination → ℕ → ItemState → Next
-delivered push v s = within (record s { stack = v ∷ s.stack })
-delivered (into x) v s = goes (record s { situation = with_value x v s.situation })
-delivered aside v s = goes (record s { put_aside = Some v })
-delivered nowhere v s = goes s
+abbrev pub deliver : Destination → ℕ → ItemState → Next
+deliver push v s = within (record s { stack = v ∷ s.stack })
+deliver (into x) v s = goes (record s { situation = with_value x v s.situation })
+deliver aside v s = goes (record s { put_aside = Some v })
+deliver nowhere v s = goes s
 
 -- a part of the meaning is done, and then what follows it, if it does not end the run
 abbrev pub after_part : {A : Type 0} → Comes A → (A → Situation → Next) → Next
@@ -97,7 +97,7 @@ after s stack situation =
 
 -- a part gives a word, which goes to its destination
 abbrev pub gives : Part ℕ → Destination → List ℕ → ItemState → Next
-gives f d stack s = after_part (f s.situation) (λ v situation. delivered d v (after s stack situation))
+gives f d stack s = after_part (f s.situation) (λ v situation. deliver d v (after s stack situation))
 
 -- a part prints, reads a line, or changes objects
 abbrev pub prints : Part (Unit {0}) → List ℕ → ItemState → Next
@@ -304,7 +304,7 @@ enter p r arguments callers situation =
 -- when the call of Main returns, the story quits
 abbrev pub return_to : List Caller → ℕ → World → Next
 return_to [] v w = ends (ended places.Quit w)
-return_to (c ∷ callers) v w = delivered c.destination v (record {
+return_to (c ∷ callers) v w = deliver c.destination v (record {
   routine = c.routine;
   place = c.place;
   stack = c.stack;
@@ -324,9 +324,9 @@ caller d stack s =
 abbrev pub act : ProgramOf → ℕ → Option Item → ItemState → Next
 act p full None s = stuck
 act p full (Some (items.move o d)) s =
-    with_operand o s.situation s.stack (λ v stack. delivered d v (after s stack s.situation))
+    with_operand o s.situation s.stack (λ v stack. deliver d v (after s stack s.situation))
 act p full (Some (items.apply_prefix op o d)) s =
-    with_operand o s.situation s.stack (λ v stack. delivered d (with_prefix op v) (after s stack s.situation))
+    with_operand o s.situation s.stack (λ v stack. deliver d (with_prefix op v) (after s stack s.situation))
 act p full (Some (items.operate op a b d)) s =
     with_operand b s.situation s.stack
     (λ y rest. with_operand a s.situation rest (λ x stack. gives (meaning.operate op x y) d stack s))
@@ -334,7 +334,7 @@ act p full (Some (items.operate_aside op o d)) s =
     with_aside s.put_aside
     (λ y. with_operand o s.situation s.stack (λ x stack. gives (meaning.operate op x y) d stack s))
 act p full (Some (items.step op x d)) s =
-    delivered d (stepped op (value_in x s.situation))
+    deliver d (stepped op (value_in x s.situation))
     (after s s.stack (with_value x (stepped op (value_in x s.situation)) s.situation))
 act p full (Some (items.entry width a o d)) s =
     with_operand o s.situation s.stack (λ i stack. gives (read_entry width a i) d stack s)

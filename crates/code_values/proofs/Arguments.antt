@@ -9,7 +9,7 @@ use Rattle.meaning.specs.Views.{value_of, values_of}
 use Rattle.code_drafts.specs.Items.{Item, Operand, Destination, operand_of, operands_of, if_pushed, is_any_pushed}
 use Rattle.code_drafts.specs.Items.{argument_place, value_count, value_items, arguments_items}
 use Rattle.code_drafts.specs.Writing.{WritesBefore}
-use Rattle.code_values.specs.ValueWriting.{placed}
+use Rattle.code_values.specs.ValueWriting.{operand_items}
 use Rattle.code_drafts.proofs.WrittenItems.{both, as_items}
 use Rattle.code_values.proofs.Values.{placed_length}
 
@@ -66,13 +66,13 @@ module _ (xs : List code_value.Value) (done : ℕ) (x : code_value.Value) (o : O
   pub argument_round : (c c1 c2 : List Item) (several : Bool) (place : Destination)
       → place ≡ argument_place several behind
       → WritesBefore c c1 (λ n at. arguments_items several at (from xs (length xs - done)))
-      → WritesBefore c1 c2 (placed place o (value_of x))
+      → WritesBefore c1 c2 (operand_items place o (value_of x))
       → WritesBefore c c2 (λ n at. arguments_items several at (from xs (length xs - (done + 1))))
   argument_round c c1 c2 several place ep many w =
       let P : ℕ → Type 0 = λ k. WritesBefore c c1 (λ n at. arguments_items several at (from xs k)) in
       let Q : ℕ → Type 0 = λ k. WritesBefore c c2 (λ n at. arguments_items several at (from xs k)) in
-      let there : WritesBefore c1 c2 (placed (argument_place several behind) o (value_of x)) =
-      subst (λ p. WritesBefore c1 c2 (placed p o (value_of x))) ep w in
+      let there : WritesBefore c1 c2 (operand_items (argument_place several behind) o (value_of x)) =
+      subst (λ p. WritesBefore c1 c2 (operand_items p o (value_of x))) ep w in
       let behind_it = from xs (suc i) in
       subst Q after
       (as_items (λ n at _. ap (λ p. argument_at several x p behind behind_it at) later

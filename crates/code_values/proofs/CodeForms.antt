@@ -11,7 +11,7 @@ use Rattle.meaning.specs.Resolved.{Value, Values}
 use Rattle.meaning.specs.Resolved as source
 use Rattle.meaning.specs.Accepted.{count_of}
 use Rattle.code_drafts.specs.Items.{Item, Operand, Destination, Test, pushed, into, aside, branch_true, alone}
-use Rattle.code_drafts.specs.Items.{operands_of, right_place, operated, are_more_pushed, called, arguments_items}
+use Rattle.code_drafts.specs.Items.{operands_of, right_place, operation_item, are_more_pushed, call_item, arguments_items}
 use Rattle.code_drafts.specs.Items.{if_pushed, operands_items, same_items, comparison_test, comparison_when}
 use Rattle.code_drafts.specs.Items.{equality_when, same}
 use Rattle.code_drafts.specs.Items as items
@@ -22,7 +22,7 @@ use Rattle.code_drafts.specs.declared.item.Operand as code_operand
 use Rattle.code_drafts.specs.declared.wanted.Wanted.{Wanted}
 use Rattle.code_drafts.specs.declared.wanted.Wanted.TheVariants.{Word, Branch}
 use Rattle.code_drafts.specs.Writing.{wanted_items, alones, ReducesWord, ReducesTruth, WritesBefore}
-use Rattle.code_values.specs.ValueWriting.{pushes, placed, folded_items, ReducesLink, ReducesComparison, ReducesEquality}
+use Rattle.code_values.specs.ValueWriting.{pushes, operand_items, folded_items, ReducesLink, ReducesComparison, ReducesEquality}
 use Rattle.code_values.proofs.OperationForms.{not_logical, operate_link, compare_link}
 use Rattle.code_values.proofs.Values.{call_more, and_link_at, or_link_at}
 use Rattle.code_values.proofs.Assigned.{assign_nowhere, assign_pushed, assign_kept, assign_aside}
@@ -70,7 +70,7 @@ assigned_aside c c1 c2 c3 c4 wanted x v d is reduces e2 e3 w =
 pub call_written : (c c1 c2 c3 : List Item) (wanted : Wanted) (d : Destination) (r : ℕ) (vs : Values)
     (none os : List code_operand.Operand) (several : Bool) (i : Item) → none ≡ [] → ReducesWord c c1 wanted d
     → as_operands os ≡ as_operands none ++ operands_of vs → several ≡ are_more_pushed (as_operands os)
-    → i ≡ called several r (as_operands os) d → c2 ≡ c1 ++ i ∷ []
+    → i ≡ call_item several r (as_operands os) d → c2 ≡ c1 ++ i ∷ []
     → WritesBefore c2 c3 (λ n at. arguments_items several at vs)
     → WritesBefore c c3 (wanted_items wanted (source.call r vs))
 call_written c c1 c2 c3 wanted d r vs none os several i empty reduces added counted item e w =
@@ -79,7 +79,7 @@ call_written c c1 c2 c3 wanted d r vs none os several i empty reduces added coun
     let so = counted ∙ ap are_more_pushed are in
     call_more c c1 c2 c3 wanted d r vs reduces
     (e ∙ ap (λ x. c1 ++ x ∷ [])
-    (item ∙ ap (λ l. called several r l d) are ∙ ap (λ b. called b r (operands_of vs) d) so))
+    (item ∙ ap (λ l. call_item several r l d) are ∙ ap (λ b. call_item b r (operands_of vs) d) so))
     (subst (λ b. WritesBefore c2 c3 (λ n at. arguments_items b at vs)) so w)
 
 -- Operations
@@ -103,13 +103,13 @@ or_written c c1 c2 wanted w when target end op o b is reduces ee wb first =
 pub operation_written : (c c1 c2 c3 : List Item) (wanted : Wanted) (d place : Destination) (op : Binary)
     (o ob : Operand) (b : Value) (i : Item) → (op ≡ binaries.AndAlso → ⊥) → (op ≡ binaries.OrElse → ⊥) → ReducesWord c
     c1 wanted d
-    → ob ≡ alone b → place ≡ right_place op o → i ≡ operated place op o ob d → c2 ≡ c1 ++ i ∷ []
-    → WritesBefore c2 c3 (placed place ob b)
+    → ob ≡ alone b → place ≡ right_place op o → i ≡ operation_item place op o ob d → c2 ≡ c1 ++ i ∷ []
+    → WritesBefore c2 c3 (operand_items place ob b)
     → ReducesLink c c3 wanted (Word destinations.Push) op o b
 operation_written c c1 c2 c3 wanted d place op o ob b i not_and not_or reduces eb is item e wb =
     operate_link c c1 c2 c3 wanted d op o ob b (not_logical op not_and not_or) reduces eb
-    (e ∙ ap (λ x. c1 ++ x ∷ []) (item ∙ ap (λ p. operated p op o ob d) is))
-    (subst (λ p. WritesBefore c2 c3 (placed p ob b)) is wb)
+    (e ∙ ap (λ x. c1 ++ x ∷ []) (item ∙ ap (λ p. operation_item p op o ob d) is))
+    (subst (λ p. WritesBefore c2 c3 (operand_items p ob b)) is wb)
 
 -- Comparisons
 

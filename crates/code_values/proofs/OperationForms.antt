@@ -11,15 +11,15 @@ use Rattle.meaning.specs.Views.{chained}
 use Rattle.meaning.specs.Resolved as source
 use Rattle.code_drafts.specs.Items.{Item, Operand, pushed, number, Destination, push, Test, alone, left_of}
 use Rattle.code_drafts.specs.Items.{if_pushed, branch_true, comparison_test, comparison_when, value_count, value_items}
-use Rattle.code_drafts.specs.Items.{branch_items, right_place, operated, into, aside, nowhere, variable, is_any_pushed}
-use Rattle.code_drafts.specs.Items.{loaded, index_place, stored}
+use Rattle.code_drafts.specs.Items.{branch_items, right_place, operation_item, into, aside, nowhere, variable, is_any_pushed}
+use Rattle.code_drafts.specs.Items.{entry_item, index_place, assign_entry_item}
 use Rattle.code_drafts.specs.Items as items
 use Rattle.code_drafts.specs.declared.item.Destination.TheVariants as destinations
 use Rattle.code_drafts.specs.declared.wanted.Wanted.{Wanted}
 use Rattle.code_drafts.specs.declared.wanted.Wanted.TheVariants.{Word}
 use Rattle.code_drafts.specs.Writing.{numbered, wanted_items, is_logical, ReducesWord, ReducesTruth, WritesBefore}
 use Rattle.code_drafts.proofs.WrittenItems.{both, as_items, after_one}
-use Rattle.code_values.specs.ValueWriting.{pushes, placed, first_items, ReducesLink, ReducesLinks, ReducesComparison}
+use Rattle.code_values.specs.ValueWriting.{pushes, operand_items, first_items, ReducesLink, ReducesLinks, ReducesComparison}
 use Rattle.code_values.specs.ValueWriting.{ReducesAssignedEntry}
 use Rattle.code_values.proofs.Values.{pushes_length, placed_length}
 
@@ -28,7 +28,7 @@ use Rattle.code_values.proofs.Values.{pushes_length, placed_length}
 abbrev operation : Binary → Operand → Value → Operand → Value → ℕ → Destination → List Item → List Item
 operation op o v ob b at d more = if_pushed o (value_items at v push) []
     ++ (if_pushed ob (value_items (at + if_pushed o (value_count v push) 0) b (right_place op o)) []
-    ++ operated (right_place op o) op o ob d ∷ more)
+    ++ operation_item (right_place op o) op o ob d ∷ more)
 
 record IsPlain (op : Binary) (v b : Value) : Type 0 where
   value : (at : ℕ) (d : Destination) → value_items at (source.binary op v b) d
@@ -55,7 +55,7 @@ not_logical op a b = refl
 
 -- an operation has no target
 number_kept : (place : Destination) (op : Binary) (o ob : Operand) (d : Destination) (n : ℕ)
-    → numbered n (operated place op o ob d) ≡ operated place op o ob d
+    → numbered n (operation_item place op o ob d) ≡ operation_item place op o ob d
 number_kept aside op o pushed d n = refl
 number_kept aside op o (number k) d n = refl
 number_kept aside op o (variable x) d n = refl
@@ -65,7 +65,7 @@ number_kept nowhere op o ob d n = refl
 
 pub operate_link : (c c1 c2 c3 : List Item) (wanted : Wanted) (d : Destination) (op : Binary) (o ob : Operand)
     (b : Value) → is_logical op ≡ false → ReducesWord c c1 wanted d → ob ≡ alone b
-    → c2 ≡ c1 ++ operated (right_place op o) op o ob d ∷ [] → WritesBefore c2 c3 (placed (right_place op o) ob b)
+    → c2 ≡ c1 ++ operation_item (right_place op o) op o ob d ∷ [] → WritesBefore c2 c3 (operand_items (right_place op o) ob b)
     → ReducesLink c c3 wanted (Word destinations.Push) op o b
 operate_link c c1 c2 c3 wanted d op o ob b other reduces eb e wb v eo =
     let is = plain op v b other in
@@ -82,9 +82,9 @@ operate_link c c1 c2 c3 wanted d op o ob b other reduces eb e wb v eo =
           (as_items (λ n at _. ap (λ x. operation op x v ob b at d []) eo
           ∙ ap (λ y. operation op (left_of v b) v y b at d []) eb ∙ sym (is.value at d))
           (both k (λ n at. pushes_length o v n at)
-          (as_items (λ n at _. ap (λ i. placed (right_place op o) ob b n at ++ i ∷ [])
+          (as_items (λ n at _. ap (λ i. operand_items (right_place op o) ob b n at ++ i ∷ [])
           (number_kept (right_place op o) op o ob d n))
-          (after_one _ (operated (right_place op o) op o ob d)
+          (after_one _ (operation_item (right_place op o) op o ob d)
           (λ n at. placed_length (right_place op o) ob b n at) e wb)) first));
     }
   where
@@ -154,13 +154,13 @@ compare_more c c1 c2 wanted op o a b e link w = (link a e).with_rest c2 w
 
 -- what reads or assigns an entry has no target
 load_kept : (width : Width) (a : ℕ) (o : Operand) (d : Destination) (n : ℕ)
-    → numbered n (loaded width a o d) ≡ loaded width a o d
+    → numbered n (entry_item width a o d) ≡ entry_item width a o d
 load_kept width a pushed d n = refl
 load_kept width a (number k) d n = refl
 load_kept width a (variable x) d n = refl
 
 store_kept : (width : Width) (a : ℕ) (o q : Operand) (d : Destination) (n : ℕ)
-    → numbered n (stored width a o q d) ≡ stored width a o q d
+    → numbered n (assign_entry_item width a o q d) ≡ assign_entry_item width a o q d
 store_kept width a o q d n = go (is_any_pushed (o ∷ q ∷ []))
   where
     go : (b : Bool)
@@ -170,25 +170,25 @@ store_kept width a o q d n = go (is_any_pushed (o ∷ q ∷ []))
     go false = refl
 
 pub entry_more : (c c1 c2 c3 : List Item) (wanted : Wanted) (d : Destination) (width : Width) (a : ℕ) (o : Operand)
-    (i : Value) (k : Item) → ReducesWord c c1 wanted d → o ≡ alone i → k ≡ loaded width a o d → c2 ≡ c1 ++ k ∷ []
-    → WritesBefore c2 c3 (placed aside o i)
+    (i : Value) (k : Item) → ReducesWord c c1 wanted d → o ≡ alone i → k ≡ entry_item width a o d → c2 ≡ c1 ++ k ∷ []
+    → WritesBefore c2 c3 (operand_items aside o i)
     → WritesBefore c c3 (wanted_items wanted (source.entry width a i))
 entry_more c c1 c2 c3 wanted d width a o i k reduces eo is e w =
     (reduces (source.entry width a i)
     (λ at t when. sym (append_assoc (if_pushed (alone i) (value_items at i aside) [])
-    (loaded width a (alone i) push ∷ []) (branch_true pushed when t ∷ [])))).with_rest c3
+    (entry_item width a (alone i) push ∷ []) (branch_true pushed when t ∷ [])))).with_rest c3
     (as_items (λ n at _. ap (λ k. if_pushed o (value_items at i aside) [] ++ k ∷ []) (load_kept width a o d n)
-    ∙ ap (λ o. if_pushed o (value_items at i aside) [] ++ loaded width a o d ∷ []) eo)
-    (after_one _ (loaded width a o d) (λ n at. placed_length aside o i n at) (e ∙ ap (λ k. c1 ++ k ∷ []) is) w))
+    ∙ ap (λ o. if_pushed o (value_items at i aside) [] ++ entry_item width a o d ∷ []) eo)
+    (after_one _ (entry_item width a o d) (λ n at. placed_length aside o i n at) (e ∙ ap (λ k. c1 ++ k ∷ []) is) w))
 
 abbrev entry_assigned : Width → ℕ → Operand → Value → Operand → Value → ℕ → Destination → List Item → List Item
 entry_assigned width a o i ov v at d more = if_pushed o (value_items at i (index_place (alone v))) []
     ++ (if_pushed ov (value_items (at + if_pushed o (value_count i (index_place (alone v))) 0) v aside) []
-    ++ stored width a o ov d ∷ more)
+    ++ assign_entry_item width a o ov d ∷ more)
 
 pub assigned_entry_link : (c c1 c2 c3 : List Item) (wanted : Wanted) (d : Destination) (width : Width) (a : ℕ)
-    (o ov : Operand) (v : Value) (k : Item) → ReducesWord c c1 wanted d → ov ≡ alone v → k ≡ stored width a o ov d
-    → c2 ≡ c1 ++ k ∷ [] → WritesBefore c2 c3 (placed aside ov v)
+    (o ov : Operand) (v : Value) (k : Item) → ReducesWord c c1 wanted d → ov ≡ alone v → k ≡ assign_entry_item width a o ov d
+    → c2 ≡ c1 ++ k ∷ [] → WritesBefore c2 c3 (operand_items aside ov v)
     → ReducesAssignedEntry c c3 wanted width a o v
 assigned_entry_link c c1 c2 c3 wanted d width a o ov v k reduces ev is e wv i eo =
     let place = index_place (alone v) in
@@ -203,7 +203,7 @@ assigned_entry_link c c1 c2 c3 wanted d width a o ov v k reduces ev is e wv i eo
           ∙ ap (λ x. entry_assigned width a x i ov v at d []) eo
           ∙ ap (λ y. entry_assigned width a (left_of i v) i y v at d []) ev)
           (both (if_pushed o (value_count i place) 0) (λ n at. placed_length place o i n at)
-          (after_one _ (stored width a o ov d) (λ n at. placed_length aside ov v n at) (e ∙ ap (λ k. c1 ++ k ∷ []) is)
+          (after_one _ (assign_entry_item width a o ov d) (λ n at. placed_length aside ov v n at) (e ∙ ap (λ k. c1 ++ k ∷ []) is)
           wv) w));
     }
   where
@@ -213,7 +213,7 @@ assigned_entry_link c c1 c2 c3 wanted d width a o ov v k reduces ev is e wv i eo
 
 pub assigned_entry_more : (c c1 c2 : List Item) (wanted : Wanted) (width : Width) (a : ℕ) (o word : Operand)
     (place : Destination) (i v : Value) → o ≡ left_of i v → ReducesAssignedEntry c c1 wanted width a o v
-    → word ≡ alone v → place ≡ index_place word → WritesBefore c1 c2 (placed place o i)
+    → word ≡ alone v → place ≡ index_place word → WritesBefore c1 c2 (operand_items place o i)
     → WritesBefore c c2 (wanted_items wanted (source.assign_entry width a i v))
 assigned_entry_more c c1 c2 wanted width a o word place i v e link ew is w =
-    (link i e).with_rest c2 (subst (λ p. WritesBefore c1 c2 (placed p o i)) (is ∙ ap index_place ew) w)
+    (link i e).with_rest c2 (subst (λ p. WritesBefore c1 c2 (operand_items p o i)) (is ∙ ap index_place ew) w)

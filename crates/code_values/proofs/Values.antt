@@ -10,7 +10,7 @@ use Rattle.meaning.specs.Resolved.{Value, Values}
 use Rattle.meaning.specs.Resolved as source
 use Rattle.code_drafts.specs.Items.{Item, Operand, pushed, Destination, push, operands_of, alone, if_pushed}
 use Rattle.code_drafts.specs.Items.{branch_true, value_count, branch_count, value_items}
-use Rattle.code_drafts.specs.Items.{branch_items, are_more_pushed, called, arguments_count, arguments_items}
+use Rattle.code_drafts.specs.Items.{branch_items, are_more_pushed, call_item, arguments_count, arguments_items}
 use Rattle.code_drafts.specs.Items as items
 use Rattle.code_drafts.specs.declared.wanted.Wanted.{Wanted}
 use Rattle.code_drafts.specs.declared.wanted.Wanted.TheVariants.{Branch}
@@ -18,33 +18,33 @@ use Rattle.code_drafts.specs.Writing.{numbered, wanted_items, ReducesWord, Reduc
 use Rattle.code_drafts.proofs.CountedForms.{if_length}
 use Rattle.code_drafts.proofs.Counts.{value_length, branch_length, arguments_length}
 use Rattle.code_drafts.proofs.WrittenItems.{counted, both, as_items, after_one}
-use Rattle.code_values.specs.ValueWriting.{pushes, placed, ReducesLink}
+use Rattle.code_values.specs.ValueWriting.{pushes, operand_items, ReducesLink}
 
 pub pushes_length : (o : Operand) (v : Value) (n at : ℕ)
     → length (pushes o v n at) ≡ if_pushed o (value_count v push) 0
 pushes_length o v n at = if_length o (value_items at v push) (value_count v push) (value_length v push at)
 
 pub placed_length : (place : Destination) (o : Operand) (v : Value) (n at : ℕ)
-    → length (placed place o v n at) ≡ if_pushed o (value_count v place) 0
+    → length (operand_items place o v n at) ≡ if_pushed o (value_count v place) 0
 placed_length place o v n at = if_length o (value_items at v place) (value_count v place) (value_length v place at)
 
 -- a call has no target
 call_kept : (several : Bool) (r : ℕ) (os : List Operand) (d : Destination) (n : ℕ)
-    → numbered n (called several r os d) ≡ called several r os d
+    → numbered n (call_item several r os d) ≡ call_item several r os d
 call_kept true r os d n = refl
 call_kept false r os d n = refl
 
 pub call_more : (c c1 c2 c3 : List Item) (wanted : Wanted) (d : Destination) (r : ℕ) (vs : Values)
-    → ReducesWord c c1 wanted d → c2 ≡ c1 ++ called (are_more_pushed (operands_of vs)) r (operands_of vs) d ∷ []
+    → ReducesWord c c1 wanted d → c2 ≡ c1 ++ call_item (are_more_pushed (operands_of vs)) r (operands_of vs) d ∷ []
     → WritesBefore c2 c3 (λ n at. arguments_items (are_more_pushed (operands_of vs)) at vs)
     → WritesBefore c c3 (wanted_items wanted (source.call r vs))
 call_more c c1 c2 c3 wanted d r vs reduces e w =
     let several = are_more_pushed (operands_of vs) in
     (reduces (source.call r vs)
-    (λ at t when. sym (append_assoc (arguments_items several at vs) (called several r (operands_of vs) push ∷ [])
+    (λ at t when. sym (append_assoc (arguments_items several at vs) (call_item several r (operands_of vs) push ∷ [])
     (branch_true pushed when t ∷ [])))).with_rest c3
     (as_items (λ n at _. ap (λ i. arguments_items several at vs ++ i ∷ []) (call_kept several r (operands_of vs) d n))
-    (after_one (arguments_count several vs) (called several r (operands_of vs) d)
+    (after_one (arguments_count several vs) (call_item several r (operands_of vs) d)
     (λ n at. arguments_length several vs at) e w))
 
 pub not_more : (c c1 c2 : List Item) (wanted : Wanted) (when : Bool) (left : ℕ) (v : Value)

@@ -27,8 +27,8 @@ pushes o v n at = if_pushed o (value_items at v push) []
 -- Operations
 
 -- the items that put an operand where it goes
-abbrev pub placed : Destination → Operand → Value → ℕ → ℕ → List Item
-placed place o v n at = if_pushed o (value_items at v place) []
+abbrev pub operand_items : Destination → Operand → Value → ℕ → ℕ → List Item
+operand_items place o v n at = if_pushed o (value_items at v place) []
 
 -- the first operand, where something is wanted of it
 abbrev pub first_items : Binary → Operand → Wanted → Value → ℕ → ℕ → List Item
@@ -68,7 +68,7 @@ ReducesComparison old new wanted op o b = (v : Value) → o ≡ left_of v b
 -- an assignment to an entry: those that put its index where it goes
 abbrev pub ReducesAssignedEntry : List Item → List Item → Wanted → Width → ℕ → Operand → Value → Type 0
 ReducesAssignedEntry old new wanted width a o v = (i : Value) → o ≡ left_of i v
-    → Leaves old new (wanted_items wanted (source.assign_entry width a i v)) (placed (items.index_place (alone v)) o i)
+    → Leaves old new (wanted_items wanted (source.assign_entry width a i v)) (operand_items (items.index_place (alone v)) o i)
 
 -- `in` and `notin`: those that push the object
 abbrev pub ReducesContained : List Item → List Item → Wanted → Containment → Operand → Value → Type 0
@@ -110,7 +110,7 @@ WritesOperand old new o v = Writes old new (pushes (as_operand o) (value_of v))
 -- what puts an operand where it goes
 abbrev pub WritesPlaced : Draft → Draft → code_operand.Operand → code_destination.Destination → code_value.Value
     → Type 0
-WritesPlaced old new o place v = Writes old new (placed (as_destination place) (as_operand o) (value_of v))
+WritesPlaced old new o place v = Writes old new (operand_items (as_destination place) (as_operand o) (value_of v))
 
 -- what pushes the operands of a list
 abbrev pub WritesOperands : Draft → Draft → List code_value.Value → Type 0

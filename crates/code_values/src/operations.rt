@@ -12,7 +12,7 @@ use crate::value::{put_operand, put_operands, put_right, put_value};
 use code_drafts::{
     Destination, Draft, Item, Operand, Test, Wanted, alone, are_few, comparison_test,
     comparison_when, equality_when, first_of_and, first_of_or, is_logical, is_pushed, item_count,
-    left_of, operated, push_alone, push_operands, put, put_branch, put_each_same, put_truth,
+    left_of, operation_item, push_alone, push_operands, put, put_branch, put_each_same, put_truth,
     put_word, right_place, side_operands,
 };
 use meaning::{Value, Variable};
@@ -106,7 +106,10 @@ fn put_link<'a>(
             };
             let right = alone(second);
             let place = right_place(operator, left);
-            let Ok(()) = put(draft, operated(operator, left, right, place, destination)) else {
+            let Ok(()) = put(
+                draft,
+                operation_item(operator, left, right, place, destination),
+            ) else {
                 return Err(AllocError);
             };
             let Ok(()) = put_right(draft, second, right, place) else {

@@ -18,9 +18,9 @@ use crate::objects::{
 };
 use crate::operations::{put_chain, put_compare, put_equal};
 use code_drafts::{
-    Destination, Draft, Item, Operand, Wanted, alone, are_more_pushed, argument_place, before,
-    called, index_place, is_pushed_or_later, left_of, loaded, push_operands, put, put_number,
-    put_read, put_step_after, put_step_before, put_truth, put_word, stored,
+    Destination, Draft, Item, Operand, Wanted, alone, are_more_pushed, argument_place,
+    assign_entry_item, before, call_item, entry_item, index_place, is_pushed_or_later, left_of,
+    push_operands, put, put_number, put_read, put_step_after, put_step_before, put_truth, put_word,
 };
 use meaning::{Value, Variable};
 use std::alloc::AllocError;
@@ -159,7 +159,7 @@ fn put_call<'a>(
         return Err(AllocError);
     };
     let several = are_more_pushed(&operands);
-    let Ok(()) = put(draft, called(routine, operands, several, destination)) else {
+    let Ok(()) = put(draft, call_item(routine, operands, several, destination)) else {
         return Err(AllocError);
     };
     put_arguments(draft, arguments, several)
@@ -258,7 +258,7 @@ fn put_entry<'a>(
         return Err(AllocError);
     };
     let operand = alone(index);
-    let Ok(()) = put(draft, loaded(width, array, operand, destination)) else {
+    let Ok(()) = put(draft, entry_item(width, array, operand, destination)) else {
         return Err(AllocError);
     };
     put_right(draft, index, operand, Destination::Aside)
@@ -304,7 +304,10 @@ fn put_assigned_entry<'a>(
         return Err(AllocError);
     };
     let operand = alone(value);
-    let Ok(()) = put(draft, stored(width, array, index, operand, destination)) else {
+    let Ok(()) = put(
+        draft,
+        assign_entry_item(width, array, index, operand, destination),
+    ) else {
         return Err(AllocError);
     };
     put_right(draft, value, operand, Destination::Aside)

@@ -2,8 +2,10 @@
 //! written to them.
 #![tactic(auto)]
 
-mod fill;
+mod bytes;
 mod line;
 mod parse;
 
-pub use line::{give_line, test_parse_buffer, test_text_buffer, wait};
+pub use bytes::{fill, fill_counted};
+pub use line::{give_line, lower_case, test_parse_buffer, test_text_buffer, wait};
+pub use parse::separators;

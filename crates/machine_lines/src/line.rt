@@ -11,7 +11,7 @@ ghost use Rattle.machine_frames.specs.Playing.{IsWaiting, TakesLine};
 ghost use Rattle.machine_frames.specs.States.{IsSound, IsStoreOf};
 ghost use Rattle.machine_frames.specs.Went.{GivenUp, Went};
 
-use crate::fill::fill_counted;
+use crate::bytes::fill_counted;
 use crate::parse::{USUAL_LENGTH, USUAL_WORDS, WORDS_LENGTH, parse};
 use journal::{NoMemory, Recorded};
 use machine_frames::layout::{PARSE_BUFFER, RESULT_VARIABLE, RETURN_ADDRESS, TEXT_BUFFER, WAITING};
@@ -256,9 +256,9 @@ fn lower(line: &[u8], letters: &mut [u8; 255])
     }
 }
 
-/// A capital as a small letter.
+/// A capital of ASCII as a small letter.
 #[inline]
-fn lower_case(letter: u8) -> u8
+pub fn lower_case(letter: u8) -> u8
     ensures { result ≡ texts.lower_case letter }
 {
     if b'A' <= letter && letter <= b'Z' {

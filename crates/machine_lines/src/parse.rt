@@ -62,7 +62,7 @@ pub(crate) fn parse(
 }
 
 /// The bytes that a dictionary names as separators.
-fn separators(memory: &[u8], dictionary: u16) -> &[u8]
+pub fn separators(memory: &[u8], dictionary: u16) -> &[u8]
     requires { HasDictionaryHead memory.now dictionary }
     ensures { result.now ≡ separators_of memory.now dictionary }
 {

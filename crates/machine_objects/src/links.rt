@@ -19,7 +19,11 @@ use zcore::{Fault, Header, Place};
 /// lead in a circle.
 const MOST_ENTRIES: u16 = 4_681;
 
-/// Tests whether a number is an object's, whose entry lies in dynamic memory. M8.
+/// Tests whether a number is an object's, whose entry lies in dynamic memory.
+///
+/// # Errors
+///
+/// M8 where it is none.
 #[inline]
 pub fn test_object(header: &Header, store: &Recorded<Store>, object: u16) -> Result<(), End>
     requires { IsStoreOf header.now store.now.store }

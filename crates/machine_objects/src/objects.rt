@@ -139,13 +139,13 @@ pub fn get_child(
     give_object(header, store, here, after, result_variable, branch, child)
 }
 
-/// Where the property table of an object stands that was tested.
+/// The address of the property table of an object that was tested.
+///
+/// # Errors
+///
+/// M3 where the entry is not in readable memory.
 #[inline]
-pub(crate) fn property_table(
-    header: &Header,
-    store: &Recorded<Store>,
-    object: u16,
-) -> Result<u16, End>
+pub fn property_table(header: &Header, store: &Recorded<Store>, object: u16) -> Result<u16, End>
     requires store { IsStoreOf header.now store.now.store }
     requires entry { IsTested header.now object }
     ensures { Went result store.now store.now (property_table object) }

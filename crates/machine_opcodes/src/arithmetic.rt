@@ -105,9 +105,9 @@ pub fn modulo(
     give_result(header, store, here, after, result_variable, remainder)
 }
 
-/// How far a signed word lies from 0.
+/// How far a signed word is from 0.
 #[inline(always)]
-pub(crate) fn magnitude(word: u16) -> u16
+pub fn magnitude(word: u16) -> u16
     ensures { result ≡ magnitude word }
 {
     if word < NEGATIVE {

@@ -13,7 +13,7 @@ mod transcript;
 mod variables;
 
 pub use arithmetic::{
-    NEGATIVE, divide, equals_any, give_result, modulo, quotient, remainder, signed_less,
+    NEGATIVE, divide, equals_any, give_result, magnitude, modulo, quotient, remainder, signed_less,
 };
 pub use calls::{call, call_packed, give_back, return_popped, unpacked};
 pub use jumps::{branch_on, branch_target, check_argument_count, jump, test_branch};

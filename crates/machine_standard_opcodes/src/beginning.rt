@@ -1,6 +1,6 @@
 //! The story begins anew (Z-Machine Standards Document 1.1, section 15, `restart`).
 
-ghost use Rattle.std.specs.Prelude.{◌≡◌, ◌≤◌, ◌+◌, length, drop, OnOk, OnErr};
+ghost use Rattle.std.specs.Prelude.{◌≡◌, ◌≤◌, length, drop, OnOk, OnErr};
 ghost use Rattle.zcore.specs.Header.{static_base_of};
 ghost use Rattle.zcore.specs.Layout.{header_size};
 ghost use Rattle.zcore_standard.specs.Flags.{with_kept_bits};
@@ -8,7 +8,7 @@ ghost use Rattle.zcore_standard.specs.Flow as definitions;
 ghost use Rattle.machine_frames.specs.Contents.{memory_of};
 ghost use Rattle.machine_frames.specs.States.{IsSound};
 ghost use Rattle.machine_frames.specs.Went.{GivenUp};
-ghost use Rattle.machine_lines.specs.Lines.{Filled, Fills};
+ghost use Rattle.machine_lines.specs.Lines.{Filled};
 ghost use Rattle.machine_opcodes.specs.Printed.{HasBegun, ToldFrom};
 ghost use Rattle.machine_decoding.specs.Seen.{seen};
 ghost use Rattle.machine_standard_windows.specs.TurnState.{place, Keeps};
@@ -18,6 +18,7 @@ use crate::streams::{FLAGS_2, cut_to_heard};
 use journal::{NoMemory, Recorded};
 use machine_frames::layout::{FRAME_COUNT, HEIGHT, MEMORY, NO_VARIABLE, RECORD, RECORDS, WAITING};
 use machine_frames::{End, Store, put_all};
+use machine_lines::fill;
 use machine_standard_texts::spend_for;
 use machine_standard_windows::TurnState;
 use zcore::layout::HEADER_LENGTH;
@@ -99,19 +100,5 @@ fn empty(store: &mut Recorded<Store>) -> Result<(), NoMemory>
     put_all(store, FRAME_COUNT, &[1, 0, 0])?;
     put_all(store, RECORDS, &[0, 0, 0, 0, 0, 0, NO_VARIABLE])?;
     store.put(WAITING, 0)?;
-    Ok(())
-}
-
-/// Writes bytes one after another to dynamic memory after the header.
-pub(crate) fn fill(store: &mut Recorded<Store>, at: usize, bytes: &[u8]) -> Result<(), NoMemory>
-    requires sound { IsSound store.old.store }
-    requires after_header { header_size ≤ at }
-    requires room { at + length bytes.now ≤ static_base_of (memory_of store.old.store) }
-    ensures filled { OnOk result (Fills store.old store.new at bytes.now) }
-    ensures given_up { OnErr result (GivenUp store.old store.new) }
-{
-    for (i, byte) in bytes.iter().enumerate() {
-        store.put(MEMORY + (at + i), *byte as u16)?;
-    }
     Ok(())
 }

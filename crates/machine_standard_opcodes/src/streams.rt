@@ -13,11 +13,11 @@ ghost use Rattle.machine_opcodes.specs.Printed.{HasBegun, ToldFrom};
 ghost use Rattle.machine_decoding.specs.Seen.{seen};
 ghost use Rattle.machine_standard_windows.specs.TurnState.{place, Keeps};
 
-use crate::beginning::fill;
 use crate::zscii::{add_zscii, count_characters};
 use journal::{NoMemory, Recorded};
 use machine_frames::layout::MEMORY;
 use machine_frames::{End, Store};
+use machine_lines::fill;
 use machine_standard_texts::spend_for;
 use machine_standard_windows::{TurnState, cut, drop_upper, settle};
 use zcore::layout::HEADER_LENGTH;

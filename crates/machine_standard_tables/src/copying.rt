@@ -13,7 +13,7 @@ use crate::testing::{test_readable, test_writable};
 use journal::{NoMemory, Recorded};
 use machine_frames::layout::MEMORY;
 use machine_frames::{End, Store};
-use machine_opcodes::NEGATIVE;
+use machine_opcodes::{NEGATIVE, magnitude};
 use machine_standard_texts::spend_for;
 use zcore::{Header, Next};
 
@@ -60,17 +60,6 @@ pub fn copy_table(
     }
     copy_forwards(store, first as usize, second as usize, count)?;
     Ok(next)
-}
-
-/// How far a signed word is from 0.
-fn magnitude(word: u16) -> u16
-    ensures { result ≡ magnitude word }
-{
-    if word < NEGATIVE {
-        word
-    } else {
-        word.wrapping_neg()
-    }
 }
 
 /// Writes 0 to `count` bytes.

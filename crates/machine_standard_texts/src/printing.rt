@@ -1,9 +1,9 @@
 //! The opcodes of the profile that print texts and characters, where any ZSCII code may stand
 //! (Z-Machine Standards Document 1.1, sections 3.8 and 15).
 
-ghost use Rattle.std.specs.Prelude.{◌≡◌, ◌∷◌, [], ℕ, List, Err, OnOk, Some};
+ghost use Rattle.std.specs.Prelude.{◌≡◌, ◌∷◌, [], ℕ, List, Err, Some};
 ghost use Rattle.zcore.specs.Execution as profile;
-ghost use Rattle.zcore.specs.Objects.{print_object, test_object, property_table};
+ghost use Rattle.zcore.specs.Objects.{print_object};
 ghost use Rattle.zcore.specs.State.{State, Out};
 ghost use Rattle.ztext.specs.Faults.{FailsText};
 ghost use Rattle.zcore_standard.specs.Characters.{print_codes};
@@ -14,7 +14,6 @@ ghost use Rattle.zcore_standard.specs.Printing.{by_alphabets};
 ghost use Rattle.zcore_standard.specs.Unicode as unicode;
 ghost use Rattle.machine_frames.specs.Contents.{memory_of};
 ghost use Rattle.machine_frames.specs.States.{IsSound, IsStoreOf};
-ghost use Rattle.machine_objects.specs.Tested.{IsTested};
 ghost use Rattle.machine_opcodes.specs.Printed.{HasBegun, Grew, ToldFrom};
 ghost use Rattle.machine_frames.specs.Went.{Told, Went};
 ghost use Rattle.machine_standard_texts.specs.Put.{Extends, Prints};
@@ -23,11 +22,11 @@ ghost use Rattle.machine_standard_texts.specs.Read.{AddsText, ends_refused};
 use crate::characters::{Halt, put_next, put_unicode};
 use crate::reading::put_text;
 use journal::Recorded;
-use machine_frames::{End, Store, read_byte, read_word, test_return};
+use machine_frames::{End, Store, read_byte, test_return};
 use machine_objects as objects;
+use machine_objects::{property_table, test_object};
 use machine_opcodes as known;
 use machine_opcodes::{give_back, unpacked};
-use tables::{has_entry, properties_place};
 use zcore::layout::NEW_LINE;
 use zcore::{Fault, Header, Limit, Next, Place, TextFault};
 use zcore_standard::Loaded;
@@ -263,27 +262,6 @@ fn print_any_return(
     let halted = put_next(text, start, loaded.characters(), added.1, NEW_LINE as u16);
     finish(store, halted)?;
     give_back(header, store, here.fuel, 1)
-}
-
-/// Tests whether a number is an object's. M8.
-fn test_object(header: &Header, store: &Recorded<Store>, object: u16) -> Result<(), End>
-    requires { IsStoreOf header.now store.now.store }
-    ensures tested { Went result store.now store.now (test_object object) }
-    ensures entry { OnOk result (IsTested header.now object) }
-{
-    if !has_entry(header.defaults, header.static_base as usize, object) {
-        return Err(End::Stop(Place::Fault(Fault::Object)));
-    }
-    Ok(())
-}
-
-/// Where the property table of an object stands that was tested.
-fn property_table(header: &Header, store: &Recorded<Store>, object: u16) -> Result<u16, End>
-    requires store { IsStoreOf header.now store.now.store }
-    requires entry { IsTested header.now object }
-    ensures { Went result store.now store.now (property_table object) }
-{
-    read_word(store, properties_place(header.defaults, object))
 }
 
 /// Prints the short name of an object. Nothing is printed where the name's length is 0.

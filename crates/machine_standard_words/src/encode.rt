@@ -7,10 +7,11 @@ ghost use Rattle.zcore_standard.specs.Loaded.{alphabets_of};
 ghost use Rattle.machine_frames.specs.States.{IsSound, IsStoreOf};
 ghost use Rattle.machine_frames.specs.Went.{Went};
 
-use crate::fill::{are_writable, fill};
 use crate::form::form_of;
+use crate::writable::are_writable;
 use journal::Recorded;
 use machine_frames::{End, Store};
+use machine_lines::fill;
 use zcore::layout::{KEY_LENGTH, READABLE};
 use zcore::{Fault, Header, Next, Place};
 use zcore_standard::Loaded;

@@ -5,7 +5,6 @@
 
 mod characters;
 mod encode;
-mod fill;
 mod form;
 mod given;
 mod key;
@@ -16,6 +15,7 @@ mod slots;
 mod small;
 mod typed;
 mod waiting;
+mod writable;
 
 pub use encode::encode_text;
 pub use given::give_typed;

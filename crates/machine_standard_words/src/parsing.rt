@@ -13,10 +13,11 @@ ghost use Rattle.machine_frames.specs.Went.{GivenUp, Went};
 ghost use Rattle.machine_lines.specs.Lines.{Filled};
 ghost use Rattle.machine_opcodes.specs.Says.{Says};
 
-use crate::fill::{are_writable, fill_counted};
 use crate::slots::{SLOTS_LENGTH, Search, count_words, slots};
+use crate::writable::are_writable;
 use journal::{NoMemory, Recorded};
 use machine_frames::{End, Store};
+use machine_lines::fill_counted;
 use machine_standard_texts::spend_for;
 use tables::is_dictionary;
 use zcore::layout::READABLE;

@@ -3,12 +3,13 @@
 
 ghost use Rattle.std.specs.Prelude.{◌≡◌, ◌≤◌, ◌+◌, ◌*◌, ◌++◌, ◌∷◌, [], true, length, take};
 ghost use Rattle.zcore.specs.Header.{HasDictionaryHead, IsDictionary, static_end};
-ghost use Rattle.zcore.specs.Parsing.{separators_of, first_words};
+ghost use Rattle.zcore.specs.Parsing.{first_words};
 ghost use Rattle.zcore_standard.specs.Words.{slot_bytes, slots_bytes};
 ghost use Rattle.zcore_standard.specs.Loaded.{alphabets_of};
 ghost use Rattle.tables.specs.Placed.{word_of};
 
 use crate::search::entry_with_form;
+use machine_lines::separators;
 use tables::{Word, cut_line};
 use zcore_standard::Loaded;
 
@@ -77,15 +78,6 @@ pub(crate) fn count_words(memory: &[u8], dictionary: u16, letters: &[u8], most: 
         }
     }
     count
-}
-
-/// The bytes that a dictionary names as separators.
-fn separators(memory: &[u8], dictionary: u16) -> &[u8]
-    requires { HasDictionaryHead memory.now dictionary }
-    ensures { result.now ≡ separators_of memory.now dictionary }
-{
-    let start = dictionary as usize + 1;
-    &memory[start..start + memory[start - 1] as usize]
 }
 
 /// Writes the slot of a word, which is at an address, to a place of a row.

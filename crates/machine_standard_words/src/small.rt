@@ -8,6 +8,7 @@ ghost use Rattle.zcore_standard.specs.Input as definitions;
 ghost use Rattle.zcore_standard.specs.Streams.{first_extra};
 
 use crate::characters::{FIRST_EXTRA, UNKNOWN, zscii_of};
+use machine_lines::lower_case;
 
 /// Capitals that follow one another: the first, the last, and the small letter of the first.
 const CAPITALS: [(u16, u16, u16); 18] = [
@@ -61,17 +62,6 @@ pub(crate) fn small(extra: &[u16], code: u8) -> u8
     let character = extra_character(extra, code);
     let found = zscii_of(extra, small_character(character));
     if found == UNKNOWN { code } else { found }
-}
-
-/// A capital of ASCII as a small letter.
-fn lower_case(letter: u8) -> u8
-    ensures { result ≡ texts.lower_case letter }
-{
-    if b'A' <= letter && letter <= b'Z' {
-        letter + 32
-    } else {
-        letter
-    }
 }
 
 /// The character of a code from 155 on, or a question mark.

@@ -11,11 +11,11 @@ ghost use Rattle.machine_frames.specs.States.{IsStoreOf};
 ghost use Rattle.machine_frames.specs.Went.{GivenUp};
 ghost use Rattle.machine_lines.specs.Lines.{Filled, HasRoomForLetters, HasRoomForWords};
 
-use crate::fill::fill_counted;
 use crate::lines::put_small_letters;
 use crate::slots::{SLOTS_LENGTH, Search, slots};
 use journal::{NoMemory, Recorded};
 use machine_frames::Store;
+use machine_lines::fill_counted;
 use zcore::Header;
 use zcore_standard::Loaded;
 

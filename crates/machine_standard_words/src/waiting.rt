@@ -7,8 +7,8 @@ ghost use Rattle.zcore_standard.specs.Reading as definitions;
 ghost use Rattle.machine_frames.specs.States.{IsSound, IsStoreOf};
 ghost use Rattle.machine_frames.specs.Went.{Went};
 
-use crate::fill::are_writable;
 use crate::parsing::has_slots;
+use crate::writable::are_writable;
 use journal::Recorded;
 use machine_frames::{End, Store, test_result};
 use machine_lines::wait;

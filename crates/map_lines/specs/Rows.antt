@@ -12,6 +12,7 @@ use Rattle.zcore.specs.declared.header.Version.{Version}
 use Rattle.zcore.specs.Header.{high_memory_of, scale_of}
 use Rattle.meaning.specs.Resolved.{ProgramOf}
 use Rattle.meaning.specs.Meaning.{routine_at}
+use Rattle.meaning.specs.Places.{start_size}
 use Rattle.checker.specs.Programs.{resolve_program, routine_trees}
 use Rattle.checker.specs.Checked.{title}
 use Rattle.code_items.specs.Statements.{routine_items}
@@ -61,16 +62,12 @@ AreOf version p at number (t ∷ ts) rows =
     × IsFirstOf t (aligned version at) row × All (IsOtherOf t.0.text (lefts_at p number) (aligned version at)) others
     × AreOf version p (end_of p number (aligned version at)) (number + 1) ts rest
 
--- the code that begins a story, with which high memory begins; the routines follow it
-abbrev pub start_length : ℕ
-start_length = 4
-
 -- The map of a story, which is that of a program whose routines have these titles: the heading, and the rows, whose
 -- addresses ascend.
 abbrev pub IsMapOf : Version → ProgramOf → List ℕ → List Title → List ℕ → Type 0
 IsMapOf version p story ts text =
     (rows : List RowOf) × (text ≡ heading_of story ++ rows_text rows)
-    × AreOf version p (high_memory_of story + start_length) 0 ts rows × Ascend 0 rows
+    × AreOf version p (high_memory_of story + start_size) 0 ts rows × Ascend 0 rows
 
 -- Words of proofs
 

@@ -11,16 +11,12 @@ use crate::routine::put_routine;
 use checker::{check, discard};
 use code::program_sizes;
 use map_text::{Row, heading, put_rows, word_in};
-use meaning::Checked;
+use meaning::{Checked, START_LENGTH};
 use std::alloc::{AllocError, Global};
 use syntax::parse;
 use syntax_lexer::{SourceFault, Token, lex};
 use zcore::Version;
 use zcore::layout::HIGH_MEMORY_WORD;
-
-/// How many bytes the code has that begins a story, with which high memory begins. The routines
-/// follow it.
-const START_LENGTH: usize = 4;
 
 /// The first address at or after another to which a packed address leads.
 fn aligned(version: Version, at: usize) -> usize

@@ -70,6 +70,7 @@ text_size text = length (encoded text)
 abbrev pub abbreviations_size : ProgramOf → ℕ
 abbreviations_size p = total (map text_size p.abbreviations)
 
+-- the code that begins a story, with which high memory begins; the routines follow it
 abbrev pub start_size : ℕ
 start_size = 4
 

@@ -15,8 +15,8 @@ use ztext::MOST_ABBREVIATIONS;
 /// The bytes of the empty text, which abbreviations name that the source has not.
 const EMPTY_TEXT_LENGTH: usize = 2;
 
-/// The bytes of the code that begins a story.
-const START_LENGTH: usize = 4;
+/// The bytes of the code that begins a story, with which high memory begins. The routines follow it.
+pub const START_LENGTH: usize = 4;
 
 /// The addresses of the parts of a story that stand before its routines, and that of the first
 /// routine at the earliest.

@@ -9,7 +9,7 @@ use Rattle.syntax_lexer.specs.declared.token.Sign.TheVariants as s
 use Rattle.syntax_lexer.specs.declared.token.Word.{Word}
 use Rattle.syntax_lexer.specs.declared.token.Word.TheVariants as w
 use Rattle.syntax_lexer.specs.Token.{Lexeme}
-use Rattle.syntax_parsing.specs.Parse.{sign_number, word_number}
+use Rattle.syntax_trees.specs.Parse.{sign_number, word_number}
 use Rattle.syntax.specs.Places.{IsUnfitAfter}
 use Rattle.messages_tokens.specs.declared.kinds.TokenKind.{TokenKind}
 use Rattle.messages_tokens.specs.declared.kinds.TokenKind.TheVariants as k

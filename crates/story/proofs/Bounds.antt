@@ -8,7 +8,7 @@ use Rattle.meaning.specs.Resolved as source
 use Rattle.meaning.specs.Meaning.{is_true}
 use Rattle.code_drafts.specs.Items.{Item, pushed, number, variable, Destination, push, into, operands_of, alone}
 use Rattle.code_drafts.specs.Items.{Operand, left_of, if_pushed, branch_true, agrees, operand_count, value_items}
-use Rattle.code_drafts.specs.Items.{are_more_pushed, called, arguments_items}
+use Rattle.code_drafts.specs.Items.{are_more_pushed, call_item, arguments_items}
 use Rattle.code_drafts.specs.Items.{branch_items, first_of, containment_when}
 use Rattle.code_drafts.specs.Items as items
 use Rattle.story.proofs.Most.{most, most_of, tokens, most_append, if_small, moved_small, after_small, kept_small}
@@ -148,7 +148,7 @@ assign_property_word_small v p i w sv si sw =
         )
 
 call_small : (several : Bool) (r : ℕ) (os : List Operand) (d : Destination)
-    → most (called several r os d) ≤ 9 + 4 * length os
+    → most (call_item several r os d) ≤ 9 + 4 * length os
 call_small true r os d = omega arith
 call_small false r os d = omega arith
 
@@ -172,7 +172,7 @@ mutual
           (are_small vs).arguments several at,
           operands_length vs,
           call_small several r (operands_of vs) d,
-          most_append (arguments_items several at vs) (called several r (operands_of vs) d ∷ []),
+          most_append (arguments_items several at vs) (call_item several r (operands_of vs) d ∷ []),
         );
     branch = λ when at t.
         let several = are_more_pushed (operands_of vs) in
@@ -182,7 +182,7 @@ mutual
           operands_length vs,
           call_small several r (operands_of vs) push,
           most_append (arguments_items several at vs)
-              (called several r (operands_of vs) push ∷ branch_true pushed when t ∷ []),
+              (call_item several r (operands_of vs) push ∷ branch_true pushed when t ∷ []),
         );
   }
   small (source.prefixed op v) = prefixed_small op v (small v)

@@ -12,7 +12,7 @@ use Rattle.meaning.specs.Resolved.{Value, Values, none, more}
 use Rattle.meaning.specs.Resolved as source
 use Rattle.meaning.specs.Accepted.{count_of}
 use Rattle.code_drafts.specs.Items.{Item, Operand, pushed, number, variable, Destination, push, into, aside, nowhere}
-use Rattle.code_drafts.specs.Items.{right_place, operated, operand_of, operands_of, alone, left_of}
+use Rattle.code_drafts.specs.Items.{right_place, operation_item, operand_of, operands_of, alone, left_of}
 use Rattle.code_drafts.specs.Items.{if_pushed, branch_true, is_direct, same_count, comparison_test, comparison_when, equality_when}
 use Rattle.code_drafts.specs.Items.{same_items, is_any_pushed, argument_place, arguments_items}
 use Rattle.code_drafts.specs.Items.{value_count, operand_count, operands_count, branch_count, many_count, truth_items}
@@ -66,7 +66,7 @@ prefixed_small op v s = record {
 }
 
 operated_small : (place : Destination) (op : Binary) (o q : Operand) (d : Destination)
-    → most (operated place op o q d) ≤ 16
+    → most (operation_item place op o q d) ≤ 16
 operated_small aside op o pushed d = omega arith
 operated_small aside op o (number n) d = omega arith
 operated_small aside op o (variable x) d = omega arith
@@ -113,13 +113,13 @@ binary_small op a b sa sb =
     record {
       value = λ d at. omega (
         arith,
-        two_small o (alone b) _ _ (operated place op o (alone b) d ∷ []) _ _ (sa.value push at)
+        two_small o (alone b) _ _ (operation_item place op o (alone b) d ∷ []) _ _ (sa.value push at)
             (sb.value place (at + operand_count a o)),
         operated_small place op o (alone b) d,
       );
       branch = λ when at t. omega (
         arith,
-        two_small o (alone b) _ _ (operated place op o (alone b) push ∷ branch_true pushed when t ∷ []) _ _
+        two_small o (alone b) _ _ (operation_item place op o (alone b) push ∷ branch_true pushed when t ∷ []) _ _
             (sa.value push at) (sb.value place (at + operand_count a o)),
         operated_small place op o (alone b) push,
       );
@@ -259,12 +259,12 @@ equal_small op a bs sa sbs first =
     several_items : ℕ → Bool → ℕ → List Item
     several_items at when t = value_items at a push ++ many_items (at + value_count a push) op bs when t
 
-loaded_small : (width : Width) (a : ℕ) (o : Operand) (d : Destination) → most (items.loaded width a o d) ≤ 24
+loaded_small : (width : Width) (a : ℕ) (o : Operand) (d : Destination) → most (items.entry_item width a o d) ≤ 24
 loaded_small width a pushed d = omega arith
 loaded_small width a (number k) d = omega arith
 loaded_small width a (variable x) d = omega arith
 
-stored_small : (width : Width) (a : ℕ) (o q : Operand) (d : Destination) → most (items.stored width a o q d) ≤ 33
+stored_small : (width : Width) (a : ℕ) (o q : Operand) (d : Destination) → most (items.assign_entry_item width a o q d) ≤ 33
 stored_small width a o q d = go (is_any_pushed (o ∷ q ∷ []))
   where
     go : (b : Bool) → most (if b then items.assign_entry_aside width a o q d else items.assign_entry width a o q d) ≤ 33
@@ -278,13 +278,13 @@ entry_small width a i s =
       value = λ d at. omega (
         arith,
         if_small (alone i) _ _ (s.value aside at),
-        most_append (before at) (items.loaded width a (alone i) d ∷ []),
+        most_append (before at) (items.entry_item width a (alone i) d ∷ []),
         loaded_small width a (alone i) d,
       );
       branch = λ when at t. omega (
         arith,
         if_small (alone i) _ _ (s.value aside at),
-        most_append (before at) (items.loaded width a (alone i) push ∷ branch_true pushed when t ∷ []),
+        most_append (before at) (items.entry_item width a (alone i) push ∷ branch_true pushed when t ∷ []),
         loaded_small width a (alone i) push,
       );
     }
@@ -297,13 +297,13 @@ assign_entry_small width a i v si sv =
     record {
       value = λ d at. omega (
         arith,
-        two_small o (alone v) _ _ (items.stored width a o (alone v) d ∷ []) _ _ (si.value place at)
+        two_small o (alone v) _ _ (items.assign_entry_item width a o (alone v) d ∷ []) _ _ (si.value place at)
             (sv.value aside (at + if_pushed o (value_count i place) 0)),
         stored_small width a o (alone v) d,
       );
       branch = λ when at t. omega (
         arith,
-        two_small o (alone v) _ _ (items.stored width a o (alone v) push ∷ branch_true pushed when t ∷ []) _ _
+        two_small o (alone v) _ _ (items.assign_entry_item width a o (alone v) push ∷ branch_true pushed when t ∷ []) _ _
             (si.value place at) (sv.value aside (at + if_pushed o (value_count i place) 0)),
         stored_small width a o (alone v) push,
       );

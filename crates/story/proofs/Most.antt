@@ -9,7 +9,7 @@ use Rattle.meaning.specs.Resolved.{Value, Values, none, more}
 use Rattle.meaning.specs.declared.resolved.Variable.{Variable}
 use Rattle.code_drafts.specs.Items as items
 use Rattle.code_drafts.specs.Items.{Item, Operand, pushed, number, variable, Destination, push, into, aside, nowhere}
-use Rattle.code_drafts.specs.Items.{operands_of, if_pushed, moved, truth_items, after_items, kept_items, is_one_test}
+use Rattle.code_drafts.specs.Items.{operands_of, if_pushed, move_items, truth_items, after_items, kept_items, is_one_test}
 use Rattle.code_drafts.specs.Items.{turned_back, last_back, branch_count, branch_items}
 use Rattle.code_items.specs.Statements.{until_items}
 
@@ -113,7 +113,7 @@ if_small pushed xs n h = h
 if_small (number k) xs n h = omega (arith, h)
 if_small (variable x) xs n h = omega (arith, h)
 
-pub moved_small : (o : Operand) (d : Destination) → most_of (moved o d) ≤ 5
+pub moved_small : (o : Operand) (d : Destination) → most_of (move_items o d) ≤ 5
 moved_small o push = omega arith
 moved_small o (into x) = omega arith
 moved_small o aside = omega arith

@@ -11,8 +11,8 @@ use Rattle.code_drafts.specs.Items.{Test}
 use Rattle.code_drafts.specs.Items as items
 use Rattle.code_encoding.specs.Instructions as spec
 use Rattle.code_encoding.specs.Instructions.{constant, operands, takes, most_tested}
-use Rattle.code_instructions.specs.Instructions.{branch_below, back_limit, labelled, test_operation, turned, are_both_pushed, ordered_code, tested_code}
-use Rattle.code_instructions.specs.Instructions.{least_word, branch_code, most_compared, compared, case_code}
+use Rattle.code_instructions.specs.Instructions.{branch_below, back_limit, labelled, test_operation, reverse_test, are_both_pushed, ordered_code, tested_code}
+use Rattle.code_instructions.specs.Instructions.{least_word, branch_code, most_compared, case_operands, case_code}
 use Rattle.code_encoding.specs.Addresses.{Sizes}
 use Rattle.code_encoding.specs.Bytes.{bytes_of_all}
 use Rattle.code.specs.Bytes.{part_of}
@@ -34,16 +34,16 @@ tested_few : (test : Test) (os : List items.Operand) (when : Bool) (n : ℕ)
 tested_few test os when n h = go (are_both_pushed os) refl
   where
     go : (both : Bool) → are_both_pushed os ≡ both
-        → length (bytes_of_all (if both then labelled (test_operation (turned test)) (spec.top ∷ spec.top ∷ []) when 2
+        → length (bytes_of_all (if both then labelled (test_operation (reverse_test test)) (spec.top ∷ spec.top ∷ []) when 2
         else ordered_code test os when 2)) ≤ 3 + n
     go true e =
-        let op = test_operation (turned test) in
+        let op = test_operation (reverse_test test) in
         let more = subst (λ os. operand_count (operands os) + length (bytes_of_all (takes os)) ≤ n) (both_pushed os e) h
         in
         omega (
           arith,
           labelled_length op (spec.top ∷ spec.top ∷ []) when 2,
-          beside_few op (spec.top ∷ spec.top ∷ []) (test_more (turned test)),
+          beside_few op (spec.top ∷ spec.top ∷ []) (test_more (reverse_test test)),
           more,
         )
     go false e = omega (
@@ -119,7 +119,7 @@ constants_few (n ∷ ns) =
       constant_few (nat_lt n 256) n,
     )
 
-compared_few : (ns : List ℕ) → operand_count (compared ns) ≤ 7
+compared_few : (ns : List ℕ) → operand_count (case_operands ns) ≤ 7
 compared_few ns =
     let given = take most_compared ns in
     omega (arith, constants_few given, length-take most_compared ns)
@@ -131,8 +131,8 @@ case_few sizes near test ns when target n rest =
     let offset = offset_over (target - (n + 1)) rest in
     omega (
       arith,
-      labelled_length op (compared ns) when 2,
-      beside_few op (compared ns) (test_more test),
+      labelled_length op (case_operands ns) when 2,
+      beside_few op (case_operands ns) (test_more test),
       compared_few ns,
       length-append (bytes_of_all (case_code test ns when 2)) [],
       label_few (form_for offset),

@@ -11,7 +11,7 @@ use Rattle.ztext.specs.Abbreviations.{Found, longest, spelling_or, more_of, spel
 use Rattle.zcore.specs.InstructionBytes.{bytes_of}
 use Rattle.code_drafts.specs.Items as items
 use Rattle.code_encoding.specs.Addresses.{Sizes}
-use Rattle.code_encoding.specs.Bytes.{character_of}
+use Rattle.meaning.specs.Places.{machine_character}
 use Rattle.code.specs.Bytes.{least_size}
 
 -- Texts
@@ -106,7 +106,7 @@ pub text_few : (sizes : Sizes) (bytes : List ℕ) → least_size sizes (items.pr
 unfolding bytes_of
 text_few sizes bytes = omega (
   arith,
-  encoded_length sizes.abbreviations (filter is_printable (map character_of bytes)),
-  filter_few is_printable (map character_of bytes),
-  length-map bytes character_of,
+  encoded_length sizes.abbreviations (filter is_printable (map machine_character bytes)),
+  filter_few is_printable (map machine_character bytes),
+  length-map bytes machine_character,
 )

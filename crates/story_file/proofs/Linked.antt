@@ -62,7 +62,7 @@ linked_more xs left i q w first next back lt there within found before =
             get_or-set_other first q p (i + 1) 0 (λ e. other (sym e)) ∙ known.first_in p h
             ∙ sym (first_later xs i p lt (λ e. other (sym there ∙ e)))
       ];
-      behind = λ k from small. elim (cases_eq i k) [
+      after = λ k from small. elim (cases_eq i k) [
         | inl e ↦
             ap (λ n. slice_index_or (slice_set next i w) n 0) (sym e)
             ∙ get_or-set_same next i w 0 (omega (arith, lt, known.places))
@@ -71,7 +71,7 @@ linked_more xs left i q w first next back lt there within found before =
             ∙ ap (λ n. first_of (standing_in (slice_index_or xs n no_object).parent (n + 1 + 1) (drop (n + 1) xs))) e
         | inr other ↦
             get_or-set_other next i k w 0 (λ e. other (sym e))
-            ∙ known.behind k (later i k from other) small
+            ∙ known.after k (later i k from other) small
       ];
     }
   where

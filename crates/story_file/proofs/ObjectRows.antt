@@ -101,7 +101,7 @@ module _ (xs : List CheckedObject) (i : ℕ) (x : CheckedObject) (lt : i < lengt
         let there : (slice_index_or objects i no_object).parent ≡ x.parent =
         ap (λ o. o.parent) (get_or-map object_of xs i x no_object lt ∙ ap object_of (sym is)) in
         let within : i < length objects = omega (arith, lt, length-map xs object_of) in
-        e ∙ links.behind i (omega arith) within
+        e ∙ links.after i (omega arith) within
         ∙ ap (λ p. first_of (standing_in p (i + 1 + 1) (drop (i + 1) objects))) there ∙ sibling_is some
 
     pub first_is : (first next : List ℕ) (w : ℕ) → AreLinked objects 0 first next → w ≡ slice_index_or first (i + 1) 0

@@ -13,6 +13,6 @@ pub record AreLinked (objects : List ObjectOf) (from : ℕ) (first next : List �
   pub places : length next ≡ length objects
   pub first_in : (p : ℕ) → p ≤ length objects
       → slice_index_or first p 0 ≡ first_of (standing_in p (from + 1) (drop from objects))
-  pub behind : (k : ℕ) → from ≤ k → k < length objects
+  pub after : (k : ℕ) → from ≤ k → k < length objects
       → slice_index_or next k 0
       ≡ first_of (standing_in (slice_index_or objects k no_object).parent (k + 1 + 1) (drop (k + 1) objects))

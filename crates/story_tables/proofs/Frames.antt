@@ -124,7 +124,7 @@ pub rest_kept : (old new : List ℕ) → length new ≡ length old
 rest_kept old new size before behind = record {
   size = size;
   before = before;
-  behind = drop_same old new (static_base_of old) size behind;
+  after = drop_same old new (static_base_of old) size behind;
 }
 
 -- Other parts of memory may change.

@@ -58,7 +58,7 @@ pub record HasObjects (definitions : List ObjectOf) (defaults : List ℕ) (objec
 pub record KeepsRest (old new : List ℕ) : Type 0 where
   pub size : length new ≡ length old
   pub before : (q : ℕ) → q < defaults_of old → slice_index new q ≡ slice_index old q
-  pub behind : drop (static_base_of old) new ≡ drop (static_base_of old) old
+  pub after : drop (static_base_of old) new ≡ drop (static_base_of old) old
 
 -- bytes below the region of objects may differ, after the header, and no others
 pub record KeepsRegion (old new : List ℕ) : Type 0 where

@@ -6,9 +6,9 @@ use Rattle.std.specs.Prelude.{if◌then◌else◌}
 use Rattle.syntax_lexer.specs.declared.token.Sign.{Sign}
 use Rattle.syntax_lexer.specs.declared.token.Word.{Word}
 use Rattle.syntax_lexer.specs.Token.{Lexeme}
-use Rattle.syntax_parsing.specs.Stop.{Stop, unfit, deep}
-use Rattle.syntax_parsing.specs.Parse.{Parse, ◌>>=◌, head, tail, is_sign, is_word, expect, expect_word, further, list}
-use Rattle.syntax_parsing.specs.Parse.{as_long, repeated}
+use Rattle.syntax_trees.specs.Stop.{Stop, unfit, deep}
+use Rattle.syntax_trees.specs.Parse.{Parse, ◌>>=◌, head, tail, is_sign, is_word, expect, expect_word, further, list}
+use Rattle.syntax_trees.specs.Parse.{as_long, repeated}
 use Rattle.syntax.proofs.Frames.{Frame, token, word, set, Stack, given}
 use Rattle.syntax.proofs.Machine.{shift, accepts, go_on, stop}
 

@@ -4,8 +4,8 @@ use Rattle.std.proofs.Common.{refl, arith}
 use Rattle.syntax_lexer.specs.declared.token.Position.{Position}
 use Rattle.syntax_lexer.specs.declared.token.Word.TheVariants as w
 use Rattle.syntax_lexer.specs.Token.{Lexeme, end}
-use Rattle.syntax_parsing.specs.Stop.{Stop, TooDeep}
-use Rattle.syntax_parsing.specs.Parse.{head, is_word, repeated}
+use Rattle.syntax_trees.specs.Stop.{Stop, TooDeep}
+use Rattle.syntax_trees.specs.Parse.{head, is_word, repeated}
 use Rattle.syntax_expressions.proofs.Limited.{Limited, then, at_once, deep_sooner, deep_before}
 use Rattle.syntax_statements.proofs.PartsRead.{repeated_stop, repeated_next}
 use Rattle.syntax_directives.specs.Tree.{DirectiveTree}

@@ -6,11 +6,11 @@ use Rattle.syntax_lexer.specs.declared.token.Sign.TheVariants as s
 use Rattle.syntax_lexer.specs.declared.token.Word.TheVariants as w
 use Rattle.syntax_lexer.specs.Token.{Lexeme, name, reserved, sign}
 use Rattle.syntax_trees.specs.Tree.{NameTree}
-use Rattle.syntax_parsing.specs.Parse.{◌>>=◌, tail, head, is_sign, is_word}
+use Rattle.syntax_trees.specs.Parse.{◌>>=◌, tail, head, is_sign, is_word}
 use Rattle.syntax_statement_parts.specs.Parse.{known_value, begins_value}
 use Rattle.syntax_directives.specs.Tree.{DirectiveTree, global, property}
 use Rattle.syntax_directives.specs.Parse.{kind, array_after, abbreviate_after, ended, global_after}
-use Rattle.syntax_directives.specs.Parse.{constant_after, attribute_after, property_after, worded, routine_at}
+use Rattle.syntax_directives.specs.Parse.{constant_after, attribute_after, property_after, directive_of, routine_at}
 use Rattle.syntax_directives.specs.Parse.{directive}
 use Rattle.syntax.proofs.Frames.{Stack, token, any_name, any_text, texts_left, names_left, value}
 use Rattle.syntax.proofs.Frames.{values_left}
@@ -135,7 +135,7 @@ routine_follows d k t m = longer m (follows_then _ (name_follows false _ m)
 -- a directive, by its first token
 pub directive_follows : (d : ℕ) (k : Stack) (t : Lexeme) (m : List Lexeme) → is_word w.Abbreviate t ≡ false
     → Follows (onward m (on_entry t k)) no_effect k m (directive d (t ∷ m))
-unfolding directive worded
+unfolding directive directive_of
 directive_follows d k (sign s.OpenBracket p) m e = follows_then _ (routine_follows d k (sign s.OpenBracket p) m)
     (λ x r h. follows_read _ r refl (omega arith))
 directive_follows d k (reserved w.Global p) m e = global_follows k m

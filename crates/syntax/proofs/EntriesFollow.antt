@@ -7,8 +7,8 @@ use Rattle.syntax_lexer.specs.declared.token.Word.TheVariants as w
 use Rattle.syntax_lexer.specs.Token.{Lexeme, name, number, text, character, dictionary_word, reserved, sign, end}
 use Rattle.syntax_lexer.specs.Token.{position_of}
 use Rattle.syntax_lexer.specs.Tokens.{EndsOnce}
-use Rattle.syntax_parsing.specs.Stop.{Stop, unfit, deep}
-use Rattle.syntax_parsing.specs.Parse.{◌>>=◌, head, is_word, as_long, repeated}
+use Rattle.syntax_trees.specs.Stop.{Stop, unfit, deep}
+use Rattle.syntax_trees.specs.Parse.{◌>>=◌, head, is_word, as_long, repeated}
 use Rattle.syntax_expression_parts.proofs.Tokens.{is_that_word}
 use Rattle.syntax.proofs.Frames.{entries_left, last, Stack}
 use Rattle.syntax.proofs.Machine.{shift}

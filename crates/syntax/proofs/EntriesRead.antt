@@ -5,10 +5,10 @@ use Rattle.std.proofs.Common.{append_assoc, Result, Ok, Err, refl, sym, ap, ◌�
 use Rattle.std.specs.Prelude.{map}
 use Rattle.syntax_lexer.specs.declared.token.Word.TheVariants as w
 use Rattle.syntax_lexer.specs.Token.{Lexeme}
-use Rattle.syntax_parsing.specs.Stop.{Stop}
-use Rattle.syntax_parsing.specs.declared.error.ParseError.{ParseError}
-use Rattle.syntax_parsing.specs.declared.error.ParseError.TheVariants as errors
-use Rattle.syntax_parsing.specs.Parse.{◌>>=◌, Fails, head, tail, is_word, as_long, repeated}
+use Rattle.syntax_trees.specs.Stop.{Stop}
+use Rattle.syntax_trees.specs.declared.error.ParseError.{ParseError}
+use Rattle.syntax_trees.specs.declared.error.ParseError.TheVariants as errors
+use Rattle.syntax_trees.specs.Parse.{◌>>=◌, Fails, head, tail, is_word, as_long, repeated}
 use Rattle.syntax_directives.specs.Tree.{TextTree, DirectiveTree}
 use Rattle.syntax_directives.specs.Parse.{abbreviate_after, directive}
 use Rattle.syntax.specs.Tree.{EntryTree, entry, abbreviate, directives_of, abbreviations_of}

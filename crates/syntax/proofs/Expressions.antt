@@ -14,17 +14,17 @@ use Rattle.syntax_trees.specs.Tree.{NameTree, ExpressionTree, constant, word, na
 use Rattle.syntax_trees.specs.Tree.{prefixed, relative_of, property, property_length, property_entry, step_before}
 use Rattle.syntax_trees.specs.Tree.{step_after, binary, compare, equal, contained, tested, assign, none}
 use Rattle.syntax_trees.specs.Views.{trees_of}
-use Rattle.syntax_parsing.specs.Stop.{Stop, unfit}
-use Rattle.syntax_parsing.specs.Parse.{Parse, ◌>>=◌, head, tail, is_sign, is_word, expect, list}
+use Rattle.syntax_trees.specs.Stop.{Stop, unfit}
+use Rattle.syntax_trees.specs.Parse.{Parse, ◌>>=◌, head, tail, is_sign, is_word, expect, list}
 use Rattle.syntax_expression_parts.specs.Operators.{logical, comparing, equating, containing, testing, adding, scaling}
 use Rattle.syntax_expression_parts.specs.Operators.{stepping, prefixes, relating_word, indexing, begins_expression}
 use Rattle.syntax_expressions.specs.Parse as parse
-use Rattle.syntax_expression_parts.specs.Parse.{expect_name, property_next, properties, entry_of, lengthened, tested_on}
-use Rattle.syntax_expression_parts.specs.Parse.{tested_next, word_value, valued, step_on, suffixed, array_of, array_at}
-use Rattle.syntax_expressions.specs.Parse.{chain_on, chain, Level, whole, after_name, enclosed, related, word_on, atom}
-use Rattle.syntax_expressions.specs.Parse.{stepped, unary_on, entry, owned, unindexed, indexed_on, complemented}
-use Rattle.syntax_expressions.specs.Parse.{compared, compared_on, equated, equated_on, contained_on, negated, assigned}
-use Rattle.syntax_expressions.specs.Parse.{assignment, called, nested}
+use Rattle.syntax_expression_parts.specs.Parse.{expect_name, property_next, properties, entry_of, with_length, tested_on}
+use Rattle.syntax_expression_parts.specs.Parse.{tested_next, word_value, constant_on, step_on, after_operand, array_of, array_at}
+use Rattle.syntax_expressions.specs.Parse.{chain_on, chain, Level, whole, after_name, in_parentheses, object_relative, word_on, atom}
+use Rattle.syntax_expressions.specs.Parse.{postfix, unary_on, entry, after_owner, object_entry, array_entry_on, factor}
+use Rattle.syntax_expressions.specs.Parse.{after_left, compared_on, equate_on, equated_on, contained_on, logical_operand, right_side}
+use Rattle.syntax_expressions.specs.Parse.{assignment, rest_of_call, nested}
 use Rattle.syntax_statement_parts.specs.Grammar.{has_effect}
 use Rattle.syntax.proofs.Frames.{Frame, token, any_name, close, primary, unary, indexed, complement}
 use Rattle.syntax.proofs.Frames.{product, sum}
@@ -74,15 +74,15 @@ properties_follow (suc n) k e (t ∷ m) le = follows_by (onward m) (is_sign s.Do
 
 lengthened_follows : (k : Stack) (e : ExpressionTree) (t : Lexeme) (m : List Lexeme)
     → Follows (onward m (cond (is_sign s.DotHash t) (Some (any_name ∷ k)) (shift (has_effect e) k t))) has_effect k
-    (t ∷ m) (lengthened e (t ∷ m))
-unfolding stop lengthened
+    (t ∷ m) (with_length e (t ∷ m))
+unfolding stop with_length
 lengthened_follows k e t m = follows_by (onward m) (is_sign s.DotHash t) _ _
     (λ is. follows_as {us = m} refl (omega arith) (made_of_name k m (λ x. property_length e x) (λ x. refl)))
     (λ is. follows_read e (t ∷ m) refl (omega arith))
 
 suffixed_follows : (k : Stack) (e : ExpressionTree) (ts : List Lexeme)
-    → Follows (stop (has_effect e) (suffix_left ∷ k) ts) has_effect k ts (suffixed e ts)
-unfolding stop shift accepts suffixed lengthened
+    → Follows (stop (has_effect e) (suffix_left ∷ k) ts) has_effect k ts (after_operand e ts)
+unfolding stop shift accepts after_operand with_length
 suffixed_follows k e [] = follows_read e [] refl (omega arith)
 suffixed_follows k e (t ∷ m) = follows_given (onward m) (stepping t) (λ o. step_on e (t ∷ m) o)
     (λ op is. follows_read (step_after e op (position_of t)) m (set_goes false true k m) (omega arith))
@@ -168,16 +168,16 @@ module _ (below : Level → ℕ → Parse ExpressionTree) (inner : Inner below) 
       (λ is. follows_read (named n) (t ∷ m) refl (omega arith))
 
   enclosed_follows : (opening : ℕ) (k : Stack) (ts : List Lexeme)
-      → Follows (stop false (expression ∷ close ∷ k) ts) has_effect k ts (enclosed below opening ts)
-  unfolding enclosed
+      → Follows (stop false (expression ∷ close ∷ k) ts) has_effect k ts (in_parentheses below opening ts)
+  unfolding in_parentheses
   enclosed_follows opening k ts = follows_then _ (follows_as refl (shorter ts) (inner.in_whole opening (close ∷ k) ts))
       (λ a r h. follows_as refl (shorter r) (close_follows (has_effect a) k r _
       (λ u g. follows_read (parenthesised a) u refl (omega arith))))
 
   related_follows : (which : Relative) (k : Stack) (ts : List Lexeme)
       → Follows (stop false (token s.OpenParenthesis ∷ expression ∷ close ∷ set false ∷ k) ts) has_effect k ts
-      (related below which ts)
-  unfolding stop shift accepts related
+      (object_relative below which ts)
+  unfolding stop shift accepts object_relative
   related_follows which k [] = follows_unfit refl
   related_follows which k (t ∷ m) = follows_by (onward m) (is_sign s.OpenParenthesis t) _ _
       (λ is. follows_as {us = m} refl (omega arith)
@@ -196,7 +196,7 @@ module _ (below : Level → ℕ → Parse ExpressionTree) (inner : Inner below) 
   atom_follows k (reserved w p ∷ m) =
       follows_given (onward m) (relating_word w) (λ o. word_on below w o (reserved w p ∷ m))
       (λ which is. related_follows which (properties_left ∷ k) m)
-      (λ is. follows_given (onward m) (word_value w) (λ o. valued o (reserved w p ∷ m))
+      (λ is. follows_given (onward m) (word_value w) (λ o. constant_on o (reserved w p ∷ m))
       (λ n is. follows_read (constant n) m refl (omega arith)) (λ is. follows_unfit refl))
   atom_follows k (name n p ∷ m) =
       after_name_follows (properties_left ∷ k) (record { text = n; position = p }) m
@@ -210,8 +210,8 @@ module _ (below : Level → ℕ → Parse ExpressionTree) (inner : Inner below) 
       follows_then _ (atom_follows k ts) (λ a r h. properties_follow (length r) k a r (omega arith))
 
   stepped_follows : (k : Stack) (ts : List Lexeme)
-      → Follows (stop false (primary ∷ suffix_left ∷ k) ts) has_effect k (tail ts) (stepped below ts)
-  unfolding stepped
+      → Follows (stop false (primary ∷ suffix_left ∷ k) ts) has_effect k (tail ts) (postfix below ts)
+  unfolding postfix
   stepped_follows k ts = follows_then _ (primary_follows (suffix_left ∷ k) ts) (λ a r h. suffixed_follows k a r)
 
   unary_follows : (k : Stack) (ts : List Lexeme)
@@ -239,8 +239,8 @@ module _ (below : Level → ℕ → Parse ExpressionTree) (inner : Inner below) 
       (follows_as refl (shorter r) (unary_follows (set false ∷ k) r)))
 
   owned_follows : (k : Stack) (e : ExpressionTree) (ts : List Lexeme)
-      → Follows (stop (has_effect e) (owned_left ∷ k) ts) has_effect k ts (owned below e ts)
-  unfolding stop shift accepts owned suffixed lengthened
+      → Follows (stop (has_effect e) (owned_left ∷ k) ts) has_effect k ts (after_owner below e ts)
+  unfolding stop shift accepts after_owner after_operand with_length
   owned_follows k e [] = follows_read e [] refl (omega arith)
   owned_follows k e (t ∷ m) = follows_by (onward m) (is_sign s.DotAmpersand t) _ _
       (λ is. follows_as {us = m} refl (omega arith) (entry_follows k e m))
@@ -248,8 +248,8 @@ module _ (below : Level → ℕ → Parse ExpressionTree) (inner : Inner below) 
 
   -- an operand that is no entry of an array
   unindexed_follows : (k : Stack) (t : Lexeme) (m : List Lexeme)
-      → Follows (onward m (on_unindexed t k)) has_effect k m (unindexed below (t ∷ m))
-  unfolding stop shift accepts unindexed
+      → Follows (onward m (on_unindexed t k)) has_effect k m (object_entry below (t ∷ m))
+  unfolding stop shift accepts object_entry
   unindexed_follows k t m = follows_by (onward m) (prefixes t) _ _
       (λ is. unary_follows k (t ∷ m))
       (λ is. follows_then _ (primary_follows (owned_left ∷ k) (t ∷ m)) (λ a r h. owned_follows k a r))
@@ -257,25 +257,25 @@ module _ (below : Level → ℕ → Parse ExpressionTree) (inner : Inner below) 
   -- after a name
   past_name : (k : Stack) (n : List ℕ) (p : Position) (m : List Lexeme)
       → Follows (stop false (array_after ∷ properties_left ∷ owned_left ∷ k) m) has_effect k m
-      (parse.indexed below (name n p ∷ m))
-  unfolding stop shift accepts parse.indexed array_at less
+      (parse.array_entry below (name n p ∷ m))
+  unfolding stop shift accepts parse.array_entry array_at less
   past_name k n p [] = unindexed_follows k (name n p) []
   past_name k n p (u ∷ m) =
-      follows_given (onward m) (indexing u) (λ o. indexed_on below (name n p ∷ u ∷ m) (array_of (name n p) o))
+      follows_given (onward m) (indexing u) (λ o. array_entry_on below (name n p ∷ u ∷ m) (array_of (name n p) o))
       (λ width is. follows_made false (λ a. index (record { text = n; position = p }) width a) (λ a. refl)
       (follows_as refl (omega (arith, shorter m)) (unary_follows (set false ∷ k) m)))
       (λ is. unindexed_follows k (name n p) (u ∷ m))
 
   indexed_follows : (k : Stack) (ts : List Lexeme)
-      → Follows (stop false (indexed ∷ k) ts) has_effect k (tail ts) (parse.indexed below ts)
-  unfolding stop shift accepts parse.indexed array_at unindexed
+      → Follows (stop false (indexed ∷ k) ts) has_effect k (tail ts) (parse.array_entry below ts)
+  unfolding stop shift accepts parse.array_entry array_at object_entry
   indexed_follows k [] = follows_then _ (primary_follows (owned_left ∷ k) []) (λ a r h. owned_follows k a r)
   indexed_follows k (name n p ∷ m) = past_name k n p m
   indexed_follows k (t ∷ m) = unindexed_follows k t m
 
   complemented_follows : (k : Stack) (ts : List Lexeme)
-      → Follows (stop false (complement ∷ k) ts) has_effect k (tail ts) (complemented below ts)
-  unfolding stop shift accepts complemented
+      → Follows (stop false (complement ∷ k) ts) has_effect k (tail ts) (factor below ts)
+  unfolding stop shift accepts factor
   complemented_follows k [] = indexed_follows k []
   complemented_follows k (t ∷ m) = follows_by (onward m) (is_sign s.Tilde t) _ _
       (λ is. follows_made false (λ a. prefixed op.Complement a) (λ a. refl)
@@ -288,7 +288,7 @@ module _ (below : Level → ℕ → Parse ExpressionTree) (inner : Inner below) 
   product_follows k ts =
       follows_as (stops_alike false false (product ∷ k) (complement ∷ scale_left ∷ k) refl (λ t. refl) ts) (omega arith)
       (follows_then _ (complemented_follows (scale_left ∷ k) ts)
-      (λ a r h. chain_follows scaling (complemented below) complement scale_left complemented_follows
+      (λ a r h. chain_follows scaling (factor below) complement scale_left complemented_follows
       (λ b k t. refl) (λ b k. refl) refl (length r) k a r (omega arith)))
 
   sum_follows : (k : Stack) (ts : List Lexeme)
@@ -306,16 +306,16 @@ module _ (below : Level → ℕ → Parse ExpressionTree) (inner : Inner below) 
   sum_quiet k ts = follows_set (sum_follows (set false ∷ k) ts)
 
   equated_follows : (k : Stack) (e : ExpressionTree) (o : Equality) (ts : List Lexeme)
-      → Follows (stop false (sum ∷ set false ∷ or_left ∷ k) ts) has_effect k (tail ts) (equated below e o ts)
-  unfolding shift accepts equated
+      → Follows (stop false (sum ∷ set false ∷ or_left ∷ k) ts) has_effect k (tail ts) (equate_on below e o ts)
+  unfolding shift accepts equate_on
   equated_follows k e o ts = follows_then _
       (list_follows (parse.sum below) (λ j. sum ∷ set false ∷ j) or_left sum_quiet (is_word w.Or)
       (λ k t. refl) (λ k. refl) refl k ts)
       (λ es r h. follows_read (equal o e (trees_of es)) r refl (omega arith))
 
   compared_follows : (k : Stack) (e : ExpressionTree) (ts : List Lexeme)
-      → Follows (stop (has_effect e) (compare_left ∷ k) ts) has_effect k ts (compared below e ts)
-  unfolding stop shift accepts compared tested_next
+      → Follows (stop (has_effect e) (compare_left ∷ k) ts) has_effect k ts (after_left below e ts)
+  unfolding stop shift accepts after_left tested_next
   compared_follows k e [] = follows_read e [] refl (omega arith)
   compared_follows k e (t ∷ m) =
       follows_given (onward m) (comparing t) (λ o. compared_on below e (t ∷ m) o)
@@ -342,8 +342,8 @@ module _ (below : Level → ℕ → Parse ExpressionTree) (inner : Inner below) 
       (follows_then _ (sum_follows (compare_left ∷ k) ts) (λ a r h. compared_follows k a r))
 
   negated_follows : (k : Stack) (ts : List Lexeme)
-      → Follows (stop false (negation ∷ k) ts) has_effect k (tail ts) (negated below ts)
-  unfolding stop shift accepts negated
+      → Follows (stop false (negation ∷ k) ts) has_effect k (tail ts) (logical_operand below ts)
+  unfolding stop shift accepts logical_operand
   negated_follows k [] = comparison_follows k []
   negated_follows k (t ∷ m) = follows_by (onward m) (is_sign s.Not t) _ _
       (λ is. follows_made false (λ a. prefixed op.Not a) (λ a. refl)
@@ -356,12 +356,12 @@ module _ (below : Level → ℕ → Parse ExpressionTree) (inner : Inner below) 
   condition_over k ts =
       follows_as (stops_alike false false (condition ∷ k) (negation ∷ logic_left ∷ k) refl (λ t. refl) ts) (omega arith)
       (follows_then _ (negated_follows (logic_left ∷ k) ts)
-      (λ a r h. chain_follows logical (negated below) negation logic_left negated_follows
+      (λ a r h. chain_follows logical (logical_operand below) negation logic_left negated_follows
       (λ b k t. refl) (λ b k. refl) refl (length r) k a r (omega arith)))
 
   assigned_follows : (k : Stack) (ts : List Lexeme)
-      → Follows (stop false (expression ∷ k) ts) has_effect k (tail ts) (assigned below ts)
-  unfolding assigned
+      → Follows (stop false (expression ∷ k) ts) has_effect k (tail ts) (right_side below ts)
+  unfolding right_side
   assigned_follows k ts = follows_if (begins_expression (head ts)) _ _ (λ is. inner.in_whole _ k ts)
       (λ is. follows_unfit (refused_expression k ts is))
 
@@ -398,8 +398,8 @@ module _ (below : Level → ℕ → Parse ExpressionTree) (inner : Inner below) 
       (λ u g. follows_read (call f (trees_of es)) u (set_goes false true k u) (omega arith))))
 
   called_follows : (f : NameTree) (k : Stack) (ts : List Lexeme)
-      → Follows (stop false (arguments ∷ set true ∷ k) ts) has_effect k (tail ts) (called below f ts)
-  unfolding stop shift accepts called
+      → Follows (stop false (arguments ∷ set true ∷ k) ts) has_effect k (tail ts) (rest_of_call below f ts)
+  unfolding stop shift accepts rest_of_call
   called_follows f k [] = listed_follow f k []
   called_follows f k (t ∷ m) = follows_by (onward m) (is_sign s.CloseParenthesis t) _ _
       (λ is. follows_read (call f none) m (set_goes false true k m) (omega arith))

@@ -4,8 +4,8 @@ use Rattle.std.proofs.Common.{inl, inr, Err, subst}
 use Rattle.std.proofs.lemmas.Bool.{cases_lt}
 use Rattle.syntax_lexer.specs.declared.token.Word.TheVariants as w
 use Rattle.syntax_lexer.specs.Token.{Lexeme}
-use Rattle.syntax_parsing.specs.Stop.{unfit, deep, TooDeep}
-use Rattle.syntax_parsing.specs.Parse.{◌>>=◌, head, is_word, repeated}
+use Rattle.syntax_trees.specs.Stop.{unfit, deep, TooDeep}
+use Rattle.syntax_trees.specs.Parse.{◌>>=◌, head, is_word, repeated}
 use Rattle.syntax_expressions.proofs.Limited.{Limited, deep_before}
 use Rattle.syntax_expressions.proofs.Deepened.{Deepened, deep_in, deep_same}
 use Rattle.syntax_statements.proofs.DeepParts.{deep_first_turn, deep_later_turn}

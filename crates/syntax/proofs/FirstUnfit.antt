@@ -4,8 +4,8 @@ use Rattle.std.proofs.Common.{◌≡◌, ℕ, suc, ◌<◌, ◌≤◌, ◌*◌, 
 use Rattle.std.proofs.Common.{length, Option, Some, None, Result, Ok, Err, refl, sym, ap, subst, ◌∙◌, drop, arith}
 use Rattle.syntax_lexer.specs.Token.{Lexeme, lexemes, end, position_of}
 use Rattle.syntax_lexer.specs.Tokens.{EndsOnce}
-use Rattle.syntax_parsing.specs.Stop.{Stop, unfit, deep}
-use Rattle.syntax_parsing.specs.Errors.{place_of}
+use Rattle.syntax_trees.specs.Stop.{Stop, unfit, deep}
+use Rattle.syntax_trees.specs.Errors.{place_of}
 use Rattle.syntax.proofs.Frames.{Stack}
 use Rattle.syntax.proofs.Machine.{shift, accepts, stop, go_on, Refuses, file}
 use Rattle.syntax.proofs.StackWords.{Fits, words}
@@ -19,12 +19,12 @@ use Rattle.syntax.specs.Nesting.{DeepEntries, deep_entries_first, deep_entries_n
 use Rattle.syntax.specs.Parse.{program}
 use Rattle.syntax.specs.Places.{Begins, IsUnfitAfter}
 use Rattle.syntax_lexer.specs.declared.token.Token.{Token}
-use Rattle.syntax_parsing.specs.declared.error.ParseError.{ParseError}
-use Rattle.syntax_parsing.specs.declared.error.ParseError.TheVariants as errors
-use Rattle.syntax_parsing.specs.Parse.{Fails}
-use Rattle.syntax_parsing.specs.declared.error.Fault.{Fault}
-use Rattle.syntax_parsing.specs.declared.error.Fault.TheVariants.{Grammar, Deep}
-use Rattle.syntax_parsing.specs.Stop.{stop_of}
+use Rattle.syntax_trees.specs.declared.error.ParseError.{ParseError}
+use Rattle.syntax_trees.specs.declared.error.ParseError.TheVariants as errors
+use Rattle.syntax_trees.specs.Parse.{Fails}
+use Rattle.syntax_trees.specs.declared.error.Fault.{Fault}
+use Rattle.syntax_trees.specs.declared.error.Fault.TheVariants.{Grammar, Deep}
+use Rattle.syntax_trees.specs.Stop.{stop_of}
 use Rattle.syntax.proofs.Complete.{within, short_Entry}
 use Rattle.syntax.proofs.EntriesFollow.{program_stops, program_taken, taken_fits}
 use Rattle.syntax.proofs.Main.{found, too_deep}

@@ -6,7 +6,7 @@ use Rattle.syntax_lexer.specs.declared.token.Sign.TheVariants as s
 use Rattle.syntax_lexer.specs.declared.token.Word.{Word}
 use Rattle.syntax_lexer.specs.declared.token.Word.TheVariants as w
 use Rattle.syntax_lexer.specs.Token.{Lexeme, name, number, text, character, dictionary_word, reserved, sign, end}
-use Rattle.syntax_parsing.specs.Parse.{is_sign}
+use Rattle.syntax_trees.specs.Parse.{is_sign}
 use Rattle.syntax_expression_parts.specs.Operators.{stepping, prefixes, relating_word}
 use Rattle.syntax_expression_parts.specs.Parse.{word_value, is_name}
 

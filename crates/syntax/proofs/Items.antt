@@ -6,7 +6,7 @@ use Rattle.syntax_lexer.specs.declared.token.Sign.TheVariants as s
 use Rattle.syntax_lexer.specs.declared.token.Word.TheVariants as w
 use Rattle.syntax_lexer.specs.Token.{Lexeme, text, reserved, sign, position_of}
 use Rattle.syntax_trees.specs.Tree.{ExpressionTree}
-use Rattle.syntax_parsing.specs.Parse.{◌>>=◌, tail, head, is_sign}
+use Rattle.syntax_trees.specs.Parse.{◌>>=◌, tail, head, is_sign}
 use Rattle.syntax_expressions.specs.Parse.{nested, expression}
 use Rattle.syntax_statement_parts.specs.Tree.{PrintItemTree, number_item, character_item, object_item}
 use Rattle.syntax_statement_parts.specs.Grammar.{has_effect}

@@ -5,7 +5,7 @@ use Rattle.syntax_lexer.specs.declared.token.Sign.{Sign}
 use Rattle.syntax_lexer.specs.declared.token.Sign.TheVariants as s
 use Rattle.syntax_lexer.specs.declared.token.Word.TheVariants as w
 use Rattle.syntax_lexer.specs.Token.{Lexeme, name, number, text, character, dictionary_word, reserved, sign, end}
-use Rattle.syntax_parsing.specs.Parse.{is_sign, is_word}
+use Rattle.syntax_trees.specs.Parse.{is_sign, is_word}
 use Rattle.syntax_expression_parts.specs.Operators.{logical, comparing, equating, containing, testing, adding, scaling}
 use Rattle.syntax_expression_parts.specs.Operators.{stepping, indexing}
 use Rattle.syntax_expression_parts.specs.Parse.{is_name}

@@ -8,12 +8,12 @@ use Rattle.syntax_lexer.specs.declared.token.Position.{Position}
 use Rattle.syntax_lexer.specs.FaultNumbers.{no_memory}
 use Rattle.syntax_lexer.specs.Placed.{nowhere}
 use Rattle.syntax_lexer.specs.Token.{Lexeme, end}
-use Rattle.syntax_parsing.specs.Stop.{Stop, unfit, deep}
-use Rattle.syntax_parsing.specs.declared.error.Fault.TheVariants.{Grammar, Deep}
-use Rattle.syntax_parsing.specs.declared.error.ParseError.{ParseError}
-use Rattle.syntax_parsing.specs.declared.error.ParseError.TheVariants as errors
-use Rattle.syntax_parsing.specs.Errors.{placed_fault}
-use Rattle.syntax_parsing.specs.Parse.{◌>>=◌, Fails}
+use Rattle.syntax_trees.specs.Stop.{Stop, unfit, deep}
+use Rattle.syntax_trees.specs.declared.error.Fault.TheVariants.{Grammar, Deep}
+use Rattle.syntax_trees.specs.declared.error.ParseError.{ParseError}
+use Rattle.syntax_trees.specs.declared.error.ParseError.TheVariants as errors
+use Rattle.syntax_trees.specs.Errors.{placed_fault}
+use Rattle.syntax_trees.specs.Parse.{◌>>=◌, Fails}
 use Rattle.syntax_directives.specs.Grammar.{weight_of}
 use Rattle.syntax_expression_parts.proofs.Judged.{Stands}
 use Rattle.syntax.specs.declared.tree.Program.{Program}

@@ -6,8 +6,8 @@ use Rattle.std.specs.Prelude.{if◌then◌else◌}
 use Rattle.syntax_lexer.specs.declared.token.Sign.{Sign}
 use Rattle.syntax_lexer.specs.declared.token.Sign.TheVariants as s
 use Rattle.syntax_lexer.specs.Token.{Lexeme, name}
-use Rattle.syntax_parsing.specs.Stop.{Stop, unfit}
-use Rattle.syntax_parsing.specs.Parse.{◌>>=◌, tail, is_sign}
+use Rattle.syntax_trees.specs.Stop.{Stop, unfit}
+use Rattle.syntax_trees.specs.Parse.{◌>>=◌, tail, is_sign}
 use Rattle.syntax_expression_parts.specs.Parse.{expect_name}
 use Rattle.syntax_expressions.specs.Parse.{nested, expression}
 use Rattle.syntax_statement_parts.specs.Grammar.{has_effect, effect_or_none}

@@ -6,8 +6,8 @@ use Rattle.syntax_lexer.specs.declared.token.Position.{Position}
 use Rattle.syntax_lexer.specs.declared.token.Sign.TheVariants as s
 use Rattle.syntax_lexer.specs.declared.token.Word.TheVariants as w
 use Rattle.syntax_lexer.specs.Token.{Lexeme, name, number, reserved, sign, end}
-use Rattle.syntax_parsing.specs.Stop.{unfit, deep}
-use Rattle.syntax_parsing.specs.Parse as tokens
+use Rattle.syntax_trees.specs.Stop.{unfit, deep}
+use Rattle.syntax_trees.specs.Parse as tokens
 use Rattle.syntax_expression_parts.specs.Parse as operands
 use Rattle.syntax_expressions.specs.Parse as expressions
 use Rattle.syntax_statement_parts.specs.Nesting as cases
@@ -120,25 +120,25 @@ stand : StandsAt else_alone 3 × StandsAt default_again 10 × StandsAt case_afte
     × IsDeepAt parentheses 103 × IsDeepAt operators 104 × IsDeepAt braces 53
 unfolding tokens.expect tokens.expect_word tokens.further tokens.list tokens.as_long tokens.repeated
     operands.array_at operands.expect_name operands.property_next operands.properties operands.entry_of
-    operands.lengthened operands.tested_next operands.suffixed expressions.chain expressions.after_name
-    expressions.enclosed expressions.related expressions.atom expressions.primary expressions.stepped expressions.unary
-    expressions.entry expressions.owned expressions.unindexed expressions.indexed expressions.complemented
-    expressions.product expressions.sum expressions.equated expressions.compared expressions.comparison
-    expressions.negated expressions.condition expressions.assigned expressions.assignment expressions.expression
-    expressions.called expressions.nested cases.begins_case parts.flag parts.flags parts.known_value parts.range
+    operands.with_length operands.tested_next operands.after_operand expressions.chain expressions.after_name
+    expressions.in_parentheses expressions.object_relative expressions.atom expressions.primary expressions.postfix expressions.unary
+    expressions.entry expressions.after_owner expressions.object_entry expressions.array_entry expressions.factor
+    expressions.product expressions.sum expressions.equate_on expressions.after_left expressions.comparison
+    expressions.logical_operand expressions.condition expressions.right_side expressions.assignment expressions.expression
+    expressions.rest_of_call expressions.nested cases.begins_case parts.flag parts.flags parts.known_value parts.range
     parts.ranges parts.cast parts.value parts.item parts.items parts.enclosed_condition parts.optional
     parts.optional_effect parts.heading parts.looped parts.enclosed_heading parts.enclosed_loop
     beginnings.begins_statement statements.ended statements.line_read statements.printed
-    statements.returned statements.given statements.moved statements.removed statements.alone statements.entered
+    statements.returned statements.given statements.moved statements.removed statements.alone statements.do_body
     statements.braced statements.otherwise statements.one_case statements.cases statements.choice
     statements.repetition statements.until statements.iteration statements.traversal statements.selection
     statements.statement_over statements.inside statements.braces statements.bodies statements.statement
-    statements.statements directives.names directives.placed directives.values directives.kind directives.array_after
+    statements.statements directives.names directives.array_value directives.values directives.kind directives.array_after
     directives.arrow directives.arrows directives.short directives.parent directives.object_heading
     directives.past_comma directives.prop directives.lists_further directives.next_prop directives.props
     directives.properties directives.some_names directives.attributes directives.object_after directives.one_text
     directives.texts directives.abbreviate_after directives.ended directives.global_after directives.constant_after
-    directives.attribute_after directives.property_after directives.worded directives.routine_heading
-    directives.closed directives.routine_body directives.routine_at directives.directive programs.one_entry
+    directives.attribute_after directives.property_after directives.directive_of directives.routine_heading
+    directives.routine_end directives.routine_body directives.routine_at directives.directive programs.one_entry
     programs.all_entries programs.entries programs.program
 stand = (refl, refl, refl, refl, refl, refl, refl, refl, refl, refl, refl, refl, refl)

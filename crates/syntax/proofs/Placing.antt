@@ -4,12 +4,12 @@ use Rattle.syntax_lexer.specs.declared.fault.PlacedFault.{PlacedFault}
 use Rattle.syntax_lexer.specs.declared.token.Position.{Position}
 use Rattle.syntax_lexer.specs.Token.{Lexeme, position_of}
 use Rattle.syntax_lexer.specs.Tokens.{EndsOnce}
-use Rattle.syntax_parsing.specs.Stop.{unfit, deep}
-use Rattle.syntax_parsing.specs.declared.error.Fault.TheVariants.{Grammar, Deep}
-use Rattle.syntax_parsing.specs.declared.error.ParseError.{ParseError}
-use Rattle.syntax_parsing.specs.declared.error.ParseError.TheVariants as errors
-use Rattle.syntax_parsing.specs.Errors.{placed_fault}
-use Rattle.syntax_parsing.specs.Parse.{Fails}
+use Rattle.syntax_trees.specs.Stop.{unfit, deep}
+use Rattle.syntax_trees.specs.declared.error.Fault.TheVariants.{Grammar, Deep}
+use Rattle.syntax_trees.specs.declared.error.ParseError.{ParseError}
+use Rattle.syntax_trees.specs.declared.error.ParseError.TheVariants as errors
+use Rattle.syntax_trees.specs.Errors.{placed_fault}
+use Rattle.syntax_trees.specs.Parse.{Fails}
 use Rattle.syntax.specs.Parse.{program}
 use Rattle.syntax.specs.Places.{IsFirstUnfit, IsFirstDeep}
 use Rattle.syntax.proofs.FirstDeep.{first_deep, none_deeper}

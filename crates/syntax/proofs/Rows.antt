@@ -6,11 +6,11 @@ use Rattle.syntax_lexer.specs.declared.token.Sign.TheVariants as s
 use Rattle.syntax_lexer.specs.declared.token.Word.TheVariants as w
 use Rattle.syntax_lexer.specs.Token.{Lexeme, name, text, reserved, sign}
 use Rattle.syntax_lexer.specs.Token.{position_of}
-use Rattle.syntax_parsing.specs.Parse.{head, tail, is_sign, repeated}
+use Rattle.syntax_trees.specs.Parse.{head, tail, is_sign, repeated}
 use Rattle.syntax_expression_parts.specs.Parse.{is_name, expect_name}
 use Rattle.syntax_statement_parts.specs.Parse as parts
 use Rattle.syntax_statement_parts.specs.Parse.{begins_flag, flags, begins_value}
-use Rattle.syntax_directives.specs.Parse.{names, placed, values, arrow, is_text, one_text, texts}
+use Rattle.syntax_directives.specs.Parse.{names, array_value, values, arrow, is_text, one_text, texts}
 use Rattle.syntax.proofs.Frames.{token, any_name, any_text, flag, flags_left, names_left, value}
 use Rattle.syntax.proofs.Frames.{values_left, arrows_left}
 use Rattle.syntax.proofs.Frames.{texts_left, Stack}
@@ -39,8 +39,8 @@ names_follow k ts = repeated_follow expect_name is_name (any_name ∷ names_left
 -- ---- values, each with where it stands
 
 pub placed_follows : (k : Stack) (ts : List Lexeme)
-    → Follows (stop false (value ∷ k) ts) no_effect k (tail ts) (placed ts)
-unfolding placed
+    → Follows (stop false (value ∷ k) ts) no_effect k (tail ts) (array_value ts)
+unfolding array_value
 placed_follows k ts = follows_then _ (value_follows false k ts)
     (λ l r h. follows_read (record { position = position_of (head ts); value = l }) r refl (omega arith))
 
@@ -59,7 +59,7 @@ pub values_follow : (k : Stack) (ts : List Lexeme)
 unfolding values
 values_follow k ts = follows_then _ (placed_follows (values_left ∷ k) ts)
     (λ v r h. follows_then _
-    (repeated_follow placed begins_value (value ∷ values_left ∷ k) (values_left ∷ k) k
+    (repeated_follow array_value begins_value (value ∷ values_left ∷ k) (values_left ∷ k) k
     (placed_follows (values_left ∷ k)) (more_values k) refl (length r) r (omega arith))
     (λ vs u g. follows_read (v ∷ vs) u refl (omega arith)))
 

@@ -6,7 +6,7 @@ use Rattle.syntax_lexer.specs.declared.token.Sign.TheVariants as s
 use Rattle.syntax_lexer.specs.declared.token.Word.TheVariants as w
 use Rattle.syntax_lexer.specs.Token.{Lexeme, name, number, text, dictionary_word, reserved, sign, end}
 use Rattle.syntax_trees.specs.Tree.{NameTree, named}
-use Rattle.syntax_parsing.specs.Stop.{unfit}
+use Rattle.syntax_trees.specs.Stop.{unfit}
 use Rattle.syntax_statement_parts.specs.Tree.{text_item, number_item}
 use Rattle.syntax_statements.specs.Tree.{print, read_line, give, stop, next}
 use Rattle.syntax_directives.specs.Tree.{TextTree, DirectiveTree, attribute, routine}

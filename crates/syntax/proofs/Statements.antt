@@ -7,15 +7,15 @@ use Rattle.syntax_lexer.specs.declared.token.Sign.TheVariants as s
 use Rattle.syntax_lexer.specs.declared.token.Word.TheVariants as w
 use Rattle.syntax_lexer.specs.Token.{Lexeme, name, text, reserved, sign}
 use Rattle.syntax_trees.specs.Tree.{ExpressionTree}
-use Rattle.syntax_parsing.specs.Stop.{unfit}
-use Rattle.syntax_parsing.specs.Parse.{Parse, ◌>>=◌, tail, head, is_sign, is_word}
+use Rattle.syntax_trees.specs.Stop.{unfit}
+use Rattle.syntax_trees.specs.Parse.{Parse, ◌>>=◌, tail, head, is_sign, is_word}
 use Rattle.syntax_statement_parts.specs.Grammar.{has_effect}
 use Rattle.syntax_statement_parts.specs.Tree.{PrintItemTree}
 use Rattle.syntax_statements.specs.Grammar.{else_follows}
 use Rattle.syntax_statements.specs.Nesting.{begins_statement}
 use Rattle.syntax_statements.specs.Tree.{StatementTree, if_then, if_else}
 use Rattle.syntax_statements.specs.Tree.{print, print_return}
-use Rattle.syntax_statements.specs.Parse.{ended, line_read, printed, returned, given, moved, removed, alone, entered}
+use Rattle.syntax_statements.specs.Parse.{ended, line_read, printed, returned, given, moved, removed, alone, do_body}
 use Rattle.syntax_statements.specs.Parse.{braced}
 use Rattle.syntax_statements.specs.Parse.{otherwise, choice, repetition, until, iteration, traversal, selection}
 use Rattle.syntax_statements.specs.Parse.{statement_over, inside, braces, bodies, statement, statements}
@@ -118,8 +118,8 @@ module _ (d : ℕ) (one : Parse StatementTree) (reads : (k : Stack) (ts : List L
       (λ c r h. longer r (follows_then _ (reads k r) (λ x u g. follows_read _ u refl (omega arith)))))
 
   entered_follows : (k : Stack) (ts : List Lexeme)
-      → Follows (stop false (frame.statement ∷ k) ts) no_effect k ts (entered one ts)
-  unfolding entered
+      → Follows (stop false (frame.statement ∷ k) ts) no_effect k ts (do_body one ts)
+  unfolding do_body
   entered_follows k ts = go (begins_statement (head ts)) refl
     where
       go : (b : Bool) → begins_statement (head ts) ≡ b → Follows (stop false (frame.statement ∷ k) ts) no_effect k ts

@@ -8,7 +8,7 @@ use Rattle.syntax_lexer.specs.declared.token.Sign.TheVariants as s
 use Rattle.syntax_lexer.specs.declared.token.Word.{Word}
 use Rattle.syntax_lexer.specs.declared.token.Word.TheVariants as w
 use Rattle.syntax_lexer.specs.Token.{Lexeme, name, reserved, sign}
-use Rattle.syntax_parsing.specs.Parse.{head, sign_number, word_number, is_sign, is_word}
+use Rattle.syntax_trees.specs.Parse.{head, sign_number, word_number, is_sign, is_word}
 use Rattle.syntax.proofs.Frames.{Frame, token, word, any_name, any_text, number_left, last, close}
 use Rattle.syntax.proofs.Frames.{primary, unary, indexed, complement, product, sum, comparison}
 use Rattle.syntax.proofs.Frames.{negation, condition, expression, arguments, name_after, array_after}

@@ -5,8 +5,8 @@ use Rattle.std.specs.Prelude.{Result, Ok, Err}
 use Rattle.syntax_lexer.specs.declared.token.Position.{Position}
 use Rattle.syntax_lexer.specs.declared.token.Word.TheVariants as w
 use Rattle.syntax_lexer.specs.Token.{Lexeme, end}
-use Rattle.syntax_parsing.specs.Stop.{Stop, unfit}
-use Rattle.syntax_parsing.specs.Parse.{Parse, ◌>>=◌, head, tail, is_word, repeated}
+use Rattle.syntax_trees.specs.Stop.{Stop, unfit}
+use Rattle.syntax_trees.specs.Parse.{Parse, ◌>>=◌, head, tail, is_word, repeated}
 use Rattle.syntax_directives.specs.Tree.{TextTree, DirectiveTree}
 use Rattle.syntax_directives.specs.Views.{directive_tree, text_tree}
 use Rattle.syntax_directives.specs.Grammar.{weight_of}

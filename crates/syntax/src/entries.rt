@@ -2,13 +2,13 @@
 
 ghost use Rattle.std.specs.Prelude.{◌≡◌, IfErr, IfOk, [], ◌∷◌, ◌++◌};
 ghost use Rattle.syntax_lexer.specs.Token.{lexeme};
-ghost use Rattle.syntax_parsing.specs.Returned.{ahead, Takes};
+ghost use Rattle.syntax_trees.specs.Returned.{ahead, Takes};
 ghost use Rattle.syntax.specs.Parse as spec;
 ghost use Rattle.syntax.specs.Parse.{parts_in};
 
 use syntax_directives::{Directive, Text, abbreviate, directive};
 use syntax_lexer::{Kind, Token, Word};
-use syntax_parsing::{ParseError, Parser, is_word, pass, peek};
+use syntax_trees::{ParseError, Parsed, Parser, is_word, pass, peek};
 
 /// What stands in a file: its directives, and the texts of all `abbreviate`, each in order.
 #[derive(Drop)]
@@ -24,7 +24,7 @@ fn goes_on(token: Token<'_>) -> bool
 }
 
 // One more directive in a row.
-fn add<'a>(directives: &mut Vec<Directive<'a>>, next: Box<Directive<'a>>) -> Result<(), ParseError>
+fn add<'a>(directives: &mut Vec<Directive<'a>>, next: Box<Directive<'a>>) -> Parsed<()>
     ensures ok { IfOk result (λ _. directives.new.items
         ≡ directives.old.items ++ next.entry.value ∷ []) }
     ensures err { IfErr result (λ e. e ≡ ParseError.Memory) }
@@ -39,7 +39,7 @@ fn add_directive<'t, 'a>(
     parser: &mut Parser<'t, 'a>,
     found: &mut FileEntries<'a>,
     depth: usize,
-) -> Result<(), ParseError>
+) -> Parsed<()>
     ensures { Takes (λ _. parts_in found.new) result parser.new
         (spec.directive_more depth (parts_in found.old) (ahead parser.old)) }
 {
@@ -54,10 +54,7 @@ fn add_directive<'t, 'a>(
 
 // The texts of an `abbreviate`, from its word on, after what was read before.
 #[tactic(auto, unfolding(crate::specs::Parse::texts_more), using(crate::proofs::EntriesRead::map_both))]
-fn add_texts<'t, 'a>(
-    parser: &mut Parser<'t, 'a>,
-    found: &mut FileEntries<'a>,
-) -> Result<(), ParseError>
+fn add_texts<'t, 'a>(parser: &mut Parser<'t, 'a>, found: &mut FileEntries<'a>) -> Parsed<()>
     ensures { Takes (λ _. parts_in found.new) result parser.new
         (spec.texts_more (parts_in found.old) (ahead parser.old)) }
 {
@@ -73,7 +70,7 @@ fn entry<'t, 'a>(
     parser: &mut Parser<'t, 'a>,
     found: &mut FileEntries<'a>,
     depth: usize,
-) -> Result<(), ParseError>
+) -> Parsed<()>
     ensures { Takes (λ _. parts_in found.new) result parser.new
         (spec.one_more depth (parts_in found.old) (ahead parser.old)) }
 {
@@ -91,10 +88,7 @@ fn entry<'t, 'a>(
 /// `Fault::Grammar` at the first token with which no derivation goes on, `Fault::Deep` at the token
 /// for which no nesting is left, and `Memory` where a growth is refused.
 #[tactic(auto, unfolding(crate::specs::Parse::entries, crate::specs::Parse::all_entries), using(crate::proofs::EntriesRead::entries_out, crate::proofs::EntriesRead::entries_done, crate::proofs::EntriesRead::entries_more, crate::proofs::EntriesRead::entries_fail))]
-pub fn entries<'t, 'a>(
-    parser: &mut Parser<'t, 'a>,
-    depth: usize,
-) -> Result<FileEntries<'a>, ParseError>
+pub fn entries<'t, 'a>(parser: &mut Parser<'t, 'a>, depth: usize) -> Parsed<FileEntries<'a>>
     ensures { Takes parts_in result parser.new (spec.entries depth (ahead parser.old)) }
 {
     let mut found = FileEntries {

@@ -5,8 +5,8 @@ ghost use Rattle.syntax_lexer.specs.FaultNumbers.{no_memory};
 ghost use Rattle.syntax_lexer.specs.Placed.{nowhere, unplaced};
 ghost use Rattle.syntax_lexer.specs.Token.{Lexeme, lexeme, lexemes};
 ghost use Rattle.syntax_lexer.specs.Tokens.{EndsOnce};
-ghost use Rattle.syntax_parsing.specs.Parse.{Gives};
-ghost use Rattle.syntax_parsing.specs.Returned.{ahead};
+ghost use Rattle.syntax_trees.specs.Parse.{Gives};
+ghost use Rattle.syntax_trees.specs.Returned.{ahead};
 ghost use Rattle.syntax.specs.Answers.{IfNumber, AnswersProgram};
 ghost use Rattle.syntax.specs.Grammar.{IsProgram, program_nesting};
 ghost use Rattle.syntax.specs.Nesting.{DeepProgram};
@@ -22,7 +22,7 @@ use crate::words::dictionary_words;
 use std::alloc::Global;
 use syntax_directives::weight_of;
 use syntax_lexer::{Kind, PlacedFault, Position, SourceFault, Token};
-use syntax_parsing::{Fault, ParseError, Parser, fault_at};
+use syntax_trees::{Fault, Parsed, Parser, fault_at};
 
 // How many nestings may be opened in a statement of a routine.
 const MOST_NESTED: usize = 100;
@@ -54,7 +54,7 @@ fn whole<'t, 'a>(
     parser: &Parser<'t, 'a>,
     found: FileEntries<'a>,
     tokens: &[Token<'a>],
-) -> Result<Program<'a>, ParseError>
+) -> Parsed<Program<'a>>
     ensures { Gives program_tree result (spec.whole (lexemes tokens.now) (parts_in found.entry)
         (ahead parser.now) (spec.end_alone (ahead parser.now))) }
 {
@@ -79,11 +79,7 @@ fn whole<'t, 'a>(
 /// `Fault::Grammar` at the first token with which no program begins, `Fault::Deep` at the first for
 /// which no nesting is left, and `Memory` where a growth is refused.
 #[tactic(auto, unfolding(crate::specs::Parse::program))]
-pub fn program<'a>(
-    alloc: Global,
-    tokens: &[Token<'a>],
-    depth: usize,
-) -> Result<Program<'a>, ParseError>
+pub fn program<'a>(alloc: Global, tokens: &[Token<'a>], depth: usize) -> Parsed<Program<'a>>
     ensures { Gives program_tree result (spec.program depth (lexemes tokens.now)) }
 {
     let mut parser = Parser { alloc, tokens };

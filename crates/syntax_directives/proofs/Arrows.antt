@@ -7,8 +7,8 @@ use Rattle.syntax_lexer.specs.declared.token.Sign.TheVariants as s
 use Rattle.syntax_lexer.specs.Token.{Lexeme, name, position_of}
 use Rattle.syntax_trees.specs.declared.tree.Name.{Name}
 use Rattle.syntax_trees.specs.Views.{name_tree}
-use Rattle.syntax_parsing.specs.Parse.{head, tail, is_sign, expect, repeated}
-use Rattle.syntax_parsing.proofs.Loops.{joined, repeated_out, repeated_done, repeated_more}
+use Rattle.syntax_trees.specs.Parse.{head, tail, is_sign, expect, repeated}
+use Rattle.syntax_trees.proofs.Loops.{joined, repeated_out, repeated_done, repeated_more}
 use Rattle.syntax_expression_parts.specs.Parse.{is_name}
 use Rattle.syntax_directives.specs.Parse.{arrow, parent, parent_on}
 

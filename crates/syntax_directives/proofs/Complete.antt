@@ -5,8 +5,8 @@ use Rattle.syntax_lexer.specs.declared.token.Sign.TheVariants as s
 use Rattle.syntax_lexer.specs.declared.token.Word.TheVariants as w
 use Rattle.syntax_lexer.specs.Token.{Lexeme, name, reserved, sign}
 use Rattle.syntax_trees.specs.Tree.{NameTree}
-use Rattle.syntax_parsing.specs.Stop.{Stop}
-use Rattle.syntax_parsing.specs.Parse.{head, expect}
+use Rattle.syntax_trees.specs.Stop.{Stop}
+use Rattle.syntax_trees.specs.Parse.{head, expect}
 use Rattle.syntax_expressions.proofs.Limited.{Limited, then, at_once}
 use Rattle.syntax_expression_parts.specs.Parse.{expect_name}
 use Rattle.syntax_statement_parts.specs.Tree.{LiteralTree}
@@ -25,7 +25,7 @@ use Rattle.syntax_directives.specs.Grammar.{weight_of, kind_of, IsDirective, d_g
 use Rattle.syntax_directives.specs.Grammar.{d_array, d_attribute, d_property, d_property_value, d_object, d_routine}
 use Rattle.syntax_directives.specs.Grammar.{directive_nesting}
 use Rattle.syntax_directives.specs.Parse.{names, values, kind, array_after, ended, global_after, constant_after}
-use Rattle.syntax_directives.specs.Parse.{attribute_after, property_after, object_after, worded, routine_at}
+use Rattle.syntax_directives.specs.Parse.{attribute_after, property_after, object_after, directive_of, routine_at}
 use Rattle.syntax_directives.specs.Parse.{directive}
 use Rattle.syntax_directives.proofs.Lists.{names_read, short_Names, short_Values, values_read}
 use Rattle.syntax_directives.proofs.ObjectsRead.{short_Head, short_Properties, short_Attributes}
@@ -54,52 +54,52 @@ module _ (d : ℕ) where
   step_global : (p q o : Position) (n : List ℕ) (r : List Lexeme)
       → Limited (directive d (reserved w.Global p ∷ name n q ∷ sign s.Semicolon o ∷ r)) d 0
       (global (record { text = n; position = q }) None) r
-  unfolding directive worded global_after expect_name ended expect
+  unfolding directive directive_of global_after expect_name ended expect
   step_global p q o n r = at_once refl
 
   step_global_value : (p q o l : Position) (n : List ℕ) (k : LiteralTree) (m r : List Lexeme)
       → known_value m ≡ Ok (k, sign s.Semicolon l ∷ r)
       → Limited (directive d (reserved w.Global p ∷ name n q ∷ sign s.Assign o ∷ m)) d 0
       (global (record { text = n; position = q }) (Some k)) r
-  unfolding directive worded global_after expect_name ended expect
+  unfolding directive directive_of global_after expect_name ended expect
   step_global_value p q o l n k m r e = at_once (rw e refl)
 
   step_constant : (p q o l : Position) (n : List ℕ) (k : LiteralTree) (m r : List Lexeme)
       → known_value m ≡ Ok (k, sign s.Semicolon l ∷ r)
       → Limited (directive d (reserved w.Constant p ∷ name n q ∷ sign s.Assign o ∷ m)) d 0
       (constant (record { text = n; position = q }) k) r
-  unfolding directive worded constant_after expect_name ended expect
+  unfolding directive directive_of constant_after expect_name ended expect
   step_constant p q o l n k m r e = at_once (rw e refl)
 
   step_array : (p q l : Position) (t : Lexeme) (n : List ℕ) (a : ArrayKind) (vs : List ValueTree) (m r : List Lexeme)
       → kind_of t ≡ Some a → values m ≡ Ok (vs, sign s.Semicolon l ∷ r)
       → Limited (directive d (reserved w.Array p ∷ name n q ∷ t ∷ m)) d 0
       (array (record { name = record { text = n; position = q }; kind = a; values = vs })) r
-  unfolding directive worded array_after expect_name kind expect
+  unfolding directive directive_of array_after expect_name kind expect
   step_array p q l t n a vs m r o e = at_once (rw (o, e) refl)
 
   step_attribute : (p q o : Position) (n : List ℕ) (r : List Lexeme)
       → Limited (directive d (reserved w.Attribute p ∷ name n q ∷ sign s.Semicolon o ∷ r)) d 0
       (attribute (record { text = n; position = q })) r
-  unfolding directive worded attribute_after expect_name ended expect
+  unfolding directive directive_of attribute_after expect_name ended expect
   step_attribute p q o n r = at_once refl
 
   step_property : (p q o : Position) (n : List ℕ) (r : List Lexeme)
       → Limited (directive d (reserved w.Property p ∷ name n q ∷ sign s.Semicolon o ∷ r)) d 0
       (property (record { text = n; position = q }) None) r
-  unfolding directive worded property_after expect_name ended expect
+  unfolding directive directive_of property_after expect_name ended expect
   step_property p q o n r = at_once refl
 
   step_property_value : (p q o : Position) (n : List ℕ) (k : LiteralTree) (m r : List Lexeme)
       → begins_value (head m) ≡ true → known_value m ≡ Ok (k, sign s.Semicolon o ∷ r)
       → Limited (directive d (reserved w.Property p ∷ name n q ∷ m)) d 0
       (property (record { text = n; position = q }) (Some k)) r
-  unfolding directive worded property_after expect_name ended expect
+  unfolding directive directive_of property_after expect_name ended expect
   step_property_value p q o n k m r b e = at_once (rw (b, e) refl)
 
   step_object : (p : Position) (x : ObjectTree) (m r : List Lexeme) → object_after m ≡ Ok (x, r)
       → Limited (directive d (reserved w.Object p ∷ m)) d 0 (object x) r
-  unfolding directive worded
+  unfolding directive directive_of
   step_object p x m r e = at_once (rw e refl)
 
   step_routine : {j : ℕ} (p q o l i : Position) (n : List ℕ) (ns : List NameTree) (xs : StatementTrees)

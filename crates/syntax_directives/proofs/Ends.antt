@@ -6,8 +6,8 @@ use Rattle.syntax_lexer.specs.declared.token.Sign.{Sign}
 use Rattle.syntax_lexer.specs.declared.token.Sign.TheVariants as s
 use Rattle.syntax_lexer.specs.Token.{Lexeme, name, sign, lexeme, lexemes, position_of}
 use Rattle.syntax_trees.specs.Tree.{NameTree}
-use Rattle.syntax_parsing.specs.Stop.{Stop, deep, unfit}
-use Rattle.syntax_parsing.specs.Parse.{◌>>=◌, head, tail, expect}
+use Rattle.syntax_trees.specs.Stop.{Stop, deep, unfit}
+use Rattle.syntax_trees.specs.Parse.{◌>>=◌, head, tail, expect}
 use Rattle.syntax_expression_parts.proofs.Judged.{Judged, judged_read, judged_then, judged_after}
 use Rattle.syntax_expression_parts.proofs.Tokens.{expect_ok, expect_not_deep}
 use Rattle.syntax_expression_parts.proofs.NamesRead.{name_judged}
@@ -15,7 +15,7 @@ use Rattle.syntax_statements.specs.Tree.{StatementTree, StatementTrees}
 use Rattle.syntax_statements.specs.Grammar.{IsSs}
 use Rattle.syntax_statements.proofs.Sound.{judged_Ss}
 use Rattle.syntax_directives.specs.Grammar.{weight_of, IsNames}
-use Rattle.syntax_directives.specs.Parse.{routine_heading, closed, routine_body}
+use Rattle.syntax_directives.specs.Parse.{routine_heading, routine_end, routine_body}
 use Rattle.syntax_directives.specs.Answers.{EndsWith}
 use Rattle.syntax_directives.proofs.SpelledStatements.{spelled_Names, spelled_Ss}
 use Rattle.syntax_directives.proofs.Lists.{names_judged}
@@ -87,8 +87,8 @@ heading_ends ts =
     (λ i x. x))
     (λ i x. x)
 
-closed_ends : (ts r : List Lexeme) → closed ts ≡ Ok r → EndsWith ts r
-unfolding closed
+closed_ends : (ts r : List Lexeme) → routine_end ts ≡ Ok r → EndsWith ts r
+unfolding routine_end
 closed_ends ts r e = go (expect s.CloseBracket ts) refl e
   where
     go : (R : Result (List Lexeme) Stop) → expect s.CloseBracket ts ≡ R → (R >>= λ u. expect s.Semicolon u) ≡ Ok r
@@ -96,8 +96,8 @@ closed_ends ts r e = go (expect s.CloseBracket ts) refl e
     go (Ok u) g h = further_on ts u r (after_sign s.CloseBracket ts u g) (after_sign s.Semicolon u r h)
     go (Err f) g h = absurd cc
 
-closed_not_deep : (ts : List Lexeme) (k : ℕ) → closed ts ≡ Err (deep k) → ⊥
-unfolding closed
+closed_not_deep : (ts : List Lexeme) (k : ℕ) → routine_end ts ≡ Err (deep k) → ⊥
+unfolding routine_end
 closed_not_deep ts k e = go (expect s.CloseBracket ts) refl e
   where
     go : (R : Result (List Lexeme) Stop) → expect s.CloseBracket ts ≡ R
@@ -110,7 +110,7 @@ body_ends : (d : ℕ) (ts : List Lexeme) → Judged (λ xs r. EndsWith ts r) (λ
 unfolding routine_body
 body_ends d ts =
     judged_then _ (judged_Ss d ts)
-    (λ xs u l. judged_after (closed u) _
+    (λ xs u l. judged_after (routine_end u) _
     (λ r e. judged_read xs r (further_on ts u r (after_statements l.0) (closed_ends u r e)))
     (λ i e. absurd (closed_not_deep u i e)))
     (λ i x. tt)

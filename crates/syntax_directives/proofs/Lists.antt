@@ -4,7 +4,7 @@ use Rattle.std.proofs.Common.{◌≡◌, ℕ, zero, suc, ◌<◌, ◌≤◌, tru
 use Rattle.std.proofs.Common.{arith}
 use Rattle.syntax_lexer.specs.Token.{Lexeme, name}
 use Rattle.syntax_trees.specs.Tree.{NameTree}
-use Rattle.syntax_parsing.specs.Parse.{head, as_long, repeated}
+use Rattle.syntax_trees.specs.Parse.{head, as_long, repeated}
 use Rattle.syntax_expression_parts.specs.Parse.{is_name, expect_name}
 use Rattle.syntax_expression_parts.proofs.Judged.{Judged, judged_read, judged_grammar, judged_then}
 use Rattle.syntax_expression_parts.proofs.NamesRead.{name_judged}
@@ -14,7 +14,7 @@ use Rattle.syntax_statements.proofs.SoundRows.{repeated_judged}
 use Rattle.syntax_directives.specs.Tree.{ValueTree}
 use Rattle.syntax_directives.specs.Grammar.{IsNames, names_stop, names_next, IsValue, v_value, IsValues, values_stop}
 use Rattle.syntax_directives.specs.Grammar.{values_next}
-use Rattle.syntax_directives.specs.Parse.{names, some_on, some_names, placed, values}
+use Rattle.syntax_directives.specs.Parse.{names, some_on, some_names, array_value, values}
 
 -- ---- names
 
@@ -68,8 +68,8 @@ some_names_read {r} {ns} ts a lt e = rw (names_read ts a e) (some_read ns r lt)
 
 -- ---- values of arrays and properties
 
-pub placed_judged : (ts : List Lexeme) → Judged (λ v r. IsValue ts v r) (λ i. ⊥) (placed ts)
-unfolding placed known_value
+pub placed_judged : (ts : List Lexeme) → Judged (λ v r. IsValue ts v r) (λ i. ⊥) (array_value ts)
+unfolding array_value known_value
 placed_judged [] = judged_grammar
 placed_judged (t ∷ m) = judged_then _ (known_judged (t ∷ m)) (λ k r h. judged_read _ r (v_value h)) (λ i x. x)
 
@@ -77,7 +77,7 @@ pub values_judged : (ts : List Lexeme) → Judged (λ vs r. IsValues ts vs r × 
 unfolding values
 values_judged ts = judged_then _ (placed_judged ts)
     (λ v r h. judged_then _
-    (repeated_judged begins_value placed IsValue IsValues (λ us i. ⊥) (λ us i. ⊥)
+    (repeated_judged begins_value array_value IsValue IsValues (λ us i. ⊥) (λ us i. ⊥)
     (λ u. values_stop)
     (λ us a m vs u q l. values_next q l)
     (λ us i e x. x)
@@ -88,8 +88,8 @@ values_judged ts = judged_then _ (placed_judged ts)
 begins_Value : {ts r : List Lexeme} {v : ValueTree} → IsValue ts v r → begins_value (head ts) ≡ true
 begins_Value (v_value a) = begins_K a
 
-placed_read : {ts r : List Lexeme} {v : ValueTree} → IsValue ts v r → placed ts ≡ Ok (v, r)
-unfolding placed
+placed_read : {ts r : List Lexeme} {v : ValueTree} → IsValue ts v r → array_value ts ≡ Ok (v, r)
+unfolding array_value
 placed_read (v_value a) = rw (known_read a) refl
 
 pub short_Value : {ts r : List Lexeme} {v : ValueTree} → IsValue ts v r → length r < length ts
@@ -100,7 +100,7 @@ short_Values values_stop = omega arith
 short_Values (values_next a b) = omega (arith, short_Value a, short_Values b)
 
 turns_Values : {ts r : List Lexeme} {vs : List ValueTree} → IsValues ts vs r → begins_value (head r) ≡ false
-    → (n : ℕ) → length ts ≤ n → repeated begins_value placed n ts ≡ Ok (vs, r)
+    → (n : ℕ) → length ts ≤ n → repeated begins_value array_value n ts ≡ Ok (vs, r)
 unfolding repeated as_long
 turns_Values values_stop e zero le = refl
 turns_Values values_stop e (suc n) le = rw e refl

@@ -4,9 +4,9 @@ use Rattle.std.specs.Prelude.{map}
 use Rattle.syntax_lexer.specs.Token.{Lexeme, name}
 use Rattle.syntax_trees.specs.declared.tree.Name.{Name}
 use Rattle.syntax_trees.specs.Views.{name_tree}
-use Rattle.syntax_parsing.specs.Stop.{unfit}
-use Rattle.syntax_parsing.specs.Parse.{head, tail, repeated}
-use Rattle.syntax_parsing.proofs.Loops.{joined, repeated_more}
+use Rattle.syntax_trees.specs.Stop.{unfit}
+use Rattle.syntax_trees.specs.Parse.{head, tail, repeated}
+use Rattle.syntax_trees.proofs.Loops.{joined, repeated_more}
 use Rattle.syntax_expression_parts.specs.Parse.{is_name, expect_name}
 use Rattle.syntax_expression_parts.proofs.NamesRead.{name_found}
 use Rattle.syntax_directives.specs.Parse.{some_on, names, some_names}

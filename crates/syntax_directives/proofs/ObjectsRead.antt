@@ -6,7 +6,7 @@ use Rattle.syntax_lexer.specs.declared.token.Sign.TheVariants as s
 use Rattle.syntax_lexer.specs.declared.token.Word.TheVariants as w
 use Rattle.syntax_lexer.specs.Token.{Lexeme, name, text, reserved, sign, position_of}
 use Rattle.syntax_trees.specs.Tree.{NameTree}
-use Rattle.syntax_parsing.specs.Parse.{head, tail, is_sign, is_word, expect, as_long}
+use Rattle.syntax_trees.specs.Parse.{head, tail, is_sign, is_word, expect, as_long}
 use Rattle.syntax_expression_parts.proofs.Judged.{Judged, judged_read, judged_grammar, judged_then, judged_after}
 use Rattle.syntax_expression_parts.proofs.Judged.{judged_by, judged_as}
 use Rattle.syntax_expression_parts.proofs.Tokens.{at_sign, at_word, expect_ok, expect_not_deep}

@@ -3,17 +3,17 @@ use Rattle.std.proofs.Common.{◌≡◌, ℕ, ◌-◌, List, Result, Ok, Err, re
 use Rattle.syntax_lexer.specs.declared.token.Sign.TheVariants as s
 use Rattle.syntax_lexer.specs.Token.{Lexeme}
 use Rattle.syntax_trees.specs.Tree.{NameTree}
-use Rattle.syntax_parsing.specs.Stop.{Stop}
-use Rattle.syntax_parsing.specs.declared.error.ParseError.{ParseError}
-use Rattle.syntax_parsing.specs.declared.error.ParseError.TheVariants as errors
-use Rattle.syntax_parsing.specs.Parse.{◌>>=◌, Fails, tail, expect}
+use Rattle.syntax_trees.specs.Stop.{Stop}
+use Rattle.syntax_trees.specs.declared.error.ParseError.{ParseError}
+use Rattle.syntax_trees.specs.declared.error.ParseError.TheVariants as errors
+use Rattle.syntax_trees.specs.Parse.{◌>>=◌, Fails, tail, expect}
 use Rattle.syntax_expression_parts.specs.Parse.{expect_name}
 use Rattle.syntax_statements.specs.Tree.{StatementTree}
 use Rattle.syntax_statements.specs.Views.{trees_of}
 use Rattle.syntax_statements.specs.Parse.{statements}
 use Rattle.syntax_directives.specs.Grammar.{weight_of}
 use Rattle.syntax_directives.specs.Tree.{RoutineTree, routine}
-use Rattle.syntax_directives.specs.Parse.{names, routine_heading, closed, routine_body, routine_at, one_routine}
+use Rattle.syntax_directives.specs.Parse.{names, routine_heading, routine_end, routine_body, routine_at, one_routine}
 
 abbrev made : List Lexeme → NameTree → List NameTree → List StatementTree → List Lexeme → RoutineTree × List Lexeme
 made ts n ns xs r = (
@@ -86,7 +86,7 @@ module _ (d : ℕ) (ts : List Lexeme) where
 
   headed : (n : NameTree) (ns : List NameTree) (R : Result (List Lexeme) Stop)
       → (R >>= λ m. statements d m >>= after_body n ns) ≡ ((R >>= heading_of n ns) >>= after)
-  unfolding routine_body closed
+  unfolding routine_body routine_end
   headed n ns (Ok m) = filled n ns (statements d m)
   headed n ns (Err f) = refl
 

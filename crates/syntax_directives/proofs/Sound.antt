@@ -7,7 +7,7 @@ use Rattle.syntax_lexer.specs.declared.token.Sign.TheVariants as s
 use Rattle.syntax_lexer.specs.declared.token.Word.{Word}
 use Rattle.syntax_lexer.specs.declared.token.Word.TheVariants as w
 use Rattle.syntax_lexer.specs.Token.{Lexeme, name, reserved, sign, position_of}
-use Rattle.syntax_parsing.specs.Parse.{head, tail, is_sign, expect}
+use Rattle.syntax_trees.specs.Parse.{head, tail, is_sign, expect}
 use Rattle.syntax_expression_parts.proofs.Judged.{Judged, judged_read, judged_grammar, judged_then, judged_after}
 use Rattle.syntax_expression_parts.proofs.Judged.{judged_by}
 use Rattle.syntax_expression_parts.proofs.Tokens.{at_sign, expect_ok, expect_not_deep}
@@ -25,7 +25,7 @@ use Rattle.syntax_directives.specs.Grammar.{d_global_value, d_constant, d_array,
 use Rattle.syntax_directives.specs.Grammar.{d_property_value, d_routine, directive_nesting}
 use Rattle.syntax_directives.specs.Nesting.{DeepDirective, deep_d_routine}
 use Rattle.syntax_directives.specs.Parse.{kind_on, kind, array_after, ended, global_after, constant_after}
-use Rattle.syntax_directives.specs.Parse.{attribute_after, property_after, worded, routine_at, directive}
+use Rattle.syntax_directives.specs.Parse.{attribute_after, property_after, directive_of, routine_at, directive}
 use Rattle.syntax_directives.proofs.Lists.{names_judged, values_judged}
 use Rattle.syntax_directives.proofs.ObjectsRead.{object_judged}
 
@@ -193,8 +193,8 @@ module _ (d : ℕ) where
 
   worded_judged : (word : Word) (p : Position) (ts : List Lexeme)
       → Judged (λ x r. IsDirective (reserved word p ∷ ts) x r × (directive_nesting x ≤ d))
-      (DeepDirective (suc d) (reserved word p ∷ ts)) (worded word (reserved word p ∷ ts))
-  unfolding worded
+      (DeepDirective (suc d) (reserved word p ∷ ts)) (directive_of word (reserved word p ∷ ts))
+  unfolding directive_of
   worded_judged w.Global p ts = global_judged p ts
   worded_judged w.Constant p ts = constant_judged p ts
   worded_judged w.Array p ts = judged_then _ (array_judged p ts) (λ x r h. judged_read (array x) r h) (λ i x. x)

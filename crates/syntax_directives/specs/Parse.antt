@@ -8,8 +8,8 @@ use Rattle.syntax_lexer.specs.declared.token.Word.{Word}
 use Rattle.syntax_lexer.specs.declared.token.Word.TheVariants as w
 use Rattle.syntax_lexer.specs.Token.{Lexeme, name, text, reserved, sign, position_of}
 use Rattle.syntax_trees.specs.Tree.{NameTree}
-use Rattle.syntax_parsing.specs.Stop.{Stop, unfit}
-use Rattle.syntax_parsing.specs.Parse.{Parse, ◌>>=◌, head, tail, is_sign, is_word, expect, as_long, repeated}
+use Rattle.syntax_trees.specs.Stop.{Stop, unfit}
+use Rattle.syntax_trees.specs.Parse.{Parse, ◌>>=◌, head, tail, is_sign, is_word, expect, as_long, repeated}
 use Rattle.syntax_expression_parts.specs.Parse.{is_name, expect_name}
 use Rattle.syntax_statement_parts.specs.Parse.{known_value, begins_value}
 use Rattle.syntax_statements.specs.Tree.{StatementTree}
@@ -28,11 +28,11 @@ names ts = repeated is_name expect_name (length ts) ts
 
 -- ---- arrays
 
-unfoldable pub placed : Parse ValueTree
-placed ts = known_value ts >>= λ k. Ok (record { position = position_of (head ts); value = k.0 }, k.1)
+unfoldable pub array_value : Parse ValueTree
+array_value ts = known_value ts >>= λ k. Ok (record { position = position_of (head ts); value = k.0 }, k.1)
 
 unfoldable pub values : Parse (List ValueTree)
-values ts = placed ts >>= λ v. repeated begins_value placed (length v.1) v.1 >>= λ vs. Ok (v.0 ∷ vs.0, vs.1)
+values ts = array_value ts >>= λ v. repeated begins_value array_value (length v.1) v.1 >>= λ vs. Ok (v.0 ∷ vs.0, vs.1)
 
 abbrev pub kind_on : List Lexeme → Option ArrayKind → Result (ArrayKind × List Lexeme) Stop
 kind_on ts None = Err (unfit (length ts))
@@ -188,14 +188,14 @@ property_after ts = do
       else ended (property n.0 None) n.1
 
 -- the directive that begins with that word
-unfoldable pub worded : Word → Parse DirectiveTree
-worded w.Global ts = global_after (tail ts)
-worded w.Constant ts = constant_after (tail ts)
-worded w.Array ts = array_after (tail ts) >>= λ x. Ok (array x.0, x.1)
-worded w.Attribute ts = attribute_after (tail ts)
-worded w.Property ts = property_after (tail ts)
-worded w.Object ts = object_after (tail ts) >>= λ x. Ok (object x.0, x.1)
-worded _ ts = Err (unfit (length ts))
+unfoldable pub directive_of : Word → Parse DirectiveTree
+directive_of w.Global ts = global_after (tail ts)
+directive_of w.Constant ts = constant_after (tail ts)
+directive_of w.Array ts = array_after (tail ts) >>= λ x. Ok (array x.0, x.1)
+directive_of w.Attribute ts = attribute_after (tail ts)
+directive_of w.Property ts = property_after (tail ts)
+directive_of w.Object ts = object_after (tail ts) >>= λ x. Ok (object x.0, x.1)
+directive_of _ ts = Err (unfit (length ts))
 
 -- ---- directives
 
@@ -208,14 +208,14 @@ routine_heading ts = do
   Ok ((n.0, ns.0), m)
 
 -- the tokens after what closes a routine
-unfoldable pub closed : List Lexeme → Result (List Lexeme) Stop
-closed ts = expect s.CloseBracket ts >>= λ u. expect s.Semicolon u
+unfoldable pub routine_end : List Lexeme → Result (List Lexeme) Stop
+routine_end ts = expect s.CloseBracket ts >>= λ u. expect s.Semicolon u
 
 -- where d nestings may be opened in a statement
 module _ (d : ℕ) where
   -- the statements of a routine, with what closes it
   unfoldable pub routine_body : Parse (List StatementTree)
-  routine_body ts = statements d ts >>= λ xs. closed xs.1 >>= λ r. Ok (xs.0, r)
+  routine_body ts = statements d ts >>= λ xs. routine_end xs.1 >>= λ r. Ok (xs.0, r)
 
   -- a routine, from its bracket on
   unfoldable pub routine_at : Parse RoutineTree
@@ -232,7 +232,7 @@ module _ (d : ℕ) where
   one_routine ts = routine_at ts >>= λ x. Ok (routine x.0, x.1)
 
   abbrev pub directive_on : Lexeme → Parse DirectiveTree
-  directive_on (reserved word p) ts = worded word ts
+  directive_on (reserved word p) ts = directive_of word ts
   directive_on (sign s.OpenBracket p) ts = one_routine ts
   directive_on _ ts = Err (unfit (length ts))
 

@@ -2,7 +2,7 @@
 
 ghost use Rattle.std.specs.Prelude.{◌≡◌, map};
 ghost use Rattle.syntax_lexer.specs.Token.{lexeme};
-ghost use Rattle.syntax_parsing.specs.Returned.{ahead, Takes};
+ghost use Rattle.syntax_trees.specs.Returned.{ahead, Takes};
 ghost use Rattle.syntax_directives.specs.Views.{value_tree};
 ghost use Rattle.syntax_directives.specs.Returned.{TakesDirective};
 ghost use Rattle.syntax_directives.specs.Grammar as grammar;
@@ -12,8 +12,8 @@ use crate::parts::in_box;
 use crate::tree::{Array, ArrayKind, ArrayValue, Directive};
 use syntax_expression_parts::expect_name;
 use syntax_lexer::{Kind, Sign, Token, Word};
-use syntax_parsing::{Fault, ParseError, Parser, expect, fault_at, pass, peek, position};
 use syntax_statement_parts::{begins_value, known_value};
+use syntax_trees::{Fault, Parsed, Parser, expect, fault_at, pass, peek, position};
 
 // The kind of array that the token names.
 fn kind_of(token: Token<'_>) -> Option<ArrayKind>
@@ -30,7 +30,7 @@ fn kind_of(token: Token<'_>) -> Option<ArrayKind>
 
 // The kind of array that comes next.
 #[tactic(auto, unfolding(crate::specs::Parse::kind))]
-fn kind<'t, 'a>(parser: &mut Parser<'t, 'a>) -> Result<ArrayKind, ParseError>
+fn kind<'t, 'a>(parser: &mut Parser<'t, 'a>) -> Parsed<ArrayKind>
     ensures { Takes (λ k. k) result parser.new (spec.kind (ahead parser.old)) }
 {
     let Some(kind) = kind_of(peek(parser.tokens)) else {
@@ -41,9 +41,9 @@ fn kind<'t, 'a>(parser: &mut Parser<'t, 'a>) -> Result<ArrayKind, ParseError>
 }
 
 // A value, with the position of its first token.
-#[tactic(auto, unfolding(crate::specs::Parse::placed))]
-fn placed<'t, 'a>(parser: &mut Parser<'t, 'a>) -> Result<ArrayValue<'a>, ParseError>
-    ensures { Takes value_tree result parser.new (spec.placed (ahead parser.old)) }
+#[tactic(auto, unfolding(crate::specs::Parse::array_value))]
+fn array_value<'t, 'a>(parser: &mut Parser<'t, 'a>) -> Parsed<ArrayValue<'a>>
+    ensures { Takes value_tree result parser.new (spec.array_value (ahead parser.old)) }
 {
     let position = position(parser.tokens);
     let value = known_value(parser)?;
@@ -56,19 +56,19 @@ fn placed<'t, 'a>(parser: &mut Parser<'t, 'a>) -> Result<ArrayValue<'a>, ParseEr
 ///
 /// `Fault::Grammar` at the first token: it begins no value; or after `-`. `Memory` where a growth
 /// is refused.
-#[tactic(auto, unfolding(crate::specs::Parse::values), using(syntax_parsing::proofs::Loops::repeated_out, syntax_parsing::proofs::Loops::repeated_done, syntax_parsing::proofs::Loops::repeated_more, syntax_parsing::proofs::Loops::repeated_fails))]
-pub fn values<'t, 'a>(parser: &mut Parser<'t, 'a>) -> Result<Vec<ArrayValue<'a>>, ParseError>
+#[tactic(auto, unfolding(crate::specs::Parse::values), using(syntax_trees::proofs::Loops::repeated_out, syntax_trees::proofs::Loops::repeated_done, syntax_trees::proofs::Loops::repeated_more, syntax_trees::proofs::Loops::repeated_fails))]
+pub fn values<'t, 'a>(parser: &mut Parser<'t, 'a>) -> Parsed<Vec<ArrayValue<'a>>>
     ensures { Takes (λ vs. map value_tree vs.items) result parser.new
         (spec.values (ahead parser.old)) }
 {
     let mut found = Vec::new(parser.alloc);
-    let first = placed(parser)?;
+    let first = array_value(parser)?;
     found.push(first)?;
     for _turn in 0..parser.tokens.len() {
         if !begins_value(peek(parser.tokens)) {
             break;
         }
-        let next = placed(parser)?;
+        let next = array_value(parser)?;
         found.push(next)?;
     }
     Ok(found)
@@ -80,9 +80,9 @@ pub fn values<'t, 'a>(parser: &mut Parser<'t, 'a>) -> Result<Vec<ArrayValue<'a>>
 ///
 /// `Fault::Grammar` at the first token with which no derivation goes on; `Memory` where a growth is
 /// refused.
-#[tactic(auto, unfolding(crate::specs::Parse::worded, crate::specs::Parse::array_after))]
-pub fn array<'t, 'a>(parser: &mut Parser<'t, 'a>) -> Result<Box<Directive<'a>>, ParseError>
-    ensures { TakesDirective result parser.new (spec.worded Word.Array (ahead parser.old)) }
+#[tactic(auto, unfolding(crate::specs::Parse::directive_of, crate::specs::Parse::array_after))]
+pub fn array<'t, 'a>(parser: &mut Parser<'t, 'a>) -> Parsed<Box<Directive<'a>>>
+    ensures { TakesDirective result parser.new (spec.directive_of Word.Array (ahead parser.old)) }
 {
     pass(parser);
     let name = expect_name(parser)?;

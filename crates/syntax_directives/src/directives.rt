@@ -1,6 +1,6 @@
 //! Directives, read from tokens.
 
-ghost use Rattle.syntax_parsing.specs.Returned.{ahead};
+ghost use Rattle.syntax_trees.specs.Returned.{ahead};
 ghost use Rattle.syntax_directives.specs.Returned.{TakesDirective};
 ghost use Rattle.syntax_directives.specs.Parse as spec;
 
@@ -11,13 +11,13 @@ use crate::routines::routine;
 use crate::tree::Directive;
 use syntax_expression_parts::expect_name;
 use syntax_lexer::{Kind, Sign, Word};
-use syntax_parsing::{Fault, ParseError, Parser, expect, fault_at, is_sign, pass, peek};
 use syntax_statement_parts::{begins_value, known_value};
+use syntax_trees::{Fault, Parsed, Parser, expect, fault_at, is_sign, pass, peek};
 
 // A global variable, from its word on.
-#[tactic(auto, unfolding(crate::specs::Parse::worded, crate::specs::Parse::global_after))]
-fn global<'t, 'a>(parser: &mut Parser<'t, 'a>) -> Result<Box<Directive<'a>>, ParseError>
-    ensures { TakesDirective result parser.new (spec.worded Word.Global (ahead parser.old)) }
+#[tactic(auto, unfolding(crate::specs::Parse::directive_of, crate::specs::Parse::global_after))]
+fn global<'t, 'a>(parser: &mut Parser<'t, 'a>) -> Parsed<Box<Directive<'a>>>
+    ensures { TakesDirective result parser.new (spec.directive_of Word.Global (ahead parser.old)) }
 {
     pass(parser);
     let name = expect_name(parser)?;
@@ -30,9 +30,9 @@ fn global<'t, 'a>(parser: &mut Parser<'t, 'a>) -> Result<Box<Directive<'a>>, Par
 }
 
 // A constant, from its word on.
-#[tactic(auto, unfolding(crate::specs::Parse::worded, crate::specs::Parse::constant_after))]
-fn constant<'t, 'a>(parser: &mut Parser<'t, 'a>) -> Result<Box<Directive<'a>>, ParseError>
-    ensures { TakesDirective result parser.new (spec.worded Word.Constant (ahead parser.old)) }
+#[tactic(auto, unfolding(crate::specs::Parse::directive_of, crate::specs::Parse::constant_after))]
+fn constant<'t, 'a>(parser: &mut Parser<'t, 'a>) -> Parsed<Box<Directive<'a>>>
+    ensures { TakesDirective result parser.new (spec.directive_of Word.Constant (ahead parser.old)) }
 {
     pass(parser);
     let name = expect_name(parser)?;
@@ -42,9 +42,9 @@ fn constant<'t, 'a>(parser: &mut Parser<'t, 'a>) -> Result<Box<Directive<'a>>, P
 }
 
 // An attribute, from its word on.
-#[tactic(auto, unfolding(crate::specs::Parse::worded, crate::specs::Parse::attribute_after))]
-fn attribute<'t, 'a>(parser: &mut Parser<'t, 'a>) -> Result<Box<Directive<'a>>, ParseError>
-    ensures { TakesDirective result parser.new (spec.worded Word.Attribute (ahead parser.old)) }
+#[tactic(auto, unfolding(crate::specs::Parse::directive_of, crate::specs::Parse::attribute_after))]
+fn attribute<'t, 'a>(parser: &mut Parser<'t, 'a>) -> Parsed<Box<Directive<'a>>>
+    ensures { TakesDirective result parser.new (spec.directive_of Word.Attribute (ahead parser.old)) }
 {
     pass(parser);
     let name = expect_name(parser)?;
@@ -52,9 +52,9 @@ fn attribute<'t, 'a>(parser: &mut Parser<'t, 'a>) -> Result<Box<Directive<'a>>, 
 }
 
 // A property, from its word on.
-#[tactic(auto, unfolding(crate::specs::Parse::worded, crate::specs::Parse::property_after))]
-fn property<'t, 'a>(parser: &mut Parser<'t, 'a>) -> Result<Box<Directive<'a>>, ParseError>
-    ensures { TakesDirective result parser.new (spec.worded Word.Property (ahead parser.old)) }
+#[tactic(auto, unfolding(crate::specs::Parse::directive_of, crate::specs::Parse::property_after))]
+fn property<'t, 'a>(parser: &mut Parser<'t, 'a>) -> Parsed<Box<Directive<'a>>>
+    ensures { TakesDirective result parser.new (spec.directive_of Word.Property (ahead parser.old)) }
 {
     pass(parser);
     let name = expect_name(parser)?;
@@ -66,9 +66,9 @@ fn property<'t, 'a>(parser: &mut Parser<'t, 'a>) -> Result<Box<Directive<'a>>, P
 }
 
 // The directive that begins with that word.
-#[tactic(auto, unfolding(crate::specs::Parse::worded))]
-fn worded<'t, 'a>(parser: &mut Parser<'t, 'a>, word: Word) -> Result<Box<Directive<'a>>, ParseError>
-    ensures { TakesDirective result parser.new (spec.worded word (ahead parser.old)) }
+#[tactic(auto, unfolding(crate::specs::Parse::directive_of))]
+fn directive_of<'t, 'a>(parser: &mut Parser<'t, 'a>, word: Word) -> Parsed<Box<Directive<'a>>>
+    ensures { TakesDirective result parser.new (spec.directive_of word (ahead parser.old)) }
 {
     match word {
         Word::Global => global(parser),
@@ -88,14 +88,11 @@ fn worded<'t, 'a>(parser: &mut Parser<'t, 'a>, word: Word) -> Result<Box<Directi
 /// `Fault::Grammar` at the first token with which no derivation goes on, `Fault::Deep` at the token
 /// for which no nesting is left, and `Memory` where a growth is refused.
 #[tactic(auto, unfolding(crate::specs::Parse::directive))]
-pub fn directive<'t, 'a>(
-    parser: &mut Parser<'t, 'a>,
-    depth: usize,
-) -> Result<Box<Directive<'a>>, ParseError>
+pub fn directive<'t, 'a>(parser: &mut Parser<'t, 'a>, depth: usize) -> Parsed<Box<Directive<'a>>>
     ensures { TakesDirective result parser.new (spec.directive depth (ahead parser.old)) }
 {
     match peek(parser.tokens).kind {
-        Kind::Reserved(word) => worded(parser, word),
+        Kind::Reserved(word) => directive_of(parser, word),
         Kind::Sign(Sign::OpenBracket) => routine(parser, depth),
         _ => Err(fault_at(Fault::Grammar, parser.tokens)),
     }

@@ -2,20 +2,19 @@
 
 ghost use Rattle.std.specs.Prelude.{map};
 ghost use Rattle.syntax_trees.specs.Views.{name_tree};
-ghost use Rattle.syntax_parsing.specs.Returned.{ahead, Takes};
+ghost use Rattle.syntax_trees.specs.Returned.{ahead, Takes};
 ghost use Rattle.syntax_directives.specs.Parse as spec;
 
 use syntax_expression_parts::name_of;
-use syntax_parsing::{Fault, ParseError, Parser, fault_at, pass, peek};
-use syntax_trees::Name;
+use syntax_trees::{Fault, Name, Parsed, Parser, fault_at, pass, peek};
 
 /// Names, up to a token that is none.
 ///
 /// # Errors
 ///
 /// `Memory`: a growth is refused.
-#[tactic(auto, unfolding(crate::specs::Parse::names), using(crate::proofs::NamesRead::names_more, syntax_parsing::proofs::Loops::repeated_out, syntax_parsing::proofs::Loops::repeated_done, syntax_parsing::proofs::Loops::joined_none))]
-pub fn names<'t, 'a>(parser: &mut Parser<'t, 'a>) -> Result<Vec<Name<'a>>, ParseError>
+#[tactic(auto, unfolding(crate::specs::Parse::names), using(crate::proofs::NamesRead::names_more, syntax_trees::proofs::Loops::repeated_out, syntax_trees::proofs::Loops::repeated_done, syntax_trees::proofs::Loops::joined_none))]
+pub fn names<'t, 'a>(parser: &mut Parser<'t, 'a>) -> Parsed<Vec<Name<'a>>>
     ensures { Takes (λ ns. map name_tree ns.items) result parser.new
         (spec.names (ahead parser.old)) }
 {
@@ -36,7 +35,7 @@ pub fn names<'t, 'a>(parser: &mut Parser<'t, 'a>) -> Result<Vec<Name<'a>>, Parse
 ///
 /// `Fault::Grammar` at the next token: it is no name; `Memory`: a growth is refused.
 #[tactic(auto, unfolding(crate::specs::Parse::some_names), using(crate::proofs::NamesRead::no_names, crate::proofs::NamesRead::names_found))]
-pub fn some_names<'t, 'a>(parser: &mut Parser<'t, 'a>) -> Result<Vec<Name<'a>>, ParseError>
+pub fn some_names<'t, 'a>(parser: &mut Parser<'t, 'a>) -> Parsed<Vec<Name<'a>>>
     ensures { Takes (λ ns. map name_tree ns.items) result parser.new
         (spec.some_names (ahead parser.old)) }
 {

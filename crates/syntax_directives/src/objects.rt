@@ -4,7 +4,7 @@ ghost use Rattle.std.specs.Prelude.{◌≡◌, map, Ok};
 ghost use Rattle.std.specs.Option.{option_map};
 ghost use Rattle.syntax_lexer.specs.Token.{lexemes};
 ghost use Rattle.syntax_trees.specs.Views.{name_tree};
-ghost use Rattle.syntax_parsing.specs.Returned.{ahead, Takes};
+ghost use Rattle.syntax_trees.specs.Returned.{ahead, Takes};
 ghost use Rattle.syntax_directives.specs.Views.{text_tree, head_tree, property_tree};
 ghost use Rattle.syntax_directives.specs.Returned.{TakesDirective};
 ghost use Rattle.syntax_directives.specs.Parse as spec;
@@ -15,10 +15,9 @@ use crate::parts::in_box;
 use crate::tree::{Directive, Object, Property, Text};
 use syntax_expression_parts::{expect_name, name_of};
 use syntax_lexer::{Kind, Position, Sign, Token, Word};
-use syntax_parsing::{
-    Fault, ParseError, Parser, expect, fault_at, is_sign, is_word, pass, peek, position, skip,
+use syntax_trees::{
+    Fault, Name, Parsed, Parser, expect, fault_at, is_sign, is_word, pass, peek, position, skip,
 };
-use syntax_trees::Name;
 
 // What an object begins with: where each arrow stands, its name, its short name and its parent.
 #[derive(Drop)]
@@ -30,8 +29,8 @@ struct Head<'a> {
 }
 
 // Where each arrow stands, up to a token that is none.
-#[tactic(auto, unfolding(crate::specs::Parse::arrows), using(crate::proofs::Arrows::arrows_out, crate::proofs::Arrows::arrows_done, crate::proofs::Arrows::arrows_more, syntax_parsing::proofs::Loops::joined_none))]
-fn arrows<'t, 'a>(parser: &mut Parser<'t, 'a>) -> Result<Vec<Position>, ParseError>
+#[tactic(auto, unfolding(crate::specs::Parse::arrows), using(crate::proofs::Arrows::arrows_out, crate::proofs::Arrows::arrows_done, crate::proofs::Arrows::arrows_more, syntax_trees::proofs::Loops::joined_none))]
+fn arrows<'t, 'a>(parser: &mut Parser<'t, 'a>) -> Parsed<Vec<Position>>
     ensures { Takes (λ ps. ps.items) result parser.new (spec.arrows (ahead parser.old)) }
 {
     let mut found = Vec::new(parser.alloc);
@@ -81,7 +80,7 @@ fn parent<'t, 'a>(parser: &mut Parser<'t, 'a>, arrows: &Vec<Position>) -> Option
 
 // What an object begins with.
 #[tactic(auto, unfolding(crate::specs::Parse::object_heading))]
-fn object_heading<'t, 'a>(parser: &mut Parser<'t, 'a>) -> Result<Head<'a>, ParseError>
+fn object_heading<'t, 'a>(parser: &mut Parser<'t, 'a>) -> Parsed<Head<'a>>
     ensures { Takes head_tree result parser.new (spec.object_heading (ahead parser.old)) }
 {
     let arrows = arrows(parser)?;
@@ -110,7 +109,7 @@ fn past_comma<'t, 'a>(tokens: &'t [Token<'a>]) -> &'t [Token<'a>]
 
 // A property and its values.
 #[tactic(auto, unfolding(crate::specs::Parse::prop))]
-fn property<'t, 'a>(parser: &mut Parser<'t, 'a>) -> Result<Property<'a>, ParseError>
+fn property<'t, 'a>(parser: &mut Parser<'t, 'a>) -> Parsed<Property<'a>>
     ensures { Takes property_tree result parser.new (spec.prop (ahead parser.old)) }
 {
     let name = expect_name(parser)?;
@@ -128,7 +127,7 @@ fn lists_further(tokens: &[Token<'_>]) -> bool
 
 // A property after a comma.
 #[tactic(auto, unfolding(crate::specs::Parse::next_prop))]
-fn next_property<'t, 'a>(parser: &mut Parser<'t, 'a>) -> Result<Property<'a>, ParseError>
+fn next_property<'t, 'a>(parser: &mut Parser<'t, 'a>) -> Parsed<Property<'a>>
     ensures { Takes property_tree result parser.new (spec.next_prop (ahead parser.old)) }
 {
     expect(parser, Sign::Comma)?;
@@ -136,8 +135,8 @@ fn next_property<'t, 'a>(parser: &mut Parser<'t, 'a>) -> Result<Property<'a>, Pa
 }
 
 // Properties, at least one, with commas between them.
-#[tactic(auto, unfolding(crate::specs::Parse::props), using(syntax_parsing::proofs::Loops::as_long_out, syntax_parsing::proofs::Loops::as_long_done, syntax_parsing::proofs::Loops::as_long_more, syntax_parsing::proofs::Loops::as_long_fails))]
-fn listed<'t, 'a>(parser: &mut Parser<'t, 'a>) -> Result<Vec<Property<'a>>, ParseError>
+#[tactic(auto, unfolding(crate::specs::Parse::props), using(syntax_trees::proofs::Loops::as_long_out, syntax_trees::proofs::Loops::as_long_done, syntax_trees::proofs::Loops::as_long_more, syntax_trees::proofs::Loops::as_long_fails))]
+fn listed<'t, 'a>(parser: &mut Parser<'t, 'a>) -> Parsed<Vec<Property<'a>>>
     ensures { Takes (λ xs. map property_tree xs.items) result parser.new
         (spec.props (ahead parser.old)) }
 {
@@ -156,7 +155,7 @@ fn listed<'t, 'a>(parser: &mut Parser<'t, 'a>) -> Result<Vec<Property<'a>>, Pars
 
 // The properties that an object provides, after `with`.
 #[tactic(auto, unfolding(crate::specs::Parse::properties))]
-fn properties<'t, 'a>(parser: &mut Parser<'t, 'a>) -> Result<Vec<Property<'a>>, ParseError>
+fn properties<'t, 'a>(parser: &mut Parser<'t, 'a>) -> Parsed<Vec<Property<'a>>>
     ensures { Takes (λ xs. map property_tree xs.items) result parser.new
         (spec.properties (ahead parser.old)) }
 {
@@ -171,7 +170,7 @@ fn properties<'t, 'a>(parser: &mut Parser<'t, 'a>) -> Result<Vec<Property<'a>>, 
 // The names of an object's attributes, after `has`. A comma that neither `with` nor `has` follows
 // is not in the grammar.
 #[tactic(auto, unfolding(crate::specs::Parse::attributes))]
-fn attributes<'t, 'a>(parser: &mut Parser<'t, 'a>) -> Result<Vec<Name<'a>>, ParseError>
+fn attributes<'t, 'a>(parser: &mut Parser<'t, 'a>) -> Parsed<Vec<Name<'a>>>
     ensures { Takes (λ ns. map name_tree ns.items) result parser.new
         (spec.attributes (ahead parser.old)) }
 {
@@ -192,9 +191,9 @@ fn attributes<'t, 'a>(parser: &mut Parser<'t, 'a>) -> Result<Vec<Name<'a>>, Pars
 ///
 /// `Fault::Grammar` at the first token with which no derivation goes on; `Memory` where a growth is
 /// refused.
-#[tactic(auto, unfolding(crate::specs::Parse::worded, crate::specs::Parse::object_after))]
-pub fn object<'t, 'a>(parser: &mut Parser<'t, 'a>) -> Result<Box<Directive<'a>>, ParseError>
-    ensures { TakesDirective result parser.new (spec.worded Word.Object (ahead parser.old)) }
+#[tactic(auto, unfolding(crate::specs::Parse::directive_of, crate::specs::Parse::object_after))]
+pub fn object<'t, 'a>(parser: &mut Parser<'t, 'a>) -> Parsed<Box<Directive<'a>>>
+    ensures { TakesDirective result parser.new (spec.directive_of Word.Object (ahead parser.old)) }
 {
     pass(parser);
     let head = object_heading(parser)?;

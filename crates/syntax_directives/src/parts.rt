@@ -10,7 +10,7 @@
 
 ghost use Rattle.std.specs.Prelude.{Ok};
 ghost use Rattle.syntax_trees.specs.Views.{name_tree};
-ghost use Rattle.syntax_parsing.specs.Returned.{ahead};
+ghost use Rattle.syntax_trees.specs.Returned.{ahead};
 ghost use Rattle.syntax_statement_parts.specs.Views.{literal_tree};
 ghost use Rattle.syntax_directives.specs.Tree as tree;
 ghost use Rattle.syntax_directives.specs.Views.{directive_tree, optional_tree};
@@ -19,15 +19,14 @@ ghost use Rattle.syntax_directives.specs.Parse as spec;
 
 use crate::tree::Directive;
 use syntax_lexer::Sign;
-use syntax_parsing::{ParseError, Parser, expect, memory};
 use syntax_statement_parts::Literal;
-use syntax_trees::Name;
+use syntax_trees::{Name, Parsed, Parser, expect, memory};
 
 /// A directive in a box. Where memory is refused the directive is dropped here.
 pub fn in_box<'t, 'a>(
     parser: &Parser<'t, 'a>,
     directive: Directive<'a>,
-) -> Result<Box<Directive<'a>>, ParseError>
+) -> Parsed<Box<Directive<'a>>>
     ensures { TakesDirective result parser.now
         (Ok (directive_tree directive.entry, ahead parser.now)) }
 {
@@ -40,7 +39,7 @@ pub fn global<'t, 'a>(
     parser: &mut Parser<'t, 'a>,
     name: Name<'a>,
     first: Option<Literal<'a>>,
-) -> Result<Box<Directive<'a>>, ParseError>
+) -> Parsed<Box<Directive<'a>>>
     ensures { TakesDirective result parser.new
         (spec.ended (tree.global (name_tree name.entry) (optional_tree first.entry))
         (ahead parser.old)) }
@@ -55,7 +54,7 @@ pub fn constant<'t, 'a>(
     parser: &mut Parser<'t, 'a>,
     name: Name<'a>,
     value: Literal<'a>,
-) -> Result<Box<Directive<'a>>, ParseError>
+) -> Parsed<Box<Directive<'a>>>
     ensures { TakesDirective result parser.new
         (spec.ended (tree.constant (name_tree name.entry) (literal_tree value.entry))
         (ahead parser.old)) }
@@ -66,10 +65,7 @@ pub fn constant<'t, 'a>(
 
 /// An attribute, with its `;`.
 #[tactic(auto, unfolding(crate::specs::Parse::ended))]
-pub fn attribute<'t, 'a>(
-    parser: &mut Parser<'t, 'a>,
-    name: Name<'a>,
-) -> Result<Box<Directive<'a>>, ParseError>
+pub fn attribute<'t, 'a>(parser: &mut Parser<'t, 'a>, name: Name<'a>) -> Parsed<Box<Directive<'a>>>
     ensures { TakesDirective result parser.new
         (spec.ended (tree.attribute (name_tree name.entry)) (ahead parser.old)) }
 {
@@ -83,7 +79,7 @@ pub fn property<'t, 'a>(
     parser: &mut Parser<'t, 'a>,
     name: Name<'a>,
     default: Option<Literal<'a>>,
-) -> Result<Box<Directive<'a>>, ParseError>
+) -> Parsed<Box<Directive<'a>>>
     ensures { TakesDirective result parser.new
         (spec.ended (tree.property (name_tree name.entry) (optional_tree default.entry))
         (ahead parser.old)) }

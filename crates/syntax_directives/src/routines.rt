@@ -2,8 +2,8 @@
 
 ghost use Rattle.std.specs.Prelude.{map};
 ghost use Rattle.syntax_trees.specs.Views.{name_tree};
-ghost use Rattle.syntax_parsing.specs.Parse.{Gives};
-ghost use Rattle.syntax_parsing.specs.Returned.{ahead, Takes};
+ghost use Rattle.syntax_trees.specs.Parse.{Gives};
+ghost use Rattle.syntax_trees.specs.Returned.{ahead, Takes};
 ghost use Rattle.syntax_statements.specs.Views.{statement_tree};
 ghost use Rattle.syntax_directives.specs.Returned.{TakesDirective};
 ghost use Rattle.syntax_directives.specs.Parse as spec;
@@ -15,15 +15,12 @@ use crate::weight::weight_before;
 use syntax_expression_parts::expect_name;
 use syntax_lexer::Sign;
 use syntax_nested_statements::statements;
-use syntax_parsing::{ParseError, Parser, expect, pass};
 use syntax_statements::Statement;
-use syntax_trees::Name;
+use syntax_trees::{Name, Parsed, Parser, expect, pass};
 
 // What a routine begins with, after its bracket: its name, its locals, and their `;`.
 #[tactic(auto, unfolding(crate::specs::Parse::routine_heading))]
-fn routine_heading<'t, 'a>(
-    parser: &mut Parser<'t, 'a>,
-) -> Result<(Name<'a>, Vec<Name<'a>>), ParseError>
+fn routine_heading<'t, 'a>(parser: &mut Parser<'t, 'a>) -> Parsed<(Name<'a>, Vec<Name<'a>>)>
     ensures { Takes (λ x. (name_tree x.0, map name_tree x.1.items)) result parser.new
         (spec.routine_heading (ahead parser.old)) }
 {
@@ -34,9 +31,9 @@ fn routine_heading<'t, 'a>(
 }
 
 // What closes a routine.
-#[tactic(auto, unfolding(crate::specs::Parse::closed))]
-fn closed<'t, 'a>(parser: &mut Parser<'t, 'a>) -> Result<(), ParseError>
-    ensures { Gives (λ _. ahead parser.new) result (spec.closed (ahead parser.old)) }
+#[tactic(auto, unfolding(crate::specs::Parse::routine_end))]
+fn routine_end<'t, 'a>(parser: &mut Parser<'t, 'a>) -> Parsed<()>
+    ensures { Gives (λ _. ahead parser.new) result (spec.routine_end (ahead parser.old)) }
 {
     expect(parser, Sign::CloseBracket)?;
     expect(parser, Sign::Semicolon)
@@ -44,12 +41,12 @@ fn closed<'t, 'a>(parser: &mut Parser<'t, 'a>) -> Result<(), ParseError>
 
 // The statements of a routine, with what closes it.
 #[tactic(auto, unfolding(crate::specs::Parse::routine_body))]
-fn body<'t, 'a>(parser: &mut Parser<'t, 'a>, depth: usize) -> Result<Vec<Statement<'a>>, ParseError>
+fn body<'t, 'a>(parser: &mut Parser<'t, 'a>, depth: usize) -> Parsed<Vec<Statement<'a>>>
     ensures { Takes (λ xs. map statement_tree xs.items) result parser.new
         (spec.routine_body depth (ahead parser.old)) }
 {
     match statements(parser, depth) {
-        Ok(found) => match closed(parser) {
+        Ok(found) => match routine_end(parser) {
             Ok(()) => Ok(found),
             Err(e) => Err(e),
         },
@@ -64,10 +61,7 @@ fn body<'t, 'a>(parser: &mut Parser<'t, 'a>, depth: usize) -> Result<Vec<Stateme
 /// `Fault::Grammar` at the first token with which no derivation goes on, `Fault::Deep` at the token
 /// for which no nesting is left, and `Memory` where a growth is refused.
 #[tactic(auto, using(crate::proofs::Ends::routine_ends, crate::proofs::RoutineParts::routine_made))]
-pub fn routine<'t, 'a>(
-    parser: &mut Parser<'t, 'a>,
-    depth: usize,
-) -> Result<Box<Directive<'a>>, ParseError>
+pub fn routine<'t, 'a>(parser: &mut Parser<'t, 'a>, depth: usize) -> Parsed<Box<Directive<'a>>>
     ensures { TakesDirective result parser.new (spec.one_routine depth (ahead parser.old)) }
 {
     let opening = parser.tokens;

@@ -2,13 +2,13 @@
 
 ghost use Rattle.std.specs.Prelude.{◌≡◌, map};
 ghost use Rattle.syntax_lexer.specs.Token.{lexeme};
-ghost use Rattle.syntax_parsing.specs.Returned.{ahead, Takes};
+ghost use Rattle.syntax_trees.specs.Returned.{ahead, Takes};
 ghost use Rattle.syntax_directives.specs.Views.{text_tree};
 ghost use Rattle.syntax_directives.specs.Parse as spec;
 
 use crate::tree::Text;
 use syntax_lexer::{Kind, Sign, Token};
-use syntax_parsing::{Fault, ParseError, Parser, expect, fault_at, pass, peek};
+use syntax_trees::{Fault, Parsed, Parser, expect, fault_at, pass, peek};
 
 fn is_text(token: Token<'_>) -> bool
     ensures { result ≡ spec.is_text (lexeme token.entry) }
@@ -18,7 +18,7 @@ fn is_text(token: Token<'_>) -> bool
 
 // The text that comes next.
 #[tactic(auto, unfolding(crate::specs::Parse::one_text))]
-fn one_text<'t, 'a>(parser: &mut Parser<'t, 'a>) -> Result<Text<'a>, ParseError>
+fn one_text<'t, 'a>(parser: &mut Parser<'t, 'a>) -> Parsed<Text<'a>>
     ensures { Takes text_tree result parser.new (spec.one_text (ahead parser.old)) }
 {
     let next = peek(parser.tokens);
@@ -35,8 +35,8 @@ fn one_text<'t, 'a>(parser: &mut Parser<'t, 'a>) -> Result<Text<'a>, ParseError>
 }
 
 // Texts, at least one.
-#[tactic(auto, unfolding(crate::specs::Parse::texts), using(syntax_parsing::proofs::Loops::repeated_out, syntax_parsing::proofs::Loops::repeated_done, syntax_parsing::proofs::Loops::repeated_more, syntax_parsing::proofs::Loops::repeated_fails))]
-fn texts<'t, 'a>(parser: &mut Parser<'t, 'a>) -> Result<Vec<Text<'a>>, ParseError>
+#[tactic(auto, unfolding(crate::specs::Parse::texts), using(syntax_trees::proofs::Loops::repeated_out, syntax_trees::proofs::Loops::repeated_done, syntax_trees::proofs::Loops::repeated_more, syntax_trees::proofs::Loops::repeated_fails))]
+fn texts<'t, 'a>(parser: &mut Parser<'t, 'a>) -> Parsed<Vec<Text<'a>>>
     ensures { Takes (λ xs. map text_tree xs.items) result parser.new
         (spec.texts (ahead parser.old)) }
 {
@@ -60,7 +60,7 @@ fn texts<'t, 'a>(parser: &mut Parser<'t, 'a>) -> Result<Vec<Text<'a>>, ParseErro
 /// `Fault::Grammar` at the first token with which no derivation goes on; `Memory` where a growth is
 /// refused.
 #[tactic(auto, unfolding(crate::specs::Parse::abbreviate_after))]
-pub fn abbreviate<'t, 'a>(parser: &mut Parser<'t, 'a>) -> Result<Vec<Text<'a>>, ParseError>
+pub fn abbreviate<'t, 'a>(parser: &mut Parser<'t, 'a>) -> Parsed<Vec<Text<'a>>>
     ensures { Takes (λ xs. map text_tree xs.items) result parser.new
         (spec.abbreviate_after (ahead parser.old)) }
 {

@@ -4,7 +4,7 @@ use Rattle.syntax_lexer.specs.Token.{Lexeme, name}
 use Rattle.syntax_trees.specs.declared.tree.Name.{Name}
 use Rattle.syntax_trees.specs.declared.tree.Width.{Width}
 use Rattle.syntax_trees.specs.Views.{name_tree}
-use Rattle.syntax_parsing.specs.Parse.{head, tail}
+use Rattle.syntax_trees.specs.Parse.{head, tail}
 use Rattle.syntax_expression_parts.specs.Operators.{indexing}
 use Rattle.syntax_expression_parts.specs.Parse.{is_name, array_of, array_at}
 

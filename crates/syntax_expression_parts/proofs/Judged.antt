@@ -1,8 +1,8 @@
 -- What a parser answers, judged: what it read, and what it means that it met a token too deep.
 use Rattle.std.proofs.Common.{◌≡◌, ℕ, Bool, true, false, cond, List, length, Result, Ok, Err, refl, subst}
 use Rattle.syntax_lexer.specs.Token.{Lexeme}
-use Rattle.syntax_parsing.specs.Stop.{Stop, unfit, deep}
-use Rattle.syntax_parsing.specs.Parse.{◌>>=◌}
+use Rattle.syntax_trees.specs.Stop.{Stop, unfit, deep}
+use Rattle.syntax_trees.specs.Parse.{◌>>=◌}
 
 -- tokens of that number meet D
 pub record Stands (D : List Lexeme → Type 0) (n : ℕ) : Type 0 where

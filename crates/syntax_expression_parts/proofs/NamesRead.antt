@@ -4,8 +4,8 @@ use Rattle.syntax_lexer.specs.declared.token.Sign.TheVariants as s
 use Rattle.syntax_lexer.specs.Token.{Lexeme, name, sign, position_of}
 use Rattle.syntax_trees.specs.declared.tree.Name.{Name}
 use Rattle.syntax_trees.specs.Views.{name_tree}
-use Rattle.syntax_parsing.specs.Stop.{unfit}
-use Rattle.syntax_parsing.specs.Parse.{head, tail, expect}
+use Rattle.syntax_trees.specs.Stop.{unfit}
+use Rattle.syntax_trees.specs.Parse.{head, tail, expect}
 use Rattle.syntax_expression_parts.specs.Parse.{is_name, name_on, expect_name, entry_of}
 use Rattle.syntax_expression_parts.proofs.Judged.{Judged, judged_read, judged_grammar, judged_then, judged_after}
 use Rattle.syntax_expression_parts.proofs.Tokens.{expect_ok, expect_not_deep}

@@ -8,10 +8,10 @@ use Rattle.syntax_lexer.specs.Token.{Lexeme, lexeme, lexemes}
 use Rattle.syntax_trees.specs.declared.tree.Name.{Name}
 use Rattle.syntax_trees.specs.Tree.{NameTree, ExpressionTree, property}
 use Rattle.syntax_trees.specs.Views.{name_tree, propertied}
-use Rattle.syntax_parsing.specs.Stop.{Stop, stop_of}
-use Rattle.syntax_parsing.specs.declared.error.ParseError.{ParseError}
-use Rattle.syntax_parsing.specs.declared.error.ParseError.TheVariants as errors
-use Rattle.syntax_parsing.specs.Parse.{Fails, head, tail, is_sign}
+use Rattle.syntax_trees.specs.Stop.{Stop, stop_of}
+use Rattle.syntax_trees.specs.declared.error.ParseError.{ParseError}
+use Rattle.syntax_trees.specs.declared.error.ParseError.TheVariants as errors
+use Rattle.syntax_trees.specs.Parse.{Fails, head, tail, is_sign}
 use Rattle.syntax_expression_parts.specs.Parse.{expect_name, properties, property_next}
 
 -- ---- one property

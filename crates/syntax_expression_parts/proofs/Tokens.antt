@@ -8,8 +8,8 @@ use Rattle.syntax_lexer.specs.declared.token.Word.{Word}
 use Rattle.syntax_lexer.specs.declared.token.Word.TheVariants as w
 use Rattle.syntax_lexer.specs.Token.{Lexeme, name, number, text, character, dictionary_word, reserved, sign, end}
 use Rattle.syntax_lexer.specs.Token.{position_of}
-use Rattle.syntax_parsing.specs.Stop.{Stop, unfit, deep}
-use Rattle.syntax_parsing.specs.Parse.{head, tail, sign_number, word_number, is_sign, is_word, expect, expect_word}
+use Rattle.syntax_trees.specs.Stop.{Stop, unfit, deep}
+use Rattle.syntax_trees.specs.Parse.{head, tail, sign_number, word_number, is_sign, is_word, expect, expect_word}
 
 sign_at : ℕ → Sign
 sign_at n = get_or

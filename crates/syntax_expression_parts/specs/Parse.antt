@@ -10,8 +10,8 @@ use Rattle.syntax_trees.specs.declared.tree.ObjectTest.{ObjectTest}
 use Rattle.syntax_trees.specs.declared.tree.Step.{Step}
 use Rattle.syntax_trees.specs.declared.tree.Width.{Width}
 use Rattle.syntax_trees.specs.Tree.{NameTree, ExpressionTree, constant, property, property_length, step_after, tested}
-use Rattle.syntax_parsing.specs.Parse.{Parse, ◌>>=◌, head, tail, is_sign, expect}
-use Rattle.syntax_parsing.specs.Stop.{Stop, unfit}
+use Rattle.syntax_trees.specs.Parse.{Parse, ◌>>=◌, head, tail, is_sign, expect}
+use Rattle.syntax_trees.specs.Stop.{Stop, unfit}
 use Rattle.syntax_expression_parts.specs.Operators.{testing, stepping, indexing}
 
 -- ---- one token
@@ -43,9 +43,9 @@ word_value w.False = Some 0
 word_value w.Nothing = Some 0
 word_value _ = None
 
-abbrev pub valued : Option ℕ → Parse ExpressionTree
-valued None ts = Err (unfit (length ts))
-valued (Some n) ts = Ok (constant n, tail ts)
+abbrev pub constant_on : Option ℕ → Parse ExpressionTree
+constant_on None ts = Err (unfit (length ts))
+constant_on (Some n) ts = Ok (constant n, tail ts)
 
 -- what stands in parentheses, with the second of them
 abbrev pub closed : {A B : Type 0} → (A → B) → A × List Lexeme → Result (B × List Lexeme) Stop
@@ -71,8 +71,8 @@ entry_of ts = expect_name ts >>= λ x. expect s.LongArrow x.1 >>= λ r. Ok (x.0,
 abbrev pub length_next : ExpressionTree → Parse ExpressionTree
 length_next e ts = expect_name ts >>= λ x. Ok (property_length e x.0, x.1)
 
-unfoldable pub lengthened : ExpressionTree → Parse ExpressionTree
-lengthened e ts = if is_sign s.DotHash (head ts) then length_next e (tail ts) else Ok (e, ts)
+unfoldable pub with_length : ExpressionTree → Parse ExpressionTree
+with_length e ts = if is_sign s.DotHash (head ts) then length_next e (tail ts) else Ok (e, ts)
 
 abbrev pub tested_on : ExpressionTree → List Lexeme → Option ObjectTest → Result (ExpressionTree × List Lexeme) Stop
 tested_on e ts None = Ok (e, ts)
@@ -83,8 +83,8 @@ tested_next e ts = tested_on e ts (testing (head ts))
 
 -- an operand, and `++`, `--` or the length of a property where it stands after it
 abbrev pub step_on : ExpressionTree → List Lexeme → Option Step → Result (ExpressionTree × List Lexeme) Stop
-step_on e ts None = lengthened e ts
+step_on e ts None = with_length e ts
 step_on e ts (Some op) = Ok (step_after e op (position_of (head ts)), tail ts)
 
-unfoldable pub suffixed : ExpressionTree → Parse ExpressionTree
-suffixed e ts = step_on e ts (stepping (head ts))
+unfoldable pub after_operand : ExpressionTree → Parse ExpressionTree
+after_operand e ts = step_on e ts (stepping (head ts))

@@ -5,10 +5,10 @@ use Rattle.syntax_lexer.specs.Token.{Lexeme}
 use Rattle.syntax_trees.specs.declared.tree.Expression.{Expression}
 use Rattle.syntax_trees.specs.Tree.{ExpressionTree}
 use Rattle.syntax_trees.specs.Views.{expression_tree}
-use Rattle.syntax_parsing.specs.Stop.{Stop}
-use Rattle.syntax_parsing.specs.declared.error.ParseError.{ParseError}
-use Rattle.syntax_parsing.specs.declared.parser.Parser.{Parser}
-use Rattle.syntax_parsing.specs.Returned.{Takes}
+use Rattle.syntax_trees.specs.Stop.{Stop}
+use Rattle.syntax_trees.specs.declared.error.ParseError.{ParseError}
+use Rattle.syntax_trees.specs.declared.parser.Parser.{Parser}
+use Rattle.syntax_trees.specs.Returned.{Takes}
 
 -- What was returned, an expression in a box, and the tokens that are left, are what reading gives, unless memory was
 -- refused.

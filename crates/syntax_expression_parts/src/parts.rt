@@ -16,27 +16,22 @@ ghost use Rattle.std.specs.Prelude.{◌≡◌, ◌∷◌, IfErr, IfOk, Ok, Some,
 ghost use Rattle.syntax_lexer.specs.Token.{position_of};
 ghost use Rattle.syntax_trees.specs.Tree as tree;
 ghost use Rattle.syntax_trees.specs.Views.{chained, link, name_tree, expression_tree, trees_of};
-ghost use Rattle.syntax_parsing.specs.Parse as reading;
-ghost use Rattle.syntax_parsing.specs.Returned.{ahead};
+ghost use Rattle.syntax_trees.specs.Parse as reading;
+ghost use Rattle.syntax_trees.specs.Returned.{ahead};
 ghost use Rattle.syntax_expression_parts.specs.Parse as spec;
 ghost use Rattle.syntax_expression_parts.specs.Returned.{TakesExpression};
 
 use crate::operators::{level, stepping, testing, word_value};
 use crate::reading::expect_name;
 use syntax_lexer::{Position, Sign, Word};
-use syntax_parsing::{
-    Fault, ParseError, Parser, expect, fault_at, is_sign, memory, pass, peek, position,
-};
 use syntax_trees::{
-    Binary, Comparison, Containment, Equality, Expression, Name, ObjectTest, Prefix, Relative,
-    Step, Width,
+    Binary, Comparison, Containment, Equality, Expression, Fault, Name, ObjectTest, ParseError,
+    Parsed, Parser, Prefix, Relative, Step, Width, expect, fault_at, is_sign, memory, pass, peek,
+    position,
 };
 
 // A tree in a box. Where memory is refused the tree is dropped here.
-fn in_box<'t, 'a>(
-    parser: &Parser<'t, 'a>,
-    tree: Expression<'a>,
-) -> Result<Box<Expression<'a>>, ParseError>
+fn in_box<'t, 'a>(parser: &Parser<'t, 'a>, tree: Expression<'a>) -> Parsed<Box<Expression<'a>>>
     ensures { TakesExpression result parser.now
         (Ok (expression_tree tree.entry, ahead parser.now)) }
 {
@@ -52,10 +47,7 @@ pub fn discard<T: Drop>(read: T) {
 
 /// A constant, which the next token is.
 #[inline(never)]
-pub fn constant<'t, 'a>(
-    parser: &mut Parser<'t, 'a>,
-    value: u16,
-) -> Result<Box<Expression<'a>>, ParseError>
+pub fn constant<'t, 'a>(parser: &mut Parser<'t, 'a>, value: u16) -> Parsed<Box<Expression<'a>>>
     ensures { TakesExpression result parser.new
         (Ok (tree.constant value, reading.tail (ahead parser.old))) }
 {
@@ -65,12 +57,9 @@ pub fn constant<'t, 'a>(
 
 /// The value of the reserved word that comes next.
 #[inline(never)]
-pub fn word_constant<'t, 'a>(
-    parser: &mut Parser<'t, 'a>,
-    word: Word,
-) -> Result<Box<Expression<'a>>, ParseError>
+pub fn word_constant<'t, 'a>(parser: &mut Parser<'t, 'a>, word: Word) -> Parsed<Box<Expression<'a>>>
     ensures { TakesExpression result parser.new
-        (spec.valued (spec.word_value word) (ahead parser.old)) }
+        (spec.constant_on (spec.word_value word) (ahead parser.old)) }
 {
     match word_value(word) {
         Some(value) => constant(parser, value),
@@ -80,10 +69,7 @@ pub fn word_constant<'t, 'a>(
 
 /// A dictionary word, which the next token is.
 #[inline(never)]
-pub fn word<'t, 'a>(
-    parser: &mut Parser<'t, 'a>,
-    word: &'a [u8],
-) -> Result<Box<Expression<'a>>, ParseError>
+pub fn word<'t, 'a>(parser: &mut Parser<'t, 'a>, word: &'a [u8]) -> Parsed<Box<Expression<'a>>>
     ensures { TakesExpression result parser.new
         (Ok (tree.word word.entry.now, reading.tail (ahead parser.old))) }
 {
@@ -93,10 +79,7 @@ pub fn word<'t, 'a>(
 
 /// The value of a name.
 #[inline(never)]
-pub fn named<'t, 'a>(
-    parser: &Parser<'t, 'a>,
-    name: &Name<'a>,
-) -> Result<Box<Expression<'a>>, ParseError>
+pub fn named<'t, 'a>(parser: &Parser<'t, 'a>, name: &Name<'a>) -> Parsed<Box<Expression<'a>>>
     ensures { TakesExpression result parser.now
         (Ok (tree.named (name_tree name.now), ahead parser.now)) }
 {
@@ -108,7 +91,7 @@ fn add_link<'a>(
     links: &mut Vec<(Binary, Expression<'a>)>,
     operator: Binary,
     operand: Box<Expression<'a>>,
-) -> Result<(), ParseError>
+) -> Parsed<()>
     ensures ok { IfOk result (λ _. links.new.items
         ≡ links.old.items ++ (operator, operand.entry.value) ∷ []) }
     ensures err { IfErr result (λ e. e ≡ ParseError.Memory) }
@@ -131,12 +114,12 @@ fn is_chain_of(tree: &Expression<'_>, operator: Binary) -> bool {
 
 // A chain with one more operator and operand, where the tree is one.
 #[inline(never)]
-fn lengthened_chain<'t, 'a>(
+fn lengthen_chain<'t, 'a>(
     parser: &Parser<'t, 'a>,
     chain: Box<Expression<'a>>,
     operator: Binary,
     right: Box<Expression<'a>>,
-) -> Result<Box<Expression<'a>>, ParseError>
+) -> Parsed<Box<Expression<'a>>>
     ensures { TakesExpression result parser.now (Ok (
       tree.binary operator (expression_tree chain.entry.value) (expression_tree right.entry.value),
       ahead parser.now,
@@ -163,7 +146,7 @@ fn pair<'t, 'a>(
     left: Box<Expression<'a>>,
     operator: Binary,
     right: Box<Expression<'a>>,
-) -> Result<Box<Expression<'a>>, ParseError>
+) -> Parsed<Box<Expression<'a>>>
     ensures { TakesExpression result parser.now (Ok (
       tree.binary operator (expression_tree left.entry.value) (expression_tree right.entry.value),
       ahead parser.now,
@@ -182,14 +165,14 @@ pub fn link<'t, 'a>(
     left: Box<Expression<'a>>,
     operator: Binary,
     right: Box<Expression<'a>>,
-) -> Result<Box<Expression<'a>>, ParseError>
+) -> Parsed<Box<Expression<'a>>>
     ensures { TakesExpression result parser.now (Ok (
       tree.binary operator (expression_tree left.entry.value) (expression_tree right.entry.value),
       ahead parser.now,
     )) }
 {
     if is_chain_of(&left, operator) {
-        return lengthened_chain(parser, left, operator, right);
+        return lengthen_chain(parser, left, operator, right);
     }
     pair(parser, left, operator, right)
 }
@@ -200,7 +183,7 @@ pub fn link<'t, 'a>(
 pub fn alone<'t, 'a>(
     parser: &Parser<'t, 'a>,
     first: Box<Expression<'a>>,
-) -> Result<Vec<Expression<'a>>, ParseError>
+) -> Parsed<Vec<Expression<'a>>>
     ensures ok { IfOk result (λ xs. xs.items ≡ first.entry.value ∷ []) }
     ensures err { IfErr result (λ e. e ≡ ParseError.Memory) }
 {
@@ -211,10 +194,7 @@ pub fn alone<'t, 'a>(
 
 /// One more expression in a list.
 #[inline(never)]
-pub fn add<'a>(
-    expressions: &mut Vec<Expression<'a>>,
-    next: Box<Expression<'a>>,
-) -> Result<(), ParseError>
+pub fn add<'a>(expressions: &mut Vec<Expression<'a>>, next: Box<Expression<'a>>) -> Parsed<()>
     ensures ok { IfOk result (λ _. expressions.new.items
         ≡ expressions.old.items ++ next.entry.value ∷ []) }
     ensures err { IfErr result (λ e. e ≡ ParseError.Memory) }
@@ -229,7 +209,7 @@ pub fn prefixed<'t, 'a>(
     parser: &Parser<'t, 'a>,
     operator: Prefix,
     operand: Box<Expression<'a>>,
-) -> Result<Box<Expression<'a>>, ParseError>
+) -> Parsed<Box<Expression<'a>>>
     ensures { TakesExpression result parser.now
         (Ok (tree.prefixed operator (expression_tree operand.entry.value), ahead parser.now)) }
 {
@@ -243,7 +223,7 @@ pub fn index<'t, 'a>(
     array: &Name<'a>,
     width: Width,
     index: Box<Expression<'a>>,
-) -> Result<Box<Expression<'a>>, ParseError>
+) -> Parsed<Box<Expression<'a>>>
     ensures { TakesExpression result parser.now (Ok (
       tree.index (name_tree array.now) width (expression_tree index.entry.value),
       ahead parser.now,
@@ -259,7 +239,7 @@ pub fn property_entry<'t, 'a>(
     owner: Box<Expression<'a>>,
     name: &Name<'a>,
     index: Box<Expression<'a>>,
-) -> Result<Box<Expression<'a>>, ParseError>
+) -> Parsed<Box<Expression<'a>>>
     ensures { TakesExpression result parser.now (Ok (
       tree.property_entry (expression_tree owner.entry.value) (name_tree name.now)
           (expression_tree index.entry.value),
@@ -274,7 +254,7 @@ pub fn property_entry<'t, 'a>(
 pub fn properties<'t, 'a>(
     parser: &mut Parser<'t, 'a>,
     owner: Box<Expression<'a>>,
-) -> Result<Box<Expression<'a>>, ParseError>
+) -> Parsed<Box<Expression<'a>>>
     ensures { TakesExpression result parser.new (spec.properties (length (ahead parser.old))
         (expression_tree owner.entry.value) (ahead parser.old)) }
 {
@@ -304,7 +284,7 @@ pub fn step_before<'t, 'a>(
     step: Step,
     position: Position,
     operand: Box<Expression<'a>>,
-) -> Result<Box<Expression<'a>>, ParseError>
+) -> Parsed<Box<Expression<'a>>>
     ensures { TakesExpression result parser.now (Ok (
       tree.step_before step position (expression_tree operand.entry.value),
       ahead parser.now,
@@ -319,7 +299,7 @@ fn step_after<'t, 'a>(
     parser: &mut Parser<'t, 'a>,
     operand: Box<Expression<'a>>,
     step: Step,
-) -> Result<Box<Expression<'a>>, ParseError>
+) -> Parsed<Box<Expression<'a>>>
     ensures { TakesExpression result parser.new (Ok (
       tree.step_after (expression_tree operand.entry.value) step (position_of
           (reading.head (ahead parser.old))),
@@ -332,13 +312,13 @@ fn step_after<'t, 'a>(
 }
 
 // An operand, with the length of its property where that is asked for after it.
-#[tactic(auto, unfolding(crate::specs::Parse::lengthened))]
-fn lengthened<'t, 'a>(
+#[tactic(auto, unfolding(crate::specs::Parse::with_length))]
+fn with_length<'t, 'a>(
     parser: &mut Parser<'t, 'a>,
     operand: Box<Expression<'a>>,
-) -> Result<Box<Expression<'a>>, ParseError>
+) -> Parsed<Box<Expression<'a>>>
     ensures { TakesExpression result parser.new
-        (spec.lengthened (expression_tree operand.entry.value) (ahead parser.old)) }
+        (spec.with_length (expression_tree operand.entry.value) (ahead parser.old)) }
 {
     if !is_sign(peek(parser.tokens), Sign::DotHash) {
         return Ok(operand);
@@ -351,7 +331,7 @@ fn lengthened<'t, 'a>(
 fn property_length<'t, 'a>(
     parser: &mut Parser<'t, 'a>,
     operand: Box<Expression<'a>>,
-) -> Result<Box<Expression<'a>>, ParseError>
+) -> Parsed<Box<Expression<'a>>>
     ensures { TakesExpression result parser.new (spec.length_next
         (expression_tree operand.entry.value) (reading.tail (ahead parser.old))) }
 {
@@ -361,17 +341,17 @@ fn property_length<'t, 'a>(
 }
 
 /// An operand, with `++`, `--` or `.#` where it stands after it.
-#[tactic(auto, unfolding(crate::specs::Parse::suffixed))]
-pub fn suffixed<'t, 'a>(
+#[tactic(auto, unfolding(crate::specs::Parse::after_operand))]
+pub fn after_operand<'t, 'a>(
     parser: &mut Parser<'t, 'a>,
     operand: Box<Expression<'a>>,
-) -> Result<Box<Expression<'a>>, ParseError>
+) -> Parsed<Box<Expression<'a>>>
     ensures { TakesExpression result parser.new
-        (spec.suffixed (expression_tree operand.entry.value) (ahead parser.old)) }
+        (spec.after_operand (expression_tree operand.entry.value) (ahead parser.old)) }
 {
     match stepping(peek(parser.tokens)) {
         Some(step) => step_after(parser, operand, step),
-        None => lengthened(parser, operand),
+        None => with_length(parser, operand),
     }
 }
 
@@ -380,7 +360,7 @@ pub fn suffixed<'t, 'a>(
 pub fn parenthesised<'t, 'a>(
     parser: &mut Parser<'t, 'a>,
     enclosed: Box<Expression<'a>>,
-) -> Result<Box<Expression<'a>>, ParseError>
+) -> Parsed<Box<Expression<'a>>>
     ensures { TakesExpression result parser.new (spec.closed tree.parenthesised
         (expression_tree enclosed.entry.value, ahead parser.old)) }
 {
@@ -394,7 +374,7 @@ pub fn relative_of<'t, 'a>(
     parser: &mut Parser<'t, 'a>,
     relative: Relative,
     enclosed: Box<Expression<'a>>,
-) -> Result<Box<Expression<'a>>, ParseError>
+) -> Parsed<Box<Expression<'a>>>
     ensures { TakesExpression result parser.new (spec.closed (tree.relative_of relative)
         (expression_tree enclosed.entry.value, ahead parser.old)) }
 {
@@ -409,7 +389,7 @@ pub fn contained<'t, 'a>(
     left: Box<Expression<'a>>,
     operator: Containment,
     right: Box<Expression<'a>>,
-) -> Result<Box<Expression<'a>>, ParseError>
+) -> Parsed<Box<Expression<'a>>>
     ensures { TakesExpression result parser.now
         (Ok (
           tree.contained operator (expression_tree left.entry.value)
@@ -425,7 +405,7 @@ pub fn contained<'t, 'a>(
 pub fn tested<'t, 'a>(
     parser: &mut Parser<'t, 'a>,
     left: Box<Expression<'a>>,
-) -> Result<Box<Expression<'a>>, ParseError>
+) -> Parsed<Box<Expression<'a>>>
     ensures { TakesExpression result parser.new
         (spec.tested_next (expression_tree left.entry.value) (ahead parser.old)) }
 {
@@ -441,7 +421,7 @@ fn object_test<'t, 'a>(
     parser: &mut Parser<'t, 'a>,
     left: Box<Expression<'a>>,
     test: ObjectTest,
-) -> Result<Box<Expression<'a>>, ParseError>
+) -> Parsed<Box<Expression<'a>>>
     ensures { TakesExpression result parser.new (spec.tested_on
         (expression_tree left.entry.value) (ahead parser.old) (Some test)) }
 {
@@ -457,7 +437,7 @@ pub fn compare<'t, 'a>(
     left: Box<Expression<'a>>,
     operator: Comparison,
     right: Box<Expression<'a>>,
-) -> Result<Box<Expression<'a>>, ParseError>
+) -> Parsed<Box<Expression<'a>>>
     ensures { TakesExpression result parser.now
         (Ok (
           tree.compare operator (expression_tree left.entry.value)
@@ -475,7 +455,7 @@ pub fn assign<'t, 'a>(
     left: Box<Expression<'a>>,
     position: Position,
     right: Box<Expression<'a>>,
-) -> Result<Box<Expression<'a>>, ParseError>
+) -> Parsed<Box<Expression<'a>>>
     ensures { TakesExpression result parser.now
         (Ok (
           tree.assign (expression_tree left.entry.value) position
@@ -494,7 +474,7 @@ pub fn equal<'t, 'a>(
     operator: Equality,
     first: Box<Expression<'a>>,
     others: Vec<Expression<'a>>,
-) -> Result<Box<Expression<'a>>, ParseError>
+) -> Parsed<Box<Expression<'a>>>
     ensures { TakesExpression result parser.now (Ok (
       tree.equal operator (expression_tree left.entry.value) (trees_of
           (expression_tree first.entry.value ∷ map expression_tree others.entry.items)),
@@ -510,7 +490,7 @@ pub fn call<'t, 'a>(
     parser: &mut Parser<'t, 'a>,
     name: &Name<'a>,
     arguments: Vec<Expression<'a>>,
-) -> Result<Box<Expression<'a>>, ParseError>
+) -> Parsed<Box<Expression<'a>>>
     ensures { TakesExpression result parser.new
         (spec.closed (λ xs. tree.call (name_tree name.now) (trees_of xs))
         (map expression_tree arguments.entry.items, ahead parser.old)) }
@@ -525,7 +505,7 @@ pub fn call<'t, 'a>(
 pub fn call_alone<'t, 'a>(
     parser: &mut Parser<'t, 'a>,
     name: &Name<'a>,
-) -> Result<Box<Expression<'a>>, ParseError>
+) -> Parsed<Box<Expression<'a>>>
     ensures { TakesExpression result parser.new
         (Ok (tree.call (name_tree name.now) tree.none, reading.tail (ahead parser.old))) }
 {

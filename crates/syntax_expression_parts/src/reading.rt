@@ -3,13 +3,12 @@
 ghost use Rattle.std.specs.Prelude.{◌≡◌, false, MatchOption, None, Some};
 ghost use Rattle.syntax_lexer.specs.Token.{lexeme, lexemes, name};
 ghost use Rattle.syntax_trees.specs.Views.{name_tree};
-ghost use Rattle.syntax_parsing.specs.Returned.{ahead, Takes};
+ghost use Rattle.syntax_trees.specs.Returned.{ahead, Takes};
 ghost use Rattle.syntax_expression_parts.specs.Parse as spec;
 
 use crate::operators::indexing;
 use syntax_lexer::{Kind, Sign, Token};
-use syntax_parsing::{Fault, ParseError, Parser, expect, fault_at, pass, peek, skip};
-use syntax_trees::{Name, Width};
+use syntax_trees::{Fault, Name, Parsed, Parser, Width, expect, fault_at, pass, peek, skip};
 
 /// The name that the token is, with its position.
 pub fn name_of<'a>(token: Token<'a>) -> Option<Name<'a>>
@@ -46,7 +45,7 @@ pub fn array<'a>(tokens: &[Token<'a>]) -> Option<(Name<'a>, Width)>
 ///
 /// `Fault::Grammar` at the next token: it is no name.
 #[tactic(auto, using(crate::proofs::NamesRead::name_found, crate::proofs::NamesRead::no_name))]
-pub fn expect_name<'t, 'a>(parser: &mut Parser<'t, 'a>) -> Result<Name<'a>, ParseError>
+pub fn expect_name<'t, 'a>(parser: &mut Parser<'t, 'a>) -> Parsed<Name<'a>>
     ensures { Takes name_tree result parser.new (spec.expect_name (ahead parser.old)) }
 {
     let Some(found) = name_of(peek(parser.tokens)) else {
@@ -62,7 +61,7 @@ pub fn expect_name<'t, 'a>(parser: &mut Parser<'t, 'a>) -> Result<Name<'a>, Pars
 ///
 /// `Fault::Grammar` at the token that is not the name, or not the arrow.
 #[tactic(auto, unfolding(crate::specs::Parse::entry_of))]
-pub fn property_name<'t, 'a>(parser: &mut Parser<'t, 'a>) -> Result<Name<'a>, ParseError>
+pub fn property_name<'t, 'a>(parser: &mut Parser<'t, 'a>) -> Parsed<Name<'a>>
     ensures { Takes name_tree result parser.new (spec.entry_of (ahead parser.old)) }
 {
     let found = expect_name(parser)?;

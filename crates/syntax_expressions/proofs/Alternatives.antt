@@ -16,15 +16,15 @@ use Rattle.syntax_trees.specs.Tree.{NameTree, ExpressionTree, ExpressionTrees, c
 use Rattle.syntax_trees.specs.Tree.{parenthesised, relative_of, property_length, property_entry, prefixed, step_before}
 use Rattle.syntax_trees.specs.Tree.{step_after, compare, equal, contained, tested, assign, none, more}
 use Rattle.syntax_trees.specs.Views.{trees_of}
-use Rattle.syntax_parsing.specs.Stop.{Stop}
-use Rattle.syntax_parsing.specs.Parse.{◌>>=◌, head, is_sign, is_word, expect, list}
+use Rattle.syntax_trees.specs.Stop.{Stop}
+use Rattle.syntax_trees.specs.Parse.{◌>>=◌, head, is_sign, is_word, expect, list}
 use Rattle.syntax_expression_parts.specs.Operators.{logical, comparing, equating, containing, testing, adding, scaling}
 use Rattle.syntax_expression_parts.specs.Operators.{stepping, prefixes, relating, indexing, begins_expression}
-use Rattle.syntax_expressions.specs.Parse.{assignment, compared, whole, negation, complement, prefix, operand}
-use Rattle.syntax_expressions.specs.Parse.{arguments, nested, after_name, enclosed, related, atom, primary, stepped}
-use Rattle.syntax_expressions.specs.Parse.{unary, entry, owned, unindexed, indexed, complemented, product, sum, equated}
-use Rattle.syntax_expressions.specs.Parse.{comparison, negated, condition, assigned, expression, called}
-use Rattle.syntax_expression_parts.specs.Parse.{expect_name, entry_of, lengthened, tested_next, suffixed, array_at}
+use Rattle.syntax_expressions.specs.Parse.{assignment, after_left, whole, negation, complement, prefix, operand}
+use Rattle.syntax_expressions.specs.Parse.{arguments, nested, after_name, in_parentheses, object_relative, atom, primary, postfix}
+use Rattle.syntax_expressions.specs.Parse.{unary, entry, after_owner, object_entry, array_entry, factor, product, sum, equate_on}
+use Rattle.syntax_expressions.specs.Parse.{comparison, logical_operand, condition, right_side, expression, rest_of_call}
+use Rattle.syntax_expression_parts.specs.Parse.{expect_name, entry_of, with_length, tested_next, after_operand, array_at}
 use Rattle.syntax_expressions.proofs.Limited.{Limited, bound, then, at_once, same, Chained, begins}
 use Rattle.syntax_expressions.proofs.Properties.{Owned, owner_begins, owner_stops}
 use Rattle.syntax_expressions.proofs.Follow.{Stops, equating_only, containing_only, testing_only, stepping_only}
@@ -47,19 +47,19 @@ pub owner_ends : {R : Result (ExpressionTree × List Lexeme) Stop} {d n : ℕ} {
     → Owned R d n e r → Stops 7 r → Limited R d n e r
 owner_ends {r = r} o st = owner_stops o (property_stops (head r) st)
 
-pub suffix_none : (e : ExpressionTree) (r : List Lexeme) → Stops 6 r → suffixed e r ≡ Ok (e, r)
-unfolding suffixed lengthened
+pub suffix_none : (e : ExpressionTree) (r : List Lexeme) → Stops 6 r → after_operand e r ≡ Ok (e, r)
+unfolding after_operand with_length
 suffix_none e r st = rw (stepping_stops (head r) st, length_stops (head r) st) refl
 
 pub suffix_step : (e : ExpressionTree) (t : Lexeme) (op : Step) (r : List Lexeme) → stepping t ≡ Some op
-    → suffixed e (t ∷ r) ≡ Ok (step_after e op (position_of t), r)
-unfolding suffixed
+    → after_operand e (t ∷ r) ≡ Ok (step_after e op (position_of t), r)
+unfolding after_operand
 suffix_step e t op r o = rw o refl
 
 pub suffix_length : (e : ExpressionTree) (p q : Position) (f : List ℕ) (r : List Lexeme)
-    → suffixed e (sign s.DotHash q ∷ name f p ∷ r)
+    → after_operand e (sign s.DotHash q ∷ name f p ∷ r)
     ≡ Ok (property_length e (record { text = f; position = p }), r)
-unfolding suffixed lengthened expect_name
+unfolding after_operand with_length expect_name
 suffix_length e p q f r = refl
 
 -- ---- one step for each alternative
@@ -74,24 +74,24 @@ module _ (ts : List Lexeme) (d : ℕ) where
       → Limited (condition (nested d) ts) d n a (sign s.Assign p ∷ m) → begins_expression (head m) ≡ true
       → length r ≤ length m → Limited (nested d whole (length m) m) d k b r
       → Limited (expression (nested d) ts) d (max n k) (assign a p b) r
-  unfolding expression assignment assigned
+  unfolding expression assignment right_side
   step_e_assign {k = k} {b = b} {r = r} m a e short h =
-      let right : Limited (assigned (nested d) m) d k b r = same (rw e refl) h in
+      let right : Limited (right_side (nested d) m) d k b r = same (rw e refl) h in
       bound _ a (omega (arith, short)) (then _ right (omega arith) refl)
 
-  pub step_e1_plain : {n : ℕ} {e : ExpressionTree} {r : List Lexeme} → Limited (negated (nested d) ts) d n e r
-      → Chained logical (negated (nested d)) (condition (nested d) ts) d n e r
+  pub step_e1_plain : {n : ℕ} {e : ExpressionTree} {r : List Lexeme} → Limited (logical_operand (nested d) ts) d n e r
+      → Chained logical (logical_operand (nested d)) (condition (nested d) ts) d n e r
   unfolding condition
-  step_e1_plain a = begins logical (negated (nested d)) ts a
+  step_e1_plain a = begins logical (logical_operand (nested d)) ts a
 
   pub step_n1_plain : {n : ℕ} {e : ExpressionTree} {r : List Lexeme} → is_sign s.Not (head ts) ≡ false
-      → Limited (comparison (nested d) ts) d n e r → Limited (negated (nested d) ts) d n e r
-  unfolding negated
+      → Limited (comparison (nested d) ts) d n e r → Limited (logical_operand (nested d) ts) d n e r
+  unfolding logical_operand
   step_n1_plain h a = same (rw h refl) a
 
   pub step_e2_plain : {n : ℕ} {e : ExpressionTree} {r : List Lexeme} → Limited (sum (nested d) ts) d n e r → Stops 3 r
       → Limited (comparison (nested d) ts) d n e r
-  unfolding comparison compared tested_next
+  unfolding comparison after_left tested_next
   step_e2_plain {r = r} a st = then _ a (omega arith)
       (rw (
         comparing_stops (head r) st,
@@ -104,7 +104,7 @@ module _ (ts : List Lexeme) (d : ℕ) where
       → Limited (sum (nested d) ts) d n a (t ∷ m) → containing t ≡ Some op → length r ≤ length m
       → Limited (sum (nested d) m) d k b r
       → Limited (comparison (nested d) ts) d (max n k) (contained op a b) r
-  unfolding comparison compared
+  unfolding comparison after_left
   step_e2_contained {a = a} {t = t} {op = op} {m = m} l o short b =
       let not_these = containing_only t op o in
       bound _ l (omega (arith, short))
@@ -114,7 +114,7 @@ module _ (ts : List Lexeme) (d : ℕ) where
   pub step_e2_tested : {n : ℕ} {a : ExpressionTree} {t : Lexeme} {test : ObjectTest} {p : Position} {f : List ℕ}
       {r : List Lexeme} → Limited (sum (nested d) ts) d n a (t ∷ name f p ∷ r) → testing t ≡ Some test
       → Limited (comparison (nested d) ts) d n (tested test a (record { text = f; position = p })) r
-  unfolding comparison compared tested_next expect_name
+  unfolding comparison after_left tested_next expect_name
   step_e2_tested {t = t} {test = test} l o =
       let not_these = testing_only t test o in
       then _ l (omega arith) (rw (not_these.0, not_these.1, not_these.2, o) refl)
@@ -123,7 +123,7 @@ module _ (ts : List Lexeme) (d : ℕ) where
       → Limited (sum (nested d) ts) d n a (t ∷ m) → comparing t ≡ Some op → length r ≤ length m
       → Limited (sum (nested d) m) d k b r
       → Limited (comparison (nested d) ts) d (max n k) (compare op a b) r
-  unfolding comparison compared
+  unfolding comparison after_left
   step_e2_compare {a = a} {op = op} {m = m} l o short b = bound _ l (omega (arith, short))
       (same {S = sum (nested d) m >>= λ x. Ok (compare op a x.0, x.1)} (rw o refl) (then _ b (omega arith) refl))
 
@@ -131,7 +131,7 @@ module _ (ts : List Lexeme) (d : ℕ) where
       Lexeme} → Limited (sum (nested d) ts) d n a (t ∷ m) → equating t ≡ Some op → length r ≤ length m
       → Limited (list (is_word w.Or) (sum (nested d)) m) d k (list_of bs) r
       → Limited (comparison (nested d) ts) d (max n k) (equal op a bs) r
-  unfolding comparison compared equated
+  unfolding comparison after_left equate_on
   step_e2_equal {a = a} {t = t} {op = op} {bs = bs} {m = m} {r = r} l o short b =
       bound _ l (omega (arith, short))
       (same {S = list (is_word w.Or) (sum (nested d)) m >>= λ x. Ok (equal op a (trees_of x.0), x.1)}
@@ -142,44 +142,44 @@ module _ (ts : List Lexeme) (d : ℕ) where
   unfolding sum
   step_e3_plain a = begins adding (product (nested d)) ts a
 
-  pub step_e4_plain : {n : ℕ} {e : ExpressionTree} {r : List Lexeme} → Limited (complemented (nested d) ts) d n e r
-      → Chained scaling (complemented (nested d)) (product (nested d) ts) d n e r
+  pub step_e4_plain : {n : ℕ} {e : ExpressionTree} {r : List Lexeme} → Limited (factor (nested d) ts) d n e r
+      → Chained scaling (factor (nested d)) (product (nested d) ts) d n e r
   unfolding product
-  step_e4_plain a = begins scaling (complemented (nested d)) ts a
+  step_e4_plain a = begins scaling (factor (nested d)) ts a
 
   pub step_n4_plain : {n : ℕ} {e : ExpressionTree} {r : List Lexeme} → is_sign s.Tilde (head ts) ≡ false
-      → Limited (indexed (nested d) ts) d n e r → Limited (complemented (nested d) ts) d n e r
-  unfolding complemented
+      → Limited (array_entry (nested d) ts) d n e r → Limited (factor (nested d) ts) d n e r
+  unfolding factor
   step_n4_plain h a = same (rw h refl) a
 
   pub step_e5_prefixed : {n : ℕ} {e : ExpressionTree} {r : List Lexeme} → array_at ts ≡ None → prefixes (head ts) ≡ true
-      → Limited (unary (nested d) ts) d n e r → Limited (indexed (nested d) ts) d n e r
-  unfolding indexed unindexed
+      → Limited (unary (nested d) ts) d n e r → Limited (array_entry (nested d) ts) d n e r
+  unfolding array_entry object_entry
   step_e5_prefixed h o a = same (rw (h, o) refl) a
 
   pub step_e5_suffixed : {n : ℕ} {a e : ExpressionTree} {m r : List Lexeme} → array_at ts ≡ None
       → prefixes (head ts) ≡ false → Limited (primary (nested d) ts) d n a m
-      → is_sign s.DotAmpersand (head m) ≡ false → length r ≤ length m → suffixed a m ≡ Ok (e, r)
-      → Limited (indexed (nested d) ts) d n e r
-  unfolding indexed unindexed owned
-  step_e5_suffixed h o a ends short p = same {S = primary (nested d) ts >>= λ x. owned (nested d) x.0 x.1}
+      → is_sign s.DotAmpersand (head m) ≡ false → length r ≤ length m → after_operand a m ≡ Ok (e, r)
+      → Limited (array_entry (nested d) ts) d n e r
+  unfolding array_entry object_entry after_owner
+  step_e5_suffixed h o a ends short p = same {S = primary (nested d) ts >>= λ x. after_owner (nested d) x.0 x.1}
       (rw (h, o) refl) (then _ a short (rw ends p))
 
   pub step_e5_entry : {n k : ℕ} {a i : ExpressionTree} {p q o : Position} {f : List ℕ} {m r : List Lexeme}
       → array_at ts ≡ None → prefixes (head ts) ≡ false
       → Limited (primary (nested d) ts) d n a (sign s.DotAmpersand q ∷ name f p ∷ sign s.LongArrow o ∷ m)
       → length r ≤ length m → Limited (unary (nested d) m) d k i r
-      → Limited (indexed (nested d) ts) d (max n k) (property_entry a (record { text = f; position = p }) i) r
-  unfolding indexed unindexed owned entry entry_of expect_name expect
-  step_e5_entry h o a short b = same {S = primary (nested d) ts >>= λ x. owned (nested d) x.0 x.1} (rw (h, o) refl)
+      → Limited (array_entry (nested d) ts) d (max n k) (property_entry a (record { text = f; position = p }) i) r
+  unfolding array_entry object_entry after_owner entry entry_of expect_name expect
+  step_e5_entry h o a short b = same {S = primary (nested d) ts >>= λ x. after_owner (nested d) x.0 x.1} (rw (h, o) refl)
       (bound _ a (omega (arith, short)) (then _ b (omega arith) refl))
 
   pub step_u_suffixed : {n : ℕ} {a e : ExpressionTree} {m r : List Lexeme} → is_sign s.Minus (head ts) ≡ false
       → stepping (head ts) ≡ None → Limited (primary (nested d) ts) d n a m → length r ≤ length m
-      → suffixed a m ≡ Ok (e, r)
+      → after_operand a m ≡ Ok (e, r)
       → Limited (unary (nested d) ts) d n e r
-  unfolding unary stepped
-  step_u_suffixed h o a short p = same {S = primary (nested d) ts >>= λ x. suffixed x.0 x.1} (rw (h, o) refl) (then _ a short p)
+  unfolding unary postfix
+  step_u_suffixed h o a short p = same {S = primary (nested d) ts >>= λ x. after_operand x.0 x.1} (rw (h, o) refl) (then _ a short p)
 
   pub step_primary : {n : ℕ} {e : ExpressionTree} {r : List Lexeme} → Limited (atom (nested d) ts) d n e r
       → Owned (primary (nested d) ts) d n e r
@@ -189,20 +189,20 @@ module _ (ts : List Lexeme) (d : ℕ) where
 module _ (d : ℕ) (m : List Lexeme) where
   pub step_n1_not : {n : ℕ} (p : Position) {e : ExpressionTree} {r : List Lexeme}
       → Limited (nested d negation (suc (length m)) m) d n e r
-      → Limited (negated (nested d) (sign s.Not p ∷ m)) d n (prefixed op.Not e) r
-  unfolding negated
+      → Limited (logical_operand (nested d) (sign s.Not p ∷ m)) d n (prefixed op.Not e) r
+  unfolding logical_operand
   step_n1_not p a = then _ a (omega arith) refl
 
   pub step_n4_complement : {n : ℕ} (p : Position) {e : ExpressionTree} {r : List Lexeme}
-      → Limited (nested d complement (suc (length m)) m) d n e r → Limited (complemented (nested d) (sign s.Tilde p ∷ m)) d n
+      → Limited (nested d complement (suc (length m)) m) d n e r → Limited (factor (nested d) (sign s.Tilde p ∷ m)) d n
       (prefixed op.Complement e) r
-  unfolding complemented
+  unfolding factor
   step_n4_complement p a = then _ a (omega arith) refl
 
   pub step_e5_index : {n : ℕ} (p : Position) (t : Lexeme) (f : List ℕ) (width : Width) {e : ExpressionTree} {r : List
       Lexeme} → indexing t ≡ Some width → Limited (unary (nested d) m) d n e r
-      → Limited (indexed (nested d) (name f p ∷ t ∷ m)) d n (index (record { text = f; position = p }) width e) r
-  unfolding indexed array_at
+      → Limited (array_entry (nested d) (name f p ∷ t ∷ m)) d n (index (record { text = f; position = p }) width e) r
+  unfolding array_entry array_at
   step_e5_index p t f width o a =
       same {S = unary (nested d) m >>= λ x. Ok (index (record { text = f; position = p }) width x.0, x.1)}
       (rw o refl) (then _ a (omega arith) refl)
@@ -251,13 +251,13 @@ module _ (d : ℕ) (m : List Lexeme) where
   pub step_p_parenthesised : {n : ℕ} (p : Position) {o : Position} {e : ExpressionTree} {r : List Lexeme}
       → Limited (nested d whole (suc (length m)) m) d n e (sign s.CloseParenthesis o ∷ r)
       → Limited (atom (nested d) (sign s.OpenParenthesis p ∷ m)) d n (parenthesised e) r
-  unfolding atom enclosed expect
+  unfolding atom in_parentheses expect
   step_p_parenthesised p a = then _ a (omega arith) refl
 
   pub step_p_relative : {n : ℕ} (t : Lexeme) (which : Relative) (p : Position) {o : Position} {e : ExpressionTree}
       {r : List Lexeme} → relating t ≡ Some which → Limited (nested d whole (suc (length m)) m) d n e (sign s.CloseParenthesis o ∷ r)
       → Limited (atom (nested d) (t ∷ sign s.OpenParenthesis p ∷ m)) d n (relative_of which e) r
-  unfolding atom related expect
+  unfolding atom object_relative expect
   step_p_relative (reserved v q) which p h a = same {S = nested d whole (suc (length m)) m >>= λ x. expect s.CloseParenthesis x.1
       >>= λ u. Ok (relative_of which x.0, u)} (rw h refl) (then _ a (omega arith) refl)
   step_p_relative _ which p h a = absurd cc
@@ -269,15 +269,15 @@ module _ (d : ℕ) (m : List Lexeme) where
   step_p_call p q f a = same refl a
 
   pub step_called_none : (o : Position) (f : NameTree)
-      → Limited (called (nested d) f (sign s.CloseParenthesis o ∷ m)) d 0 (call f none) m
-  unfolding called
+      → Limited (rest_of_call (nested d) f (sign s.CloseParenthesis o ∷ m)) d 0 (call f none) m
+  unfolding rest_of_call
   step_called_none o f = at_once refl
 
   pub step_called : {n : ℕ} {o : Position} {r : List Lexeme} (f : NameTree) (es : ExpressionTrees)
       → is_sign s.CloseParenthesis (head m) ≡ false
       → Limited (list (is_sign s.Comma) (expression (nested d)) m) d n (list_of es) (sign s.CloseParenthesis o ∷ r)
-      → Limited (called (nested d) f m) d n (call f es) r
-  unfolding called expect
+      → Limited (rest_of_call (nested d) f m) d n (call f es) r
+  unfolding rest_of_call expect
   step_called {r = r} f es h a =
       same {S = list (is_sign s.Comma) (expression (nested d)) m >>= λ x. expect s.CloseParenthesis x.1
       >>= λ u. Ok (call f (trees_of x.0), u)} (rw h refl) (then _ a (omega arith) (rw (trees_back es) refl))

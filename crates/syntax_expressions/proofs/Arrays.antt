@@ -4,7 +4,7 @@ use Rattle.syntax_lexer.specs.declared.token.Sign.TheVariants as s
 use Rattle.syntax_lexer.specs.Token.{Lexeme, sign}
 use Rattle.syntax_trees.specs.declared.tree.Step.{Step}
 use Rattle.syntax_trees.specs.Tree.{ExpressionTree}
-use Rattle.syntax_parsing.specs.Parse.{head}
+use Rattle.syntax_trees.specs.Parse.{head}
 use Rattle.syntax_expression_parts.specs.Operators.{stepping, indexing}
 use Rattle.syntax_expression_parts.specs.Parse.{is_name, array_at}
 use Rattle.syntax_expression_parts.proofs.Arrays.{array_no_name, no_arrow}

@@ -7,7 +7,7 @@ use Rattle.syntax_lexer.specs.Token.{Lexeme, name, number, character, dictionary
 use Rattle.syntax_trees.specs.declared.tree.Relative.{Relative}
 use Rattle.syntax_trees.specs.declared.tree.Step.{Step}
 use Rattle.syntax_trees.specs.Tree.{ExpressionTree, ExpressionTrees}
-use Rattle.syntax_parsing.specs.Parse.{head, is_sign}
+use Rattle.syntax_trees.specs.Parse.{head, is_sign}
 use Rattle.syntax_expression_parts.specs.Operators.{stepping, prefixes, relating_word, relating, word_begins}
 use Rattle.syntax_expression_parts.specs.Operators.{begins_expression}
 use Rattle.syntax_expressions.specs.Grammar.{IsE, e_plain, e_assign, IsE1, e1_plain, e1_logical, IsN1, n1_plain, n1_not}

@@ -4,10 +4,10 @@ use Rattle.std.proofs.Common.{Result, Ok, Err, refl, sym, ap, ◌∙◌, arith}
 use Rattle.syntax_lexer.specs.Token.{Lexeme}
 use Rattle.syntax_trees.specs.declared.tree.Binary.{Binary}
 use Rattle.syntax_trees.specs.Tree.{ExpressionTree, binary}
-use Rattle.syntax_parsing.specs.Stop.{Stop, stop_of}
-use Rattle.syntax_parsing.specs.declared.error.ParseError.{ParseError}
-use Rattle.syntax_parsing.specs.declared.error.ParseError.TheVariants as errors
-use Rattle.syntax_parsing.specs.Parse.{◌>>=◌, Fails, Parse, head, tail}
+use Rattle.syntax_trees.specs.Stop.{Stop, stop_of}
+use Rattle.syntax_trees.specs.declared.error.ParseError.{ParseError}
+use Rattle.syntax_trees.specs.declared.error.ParseError.TheVariants as errors
+use Rattle.syntax_trees.specs.Parse.{◌>>=◌, Fails, Parse, head, tail}
 use Rattle.syntax_expression_parts.specs.declared.operators.Operators.{Operators}
 use Rattle.syntax_expression_parts.specs.declared.operators.Operators.TheVariants as operators
 use Rattle.syntax_expressions.specs.Parse.{Level, chain, condition, sum, product}

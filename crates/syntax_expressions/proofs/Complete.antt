@@ -5,10 +5,10 @@ use Rattle.syntax_lexer.specs.declared.token.Sign.TheVariants as s
 use Rattle.syntax_lexer.specs.declared.token.Word.TheVariants as w
 use Rattle.syntax_lexer.specs.Token.{Lexeme, reserved, sign}
 use Rattle.syntax_trees.specs.Tree.{ExpressionTree, ExpressionTrees}
-use Rattle.syntax_parsing.specs.Parse.{head, is_sign, is_word}
+use Rattle.syntax_trees.specs.Parse.{head, is_sign, is_word}
 use Rattle.syntax_expression_parts.specs.Operators.{logical, adding, scaling}
-use Rattle.syntax_expressions.specs.Parse.{nested, primary, unary, indexed, complemented, product, sum, comparison}
-use Rattle.syntax_expressions.specs.Parse.{negated, condition, expression}
+use Rattle.syntax_expressions.specs.Parse.{nested, primary, unary, array_entry, factor, product, sum, comparison}
+use Rattle.syntax_expressions.specs.Parse.{logical_operand, condition, expression}
 use Rattle.syntax_expressions.specs.Grammar.{IsE, e_plain, e_assign, IsE1, e1_plain, e1_logical, IsN1, n1_plain, n1_not}
 use Rattle.syntax_expressions.specs.Grammar.{IsE2, e2_plain, e2_compare, e2_equal, e2_contained, e2_tested, IsChoice}
 use Rattle.syntax_expressions.specs.Grammar.{choice_last, choice_or, IsE3, e3_plain, e3_add, IsE4, e4_plain, e4_scale}
@@ -55,13 +55,13 @@ mutual
       (logical_stops (head r) st)
 
   pub chain_E1 : {ts r : List Lexeme} {e : ExpressionTree} → IsE1 ts e r → (d : ℕ) → Stops 3 r
-      → Chained logical (negated (nested d)) (condition (nested d) ts) d (nesting e) e r
+      → Chained logical (logical_operand (nested d)) (condition (nested d) ts) d (nesting e) e r
   chain_E1 {ts} (e1_plain a) d st = step_e1_plain ts d (at_N1 a d st)
   chain_E1 (e1_logical {t = t} {op = op} a o b) d st = goes_on (chain_E1 a d (omega (arith, logical_binds t op o))) o
       (at_N1 b d st) (short_N1 b)
 
   pub at_N1 : {ts r : List Lexeme} {e : ExpressionTree} → IsN1 ts e r → (d : ℕ) → Stops 3 r
-      → Limited (negated (nested d) ts) d (nesting e) e r
+      → Limited (logical_operand (nested d) ts) d (nesting e) e r
   at_N1 {ts} (n1_plain a) d st = step_n1_plain ts d (begins_not (head ts) (begin_E2 a)) (at_E2 a d st)
   at_N1 (n1_not {m = m} {p = p} a) d st = step_n1_not d m p (in_negation (suc (length m)) m d (omega (arith, short_N1 a)) (λ k. at_N1 a k st))
 
@@ -106,18 +106,18 @@ mutual
       (scaling_stops (head r) st)
 
   pub chain_E4 : {ts r : List Lexeme} {e : ExpressionTree} → IsE4 ts e r → (d : ℕ) → Stops 6 r
-      → Chained scaling (complemented (nested d)) (product (nested d) ts) d (nesting e) e r
+      → Chained scaling (factor (nested d)) (product (nested d) ts) d (nesting e) e r
   chain_E4 {ts} (e4_plain a) d st = step_e4_plain ts d (at_N4 a d st)
   chain_E4 (e4_scale {t = t} {op = op} a o b) d st = goes_on (chain_E4 a d (omega (arith, scaling_binds t op o))) o
       (at_N4 b d st) (short_N4 b)
 
   pub at_N4 : {ts r : List Lexeme} {e : ExpressionTree} → IsN4 ts e r → (d : ℕ) → Stops 6 r
-      → Limited (complemented (nested d) ts) d (nesting e) e r
+      → Limited (factor (nested d) ts) d (nesting e) e r
   at_N4 {ts} (n4_plain a) d st = step_n4_plain ts d (begins_tilde (head ts) (begin_E5 a)) (at_E5 a d st)
   at_N4 (n4_complement {m = m} {p = p} a) d st = step_n4_complement d m p (in_complement (suc (length m)) m d (omega (arith, short_N4 a)) (λ k. at_N4 a k st))
 
   pub at_E5 : {ts r : List Lexeme} {e : ExpressionTree} → IsE5 ts e r → (d : ℕ) → Stops 6 r
-      → Limited (indexed (nested d) ts) d (nesting e) e r
+      → Limited (array_entry (nested d) ts) d (nesting e) e r
   at_E5 {ts} {r} (e5_plain (u_plain {e = e} a)) d st = step_e5_suffixed ts d (no_array (u_plain a) st)
       (begins_prefix (head ts) (begin_P a)) (owner_ends (owner_P a d (omega arith)) (omega arith))
       (entry_stops (head r) st) (omega arith) (suffix_none e r st)

@@ -1,7 +1,7 @@
 -- The token with which an expression begins that reaches a token too deep.
 use Rattle.std.proofs.Common.{◌≡◌, ℕ, ◌<◌, true, List, None, refl, arith}
 use Rattle.syntax_lexer.specs.Token.{Lexeme}
-use Rattle.syntax_parsing.specs.Parse.{head}
+use Rattle.syntax_trees.specs.Parse.{head}
 use Rattle.syntax_expression_parts.specs.Operators.{begins_expression}
 use Rattle.syntax_expressions.specs.Nesting.{DeepE, deep_e_left, deep_e_first, deep_e_right, DeepE1, deep_e1_first}
 use Rattle.syntax_expressions.specs.Nesting.{deep_e1_next, DeepN1, deep_n1_plain, deep_n1_not, deep_n1_in, DeepE2}

@@ -13,7 +13,7 @@ use Rattle.syntax_trees.specs.declared.tree.Width.{Width}
 use Rattle.syntax_trees.specs.Tree.{NameTree, ExpressionTree, index, relative_of, step_before, compare, equal}
 use Rattle.syntax_trees.specs.Tree.{contained, call}
 use Rattle.syntax_trees.specs.Views.{trees_of}
-use Rattle.syntax_parsing.specs.Parse.{◌>>=◌, head, is_sign, is_word, expect, list}
+use Rattle.syntax_trees.specs.Parse.{◌>>=◌, head, is_sign, is_word, expect, list}
 use Rattle.syntax_expression_parts.specs.Operators.{comparing, equating, containing, stepping, prefixes, relating}
 use Rattle.syntax_expression_parts.specs.Operators.{indexing, begins_expression}
 use Rattle.syntax_expressions.specs.Nesting.{DeepE, deep_e_left, deep_e_first, deep_e_right, DeepE1, deep_e1_first}
@@ -27,10 +27,10 @@ use Rattle.syntax_expressions.specs.Nesting.{deep_u_before, deep_u_before_in, De
 use Rattle.syntax_expressions.specs.Nesting.{deep_p_relative, deep_p_relative_in, deep_p_parenthesis, deep_p_in}
 use Rattle.syntax_expressions.specs.Nesting.{DeepArguments, deep_arguments_first, deep_arguments_next}
 use Rattle.syntax_expressions.specs.Parse.{assignment, whole, negation, complement, prefix, operand, arguments, nested}
-use Rattle.syntax_expressions.specs.Parse.{after_name, enclosed, related, atom, primary, stepped, unary, entry, owned}
-use Rattle.syntax_expressions.specs.Parse.{unindexed, indexed, complemented, product, sum, compared, equated}
-use Rattle.syntax_expressions.specs.Parse.{comparison, negated, condition, assigned, expression, called}
-use Rattle.syntax_expression_parts.specs.Parse.{expect_name, entry_of, suffixed, array_at}
+use Rattle.syntax_expressions.specs.Parse.{after_name, in_parentheses, object_relative, atom, primary, postfix, unary, entry, after_owner}
+use Rattle.syntax_expressions.specs.Parse.{object_entry, array_entry, factor, product, sum, after_left, equate_on}
+use Rattle.syntax_expressions.specs.Parse.{comparison, logical_operand, condition, right_side, expression, rest_of_call}
+use Rattle.syntax_expression_parts.specs.Parse.{expect_name, entry_of, after_operand, array_at}
 use Rattle.syntax_expressions.proofs.Limited.{Limited}
 use Rattle.syntax_expressions.proofs.Follow.{comparing_binds, equating_binds, containing_binds, logical_binds}
 use Rattle.syntax_expressions.proofs.Follow.{adding_binds, scaling_binds, equating_only, containing_only}
@@ -59,18 +59,18 @@ module _ (d : ℕ) {n : ℕ} {ts u : List Lexeme} where
       → Limited (condition (nested d) ts) d k a (sign s.Assign p ∷ m) → length m < length ts
       → begins_expression (head m) ≡ true → Deepened (nested d whole (length m) m) d n m u
       → Deepened (expression (nested d) ts) d n ts u
-  unfolding expression assignment assigned
+  unfolding expression assignment right_side
   step_e_right m a less e h =
-      let right : Deepened (assigned (nested d) m) d n m u = deep_same (rw e refl) (omega arith) h in
+      let right : Deepened (right_side (nested d) m) d n m u = deep_same (rw e refl) (omega arith) h in
       deep_after _ a (omega (arith, less)) (omega arith) (deep_in _ right)
 
-  step_e1_first : Deepened (negated (nested d) ts) d n ts u → Deepened (condition (nested d) ts) d n ts u
+  step_e1_first : Deepened (logical_operand (nested d) ts) d n ts u → Deepened (condition (nested d) ts) d n ts u
   unfolding condition
   step_e1_first h = deep_in _ h
 
   step_n1_plain : is_sign s.Not (head ts) ≡ false → Deepened (comparison (nested d) ts) d n ts u
-      → Deepened (negated (nested d) ts) d n ts u
-  unfolding negated
+      → Deepened (logical_operand (nested d) ts) d n ts u
+  unfolding logical_operand
   step_n1_plain e h = deep_same (rw e refl) (omega arith) h
 
   step_e2_left : Deepened (sum (nested d) ts) d n ts u → Deepened (comparison (nested d) ts) d n ts u
@@ -80,14 +80,14 @@ module _ (d : ℕ) {n : ℕ} {ts u : List Lexeme} where
   step_e2_compare : {k : ℕ} {a : ExpressionTree} {t : Lexeme} {op : Comparison} {m : List Lexeme}
       → Limited (sum (nested d) ts) d k a (t ∷ m) → length m < length ts → comparing t ≡ Some op
       → Deepened (sum (nested d) m) d n m u → Deepened (comparison (nested d) ts) d n ts u
-  unfolding comparison compared
+  unfolding comparison after_left
   step_e2_compare {a = a} {op = op} {m = m} l less o h = deep_after {us = m} _ l (omega (arith, less)) (omega arith)
       (deep_same {S = sum (nested d) m >>= λ x. Ok (compare op a x.0, x.1)} (rw o refl) (omega arith) (deep_in _ h))
 
   step_e2_equal : {k : ℕ} {a : ExpressionTree} {t : Lexeme} {op : Equality} {m : List Lexeme}
       → Limited (sum (nested d) ts) d k a (t ∷ m) → length m < length ts → equating t ≡ Some op
       → Deepened (list (is_word w.Or) (sum (nested d)) m) d n m u → Deepened (comparison (nested d) ts) d n ts u
-  unfolding comparison compared equated
+  unfolding comparison after_left equate_on
   step_e2_equal {a = a} {t = t} {op = op} {m = m} l less o h =
       deep_after {us = m} _ l (omega (arith, less)) (omega arith)
       (deep_same {S = list (is_word w.Or) (sum (nested d)) m >>= λ x. Ok (equal op a (trees_of x.0), x.1)}
@@ -96,7 +96,7 @@ module _ (d : ℕ) {n : ℕ} {ts u : List Lexeme} where
   step_e2_contained : {k : ℕ} {a : ExpressionTree} {t : Lexeme} {op : Containment} {m : List Lexeme}
       → Limited (sum (nested d) ts) d k a (t ∷ m) → length m < length ts → containing t ≡ Some op
       → Deepened (sum (nested d) m) d n m u → Deepened (comparison (nested d) ts) d n ts u
-  unfolding comparison compared
+  unfolding comparison after_left
   step_e2_contained {a = a} {t = t} {op = op} {m = m} l less o h =
       let not_these = containing_only t op o in
       deep_after {us = m} _ l (omega (arith, less)) (omega arith)
@@ -107,40 +107,40 @@ module _ (d : ℕ) {n : ℕ} {ts u : List Lexeme} where
   unfolding sum
   step_e3_first h = deep_in _ h
 
-  step_e4_first : Deepened (complemented (nested d) ts) d n ts u → Deepened (product (nested d) ts) d n ts u
+  step_e4_first : Deepened (factor (nested d) ts) d n ts u → Deepened (product (nested d) ts) d n ts u
   unfolding product
   step_e4_first h = deep_in _ h
 
-  step_n4_plain : is_sign s.Tilde (head ts) ≡ false → Deepened (indexed (nested d) ts) d n ts u
-      → Deepened (complemented (nested d) ts) d n ts u
-  unfolding complemented
+  step_n4_plain : is_sign s.Tilde (head ts) ≡ false → Deepened (array_entry (nested d) ts) d n ts u
+      → Deepened (factor (nested d) ts) d n ts u
+  unfolding factor
   step_n4_plain e h = deep_same (rw e refl) (omega arith) h
 
   step_e5_prefixed : array_at ts ≡ None → prefixes (head ts) ≡ true → Deepened (unary (nested d) ts) d n ts u
-      → Deepened (indexed (nested d) ts) d n ts u
-  unfolding indexed unindexed
+      → Deepened (array_entry (nested d) ts) d n ts u
+  unfolding array_entry object_entry
   step_e5_prefixed none o h = deep_same (rw (none, o) refl) (omega arith) h
 
   step_e5_primary : array_at ts ≡ None → prefixes (head ts) ≡ false → Deepened (primary (nested d) ts) d n ts u
-      → Deepened (indexed (nested d) ts) d n ts u
-  unfolding indexed unindexed
-  step_e5_primary none o h = deep_same {S = primary (nested d) ts >>= λ x. owned (nested d) x.0 x.1}
+      → Deepened (array_entry (nested d) ts) d n ts u
+  unfolding array_entry object_entry
+  step_e5_primary none o h = deep_same {S = primary (nested d) ts >>= λ x. after_owner (nested d) x.0 x.1}
       (rw (none, o) refl) (omega arith) (deep_in _ h)
 
   step_e5_entry : {k : ℕ} {a : ExpressionTree} {p q o : Position} {f : List ℕ} {m : List Lexeme}
       → array_at ts ≡ None → prefixes (head ts) ≡ false
       → Limited (primary (nested d) ts) d k a (sign s.DotAmpersand q ∷ name f p ∷ sign s.LongArrow o ∷ m)
       → suc (suc (length m)) < length ts → Deepened (unary (nested d) m) d n m u
-      → Deepened (indexed (nested d) ts) d n ts u
-  unfolding indexed unindexed owned entry entry_of expect_name expect
+      → Deepened (array_entry (nested d) ts) d n ts u
+  unfolding array_entry object_entry after_owner entry entry_of expect_name expect
   step_e5_entry {m = m} none o a less h =
-      deep_same {S = primary (nested d) ts >>= λ x. owned (nested d) x.0 x.1} {us = ts} (rw (none, o) refl)
+      deep_same {S = primary (nested d) ts >>= λ x. after_owner (nested d) x.0 x.1} {us = ts} (rw (none, o) refl)
       (omega arith) (deep_after {us = m} _ a (omega (arith, less)) (omega arith) (deep_in _ h))
 
   step_u_plain : is_sign s.Minus (head ts) ≡ false → stepping (head ts) ≡ None
       → Deepened (primary (nested d) ts) d n ts u → Deepened (unary (nested d) ts) d n ts u
-  unfolding unary stepped
-  step_u_plain e o h = deep_same {S = primary (nested d) ts >>= λ x. suffixed x.0 x.1} (rw (e, o) refl) (omega arith)
+  unfolding unary postfix
+  step_u_plain e o h = deep_same {S = primary (nested d) ts >>= λ x. after_operand x.0 x.1} (rw (e, o) refl) (omega arith)
       (deep_in _ h)
 
   step_p : Deepened (atom (nested d) ts) d n ts u → Deepened (primary (nested d) ts) d n ts u
@@ -150,15 +150,15 @@ module _ (d : ℕ) {n : ℕ} {ts u : List Lexeme} where
 -- ---- tokens that open a nesting, and what follows them
 
 module _ (d : ℕ) (m : List Lexeme) where
-  open_n1 : (p : Position) → Deepened (negated (nested d) (sign s.Not p ∷ m)) d 1 (sign s.Not p ∷ m)
+  open_n1 : (p : Position) → Deepened (logical_operand (nested d) (sign s.Not p ∷ m)) d 1 (sign s.Not p ∷ m)
       (sign s.Not p ∷ m)
-  unfolding negated nested
-  open_n1 p = deep_opened (λ k. negated (nested k) (sign s.Not p ∷ m)) d (omega arith) refl
+  unfolding logical_operand nested
+  open_n1 p = deep_opened (λ k. logical_operand (nested k) (sign s.Not p ∷ m)) d (omega arith) refl
 
-  open_n4 : (p : Position) → Deepened (complemented (nested d) (sign s.Tilde p ∷ m)) d 1 (sign s.Tilde p ∷ m)
+  open_n4 : (p : Position) → Deepened (factor (nested d) (sign s.Tilde p ∷ m)) d 1 (sign s.Tilde p ∷ m)
       (sign s.Tilde p ∷ m)
-  unfolding complemented nested
-  open_n4 p = deep_opened (λ k. complemented (nested k) (sign s.Tilde p ∷ m)) d (omega arith) refl
+  unfolding factor nested
+  open_n4 p = deep_opened (λ k. factor (nested k) (sign s.Tilde p ∷ m)) d (omega arith) refl
 
   open_minus : (p : Position) → Deepened (unary (nested d) (sign s.Minus p ∷ m)) d 1 (sign s.Minus p ∷ m)
       (sign s.Minus p ∷ m)
@@ -178,14 +178,14 @@ module _ (d : ℕ) (m : List Lexeme) where
   open_relative : (q : Position) (t : Lexeme) (which : Relative) → relating t ≡ Some which
       → Deepened (atom (nested d) (t ∷ sign s.OpenParenthesis q ∷ m)) d 1 (t ∷ sign s.OpenParenthesis q ∷ m)
       (sign s.OpenParenthesis q ∷ m)
-  unfolding atom related nested
+  unfolding atom object_relative nested
   open_relative q (reserved v p) which e = deep_opened (λ k. atom (nested k) (reserved v p ∷ sign s.OpenParenthesis q ∷ m))
       d (omega arith) (rw e refl)
   open_relative q _ which e = absurd cc
 
   open_parenthesis : (p : Position) → Deepened (atom (nested d) (sign s.OpenParenthesis p ∷ m)) d 1
       (sign s.OpenParenthesis p ∷ m) (sign s.OpenParenthesis p ∷ m)
-  unfolding atom enclosed nested
+  unfolding atom in_parentheses nested
   open_parenthesis p = deep_opened (λ k. atom (nested k) (sign s.OpenParenthesis p ∷ m)) d (omega arith) refl
 
   open_right : Deepened (nested d whole (length m) m) d 1 m m
@@ -194,19 +194,19 @@ module _ (d : ℕ) (m : List Lexeme) where
 
 module _ (d : ℕ) {n : ℕ} {m u : List Lexeme} where
   step_n1_in : (p : Position) → Deepened (nested d negation (suc (length m)) m) d n m u
-      → Deepened (negated (nested d) (sign s.Not p ∷ m)) d n (sign s.Not p ∷ m) u
-  unfolding negated
+      → Deepened (logical_operand (nested d) (sign s.Not p ∷ m)) d n (sign s.Not p ∷ m) u
+  unfolding logical_operand
   step_n1_in p h = deep_same refl (omega arith) (deep_in _ h)
 
   step_n4_in : (p : Position) → Deepened (nested d complement (suc (length m)) m) d n m u
-      → Deepened (complemented (nested d) (sign s.Tilde p ∷ m)) d n (sign s.Tilde p ∷ m) u
-  unfolding complemented
+      → Deepened (factor (nested d) (sign s.Tilde p ∷ m)) d n (sign s.Tilde p ∷ m) u
+  unfolding factor
   step_n4_in p h = deep_same refl (omega arith) (deep_in _ h)
 
   step_e5_index : (p : Position) (t : Lexeme) (f : List ℕ) (width : Width) → indexing t ≡ Some width
       → Deepened (unary (nested d) m) d n m u
-      → Deepened (indexed (nested d) (name f p ∷ t ∷ m)) d n (name f p ∷ t ∷ m) u
-  unfolding indexed array_at
+      → Deepened (array_entry (nested d) (name f p ∷ t ∷ m)) d n (name f p ∷ t ∷ m) u
+  unfolding array_entry array_at
   step_e5_index p t f width o h =
       deep_same {S = unary (nested d) m >>= λ x. Ok (index (record { text = f; position = p }) width x.0, x.1)}
       (rw o refl) (omega arith) (deep_in _ h)
@@ -231,8 +231,8 @@ module _ (d : ℕ) {n : ℕ} {m u : List Lexeme} where
   step_p_call p q f h = deep_same refl (omega arith) h
 
   step_called : (f : NameTree) → is_sign s.CloseParenthesis (head m) ≡ false
-      → Deepened (list (is_sign s.Comma) (expression (nested d)) m) d n m u → Deepened (called (nested d) f m) d n m u
-  unfolding called
+      → Deepened (list (is_sign s.Comma) (expression (nested d)) m) d n m u → Deepened (rest_of_call (nested d) f m) d n m u
+  unfolding rest_of_call
   step_called f e h =
       deep_same {S = list (is_sign s.Comma) (expression (nested d)) m >>= λ x. expect s.CloseParenthesis x.1
       >>= λ r. Ok (call f (trees_of x.0), r)} (rw e refl) (omega arith) (deep_in _ h)
@@ -240,7 +240,7 @@ module _ (d : ℕ) {n : ℕ} {m u : List Lexeme} where
   step_p_relative : (q : Position) (t : Lexeme) (which : Relative) → relating t ≡ Some which
       → Deepened (nested d whole (suc (length m)) m) d n m u
       → Deepened (atom (nested d) (t ∷ sign s.OpenParenthesis q ∷ m)) d n (t ∷ sign s.OpenParenthesis q ∷ m) u
-  unfolding atom related
+  unfolding atom object_relative
   step_p_relative q (reserved v p) which e h = deep_same {S = nested d whole (suc (length m)) m
       >>= λ x. expect s.CloseParenthesis x.1 >>= λ r. Ok (relative_of which x.0, r)} (rw e refl) (omega arith)
       (deep_in _ h)
@@ -248,7 +248,7 @@ module _ (d : ℕ) {n : ℕ} {m u : List Lexeme} where
 
   step_p_in : (p : Position) → Deepened (nested d whole (suc (length m)) m) d n m u
       → Deepened (atom (nested d) (sign s.OpenParenthesis p ∷ m)) d n (sign s.OpenParenthesis p ∷ m) u
-  unfolding atom enclosed
+  unfolding atom in_parentheses
   step_p_in p h = deep_same refl (omega arith) (deep_in _ h)
 
 module _ {n : ℕ} {ts u : List Lexeme} (left d : ℕ) (le : length ts ≤ left) where
@@ -257,15 +257,15 @@ module _ {n : ℕ} {ts u : List Lexeme} (left d : ℕ) (le : length ts ≤ left)
   unfolding nested
   in_whole h = deep_inside (λ k. expression (nested k)) whole d le (λ k. refl) h
 
-  in_negation : ((k : ℕ) → Deepened (negated (nested k) ts) k n ts u)
+  in_negation : ((k : ℕ) → Deepened (logical_operand (nested k) ts) k n ts u)
       → Deepened (nested d negation left ts) d (suc n) ts u
   unfolding nested
-  in_negation h = deep_inside (λ k. negated (nested k)) negation d le (λ k. refl) h
+  in_negation h = deep_inside (λ k. logical_operand (nested k)) negation d le (λ k. refl) h
 
-  in_complement : ((k : ℕ) → Deepened (complemented (nested k) ts) k n ts u)
+  in_complement : ((k : ℕ) → Deepened (factor (nested k) ts) k n ts u)
       → Deepened (nested d complement left ts) d (suc n) ts u
   unfolding nested
-  in_complement h = deep_inside (λ k. complemented (nested k)) complement d le (λ k. refl) h
+  in_complement h = deep_inside (λ k. factor (nested k)) complement d le (λ k. refl) h
 
   in_prefix : ((k : ℕ) → Deepened (unary (nested k) ts) k n ts u) → Deepened (nested d prefix left ts) d (suc n) ts u
   unfolding nested
@@ -276,10 +276,10 @@ module _ {n : ℕ} {ts u : List Lexeme} (left d : ℕ) (le : length ts ≤ left)
   unfolding nested
   in_operand h = deep_inside (λ k. primary (nested k)) operand d le (λ k. refl) h
 
-  in_arguments : (f : NameTree) → ((k : ℕ) → Deepened (called (nested k) f ts) k n ts u)
+  in_arguments : (f : NameTree) → ((k : ℕ) → Deepened (rest_of_call (nested k) f ts) k n ts u)
       → Deepened (nested d (arguments f) left ts) d (suc n) ts u
   unfolding nested
-  in_arguments f h = deep_inside (λ k. called (nested k) f) (arguments f) d le (λ k. refl) h
+  in_arguments f h = deep_inside (λ k. rest_of_call (nested k) f) (arguments f) d le (λ k. refl) h
 
 -- ---- the levels
 
@@ -296,7 +296,7 @@ mutual
   deep_E1 (deep_e1_next {t = t} {op = op} a o x) d = deep_linked (chain_E1 a d (omega (arith, logical_binds t op o)))
       (omega (arith, short_E1 a)) o (deep_N1 x d)
 
-  deep_N1 : {n : ℕ} {ts u : List Lexeme} → DeepN1 n ts u → (d : ℕ) → Deepened (negated (nested d) ts) d n ts u
+  deep_N1 : {n : ℕ} {ts u : List Lexeme} → DeepN1 n ts u → (d : ℕ) → Deepened (logical_operand (nested d) ts) d n ts u
   deep_N1 {ts = ts} (deep_n1_plain x) d = step_n1_plain d (begins_not (head ts) (deep_begin_E2 x)) (deep_E2 x d)
   deep_N1 (deep_n1_not {m = m} {p = p}) d = open_n1 d m p
   deep_N1 (deep_n1_in {m = m} {p = p} x) d = step_n1_in d p
@@ -328,13 +328,13 @@ mutual
   deep_E4 (deep_e4_next {t = t} {op = op} a o x) d = deep_linked (chain_E4 a d (omega (arith, scaling_binds t op o)))
       (omega (arith, short_E4 a)) o (deep_N4 x d)
 
-  deep_N4 : {n : ℕ} {ts u : List Lexeme} → DeepN4 n ts u → (d : ℕ) → Deepened (complemented (nested d) ts) d n ts u
+  deep_N4 : {n : ℕ} {ts u : List Lexeme} → DeepN4 n ts u → (d : ℕ) → Deepened (factor (nested d) ts) d n ts u
   deep_N4 {ts = ts} (deep_n4_plain x) d = step_n4_plain d (begins_tilde (head ts) (deep_begin_E5 x)) (deep_E5 x d)
   deep_N4 (deep_n4_complement {m = m} {p = p}) d = open_n4 d m p
   deep_N4 (deep_n4_in {m = m} {p = p} x) d = step_n4_in d p
       (in_complement (suc (length m)) d (omega arith) (λ k. deep_N4 x k))
 
-  deep_E5 : {n : ℕ} {ts u : List Lexeme} → DeepE5 n ts u → (d : ℕ) → Deepened (indexed (nested d) ts) d n ts u
+  deep_E5 : {n : ℕ} {ts u : List Lexeme} → DeepE5 n ts u → (d : ℕ) → Deepened (array_entry (nested d) ts) d n ts u
   deep_E5 {ts = ts} (deep_e5_plain (deep_u_plain x)) d = step_e5_primary d (deep_no_array x)
       (begins_prefix (head ts) (deep_begin_P x)) (deep_P x d)
   deep_E5 {ts = ts} (deep_e5_plain (deep_u_minus {m = m} {p = p})) d = step_e5_prefixed d (array_no_name ts refl) refl

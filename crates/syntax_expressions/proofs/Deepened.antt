@@ -5,8 +5,8 @@ use Rattle.std.proofs.lemmas.Bool.{cases_lt}
 use Rattle.syntax_lexer.specs.Token.{Lexeme}
 use Rattle.syntax_trees.specs.declared.tree.Binary.{Binary}
 use Rattle.syntax_trees.specs.Tree.{ExpressionTree, binary}
-use Rattle.syntax_parsing.specs.Stop.{Stop, deep, TooDeep}
-use Rattle.syntax_parsing.specs.Parse.{◌>>=◌, Parse, further, list}
+use Rattle.syntax_trees.specs.Stop.{Stop, deep, TooDeep}
+use Rattle.syntax_trees.specs.Parse.{◌>>=◌, Parse, further, list}
 use Rattle.syntax_expressions.specs.Parse.{Level, chain, nested}
 use Rattle.syntax_expressions.proofs.Limited.{Limited, Chained, deep_before, deep_sooner, deep_as}
 

@@ -11,7 +11,7 @@ use Rattle.syntax_trees.specs.declared.tree.Equality.{Equality}
 use Rattle.syntax_trees.specs.declared.tree.Containment.{Containment}
 use Rattle.syntax_trees.specs.declared.tree.ObjectTest.{ObjectTest}
 use Rattle.syntax_trees.specs.declared.tree.Step.{Step}
-use Rattle.syntax_parsing.specs.Parse.{head, is_sign, is_word}
+use Rattle.syntax_trees.specs.Parse.{head, is_sign, is_word}
 use Rattle.syntax_expression_parts.specs.Operators.{logical, comparing, equating, containing_word, containing}
 use Rattle.syntax_expression_parts.specs.Operators.{testing_word, testing, adding, scaling, stepping, indexing}
 

@@ -5,8 +5,8 @@ use Rattle.syntax_lexer.specs.declared.token.Word.{Word}
 use Rattle.syntax_lexer.specs.declared.token.Word.TheVariants as w
 use Rattle.syntax_lexer.specs.Token.{Lexeme, reserved, sign}
 use Rattle.syntax_trees.specs.Tree.{ExpressionTree}
-use Rattle.syntax_parsing.specs.Stop.{Stop}
-use Rattle.syntax_parsing.specs.Parse.{head}
+use Rattle.syntax_trees.specs.Stop.{Stop}
+use Rattle.syntax_trees.specs.Parse.{head}
 use Rattle.syntax_expressions.specs.Grammar.{nesting}
 use Rattle.syntax_expressions.specs.Laws.{word_goes_on, continues, goes_on, ReadsWhatDerives, DerivesWhatIsRead}
 use Rattle.syntax_expressions.specs.Laws.{DeepWhereDeep, OneTree, ReadsUnassigned, UnassignedIsRead, UnassignedDeep}

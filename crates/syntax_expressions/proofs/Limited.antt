@@ -5,10 +5,10 @@ use Rattle.std.proofs.lemmas.Bool.{cases_lt}
 use Rattle.syntax_lexer.specs.Token.{Lexeme}
 use Rattle.syntax_trees.specs.declared.tree.Binary.{Binary}
 use Rattle.syntax_trees.specs.Tree.{NameTree, ExpressionTree, binary}
-use Rattle.syntax_parsing.specs.Stop.{Stop, deep, TooDeep}
-use Rattle.syntax_parsing.specs.Parse.{◌>>=◌, Parse, head, further, list}
+use Rattle.syntax_trees.specs.Stop.{Stop, deep, TooDeep}
+use Rattle.syntax_trees.specs.Parse.{◌>>=◌, Parse, head, further, list}
 use Rattle.syntax_expressions.specs.Parse.{Level, whole, negation, complement, prefix, operand, arguments, chain}
-use Rattle.syntax_expressions.specs.Parse.{nested, expression, negated, complemented, unary, primary, called}
+use Rattle.syntax_expressions.specs.Parse.{nested, expression, logical_operand, factor, unary, primary, rest_of_call}
 use Rattle.syntax_expressions.proofs.Chain.{chain_stop}
 
 pub record Limited {A : Type 0} (R : Result (A × List Lexeme) Stop) (d n : ℕ) (a : A) (r : List Lexeme) : Type 0
@@ -75,14 +75,14 @@ unfolding nested
 in_whole left ts d short h = inside (λ k. expression (nested k)) whole left ts d short (λ k. refl) h
 
 pub in_negation : {n : ℕ} {e : ExpressionTree} {r : List Lexeme} (left : ℕ) (ts : List Lexeme) (d : ℕ)
-    → length r < left → ((k : ℕ) → Limited (negated (nested k) ts) k n e r) → Limited (nested d negation left ts) d (suc n) e r
+    → length r < left → ((k : ℕ) → Limited (logical_operand (nested k) ts) k n e r) → Limited (nested d negation left ts) d (suc n) e r
 unfolding nested
-in_negation left ts d short h = inside (λ k. negated (nested k)) negation left ts d short (λ k. refl) h
+in_negation left ts d short h = inside (λ k. logical_operand (nested k)) negation left ts d short (λ k. refl) h
 
 pub in_complement : {n : ℕ} {e : ExpressionTree} {r : List Lexeme} (left : ℕ) (ts : List Lexeme) (d : ℕ)
-    → length r < left → ((k : ℕ) → Limited (complemented (nested k) ts) k n e r) → Limited (nested d complement left ts) d (suc n) e r
+    → length r < left → ((k : ℕ) → Limited (factor (nested k) ts) k n e r) → Limited (nested d complement left ts) d (suc n) e r
 unfolding nested
-in_complement left ts d short h = inside (λ k. complemented (nested k)) complement left ts d short (λ k. refl) h
+in_complement left ts d short h = inside (λ k. factor (nested k)) complement left ts d short (λ k. refl) h
 
 pub in_prefix : {n : ℕ} {e : ExpressionTree} {r : List Lexeme} (left : ℕ) (ts : List Lexeme) (d : ℕ)
     → length r < left → ((k : ℕ) → Limited (unary (nested k) ts) k n e r) → Limited (nested d prefix left ts) d (suc n) e r
@@ -95,9 +95,9 @@ unfolding nested
 in_operand left ts d short h = inside (λ k. primary (nested k)) operand left ts d short (λ k. refl) h
 
 pub in_arguments : {n : ℕ} {e : ExpressionTree} {r : List Lexeme} (f : NameTree) (left : ℕ) (ts : List Lexeme) (d : ℕ)
-    → length r < left → ((k : ℕ) → Limited (called (nested k) f ts) k n e r) → Limited (nested d (arguments f) left ts) d (suc n) e r
+    → length r < left → ((k : ℕ) → Limited (rest_of_call (nested k) f ts) k n e r) → Limited (nested d (arguments f) left ts) d (suc n) e r
 unfolding nested
-in_arguments f left ts d short h = inside (λ k. called (nested k) f) (arguments f) left ts d short (λ k. refl) h
+in_arguments f left ts d short h = inside (λ k. rest_of_call (nested k) f) (arguments f) left ts d short (λ k. refl) h
 
 -- ---- chains
 

@@ -4,8 +4,8 @@ use Rattle.syntax_lexer.specs.declared.token.Position.{Position}
 use Rattle.syntax_lexer.specs.declared.token.Sign.TheVariants as s
 use Rattle.syntax_lexer.specs.Token.{Lexeme, name, sign}
 use Rattle.syntax_trees.specs.Tree.{ExpressionTree, property}
-use Rattle.syntax_parsing.specs.Stop.{Stop, TooDeep}
-use Rattle.syntax_parsing.specs.Parse.{◌>>=◌, head, is_sign}
+use Rattle.syntax_trees.specs.Stop.{Stop, TooDeep}
+use Rattle.syntax_trees.specs.Parse.{◌>>=◌, head, is_sign}
 use Rattle.syntax_expression_parts.specs.Parse.{expect_name, properties, property_next}
 use Rattle.syntax_expression_parts.proofs.Properties.{properties_stop}
 use Rattle.syntax_expressions.proofs.Limited.{Limited, deep_before, deep_sooner}

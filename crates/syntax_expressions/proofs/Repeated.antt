@@ -3,7 +3,7 @@ use Rattle.std.proofs.Common.{◌≡◌, ℕ, zero, suc, Bool, true, false, List
 use Rattle.syntax_lexer.specs.Token.{Lexeme}
 use Rattle.syntax_trees.specs.declared.tree.Binary.{Binary}
 use Rattle.syntax_trees.specs.Tree.{ExpressionTree, binary}
-use Rattle.syntax_parsing.specs.Parse.{Parse, head, further, list}
+use Rattle.syntax_trees.specs.Parse.{Parse, head, further, list}
 use Rattle.syntax_expressions.specs.Parse.{chain_on, chain}
 use Rattle.syntax_expression_parts.proofs.Judged.{Judged, judged_read, judged_then, judged_by}
 

@@ -6,13 +6,13 @@ use Rattle.syntax_lexer.specs.declared.token.Position.{Position}
 use Rattle.syntax_lexer.specs.declared.token.Sign.TheVariants as s
 use Rattle.syntax_lexer.specs.Token.{Lexeme, name, number, reserved, sign}
 use Rattle.syntax_trees.specs.Tree.{ExpressionTree, constant, named}
-use Rattle.syntax_parsing.specs.Parse.{Parse}
+use Rattle.syntax_trees.specs.Parse.{Parse}
 use Rattle.syntax_expression_parts.specs.declared.operators.Operators.{Operators}
 use Rattle.syntax_expression_parts.specs.declared.operators.Operators.TheVariants as operators
 use Rattle.syntax_expression_parts.specs.Operators.{logical, adding, scaling}
-use Rattle.syntax_expression_parts.specs.Parse.{array_at, properties, suffixed, lengthened, tested_next}
-use Rattle.syntax_expressions.specs.Parse.{Level, after_name, atom, primary, owned, unindexed, indexed, complemented}
-use Rattle.syntax_expressions.specs.Parse.{product, sum, compared, comparison, negated, condition}
+use Rattle.syntax_expression_parts.specs.Parse.{array_at, properties, after_operand, with_length, tested_next}
+use Rattle.syntax_expressions.specs.Parse.{Level, after_name, atom, primary, after_owner, object_entry, array_entry, factor}
+use Rattle.syntax_expressions.specs.Parse.{product, sum, after_left, comparison, logical_operand, condition}
 use Rattle.syntax_expressions.specs.Levels.{chain_of}
 use Rattle.syntax_expressions.specs.Single.{operand_width, width, ended_by, ends, is_plain, is_single}
 use Rattle.syntax_expressions.proofs.Chain.{chain_stop, level_chain}
@@ -86,8 +86,8 @@ module _ (below : Level → ℕ → Parse ExpressionTree) where
   atom_is t u r plain e = absurd cc
 
   number_is : (n : ℕ) (p : Position) (u : Lexeme) (r : List Lexeme) → ends operand_width u ≡ true
-      → complemented below (number n p ∷ u ∷ r) ≡ Ok (constant n, u ∷ r)
-  unfolding complemented indexed array_at unindexed primary atom properties owned suffixed lengthened
+      → factor below (number n p ∷ u ∷ r) ≡ Ok (constant n, u ∷ r)
+  unfolding factor array_entry array_at object_entry primary atom properties after_owner after_operand with_length
   number_is n p (sign s.Dot q) r e = absurd cc
   number_is n p (sign s.DotAmpersand q) r e = absurd cc
   number_is n p (sign s.DotHash q) r e = absurd cc
@@ -96,8 +96,8 @@ module _ (below : Level → ℕ → Parse ExpressionTree) where
   number_is n p u r e = refl
 
   name_is : (n : List ℕ) (p : Position) (u : Lexeme) (r : List Lexeme) → ends operand_width u ≡ true
-      → complemented below (name n p ∷ u ∷ r) ≡ Ok (named (record { text = n; position = p }), u ∷ r)
-  unfolding complemented indexed array_at unindexed primary atom after_name properties owned suffixed lengthened
+      → factor below (name n p ∷ u ∷ r) ≡ Ok (named (record { text = n; position = p }), u ∷ r)
+  unfolding factor array_entry array_at object_entry primary atom after_name properties after_owner after_operand with_length
   name_is n p (sign s.OpenParenthesis q) r e = absurd cc
   name_is n p (sign s.Dot q) r e = absurd cc
   name_is n p (sign s.DotAmpersand q) r e = absurd cc
@@ -109,7 +109,7 @@ module _ (below : Level → ℕ → Parse ExpressionTree) where
   name_is n p u r e = refl
 
   operand_is : (t u : Lexeme) (r : List Lexeme) → is_plain t ≡ true → ends operand_width u ≡ true
-      → complemented below (t ∷ u ∷ r) ≡ Ok (value_of t, u ∷ r)
+      → factor below (t ∷ u ∷ r) ≡ Ok (value_of t, u ∷ r)
   operand_is (number n p) u r plain e = number_is n p u r e
   operand_is (name n p) u r plain e = name_is n p u r e
   operand_is t u r plain e = absurd cc
@@ -118,7 +118,7 @@ module _ (below : Level → ℕ → Parse ExpressionTree) where
       → product below (t ∷ u ∷ r) ≡ Ok (value_of t, u ∷ r)
   product_is t u r plain e =
       level_chain below operators.Scaling (t ∷ u ∷ r) (value_of t) (u ∷ r) (operand_is t u r plain (ends_operand u e))
-      ∙ chain_stop scaling (complemented below) _ (value_of t) (u ∷ r) (not_scaling u e)
+      ∙ chain_stop scaling (factor below) _ (value_of t) (u ∷ r) (not_scaling u e)
 
   sum_is : (t u : Lexeme) (r : List Lexeme) → is_plain t ≡ true → ends (width operators.Adding) u ≡ true
       → sum below (t ∷ u ∷ r) ≡ Ok (value_of t, u ∷ r)
@@ -127,8 +127,8 @@ module _ (below : Level → ℕ → Parse ExpressionTree) where
       ∙ chain_stop adding (product below) _ (value_of t) (u ∷ r) (not_adding u e)
 
   compared_is : (a : ExpressionTree) (u : Lexeme) (r : List Lexeme) → ends (width operators.Logical) u ≡ true
-      → compared below a (u ∷ r) ≡ Ok (a, u ∷ r)
-  unfolding compared tested_next
+      → after_left below a (u ∷ r) ≡ Ok (a, u ∷ r)
+  unfolding after_left tested_next
   compared_is a (sign s.Less q) r e = absurd cc
   compared_is a (sign s.Greater q) r e = absurd cc
   compared_is a (sign s.LessOrEqual q) r e = absurd cc
@@ -139,8 +139,8 @@ module _ (below : Level → ℕ → Parse ExpressionTree) where
   compared_is a u r e = refl
 
   negated_is : (t u : Lexeme) (r : List Lexeme) → is_plain t ≡ true → ends (width operators.Logical) u ≡ true
-      → negated below (t ∷ u ∷ r) ≡ Ok (value_of t, u ∷ r)
-  unfolding negated comparison
+      → logical_operand below (t ∷ u ∷ r) ≡ Ok (value_of t, u ∷ r)
+  unfolding logical_operand comparison
   negated_is (number n p) u r plain e = rw (sum_is (number n p) u r plain (ends_sum u e))
       (compared_is (constant n) u r e)
   negated_is (name n p) u r plain e = rw (sum_is (name n p) u r plain (ends_sum u e))
@@ -151,12 +151,12 @@ module _ (below : Level → ℕ → Parse ExpressionTree) where
       → condition below (t ∷ u ∷ r) ≡ Ok (value_of t, u ∷ r)
   condition_is t u r plain e =
       level_chain below operators.Logical (t ∷ u ∷ r) (value_of t) (u ∷ r) (negated_is t u r plain e)
-      ∙ chain_stop logical (negated below) _ (value_of t) (u ∷ r) (not_logical u e)
+      ∙ chain_stop logical (logical_operand below) _ (value_of t) (u ∷ r) (not_logical u e)
 
   -- ---- at the front of the tokens
 
   pub complemented_single : (ts : List Lexeme) → is_single operand_width ts ≡ true
-      → complemented below ts ≡ atom below ts
+      → factor below ts ≡ atom below ts
   complemented_single [] e = absurd cc
   complemented_single (t ∷ []) e = absurd (clash false (both (is_plain t) false e).1 refl)
   complemented_single (t ∷ u ∷ r) e =

@@ -13,7 +13,7 @@ use Rattle.syntax_trees.specs.declared.tree.ObjectTest.{ObjectTest}
 use Rattle.syntax_trees.specs.declared.tree.Prefix.TheVariants as op
 use Rattle.syntax_trees.specs.Tree.{ExpressionTree, call, prefixed, compare, equal, contained, tested, assign, none}
 use Rattle.syntax_trees.specs.Views.{trees_of}
-use Rattle.syntax_parsing.specs.Parse.{head, tail, is_sign, is_word, expect, list}
+use Rattle.syntax_trees.specs.Parse.{head, tail, is_sign, is_word, expect, list}
 use Rattle.syntax_expression_parts.specs.Operators.{logical, comparing, equating, containing, testing, adding, scaling}
 use Rattle.syntax_expression_parts.specs.Operators.{begins_expression}
 use Rattle.syntax_expressions.specs.Nesting.{DeepE, deep_e_left, deep_e_first, deep_e_right, DeepE1, deep_e1_first}
@@ -24,9 +24,9 @@ use Rattle.syntax_expressions.specs.Nesting.{deep_e3_first, deep_e3_next, DeepE4
 use Rattle.syntax_expressions.specs.Nesting.{deep_n4_plain, deep_n4_complement, deep_n4_in, DeepArguments}
 use Rattle.syntax_expressions.specs.Nesting.{deep_arguments_first, deep_arguments_next}
 use Rattle.syntax_expression_parts.specs.Parse.{tested_on, tested_next}
-use Rattle.syntax_expressions.specs.Parse.{assignment, compared, whole, nested, complemented, product, sum, equated}
-use Rattle.syntax_expressions.specs.Parse.{equated_on, contained_on, compared_on, comparison, negated, condition}
-use Rattle.syntax_expressions.specs.Parse.{assigned, expression, called}
+use Rattle.syntax_expressions.specs.Parse.{assignment, after_left, whole, nested, factor, product, sum, equate_on}
+use Rattle.syntax_expressions.specs.Parse.{equated_on, contained_on, compared_on, comparison, logical_operand, condition}
+use Rattle.syntax_expressions.specs.Parse.{right_side, expression, rest_of_call}
 use Rattle.syntax_expressions.specs.Grammar.{IsE, e_plain, e_assign, IsE1, e1_plain, e1_logical, IsN1, n1_plain, n1_not}
 use Rattle.syntax_expressions.specs.Grammar.{IsE2, e2_plain, e2_compare, e2_equal, e2_contained, e2_tested, IsChoice}
 use Rattle.syntax_expressions.specs.Grammar.{choice_last, choice_or, IsE3, e3_plain, e3_add, IsE4, e4_plain, e4_scale}
@@ -41,8 +41,8 @@ use Rattle.syntax_expressions.proofs.SoundOperands.{Within, deeper, Inner, prima
 
 module _ (d : ℕ) (inner : Inner d) where
   complemented_judged : (ts : List Lexeme) → Judged (λ e r. IsN4 ts e r × (nesting e ≤ d)) (DeepN4 (suc d) ts)
-      (complemented (nested d) ts)
-  unfolding complemented
+      (factor (nested d) ts)
+  unfolding factor
   complemented_judged ts =
       judged_by (is_sign s.Tilde (head ts)) _ _
       (λ e.
@@ -61,7 +61,7 @@ module _ (d : ℕ) (inner : Inner d) where
   unfolding product
   product_judged ts =
       judged_then _ (complemented_judged ts)
-      (λ a r h. chain_judged scaling (complemented (nested d)) (λ e u. IsE4 ts e u × (nesting e ≤ d))
+      (λ a r h. chain_judged scaling (factor (nested d)) (λ e u. IsE4 ts e u × (nesting e ≤ d))
       (DeepE4 (suc d) ts) refl
       (λ l t op m q o. judged_as (complemented_judged m) (λ b u g. (e4_scale q.0 o g.0, omega (arith, q.1, g.1)))
       (λ v g. deep_e4_next q.0 o g))
@@ -102,7 +102,7 @@ module _ (d : ℕ) (inner : Inner d) where
 
   comparison_judged : (ts : List Lexeme) → Judged (λ e r. IsE2 ts e r × (nesting e ≤ d)) (DeepE2 (suc d) ts)
       (comparison (nested d) ts)
-  unfolding comparison compared equated tested_next
+  unfolding comparison after_left equate_on tested_next
   comparison_judged ts = judged_then _ (sum_judged ts) (λ a r h. go a r h.0 h.1) (λ v h. deep_e2_left h)
     where
       go5 : (a : ExpressionTree) (t : Lexeme) (m : List Lexeme) → IsE3 ts a (t ∷ m) → nesting a ≤ d
@@ -144,8 +144,8 @@ module _ (d : ℕ) (inner : Inner d) where
       go a (t ∷ m) q b = go2 a t m q b (comparing t) refl
 
   negated_judged : (ts : List Lexeme) → Judged (λ e r. IsN1 ts e r × (nesting e ≤ d)) (DeepN1 (suc d) ts)
-      (negated (nested d) ts)
-  unfolding negated
+      (logical_operand (nested d) ts)
+  unfolding logical_operand
   negated_judged ts =
       judged_by (is_sign s.Not (head ts)) _ _
       (λ e.
@@ -164,7 +164,7 @@ module _ (d : ℕ) (inner : Inner d) where
   unfolding condition
   condition_judged ts =
       judged_then _ (negated_judged ts)
-      (λ a r h. chain_judged logical (negated (nested d)) (λ e u. IsE1 ts e u × (nesting e ≤ d)) (DeepE1 (suc d) ts)
+      (λ a r h. chain_judged logical (logical_operand (nested d)) (λ e u. IsE1 ts e u × (nesting e ≤ d)) (DeepE1 (suc d) ts)
       refl
       (λ l t op m q o. judged_as (negated_judged m) (λ b u g. (e1_logical q.0 o g.0, omega (arith, q.1, g.1)))
       (λ v g. deep_e1_next q.0 o g))
@@ -175,8 +175,8 @@ module _ (d : ℕ) (inner : Inner d) where
   right_judged : (ts : List Lexeme) (a : ExpressionTree) (p : Position) (m : List Lexeme)
       → IsE1 ts a (sign s.Assign p ∷ m) → nesting a ≤ d
       → Judged (λ b r. IsE ts (assign a p b) r × (nesting (assign a p b) ≤ d)) (DeepE (suc d) ts)
-      (assigned (nested d) m)
-  unfolding assigned
+      (right_side (nested d) m)
+  unfolding right_side
   right_judged ts a p m q b =
       judged_by (begins_expression (head m)) _ _
       (λ e. judged_as (inner.in_whole m m) (λ c r h. (e_assign q h.0, omega (arith, b, h.1)))
@@ -225,8 +225,8 @@ module _ (d : ℕ) (inner : Inner d) where
 
   called_judged : (f : List ℕ) (p q : Position) (ts : List Lexeme)
       → Judged (λ e r. IsP (name f p ∷ sign s.OpenParenthesis q ∷ ts) e r × (nesting e ≤ suc d))
-      (DeepArguments (suc d) ts) (called (nested d) (record { text = f; position = p }) ts)
-  unfolding called
+      (DeepArguments (suc d) ts) (rest_of_call (nested d) (record { text = f; position = p }) ts)
+  unfolding rest_of_call
   called_judged f p q ts =
       judged_by (is_sign s.CloseParenthesis (head ts)) _ _
       (λ e. judged_read _ (tail ts) (

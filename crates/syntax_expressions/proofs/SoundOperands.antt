@@ -13,17 +13,17 @@ use Rattle.syntax_trees.specs.declared.tree.Step.{Step}
 use Rattle.syntax_trees.specs.declared.tree.Width.{Width}
 use Rattle.syntax_trees.specs.Tree.{ExpressionTree, constant, word, index, parenthesised, relative_of, property}
 use Rattle.syntax_trees.specs.Tree.{property_length, property_entry, prefixed, step_before, step_after}
-use Rattle.syntax_parsing.specs.Parse.{head, tail, is_sign, expect}
+use Rattle.syntax_trees.specs.Parse.{head, tail, is_sign, expect}
 use Rattle.syntax_expression_parts.specs.Operators.{stepping, prefixes, relating_word, relating, indexing}
 use Rattle.syntax_expressions.specs.Nesting.{DeepE, DeepN1, DeepN4, DeepE5, deep_e5_plain, deep_e5_index, deep_e5_entry}
 use Rattle.syntax_expressions.specs.Nesting.{DeepU, deep_u_plain, deep_u_minus, deep_u_minus_in, deep_u_before}
 use Rattle.syntax_expressions.specs.Nesting.{deep_u_before_in, DeepP, deep_p_call, deep_p_arguments, deep_p_relative}
 use Rattle.syntax_expressions.specs.Nesting.{deep_p_relative_in, deep_p_parenthesis, deep_p_in, DeepArguments}
-use Rattle.syntax_expression_parts.specs.Parse.{property_next, properties, lengthened, word_value, valued, step_on}
-use Rattle.syntax_expression_parts.specs.Parse.{suffixed, array_of, array_at}
+use Rattle.syntax_expression_parts.specs.Parse.{property_next, properties, with_length, word_value, constant_on, step_on}
+use Rattle.syntax_expression_parts.specs.Parse.{after_operand, array_of, array_at}
 use Rattle.syntax_expressions.specs.Parse.{whole, negation, complement, prefix, operand, arguments, nested, after_name}
-use Rattle.syntax_expressions.specs.Parse.{enclosed, related, word_on, atom, primary, stepped, unary_on, unary, entry}
-use Rattle.syntax_expressions.specs.Parse.{owned, unindexed, indexed_on, indexed}
+use Rattle.syntax_expressions.specs.Parse.{in_parentheses, object_relative, word_on, atom, primary, postfix, unary_on, unary, entry}
+use Rattle.syntax_expressions.specs.Parse.{after_owner, object_entry, array_entry_on, array_entry}
 use Rattle.syntax_expressions.specs.Grammar.{IsE, IsN1, IsN4, IsE5, e5_plain, e5_index, e5_entry, IsU, u_plain, u_minus}
 use Rattle.syntax_expressions.specs.Grammar.{u_before, u_after, u_length, IsP, p_property, p_number, p_character}
 use Rattle.syntax_expressions.specs.Grammar.{p_word, p_true, p_false, p_nothing, p_name, p_relative, p_parenthesised}
@@ -77,8 +77,8 @@ module _ (d : ℕ) (inner : Inner d) where
 
   enclosed_judged : (p : Position) (ts : List Lexeme)
       → Judged (λ e r. IsP (sign s.OpenParenthesis p ∷ ts) e r × (nesting e ≤ d))
-      (DeepP (suc d) (sign s.OpenParenthesis p ∷ ts)) (enclosed (nested d) (suc (length ts)) ts)
-  unfolding enclosed
+      (DeepP (suc d) (sign s.OpenParenthesis p ∷ ts)) (in_parentheses (nested d) (suc (length ts)) ts)
+  unfolding in_parentheses
   enclosed_judged p ts =
       judged_then _ (inner.in_whole (sign s.OpenParenthesis p ∷ ts) ts)
       (λ a r h. judged_after (expect s.CloseParenthesis r) _
@@ -89,8 +89,8 @@ module _ (d : ℕ) (inner : Inner d) where
       (sign s.OpenParenthesis p ∷ ts) u deep_p_parenthesis (λ n x. deep_p_in x) h)
 
   related_judged : (t : Lexeme) (which : Relative) → relating t ≡ Some which → (ts : List Lexeme)
-      → Judged (λ e r. IsP (t ∷ ts) e r × (nesting e ≤ d)) (DeepP (suc d) (t ∷ ts)) (related (nested d) which ts)
-  unfolding related
+      → Judged (λ e r. IsP (t ∷ ts) e r × (nesting e ≤ d)) (DeepP (suc d) (t ∷ ts)) (object_relative (nested d) which ts)
+  unfolding object_relative
   related_judged t which o ts =
       judged_by (is_sign s.OpenParenthesis (head ts)) _ _
       (λ e.
@@ -111,7 +111,7 @@ module _ (d : ℕ) (inner : Inner d) where
 
   valued_judged : (r : Word) (p : Position) (ts : List Lexeme)
       → Judged (λ e u. IsP (reserved r p ∷ ts) e u × (nesting e ≤ d)) (DeepP (suc d) (reserved r p ∷ ts))
-      (valued (word_value r) (reserved r p ∷ ts))
+      (constant_on (word_value r) (reserved r p ∷ ts))
   valued_judged w.True p ts = judged_read (constant 1) ts (p_true, omega arith)
   valued_judged w.False p ts = judged_read (constant 0) ts (p_false, omega arith)
   valued_judged w.Nothing p ts = judged_read (constant 0) ts (p_nothing, omega arith)
@@ -162,8 +162,8 @@ module _ (d : ℕ) (inner : Inner d) where
   primary_judged ts = judged_then _ (atom_judged ts) (λ a r h. properties_judged ts (length r) a r h.0 h.1) (λ v h. h)
 
   lengthened_judged : (ts : List Lexeme) (a : ExpressionTree) (r : List Lexeme) → IsP ts a r → nesting a ≤ d
-      → Judged (λ e u. IsU ts e u × (nesting e ≤ d)) (DeepU (suc d) ts) (lengthened a r)
-  unfolding lengthened
+      → Judged (λ e u. IsU ts e u × (nesting e ≤ d)) (DeepU (suc d) ts) (with_length a r)
+  unfolding with_length
   lengthened_judged ts a r h b =
       judged_by (is_sign s.DotHash (head r)) _ _
       (λ t. judged_then _ (name_judged (tail r))
@@ -176,8 +176,8 @@ module _ (d : ℕ) (inner : Inner d) where
       (λ t. judged_read a r (u_plain h, b))
 
   suffixed_judged : (ts : List Lexeme) (a : ExpressionTree) (r : List Lexeme) → IsP ts a r → nesting a ≤ d
-      → Judged (λ e u. IsU ts e u × (nesting e ≤ d)) (DeepU (suc d) ts) (suffixed a r)
-  unfolding suffixed
+      → Judged (λ e u. IsU ts e u × (nesting e ≤ d)) (DeepU (suc d) ts) (after_operand a r)
+  unfolding after_operand
   suffixed_judged ts a r h b = go r h (stepping (head r)) refl
     where
       go : (u : List Lexeme) → IsP ts a u → (o : Option Step) → stepping (head u) ≡ o
@@ -187,8 +187,8 @@ module _ (d : ℕ) (inner : Inner d) where
       go (t ∷ m) h (Some op) o = judged_read (step_after a op (position_of t)) m (u_after h o, b)
 
   stepped_judged : (ts : List Lexeme) → Judged (λ e r. IsU ts e r × (nesting e ≤ d)) (DeepU (suc d) ts)
-      (stepped (nested d) ts)
-  unfolding stepped
+      (postfix (nested d) ts)
+  unfolding postfix
   stepped_judged ts = judged_then _ (primary_judged ts) (λ a r h. suffixed_judged ts a r h.0 h.1)
       (λ v h. deep_u_plain h)
 
@@ -233,15 +233,15 @@ module _ (d : ℕ) (inner : Inner d) where
       (λ v never. absurd never)
 
   owned_judged : (ts : List Lexeme) (a : ExpressionTree) (r : List Lexeme) → IsP ts a r → nesting a ≤ d
-      → Judged (λ e u. IsE5 ts e u × (nesting e ≤ d)) (DeepE5 (suc d) ts) (owned (nested d) a r)
-  unfolding owned
+      → Judged (λ e u. IsE5 ts e u × (nesting e ≤ d)) (DeepE5 (suc d) ts) (after_owner (nested d) a r)
+  unfolding after_owner
   owned_judged ts a r h b =
       judged_by (is_sign s.DotAmpersand (head r)) _ _ (λ t. entry_read ts a r h b t)
       (λ t. judged_as (suffixed_judged ts a r h b) (λ c u g. (e5_plain g.0, g.1)) (λ v g. deep_e5_plain g))
 
   no_array_judged : (ts : List Lexeme) → Judged (λ e r. IsE5 ts e r × (nesting e ≤ d)) (DeepE5 (suc d) ts)
-      (unindexed (nested d) ts)
-  unfolding unindexed
+      (object_entry (nested d) ts)
+  unfolding object_entry
   no_array_judged ts =
       judged_by (prefixes (head ts)) _ _
       (λ e. judged_as (unary_judged ts) (λ a r h. (e5_plain h.0, h.1)) (λ v h. deep_e5_plain h))
@@ -249,13 +249,13 @@ module _ (d : ℕ) (inner : Inner d) where
       (λ v h. deep_e5_plain (deep_u_plain h)))
 
   pub indexed_judged : (ts : List Lexeme) → Judged (λ e r. IsE5 ts e r × (nesting e ≤ d)) (DeepE5 (suc d) ts)
-      (indexed (nested d) ts)
-  unfolding indexed array_at
+      (array_entry (nested d) ts)
+  unfolding array_entry array_at
   indexed_judged (name n p ∷ t ∷ m) = go (indexing t) refl
     where
       go : (o : Option Width) → indexing t ≡ o
           → Judged (λ e r. IsE5 (name n p ∷ t ∷ m) e r × (nesting e ≤ d)) (DeepE5 (suc d) (name n p ∷ t ∷ m))
-          (indexed_on (nested d) (name n p ∷ t ∷ m) (array_of (name n p) o))
+          (array_entry_on (nested d) (name n p ∷ t ∷ m) (array_of (name n p) o))
       go None o = no_array_judged (name n p ∷ t ∷ m)
       go (Some width) o = judged_then _ (unary_judged m)
           (λ a r h. judged_read (index (record { text = n; position = p }) width a) r (e5_index o h.0, h.1))

@@ -5,8 +5,8 @@ use Rattle.syntax_lexer.specs.declared.token.Word.{Word}
 use Rattle.syntax_lexer.specs.declared.token.Word.TheVariants as w
 use Rattle.syntax_lexer.specs.Token.{Lexeme, reserved, sign}
 use Rattle.syntax_trees.specs.Tree.{ExpressionTree}
-use Rattle.syntax_parsing.specs.Stop.{deep, TooDeep}
-use Rattle.syntax_parsing.specs.Parse.{head}
+use Rattle.syntax_trees.specs.Stop.{deep, TooDeep}
+use Rattle.syntax_trees.specs.Parse.{head}
 use Rattle.syntax_expressions.specs.Grammar.{IsE, IsE1, nesting}
 use Rattle.syntax_expressions.specs.Nesting.{DeepE, DeepE1}
 use Rattle.syntax_expressions.specs.Parse.{condition, expression, nested}

@@ -17,11 +17,11 @@ use Rattle.syntax_trees.specs.Tree.{NameTree, ExpressionTree, constant, word, na
 use Rattle.syntax_trees.specs.Tree.{prefixed, relative_of, property_entry, step_before, binary, compare, equal}
 use Rattle.syntax_trees.specs.Tree.{contained, assign, none}
 use Rattle.syntax_trees.specs.Views.{trees_of}
-use Rattle.syntax_parsing.specs.Parse.{Parse, ◌>>=◌, head, tail, is_sign, is_word, expect, list}
-use Rattle.syntax_parsing.specs.Stop.{Stop, unfit, deep}
+use Rattle.syntax_trees.specs.Parse.{Parse, ◌>>=◌, head, tail, is_sign, is_word, expect, list}
+use Rattle.syntax_trees.specs.Stop.{Stop, unfit, deep}
 use Rattle.syntax_expression_parts.specs.Operators.{logical, comparing, equating, containing, adding, scaling, stepping}
 use Rattle.syntax_expression_parts.specs.Operators.{prefixes, relating_word, begins_expression}
-use Rattle.syntax_expression_parts.specs.Parse.{closed, properties, entry_of, word_value, valued, suffixed, array_at}
+use Rattle.syntax_expression_parts.specs.Parse.{closed, properties, entry_of, word_value, constant_on, after_operand, array_at}
 use Rattle.syntax_expression_parts.specs.Parse.{tested_next}
 
 -- ---- chains and lists. The number bounds the turns; the count of tokens is enough.
@@ -57,18 +57,18 @@ module _ (below : Level → ℕ → Parse ExpressionTree) where
       else Ok (named n, ts)
 
   -- after a parenthesis
-  unfoldable pub enclosed : ℕ → Parse ExpressionTree
-  enclosed opening ts = below whole opening ts >>= closed parenthesised
+  unfoldable pub in_parentheses : ℕ → Parse ExpressionTree
+  in_parentheses opening ts = below whole opening ts >>= closed parenthesised
 
   -- after `parent`, `child` or `sibling`
-  unfoldable pub related : Relative → Parse ExpressionTree
-  related which ts =
+  unfoldable pub object_relative : Relative → Parse ExpressionTree
+  object_relative which ts =
       if is_sign s.OpenParenthesis (head ts) then (below whole (length ts) (tail ts) >>= closed (relative_of which))
       else Err (unfit (length ts))
 
   abbrev pub word_on : Word → Option Relative → Parse ExpressionTree
-  word_on w None ts = valued (word_value w) ts
-  word_on w (Some which) ts = related which (tail ts)
+  word_on w None ts = constant_on (word_value w) ts
+  word_on w (Some which) ts = object_relative which (tail ts)
 
   abbrev pub atom_on : Lexeme → Parse ExpressionTree
   atom_on (number n p) ts = Ok (constant n, tail ts)
@@ -76,7 +76,7 @@ module _ (below : Level → ℕ → Parse ExpressionTree) where
   atom_on (dictionary_word f p) ts = Ok (word f, tail ts)
   atom_on (reserved w p) ts = word_on w (relating_word w) ts
   atom_on (name n p) ts = after_name (record { text = n; position = p }) (tail ts)
-  atom_on (sign s.OpenParenthesis p) ts = enclosed (length ts) (tail ts)
+  atom_on (sign s.OpenParenthesis p) ts = in_parentheses (length ts) (tail ts)
   atom_on _ ts = Err (unfit (length ts))
 
   unfoldable pub atom : Parse ExpressionTree
@@ -85,11 +85,11 @@ module _ (below : Level → ℕ → Parse ExpressionTree) where
   unfoldable pub primary : Parse ExpressionTree
   primary ts = atom ts >>= λ x. properties (length x.1) x.0 x.1
 
-  unfoldable pub stepped : Parse ExpressionTree
-  stepped ts = primary ts >>= λ x. suffixed x.0 x.1
+  unfoldable pub postfix : Parse ExpressionTree
+  postfix ts = primary ts >>= λ x. after_operand x.0 x.1
 
   abbrev pub unary_on : List Lexeme → Option Step → Result (ExpressionTree × List Lexeme) Stop
-  unary_on ts None = stepped ts
+  unary_on ts None = postfix ts
   unary_on ts (Some op) =
       below operand (length ts) (tail ts) >>= λ x. Ok (step_before op (position_of (head ts)) x.0, x.1)
 
@@ -104,33 +104,33 @@ module _ (below : Level → ℕ → Parse ExpressionTree) where
   unfoldable pub entry : ExpressionTree → Parse ExpressionTree
   entry e ts = entry_of ts >>= λ x. unary x.1 >>= λ y. Ok (property_entry e x.0 y.0, y.1)
 
-  unfoldable pub owned : ExpressionTree → Parse ExpressionTree
-  owned e ts = if is_sign s.DotAmpersand (head ts) then entry e (tail ts) else suffixed e ts
+  unfoldable pub after_owner : ExpressionTree → Parse ExpressionTree
+  after_owner e ts = if is_sign s.DotAmpersand (head ts) then entry e (tail ts) else after_operand e ts
 
-  unfoldable pub unindexed : Parse ExpressionTree
-  unindexed ts = if prefixes (head ts) then unary ts else (primary ts >>= λ x. owned x.0 x.1)
+  unfoldable pub object_entry : Parse ExpressionTree
+  object_entry ts = if prefixes (head ts) then unary ts else (primary ts >>= λ x. after_owner x.0 x.1)
 
-  abbrev pub indexed_on : List Lexeme → Option (NameTree × Width) → Result (ExpressionTree × List Lexeme) Stop
-  indexed_on ts None = unindexed ts
-  indexed_on ts (Some a) = unary (tail (tail ts)) >>= λ x. Ok (index a.0 a.1 x.0, x.1)
+  abbrev pub array_entry_on : List Lexeme → Option (NameTree × Width) → Result (ExpressionTree × List Lexeme) Stop
+  array_entry_on ts None = object_entry ts
+  array_entry_on ts (Some a) = unary (tail (tail ts)) >>= λ x. Ok (index a.0 a.1 x.0, x.1)
 
-  unfoldable pub indexed : Parse ExpressionTree
-  indexed ts = indexed_on ts (array_at ts)
+  unfoldable pub array_entry : Parse ExpressionTree
+  array_entry ts = array_entry_on ts (array_at ts)
 
-  unfoldable pub complemented : Parse ExpressionTree
-  complemented ts =
+  unfoldable pub factor : Parse ExpressionTree
+  factor ts =
       if is_sign s.Tilde (head ts) then (below complement (length ts) (tail ts)
       >>= λ x. Ok (prefixed op.Complement x.0, x.1))
-      else indexed ts
+      else array_entry ts
 
   unfoldable pub product : Parse ExpressionTree
-  product ts = complemented ts >>= λ x. chain scaling complemented (length x.1) x.0 x.1
+  product ts = factor ts >>= λ x. chain scaling factor (length x.1) x.0 x.1
 
   unfoldable pub sum : Parse ExpressionTree
   sum ts = product ts >>= λ x. chain adding product (length x.1) x.0 x.1
 
-  unfoldable pub equated : ExpressionTree → Equality → Parse ExpressionTree
-  equated left op ts = list (is_word w.Or) sum ts >>= λ x. Ok (equal op left (trees_of x.0), x.1)
+  unfoldable pub equate_on : ExpressionTree → Equality → Parse ExpressionTree
+  equate_on left op ts = list (is_word w.Or) sum ts >>= λ x. Ok (equal op left (trees_of x.0), x.1)
 
   -- the right side of a comparison of two, and of `in` and `notin`
   abbrev pub compare_on : ExpressionTree → Comparison → Parse ExpressionTree
@@ -146,7 +146,7 @@ module _ (below : Level → ℕ → Parse ExpressionTree) where
 
   abbrev pub equated_on : ExpressionTree → List Lexeme → Option Equality → Result (ExpressionTree × List Lexeme) Stop
   equated_on left ts None = contained_on left ts (containing (head ts))
-  equated_on left ts (Some op) = equated left op (tail ts)
+  equated_on left ts (Some op) = equate_on left op (tail ts)
 
   abbrev pub compared_on : ExpressionTree → List Lexeme → Option Comparison
       → Result (ExpressionTree × List Lexeme) Stop
@@ -154,37 +154,37 @@ module _ (below : Level → ℕ → Parse ExpressionTree) where
   compared_on left ts (Some op) = compare_on left op (tail ts)
 
   -- what follows a left side
-  unfoldable pub compared : ExpressionTree → Parse ExpressionTree
-  compared left ts = compared_on left ts (comparing (head ts))
+  unfoldable pub after_left : ExpressionTree → Parse ExpressionTree
+  after_left left ts = compared_on left ts (comparing (head ts))
 
   unfoldable pub comparison : Parse ExpressionTree
-  comparison ts = sum ts >>= λ x. compared x.0 x.1
+  comparison ts = sum ts >>= λ x. after_left x.0 x.1
 
-  unfoldable pub negated : Parse ExpressionTree
-  negated ts =
+  unfoldable pub logical_operand : Parse ExpressionTree
+  logical_operand ts =
       if is_sign s.Not (head ts) then (below negation (length ts) (tail ts) >>= λ x. Ok (prefixed op.Not x.0, x.1))
       else comparison ts
 
   unfoldable pub condition : Parse ExpressionTree
-  condition ts = negated ts >>= λ x. chain logical negated (length x.1) x.0 x.1
+  condition ts = logical_operand ts >>= λ x. chain logical logical_operand (length x.1) x.0 x.1
 
   -- the right side of an assignment is one nesting further in where it begins
-  unfoldable pub assigned : Parse ExpressionTree
-  assigned ts = if begins_expression (head ts) then below whole (length ts) ts else Err (unfit (length ts))
+  unfoldable pub right_side : Parse ExpressionTree
+  right_side ts = if begins_expression (head ts) then below whole (length ts) ts else Err (unfit (length ts))
 
   -- after a left side
   unfoldable pub assignment : ExpressionTree → Parse ExpressionTree
   assignment left ts =
       if is_sign s.Assign (head ts)
-      then (assigned (tail ts) >>= λ y. Ok (assign left (position_of (head ts)) y.0, y.1))
+      then (right_side (tail ts) >>= λ y. Ok (assign left (position_of (head ts)) y.0, y.1))
       else Ok (left, ts)
 
   unfoldable pub expression : Parse ExpressionTree
   expression ts = condition ts >>= λ x. assignment x.0 x.1
 
   -- the arguments of a call, after its parenthesis
-  unfoldable pub called : NameTree → Parse ExpressionTree
-  called n ts =
+  unfoldable pub rest_of_call : NameTree → Parse ExpressionTree
+  rest_of_call n ts =
       if is_sign s.CloseParenthesis (head ts) then Ok (call n none, tail ts)
       else (list (is_sign s.Comma) expression ts >>= λ x. expect s.CloseParenthesis x.1
       >>= λ r. Ok (call n (trees_of x.0), r))
@@ -193,8 +193,8 @@ module _ (below : Level → ℕ → Parse ExpressionTree) where
 unfoldable pub nested : ℕ → Level → ℕ → Parse ExpressionTree
 nested zero l opening ts = Err (deep opening)
 nested (suc d) whole opening ts = expression (nested d) ts
-nested (suc d) negation opening ts = negated (nested d) ts
-nested (suc d) complement opening ts = complemented (nested d) ts
+nested (suc d) negation opening ts = logical_operand (nested d) ts
+nested (suc d) complement opening ts = factor (nested d) ts
 nested (suc d) prefix opening ts = unary (nested d) ts
 nested (suc d) operand opening ts = primary (nested d) ts
-nested (suc d) (arguments n) opening ts = called (nested d) n ts
+nested (suc d) (arguments n) opening ts = rest_of_call (nested d) n ts

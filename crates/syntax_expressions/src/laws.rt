@@ -16,8 +16,8 @@ pub fn reads_the_grammar()
     ensures one_tree { OneTree }
 {}
 
-/// The same of `unassigned` and the expressions without an assignment at their root.
-pub fn reads_unassigned()
+/// The same of `condition` and the expressions without an assignment at their root.
+pub fn reads_conditions()
     ensures sound { ReadsUnassigned }
     ensures complete { UnassignedIsRead }
     ensures deep { UnassignedDeep }

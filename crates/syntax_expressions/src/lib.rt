@@ -5,5 +5,5 @@ mod laws;
 mod parser;
 mod single;
 
-pub use laws::{reads_the_grammar, reads_unassigned};
-pub use parser::{expression, unassigned};
+pub use laws::{reads_conditions, reads_the_grammar};
+pub use parser::{condition, expression};

@@ -12,9 +12,9 @@
 
 ghost use Rattle.std.specs.Prelude.{map, length, Some};
 ghost use Rattle.syntax_trees.specs.Views.{name_tree, expression_tree};
-ghost use Rattle.syntax_parsing.specs.Parse as reading;
-ghost use Rattle.syntax_parsing.specs.Parse.{tail};
-ghost use Rattle.syntax_parsing.specs.Returned.{ahead, Takes};
+ghost use Rattle.syntax_trees.specs.Parse as reading;
+ghost use Rattle.syntax_trees.specs.Parse.{tail};
+ghost use Rattle.syntax_trees.specs.Returned.{ahead, Takes};
 ghost use Rattle.syntax_expressions.specs.Parse as spec;
 ghost use Rattle.syntax_expression_parts.specs.Operators as operators;
 ghost use Rattle.syntax_expression_parts.specs.Returned.{TakesExpression};
@@ -28,10 +28,10 @@ use syntax_expression_parts::{
     prefixes, property_name, relating_word, stepping,
 };
 use syntax_lexer::{Kind, Sign, Word};
-use syntax_parsing::{
-    Fault, ParseError, Parser, fault_at, is_sign, is_word, open, pass, peek, position,
+use syntax_trees::{
+    Comparison, Containment, Equality, Expression, Fault, Name, Parsed, Parser, Prefix, Relative,
+    Step, fault_at, is_sign, is_word, open, pass, peek, position,
 };
-use syntax_trees::{Comparison, Containment, Equality, Expression, Name, Prefix, Relative, Step};
 
 /// The expression at the front of the tokens. `depth` is how many nestings more may be opened: a
 /// parenthesis, also that of a call or after `parent`, `child` and `sibling`, and an operator
@@ -45,10 +45,7 @@ use syntax_trees::{Comparison, Containment, Equality, Expression, Name, Prefix, 
 /// - `Memory`: a growth is refused.
 #[cycle(expression)]
 #[tactic(auto, unfolding(crate::specs::Parse::expression))]
-pub fn expression<'t, 'a>(
-    parser: &mut Parser<'t, 'a>,
-    depth: usize,
-) -> Result<Box<Expression<'a>>, ParseError>
+pub fn expression<'t, 'a>(parser: &mut Parser<'t, 'a>, depth: usize) -> Parsed<Box<Expression<'a>>>
     ensures { TakesExpression result parser.new
         (spec.expression (spec.nested depth) (ahead parser.old)) }
 {
@@ -60,10 +57,7 @@ pub fn expression<'t, 'a>(
 
 /// The expression at the front of the tokens as far as an assignment sign at its root. Depth and
 /// errors are those of `expression`.
-pub fn unassigned<'t, 'a>(
-    parser: &mut Parser<'t, 'a>,
-    depth: usize,
-) -> Result<Box<Expression<'a>>, ParseError>
+pub fn condition<'t, 'a>(parser: &mut Parser<'t, 'a>, depth: usize) -> Parsed<Box<Expression<'a>>>
     ensures { TakesExpression result parser.new
         (spec.condition (spec.nested depth) (ahead parser.old)) }
 {
@@ -77,7 +71,7 @@ fn assignment<'t, 'a>(
     parser: &mut Parser<'t, 'a>,
     depth: usize,
     left: Box<Expression<'a>>,
-) -> Result<Box<Expression<'a>>, ParseError>
+) -> Parsed<Box<Expression<'a>>>
     ensures { TakesExpression result parser.new (spec.assignment (spec.nested depth)
         (expression_tree left.entry.value) (ahead parser.old)) }
 {
@@ -86,7 +80,7 @@ fn assignment<'t, 'a>(
     }
     let sign = position(parser.tokens);
     pass(parser);
-    match assigned(parser, depth) {
+    match right_side(parser, depth) {
         Ok(right) => parts::assign(parser, left, sign, right),
         Err(e) => {
             parts::discard(left);
@@ -98,13 +92,10 @@ fn assignment<'t, 'a>(
 // The right side of an assignment, a nesting at its first token.
 #[cycle(expression)]
 #[inline(never)]
-#[tactic(auto, unfolding(crate::specs::Parse::assigned), using(crate::proofs::Nested::nested_zero, crate::proofs::Nested::nested_whole))]
-fn assigned<'t, 'a>(
-    parser: &mut Parser<'t, 'a>,
-    depth: usize,
-) -> Result<Box<Expression<'a>>, ParseError>
+#[tactic(auto, unfolding(crate::specs::Parse::right_side), using(crate::proofs::Nested::nested_zero, crate::proofs::Nested::nested_whole))]
+fn right_side<'t, 'a>(parser: &mut Parser<'t, 'a>, depth: usize) -> Parsed<Box<Expression<'a>>>
     ensures { TakesExpression result parser.new
-        (spec.assigned (spec.nested depth) (ahead parser.old)) }
+        (spec.right_side (spec.nested depth) (ahead parser.old)) }
 {
     if !begins_expression(peek(parser.tokens)) {
         return Err(fault_at(Fault::Grammar, parser.tokens));
@@ -120,7 +111,7 @@ fn chain<'t, 'a>(
     parser: &mut Parser<'t, 'a>,
     depth: usize,
     operators: Operators,
-) -> Result<Box<Expression<'a>>, ParseError>
+) -> Parsed<Box<Expression<'a>>>
     ensures { TakesExpression result parser.new
         (chain_of (spec.nested depth) operators (ahead parser.old)) }
 {
@@ -141,13 +132,13 @@ fn links<'t, 'a>(
     depth: usize,
     operators: Operators,
     first: Box<Expression<'a>>,
-) -> Result<Box<Expression<'a>>, ParseError>
+) -> Parsed<Box<Expression<'a>>>
     ensures { TakesExpression result parser.new
         (spec.chain (operator_of operators) (operand_of (spec.nested depth) operators)
         (length (ahead parser.old)) (expression_tree first.entry.value) (ahead parser.old)) }
 {
     match operator(operators, peek(parser.tokens)) {
-        Some(_) => linked(parser, depth, operators, first),
+        Some(_) => read_links(parser, depth, operators, first),
         None => Ok(first),
     }
 }
@@ -156,12 +147,12 @@ fn links<'t, 'a>(
 #[cycle(expression)]
 #[inline(never)]
 #[tactic(auto, using(crate::proofs::Chain::chain_stop, crate::proofs::Chain::chain_done))]
-fn linked<'t, 'a>(
+fn read_links<'t, 'a>(
     parser: &mut Parser<'t, 'a>,
     depth: usize,
     operators: Operators,
     first: Box<Expression<'a>>,
-) -> Result<Box<Expression<'a>>, ParseError>
+) -> Parsed<Box<Expression<'a>>>
     ensures { TakesExpression result parser.new
         (spec.chain (operator_of operators) (operand_of (spec.nested depth) operators)
         (length (ahead parser.old)) (expression_tree first.entry.value) (ahead parser.old)) }
@@ -192,33 +183,30 @@ fn operand<'t, 'a>(
     parser: &mut Parser<'t, 'a>,
     depth: usize,
     operators: Operators,
-) -> Result<Box<Expression<'a>>, ParseError>
+) -> Parsed<Box<Expression<'a>>>
     ensures { TakesExpression result parser.new
         (operand_of (spec.nested depth) operators (ahead parser.old)) }
 {
     match operators {
-        Operators::Logical => negated(parser, depth),
+        Operators::Logical => logical_operand(parser, depth),
         Operators::Adding => chain(parser, depth, Operators::Scaling),
-        Operators::Scaling => complemented(parser, depth),
+        Operators::Scaling => factor(parser, depth),
     }
 }
 
 // `~~` before what it negates, or a comparison.
 #[cycle(expression)]
-#[tactic(auto, unfolding(crate::specs::Parse::negated), using(crate::proofs::Nested::nested_zero, crate::proofs::Nested::nested_negation))]
-fn negated<'t, 'a>(
-    parser: &mut Parser<'t, 'a>,
-    depth: usize,
-) -> Result<Box<Expression<'a>>, ParseError>
+#[tactic(auto, unfolding(crate::specs::Parse::logical_operand), using(crate::proofs::Nested::nested_zero, crate::proofs::Nested::nested_negation))]
+fn logical_operand<'t, 'a>(parser: &mut Parser<'t, 'a>, depth: usize) -> Parsed<Box<Expression<'a>>>
     ensures { TakesExpression result parser.new
-        (spec.negated (spec.nested depth) (ahead parser.old)) }
+        (spec.logical_operand (spec.nested depth) (ahead parser.old)) }
 {
     if !is_sign(peek(parser.tokens), Sign::Not) {
         return comparison(parser, depth);
     }
     let inside = open(depth, parser.tokens)?;
     pass(parser);
-    match negated(parser, inside) {
+    match logical_operand(parser, inside) {
         Ok(operand) => parts::prefixed(parser, Prefix::Not, operand),
         Err(e) => Err(e),
     }
@@ -228,29 +216,26 @@ fn negated<'t, 'a>(
 // another.
 #[cycle(expression)]
 #[tactic(auto, unfolding(crate::specs::Parse::comparison))]
-fn comparison<'t, 'a>(
-    parser: &mut Parser<'t, 'a>,
-    depth: usize,
-) -> Result<Box<Expression<'a>>, ParseError>
+fn comparison<'t, 'a>(parser: &mut Parser<'t, 'a>, depth: usize) -> Parsed<Box<Expression<'a>>>
     ensures { TakesExpression result parser.new
         (spec.comparison (spec.nested depth) (ahead parser.old)) }
 {
     match chain(parser, depth, Operators::Adding) {
-        Ok(left) => compared(parser, depth, left),
+        Ok(left) => after_left(parser, depth, left),
         Err(e) => Err(e),
     }
 }
 
 // What follows the left side of a comparison.
 #[cycle(expression)]
-#[tactic(auto, unfolding(crate::specs::Parse::compared))]
-fn compared<'t, 'a>(
+#[tactic(auto, unfolding(crate::specs::Parse::after_left))]
+fn after_left<'t, 'a>(
     parser: &mut Parser<'t, 'a>,
     depth: usize,
     left: Box<Expression<'a>>,
-) -> Result<Box<Expression<'a>>, ParseError>
+) -> Parsed<Box<Expression<'a>>>
     ensures { TakesExpression result parser.new
-        (spec.compared (spec.nested depth) (expression_tree left.entry.value) (ahead parser.old)) }
+        (spec.after_left (spec.nested depth) (expression_tree left.entry.value) (ahead parser.old)) }
 {
     let next = peek(parser.tokens);
     if let Some(comparison) = comparing(next) {
@@ -273,7 +258,7 @@ fn compare<'t, 'a>(
     depth: usize,
     left: Box<Expression<'a>>,
     operator: Comparison,
-) -> Result<Box<Expression<'a>>, ParseError>
+) -> Parsed<Box<Expression<'a>>>
     ensures { TakesExpression result parser.new (spec.compare_on (spec.nested depth)
         (expression_tree left.entry.value) operator (tail (ahead parser.old))) }
 {
@@ -290,14 +275,14 @@ fn compare<'t, 'a>(
 // A comparison with one value or several, from its operator on.
 #[cycle(expression)]
 #[inline(never)]
-#[tactic(auto, unfolding(crate::specs::Parse::equated))]
+#[tactic(auto, unfolding(crate::specs::Parse::equate_on))]
 fn equate<'t, 'a>(
     parser: &mut Parser<'t, 'a>,
     depth: usize,
     left: Box<Expression<'a>>,
     operator: Equality,
-) -> Result<Box<Expression<'a>>, ParseError>
-    ensures { TakesExpression result parser.new (spec.equated (spec.nested depth)
+) -> Parsed<Box<Expression<'a>>>
+    ensures { TakesExpression result parser.new (spec.equate_on (spec.nested depth)
         (expression_tree left.entry.value) operator (tail (ahead parser.old))) }
 {
     pass(parser);
@@ -318,7 +303,7 @@ fn contain<'t, 'a>(
     depth: usize,
     left: Box<Expression<'a>>,
     operator: Containment,
-) -> Result<Box<Expression<'a>>, ParseError>
+) -> Parsed<Box<Expression<'a>>>
     ensures { TakesExpression result parser.new (spec.contain_on (spec.nested depth)
         (expression_tree left.entry.value) operator (tail (ahead parser.old))) }
 {
@@ -337,7 +322,7 @@ fn contain<'t, 'a>(
 fn values<'t, 'a>(
     parser: &mut Parser<'t, 'a>,
     depth: usize,
-) -> Result<(Box<Expression<'a>>, Vec<Expression<'a>>), ParseError>
+) -> Parsed<(Box<Expression<'a>>, Vec<Expression<'a>>)>
     ensures { Takes values_tree result parser.new
         (reading.list (reading.is_word Word.Or) (spec.sum (spec.nested depth)) (ahead parser.old)) }
 {
@@ -373,23 +358,20 @@ fn values<'t, 'a>(
 
 // `~` before what it complements, or an operand with at most an index, `-`, `++` and `--`.
 #[cycle(expression)]
-#[tactic(auto, unfolding(crate::specs::Parse::complemented), using(crate::proofs::Nested::nested_zero, crate::proofs::Nested::nested_complement))]
-fn complemented<'t, 'a>(
-    parser: &mut Parser<'t, 'a>,
-    depth: usize,
-) -> Result<Box<Expression<'a>>, ParseError>
+#[tactic(auto, unfolding(crate::specs::Parse::factor), using(crate::proofs::Nested::nested_zero, crate::proofs::Nested::nested_complement))]
+fn factor<'t, 'a>(parser: &mut Parser<'t, 'a>, depth: usize) -> Parsed<Box<Expression<'a>>>
     ensures { TakesExpression result parser.new
-        (spec.complemented (spec.nested depth) (ahead parser.old)) }
+        (spec.factor (spec.nested depth) (ahead parser.old)) }
 {
     if is_single(OPERAND, parser.tokens) {
         return atom(parser, depth);
     }
     if !is_sign(peek(parser.tokens), Sign::Tilde) {
-        return indexed(parser, depth);
+        return array_entry(parser, depth);
     }
     let inside = open(depth, parser.tokens)?;
     pass(parser);
-    match complemented(parser, inside) {
+    match factor(parser, inside) {
         Ok(operand) => parts::prefixed(parser, Prefix::Complement, operand),
         Err(e) => Err(e),
     }
@@ -398,16 +380,13 @@ fn complemented<'t, 'a>(
 // An entry of an array or of a property, or an operand with at most `-`, `++`, `--` and `.#`. An
 // index is no nesting.
 #[cycle(expression)]
-#[tactic(auto, unfolding(crate::specs::Parse::indexed))]
-fn indexed<'t, 'a>(
-    parser: &mut Parser<'t, 'a>,
-    depth: usize,
-) -> Result<Box<Expression<'a>>, ParseError>
+#[tactic(auto, unfolding(crate::specs::Parse::array_entry))]
+fn array_entry<'t, 'a>(parser: &mut Parser<'t, 'a>, depth: usize) -> Parsed<Box<Expression<'a>>>
     ensures { TakesExpression result parser.new
-        (spec.indexed (spec.nested depth) (ahead parser.old)) }
+        (spec.array_entry (spec.nested depth) (ahead parser.old)) }
 {
     let Some((array, width)) = array(parser.tokens) else {
-        return unindexed(parser, depth);
+        return object_entry(parser, depth);
     };
     pass(parser);
     pass(parser);
@@ -419,36 +398,33 @@ fn indexed<'t, 'a>(
 
 // An entry of a property, or an operand with at most `-`, `++`, `--` and `.#`.
 #[cycle(expression)]
-#[tactic(auto, unfolding(crate::specs::Parse::unindexed))]
-fn unindexed<'t, 'a>(
-    parser: &mut Parser<'t, 'a>,
-    depth: usize,
-) -> Result<Box<Expression<'a>>, ParseError>
+#[tactic(auto, unfolding(crate::specs::Parse::object_entry))]
+fn object_entry<'t, 'a>(parser: &mut Parser<'t, 'a>, depth: usize) -> Parsed<Box<Expression<'a>>>
     ensures { TakesExpression result parser.new
-        (spec.unindexed (spec.nested depth) (ahead parser.old)) }
+        (spec.object_entry (spec.nested depth) (ahead parser.old)) }
 {
     if prefixes(peek(parser.tokens)) {
         return unary(parser, depth);
     }
     match primary(parser, depth) {
-        Ok(owner) => owned(parser, depth, owner),
+        Ok(owner) => after_owner(parser, depth, owner),
         Err(e) => Err(e),
     }
 }
 
 // An owner, with the entry of its property, `++`, `--` or `.#` where it is followed by one.
 #[cycle(expression)]
-#[tactic(auto, unfolding(crate::specs::Parse::owned))]
-fn owned<'t, 'a>(
+#[tactic(auto, unfolding(crate::specs::Parse::after_owner))]
+fn after_owner<'t, 'a>(
     parser: &mut Parser<'t, 'a>,
     depth: usize,
     owner: Box<Expression<'a>>,
-) -> Result<Box<Expression<'a>>, ParseError>
+) -> Parsed<Box<Expression<'a>>>
     ensures { TakesExpression result parser.new
-        (spec.owned (spec.nested depth) (expression_tree owner.entry.value) (ahead parser.old)) }
+        (spec.after_owner (spec.nested depth) (expression_tree owner.entry.value) (ahead parser.old)) }
 {
     if !is_sign(peek(parser.tokens), Sign::DotAmpersand) {
-        return parts::suffixed(parser, owner);
+        return parts::after_operand(parser, owner);
     }
     entry(parser, depth, owner)
 }
@@ -461,7 +437,7 @@ fn entry<'t, 'a>(
     parser: &mut Parser<'t, 'a>,
     depth: usize,
     owner: Box<Expression<'a>>,
-) -> Result<Box<Expression<'a>>, ParseError>
+) -> Parsed<Box<Expression<'a>>>
     ensures { TakesExpression result parser.new (spec.entry (spec.nested depth)
         (expression_tree owner.entry.value) (tail (ahead parser.old))) }
 {
@@ -485,10 +461,7 @@ fn entry<'t, 'a>(
 // `-` before its operand, or a primary with `++` or `--` before or after it, or with `.#` after it.
 #[cycle(expression)]
 #[tactic(auto, unfolding(crate::specs::Parse::unary))]
-fn unary<'t, 'a>(
-    parser: &mut Parser<'t, 'a>,
-    depth: usize,
-) -> Result<Box<Expression<'a>>, ParseError>
+fn unary<'t, 'a>(parser: &mut Parser<'t, 'a>, depth: usize) -> Parsed<Box<Expression<'a>>>
     ensures { TakesExpression result parser.new
         (spec.unary (spec.nested depth) (ahead parser.old)) }
 {
@@ -498,7 +471,7 @@ fn unary<'t, 'a>(
     }
     match stepping(next) {
         Some(step) => step_before(parser, depth, step),
-        None => stepped(parser, depth),
+        None => postfix(parser, depth),
     }
 }
 
@@ -506,10 +479,7 @@ fn unary<'t, 'a>(
 #[cycle(expression)]
 #[inline(never)]
 #[tactic(auto, using(crate::proofs::Nested::nested_zero, crate::proofs::Nested::nested_prefix))]
-fn minus<'t, 'a>(
-    parser: &mut Parser<'t, 'a>,
-    depth: usize,
-) -> Result<Box<Expression<'a>>, ParseError>
+fn minus<'t, 'a>(parser: &mut Parser<'t, 'a>, depth: usize) -> Parsed<Box<Expression<'a>>>
     ensures { TakesExpression result parser.new
         (spec.minus (spec.nested depth) (length (ahead parser.old)) (tail (ahead parser.old))) }
 {
@@ -529,7 +499,7 @@ fn step_before<'t, 'a>(
     parser: &mut Parser<'t, 'a>,
     depth: usize,
     step: Step,
-) -> Result<Box<Expression<'a>>, ParseError>
+) -> Parsed<Box<Expression<'a>>>
     ensures { TakesExpression result parser.new
         (spec.unary_on (spec.nested depth) (ahead parser.old) (Some step)) }
 {
@@ -544,16 +514,13 @@ fn step_before<'t, 'a>(
 
 // A primary, with `++`, `--` or `.#` where it is followed by one.
 #[cycle(expression)]
-#[tactic(auto, unfolding(crate::specs::Parse::stepped))]
-fn stepped<'t, 'a>(
-    parser: &mut Parser<'t, 'a>,
-    depth: usize,
-) -> Result<Box<Expression<'a>>, ParseError>
+#[tactic(auto, unfolding(crate::specs::Parse::postfix))]
+fn postfix<'t, 'a>(parser: &mut Parser<'t, 'a>, depth: usize) -> Parsed<Box<Expression<'a>>>
     ensures { TakesExpression result parser.new
-        (spec.stepped (spec.nested depth) (ahead parser.old)) }
+        (spec.postfix (spec.nested depth) (ahead parser.old)) }
 {
     match primary(parser, depth) {
-        Ok(operand) => parts::suffixed(parser, operand),
+        Ok(operand) => parts::after_operand(parser, operand),
         Err(e) => Err(e),
     }
 }
@@ -561,10 +528,7 @@ fn stepped<'t, 'a>(
 // An operand without operators: what `atom` reads, and properties after it.
 #[cycle(expression)]
 #[tactic(auto, unfolding(crate::specs::Parse::primary))]
-fn primary<'t, 'a>(
-    parser: &mut Parser<'t, 'a>,
-    depth: usize,
-) -> Result<Box<Expression<'a>>, ParseError>
+fn primary<'t, 'a>(parser: &mut Parser<'t, 'a>, depth: usize) -> Parsed<Box<Expression<'a>>>
     ensures { TakesExpression result parser.new
         (spec.primary (spec.nested depth) (ahead parser.old)) }
 {
@@ -578,10 +542,7 @@ fn primary<'t, 'a>(
 // parentheses.
 #[cycle(expression)]
 #[tactic(auto, unfolding(crate::specs::Parse::atom))]
-fn atom<'t, 'a>(
-    parser: &mut Parser<'t, 'a>,
-    depth: usize,
-) -> Result<Box<Expression<'a>>, ParseError>
+fn atom<'t, 'a>(parser: &mut Parser<'t, 'a>, depth: usize) -> Parsed<Box<Expression<'a>>>
     ensures { TakesExpression result parser.new
         (spec.atom (spec.nested depth) (ahead parser.old)) }
 {
@@ -590,7 +551,7 @@ fn atom<'t, 'a>(
         Kind::Number(number) => parts::constant(parser, number),
         Kind::Character(code) => parts::constant(parser, code as u16),
         Kind::DictionaryWord(word) => parts::word(parser, word),
-        Kind::Reserved(word) => reserved(parser, depth, word),
+        Kind::Reserved(word) => reserved_word(parser, depth, word),
         Kind::Name(text) => {
             let name = Name {
                 text,
@@ -598,7 +559,7 @@ fn atom<'t, 'a>(
             };
             after_name(parser, depth, &name)
         }
-        Kind::Sign(Sign::OpenParenthesis) => enclosed(parser, depth),
+        Kind::Sign(Sign::OpenParenthesis) => in_parentheses(parser, depth),
         _ => Err(fault_at(Fault::Grammar, parser.tokens)),
     }
 }
@@ -610,7 +571,7 @@ fn after_name<'t, 'a>(
     parser: &mut Parser<'t, 'a>,
     depth: usize,
     name: &Name<'a>,
-) -> Result<Box<Expression<'a>>, ParseError>
+) -> Parsed<Box<Expression<'a>>>
     ensures { TakesExpression result parser.new
         (spec.after_name (spec.nested depth) (name_tree name.now) (tail (ahead parser.old))) }
 {
@@ -620,17 +581,14 @@ fn after_name<'t, 'a>(
     }
     let inside = open(depth, parser.tokens)?;
     pass(parser);
-    called(parser, inside, name)
+    rest_of_call(parser, inside, name)
 }
 
 // What stands in parentheses, from the first of them on.
 #[cycle(expression)]
 #[inline(never)]
 #[tactic(auto, using(crate::proofs::Nested::nested_zero, crate::proofs::Nested::nested_whole))]
-fn within<'t, 'a>(
-    parser: &mut Parser<'t, 'a>,
-    depth: usize,
-) -> Result<Box<Expression<'a>>, ParseError>
+fn within<'t, 'a>(parser: &mut Parser<'t, 'a>, depth: usize) -> Parsed<Box<Expression<'a>>>
     ensures { TakesExpression result parser.new
         (spec.nested depth spec.whole (length (ahead parser.old)) (tail (ahead parser.old))) }
 {
@@ -641,13 +599,10 @@ fn within<'t, 'a>(
 
 // An expression in parentheses.
 #[cycle(expression)]
-#[tactic(auto, unfolding(crate::specs::Parse::enclosed))]
-fn enclosed<'t, 'a>(
-    parser: &mut Parser<'t, 'a>,
-    depth: usize,
-) -> Result<Box<Expression<'a>>, ParseError>
+#[tactic(auto, unfolding(crate::specs::Parse::in_parentheses))]
+fn in_parentheses<'t, 'a>(parser: &mut Parser<'t, 'a>, depth: usize) -> Parsed<Box<Expression<'a>>>
     ensures { TakesExpression result parser.new
-        (spec.enclosed (spec.nested depth) (length (ahead parser.old)) (tail (ahead parser.old))) }
+        (spec.in_parentheses (spec.nested depth) (length (ahead parser.old)) (tail (ahead parser.old))) }
 {
     match within(parser, depth) {
         Ok(inside) => parts::parenthesised(parser, inside),
@@ -657,16 +612,16 @@ fn enclosed<'t, 'a>(
 
 // The value of the reserved word that comes next, or a relative of an object.
 #[cycle(expression)]
-fn reserved<'t, 'a>(
+fn reserved_word<'t, 'a>(
     parser: &mut Parser<'t, 'a>,
     depth: usize,
     word: Word,
-) -> Result<Box<Expression<'a>>, ParseError>
+) -> Parsed<Box<Expression<'a>>>
     ensures { TakesExpression result parser.new (spec.word_on (spec.nested depth) word
         (operators.relating_word word) (ahead parser.old)) }
 {
     match relating_word(word) {
-        Some(relative) => related(parser, depth, relative),
+        Some(relative) => object_relative(parser, depth, relative),
         None => parts::word_constant(parser, word),
     }
 }
@@ -674,14 +629,14 @@ fn reserved<'t, 'a>(
 // The parent, the child or the sibling of what stands in parentheses, from the word on.
 #[cycle(expression)]
 #[inline(never)]
-#[tactic(auto, unfolding(crate::specs::Parse::related))]
-fn related<'t, 'a>(
+#[tactic(auto, unfolding(crate::specs::Parse::object_relative))]
+fn object_relative<'t, 'a>(
     parser: &mut Parser<'t, 'a>,
     depth: usize,
     relative: Relative,
-) -> Result<Box<Expression<'a>>, ParseError>
+) -> Parsed<Box<Expression<'a>>>
     ensures { TakesExpression result parser.new
-        (spec.related (spec.nested depth) relative (tail (ahead parser.old))) }
+        (spec.object_relative (spec.nested depth) relative (tail (ahead parser.old))) }
 {
     pass(parser);
     if !is_sign(peek(parser.tokens), Sign::OpenParenthesis) {
@@ -695,14 +650,14 @@ fn related<'t, 'a>(
 
 // The call of a name, from after its parenthesis.
 #[cycle(expression)]
-#[tactic(auto, unfolding(crate::specs::Parse::called))]
-fn called<'t, 'a>(
+#[tactic(auto, unfolding(crate::specs::Parse::rest_of_call))]
+fn rest_of_call<'t, 'a>(
     parser: &mut Parser<'t, 'a>,
     depth: usize,
     name: &Name<'a>,
-) -> Result<Box<Expression<'a>>, ParseError>
+) -> Parsed<Box<Expression<'a>>>
     ensures { TakesExpression result parser.new
-        (spec.called (spec.nested depth) (name_tree name.now) (ahead parser.old)) }
+        (spec.rest_of_call (spec.nested depth) (name_tree name.now) (ahead parser.old)) }
 {
     if is_sign(peek(parser.tokens), Sign::CloseParenthesis) {
         return parts::call_alone(parser, name);
@@ -716,11 +671,8 @@ fn called<'t, 'a>(
 // Arguments, at least one.
 #[cycle(expression)]
 #[inline(never)]
-#[tactic(auto, using(syntax_parsing::proofs::Loops::further_out, syntax_parsing::proofs::Loops::further_done))]
-fn arguments<'t, 'a>(
-    parser: &mut Parser<'t, 'a>,
-    depth: usize,
-) -> Result<Vec<Expression<'a>>, ParseError>
+#[tactic(auto, using(syntax_trees::proofs::Loops::further_out, syntax_trees::proofs::Loops::further_done))]
+fn arguments<'t, 'a>(parser: &mut Parser<'t, 'a>, depth: usize) -> Parsed<Vec<Expression<'a>>>
     ensures { Takes (λ xs. map expression_tree xs.items) result parser.new (reading.list
         (reading.is_sign Sign.Comma) (spec.expression (spec.nested depth)) (ahead parser.old)) }
 {

@@ -7,7 +7,7 @@ ghost use Rattle.syntax_expressions.specs.Single as spec;
 
 use syntax_expression_parts::Operators;
 use syntax_lexer::{Kind, Sign, Token};
-use syntax_parsing::{peek, skip};
+use syntax_trees::{peek, skip};
 
 /// The width of an operand of the narrowest chain.
 pub const OPERAND: u8 = 1;

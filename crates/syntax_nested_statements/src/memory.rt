@@ -3,14 +3,14 @@
 
 ghost use Rattle.std.specs.Prelude.{◌≡◌, IfErr, IfOk, [], ◌∷◌, ◌++◌};
 
-use syntax_parsing::ParseError;
+use syntax_trees::{ParseError, Parsed};
 
 /// The value at the end of the row.
 ///
 /// # Errors
 ///
 /// `Memory`: a growth is refused. The row stays as it was, and the value is dropped.
-pub fn push<T: Drop>(row: &mut Vec<T>, next: T) -> Result<(), ParseError>
+pub fn push<T: Drop>(row: &mut Vec<T>, next: T) -> Parsed<()>
     ensures ok { IfOk result (λ _. row.new.items ≡ row.old.items ++ next ∷ []) }
     ensures err { IfErr result (λ e. e ≡ ParseError.Memory) }
     ensures stays { IfErr result (λ _. row.new.items ≡ row.old.items) }

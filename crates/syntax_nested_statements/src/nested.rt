@@ -2,8 +2,8 @@
 
 ghost use Rattle.std.specs.Prelude.{◌≡◌, ◌<◌, length, map};
 ghost use Rattle.syntax_lexer.specs.Token.{lexeme, lexemes};
-ghost use Rattle.syntax_parsing.specs.Parse.{tail};
-ghost use Rattle.syntax_parsing.specs.Returned.{ahead, Takes};
+ghost use Rattle.syntax_trees.specs.Parse.{tail};
+ghost use Rattle.syntax_trees.specs.Returned.{ahead, Takes};
 ghost use Rattle.syntax_statements.specs.Grammar as grammar;
 ghost use Rattle.syntax_statements.specs.Nesting as nesting;
 ghost use Rattle.syntax_statements.specs.Views.{statement_tree, case_tree, other_tree};
@@ -15,14 +15,14 @@ ghost use Rattle.syntax_statements.specs.Rows.{AddsStatement};
 use crate::memory::{as_kept, push};
 use syntax_expression_parts::begins_expression;
 use syntax_lexer::{Kind, Position, Sign, Token, Word};
-use syntax_parsing::{
-    Fault, ParseError, Parser, expect, expect_word, fault_at, is_sign, is_word, open, pass, peek,
-};
 use syntax_statement_parts::{
     Range, begins_case, begins_value, enclosed_condition, enclosed_heading, enclosed_loop, ranges,
 };
 use syntax_statements::parts::plain;
 use syntax_statements::{Statement, parts};
+use syntax_trees::{
+    Fault, Parsed, Parser, expect, expect_word, fault_at, is_sign, is_word, open, pass, peek,
+};
 
 // Whether the word begins a statement.
 fn word_opens(word: Word) -> bool
@@ -138,11 +138,8 @@ fn else_follows(tokens: &[Token<'_>]) -> bool
 /// - `Fault::Deep` at the token for which no nesting is left.
 /// - `Memory`: a growth is refused.
 #[cycle(statement)]
-#[tactic(auto, unfolding(syntax_statements::specs::Parse::statements), using(syntax_parsing::proofs::Loops::joined_none))]
-pub fn statements<'t, 'a>(
-    parser: &mut Parser<'t, 'a>,
-    depth: usize,
-) -> Result<Vec<Statement<'a>>, ParseError>
+#[tactic(auto, unfolding(syntax_statements::specs::Parse::statements), using(syntax_trees::proofs::Loops::joined_none))]
+pub fn statements<'t, 'a>(parser: &mut Parser<'t, 'a>, depth: usize) -> Parsed<Vec<Statement<'a>>>
     ensures { Takes (λ xs. map statement_tree xs.items) result parser.new
         (spec.statements depth (ahead parser.old)) }
 {
@@ -166,7 +163,7 @@ fn add_next<'t, 'a>(
     parser: &mut Parser<'t, 'a>,
     depth: usize,
     row: &mut Vec<Statement<'a>>,
-) -> Result<(), ParseError>
+) -> Parsed<()>
     ensures { AddsStatement result row.old.items row.new.items parser.new
         (spec.statement depth (ahead parser.old)) }
 {
@@ -185,7 +182,7 @@ fn add_inside<'t, 'a>(
     parser: &mut Parser<'t, 'a>,
     depth: usize,
     row: &mut Vec<Statement<'a>>,
-) -> Result<(), ParseError>
+) -> Parsed<()>
     ensures { AddsStatement result row.old.items row.new.items parser.new
         (spec.inside depth (ahead parser.old)) }
 {
@@ -199,10 +196,7 @@ fn add_inside<'t, 'a>(
 // nesting, and so is each statement inside.
 #[cycle(statement)]
 #[tactic(auto, using(syntax_statements::proofs::Inside::braces_zero, syntax_statements::proofs::Inside::braces_last, syntax_statements::proofs::Inside::braces_empty, syntax_statements::proofs::Inside::braces_below))]
-fn braces<'t, 'a>(
-    parser: &mut Parser<'t, 'a>,
-    depth: usize,
-) -> Result<Vec<Statement<'a>>, ParseError>
+fn braces<'t, 'a>(parser: &mut Parser<'t, 'a>, depth: usize) -> Parsed<Vec<Statement<'a>>>
     ensures { Takes (λ xs. map statement_tree xs.items) result parser.new
         (spec.braces depth (length (ahead parser.old)) (tail (ahead parser.old))) }
 {
@@ -217,10 +211,7 @@ fn braces<'t, 'a>(
 
 // A block, from its brace on.
 #[cycle(statement)]
-fn block<'t, 'a>(
-    parser: &mut Parser<'t, 'a>,
-    depth: usize,
-) -> Result<Box<Statement<'a>>, ParseError>
+fn block<'t, 'a>(parser: &mut Parser<'t, 'a>, depth: usize) -> Parsed<Box<Statement<'a>>>
     ensures { TakesStatement result parser.new
         (spec.braced (spec.braces depth) (length (ahead parser.old)) (tail (ahead parser.old))) }
 {
@@ -233,10 +224,7 @@ fn block<'t, 'a>(
 // A statement one nesting further in than where `depth` may be opened.
 #[cycle(statement)]
 #[tactic(auto, using(syntax_statements::proofs::Inside::inside_zero, syntax_statements::proofs::Inside::inside_more))]
-fn further_in<'t, 'a>(
-    parser: &mut Parser<'t, 'a>,
-    depth: usize,
-) -> Result<Box<Statement<'a>>, ParseError>
+fn further_in<'t, 'a>(parser: &mut Parser<'t, 'a>, depth: usize) -> Parsed<Box<Statement<'a>>>
     ensures { TakesStatement result parser.new
         (spec.inside depth (ahead parser.old)) }
 {
@@ -251,7 +239,7 @@ fn choice<'t, 'a>(
     parser: &mut Parser<'t, 'a>,
     depth: usize,
     position: Position,
-) -> Result<Box<Statement<'a>>, ParseError>
+) -> Parsed<Box<Statement<'a>>>
     ensures { TakesStatement result parser.new
         (spec.choice depth (spec.inside depth) position (ahead parser.old)) }
 {
@@ -278,7 +266,7 @@ fn repetition<'t, 'a>(
     parser: &mut Parser<'t, 'a>,
     depth: usize,
     position: Position,
-) -> Result<Box<Statement<'a>>, ParseError>
+) -> Parsed<Box<Statement<'a>>>
     ensures { TakesStatement result parser.new
         (spec.repetition depth (spec.inside depth) position (ahead parser.old)) }
 {
@@ -291,13 +279,10 @@ fn repetition<'t, 'a>(
 
 // The statement after `do`.
 #[cycle(statement)]
-#[tactic(auto, unfolding(syntax_statements::specs::Parse::entered))]
-fn entered<'t, 'a>(
-    parser: &mut Parser<'t, 'a>,
-    depth: usize,
-) -> Result<Box<Statement<'a>>, ParseError>
+#[tactic(auto, unfolding(syntax_statements::specs::Parse::do_body))]
+fn do_body<'t, 'a>(parser: &mut Parser<'t, 'a>, depth: usize) -> Parsed<Box<Statement<'a>>>
     ensures { TakesStatement result parser.new
-        (spec.entered (spec.inside depth) (ahead parser.old)) }
+        (spec.do_body (spec.inside depth) (ahead parser.old)) }
 {
     if !begins_statement(peek(parser.tokens)) {
         return Err(fault_at(Fault::Grammar, parser.tokens));
@@ -312,11 +297,11 @@ fn until<'t, 'a>(
     parser: &mut Parser<'t, 'a>,
     depth: usize,
     position: Position,
-) -> Result<Box<Statement<'a>>, ParseError>
+) -> Parsed<Box<Statement<'a>>>
     ensures { TakesStatement result parser.new
         (spec.until depth (spec.inside depth) position (ahead parser.old)) }
 {
-    match entered(parser, depth) {
+    match do_body(parser, depth) {
         Ok(body) => {
             expect_word(parser, Word::Until)?;
             let condition = enclosed_condition(parser, depth)?;
@@ -333,7 +318,7 @@ fn iteration<'t, 'a>(
     parser: &mut Parser<'t, 'a>,
     depth: usize,
     position: Position,
-) -> Result<Box<Statement<'a>>, ParseError>
+) -> Parsed<Box<Statement<'a>>>
     ensures { TakesStatement result parser.new
         (spec.iteration depth (spec.inside depth) position (ahead parser.old)) }
 {
@@ -351,7 +336,7 @@ fn traversal<'t, 'a>(
     parser: &mut Parser<'t, 'a>,
     depth: usize,
     position: Position,
-) -> Result<Box<Statement<'a>>, ParseError>
+) -> Parsed<Box<Statement<'a>>>
     ensures { TakesStatement result parser.new
         (spec.traversal depth (spec.inside depth) position (ahead parser.old)) }
 {
@@ -366,10 +351,7 @@ fn traversal<'t, 'a>(
 // each statement.
 #[cycle(statement)]
 #[tactic(auto, using(syntax_statements::proofs::Inside::bodies_zero))]
-fn bodies<'t, 'a>(
-    parser: &mut Parser<'t, 'a>,
-    depth: usize,
-) -> Result<Vec<Statement<'a>>, ParseError>
+fn bodies<'t, 'a>(parser: &mut Parser<'t, 'a>, depth: usize) -> Parsed<Vec<Statement<'a>>>
     ensures { Takes (λ xs. map statement_tree xs.items) result parser.new
         (spec.bodies depth (ahead parser.old)) }
 {
@@ -393,7 +375,7 @@ fn bodies<'t, 'a>(
 fn one_case<'t, 'a>(
     parser: &mut Parser<'t, 'a>,
     depth: usize,
-) -> Result<(Vec<Range<'a>>, Vec<Statement<'a>>), ParseError>
+) -> Parsed<(Vec<Range<'a>>, Vec<Statement<'a>>)>
     ensures { Takes case_tree result parser.new
         (spec.one_case (spec.bodies depth) (ahead parser.old)) }
 {
@@ -407,11 +389,11 @@ fn one_case<'t, 'a>(
 
 // Cases, up to `default` or a brace.
 #[cycle(statement)]
-#[tactic(auto, unfolding(syntax_statements::specs::Parse::cases), using(syntax_parsing::proofs::Loops::joined_none))]
+#[tactic(auto, unfolding(syntax_statements::specs::Parse::cases), using(syntax_trees::proofs::Loops::joined_none))]
 fn cases<'t, 'a>(
     parser: &mut Parser<'t, 'a>,
     depth: usize,
-) -> Result<Vec<(Vec<Range<'a>>, Vec<Statement<'a>>)>, ParseError>
+) -> Parsed<Vec<(Vec<Range<'a>>, Vec<Statement<'a>>)>>
     ensures { Takes (λ xs. map case_tree xs.items) result parser.new
         (spec.cases (spec.bodies depth) (ahead parser.old)) }
 {
@@ -434,7 +416,7 @@ fn cases<'t, 'a>(
 fn otherwise<'t, 'a>(
     parser: &mut Parser<'t, 'a>,
     depth: usize,
-) -> Result<Option<Vec<Statement<'a>>>, ParseError>
+) -> Parsed<Option<Vec<Statement<'a>>>>
     ensures { Takes other_tree result parser.new
         (spec.otherwise (spec.braces depth) (ahead parser.old)) }
 {
@@ -459,7 +441,7 @@ fn selection<'t, 'a>(
     parser: &mut Parser<'t, 'a>,
     depth: usize,
     position: Position,
-) -> Result<Box<Statement<'a>>, ParseError>
+) -> Parsed<Box<Statement<'a>>>
     ensures { TakesStatement result parser.new
         (spec.selection depth (spec.braces depth)
         (spec.bodies depth) position (ahead parser.old)) }
@@ -478,10 +460,7 @@ fn selection<'t, 'a>(
 // A statement in which `depth` nestings more may be opened.
 #[cycle(statement)]
 #[tactic(auto, unfolding(syntax_statements::specs::Parse::statement, syntax_statements::specs::Parse::statement_over))]
-fn statement<'t, 'a>(
-    parser: &mut Parser<'t, 'a>,
-    depth: usize,
-) -> Result<Box<Statement<'a>>, ParseError>
+fn statement<'t, 'a>(parser: &mut Parser<'t, 'a>, depth: usize) -> Parsed<Box<Statement<'a>>>
     ensures { TakesStatement result parser.new
         (spec.statement depth (ahead parser.old)) }
 {

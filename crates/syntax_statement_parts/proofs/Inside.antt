@@ -1,7 +1,7 @@
 -- One nesting further in.
 use Rattle.std.proofs.Common.{◌≡◌, ℕ, zero, suc, ◌+◌, List, Result, Err, refl, ap, arith}
 use Rattle.syntax_lexer.specs.Token.{Lexeme}
-use Rattle.syntax_parsing.specs.Stop.{Stop, deep}
+use Rattle.syntax_trees.specs.Stop.{Stop, deep}
 use Rattle.syntax_statement_parts.specs.Parse.{opened, heading_in, heading, looped_in, looped}
 
 pub opened_zero : {A : Type 0} (d left : ℕ) (R : Result A Stop) → d ≡ 0 → opened d left R ≡ Err (deep left)

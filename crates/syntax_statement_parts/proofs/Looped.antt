@@ -5,7 +5,7 @@ use Rattle.syntax_lexer.specs.Token.{Lexeme, name}
 use Rattle.syntax_trees.specs.declared.tree.Name.{Name}
 use Rattle.syntax_trees.specs.Tree.{ExpressionTree}
 use Rattle.syntax_trees.specs.Views.{name_tree}
-use Rattle.syntax_parsing.specs.Parse.{head, expect}
+use Rattle.syntax_trees.specs.Parse.{head, expect}
 use Rattle.syntax_expressions.specs.Parse.{nested, condition}
 use Rattle.syntax_expression_parts.proofs.NamesRead.{name_found}
 use Rattle.syntax_statement_parts.specs.Parse.{loop_of, looped}

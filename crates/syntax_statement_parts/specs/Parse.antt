@@ -11,8 +11,8 @@ use Rattle.syntax_lexer.specs.Token.{position_of}
 use Rattle.syntax_trees.specs.declared.tree.Containment.TheVariants as containment
 use Rattle.syntax_trees.specs.Tree.{NameTree, ExpressionTree, contained}
 use Rattle.syntax_trees.specs.Tree as expressions
-use Rattle.syntax_parsing.specs.Stop.{Stop, unfit, deep}
-use Rattle.syntax_parsing.specs.Parse.{Parse, ◌>>=◌, head, tail, is_sign, is_word, expect, list, repeated}
+use Rattle.syntax_trees.specs.Stop.{Stop, unfit, deep}
+use Rattle.syntax_trees.specs.Parse.{Parse, ◌>>=◌, head, tail, is_sign, is_word, expect, list, repeated}
 use Rattle.syntax_expression_parts.specs.Parse.{expect_name}
 use Rattle.syntax_expressions.specs.Parse.{whole, nested, condition, expression}
 use Rattle.syntax_statement_parts.specs.Tree.{LiteralTree, number_value, word_value, named_value, RangeTree}

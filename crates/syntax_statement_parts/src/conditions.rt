@@ -1,14 +1,13 @@
 //! Conditions in parentheses, read from tokens.
 
 ghost use Rattle.std.specs.Prelude.{◌<◌, IfOk};
-ghost use Rattle.syntax_parsing.specs.Returned.{ahead};
+ghost use Rattle.syntax_trees.specs.Returned.{ahead};
 ghost use Rattle.syntax_expression_parts.specs.Returned.{TakesExpression};
 ghost use Rattle.syntax_statement_parts.specs.Parse as spec;
 
 use syntax_expressions::expression;
 use syntax_lexer::Sign;
-use syntax_parsing::{ParseError, Parser, expect, open};
-use syntax_trees::Expression;
+use syntax_trees::{Expression, Parsed, Parser, expect, open};
 
 /// A condition in parentheses, which are a nesting.
 ///
@@ -20,7 +19,7 @@ use syntax_trees::Expression;
 pub fn enclosed_condition<'t, 'a>(
     parser: &mut Parser<'t, 'a>,
     depth: usize,
-) -> Result<Box<Expression<'a>>, ParseError>
+) -> Parsed<Box<Expression<'a>>>
     ensures gives { TakesExpression result parser.new
         (spec.enclosed_condition depth (ahead parser.old)) }
     ensures open { IfOk result (λ x. 0 < depth) }

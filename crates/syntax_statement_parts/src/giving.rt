@@ -2,14 +2,13 @@
 
 ghost use Rattle.std.specs.Prelude.{◌≡◌, map};
 ghost use Rattle.syntax_lexer.specs.Token.{lexeme};
-ghost use Rattle.syntax_parsing.specs.Returned.{ahead, Takes};
+ghost use Rattle.syntax_trees.specs.Returned.{ahead, Takes};
 ghost use Rattle.syntax_statement_parts.specs.Views.{flag_tree};
 ghost use Rattle.syntax_statement_parts.specs.Parse as parts;
 
 use syntax_expression_parts::expect_name;
 use syntax_lexer::{Kind, Sign, Token};
-use syntax_parsing::{ParseError, Parser, is_sign, pass, peek};
-use syntax_trees::Name;
+use syntax_trees::{Name, Parsed, Parser, is_sign, pass, peek};
 
 // Whether an attribute of `give` can begin with the token.
 fn begins_flag(token: Token<'_>) -> bool
@@ -24,7 +23,7 @@ fn begins_flag(token: Token<'_>) -> bool
 
 // An attribute that is given, or after `~` one that is taken.
 #[tactic(auto, unfolding(crate::specs::Parse::flag))]
-fn flag<'t, 'a>(parser: &mut Parser<'t, 'a>) -> Result<(bool, Name<'a>), ParseError>
+fn flag<'t, 'a>(parser: &mut Parser<'t, 'a>) -> Parsed<(bool, Name<'a>)>
     ensures { Takes flag_tree result parser.new (parts.flag (ahead parser.old)) }
 {
     if is_sign(peek(parser.tokens), Sign::Tilde) {
@@ -42,8 +41,8 @@ fn flag<'t, 'a>(parser: &mut Parser<'t, 'a>) -> Result<(bool, Name<'a>), ParseEr
 ///
 /// `Fault::Grammar` at a token that is neither a name nor `~`, and after `~` at one that is no
 /// name.
-#[tactic(auto, unfolding(crate::specs::Parse::flags), using(syntax_parsing::proofs::Loops::repeated_out, syntax_parsing::proofs::Loops::repeated_done, syntax_parsing::proofs::Loops::repeated_more, syntax_parsing::proofs::Loops::repeated_fails))]
-pub fn flags<'t, 'a>(parser: &mut Parser<'t, 'a>) -> Result<Vec<(bool, Name<'a>)>, ParseError>
+#[tactic(auto, unfolding(crate::specs::Parse::flags), using(syntax_trees::proofs::Loops::repeated_out, syntax_trees::proofs::Loops::repeated_done, syntax_trees::proofs::Loops::repeated_more, syntax_trees::proofs::Loops::repeated_fails))]
+pub fn flags<'t, 'a>(parser: &mut Parser<'t, 'a>) -> Parsed<Vec<(bool, Name<'a>)>>
     ensures { Takes (λ xs. map flag_tree xs.items) result parser.new
         (parts.flags (ahead parser.old)) }
 {

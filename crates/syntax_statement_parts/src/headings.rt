@@ -1,7 +1,7 @@
 //! What stands in the parentheses of a `for`, read from tokens.
 
 ghost use Rattle.std.specs.Prelude.{◌≡◌, ◌<◌, IfOk};
-ghost use Rattle.syntax_parsing.specs.Returned.{ahead, Takes};
+ghost use Rattle.syntax_trees.specs.Returned.{ahead, Takes};
 ghost use Rattle.syntax_statement_parts.specs.Grammar as grammar;
 ghost use Rattle.syntax_statement_parts.specs.Views.{part_tree, heading_tree};
 ghost use Rattle.syntax_statement_parts.specs.Parse as spec;
@@ -10,8 +10,7 @@ use crate::effects::has_effect;
 use crate::tree::Heading;
 use syntax_expressions::expression;
 use syntax_lexer::Sign;
-use syntax_parsing::{Fault, ParseError, Parser, expect, fault_at, is_sign, open, peek};
-use syntax_trees::Expression;
+use syntax_trees::{Expression, Fault, Parsed, Parser, expect, fault_at, is_sign, open, peek};
 
 // An expression, where the sign that follows it is not the next token.
 #[tactic(auto, unfolding(crate::specs::Parse::optional))]
@@ -19,7 +18,7 @@ fn optional<'t, 'a>(
     parser: &mut Parser<'t, 'a>,
     depth: usize,
     after: Sign,
-) -> Result<Option<Box<Expression<'a>>>, ParseError>
+) -> Parsed<Option<Box<Expression<'a>>>>
     ensures { Takes part_tree result parser.new (spec.optional depth after (ahead parser.old)) }
 {
     if is_sign(peek(parser.tokens), after) {
@@ -47,7 +46,7 @@ fn optional_effect<'t, 'a>(
     parser: &mut Parser<'t, 'a>,
     depth: usize,
     after: Sign,
-) -> Result<Option<Box<Expression<'a>>>, ParseError>
+) -> Parsed<Option<Box<Expression<'a>>>>
     ensures { Takes part_tree result parser.new
         (spec.optional_effect depth after (ahead parser.old)) }
 {
@@ -64,10 +63,7 @@ fn optional_effect<'t, 'a>(
 
 // The parts, with the parenthesis after them.
 #[tactic(auto, unfolding(crate::specs::Parse::heading))]
-fn heading<'t, 'a>(
-    parser: &mut Parser<'t, 'a>,
-    depth: usize,
-) -> Result<Box<Heading<'a>>, ParseError>
+fn heading<'t, 'a>(parser: &mut Parser<'t, 'a>, depth: usize) -> Parsed<Box<Heading<'a>>>
     ensures { Takes (λ x. heading_tree x.value) result parser.new
         (spec.heading depth (ahead parser.old)) }
 {
@@ -95,7 +91,7 @@ fn heading<'t, 'a>(
 pub fn enclosed_heading<'t, 'a>(
     parser: &mut Parser<'t, 'a>,
     depth: usize,
-) -> Result<Box<Heading<'a>>, ParseError>
+) -> Parsed<Box<Heading<'a>>>
     ensures gives { Takes (λ x. heading_tree x.value) result parser.new
         (spec.enclosed_heading depth (ahead parser.old)) }
     ensures open { IfOk result (λ x. 0 < depth) }

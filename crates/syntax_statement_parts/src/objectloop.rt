@@ -3,16 +3,17 @@
 ghost use Rattle.std.specs.Prelude.{◌≡◌, ◌<◌, IfOk};
 ghost use Rattle.std.specs.Option.{option_map};
 ghost use Rattle.syntax_trees.specs.Views.{name_tree, expression_tree};
-ghost use Rattle.syntax_parsing.specs.Returned.{ahead, Takes};
+ghost use Rattle.syntax_trees.specs.Returned.{ahead, Takes};
 ghost use Rattle.syntax_statement_parts.specs.Views.{part_tree, loop_tree};
 ghost use Rattle.syntax_statement_parts.specs.Parse as spec;
 
 use crate::tree::Loop;
 use syntax_expression_parts::name_of;
-use syntax_expressions::unassigned;
+use syntax_expressions::condition;
 use syntax_lexer::Sign;
-use syntax_parsing::{Fault, ParseError, Parser, expect, fault_at, open, peek};
-use syntax_trees::{Containment, Expression, Name};
+use syntax_trees::{
+    Containment, Expression, Fault, Name, Parsed, Parser, expect, fault_at, open, peek,
+};
 
 // The name that the expression is alone.
 fn name_alone<'a>(e: &Expression<'a>) -> Option<Name<'a>>
@@ -117,14 +118,14 @@ fn loop_of<'a>(variable: Name<'a>, found: Box<Expression<'a>>) -> Loop<'a>
 
 // What the loop goes over, with the parenthesis after it.
 #[tactic(auto, unfolding(crate::specs::Parse::looped), using(syntax_expression_parts::proofs::NamesRead::name_found, syntax_expression_parts::proofs::NamesRead::no_name))]
-fn looped<'t, 'a>(parser: &mut Parser<'t, 'a>, depth: usize) -> Result<Box<Loop<'a>>, ParseError>
+fn looped<'t, 'a>(parser: &mut Parser<'t, 'a>, depth: usize) -> Parsed<Box<Loop<'a>>>
     ensures { Takes (λ x. loop_tree x.value) result parser.new
         (spec.looped depth (ahead parser.old)) }
 {
     let Some(variable) = name_of(peek(parser.tokens)) else {
         return Err(fault_at(Fault::Grammar, parser.tokens));
     };
-    let found = unassigned(parser, depth)?;
+    let found = condition(parser, depth)?;
     expect(parser, Sign::CloseParenthesis)?;
     Ok(Box::new(parser.alloc, loop_of(variable, found))?)
 }
@@ -133,13 +134,10 @@ fn looped<'t, 'a>(parser: &mut Parser<'t, 'a>, depth: usize) -> Result<Box<Loop<
 ///
 /// # Errors
 ///
-/// Those of `unassigned`; `Fault::Grammar` where a parenthesis is missing, and at a first token
+/// Those of `condition`; `Fault::Grammar` where a parenthesis is missing, and at a first token
 /// that is no name; `Fault::Deep` where no nesting is left.
 #[tactic(auto, unfolding(crate::specs::Parse::enclosed_loop), using(crate::proofs::Inside::looped_zero, crate::proofs::Inside::looped_more))]
-pub fn enclosed_loop<'t, 'a>(
-    parser: &mut Parser<'t, 'a>,
-    depth: usize,
-) -> Result<Box<Loop<'a>>, ParseError>
+pub fn enclosed_loop<'t, 'a>(parser: &mut Parser<'t, 'a>, depth: usize) -> Parsed<Box<Loop<'a>>>
     ensures gives { Takes (λ x. loop_tree x.value) result parser.new
         (spec.enclosed_loop depth (ahead parser.old)) }
     ensures open { IfOk result (λ x. 0 < depth) }

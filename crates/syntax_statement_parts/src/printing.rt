@@ -1,7 +1,7 @@
 //! What `print` prints, read from tokens.
 
 ghost use Rattle.std.specs.Prelude.{map};
-ghost use Rattle.syntax_parsing.specs.Returned.{ahead, Takes};
+ghost use Rattle.syntax_trees.specs.Returned.{ahead, Takes};
 ghost use Rattle.syntax_statement_parts.specs.Tree as tree;
 ghost use Rattle.syntax_statement_parts.specs.Views.{item_tree};
 ghost use Rattle.syntax_statement_parts.specs.Parse as spec;
@@ -9,13 +9,11 @@ ghost use Rattle.syntax_statement_parts.specs.Parse as spec;
 use crate::tree::PrintItem;
 use syntax_expressions::expression;
 use syntax_lexer::{Kind, Sign, Word};
-use syntax_parsing::{
-    ParseError, Parser, expect, is_sign, is_word, open, pass, peek, position, skip,
-};
+use syntax_trees::{Parsed, Parser, expect, is_sign, is_word, open, pass, peek, position, skip};
 
 // `(char)` and a value, where its first two tokens have been seen.
 #[tactic(auto, unfolding(crate::specs::Parse::cast), using(crate::proofs::Inside::opened_zero, crate::proofs::Inside::opened_more))]
-fn character<'t, 'a>(parser: &mut Parser<'t, 'a>, depth: usize) -> Result<PrintItem<'a>, ParseError>
+fn character<'t, 'a>(parser: &mut Parser<'t, 'a>, depth: usize) -> Parsed<PrintItem<'a>>
     ensures { Takes item_tree result parser.new
         (spec.cast depth tree.character_item (ahead parser.old)) }
 {
@@ -32,7 +30,7 @@ fn character<'t, 'a>(parser: &mut Parser<'t, 'a>, depth: usize) -> Result<PrintI
 
 // The same of `(object)`.
 #[tactic(auto, unfolding(crate::specs::Parse::cast), using(crate::proofs::Inside::opened_zero, crate::proofs::Inside::opened_more))]
-fn object<'t, 'a>(parser: &mut Parser<'t, 'a>, depth: usize) -> Result<PrintItem<'a>, ParseError>
+fn object<'t, 'a>(parser: &mut Parser<'t, 'a>, depth: usize) -> Parsed<PrintItem<'a>>
     ensures { Takes item_tree result parser.new
         (spec.cast depth tree.object_item (ahead parser.old)) }
 {
@@ -48,7 +46,7 @@ fn object<'t, 'a>(parser: &mut Parser<'t, 'a>, depth: usize) -> Result<PrintItem
 }
 
 #[tactic(auto, unfolding(crate::specs::Parse::item, crate::specs::Parse::value))]
-fn item<'t, 'a>(parser: &mut Parser<'t, 'a>, depth: usize) -> Result<PrintItem<'a>, ParseError>
+fn item<'t, 'a>(parser: &mut Parser<'t, 'a>, depth: usize) -> Parsed<PrintItem<'a>>
     ensures { Takes item_tree result parser.new (spec.item depth (ahead parser.old)) }
 {
     let first = peek(parser.tokens);
@@ -75,11 +73,8 @@ fn item<'t, 'a>(parser: &mut Parser<'t, 'a>, depth: usize) -> Result<PrintItem<'
 ///
 /// Those of `expression`; and `Fault::Deep` at the parenthesis of `(char)` or `(object)` where no
 /// nesting is left.
-#[tactic(auto, unfolding(crate::specs::Parse::items, syntax_parsing::specs::Parse::list), using(syntax_parsing::proofs::Loops::further_out, syntax_parsing::proofs::Loops::further_done, syntax_parsing::proofs::Loops::further_more, syntax_parsing::proofs::Loops::further_fails))]
-pub fn items<'t, 'a>(
-    parser: &mut Parser<'t, 'a>,
-    depth: usize,
-) -> Result<Vec<PrintItem<'a>>, ParseError>
+#[tactic(auto, unfolding(crate::specs::Parse::items, syntax_trees::specs::Parse::list), using(syntax_trees::proofs::Loops::further_out, syntax_trees::proofs::Loops::further_done, syntax_trees::proofs::Loops::further_more, syntax_trees::proofs::Loops::further_fails))]
+pub fn items<'t, 'a>(parser: &mut Parser<'t, 'a>, depth: usize) -> Parsed<Vec<PrintItem<'a>>>
     ensures { Takes (λ xs. map item_tree xs.items) result parser.new
         (spec.items depth (ahead parser.old)) }
 {

@@ -2,19 +2,18 @@
 
 ghost use Rattle.std.specs.Prelude.{◌≡◌, map};
 ghost use Rattle.syntax_lexer.specs.Token.{lexeme, lexemes};
-ghost use Rattle.syntax_parsing.specs.Parse.{head};
-ghost use Rattle.syntax_parsing.specs.Returned.{ahead, Takes};
+ghost use Rattle.syntax_trees.specs.Parse.{head};
+ghost use Rattle.syntax_trees.specs.Returned.{ahead, Takes};
 ghost use Rattle.syntax_statement_parts.specs.Nesting as nesting;
 ghost use Rattle.syntax_statement_parts.specs.Views.{literal_tree, range_tree};
 ghost use Rattle.syntax_statement_parts.specs.Parse as spec;
 
 use crate::tree::{Literal, Range};
 use syntax_lexer::{Kind, Sign, Token, Word};
-use syntax_parsing::{Fault, ParseError, Parser, fault_at, is_sign, is_word, pass, peek, skip};
-use syntax_trees::Name;
+use syntax_trees::{Fault, Name, Parsed, Parser, fault_at, is_sign, is_word, pass, peek, skip};
 
 // The number after a `-`.
-fn negative<'t, 'a>(parser: &mut Parser<'t, 'a>) -> Result<Literal<'a>, ParseError>
+fn negative<'t, 'a>(parser: &mut Parser<'t, 'a>) -> Parsed<Literal<'a>>
     ensures { Takes literal_tree result parser.new
         (spec.negative_on (head (ahead parser.old)) (ahead parser.old)) }
 {
@@ -33,7 +32,7 @@ fn negative<'t, 'a>(parser: &mut Parser<'t, 'a>) -> Result<Literal<'a>, ParseErr
 ///
 /// `Fault::Grammar`: the tokens begin no value.
 #[tactic(auto, unfolding(crate::specs::Parse::known_value))]
-pub fn known_value<'t, 'a>(parser: &mut Parser<'t, 'a>) -> Result<Literal<'a>, ParseError>
+pub fn known_value<'t, 'a>(parser: &mut Parser<'t, 'a>) -> Parsed<Literal<'a>>
     ensures { Takes literal_tree result parser.new (spec.known_value (ahead parser.old)) }
 {
     let opening = parser.tokens;
@@ -106,7 +105,7 @@ pub fn begins_case(tokens: &[Token<'_>]) -> bool
 
 // The values for which a case is meant: one alone, or those from one to another.
 #[tactic(auto, unfolding(crate::specs::Parse::range))]
-fn range<'t, 'a>(parser: &mut Parser<'t, 'a>) -> Result<Range<'a>, ParseError>
+fn range<'t, 'a>(parser: &mut Parser<'t, 'a>) -> Parsed<Range<'a>>
     ensures { Takes range_tree result parser.new (spec.range (ahead parser.old)) }
 {
     let low = known_value(parser)?;
@@ -127,8 +126,8 @@ fn range<'t, 'a>(parser: &mut Parser<'t, 'a>) -> Result<Range<'a>, ParseError>
 /// # Errors
 ///
 /// `Fault::Grammar`: the tokens begin no value; `Memory`: a growth is refused.
-#[tactic(auto, unfolding(crate::specs::Parse::ranges, syntax_parsing::specs::Parse::list), using(syntax_parsing::proofs::Loops::further_out, syntax_parsing::proofs::Loops::further_done, syntax_parsing::proofs::Loops::further_more, syntax_parsing::proofs::Loops::further_fails))]
-pub fn ranges<'t, 'a>(parser: &mut Parser<'t, 'a>) -> Result<Vec<Range<'a>>, ParseError>
+#[tactic(auto, unfolding(crate::specs::Parse::ranges, syntax_trees::specs::Parse::list), using(syntax_trees::proofs::Loops::further_out, syntax_trees::proofs::Loops::further_done, syntax_trees::proofs::Loops::further_more, syntax_trees::proofs::Loops::further_fails))]
+pub fn ranges<'t, 'a>(parser: &mut Parser<'t, 'a>) -> Parsed<Vec<Range<'a>>>
     ensures { Takes (λ xs. map range_tree xs.items) result parser.new
         (spec.ranges (ahead parser.old)) }
 {

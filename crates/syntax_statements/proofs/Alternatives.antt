@@ -8,7 +8,7 @@ use Rattle.syntax_lexer.specs.declared.token.Word.TheVariants as w
 use Rattle.syntax_lexer.specs.Token.{Lexeme, name, number, text, character, dictionary_word, reserved, sign}
 use Rattle.syntax_lexer.specs.Token.{position_of}
 use Rattle.syntax_trees.specs.Tree.{ExpressionTree}
-use Rattle.syntax_parsing.specs.Parse.{◌>>=◌, head, is_sign, is_word, expect, expect_word}
+use Rattle.syntax_trees.specs.Parse.{◌>>=◌, head, is_sign, is_word, expect, expect_word}
 use Rattle.syntax_expression_parts.specs.Operators.{begins_expression}
 use Rattle.syntax_expression_parts.specs.Parse.{expect_name}
 use Rattle.syntax_expressions.specs.Parse.{whole, nested, expression}
@@ -24,7 +24,7 @@ use Rattle.syntax_statements.specs.Tree.{switch_on, break_at, continue_at, retur
 use Rattle.syntax_statements.specs.Tree.{return_false, quit, read_line, effect, give, move, remove, loop_over}
 use Rattle.syntax_statements.specs.Grammar.{else_follows}
 use Rattle.syntax_statements.specs.Nesting.{begins_statement}
-use Rattle.syntax_statements.specs.Parse.{ended, line_read, printed, returned, alone, choice, repetition, entered}
+use Rattle.syntax_statements.specs.Parse.{ended, line_read, printed, returned, alone, choice, repetition, do_body}
 use Rattle.syntax_statements.specs.Parse.{until, iteration, one_case, cases, otherwise, selection, braced}
 use Rattle.syntax_statements.specs.Parse.{statement_over, inside, braces, bodies, statement, given, moved, removed}
 use Rattle.syntax_statements.specs.Parse.{traversal}
@@ -180,13 +180,13 @@ module _ (d : ℕ) where
 
   pub step_entered : {n : ℕ} {x : StatementTree} {r : List Lexeme} (ts : List Lexeme)
       → begins_statement (head ts) ≡ true
-      → Limited (inside d ts) d n x r → Limited (entered (inside d) ts) d n x r
-  unfolding entered
+      → Limited (inside d ts) d n x r → Limited (do_body (inside d) ts) d n x r
+  unfolding do_body
   step_entered ts e a = same {S = inside d ts} (rw e refl) a
 
   pub step_do : {n l : ℕ} {x : StatementTree} {c : ExpressionTree} (p u q : Position) (ts m r : List Lexeme)
       → length r ≤ length m
-      → Limited (entered (inside d) ts) d n x (reserved w.Until u ∷ m)
+      → Limited (do_body (inside d) ts) d n x (reserved w.Until u ∷ m)
       → Limited (enclosed_condition d m) d l c (sign s.Semicolon q ∷ r)
       → Limited (statement d (reserved w.Do p ∷ ts)) d (max n l) (do_until p x c) r
   unfolding statement statement_over until expect_word

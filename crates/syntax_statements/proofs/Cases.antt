@@ -5,10 +5,10 @@ use Rattle.syntax_lexer.specs.declared.token.Sign.TheVariants as s
 use Rattle.syntax_lexer.specs.declared.token.Word.TheVariants as w
 use Rattle.syntax_lexer.specs.Token.{Lexeme}
 use Rattle.syntax_trees.specs.Tree.{ExpressionTree}
-use Rattle.syntax_parsing.specs.Stop.{Stop, unfit}
-use Rattle.syntax_parsing.specs.declared.error.ParseError.{ParseError}
-use Rattle.syntax_parsing.specs.declared.error.ParseError.TheVariants as errors
-use Rattle.syntax_parsing.specs.Parse.{◌>>=◌, Fails, Parse, head, tail, is_sign, is_word, expect}
+use Rattle.syntax_trees.specs.Stop.{Stop, unfit}
+use Rattle.syntax_trees.specs.declared.error.ParseError.{ParseError}
+use Rattle.syntax_trees.specs.declared.error.ParseError.TheVariants as errors
+use Rattle.syntax_trees.specs.Parse.{◌>>=◌, Fails, Parse, head, tail, is_sign, is_word, expect}
 use Rattle.syntax_statement_parts.specs.Tree.{LoopTree}
 use Rattle.syntax_statement_parts.specs.Views.{HeadingTree}
 use Rattle.syntax_statement_parts.specs.Parse.{enclosed_condition, enclosed_heading, enclosed_loop}

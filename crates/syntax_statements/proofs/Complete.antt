@@ -4,7 +4,7 @@ use Rattle.syntax_lexer.specs.declared.token.Position.{Position}
 use Rattle.syntax_lexer.specs.declared.token.Sign.TheVariants as s
 use Rattle.syntax_lexer.specs.declared.token.Word.TheVariants as w
 use Rattle.syntax_lexer.specs.Token.{Lexeme, name, number, character, dictionary_word, reserved, sign}
-use Rattle.syntax_parsing.specs.Parse.{head, is_sign, as_long, repeated}
+use Rattle.syntax_trees.specs.Parse.{head, is_sign, as_long, repeated}
 use Rattle.syntax_expressions.specs.Grammar.{nesting}
 use Rattle.syntax_expression_parts.specs.Operators.{begins_expression}
 use Rattle.syntax_expressions.proofs.Begins.{first_E}

@@ -8,8 +8,8 @@ use Rattle.syntax_lexer.specs.declared.token.Sign.TheVariants as s
 use Rattle.syntax_lexer.specs.declared.token.Word.TheVariants as w
 use Rattle.syntax_lexer.specs.Token.{Lexeme, reserved, sign, position_of}
 use Rattle.syntax_trees.specs.Tree.{ExpressionTree}
-use Rattle.syntax_parsing.specs.Stop.{Stop, deep, TooDeep}
-use Rattle.syntax_parsing.specs.Parse.{◌>>=◌, Parse, head, tail, is_sign, is_word, expect, as_long}
+use Rattle.syntax_trees.specs.Stop.{Stop, deep, TooDeep}
+use Rattle.syntax_trees.specs.Parse.{◌>>=◌, Parse, head, tail, is_sign, is_word, expect, as_long}
 use Rattle.syntax_expression_parts.specs.Operators.{begins_expression}
 use Rattle.syntax_expressions.specs.Nesting.{DeepE, deep_e_left, deep_e_first, deep_e_right, DeepE1, deep_e1_first}
 use Rattle.syntax_expressions.specs.Nesting.{deep_e1_next, DeepN1, deep_n1_plain, deep_n1_not, deep_n1_in, DeepE2}

@@ -6,7 +6,7 @@ use Rattle.syntax_lexer.specs.declared.token.Sign.TheVariants as s
 use Rattle.syntax_lexer.specs.declared.token.Word.TheVariants as w
 use Rattle.syntax_lexer.specs.Token.{Lexeme, reserved, sign}
 use Rattle.syntax_trees.specs.Tree.{ExpressionTree}
-use Rattle.syntax_parsing.specs.Parse.{◌>>=◌, head, expect, as_long, repeated}
+use Rattle.syntax_trees.specs.Parse.{◌>>=◌, head, expect, as_long, repeated}
 use Rattle.syntax_expressions.specs.Grammar.{IsE, nesting}
 use Rattle.syntax_expressions.specs.Parse.{nested}
 use Rattle.syntax_expressions.proofs.Limited as limited

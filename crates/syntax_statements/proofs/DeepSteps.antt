@@ -6,7 +6,7 @@ use Rattle.syntax_lexer.specs.declared.token.Sign.TheVariants as s
 use Rattle.syntax_lexer.specs.declared.token.Word.TheVariants as w
 use Rattle.syntax_lexer.specs.Token.{Lexeme, name, reserved, sign}
 use Rattle.syntax_trees.specs.Tree.{ExpressionTree}
-use Rattle.syntax_parsing.specs.Parse.{◌>>=◌, head, is_sign, expect, expect_word, as_long, repeated}
+use Rattle.syntax_trees.specs.Parse.{◌>>=◌, head, is_sign, expect, expect_word, as_long, repeated}
 use Rattle.syntax_expression_parts.specs.Operators.{begins_expression}
 use Rattle.syntax_expression_parts.specs.Parse.{expect_name}
 use Rattle.syntax_expressions.specs.Parse.{whole, nested, condition, expression}
@@ -29,7 +29,7 @@ use Rattle.syntax_statements.specs.Nesting.{deep_s_switch_cases, deep_s_return, 
 use Rattle.syntax_statements.specs.Nesting.{deep_s_move_to, deep_s_remove, deep_s_effect}
 use Rattle.syntax_statements.specs.Nesting.{DeepCases}
 use Rattle.syntax_statements.specs.Nesting.{deep_cases_first, deep_cases_next, deep_cases_default}
-use Rattle.syntax_statements.specs.Parse.{printed, returned, given, moved, removed, alone, braced, entered, choice}
+use Rattle.syntax_statements.specs.Parse.{printed, returned, given, moved, removed, alone, braced, do_body, choice}
 use Rattle.syntax_statements.specs.Parse.{repetition, until, iteration, traversal, selection}
 use Rattle.syntax_statements.specs.Parse.{statement_over, inside, braces, bodies, statement, ended}
 use Rattle.syntax_statements.proofs.KnownValues.{case_Ranges}
@@ -253,9 +253,9 @@ module _ (d : ℕ) {n : ℕ} {m u : List Lexeme} where
 
   pub do_in : (p : Position) → begins_statement (head m) ≡ true → Deepened (inside d m) d n m u
       → Deepened (statement d (reserved w.Do p ∷ m)) d n (reserved w.Do p ∷ m) u
-  unfolding statement statement_over until entered
+  unfolding statement statement_over until do_body
   do_in p e h =
-      let body : Deepened (entered (inside d) m) d n m u = deep_same (rw e refl) (omega arith) h in
+      let body : Deepened (do_body (inside d) m) d n m u = deep_same (rw e refl) (omega arith) h in
       deep_same refl (omega arith) (deep_in _ body)
 
 module _ (d : ℕ) {n l : ℕ} {m k u : List Lexeme} (p : Position) where
@@ -287,7 +287,7 @@ module _ (d : ℕ) {n l : ℕ} {m k u : List Lexeme} (p : Position) where
     step_while_do h = deep_same {us = m} refl (omega arith)
         (deep_after {us = k} _ t (omega (arith, less)) (omega arith) (deep_in _ h))
 
-  pub step_until : {x : StatementTree} {e : Position} → Limited (entered (inside d) m) d l x (reserved w.Until e ∷ k)
+  pub step_until : {x : StatementTree} {e : Position} → Limited (do_body (inside d) m) d l x (reserved w.Until e ∷ k)
       → length k < length m → Deepened (enclosed_condition d k) d n k u
       → Deepened (statement d (reserved w.Do p ∷ m)) d n (reserved w.Do p ∷ m) u
   unfolding statement statement_over until expect_word

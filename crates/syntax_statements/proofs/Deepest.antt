@@ -4,8 +4,8 @@ use Rattle.std.proofs.Common.{arith, ◌<◌}
 use Rattle.syntax_lexer.specs.declared.token.Position.{Position}
 use Rattle.syntax_lexer.specs.declared.token.Sign.TheVariants as s
 use Rattle.syntax_lexer.specs.Token.{Lexeme, sign}
-use Rattle.syntax_parsing.specs.Stop.{Stop}
-use Rattle.syntax_parsing.specs.Parse.{expect, as_long, repeated}
+use Rattle.syntax_trees.specs.Stop.{Stop}
+use Rattle.syntax_trees.specs.Parse.{expect, as_long, repeated}
 use Rattle.syntax_expressions.proofs.Limited.{Limited}
 use Rattle.syntax_statement_parts.specs.Tree.{LoopTree}
 use Rattle.syntax_statement_parts.specs.Views.{HeadingTree}

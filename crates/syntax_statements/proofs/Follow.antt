@@ -6,7 +6,7 @@ use Rattle.syntax_lexer.specs.Token.{Lexeme, reserved, sign}
 use Rattle.syntax_trees.specs.declared.tree.Relative.{Relative}
 use Rattle.syntax_trees.specs.declared.tree.Step.{Step}
 use Rattle.syntax_trees.specs.Tree.{ExpressionTree}
-use Rattle.syntax_parsing.specs.Parse.{head, tail, is_sign, is_word}
+use Rattle.syntax_trees.specs.Parse.{head, tail, is_sign, is_word}
 use Rattle.syntax_expression_parts.specs.Operators.{stepping, relating, begins_expression}
 use Rattle.syntax_expressions.specs.Grammar.{IsE, e_plain, e_assign, IsE1, e1_plain, e1_logical, IsN1, n1_plain, n1_not}
 use Rattle.syntax_expressions.specs.Grammar.{IsE2, e2_plain, e2_compare, e2_equal, e2_contained, e2_tested, IsE3}

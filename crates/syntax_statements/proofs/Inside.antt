@@ -4,9 +4,9 @@ use Rattle.std.proofs.Common.{arith}
 use Rattle.std.specs.Prelude.{map}
 use Rattle.syntax_lexer.specs.declared.token.Token.{Token}
 use Rattle.syntax_lexer.specs.Token.{Lexeme, lexemes}
-use Rattle.syntax_parsing.specs.Stop.{deep}
-use Rattle.syntax_parsing.specs.Parse.{head, as_long, repeated}
-use Rattle.syntax_parsing.proofs.Loops.{joined, joined_none}
+use Rattle.syntax_trees.specs.Stop.{deep}
+use Rattle.syntax_trees.specs.Parse.{head, as_long, repeated}
+use Rattle.syntax_trees.proofs.Loops.{joined, joined_none}
 use Rattle.syntax_statements.specs.declared.tree.Statement.{Statement}
 use Rattle.syntax_statements.specs.Views.{statement_tree}
 use Rattle.syntax_statements.specs.Nesting.{begins_statement, begins_in_case}

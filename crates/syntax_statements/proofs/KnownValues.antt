@@ -6,8 +6,8 @@ use Rattle.syntax_lexer.specs.declared.token.Position.{Position}
 use Rattle.syntax_lexer.specs.declared.token.Sign.TheVariants as s
 use Rattle.syntax_lexer.specs.declared.token.Word.TheVariants as w
 use Rattle.syntax_lexer.specs.Token.{Lexeme, name, number, character, dictionary_word, reserved, sign}
-use Rattle.syntax_parsing.specs.Stop.{Stop}
-use Rattle.syntax_parsing.specs.Parse.{◌>>=◌, head, tail, is_sign, is_word, further, list}
+use Rattle.syntax_trees.specs.Stop.{Stop}
+use Rattle.syntax_trees.specs.Parse.{◌>>=◌, head, tail, is_sign, is_word, further, list}
 use Rattle.syntax_expression_parts.proofs.Judged.{Judged, judged_read, judged_grammar, judged_then, judged_by}
 use Rattle.syntax_expressions.proofs.Repeated.{list_judged}
 use Rattle.syntax_expression_parts.proofs.Tokens.{at_word, is_that_sign}

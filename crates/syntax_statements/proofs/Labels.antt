@@ -13,7 +13,7 @@ use Rattle.syntax_trees.specs.declared.tree.Relative.{Relative}
 use Rattle.syntax_trees.specs.declared.tree.Step.{Step}
 use Rattle.syntax_trees.specs.declared.tree.Width.{Width}
 use Rattle.syntax_trees.specs.Tree.{ExpressionTree}
-use Rattle.syntax_parsing.specs.Parse.{head}
+use Rattle.syntax_trees.specs.Parse.{head}
 use Rattle.syntax_expression_parts.specs.Operators.{logical, comparing, equating, containing, testing, adding, scaling}
 use Rattle.syntax_expression_parts.specs.Operators.{stepping, relating, indexing}
 use Rattle.syntax_expressions.specs.Grammar.{IsE, e_plain, e_assign, IsE1, e1_plain, e1_logical, IsN1, n1_plain, n1_not}

@@ -8,7 +8,7 @@ use Rattle.syntax_lexer.specs.declared.token.Word.TheVariants as w
 use Rattle.syntax_lexer.specs.Token.{Lexeme, name, reserved, sign, position_of}
 use Rattle.syntax_trees.specs.Tree as tree
 use Rattle.syntax_trees.specs.Tree.{NameTree, ExpressionTree}
-use Rattle.syntax_parsing.specs.Parse.{head, expect}
+use Rattle.syntax_trees.specs.Parse.{head, expect}
 use Rattle.syntax_expressions.specs.Grammar.{IsE1, e1_plain, n1_plain, e2_plain, e2_contained, IsE3, e3_plain, e4_plain}
 use Rattle.syntax_expressions.specs.Grammar.{n4_plain, e5_plain, u_plain, p_name, nesting}
 use Rattle.syntax_expressions.specs.Nesting.{DeepE1}

@@ -6,7 +6,7 @@ use Rattle.syntax_lexer.specs.declared.token.Sign.{Sign}
 use Rattle.syntax_lexer.specs.declared.token.Sign.TheVariants as s
 use Rattle.syntax_lexer.specs.Token.{Lexeme, sign}
 use Rattle.syntax_trees.specs.Tree.{ExpressionTree}
-use Rattle.syntax_parsing.specs.Parse.{◌>>=◌, Parse, head, is_sign, as_long, repeated}
+use Rattle.syntax_trees.specs.Parse.{◌>>=◌, Parse, head, is_sign, as_long, repeated}
 use Rattle.syntax_expression_parts.specs.Operators.{begins_expression}
 use Rattle.syntax_expressions.proofs.Follow.{Stops}
 use Rattle.syntax_expressions.proofs.Begins.{first_E}

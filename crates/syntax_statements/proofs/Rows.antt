@@ -6,14 +6,14 @@ use Rattle.std.proofs.lemmas.List.{map_push}
 use Rattle.syntax_lexer.specs.declared.token.Sign.TheVariants as s
 use Rattle.syntax_lexer.specs.declared.token.Word.TheVariants as w
 use Rattle.syntax_lexer.specs.Token.{Lexeme, reserved, sign}
-use Rattle.syntax_parsing.specs.Stop.{Stop, stop_of}
-use Rattle.syntax_parsing.specs.declared.error.Fault.TheVariants as faults
-use Rattle.syntax_parsing.specs.declared.error.ParseError.{ParseError}
-use Rattle.syntax_parsing.specs.declared.error.ParseError.TheVariants as errors
-use Rattle.syntax_parsing.specs.declared.parser.Parser.{Parser}
-use Rattle.syntax_parsing.specs.Parse.{◌>>=◌, Fails, Parse, head, tail, is_sign, as_long, repeated}
-use Rattle.syntax_parsing.specs.Returned.{ahead}
-use Rattle.syntax_parsing.proofs.Loops.{joined}
+use Rattle.syntax_trees.specs.Stop.{Stop, stop_of}
+use Rattle.syntax_trees.specs.declared.error.Fault.TheVariants as faults
+use Rattle.syntax_trees.specs.declared.error.ParseError.{ParseError}
+use Rattle.syntax_trees.specs.declared.error.ParseError.TheVariants as errors
+use Rattle.syntax_trees.specs.declared.parser.Parser.{Parser}
+use Rattle.syntax_trees.specs.Parse.{◌>>=◌, Fails, Parse, head, tail, is_sign, as_long, repeated}
+use Rattle.syntax_trees.specs.Returned.{ahead}
+use Rattle.syntax_trees.proofs.Loops.{joined}
 use Rattle.syntax_statements.specs.declared.tree.SimpleStatement.{SimpleStatement}
 use Rattle.syntax_statements.specs.declared.tree.Statement.{Statement}
 use Rattle.syntax_statements.specs.declared.tree.Statement.TheVariants as said

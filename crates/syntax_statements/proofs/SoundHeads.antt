@@ -7,7 +7,7 @@ use Rattle.syntax_lexer.specs.declared.token.Sign.TheVariants as s
 use Rattle.syntax_lexer.specs.declared.token.Word.TheVariants as w
 use Rattle.syntax_lexer.specs.Token.{Lexeme, reserved, sign, position_of}
 use Rattle.syntax_trees.specs.Tree.{ExpressionTree}
-use Rattle.syntax_parsing.specs.Parse.{head, tail, is_sign, expect}
+use Rattle.syntax_trees.specs.Parse.{head, tail, is_sign, expect}
 use Rattle.syntax_expressions.specs.Grammar.{IsE, nesting}
 use Rattle.syntax_expressions.specs.Nesting.{DeepE}
 use Rattle.syntax_expression_parts.proofs.Judged.{Judged, judged_read, judged_grammar, judged_deep, judged_then}

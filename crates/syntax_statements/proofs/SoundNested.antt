@@ -5,7 +5,7 @@ use Rattle.syntax_lexer.specs.declared.token.Position.{Position}
 use Rattle.syntax_lexer.specs.declared.token.Sign.TheVariants as s
 use Rattle.syntax_lexer.specs.declared.token.Word.TheVariants as w
 use Rattle.syntax_lexer.specs.Token.{Lexeme, reserved, sign, position_of}
-use Rattle.syntax_parsing.specs.Parse.{head, tail, is_word, expect, expect_word}
+use Rattle.syntax_trees.specs.Parse.{head, tail, is_word, expect, expect_word}
 use Rattle.syntax_expressions.specs.Grammar.{IsE}
 use Rattle.syntax_expressions.specs.Nesting.{DeepE}
 use Rattle.syntax_expression_parts.proofs.Judged.{Judged, judged_read, judged_grammar, judged_then, judged_after}
@@ -30,7 +30,7 @@ use Rattle.syntax_statements.specs.Nesting.{deep_s_for_body, deep_s_switch, deep
 use Rattle.syntax_statements.specs.Nesting.{deep_s_switch_cases, DeepInside, DeepCases, deep_cases_first}
 use Rattle.syntax_statements.specs.Nesting.{deep_cases_next, deep_cases_default, DeepInCase, deep_s_objectloop}
 use Rattle.syntax_statements.specs.Nesting.{deep_s_objectloop_body}
-use Rattle.syntax_statements.specs.Parse.{traversal, choice, repetition, entered, until, iteration, one_case, cases}
+use Rattle.syntax_statements.specs.Parse.{traversal, choice, repetition, do_body, until, iteration, one_case, cases}
 use Rattle.syntax_statements.specs.Parse.{otherwise, selection, braced, inside, braces, bodies}
 use Rattle.syntax_statements.proofs.KnownValues.{ranges_judged}
 use Rattle.syntax_statements.proofs.LoopHeads.{DeepLoop, nests_over, enclosed_loop_judged}
@@ -72,8 +72,8 @@ module _ (d : ℕ) (inner : Inner d) where
       (deep_s_do_begins e) (λ n x. deep_s_do x) z
 
   entered_judged : (p : Position) (ts : List Lexeme) → Judged (λ x r. IsS ts x r × (statement_nesting x < d))
-      (DeepS (suc d) (reserved w.Do p ∷ ts)) (entered (inside d) ts)
-  unfolding entered
+      (DeepS (suc d) (reserved w.Do p ∷ ts)) (do_body (inside d) ts)
+  unfolding do_body
   entered_judged p ts = judged_by (begins_statement (head ts)) _ _
       (λ e. judged_as (inner.in_statement ts) (λ a r h. h) (λ u z. do_begun p ts u e z)) (λ e. judged_grammar)
 

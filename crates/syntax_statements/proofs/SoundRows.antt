@@ -2,7 +2,7 @@
 use Rattle.std.proofs.Common.{◌≡◌, ◌&&◌, ℕ, zero, suc, ◌⊎◌, Bool, true, false, List, [], ◌∷◌, refl, inl}
 use Rattle.std.proofs.Common.{inr, ◌<◌, arith}
 use Rattle.syntax_lexer.specs.Token.{Lexeme}
-use Rattle.syntax_parsing.specs.Parse.{Parse, head, as_long, repeated}
+use Rattle.syntax_trees.specs.Parse.{Parse, head, as_long, repeated}
 use Rattle.syntax_expression_parts.proofs.Judged.{Judged, judged_read, judged_then, judged_by}
 
 -- one nesting further in, after a token that opened one

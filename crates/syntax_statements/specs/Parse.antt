@@ -7,9 +7,9 @@ use Rattle.syntax_lexer.specs.declared.token.Sign.TheVariants as s
 use Rattle.syntax_lexer.specs.declared.token.Word.TheVariants as w
 use Rattle.syntax_lexer.specs.Token.{Lexeme, text, reserved, sign, position_of}
 use Rattle.syntax_trees.specs.Tree.{ExpressionTree}
-use Rattle.syntax_parsing.specs.Stop.{Stop, unfit, deep}
-use Rattle.syntax_parsing.specs.Parse.{Parse, ◌>>=◌, head, tail, is_sign, is_word, expect, expect_word, as_long}
-use Rattle.syntax_parsing.specs.Parse.{repeated}
+use Rattle.syntax_trees.specs.Stop.{Stop, unfit, deep}
+use Rattle.syntax_trees.specs.Parse.{Parse, ◌>>=◌, head, tail, is_sign, is_word, expect, expect_word, as_long}
+use Rattle.syntax_trees.specs.Parse.{repeated}
 use Rattle.syntax_expression_parts.specs.Parse.{expect_name}
 use Rattle.syntax_expressions.specs.Parse.{nested, expression}
 use Rattle.syntax_statement_parts.specs.Parse.{flags, begins_value, ranges, items, enclosed_condition, enclosed_heading}
@@ -96,8 +96,8 @@ module _ (d : ℕ) where
   plain_on _ ts = alone ts
 
 -- the statement after `do`, over a statement one nesting further in
-unfoldable pub entered : Parse StatementTree → Parse StatementTree
-entered inside ts = if begins_statement (head ts) then inside ts else Err (unfit (length ts))
+unfoldable pub do_body : Parse StatementTree → Parse StatementTree
+do_body inside ts = if begins_statement (head ts) then inside ts else Err (unfit (length ts))
 
 -- over the statements of a block or of `default`, with the number of tokens that are left from the brace or the
 -- colon on
@@ -145,7 +145,7 @@ module _ (d : ℕ) where
 
     unfoldable pub until : Position → Parse StatementTree
     until p ts = do
-      x ← entered inside ts
+      x ← do_body inside ts
       u ← expect_word w.Until x.1
       c ← enclosed_condition d u
       ended (do_until p x.0 c.0) c.1

@@ -2,10 +2,10 @@
 use Rattle.std.specs.Prelude.{List, Result}
 use Rattle.std.specs.Global.{Box}
 use Rattle.syntax_lexer.specs.Token.{Lexeme}
-use Rattle.syntax_parsing.specs.Returned.{Takes}
-use Rattle.syntax_parsing.specs.Stop.{Stop}
-use Rattle.syntax_parsing.specs.declared.error.ParseError.{ParseError}
-use Rattle.syntax_parsing.specs.declared.parser.Parser.{Parser}
+use Rattle.syntax_trees.specs.Returned.{Takes}
+use Rattle.syntax_trees.specs.Stop.{Stop}
+use Rattle.syntax_trees.specs.declared.error.ParseError.{ParseError}
+use Rattle.syntax_trees.specs.declared.parser.Parser.{Parser}
 use Rattle.syntax_statements.specs.declared.tree.SimpleStatement.{SimpleStatement}
 use Rattle.syntax_statements.specs.declared.tree.Statement.{Statement}
 use Rattle.syntax_statements.specs.Tree.{StatementTree}

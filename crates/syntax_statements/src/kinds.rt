@@ -11,9 +11,8 @@ ghost use Rattle.syntax_statements.specs.Views.{statement_tree, case_tree, trees
 
 use crate::tree::Statement;
 use syntax_lexer::Position;
-use syntax_parsing::Parser;
 use syntax_statement_parts::{Heading, Loop, Range};
-use syntax_trees::Expression;
+use syntax_trees::{Expression, Parser};
 
 /// A block.
 pub fn block<'t, 'a>(_parser: &Parser<'t, 'a>, found: Vec<Statement<'a>>) -> Statement<'a>

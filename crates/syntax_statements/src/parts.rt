@@ -4,8 +4,8 @@
 
 ghost use Rattle.std.specs.Prelude.{Ok, map};
 ghost use Rattle.syntax_trees.specs.Views.{expression_tree};
-ghost use Rattle.syntax_parsing.specs.Parse as reading;
-ghost use Rattle.syntax_parsing.specs.Returned.{ahead};
+ghost use Rattle.syntax_trees.specs.Parse as reading;
+ghost use Rattle.syntax_trees.specs.Returned.{ahead};
 ghost use Rattle.syntax_statement_parts.specs.Views.{heading_tree, loop_tree};
 ghost use Rattle.syntax_statements.specs.Tree as tree;
 ghost use Rattle.syntax_statements.specs.Views.{statement_tree, simple_tree, case_tree, other_tree};
@@ -18,10 +18,9 @@ use crate::kinds;
 use crate::simple::simple;
 use crate::tree::{SimpleStatement, Statement};
 use syntax_lexer::{Position, Sign};
-use syntax_parsing::memory::{self, make_room, push, push_boxed};
-use syntax_parsing::{ParseError, Parser, expect, is_sign, pass, peek};
 use syntax_statement_parts::{Heading, Loop, Range};
-use syntax_trees::Expression;
+use syntax_trees::memory::{self, make_room, push, push_boxed};
+use syntax_trees::{Expression, Parsed, Parser, expect, is_sign, pass, peek};
 
 /// A statement in a box. Where memory is refused the statement is dropped here. The parser comes
 /// first here and in what follows, also where nothing is read: so the lifetimes of the arguments
@@ -30,7 +29,7 @@ use syntax_trees::Expression;
 pub fn in_box<'t, 'a>(
     parser: &Parser<'t, 'a>,
     statement: Statement<'a>,
-) -> Result<Box<Statement<'a>>, ParseError>
+) -> Parsed<Box<Statement<'a>>>
     ensures { TakesStatement result parser.now
         (Ok (statement_tree statement.entry, ahead parser.now)) }
 {
@@ -38,7 +37,7 @@ pub fn in_box<'t, 'a>(
 }
 
 /// `;` alone, which is read already.
-pub fn empty<'t, 'a>(parser: &Parser<'t, 'a>) -> Result<Box<Statement<'a>>, ParseError>
+pub fn empty<'t, 'a>(parser: &Parser<'t, 'a>) -> Parsed<Box<Statement<'a>>>
     ensures { TakesStatement result parser.now (Ok (tree.empty, ahead parser.now)) }
 {
     in_box(parser, Statement::Empty)
@@ -49,10 +48,7 @@ pub fn empty<'t, 'a>(parser: &Parser<'t, 'a>) -> Result<Box<Statement<'a>>, Pars
 /// # Errors
 ///
 /// Those of `simple`.
-pub fn plain<'t, 'a>(
-    parser: &mut Parser<'t, 'a>,
-    depth: usize,
-) -> Result<Box<Statement<'a>>, ParseError>
+pub fn plain<'t, 'a>(parser: &mut Parser<'t, 'a>, depth: usize) -> Parsed<Box<Statement<'a>>>
     ensures { TakesStatement result parser.new
         (spec.plain_on depth (reading.head (ahead parser.old)) (ahead parser.old)) }
 {
@@ -67,7 +63,7 @@ pub fn add_boxed<'t, 'a>(
     parser: &Parser<'t, 'a>,
     row: &mut Vec<Statement<'a>>,
     next: Box<Statement<'a>>,
-) -> Result<(), ParseError>
+) -> Parsed<()>
     ensures { AddsStatement result row.old.items row.new.items parser.now
         (Ok (statement_tree next.entry.value, ahead parser.now)) }
 {
@@ -75,10 +71,7 @@ pub fn add_boxed<'t, 'a>(
 }
 
 // `;` alone, which is read already, at the end of a row.
-fn add_empty<'t, 'a>(
-    parser: &Parser<'t, 'a>,
-    row: &mut Vec<Statement<'a>>,
-) -> Result<(), ParseError>
+fn add_empty<'t, 'a>(parser: &Parser<'t, 'a>, row: &mut Vec<Statement<'a>>) -> Parsed<()>
     ensures { AddsStatement result row.old.items row.new.items parser.now
         (Ok (tree.empty, ahead parser.now)) }
 {
@@ -90,7 +83,7 @@ fn add_simple<'t, 'a>(
     parser: &Parser<'t, 'a>,
     row: &mut Vec<Statement<'a>>,
     next: Box<SimpleStatement<'a>>,
-) -> Result<(), ParseError>
+) -> Parsed<()>
     ensures { AddsStatement result row.old.items row.new.items parser.now
         (Ok (simple_tree next.entry.value, ahead parser.now)) }
 {
@@ -115,7 +108,7 @@ pub fn add_flat<'t, 'a>(
     parser: &mut Parser<'t, 'a>,
     depth: usize,
     row: &mut Vec<Statement<'a>>,
-) -> Result<(), ParseError>
+) -> Parsed<()>
     ensures { AddsStatement result row.old.items row.new.items parser.new
         (rows.flat depth (ahead parser.old)) }
 {
@@ -134,7 +127,7 @@ fn closed<'t, 'a>(
     parser: &mut Parser<'t, 'a>,
     statement: Box<Statement<'a>>,
     sign: Sign,
-) -> Result<Box<Statement<'a>>, ParseError>
+) -> Parsed<Box<Statement<'a>>>
     ensures { TakesStatement result parser.new
         (spec.closed_by sign (statement_tree statement.entry.value) (ahead parser.old)) }
 {
@@ -151,7 +144,7 @@ fn closed<'t, 'a>(
 pub fn block<'t, 'a>(
     parser: &mut Parser<'t, 'a>,
     found: Vec<Statement<'a>>,
-) -> Result<Box<Statement<'a>>, ParseError>
+) -> Parsed<Box<Statement<'a>>>
     ensures { TakesStatement result parser.new
         (spec.block_of (map statement_tree found.entry.items) (ahead parser.old)) }
 {
@@ -167,7 +160,7 @@ pub fn if_then<'t, 'a>(
     position: Position,
     condition: Box<Expression<'a>>,
     first: Box<Statement<'a>>,
-) -> Result<Box<Statement<'a>>, ParseError>
+) -> Parsed<Box<Statement<'a>>>
     ensures { TakesStatement result parser.now (Ok (
       tree.if_then position (expression_tree condition.entry.value)
           (statement_tree first.entry.value),
@@ -184,7 +177,7 @@ pub fn if_else<'t, 'a>(
     condition: Box<Expression<'a>>,
     first: Box<Statement<'a>>,
     second: Box<Statement<'a>>,
-) -> Result<Box<Statement<'a>>, ParseError>
+) -> Parsed<Box<Statement<'a>>>
     ensures { TakesStatement result parser.now (Ok (
       tree.if_else position (expression_tree condition.entry.value)
           (statement_tree first.entry.value) (statement_tree second.entry.value),
@@ -203,7 +196,7 @@ pub fn while_do<'t, 'a>(
     position: Position,
     condition: Box<Expression<'a>>,
     body: Box<Statement<'a>>,
-) -> Result<Box<Statement<'a>>, ParseError>
+) -> Parsed<Box<Statement<'a>>>
     ensures { TakesStatement result parser.now (Ok (
       tree.while_do position (expression_tree condition.entry.value)
           (statement_tree body.entry.value),
@@ -220,7 +213,7 @@ pub fn do_until<'t, 'a>(
     position: Position,
     body: Box<Statement<'a>>,
     condition: Box<Expression<'a>>,
-) -> Result<Box<Statement<'a>>, ParseError>
+) -> Parsed<Box<Statement<'a>>>
     ensures { TakesStatement result parser.new (spec.ended
         (tree.do_until position (statement_tree body.entry.value)
         (expression_tree condition.entry.value)) (ahead parser.old)) }
@@ -237,7 +230,7 @@ pub fn for_loop<'t, 'a>(
     position: Position,
     heading: Box<Heading<'a>>,
     body: Box<Statement<'a>>,
-) -> Result<Box<Statement<'a>>, ParseError>
+) -> Parsed<Box<Statement<'a>>>
     ensures { TakesStatement result parser.now (Ok (
       tree.for_loop position (heading_tree heading.entry.value).before
           (heading_tree heading.entry.value).test (heading_tree heading.entry.value).after
@@ -254,7 +247,7 @@ pub fn loop_over<'t, 'a>(
     position: Position,
     over: Box<Loop<'a>>,
     body: Box<Statement<'a>>,
-) -> Result<Box<Statement<'a>>, ParseError>
+) -> Parsed<Box<Statement<'a>>>
     ensures { TakesStatement result parser.now (Ok (
       tree.loop_over position (loop_tree over.entry.value)
           (statement_tree body.entry.value),
@@ -276,7 +269,7 @@ fn switch_over<'t, 'a>(
             Option<Vec<Statement<'a>>>,
         ),
     >,
-) -> Result<Box<Statement<'a>>, ParseError>
+) -> Parsed<Box<Statement<'a>>>
     ensures { TakesStatement result parser.new
         (spec.switch_of position (expression_tree value.entry.value)
         (map case_tree cases.entry.value.0.items) (other_tree cases.entry.value.1)
@@ -295,7 +288,7 @@ pub fn switch_on<'t, 'a>(
     value: Box<Expression<'a>>,
     cases: Vec<(Vec<Range<'a>>, Vec<Statement<'a>>)>,
     other: Option<Vec<Statement<'a>>>,
-) -> Result<Box<Statement<'a>>, ParseError>
+) -> Parsed<Box<Statement<'a>>>
     ensures { TakesStatement result parser.new
         (spec.switch_of position (expression_tree value.entry.value)
         (map case_tree cases.entry.items) (other_tree other.entry) (ahead parser.old)) }

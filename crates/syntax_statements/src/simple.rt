@@ -1,8 +1,8 @@
 //! Statements without statements inside them, read from tokens.
 
 ghost use Rattle.std.specs.Prelude.{Ok};
-ghost use Rattle.syntax_parsing.specs.Parse as reading;
-ghost use Rattle.syntax_parsing.specs.Returned.{ahead};
+ghost use Rattle.syntax_trees.specs.Parse as reading;
+ghost use Rattle.syntax_trees.specs.Returned.{ahead};
 ghost use Rattle.syntax_statements.specs.Tree as tree;
 ghost use Rattle.syntax_statements.specs.Views.{simple_tree};
 ghost use Rattle.syntax_statements.specs.Returned.{TakesSimple};
@@ -12,10 +12,10 @@ use crate::tree::SimpleStatement;
 use syntax_expression_parts::expect_name;
 use syntax_expressions::expression;
 use syntax_lexer::{Kind, Position, Sign, Word};
-use syntax_parsing::{
-    Fault, ParseError, Parser, expect, expect_word, fault_at, is_sign, memory, pass, peek, position,
-};
 use syntax_statement_parts::{flags, has_effect, items};
+use syntax_trees::{
+    Fault, Parsed, Parser, expect, expect_word, fault_at, is_sign, memory, pass, peek, position,
+};
 
 // The statement in a box. The parser comes first here, in `ended` and in all that makes statements,
 // also where nothing is read: so the lifetimes of the arguments have the places that they have in
@@ -23,7 +23,7 @@ use syntax_statement_parts::{flags, has_effect, items};
 fn in_box<'t, 'a>(
     parser: &Parser<'t, 'a>,
     statement: SimpleStatement<'a>,
-) -> Result<Box<SimpleStatement<'a>>, ParseError>
+) -> Parsed<Box<SimpleStatement<'a>>>
     ensures { TakesSimple result parser.now (Ok (simple_tree statement.entry, ahead parser.now)) }
 {
     memory::in_box(parser.alloc, statement)
@@ -34,7 +34,7 @@ fn in_box<'t, 'a>(
 fn end<'t, 'a>(
     parser: &mut Parser<'t, 'a>,
     statement: SimpleStatement<'a>,
-) -> Result<Box<SimpleStatement<'a>>, ParseError>
+) -> Parsed<Box<SimpleStatement<'a>>>
     ensures { TakesSimple result parser.new
         (spec.ended (simple_tree statement.entry) (ahead parser.old)) }
 {
@@ -54,10 +54,7 @@ fn end<'t, 'a>(
 ///
 /// Those of `items`, and `Fault::Grammar` where the `;` is missing.
 #[tactic(auto, unfolding(crate::specs::Parse::printed))]
-fn print<'t, 'a>(
-    parser: &mut Parser<'t, 'a>,
-    depth: usize,
-) -> Result<Box<SimpleStatement<'a>>, ParseError>
+fn print<'t, 'a>(parser: &mut Parser<'t, 'a>, depth: usize) -> Parsed<Box<SimpleStatement<'a>>>
     ensures { TakesSimple result parser.new (spec.printed depth tree.print (ahead parser.old)) }
 {
     match items(parser, depth) {
@@ -75,7 +72,7 @@ fn print<'t, 'a>(
 fn print_return<'t, 'a>(
     parser: &mut Parser<'t, 'a>,
     depth: usize,
-) -> Result<Box<SimpleStatement<'a>>, ParseError>
+) -> Parsed<Box<SimpleStatement<'a>>>
     ensures { TakesSimple result parser.new
         (spec.printed depth tree.print_return (ahead parser.old)) }
 {
@@ -95,7 +92,7 @@ fn return_value<'t, 'a>(
     parser: &mut Parser<'t, 'a>,
     depth: usize,
     position: Position,
-) -> Result<Box<SimpleStatement<'a>>, ParseError>
+) -> Parsed<Box<SimpleStatement<'a>>>
     ensures { TakesSimple result parser.new (spec.returned depth position (ahead parser.old)) }
 {
     if is_sign(peek(parser.tokens), Sign::Semicolon) {
@@ -115,7 +112,7 @@ fn return_value<'t, 'a>(
 /// `Fault::Grammar` at the first token that is not what is wanted: a name, another, and `;`;
 /// `Memory`: a growth is refused.
 #[tactic(auto, unfolding(crate::specs::Parse::line_read))]
-fn read<'t, 'a>(parser: &mut Parser<'t, 'a>) -> Result<Box<SimpleStatement<'a>>, ParseError>
+fn read<'t, 'a>(parser: &mut Parser<'t, 'a>) -> Parsed<Box<SimpleStatement<'a>>>
     ensures { TakesSimple result parser.new (spec.line_read (ahead parser.old)) }
 {
     let text = match expect_name(parser) {
@@ -142,7 +139,7 @@ fn give<'t, 'a>(
     parser: &mut Parser<'t, 'a>,
     depth: usize,
     position: Position,
-) -> Result<Box<SimpleStatement<'a>>, ParseError>
+) -> Parsed<Box<SimpleStatement<'a>>>
     ensures { TakesSimple result parser.new (spec.given depth position (ahead parser.old)) }
 {
     let object = expression(parser, depth)?;
@@ -165,7 +162,7 @@ fn move_to<'t, 'a>(
     parser: &mut Parser<'t, 'a>,
     depth: usize,
     position: Position,
-) -> Result<Box<SimpleStatement<'a>>, ParseError>
+) -> Parsed<Box<SimpleStatement<'a>>>
     ensures { TakesSimple result parser.new (spec.moved depth position (ahead parser.old)) }
 {
     let object = expression(parser, depth)?;
@@ -186,7 +183,7 @@ fn remove<'t, 'a>(
     parser: &mut Parser<'t, 'a>,
     depth: usize,
     position: Position,
-) -> Result<Box<SimpleStatement<'a>>, ParseError>
+) -> Parsed<Box<SimpleStatement<'a>>>
     ensures { TakesSimple result parser.new (spec.removed depth position (ahead parser.old)) }
 {
     match expression(parser, depth) {
@@ -202,10 +199,7 @@ fn remove<'t, 'a>(
 /// Those of `expression`; `Fault::Grammar` at the token after the expression where it has no
 /// effect, or no `;` follows.
 #[tactic(auto, unfolding(crate::specs::Parse::alone))]
-fn effect<'t, 'a>(
-    parser: &mut Parser<'t, 'a>,
-    depth: usize,
-) -> Result<Box<SimpleStatement<'a>>, ParseError>
+fn effect<'t, 'a>(parser: &mut Parser<'t, 'a>, depth: usize) -> Parsed<Box<SimpleStatement<'a>>>
     ensures { TakesSimple result parser.new (spec.alone depth (ahead parser.old)) }
 {
     let begin = position(parser.tokens);
@@ -226,10 +220,7 @@ fn effect<'t, 'a>(
 ///
 /// Those of `expression` and of `items`, and `Fault::Grammar` at the first token with which no such
 /// statement goes on.
-pub fn simple<'t, 'a>(
-    parser: &mut Parser<'t, 'a>,
-    depth: usize,
-) -> Result<Box<SimpleStatement<'a>>, ParseError>
+pub fn simple<'t, 'a>(parser: &mut Parser<'t, 'a>, depth: usize) -> Parsed<Box<SimpleStatement<'a>>>
     ensures { TakesSimple result parser.new
         (spec.plain_on depth (reading.head (ahead parser.old)) (ahead parser.old)) }
 {

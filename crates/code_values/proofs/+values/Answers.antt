@@ -53,7 +53,7 @@ value::put_call-returns t c = on_ok c.put_arguments.result
     c.in-Ok.ensures c.in-Ok-push_operands.ensures
     (c.are_more_pushed-several.ensures ∙ ap (λ (l : List code_operand.Operand). are_more_pushed (as_operands l))
     c.deref.ensures.value)
-    c.called.ensures c.in-Ok-put.ensures) c.put_arguments.ensures
+    c.call_item.ensures c.in-Ok-put.ensures) c.put_arguments.ensures
 
 pub value::put_prefixed-returns-in-Ok : goal.value::put_prefixed-returns-in-Ok
 value::put_prefixed-returns-in-Ok t c = on_ok c.put_value.result
@@ -68,12 +68,12 @@ value::put_prefixed-returns-in-Ok-put t c = on_ok c.put_operand.result
 pub value::put_entry-returns : goal.value::put_entry-returns
 value::put_entry-returns t c = on_ok c.put_right.result
     (entry_more _ _ _ _ c.args.wanted _ c.args.width c.args.array _ _ _
-    c.in-Ok.ensures c.alone-operand.ensures c.loaded.ensures c.in-Ok-put.ensures) c.put_right.ensures
+    c.in-Ok.ensures c.alone-operand.ensures c.entry_item.ensures c.in-Ok-put.ensures) c.put_right.ensures
 
 pub value::put_assigned_entry-returns : goal.value::put_assigned_entry-returns
 value::put_assigned_entry-returns t c = on_ok c.put_right.result
     (assigned_entry_link _ _ _ _ c.args.wanted _ c.args.width c.args.array _ _ _ _
-    c.in-Ok.ensures c.alone-operand.ensures c.stored.ensures c.in-Ok-put.ensures) c.put_right.ensures
+    c.in-Ok.ensures c.alone-operand.ensures c.assign_entry_item.ensures c.in-Ok-put.ensures) c.put_right.ensures
 
 pub operations::put_comparison-returns : goal.operations::put_comparison-returns
 operations::put_comparison-returns t c = on_ok c.put_operand.result
@@ -96,7 +96,7 @@ pub operations::put_link-returns-in-Ok-put_right : goal.operations::put_link-ret
 operations::put_link-returns-in-Ok-put_right t c =
     operation_written _ _ _ _ c.args.wanted _ _ c.args.operator _ _ _ _ c.in_default.not-AndAlso
     c.in_default.not-OrElse c.in-Ok-put_word.ensures c.alone-right.ensures c.right_place-place.ensures
-    c.operated.ensures c.in-Ok-put.ensures c.in-Ok-put_right.ensures
+    c.operation_item.ensures c.in-Ok-put.ensures c.in-Ok-put_right.ensures
 
 pub operations::put_others-returns-in_ok-put : goal.operations::put_others-returns-in_ok-put
 operations::put_others-returns-in_ok-put t c = on_ok c.put_operands.result (few_written _ _ _ _ c.args.wanted

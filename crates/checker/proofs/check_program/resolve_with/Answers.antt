@@ -10,7 +10,7 @@ use Rattle.checker_names.specs.Names.{File, first_table, no_counts, in_table}
 use Rattle.checker_names.specs.Noted.{noted}
 use Rattle.checker_names.specs.Scope.{file_in}
 use Rattle.checker_objects.specs.Arrays.{arrays_of}
-use Rattle.checker_objects.specs.Objects.{all_defaults, standing_breaches, placed, object_trees}
+use Rattle.checker_objects.specs.Objects.{all_defaults, standing_breaches, with_parents, object_trees}
 use Rattle.checker_objects.proofs.Chains.{take_exact}
 use Rattle.checker.specs.Programs.{directives_breaches, main_breaches, main_key, first_routine, abbreviations_breaches}
 use Rattle.checker.proofs.Whole.{file_table, program_checked, program_break}
@@ -32,8 +32,8 @@ returns-clause-value c =
     (ap (λ (os : List CheckedObject). map object_of os)
     (take_exact c.place.new.objects _ c.in_ok-found.found.objects.len count)
     ∙ c.place.ensures
-    ∙ ap (λ (ps : List ℕ). placed ps (map object_of c.deref_mut.result.now)) c.deref.ensures.value
-    ∙ ap (λ (os : List CheckedObject). placed c.in_ok-parents.parents.items (map object_of os))
+    ∙ ap (λ (ps : List ℕ). with_parents ps (map object_of c.deref_mut.result.now)) c.deref.ensures.value
+    ∙ ap (λ (os : List CheckedObject). with_parents c.in_ok-parents.parents.items (map object_of os))
     c.deref_mut.ensures.value)
     c.in_ok-abbreviations.ensures c.main_number-main.ensures.value c.new.ensures
 

@@ -34,8 +34,8 @@ use Rattle.checker_statements.proofs.statement_rules.+statement.Goals as goal
 abbrev pair : Action → Action → Action × Action
 pair a b = (a, b)
 
-pub boxed-returns : goal.boxed-returns
-boxed-returns t c = rw (← c.deref.ensures)
+pub boxed_statement-returns : goal.boxed_statement-returns
+boxed_statement-returns t c = rw (← c.deref.ensures)
     (kept_action c.new.result c.ok.result c.ok_or.result c.in-Ok.found c.new.ensures.ok c.ok.ensures.value
     c.ok_or.ensures.ok_part c.in-Ok.ensures)
 
@@ -89,27 +89,27 @@ block-returns t c =
     c.in-Ok.ensures))
 
 pub if_then-returns : goal.if_then-returns
-if_then-returns t c = rw (made_if_then c.in-Ok.condition c.in-Ok-boxed.body)
-    (two values.if_then c.in-Ok.ensures c.in-Ok-boxed.ensures)
+if_then-returns t c = rw (made_if_then c.in-Ok.condition c.in-Ok-boxed_statement.body)
+    (two values.if_then c.in-Ok.ensures c.in-Ok-boxed_statement.ensures)
 
 pub while_do-returns : goal.while_do-returns
-while_do-returns t c around = rw (made_while_do c.in-Ok.condition c.in-Ok-boxed.body)
-    (two values.while_do c.in-Ok.ensures c.in-Ok-boxed.ensures)
+while_do-returns t c around = rw (made_while_do c.in-Ok.condition c.in-Ok-boxed_statement.body)
+    (two values.while_do c.in-Ok.ensures c.in-Ok-boxed_statement.ensures)
 
 pub if_else-returns : goal.if_else-returns
 if_else-returns t c =
-    rw (made_if_else c.in-Ok.condition c.in-Ok-boxed.first c.in-Ok-boxed-2.otherwise)
+    rw (made_if_else c.in-Ok.condition c.in-Ok-boxed_statement.first c.in-Ok-boxed_statement-2.otherwise)
     (two (λ v (ab : Action × Action). values.if_else v ab.0 ab.1) c.in-Ok.ensures
-    (two pair c.in-Ok-boxed.ensures c.in-Ok-boxed-2.ensures))
+    (two pair c.in-Ok-boxed_statement.ensures c.in-Ok-boxed_statement-2.ensures))
 
 pub do_until-returns : goal.do_until-returns
 do_until-returns t c around = rw (made_do c.in-Ok.body c.in-Ok-boxed_whole.condition)
     (two values.do_until c.in-Ok.ensures c.in-Ok-boxed_whole.ensures)
 
 pub for_loop-returns : goal.for_loop-returns
-for_loop-returns t c around = rw (made_for c.in-Ok.before c.in-Ok.test c.in-Ok.after c.in-Ok-boxed.body)
+for_loop-returns t c around = rw (made_for c.in-Ok.before c.in-Ok.test c.in-Ok.after c.in-Ok-boxed_statement.body)
     (two (λ (h : Option Value × Option Value × Option Value) (x : Action). values.for_loop h.0 h.1 h.2 x)
-    c.in-Ok.ensures c.in-Ok-boxed.ensures)
+    c.in-Ok.ensures c.in-Ok-boxed_statement.ensures)
 
 pub all_cases-loop-c-preserved : goal.all_cases-loop-c-preserved
 all_cases-loop-c-preserved t c =
@@ -165,19 +165,19 @@ each-returns t c around = rw (made_each_object c.loop_variable-variable.result c
     c.in-Ok.ensures)
 
 pub each_in-returns : goal.each_in-returns
-each_in-returns t c around = rw (made_each_in c.loop_variable-variable.result c.in-Ok.parent c.in-Ok-boxed.body)
+each_in-returns t c around = rw (made_each_in c.loop_variable-variable.result c.in-Ok.parent c.in-Ok-boxed_statement.body)
     (three values.each_in
     (named_part variable_of_binding (loop_breaches c.args.name.position) c.look.result _ c.loop_variable-variable.result
     c.look.ensures c.loop_variable-variable.ensures.value c.loop_variable-variable.ensures.breaches)
-    c.in-Ok.ensures c.in-Ok-boxed.ensures)
+    c.in-Ok.ensures c.in-Ok-boxed_statement.ensures)
 
 pub each_where-returns : goal.each_where-returns
 each_where-returns t c around =
-    rw (made_each_where c.loop_variable-variable.result c.in-Ok.condition c.in-Ok-boxed.body)
+    rw (made_each_where c.loop_variable-variable.result c.in-Ok.condition c.in-Ok-boxed_statement.body)
     (three values.each_where
     (named_part variable_of_binding (loop_breaches c.args.name.position) c.look.result _ c.loop_variable-variable.result
     c.look.ensures c.loop_variable-variable.ensures.value c.loop_variable-variable.ensures.breaches)
-    c.in-Ok.ensures c.in-Ok-boxed.ensures)
+    c.in-Ok.ensures c.in-Ok-boxed_statement.ensures)
 
 pub statement-returns-in-Do : goal.statement-returns-in-Do
 statement-returns-in-Do t c = let v = c.in-Do in

@@ -12,8 +12,8 @@ use Rattle.checker_statements.proofs.statement_rules.+statement.Given as goal
 abbrev pub decreases-statement : goal.decreases-statement
 decreases-statement l = 8 * goal.size-statement l
 
-abbrev pub decreases-boxed : goal.decreases-boxed
-decreases-boxed l = 8 * goal.size-boxed l + 1
+abbrev pub decreases-boxed_statement : goal.decreases-boxed_statement
+decreases-boxed_statement l = 8 * goal.size-boxed_statement l + 1
 
 abbrev pub decreases-all_statements : goal.decreases-all_statements
 decreases-all_statements l = 8 * goal.size-all_statements l + 1

@@ -78,13 +78,13 @@ chain_links-returns t c =
           ∙ c.loop-link.invariant.tally;
     }
 
-pub boxed-returns-in-Constant : goal.boxed-returns-in-Constant
-boxed-returns-in-Constant t c =
+pub boxed_expression-returns-in-Constant : goal.boxed_expression-returns-in-Constant
+boxed_expression-returns-in-Constant t c =
     rw (is_constant c.args.e.now c.in-Constant.number c.in-Constant.is)
     (boxed_walked c.constant.result c.constant.ensures (leaf c.args.tally.now (values.number c.in-Constant.number)))
 
-pub boxed-returns-in-Chain : goal.boxed-returns-in-Chain
-boxed-returns-in-Chain t c =
+pub boxed_expression-returns-in-Chain : goal.boxed_expression-returns-in-Chain
+boxed_expression-returns-in-Chain t c =
     rw (
       is_chain _ _ _ _ _ c.in-Chain.is,
       ← c.deref-in-Chain.ensures.value,
@@ -92,28 +92,28 @@ boxed-returns-in-Chain t c =
       ← c.deref-in-Chain-3.ensures,
     ) c.chain.ensures
 
-pub boxed-returns-in-Named : goal.boxed-returns-in-Named
-boxed-returns-in-Named t c = rw (is_named c.args.e.now _ c.in-Named.is) c.boxed_name.ensures
+pub boxed_expression-returns-in-Named : goal.boxed_expression-returns-in-Named
+boxed_expression-returns-in-Named t c = rw (is_named c.args.e.now _ c.in-Named.is) c.boxed_name.ensures
 
-pub boxed-returns-in-Word : goal.boxed-returns-in-Word
-boxed-returns-in-Word t c =
+pub boxed_expression-returns-in-Word : goal.boxed_expression-returns-in-Word
+boxed_expression-returns-in-Word t c =
     rw (is_word c.args.e.now _ c.in-Word.is)
     (boxed_walked c.word.result c.word.ensures (leaf c.args.tally.now _))
 
-pub boxed-returns-in-Call : goal.boxed-returns-in-Call
-boxed-returns-in-Call t c =
+pub boxed_expression-returns-in-Call : goal.boxed_expression-returns-in-Call
+boxed_expression-returns-in-Call t c =
     rw (is_call _ _ _ c.in-Call.is, ← c.deref.ensures.value, ← c.deref-in-Call.ensures) c.call.ensures
 
-pub boxed-returns-in-Parenthesised : goal.boxed-returns-in-Parenthesised
-boxed-returns-in-Parenthesised t c =
-    rw (is_parenthesised _ _ c.in-Parenthesised.is, ← c.deref-in-Parenthesised.ensures) c.boxed.ensures
+pub boxed_expression-returns-in-Parenthesised : goal.boxed_expression-returns-in-Parenthesised
+boxed_expression-returns-in-Parenthesised t c =
+    rw (is_parenthesised _ _ c.in-Parenthesised.is, ← c.deref-in-Parenthesised.ensures) c.boxed_expression.ensures
 
-pub boxed-returns-in-RelativeOf : goal.boxed-returns-in-RelativeOf
-boxed-returns-in-RelativeOf t c =
+pub boxed_expression-returns-in-RelativeOf : goal.boxed_expression-returns-in-RelativeOf
+boxed_expression-returns-in-RelativeOf t c =
     rw (is_relative_of _ _ _ c.in-RelativeOf.is, ← c.deref-in-RelativeOf.ensures) c.relative_of.ensures
 
-pub boxed-returns-in-Property : goal.boxed-returns-in-Property
-boxed-returns-in-Property t c =
+pub boxed_expression-returns-in-Property : goal.boxed_expression-returns-in-Property
+boxed_expression-returns-in-Property t c =
     rw (
       is_property _ _ _ _ c.in-Property.is,
       ← c.deref-in-Property.ensures,
@@ -121,45 +121,45 @@ boxed-returns-in-Property t c =
       ← c.deref-in-Property-3.ensures.value,
     ) c.properties.ensures
 
-pub boxed-returns-in-PropertyLength : goal.boxed-returns-in-PropertyLength
-boxed-returns-in-PropertyLength t c =
+pub boxed_expression-returns-in-PropertyLength : goal.boxed_expression-returns-in-PropertyLength
+boxed_expression-returns-in-PropertyLength t c =
     rw (is_property_length _ _ _ c.in-PropertyLength.is, ← c.deref-in-PropertyLength.ensures) c.length_of.ensures
 
-pub boxed-returns-in-PropertyEntry : goal.boxed-returns-in-PropertyEntry
-boxed-returns-in-PropertyEntry t c =
+pub boxed_expression-returns-in-PropertyEntry : goal.boxed_expression-returns-in-PropertyEntry
+boxed_expression-returns-in-PropertyEntry t c =
     rw (
       is_property_entry _ _ _ _ c.in-PropertyEntry.is,
       ← c.deref-in-PropertyEntry.ensures,
       ← c.deref-in-PropertyEntry-2.ensures,
     ) c.property_entry.ensures
 
-pub boxed-returns-in-Contained : goal.boxed-returns-in-Contained
-boxed-returns-in-Contained t c =
+pub boxed_expression-returns-in-Contained : goal.boxed_expression-returns-in-Contained
+boxed_expression-returns-in-Contained t c =
     rw (is_contained _ _ _ _ c.in-Contained.is, ← c.deref-in-Contained.ensures, ← c.deref-in-Contained-2.ensures)
     c.contained.ensures
 
-pub boxed-returns-in-Tested : goal.boxed-returns-in-Tested
-boxed-returns-in-Tested t c = rw (is_tested _ _ _ _ c.in-Tested.is, ← c.deref-in-Tested.ensures) c.tested.ensures
+pub boxed_expression-returns-in-Tested : goal.boxed_expression-returns-in-Tested
+boxed_expression-returns-in-Tested t c = rw (is_tested _ _ _ _ c.in-Tested.is, ← c.deref-in-Tested.ensures) c.tested.ensures
 
-pub boxed-returns-in-Prefixed : goal.boxed-returns-in-Prefixed
-boxed-returns-in-Prefixed t c =
+pub boxed_expression-returns-in-Prefixed : goal.boxed_expression-returns-in-Prefixed
+boxed_expression-returns-in-Prefixed t c =
     rw (is_prefixed _ _ _ c.in-Prefixed.is, ← c.deref-in-Prefixed.ensures) c.prefixed.ensures
 
-pub boxed-returns-in-StepBefore : goal.boxed-returns-in-StepBefore
-boxed-returns-in-StepBefore t c =
+pub boxed_expression-returns-in-StepBefore : goal.boxed_expression-returns-in-StepBefore
+boxed_expression-returns-in-StepBefore t c =
     rw (is_step_before _ _ _ _ c.in-StepBefore.is, ← c.deref-in-StepBefore.ensures) c.step_before.ensures
 
-pub boxed-returns-in-StepAfter : goal.boxed-returns-in-StepAfter
-boxed-returns-in-StepAfter t c =
+pub boxed_expression-returns-in-StepAfter : goal.boxed_expression-returns-in-StepAfter
+boxed_expression-returns-in-StepAfter t c =
     rw (is_step_after _ _ _ _ c.in-StepAfter.is, ← c.deref-in-StepAfter.ensures) c.step_after.ensures
 
-pub boxed-returns-in-Compare : goal.boxed-returns-in-Compare
-boxed-returns-in-Compare t c =
+pub boxed_expression-returns-in-Compare : goal.boxed_expression-returns-in-Compare
+boxed_expression-returns-in-Compare t c =
     rw (is_compare _ _ _ _ c.in-Compare.is, ← c.deref-in-Compare.ensures, ← c.deref-in-Compare-2.ensures)
     c.compare.ensures
 
-pub boxed-returns-in-Equal : goal.boxed-returns-in-Equal
-boxed-returns-in-Equal t c =
+pub boxed_expression-returns-in-Equal : goal.boxed_expression-returns-in-Equal
+boxed_expression-returns-in-Equal t c =
     rw (
       is_equal _ _ _ _ _ c.in-Equal.is,
       ← c.deref-in-Equal.ensures.value,
@@ -167,8 +167,8 @@ boxed-returns-in-Equal t c =
       ← c.deref-in-Equal-3.ensures,
     ) c.equal.ensures
 
-pub boxed-returns-in-Assign : goal.boxed-returns-in-Assign
-boxed-returns-in-Assign t c =
+pub boxed_expression-returns-in-Assign : goal.boxed_expression-returns-in-Assign
+boxed_expression-returns-in-Assign t c =
     rw (is_assign _ _ _ _ c.in-Assign.is, ← c.deref-in-Assign.ensures, ← c.deref-in-Assign-2.ensures) c.boxed_assignment.ensures
 
 pub relative_of-returns : goal.relative_of-returns
@@ -192,13 +192,13 @@ length_of-returns t c = kept_walked c.in_box.result _ c.in_box.ensures
 
 pub property_entry-returns : goal.property_entry-returns
 property_entry-returns t c = kept_walked c.in_box.result _ c.in_box.ensures
-    (rw (made_property_word c.in-Ok.object c.property_of-number.result c.in-Ok-boxed.index)
-    (three values.property_word c.in-Ok.ensures c.property_of-number.ensures c.in-Ok-boxed.ensures))
+    (rw (made_property_word c.in-Ok.object c.property_of-number.result c.in-Ok-boxed_expression.index)
+    (three values.property_word c.in-Ok.ensures c.property_of-number.ensures c.in-Ok-boxed_expression.ensures))
 
 pub contained-returns : goal.contained-returns
 contained-returns t c = kept_walked c.in_box.result _ c.in_box.ensures
-    (rw (made_contained c.in-Ok.left c.args.containment c.in-Ok-boxed.right)
-    (two (values.contained c.args.containment) c.in-Ok.ensures c.in-Ok-boxed.ensures))
+    (rw (made_contained c.in-Ok.left c.args.containment c.in-Ok-boxed_expression.right)
+    (two (values.contained c.args.containment) c.in-Ok.ensures c.in-Ok-boxed_expression.ensures))
 
 pub tested-returns : goal.tested-returns
 tested-returns t c = kept_walked c.in_box.result _ c.in_box.ensures
@@ -222,15 +222,15 @@ step_after-returns t c = kept_walked c.in_box.result _ c.in_box.ensures
     (rw (made_step_after c.in-Ok.variable c.args.step)
     (one (λ x. values.step_after x c.args.step) c.in-Ok.ensures))
 
-pub variable-returns-in_ok-boxed-in-None : goal.variable-returns-in_ok-boxed-in-None
-variable-returns-in_ok-boxed-in-None t c =
+pub variable-returns-in_ok-boxed_expression-in-None : goal.variable-returns-in_ok-boxed_expression-in-None
+variable-returns-in_ok-boxed_expression-in-None t c =
     let is : name_of (expression_tree c.args.e.now) ≡ None = sym c.name_of.ensures
     ∙ ap (option_map name_tree) c.in-None.is in
     rw is (record {
       value = refl;
-      breaches = noted_two c.args.tally.now c.boxed.new.tally c.note.new.tally
+      breaches = noted_two c.args.tally.now c.boxed_expression.new.tally c.note.new.tally
           (breaches (look_in c.args.scope.now) (expression_tree c.args.e.now)) (at c.args.operator 26)
-          c.in_ok-boxed-in-None.ensures.breaches c.note.ensures;
+          c.in_ok-boxed_expression-in-None.ensures.breaches c.note.ensures;
     })
 
 pub call-returns : goal.call-returns
@@ -242,29 +242,29 @@ call-returns t c = kept_walked c.in_box.result _ c.in_box.ensures
 
 pub chain-returns : goal.chain-returns
 chain-returns t c = kept_walked c.in_box.result _ c.in_box.ensures
-    (rw (made_chain c.in-Ok.first c.args.operator c.in-Ok-boxed.second c.in-Ok-chain_links.links)
+    (rw (made_chain c.in-Ok.first c.args.operator c.in-Ok-boxed_expression.second c.in-Ok-chain_links.links)
     (chain_walked (seen_in c.args.scope.now)
     (trees.binary c.args.operator (expression_tree c.args.first.now) (expression_tree c.args.second.now))
     c.args.links.now
-    (values.binary c.args.operator (value_of c.in-Ok.first.value) (value_of c.in-Ok-boxed.second.value))
+    (values.binary c.args.operator (value_of c.in-Ok.first.value) (value_of c.in-Ok-boxed_expression.second.value))
     (map value_link c.in-Ok-chain_links.links.items)
-    (two (values.binary c.args.operator) c.in-Ok.ensures c.in-Ok-boxed.ensures) c.in-Ok-chain_links.ensures))
+    (two (values.binary c.args.operator) c.in-Ok.ensures c.in-Ok-boxed_expression.ensures) c.in-Ok-chain_links.ensures))
 
 pub compare-returns : goal.compare-returns
 compare-returns t c = kept_walked c.in_box.result _ c.in_box.ensures
-    (rw (made_compare c.in-Ok.left c.args.comparison c.in-Ok-boxed.right)
-    (two (values.compare c.args.comparison) c.in-Ok.ensures c.in-Ok-boxed.ensures))
+    (rw (made_compare c.in-Ok.left c.args.comparison c.in-Ok-boxed_expression.right)
+    (two (values.compare c.args.comparison) c.in-Ok.ensures c.in-Ok-boxed_expression.ensures))
 
 pub equal-returns : goal.equal-returns
 equal-returns t c = kept_walked c.in_box.result _ c.in_box.ensures
-    (rw (made_equal c.in-Ok.left c.args.equality c.in-Ok-boxed.right c.in-Ok-all_expressions.others)
+    (rw (made_equal c.in-Ok.left c.args.equality c.in-Ok-boxed_expression.right c.in-Ok-all_expressions.others)
     (two (values.equal c.args.equality) c.in-Ok.ensures
-    (two values.more c.in-Ok-boxed.ensures
+    (two values.more c.in-Ok-boxed_expression.ensures
     (all_walked (seen_in c.args.scope.now) c.args.others.now (map value_of c.in-Ok-all_expressions.others.items)
     c.in-Ok-all_expressions.ensures))))
 
-pub boxed-returns-in-Index : goal.boxed-returns-in-Index
-boxed-returns-in-Index t c = rw (is_index _ _ _ _ c.in-Index.is, ← c.deref-in-Index.ensures) c.index.ensures
+pub boxed_expression-returns-in-Index : goal.boxed_expression-returns-in-Index
+boxed_expression-returns-in-Index t c = rw (is_index _ _ _ _ c.in-Index.is, ← c.deref-in-Index.ensures) c.index.ensures
 
 pub index-returns : goal.index-returns
 index-returns t c = kept_walked c.in_box.result _ c.in_box.ensures
@@ -291,7 +291,7 @@ left_side-returns-in_ok-left-in-None t c =
 
 pub assign-returns : goal.assign-returns
 assign-returns t c = made_walked c.assignment.result c.assignment.ensures
-    (two assigned c.in-Ok.ensures c.in-Ok-boxed.ensures)
+    (two assigned c.in-Ok.ensures c.in-Ok-boxed_expression.ensures)
 
 pub boxed_assignment-returns : goal.boxed_assignment-returns
 boxed_assignment-returns t c = kept_walked c.in_box.result _ c.in_box.ensures c.in-Ok.ensures

@@ -8,8 +8,8 @@ use Rattle.checker_names.specs.Scope.{seen_in}
 use Rattle.checker_values.specs.Walk.{own_breaches, resolved, link_breaches, resolved_link, value_link}
 use Rattle.checker_values.proofs.expression_rules.+expression.Given as goal
 
-abbrev pub decreases-boxed : goal.decreases-boxed
-decreases-boxed l = 4 * goal.size-boxed l
+abbrev pub decreases-boxed_expression : goal.decreases-boxed_expression
+decreases-boxed_expression l = 4 * goal.size-boxed_expression l
 
 abbrev pub decreases-boxed_assignment : goal.decreases-boxed_assignment
 decreases-boxed_assignment l = 4 * max (size-Expression l.left.now) (size-Expression l.right.now) + 3

@@ -3,14 +3,14 @@ use Rattle.std.specs.Prelude.{map}
 use Rattle.std.specs.List.{list_all}
 use Rattle.ztext.specs.Abbreviations.{encoded_with}
 use Rattle.ztext.specs.Alphabets.{is_printable}
-use Rattle.code_encoding.specs.Bytes.{character_of}
+use Rattle.meaning.specs.Places.{machine_character}
 use Rattle.code_instructions.proofs.Printable.{only_printable, themselves}
 use Rattle.code_instructions.proofs.printing.quoted_text.Goals as goal
 
 pub z_text-requires : goal.z_text-requires
 z_text-requires c =
     let same = themselves c.args.text.now (sym c.print_themselves.ensures ∙ c.if-print_themselves.true) in
-    ap (λ (cs : List ℕ). list_all is_printable cs) (sym same) ∙ only_printable (map character_of c.args.text.now)
+    ap (λ (cs : List ℕ). list_all is_printable cs) (sym same) ∙ only_printable (map machine_character c.args.text.now)
 
 pub returns-then-print_themselves : goal.returns-then-print_themselves
 returns-then-print_themselves c =

@@ -51,8 +51,8 @@ slots-words-requires-clause-ordered c =
     (subst (IsDictionary (memory_of c.args.store.now.store)) (sym (c.requires.own ordered ∙ headed.dictionary))
     (headed.searchable (c.requires.ordered ordered)))
 
-pub fill_counted-requires-clause-behind_header : goal.fill_counted-requires-clause-behind_header
-fill_counted-requires-clause-behind_header c =
+pub fill_counted-requires-clause-after_header : goal.fill_counted-requires-clause-after_header
+fill_counted-requires-clause-after_header c =
     let h = slots_numbers (memory_of c.args.store.now.store) c.args.parse c.requires.slots in
     omega (arith, h.past)
 

@@ -3,14 +3,15 @@ use Rattle.zcore.specs.Header.{high_memory_of}
 use Rattle.meaning.specs.Views.{program_of, title_of}
 use Rattle.map_text.specs.declared.row.Row.{Row}
 use Rattle.map_text.specs.Text.{row_of, rows_text}
-use Rattle.map_lines.specs.Rows.{AreOf, start_length}
+use Rattle.map_lines.specs.Rows.{AreOf}
+use Rattle.meaning.specs.Places.{start_size}
 use Rattle.map_lines.proofs.program.text_of_rows.Goals as goal
 
 pub returns : goal.returns
 returns c =
     let rows = map row_of c.in_ok-rows.rows.items in
-    let begins : c.word_in.result + start_length ≡ high_memory_of c.args.story.now + start_length =
-    ap (λ n. n + start_length) c.word_in.ensures in (
+    let begins : c.word_in.result + start_size ≡ high_memory_of c.args.story.now + start_size =
+    ap (λ n. n + start_size) c.word_in.ensures in (
       rows,
       c.in_ok-put_rows.ensures
           ∙ ap (λ (rs : List Row). c.in_ok-text.text.items ++ rows_text (map row_of rs)) c.deref.ensures.value

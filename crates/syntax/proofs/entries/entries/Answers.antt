@@ -1,5 +1,5 @@
 use Rattle.std.proofs.Common.{length, sym, ap, ◌∙◌}
-use Rattle.syntax_parsing.specs.Returned.{ahead}
+use Rattle.syntax_trees.specs.Returned.{ahead}
 use Rattle.syntax.specs.Parse.{goes_on, parts_in}
 use Rattle.syntax.proofs.EntriesRead.{entries_fail}
 use Rattle.syntax.proofs.entries.entries.Goals as goal

@@ -1,6 +1,6 @@
 use Rattle.std.proofs.Common.{◌≡◌, ◌-◌}
-use Rattle.syntax_parsing.specs.Parse.{repeated}
-use Rattle.syntax_parsing.specs.Returned.{ahead}
+use Rattle.syntax_trees.specs.Parse.{repeated}
+use Rattle.syntax_trees.specs.Returned.{ahead}
 use Rattle.syntax.specs.Parse as spec
 use Rattle.syntax.specs.Parse.{parts_in}
 use Rattle.syntax.proofs.EntriesRead.{gathered}

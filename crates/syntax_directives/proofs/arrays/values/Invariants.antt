@@ -1,7 +1,7 @@
 use Rattle.std.proofs.Common.{◌≡◌, map, ◌-◌}
-use Rattle.syntax_parsing.specs.Returned.{ahead}
-use Rattle.syntax_parsing.specs.Parse.{repeated}
-use Rattle.syntax_parsing.proofs.Loops.{joined}
+use Rattle.syntax_trees.specs.Returned.{ahead}
+use Rattle.syntax_trees.specs.Parse.{repeated}
+use Rattle.syntax_trees.proofs.Loops.{joined}
 use Rattle.syntax_statement_parts.specs.Parse.{begins_value}
 use Rattle.syntax_directives.specs.Views.{value_tree}
 use Rattle.syntax_directives.specs.Parse as spec
@@ -10,5 +10,5 @@ use Rattle.syntax_directives.proofs.arrays.values.Given as goal
 abbrev pub invariant-loop-turn : goal.invariant-loop-turn
 invariant-loop-turn l =
     joined (map value_tree l.found.items)
-    (repeated begins_value spec.placed (l._turn-end - l._turn) (ahead l.parser))
+    (repeated begins_value spec.array_value (l._turn-end - l._turn) (ahead l.parser))
     ≡ spec.values (ahead l.fn.parser)

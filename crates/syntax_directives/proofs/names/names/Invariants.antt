@@ -1,8 +1,8 @@
 use Rattle.std.proofs.Common.{◌≡◌, map, ◌-◌}
 use Rattle.syntax_trees.specs.Views.{name_tree}
-use Rattle.syntax_parsing.specs.Returned.{ahead}
-use Rattle.syntax_parsing.specs.Parse.{repeated}
-use Rattle.syntax_parsing.proofs.Loops.{joined}
+use Rattle.syntax_trees.specs.Returned.{ahead}
+use Rattle.syntax_trees.specs.Parse.{repeated}
+use Rattle.syntax_trees.proofs.Loops.{joined}
 use Rattle.syntax_expression_parts.specs.Parse.{is_name, expect_name}
 use Rattle.syntax_directives.specs.Parse as spec
 use Rattle.syntax_directives.proofs.names.names.Given as goal

@@ -1,8 +1,8 @@
 use Rattle.std.proofs.Common.{◌≡◌, ◌-◌}
 use Rattle.syntax_lexer.specs.declared.token.Sign.TheVariants as s
-use Rattle.syntax_parsing.specs.Returned.{ahead}
-use Rattle.syntax_parsing.specs.Parse.{is_sign, repeated}
-use Rattle.syntax_parsing.proofs.Loops.{joined}
+use Rattle.syntax_trees.specs.Returned.{ahead}
+use Rattle.syntax_trees.specs.Parse.{is_sign, repeated}
+use Rattle.syntax_trees.proofs.Loops.{joined}
 use Rattle.syntax_directives.specs.Parse as spec
 use Rattle.syntax_directives.proofs.objects.arrows.Given as goal
 

@@ -1,7 +1,7 @@
 use Rattle.std.proofs.Common.{◌≡◌, map, ◌-◌}
-use Rattle.syntax_parsing.specs.Returned.{ahead}
-use Rattle.syntax_parsing.specs.Parse.{as_long}
-use Rattle.syntax_parsing.proofs.Loops.{joined}
+use Rattle.syntax_trees.specs.Returned.{ahead}
+use Rattle.syntax_trees.specs.Parse.{as_long}
+use Rattle.syntax_trees.proofs.Loops.{joined}
 use Rattle.syntax_directives.specs.Views.{property_tree}
 use Rattle.syntax_directives.specs.Parse as spec
 use Rattle.syntax_directives.proofs.objects.listed.Given as goal

@@ -1,4 +1,4 @@
-use Rattle.syntax_parsing.specs.Returned.{ahead}
+use Rattle.syntax_trees.specs.Returned.{ahead}
 use Rattle.syntax_directives.proofs.RoutineParts.{routine_unheaded, routine_unclosed}
 use Rattle.syntax_directives.proofs.routines.routine.Goals as goal
 

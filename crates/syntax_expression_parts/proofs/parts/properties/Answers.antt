@@ -2,7 +2,7 @@ use Rattle.std.proofs.Common.{sym, ◌∙◌, arith, inl, inr}
 use Rattle.std.proofs.lemmas.Result.{err_from_is_err_and}
 use Rattle.syntax_trees.specs.Tree.{property}
 use Rattle.syntax_trees.specs.Views.{name_tree, expression_tree}
-use Rattle.syntax_parsing.specs.Returned.{ahead}
+use Rattle.syntax_trees.specs.Returned.{ahead}
 use Rattle.syntax_expression_parts.proofs.Built.{properties_built}
 use Rattle.syntax_expression_parts.proofs.Properties.{properties_none, properties_begin, properties_begin_fails}
 use Rattle.syntax_expression_parts.proofs.Properties.{properties_next, properties_fail, properties_read}

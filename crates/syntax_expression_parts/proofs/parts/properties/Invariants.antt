@@ -1,7 +1,7 @@
 use Rattle.std.proofs.Common.{◌≡◌, ◌-◌, length}
 use Rattle.syntax_trees.specs.Tree.{property}
 use Rattle.syntax_trees.specs.Views.{expression_tree, name_tree, propertied}
-use Rattle.syntax_parsing.specs.Returned.{ahead}
+use Rattle.syntax_trees.specs.Returned.{ahead}
 use Rattle.syntax_expression_parts.specs.Parse as spec
 use Rattle.syntax_expression_parts.proofs.parts.properties.Given as goal
 

@@ -3,9 +3,9 @@ use Rattle.std.proofs.lemmas.Result.{err_from_is_err_and}
 use Rattle.syntax_lexer.specs.declared.token.Sign.TheVariants as s
 use Rattle.syntax_lexer.specs.declared.token.Word.TheVariants as w
 use Rattle.syntax_trees.specs.Views.{expression_tree}
-use Rattle.syntax_parsing.specs.Parse.{is_sign, is_word}
-use Rattle.syntax_parsing.specs.Returned.{ahead}
-use Rattle.syntax_parsing.proofs.Loops.{further_out, further_done, further_more, further_fails, list_fails, list_begins}
+use Rattle.syntax_trees.specs.Parse.{is_sign, is_word}
+use Rattle.syntax_trees.specs.Returned.{ahead}
+use Rattle.syntax_trees.proofs.Loops.{further_out, further_done, further_more, further_fails, list_fails, list_begins}
 use Rattle.syntax_expressions.specs.Parse.{nested, expression, sum}
 use Rattle.syntax_expression_parts.specs.Levels.{operator_of}
 use Rattle.syntax_expressions.specs.Levels.{operand_of}
@@ -25,8 +25,8 @@ chain-returns-then-is_single t c = rw
     ∙ c.if-is_single.true))
     c.atom.ensures
 
-pub complemented-returns-then-is_single : goal.complemented-returns-then-is_single
-complemented-returns-then-is_single t c = rw
+pub factor-returns-then-is_single : goal.factor-returns-then-is_single
+factor-returns-then-is_single t c = rw
     (complemented_single (nested c.args.depth) (ahead c.args.parser.now)
     (sym c.is_single.ensures ∙ c.if-is_single.true))
     c.atom.ensures
@@ -35,14 +35,14 @@ pub chain-returns-in-Err : goal.chain-returns-in-Err
 chain-returns-in-Err t c = level_fails (nested c.args.depth) c.args.operators c.in-Err.e (ahead c.args.parser.now)
     c.in-Err.ensures
 
-pub linked-returns-in-Err : goal.linked-returns-in-Err
-linked-returns-in-Err t c = chain_fails (operator_of c.args.operators)
+pub read_links-returns-in-Err : goal.read_links-returns-in-Err
+read_links-returns-in-Err t c = chain_fails (operator_of c.args.operators)
     (operand_of (nested c.args.depth) c.args.operators) c.in-Err.e _ c.loop-turn._turn _
     (ahead c.loop-turn.parser) c.in-Some.joining _ c.loop-turn-test.true (grind arith)
     (rw c.pass.ensures at c.in-Err.ensures) c.loop-turn.invariant
 
-pub linked-loop-turn-preserved : goal.linked-loop-turn-preserved
-linked-loop-turn-preserved t c =
+pub read_links-loop-turn-preserved : goal.read_links-loop-turn-preserved
+read_links-loop-turn-preserved t c =
     sym (chain_more (operator_of c.args.operators) (operand_of (nested c.args.depth) c.args.operators) _
     c.loop-turn._turn _ (ahead c.loop-turn.parser) c.in-Some.joining _ _ _ _ _ c.loop-turn-test.true (grind arith)
     (rw c.pass.ensures at c.in-Ok.ensures) refl c.in-Ok-link.ensures)

@@ -3,9 +3,9 @@ use Rattle.std.specs.Prelude.{map}
 use Rattle.syntax_lexer.specs.declared.token.Sign.TheVariants as s
 use Rattle.syntax_lexer.specs.declared.token.Word.TheVariants as w
 use Rattle.syntax_trees.specs.Views.{expression_tree}
-use Rattle.syntax_parsing.specs.Parse as reading
-use Rattle.syntax_parsing.specs.Returned.{ahead}
-use Rattle.syntax_parsing.proofs.Loops.{joined}
+use Rattle.syntax_trees.specs.Parse as reading
+use Rattle.syntax_trees.specs.Returned.{ahead}
+use Rattle.syntax_trees.proofs.Loops.{joined}
 use Rattle.syntax_expression_parts.specs.declared.operators.Operators.{Operators}
 use Rattle.syntax_expression_parts.specs.declared.operators.Operators.TheVariants as operators
 use Rattle.syntax_expressions.specs.Parse as spec
@@ -34,8 +34,8 @@ operand_rank operators.Logical = 26
 operand_rank operators.Adding = 17
 operand_rank operators.Scaling = 13
 
-abbrev pub decreases-called : goal.decreases-called
-decreases-called l = 33 * l.depth + 32
+abbrev pub decreases-rest_of_call : goal.decreases-rest_of_call
+decreases-rest_of_call l = 33 * l.depth + 32
 
 abbrev pub decreases-arguments : goal.decreases-arguments
 decreases-arguments l = 33 * l.depth + 31
@@ -46,14 +46,14 @@ decreases-expression l = 33 * l.depth + 30
 abbrev pub decreases-assignment : goal.decreases-assignment
 decreases-assignment l = 33 * l.depth + 1
 
-abbrev pub decreases-negated : goal.decreases-negated
-decreases-negated l = 33 * l.depth + 25
+abbrev pub decreases-logical_operand : goal.decreases-logical_operand
+decreases-logical_operand l = 33 * l.depth + 25
 
 abbrev pub decreases-comparison : goal.decreases-comparison
 decreases-comparison l = 33 * l.depth + 24
 
-abbrev pub decreases-compared : goal.decreases-compared
-decreases-compared l = 33 * l.depth + 23
+abbrev pub decreases-after_left : goal.decreases-after_left
+decreases-after_left l = 33 * l.depth + 23
 
 abbrev pub decreases-compare : goal.decreases-compare
 decreases-compare l = 33 * l.depth + 22
@@ -67,17 +67,17 @@ decreases-contain l = 33 * l.depth + 22
 abbrev pub decreases-values : goal.decreases-values
 decreases-values l = 33 * l.depth + 21
 
-abbrev pub decreases-complemented : goal.decreases-complemented
-decreases-complemented l = 33 * l.depth + 12
+abbrev pub decreases-factor : goal.decreases-factor
+decreases-factor l = 33 * l.depth + 12
 
-abbrev pub decreases-indexed : goal.decreases-indexed
-decreases-indexed l = 33 * l.depth + 11
+abbrev pub decreases-array_entry : goal.decreases-array_entry
+decreases-array_entry l = 33 * l.depth + 11
 
-abbrev pub decreases-unindexed : goal.decreases-unindexed
-decreases-unindexed l = 33 * l.depth + 10
+abbrev pub decreases-object_entry : goal.decreases-object_entry
+decreases-object_entry l = 33 * l.depth + 10
 
-abbrev pub decreases-owned : goal.decreases-owned
-decreases-owned l = 33 * l.depth + 9
+abbrev pub decreases-after_owner : goal.decreases-after_owner
+decreases-after_owner l = 33 * l.depth + 9
 
 abbrev pub decreases-entry : goal.decreases-entry
 decreases-entry l = 33 * l.depth + 8
@@ -91,8 +91,8 @@ decreases-minus l = 33 * l.depth
 abbrev pub decreases-step_before : goal.decreases-step_before
 decreases-step_before l = 33 * l.depth
 
-abbrev pub decreases-stepped : goal.decreases-stepped
-decreases-stepped l = 33 * l.depth + 6
+abbrev pub decreases-postfix : goal.decreases-postfix
+decreases-postfix l = 33 * l.depth + 6
 
 abbrev pub decreases-primary : goal.decreases-primary
 decreases-primary l = 33 * l.depth + 5
@@ -100,14 +100,14 @@ decreases-primary l = 33 * l.depth + 5
 abbrev pub decreases-atom : goal.decreases-atom
 decreases-atom l = 33 * l.depth + 4
 
-abbrev pub decreases-reserved : goal.decreases-reserved
-decreases-reserved l = 33 * l.depth + 3
+abbrev pub decreases-reserved_word : goal.decreases-reserved_word
+decreases-reserved_word l = 33 * l.depth + 3
 
-abbrev pub decreases-related : goal.decreases-related
-decreases-related l = 33 * l.depth + 2
+abbrev pub decreases-object_relative : goal.decreases-object_relative
+decreases-object_relative l = 33 * l.depth + 2
 
-abbrev pub decreases-enclosed : goal.decreases-enclosed
-decreases-enclosed l = 33 * l.depth + 2
+abbrev pub decreases-in_parentheses : goal.decreases-in_parentheses
+decreases-in_parentheses l = 33 * l.depth + 2
 
 abbrev pub decreases-after_name : goal.decreases-after_name
 decreases-after_name l = 33 * l.depth
@@ -115,8 +115,8 @@ decreases-after_name l = 33 * l.depth
 abbrev pub decreases-within : goal.decreases-within
 decreases-within l = 33 * l.depth + 1
 
-abbrev pub decreases-assigned : goal.decreases-assigned
-decreases-assigned l = 33 * l.depth
+abbrev pub decreases-right_side : goal.decreases-right_side
+decreases-right_side l = 33 * l.depth
 
 abbrev pub decreases-chain : goal.decreases-chain
 decreases-chain l = 33 * l.depth + chain_rank l.operators
@@ -124,14 +124,14 @@ decreases-chain l = 33 * l.depth + chain_rank l.operators
 abbrev pub decreases-links : goal.decreases-links
 decreases-links l = 33 * l.depth + links_rank l.operators
 
-abbrev pub decreases-linked : goal.decreases-linked
-decreases-linked l = 33 * l.depth + linked_rank l.operators
+abbrev pub decreases-read_links : goal.decreases-read_links
+decreases-read_links l = 33 * l.depth + linked_rank l.operators
 
 abbrev pub decreases-operand : goal.decreases-operand
 decreases-operand l = 33 * l.depth + operand_rank l.operators
 
-abbrev pub invariant-linked-loop-turn : goal.invariant-linked-loop-turn
-invariant-linked-loop-turn l =
+abbrev pub invariant-read_links-loop-turn : goal.invariant-read_links-loop-turn
+invariant-read_links-loop-turn l =
     spec.chain (operator_of l.operators) (operand_of (spec.nested l.depth) l.operators) (l._turn-end - l._turn)
     (expression_tree l.chain.value) (ahead l.parser)
     ≡ spec.chain (operator_of l.operators) (operand_of (spec.nested l.depth) l.operators)

@@ -1,9 +1,9 @@
 use Rattle.std.proofs.Common.{◌-◌, length, map, sym, ap, ◌∙◌, arith}
-use Rattle.syntax_parsing.specs.Parse.{tail}
-use Rattle.syntax_parsing.proofs.Failing.{part_fails}
-use Rattle.syntax_parsing.specs.Returned.{ahead}
-use Rattle.syntax_parsing.proofs.Loops.{repeated_out, repeated_done, repeated_more, repeated_fails, as_long_out}
-use Rattle.syntax_parsing.proofs.Loops.{as_long_done}
+use Rattle.syntax_trees.specs.Parse.{tail}
+use Rattle.syntax_trees.proofs.Failing.{part_fails}
+use Rattle.syntax_trees.specs.Returned.{ahead}
+use Rattle.syntax_trees.proofs.Loops.{repeated_out, repeated_done, repeated_more, repeated_fails, as_long_out}
+use Rattle.syntax_trees.proofs.Loops.{as_long_done}
 use Rattle.syntax_statement_parts.specs.Parse.{begins_value}
 use Rattle.syntax_statements.specs.Nesting.{begins_statement, begins_in_case}
 use Rattle.syntax_statements.specs.Rows.{contains_statements}

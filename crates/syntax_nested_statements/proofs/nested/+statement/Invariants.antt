@@ -1,7 +1,7 @@
 use Rattle.std.proofs.Common.{◌≡◌, map, ◌+◌, ◌-◌, ◌*◌}
-use Rattle.syntax_parsing.specs.Returned.{ahead}
-use Rattle.syntax_parsing.specs.Parse as reading
-use Rattle.syntax_parsing.proofs.Loops.{joined}
+use Rattle.syntax_trees.specs.Returned.{ahead}
+use Rattle.syntax_trees.specs.Parse as reading
+use Rattle.syntax_trees.proofs.Loops.{joined}
 use Rattle.syntax_statement_parts.specs.Parse as parts
 use Rattle.syntax_statements.specs.Nesting.{begins_statement, begins_in_case}
 use Rattle.syntax_statements.specs.Views.{statement_tree, case_tree}
@@ -35,8 +35,8 @@ decreases-choice l = 8 * l.depth + 5
 abbrev pub decreases-repetition : goal.decreases-repetition
 decreases-repetition l = 8 * l.depth + 5
 
-abbrev pub decreases-entered : goal.decreases-entered
-decreases-entered l = 8 * l.depth + 1
+abbrev pub decreases-do_body : goal.decreases-do_body
+decreases-do_body l = 8 * l.depth + 1
 
 abbrev pub decreases-until : goal.decreases-until
 decreases-until l = 8 * l.depth + 5

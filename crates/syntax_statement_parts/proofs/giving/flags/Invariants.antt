@@ -1,7 +1,7 @@
 use Rattle.std.proofs.Common.{◌≡◌, map, ◌-◌}
-use Rattle.syntax_parsing.specs.Returned.{ahead}
-use Rattle.syntax_parsing.specs.Parse as reading
-use Rattle.syntax_parsing.proofs.Loops.{joined}
+use Rattle.syntax_trees.specs.Returned.{ahead}
+use Rattle.syntax_trees.specs.Parse as reading
+use Rattle.syntax_trees.proofs.Loops.{joined}
 use Rattle.syntax_statement_parts.specs.Views.{flag_tree}
 use Rattle.syntax_statement_parts.specs.Parse as parts
 use Rattle.syntax_statement_parts.proofs.giving.flags.Given as goal

@@ -1,5 +1,5 @@
 use Rattle.std.proofs.Common.{sym, ◌∙◌}
-use Rattle.syntax_parsing.specs.Returned.{ahead}
+use Rattle.syntax_trees.specs.Returned.{ahead}
 use Rattle.syntax_statement_parts.proofs.Looped.{looped_read}
 use Rattle.syntax_statement_parts.proofs.objectloop.looped.Goals as goal
 

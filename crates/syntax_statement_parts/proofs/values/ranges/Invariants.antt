@@ -1,8 +1,8 @@
 use Rattle.std.proofs.Common.{◌≡◌, map, ◌-◌}
 use Rattle.syntax_lexer.specs.declared.token.Sign.TheVariants as s
-use Rattle.syntax_parsing.specs.Parse.{is_sign, further}
-use Rattle.syntax_parsing.specs.Returned.{ahead}
-use Rattle.syntax_parsing.proofs.Loops.{joined}
+use Rattle.syntax_trees.specs.Parse.{is_sign, further}
+use Rattle.syntax_trees.specs.Returned.{ahead}
+use Rattle.syntax_trees.proofs.Loops.{joined}
 use Rattle.syntax_statement_parts.specs.Views.{range_tree}
 use Rattle.syntax_statement_parts.specs.Parse as spec
 use Rattle.syntax_statement_parts.proofs.values.ranges.Given as goal

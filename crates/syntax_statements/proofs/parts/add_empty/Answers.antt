@@ -1,5 +1,5 @@
 use Rattle.std.proofs.Common.{subst}
-use Rattle.syntax_parsing.specs.Returned.{ahead}
+use Rattle.syntax_trees.specs.Returned.{ahead}
 use Rattle.std.specs.Prelude.{Ok}
 use Rattle.syntax_statements.specs.declared.tree.Statement.TheVariants as said
 use Rattle.syntax_statements.specs.Rows.{AddsStatement}

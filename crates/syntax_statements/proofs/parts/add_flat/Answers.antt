@@ -1,7 +1,7 @@
 use Rattle.std.proofs.Common.{sym, ap, ◌∙◌}
 use Rattle.syntax_lexer.specs.declared.token.Sign.TheVariants as s
-use Rattle.syntax_parsing.specs.Parse.{is_sign}
-use Rattle.syntax_parsing.specs.Returned.{ahead}
+use Rattle.syntax_trees.specs.Parse.{is_sign}
+use Rattle.syntax_trees.specs.Returned.{ahead}
 use Rattle.syntax_statements.proofs.Rows.{after_fails, flat_empty, flat_plain}
 use Rattle.syntax_statements.proofs.parts.add_flat.Goals as goal
 

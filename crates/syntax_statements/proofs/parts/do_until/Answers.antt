@@ -1,6 +1,6 @@
 use Rattle.std.proofs.Common.{Ok, refl, subst}
 use Rattle.syntax_lexer.specs.declared.token.Sign.TheVariants as s
-use Rattle.syntax_parsing.specs.Returned.{ahead}
+use Rattle.syntax_trees.specs.Returned.{ahead}
 use Rattle.syntax_statements.specs.Parse.{ended, closed_by}
 use Rattle.syntax_statements.specs.Returned.{TakesStatement}
 use Rattle.syntax_statements.specs.Views.{statement_tree}

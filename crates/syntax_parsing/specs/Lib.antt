@@ -1,4 +1,0 @@
-pub mod Stop
-pub mod Parse
-pub mod Returned
-pub mod Errors
