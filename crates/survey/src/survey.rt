@@ -165,8 +165,13 @@ fn read_copy(alloc: Global, file: Vec<u8>) -> Result<Result<Contents, HeaderFaul
     let mut memory = file;
     match load(&mut memory) {
         Ok(story) => {
-            let contents =
-                Contents::read(alloc, &memory, &story.header, story.version, Mode::Standard)?;
+            let contents = Contents::read(
+                alloc,
+                &memory,
+                &story.header,
+                story.version,
+                Mode::Standard,
+            )?;
             Ok(Ok(contents))
         }
         Err(fault) => Ok(Err(fault)),

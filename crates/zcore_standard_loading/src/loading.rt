@@ -50,6 +50,7 @@ const REVISION: usize = 0x32;
 /// The words from which packed addresses of routines and of texts count in version 7, in eights of
 /// bytes (section 1.2.3).
 const ROUTINES_WORD: usize = 0x28;
+
 const TEXTS_WORD: usize = 0x2A;
 
 /// From version 4 on: a fixed-space style is there, and nothing else that Flags 1 tells of.
@@ -229,7 +230,11 @@ fn version(memory: &[u8]) -> StoryVersion
 fn counted_as(number: u8) -> Version
     ensures { (memory : List ℕ) → slice_index memory 0 ≡ number → scale_of result ≡ scale_in memory }
 {
-    if number == 8 { Version::V8 } else { Version::V5 }
+    if number == 8 {
+        Version::V8
+    } else {
+        Version::V5
+    }
 }
 
 /// The sum of the bytes from an address on, modulo 65,536.
