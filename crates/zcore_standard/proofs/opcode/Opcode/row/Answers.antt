@@ -17,7 +17,7 @@ pub returns-in_default-clause-said : goal.returns-in_default-clause-said
 returns-in_default-clause-said c =
     older_said c.args.version c.args.self c.last_row.result c.older_row.result c.last_row.ensures
     (elim c.in_default.branch [
-      in_default-via-in-Some+then-row-version+else-version-le-LAST w ↦
+      | in_default-via-in-Some+then-row-version+else-version-le-LAST w ↦
           none_past c.args.version c.last_row.result w.in-Some.row w.in-Some.is
           (omega (arith, w.if-version-le-LAST.false))
       | in_default-via-in-Some+else-row-version w ↦
