@@ -6,13 +6,11 @@ use Rattle.std.proofs.lemmas.Bool.{eq-eqb, ne_eqb}
 use Rattle.std.proofs.lemmas.List.{take_all, length-drop, length-take-le}
 use Rattle.std.proofs.lemmas.List.Quantifiers.{position-Some}
 use Rattle.ztext.specs.Alphabets.{place_in, spelling_in_punctuation}
-use Rattle.ztext.specs.Words.{packed}
 use Rattle.ztext.specs.TextParts.{AreSmall, filled, IsFilledKey}
 use Rattle.ztext.proofs.Packing.{small_append}
 use Rattle.ztext.proofs.Spelling.{AreBytes}
 use Rattle.ztext.proofs.Keys.{filled_small}
 use Rattle.zcore_standard.specs.Texts.{spelled_in_first, spelled_in_second, spelled_in_third, spelling_by, spelled_by}
-use Rattle.zcore_standard.specs.Words.{form_of}
 
 -- How a code is spelled that is a space or another
 
@@ -101,8 +99,8 @@ form_small alphabets word characters count index long bytes h =
     (filled_small (spelled_by alphabets (take index word))
     (spelled_small alphabets (take index word) long (bytes_take index word bytes)))
 
-pub form_is : (alphabets word characters : List ℕ) (count index : ℕ) → length word ≤ index
-    → IsFilledKey (spelled_by alphabets (take index word)) count characters → packed characters ≡ form_of alphabets word
-unfolding form_of filled
-form_is alphabets word characters count index le h = ap packed
-    (h.characters ∙ ap (λ w. filled (spelled_by alphabets w)) (take_all index word le))
+pub nine_is : (alphabets word characters : List ℕ) (count index : ℕ) → length word ≤ index
+    → IsFilledKey (spelled_by alphabets (take index word)) count characters
+    → characters ≡ filled (spelled_by alphabets word)
+nine_is alphabets word characters count index le h =
+    h.characters ∙ ap (λ w. filled (spelled_by alphabets w)) (take_all index word le)

@@ -58,7 +58,7 @@ line_taken r t loaded text parse line some filled =
 
 -- What the line leads to
 
-given_as : {R : Result Next End} {r s t : Recording Contents} (f g : State → Out Next) → GoesOn r s
+pub given_as : {R : Result Next End} {r s t : Recording Contents} (f g : State → Out Next) → GoesOn r s
     → f (state_of r.store []) ≡ g (state_of s.store []) → Went R s t g → Told R r [] t [] f
 given_as {R = Ok a} f g goes e w = record { told = (goes_on_after goes w.did.0, e ∙ w.did.1 []) }
 given_as {R = Err ends.Memory} f g goes e w = record { told = given_up_after goes w.did }

@@ -2,7 +2,7 @@
 
 ghost use Rattle.std.specs.Prelude.{◌≡◌, ◌<◌, ◌≤◌, ◌++◌, ℕ, List, length, take, drop, slice_range, MatchOption, ⊤};
 ghost use Rattle.ztext.specs.Alphabets as spec;
-ghost use Rattle.ztext.specs.TextParts.{AreSmall, IsFilledKey};
+ghost use Rattle.ztext.specs.TextParts.{AreSmall, IsFilledKey, filled};
 ghost use Rattle.ztext.specs.Words as words;
 ghost use Rattle.zcore_standard.specs.Texts as texts;
 ghost use Rattle.zcore_standard.specs.Words as definitions;
@@ -109,15 +109,15 @@ fn sign_spelling(alphabets: &[u8; 78], c: u8) -> ZCharacters
     }
 }
 
-/// Adds the Z-characters of a character to the first `count` of nine, as far as there is room, and
-/// answers how many there are then.
-fn put_spelling(characters: &mut [u8; 9], alphabets: &[u8; 78], count: usize, c: u8) -> usize
+/// Adds Z-characters to the first `count` of nine, as far as there is room, and answers how many there
+/// are then.
+pub fn put_characters(characters: &mut [u8; 9], count: usize, more: &[u8]) -> usize
     requires { count ≤ 9 }
     ensures { (zs : List ℕ) → IsFilledKey zs count characters.old
-        → IsFilledKey (zs ++ texts.spelling_by alphabets.now c) result characters.new }
+        → IsFilledKey (zs ++ more.now) result characters.new }
 {
     let mut filled = count;
-    for z in spelling(alphabets, c).as_slice() {
+    for z in more {
         if filled < 9 {
             characters[filled] = *z;
             filled += 1;
@@ -126,8 +126,17 @@ fn put_spelling(characters: &mut [u8; 9], alphabets: &[u8; 78], count: usize, c:
     filled
 }
 
+/// Adds those of a character.
+fn put_spelling(characters: &mut [u8; 9], alphabets: &[u8; 78], count: usize, c: u8) -> usize
+    requires { count ≤ 9 }
+    ensures { (zs : List ℕ) → IsFilledKey zs count characters.old
+        → IsFilledKey (zs ++ texts.spelling_by alphabets.now c) result characters.new }
+{
+    put_characters(characters, count, spelling(alphabets, c).as_slice())
+}
+
 /// The two bytes of three Z-characters. `mark` is 128 in the last word of a text, or else 0.
-fn word_bytes(mark: u8, a: u8, b: u8, c: u8) -> [u8; 2]
+pub fn word_bytes(mark: u8, a: u8, b: u8, c: u8) -> [u8; 2]
     requires top { mark ≤ 128 }
     requires first { a < 32 }
     requires second { b < 32 }
@@ -138,7 +147,7 @@ fn word_bytes(mark: u8, a: u8, b: u8, c: u8) -> [u8; 2]
 }
 
 /// Nine Z-characters in three words.
-fn packed(characters: &[u8; 9]) -> [u8; 6]
+pub fn packed(characters: &[u8; 9]) -> [u8; 6]
     requires { AreSmall characters.now }
     ensures { result ≡ words.packed characters.now }
 {
@@ -148,16 +157,25 @@ fn packed(characters: &[u8; 9]) -> [u8; 6]
     [a, b, c, d, e, f]
 }
 
-/// The form of a word in a dictionary by these alphabets: its first nine Z-characters, filled with
-/// fives, in three words. Capitals stay capitals. Every word has a form, whatever its bytes, and none
-/// asks for memory.
-pub(crate) fn form_of(alphabets: &[u8; 78], word: &[u8]) -> [u8; 6]
-    ensures { result ≡ definitions.form_of alphabets.now word.now }
+/// The first nine Z-characters of a word by these alphabets, filled with fives. Capitals stay
+/// capitals.
+pub fn nine_characters(alphabets: &[u8; 78], word: &[u8]) -> [u8; 9]
+    ensures nine { result ≡ filled (texts.spelled_by alphabets.now word.now) }
+    ensures small { AreSmall result }
 {
     let mut characters = [5; 9];
     let mut count = 0;
     for c in word {
         count = put_spelling(&mut characters, alphabets, count, *c);
     }
-    packed(&characters)
+    characters
+}
+
+/// The form of a word in a dictionary by these alphabets: its first nine Z-characters, filled with
+/// fives, in three words. Every word has a form, whatever its bytes, and none asks for memory.
+#[tactic(auto, unfolding(zcore_standard::specs::Words::form_of, ztext::specs::TextParts::filled))]
+pub(crate) fn form_of(alphabets: &[u8; 78], word: &[u8]) -> [u8; 6]
+    ensures { result ≡ definitions.form_of alphabets.now word.now }
+{
+    packed(&nine_characters(alphabets, word))
 }

@@ -76,7 +76,7 @@ fn take_typed(
 }
 
 /// Waits for nothing any more.
-fn stop_waiting(store: &mut Recorded<Store>) -> Result<(), NoMemory>
+pub fn stop_waiting(store: &mut Recorded<Store>) -> Result<(), NoMemory>
     requires { IsSound store.old.store }
     ensures waits { OnOk result (WaitsNoMore store.old store.new) }
     ensures given_up { OnErr result (GivenUp store.old store.new) }

@@ -23,7 +23,7 @@ const RIGHT: u16 = 132;
 /// The key that a line is where a key is waited for: one of six that are named, or the code of
 /// the line's first character, or, for an empty line, the key that ends a line.
 #[tactic(auto, unfolding(zcore_standard::specs::Reading::key_of_line))]
-pub(crate) fn key_of_line(extra: &[u16], line: &[u8]) -> u16
+pub fn key_of_line(extra: &[u16], line: &[u8]) -> u16
     ensures { result ≡ definitions.key_of_line extra.now line.now }
 {
     if line == b"/key up".as_slice() {

@@ -18,7 +18,12 @@ mod waiting;
 mod writable;
 
 pub use encode::encode_text;
-pub use given::give_typed;
-pub use lines::can_be_typed;
-pub use parsing::tokenise;
+pub use form::{nine_characters, packed, put_characters, word_bytes};
+pub use given::{give_typed, stop_waiting};
+pub use key::key_of_line;
+pub use lines::{can_be_typed, put_small_letters};
+pub use parsing::{has_slots, tokenise};
+pub use search::entry_with_form;
+pub use slots::put_four;
 pub use waiting::{wait_for_key, wait_for_line};
+pub use writable::are_writable;

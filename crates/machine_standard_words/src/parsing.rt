@@ -159,7 +159,7 @@ fn letters_in(memory: &[u8], text: u16) -> &[u8]
 
 /// Whether the slots of a parse buffer are in dynamic memory after the header, in a story with this
 /// static base.
-pub(crate) fn has_slots(memory: &[u8], static_base: u16, parse: u16) -> bool
+pub fn has_slots(memory: &[u8], static_base: u16, parse: u16) -> bool
     requires base { static_base ≡ static_base_of memory.now }
     requires within { static_base ≤ length memory.now }
     ensures { result ≡ definitions.has_slots memory.now parse }

@@ -13,7 +13,7 @@ use zcore_standard::Loaded;
 /// The address of the first entry that has the form of a word, or 0. A dictionary that is known to
 /// be in order is searched by halving.
 #[tactic(auto, unfolding(zcore_standard::specs::Words::entry_with_form))]
-pub(crate) fn entry_with_form(
+pub fn entry_with_form(
     loaded: &Loaded,
     memory: &[u8],
     dictionary: u16,

@@ -128,7 +128,8 @@ fn put_slot(
     }
 }
 
-fn put_four(bytes: &mut [u8; 1020], place: usize, a: u8, b: u8, c: u8, d: u8)
+/// Writes four bytes to a place of a row.
+pub fn put_four(bytes: &mut [u8; 1020], place: usize, a: u8, b: u8, c: u8, d: u8)
     requires { place + 4 ≤ 1020 }
     ensures { take (place + 4) bytes.new ≡ take place bytes.old ++ a ∷ b ∷ c ∷ d ∷ [] }
 {

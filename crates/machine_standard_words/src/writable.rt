@@ -8,7 +8,7 @@ use zcore::layout::HEADER_LENGTH;
 
 /// Whether so many bytes from an address on are in dynamic memory after the header, in a story with
 /// this static base.
-pub(crate) fn are_writable(static_base: u16, at: usize, count: usize) -> bool
+pub fn are_writable(static_base: u16, at: usize, count: usize) -> bool
     requires address { at ≤ 65535 }
     requires few { count ≤ 65535 }
     ensures { (memory : List ℕ) → static_base ≡ static_base_of memory

@@ -1,0 +1,37 @@
+-- The first six Z-characters of a word in two words of memory.
+use Rattle.std.proofs.Common.{◌≡◌, ◌<◌, ℕ, List, ◌∷◌, [], length, get_or, take, drop, refl, sym, ap, ◌∙◌, arith, drop-cons}
+use Rattle.ztext.specs.Words.{packed, word_of}
+use Rattle.ztext.specs.TextParts.{filled}
+use Rattle.zcore_standard.specs.Loaded.{alphabets_of}
+use Rattle.zcore_standard.specs.Texts.{spelled_by}
+use Rattle.zcore_versions.specs.Keys.{spelled_in, form_in}
+use Rattle.zcore_versions.specs.Versions.{Story, is_small, locks_alphabets}
+
+six : (zs : List ℕ) → length zs ≡ 9 → take 6 zs
+    ≡ get_or zs 0 0 ∷ get_or zs 1 0 ∷ get_or zs 2 0 ∷ get_or zs 3 0 ∷ get_or zs 4 0 ∷ get_or zs 5 0 ∷ []
+six zs e =
+    ap (take 6) (drop-cons zs 0 0 (omega arith)) ∙ ap (λ y. get_or zs 0 0 ∷ take 5 y)
+    (drop-cons zs 1 0 (omega arith)) ∙ ap (λ y. get_or zs 0 0 ∷ get_or zs 1 0 ∷ take 4 y)
+    (drop-cons zs 2 0 (omega arith)) ∙ ap (λ y. get_or zs 0 0 ∷ get_or zs 1 0 ∷ get_or zs 2 0 ∷ take 3 y)
+    (drop-cons zs 3 0 (omega arith))
+    ∙ ap (λ y. get_or zs 0 0 ∷ get_or zs 1 0 ∷ get_or zs 2 0 ∷ get_or zs 3 0 ∷ take 2 y)
+    (drop-cons zs 4 0 (omega arith))
+    ∙ ap (λ y. get_or zs 0 0 ∷ get_or zs 1 0 ∷ get_or zs 2 0 ∷ get_or zs 3 0 ∷ get_or zs 4 0 ∷ take 1 y)
+    (drop-cons zs 5 0 (omega arith))
+
+pub packed_is : (zs p q : List ℕ) → length zs ≡ 9 → p ≡ word_of 0 (get_or zs 0 0) (get_or zs 1 0) (get_or zs 2 0)
+    → q ≡ word_of 128 (get_or zs 3 0) (get_or zs 4 0) (get_or zs 5 0)
+    → get_or p 0 0 ∷ get_or p 1 0 ∷ get_or q 0 0 ∷ get_or q 1 0 ∷ [] ≡ packed (take 6 zs)
+unfolding packed
+packed_is zs p q e ep eq = rw (ep, eq) (sym (ap packed (six zs e)))
+
+-- of nine Z-characters the first six are those of the word
+pub key_is : (story : Story) (word zs key : List ℕ) → is_small story.version ≡ true
+    → zs ≡ filled (spelled_in story word) → key ≡ packed (take 6 zs) → key ≡ form_in story word
+unfolding form_in filled
+key_is story word zs key small is e =
+    e ∙ ap (λ l. packed (take 6 l)) is ∙ rw small refl
+
+pub not_locked : (story : Story) (word zs : List ℕ) → locks_alphabets story.version ≡ false
+    → zs ≡ filled (spelled_by (alphabets_of story.loaded) word) → zs ≡ filled (spelled_in story word)
+not_locked story word zs none e = rw none e
