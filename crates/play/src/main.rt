@@ -3,6 +3,7 @@
 
 mod checking;
 mod filling;
+mod graphical;
 mod names;
 mod place;
 mod reading;
@@ -14,6 +15,7 @@ mod unread;
 ghost use Rattle.terminal.specs.Range.{IsInRange};
 
 use crate::checking::{check, take_mode};
+use crate::graphical::refused_as_graphical;
 use crate::names::{given_words, has_marked};
 use crate::place::{Placed, map_in, rows_in};
 use crate::reading::story_in;
@@ -102,7 +104,10 @@ fn story_of(rt: &HostRuntime, words: Words<'_>) -> Result<Vec<u8>, ExitCode> {
         None => survey::Mode::Profile,
     };
     match story_in(rt, words.story, mode) {
-        Ok(Ok(story)) => Ok(story),
+        Ok(Ok(story)) => match refused_as_graphical(&story, mode) {
+            Some(why) => Err(refuse(rt, why)),
+            None => Ok(story),
+        },
         Ok(Err(fault)) => Err(refuse(rt, fault)),
         Err(_) => Err(refuse(rt, format_args!("cannot read {}", OneLine(words.story)))),
     }

@@ -1,4 +1,4 @@
-//! The tables of a story's version.
+//! The tables of a version.
 
 ghost use Rattle.std.specs.Prelude.{◌+◌, ◌≤◌};
 
@@ -7,7 +7,7 @@ use ztext::MOST_ABBREVIATIONS;
 
 /// The sizes of an object table, in bytes.
 #[derive(Clone, Copy)]
-pub(crate) struct ObjectTable {
+pub struct ObjectTable {
     /// The defaults of properties.
     pub defaults: usize,
 
@@ -33,7 +33,7 @@ const LARGE: ObjectTable = ObjectTable {
 };
 
 /// The sizes of a version's object table.
-pub(crate) fn object_table(version: u8) -> ObjectTable
+pub fn object_table(version: u8) -> ObjectTable
     ensures inside { result.properties + 2 ≤ result.entry }
     ensures entry { result.entry ≤ 14 }
     ensures defaults { result.defaults ≤ 126 }
@@ -42,7 +42,7 @@ pub(crate) fn object_table(version: u8) -> ObjectTable
 }
 
 /// How many abbreviations a version has at most (section 3.3).
-pub(crate) fn most_abbreviations(version: u8) -> usize
+pub fn most_abbreviations(version: u8) -> usize
     ensures { result ≤ 96 }
 {
     match version {
