@@ -85,7 +85,11 @@ pub fn step_any(
     if version.is_late() {
         return step_standard(header, store, text, start, loaded, turn, here);
     }
-    match version_operation_at(store.store().memory(), here.program_counter as usize, version) {
+    match version_operation_at(
+        store.store().memory(),
+        here.program_counter as usize,
+        version,
+    ) {
         None => step_standard(header, store, text, start, loaded, turn, here),
         Some((operation, row)) => step_other(
             header, store, text, start, loaded, version, turn, here, operation, row,
