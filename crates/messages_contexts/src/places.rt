@@ -5,7 +5,7 @@ use crate::definitions::{Definition, defined_at, is_unknown};
 use crate::kinds::{has, is_of};
 use crate::objects::is_property;
 use crate::operands::{begins_expression, ends_operand, is_changed};
-use crate::rules::{Say, Spot, Step, Test, Want, wants};
+use crate::rules::{Say, Spot, Step, Test, Want};
 use crate::statements::{
     begins_line, group_at, is_joined, last_open, open_parenthesis, start_of, switch_around,
 };
@@ -58,6 +58,11 @@ pub const NO_CONDITIONS: Conditions = Conditions {
     all: true,
     any: false,
 };
+
+/// A set of one member if something is wanted, and else of none.
+pub fn wants(want: Want, is_wanted: bool) -> u64 {
+    u64::from(is_wanted).wrapping_shl(u32::from(want as u8))
+}
 
 impl<'t, 's> Place<'t, 's> {
     /// The place at the token of a number, where something is expected.

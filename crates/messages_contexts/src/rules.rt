@@ -62,11 +62,6 @@ pub enum Want {
     Variable,
 }
 
-/// A set of one member if something is wanted, and else of none.
-pub fn wants(want: Want, is_wanted: bool) -> u64 {
-    u64::from(is_wanted).wrapping_shl(u32::from(want as u8))
-}
-
 /// What is asked of a token, or of the place.
 #[derive(Clone, Copy)]
 pub enum Test {
