@@ -30,6 +30,19 @@ EXT 0 - s    EXT 1 - s    EXT 2 vv s   EXT 3 vv s   EXT 4 h s    EXT 9 - s    EX
 EXT 13 hh -
 """
 
+# What versions 3 and 4 have in place of the profile's opcodes of these numbers, and what they do not have:
+OLDER = """
+1OP 15 v s   0OP 5 - b    0OP 6 - b    0OP 9 - -    VAR 4 lq -
+"""
+OLDER_4 = """
+1OP 15 v s   0OP 5 - s    0OP 6 - s    0OP 9 - -    VAR 4 lq -
+"""
+NOT_IN = {
+    3: [("2OP", 25), ("1OP", 8), *(("VAR", n) for n in (12, 13, 14, 15, 16, 17, 18, 22, 23))],
+    4: [],
+}
+NOT_IN_OLDER = [("2OP", 26), ("2OP", 27), ("2OP", 28), ("0OP", 15), *(("VAR", n) for n in range(24, 32))]
+
 READ = "VAR", 4
 TWO_BYTES_OF_TYPES = {("VAR", 12), ("VAR", 26)}
 
@@ -45,7 +58,18 @@ OBJECTS = bytes.fromhex(
     "00 00 00 00 00 00 00 01 00 00 00 00 02 EB 00 00 00 00 00 00 00 00 00 00 00 00 02 F1"
     "02 35 51 C6 85 54 12 34 0A 07 86 86 00 01 00 02 00 03 00 00 00 01 94 A5 3F 09 00 00 83 80"
 )
+# the same objects in version 3, whose entries are shorter
+SMALL_OBJECTS = bytes.fromhex(
+    "80 00 00 01 00 00 02 02 D6 00 00 00 00 01 03 00 02 E9 00 00 00 00 01 00 00 02 EB 00 00 00 00 00 00 00 02 F1"
+    + "00" * 20
+    + "02 35 51 C6 85 34 12 34 0A 07 A6 00 01 00 02 00 03 00 00 00 00 01 94 A5 1F 09 00 00 43 80 00 00 00"
+)
 LETTERS, WORDS, FREE, TEXT, STATIC = 768, 800, 832, 1024, 1049
+
+# By how many bytes packed addresses count, and the greatest attribute.
+SCALES = {3: 2, 4: 4, 5: 4, 7: 4, 8: 8}
+LAST_ATTRIBUTE = {3: 31, 4: 47, 5: 47, 7: 47, 8: 47}
+LAST_OLD = 4
 CODE = STATIC + len(DICTIONARY)
 SLOT = 256
 FIRST_SLOT = CODE + 8
@@ -70,6 +94,16 @@ def opcodes(table):
     return [(form, int(number), operands.strip("-"), rest) for form, number, operands, rest in rows]
 
 
+def table_of(version, tables):
+    """The opcodes of these tables that a version has, and its own."""
+    found = [opcode for text in tables for opcode in opcodes(text)]
+    if version > LAST_OLD:
+        return found
+    own = opcodes(OLDER if version == 3 else OLDER_4)
+    gone = {(form, number) for form, number, _, _ in own} | set(NOT_IN[version]) | set(NOT_IN_OLDER)
+    return own + [opcode for opcode in found if opcode[:2] not in gone and opcode[0] != "EXT"]
+
+
 def words_of_text():
     """A text of some letters and spaces."""
     count = random.randint(1, 4)
@@ -83,7 +117,8 @@ class Scope:
     anything, from 0 to 1."""
 
     def __init__(self, version, variables, wildness):
-        self.scale = 4 if version == 5 else 8
+        self.scale = SCALES[version]
+        self.last_attribute = LAST_ATTRIBUTE[version]
         self.locals = variables
         self.wildness = wildness
 
@@ -106,7 +141,7 @@ class Scope:
             "v": self.value,
             "n": self.variable,
             "o": lambda: random.randint(1, 4),
-            "a": lambda: random.randint(0, 47),
+            "a": lambda: random.randint(0, self.last_attribute),
             "p": lambda: random.choice(PROPERTIES),
             "e": lambda: 1,
             "j": lambda: random.choice([10, 20]),
@@ -193,21 +228,25 @@ def routine(table, version, wildness):
     """A routine with some locals, in a slot."""
     variables = random.randint(1, 4)
     last = one_operand(11, random.randint(0, 255)), None
-    code = [variables] + body(table, Scope(version, variables, wildness), [], last, SLOT - 1)
+    values = [random.choice((0, 0, 1, 255)) for _ in range(2 * variables)] if version <= LAST_OLD else []
+    room = SLOT - 1 - len(values)
+    code = [variables] + values + body(table, Scope(version, variables, wildness), [], last, room)
     return bytes(code).ljust(SLOT, b"\0")
 
 
 def random_story(tables, wildness, version):
     """A story of random instructions from tables of opcodes, of a wildness."""
-    table = [opcode for text in tables for opcode in opcodes(text)]
+    table = table_of(version, tables)
     scope = Scope(version, 0, wildness)
-    first = variable_form(5, ord(">")) + EMPTY_BUFFER + variable_form(4, LETTERS, WORDS, store=Variable(16))
+    store = Variable(16) if version > LAST_OLD else None
+    first = variable_form(5, ord(">")) + EMPTY_BUFFER + variable_form(4, LETTERS, WORDS, store=store)
     main = body(table, scope, first, ([0x8C, 0, 0], "loop"), SLOT * 4)
     text = bytes(words_of_text()).ljust(SLOT, b"\0")
     slots = text + b"".join(routine(table, version, wildness) for _ in range(ROUTINES))
     begin = bytes([0x8C]) + (MAIN - CODE - 1).to_bytes(2, "big")
     entries = bytearray(STATIC - ENTRIES)
-    for place, part in ((ENTRIES, OBJECTS), (LETTERS, b"\x14"), (WORDS, b"\x04"), (TEXT, bytes(words_of_text()))):
+    objects = OBJECTS if version > 3 else SMALL_OBJECTS
+    for place, part in ((ENTRIES, objects), (LETTERS, b"\x14"), (WORDS, b"\x04"), (TEXT, bytes(words_of_text()))):
         entries[place - ENTRIES : place - ENTRIES + len(part)] = part
     code = begin.ljust(FIRST_SLOT - CODE, b"\0") + slots + bytes(main)
     return story_of(code, version=version, entries=bytes(entries))

@@ -24,6 +24,7 @@ complete -c play -n 'not __play_checks' -l check -d 'Say whether story files loa
 complete -c play -n 'not __play_checks' -l why -d 'Say at the end where the story is'
 complete -c play -n 'not __play_checks' -l map -r -F -d 'With --why, name the routine and the line by this map'
 complete -c play -n 'not __play_checks' -l seed -x -d 'Begin the random numbers with this'
+complete -c play -n 'not __play_checks' -l session -r -F -d 'Keep each line in this file, and go on from the last one'
 complete -c play -n 'not __play_checks' -l wrap -x -d 'Break lines at words for a terminal of this many columns'
 complete -c play -n 'not __play_checks' -s h -l help -d 'Print help'
 complete -c play -n 'not __play_checks' -s V -l version -d 'Print the version'

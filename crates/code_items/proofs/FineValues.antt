@@ -60,10 +60,10 @@ module _ (here : Bounds) where
       two_fine here (left_of a b) (alone b) _ _ tail (value_count a push) (value_count b push) at lt
       (λ lt. fa.value at push tt lt) (λ lt. fb.value (at + operand_count a (left_of a b)) push tt lt) ht
 
-  call_fine : (r : ℕ) (vs : Values) → IsValue p locals (source.call r vs) → (d : Destination)
+  is_call_item : (r : ℕ) (vs : Values) → IsValue p locals (source.call r vs) → (d : Destination)
       → IsDestination p locals d
       → IsItem p locals count (call_item (are_more_pushed (operands_of vs)) r (operands_of vs) d)
-  call_fine r vs h d hd = go (are_more_pushed (operands_of vs)) refl
+  is_call_item r vs h d hd = go (are_more_pushed (operands_of vs)) refl
     where
       go : (b : Bool) → are_more_pushed (operands_of vs) ≡ b → IsItem p locals count (call_item b r (operands_of vs) d)
       go true e =
@@ -83,10 +83,10 @@ module _ (here : Bounds) where
       → FineValue (source.call r vs)
   call_fine r vs h f = record {
     value = λ at d hd lt. last here (arguments_items (are_more_pushed (operands_of vs)) at vs) _
-        (f.arguments (are_more_pushed (operands_of vs)) at (omega (arith, lt))) (call_fine r vs h d hd);
+        (f.arguments (are_more_pushed (operands_of vs)) at (omega (arith, lt))) (is_call_item r vs h d hd);
     branch = λ at when t lt le. last_two here (arguments_items (are_more_pushed (operands_of vs)) at vs) _ _
         (f.arguments (are_more_pushed (operands_of vs)) at (omega (arith, lt)))
-        (call_fine r vs h push tt) (true_fine here pushed when t tt le);
+        (is_call_item r vs h push tt) (true_fine here pushed when t tt le);
   }
 
   pub prefixed_fine : (op : Prefix) (v : Value) → IsValue p locals v → FineValue v → FineValue (source.prefixed op v)

@@ -1,5 +1,7 @@
 -- The machine and the store of a story that was loaded.
-use Rattle.std.proofs.Common.{◌≡◌, ◌≤◌, ℕ, Bool, List, [], length, take, ap, sym, ◌∙◌, subst, arith, Ok, Option}
+use Rattle.std.proofs.Common.{◌≡◌, ◌≤◌, ℕ, zero, suc, Bool, true, false, List, [], length, take, refl, ap, sym, ◌∙◌}
+use Rattle.std.proofs.Common.{subst, arith, Ok, Option}
+use Rattle.std.specs.Prelude.{nat_le}
 use Rattle.std.proofs.lemmas.List.{length-take-le}
 use Rattle.zcore.specs.declared.standard_state.StandardState.{StandardState}
 use Rattle.zcore.specs.declared.header.Header.{Header}
@@ -9,20 +11,23 @@ use Rattle.zcore.specs.State.{State}
 use Rattle.zcore.specs.Turn.{first_state}
 use Rattle.zcore_standard_loading.specs.declared.loading.LoadedStory.{LoadedStory}
 use Rattle.zcore_standard_loading.specs.Loading.{IsPlayable, ReadsFile, characters_of, own_alphabets_of, loaded_of}
-use Rattle.zcore_standard_loading.specs.Loading.{memory_for}
+use Rattle.zcore_standard_loading.specs.Loading.{is_played, memory_for, version_in}
 use Rattle.zcore_standard.specs.Loaded.{seeded}
 use Rattle.zcore_standard_loading.specs.Loading.{story_in, story_length}
 use Rattle.zcore_standard_loading.proofs.Headers.{length_stays}
 use Rattle.zcore_standard.specs.Loaded.{Loaded}
 use Rattle.machine_frames.specs.Contents.{Contents, memory_of}
-use Rattle.machine_frames.specs.States.{state_of, IsSound, IsHeadedBy}
-use Rattle.machine_opcodes.proofs.Targets.{scale_is}
-use Rattle.machine_standard.specs.Loads.{Begins, IsLoaded}
+use Rattle.machine_frames.specs.States.{state_of, IsScaled, IsSound, IsHeadedBy}
+use Rattle.zcore_versions.specs.declared.version.StoryVersion.{StoryVersion}
+use Rattle.zcore_versions.specs.Versions.{Story, locks_alphabets, versioned}
+use Rattle.machine_standard.specs.Loads.{Begins, IsLoaded, IsPlayedVersion}
 use Rattle.machine_standard.specs.declared.turn.StandardMachine.{StandardMachine}
 
-headed_by : (memory : List ℕ) (header : Header) → IsPlayable memory header → IsHeadedBy header memory
-headed_by memory header p = record {
-  scale = scale_is memory header.version p.read.version;
+headed_by : (memory : List ℕ) (header : Header) (version : StoryVersion) → IsPlayable memory header version
+    → IsHeadedBy header memory
+unfolding IsScaled
+headed_by memory header version p = record {
+  scale = p.read.scale;
   static_base = p.read.static_base;
   globals = p.read.globals;
   defaults = p.read.defaults;
@@ -52,25 +57,44 @@ loaded_as x d dynamic c characters b dice right o own e f g h i = e
     ∙ ap (λ y. made dynamic dice right y o) h
     ∙ ap (λ y. made dynamic dice right characters y) i
 
+-- a version that is played locks no alphabet
+no_locks : (number : ℕ) → is_played number ≡ true → nat_le number 2 ≡ false
+no_locks zero e = absurd (cc)
+no_locks (suc zero) e = absurd (cc)
+no_locks (suc (suc zero)) e = absurd (cc)
+no_locks (suc (suc (suc n))) e = refl
+
+played_version : (version : StoryVersion) → is_played version.number ≡ true
+    → (version.routine_offset ≤ longest_story) × (version.text_offset ≤ longest_story) → IsPlayedVersion version
+played_version version played near = record {
+  played = played;
+  unlocked = no_locks version.number played;
+  routines = near.0;
+  texts = near.1;
+}
+
 pub begins_with : (memory : List ℕ) (story : LoadedStory) (seed : ℕ) (machine : StandardMachine) (s : Contents)
-    → IsPlayable memory story.header → machine.header ≡ story.header
+    → IsPlayable memory story.header story.version → machine.header ≡ story.header → machine.version ≡ story.version
     → machine.loaded ≡ made (take (static_base_of memory) memory) (seeded seed) story.is_sum_right
     (characters_of memory) (own_alphabets_of memory)
     → IsSound s → state_of s [] ≡ first_state memory → Begins memory story seed machine s
-begins_with memory story seed machine s p h l sound e =
+begins_with memory story seed machine s p h v l sound e =
     let same : memory_of s ≡ memory = ap (λ (t : State). t.memory) e in
-    let playable : IsPlayable memory machine.header = subst (IsPlayable memory) (sym h) p in
+    let playable : IsPlayable memory machine.header story.version =
+    subst (λ h. IsPlayable memory h story.version) (sym h) p in
     let long : length (take (static_base_of memory) memory) ≡ static_base_of memory =
     length-take-le (static_base_of memory) memory (omega (arith, p.placed.static_base.1)) in
     record {
       header = h;
+      version = v;
       loaded = l;
       store = record {
         store = record {
           sound = sound;
-          headed = subst (IsHeadedBy machine.header) (sym same) (headed_by memory machine.header playable);
+          headed = subst (IsHeadedBy machine.header) (sym same) (headed_by memory machine.header story.version playable);
         };
         dynamic = ap (λ (x : Loaded). length x.dynamic) l ∙ long ∙ ap static_base_of (sym same);
+        version = subst IsPlayedVersion (sym v) (played_version story.version p.played p.near);
       };
       state = e;
     }
@@ -85,8 +109,9 @@ loaded_file file memory story seed machine s r e b =
       story = story;
       read = r;
       header = begun.header;
-      loaded = begun.loaded
-          ∙ ap (λ x. record (loaded_of file seed) { is_sum_right = x }) r.2;
+      played = ap (λ v. versioned machine.loaded v) (begun.version ∙ r.1.version_read)
+          ∙ ap (λ l. versioned l (version_in (memory_for file)))
+          (begun.loaded ∙ ap (λ x. record (loaded_of file seed) { is_sum_right = x }) r.2);
       store = begun.store;
       state = begun.state;
     }

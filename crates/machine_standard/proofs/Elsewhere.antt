@@ -136,12 +136,12 @@ bytes_alike version first second all early late = bytes_by version first second 
 -- Versions
 
 played_cases : (number : ℕ) → is_played number ≡ true
-    → ((1 ≤ number) × (number ≤ 5)) ⊎ ((7 ≤ number) × (number ≤ 8))
+    → ((3 ≤ number) × (number ≤ 5)) ⊎ ((7 ≤ number) × (number ≤ 8))
 played_cases number e =
-    elim (or_cases (nat_le 1 number && nat_le number 5) (nat_le 7 number && nat_le number 8) e) [
+    elim (or_cases (nat_le 3 number && nat_le number 5) (nat_le 7 number && nat_le number 8) e) [
       | inl p ↦
-          let parts = and_parts (nat_le 1 number) (nat_le number 5) p in
-          inl (leb-true 1 number parts.0, leb-true number 5 parts.1)
+          let parts = and_parts (nat_le 3 number) (nat_le number 5) p in
+          inl (leb-true 3 number parts.0, leb-true number 5 parts.1)
       | inr p ↦
           let parts = and_parts (nat_le 7 number) (nat_le number 8) p in
           inr (leb-true 7 number parts.0, leb-true number 8 parts.1)

@@ -9,30 +9,33 @@ use Rattle.zcore.specs.declared.next.Next.{Next}
 use Rattle.zcore.specs.declared.place.Place.{Place}
 use Rattle.zcore.specs.declared.place.Place.TheVariants as places
 use Rattle.zcore.specs.State.{State, Out, done, halt}
-use Rattle.zcore.specs.Execution.{step}
-use Rattle.zcore.specs.Turn.{Reaches, ReachesBy, TurnsBy, Whole, ended, first_next, first_state, notice}
+use Rattle.zcore.specs.Turn.{ReachesBy, TurnsBy, Whole, ended, first_next, first_state, notice}
 use Rattle.zcore_standard_laws.specs.Laws.{ends_in_fault, is_plain, closes_none}
 use Rattle.zcore_standard.specs.Place.{Here, plain, within}
 use Rattle.zcore_standard.specs.Loaded.{Loaded}
-use Rattle.zcore_standard.specs.Machine.{standard, standard_step, standard_ended, shown, with_standard_state, begins}
-use Rattle.zcore_standard.specs.Reading.{can_take}
+use Rattle.zcore_standard.specs.Machine.{standard_ended, shown, with_standard_state, begins}
 use Rattle.zcore_standard.specs.Windows.{begun_at, lower}
 use Rattle.zcore_standard.specs.Streams.{heard_of}
-use Rattle.zcore_standard_laws.proofs.Turning.{standard_steps}
-use Rattle.zcore_standard_laws.proofs.Awaiting.{WaitsRight}
-use Rattle.zcore_standard_laws.proofs.Waiting.{standard_step_waits}
+use Rattle.zcore_versions.specs.Laws.{WaitsForLine}
+use Rattle.zcore_versions.specs.Machine.{any, any_step}
+use Rattle.zcore_versions.specs.Reading.{can_be_given}
+use Rattle.zcore_versions.specs.Versions.{Story}
+use Rattle.zcore_versions.proofs.Turning.{steps_elsewhere}
+use Rattle.zcore_versions.proofs.Waiting.{any_step_waits}
 use Rattle.machine_frames.specs.Contents.{Contents, memory_of}
 use Rattle.machine_frames.specs.Playing.{StopsBy, IsOpening, IsWaiting, whole_of}
 use Rattle.machine_frames.specs.States.{state_of, IsSound, program_counter_of, standard_state_of}
 use Rattle.machine_frames.specs.Went.{GoesOn}
 use Rattle.machine_frames.proofs.Steps.{store_after, goes_on_still}
 use Rattle.machine_lines.proofs.Lines.{base_kept}
-use Rattle.machine_arms.specs.Passed.{Passed}
+use Rattle.zcore_standard_loading.specs.Loading.{is_played}
+use Rattle.machine_arms.specs.Passed.{Passed, flown}
 use Rattle.machine.proofs.Turning.{stops_whole}
 use Rattle.machine_standard_windows.specs.TurnState.{place, Keeps}
 use Rattle.machine_standard_windows.specs.declared.turn_state.TurnState.{TurnState}
-use Rattle.machine_standard_words.specs.Taking.{CanBeGiven}
+use Rattle.machine_versions_words.specs.Taking.{CanBeGivenBy}
 use Rattle.machine_standard.specs.Loads.{IsStoreFor}
+use Rattle.machine_standard.proofs.Elsewhere.{flown_elsewhere}
 use Rattle.machine_standard.specs.Playing.{Ahead, OpensStandard}
 use Rattle.machine_standard.specs.declared.turn.StandardMachine.{StandardMachine}
 
@@ -43,6 +46,7 @@ pub store_goes_on : {machine : StandardMachine} {old new : Recording Contents} �
 store_goes_on {machine} {old} {new} o g = record {
   store = store_after o.store g;
   dynamic = o.dynamic ∙ sym (base_kept old new g);
+  version = o.version;
 }
 
 pub store_remains : {A E : Type 0} (result : Result A E) (machine : StandardMachine) (old new : Recording Contents)
@@ -56,24 +60,26 @@ or_true : (b : Bool) → (b || true) ≡ true
 or_true true = refl
 or_true false = refl
 
--- a step of the profile that goes on is a step of this machine
-standard_goes_on : (loaded : Loaded) (turn : TurnState) (here next : Next) (s t : State)
-    → loaded.own_alphabets ≡ None → step here s ≡ done next t
-    → standard_step loaded (place turn here) s ≡ done (place turn next) t
-standard_goes_on loaded turn here next s t own e =
-    standard_steps loaded (place turn here) s own (ap ends_in_fault e)
-    (ap (closes_none (place turn here)) e ∙ or_true (is_plain (place turn here)))
-    ∙ ap (within (place turn here)) e
+-- a step that units do is a step of this machine
+flown_goes_on : (story : Story) (turn : TurnState) (here next : Next) (s t : State) → story.loaded.own_alphabets ≡ None
+    → is_played story.version.number ≡ true → flown story.version.number here s ≡ done next t
+    → any_step story (place turn here) s ≡ done (place turn next) t
+flown_goes_on story turn here next s t own played e =
+    let x = flown_elsewhere story.version here next s t played e in
+    steps_elsewhere story (place turn here) s own x.1 (ap ends_in_fault x.0)
+    (ap (closes_none (place turn here)) x.0 ∙ or_true (is_plain (place turn here)))
+    ∙ ap (within (place turn here)) x.0
 
-pub reaches_standard : (loaded : Loaded) (turn : TurnState) (count : ℕ) (first here : Next) (s t : State)
-    → loaded.own_alphabets ≡ None → Reaches count first s here t
-    → ReachesBy (standard_step loaded) count (place turn first) s (place turn here) t
-reaches_standard loaded turn zero first here s t own h = (ap (place turn) h.0, h.1)
-reaches_standard loaded turn (suc count) first here s t own h = (
+pub reaches_any : (story : Story) (turn : TurnState) (count : ℕ) (first here : Next) (s t : State)
+    → story.loaded.own_alphabets ≡ None → is_played story.version.number ≡ true
+    → ReachesBy (flown story.version.number) count first s here t
+    → ReachesBy (any_step story) count (place turn first) s (place turn here) t
+reaches_any story turn zero first here s t own played h = (ap (place turn) h.0, h.1)
+reaches_any story turn (suc count) first here s t own played h = (
   place turn h.0,
   h.1,
-  reaches_standard loaded turn count first h.0 s h.1 own h.2,
-  standard_goes_on loaded turn h.0 here h.1 t own h.3,
+  reaches_any story turn count first h.0 s h.1 own played h.2,
+  flown_goes_on story turn h.0 here h.1 t own played h.3,
 )
 
 none_there : {A : Type 0} (o : Option A) → is_some o ≡ false → o ≡ None
@@ -81,27 +87,27 @@ none_there None e = refl
 none_there (Some x) e = absurd (cc)
 
 -- steps by units, where the story has no alphabets of its own
-pub quickly_ahead : {E : Type 0} (s t : Recording Contents) (r : Result Next E) (loaded : Loaded) (first : Next)
-    → is_some loaded.own_alphabets ≡ false → IfOk r (λ here. Passed first s here t)
-    → IfOk r (λ here. Ahead loaded first s here t)
-quickly_ahead s t (Ok here) loaded first own passed =
-    let p : Passed first s here t = passed in
+pub quickly_ahead : {E : Type 0} (s t : Recording Contents) (r : Result Next E) (story : Story) (first : Next)
+    → is_some story.loaded.own_alphabets ≡ false → is_played story.version.number ≡ true
+    → IfOk r (λ here. Passed story.version.number first s here t) → IfOk r (λ here. Ahead story first s here t)
+quickly_ahead s t (Ok here) story first own played passed =
+    let p : Passed story.version.number first s here t = passed in
     record {
       goes_on = p.goes_on;
       reached = λ turn text.
           let there = p.reached text in (
             there.0,
-            reaches_standard loaded turn there.0 first here (state_of s.store text) (state_of t.store text)
-                (none_there loaded.own_alphabets own) there.1,
+            reaches_any story turn there.0 first here (state_of s.store text) (state_of t.store text)
+                (none_there story.loaded.own_alphabets own) played there.1,
           );
       lighter = p.lighter;
     }
-quickly_ahead s t (Err e) loaded first own passed = tt
+quickly_ahead s t (Err e) story first own played passed = tt
 
 -- none
-pub not_ahead : (s : Recording Contents) (loaded : Loaded) (first : Next) → IsSound s.store
-    → Ahead loaded first s first s
-not_ahead s loaded first sound = record {
+pub not_ahead : (s : Recording Contents) (story : Story) (first : Next) → IsSound s.store
+    → Ahead story first s first s
+not_ahead s story first sound = record {
   goes_on = goes_on_still s sound;
   reached = λ turn text. (0, (refl, refl));
   lighter = λ text. omega arith;
@@ -125,11 +131,11 @@ pub none_yet_by : {H : Type 0} (step : H → State → Out H) (first : H) (s : C
 none_yet_by step first s text = (0, (refl, ap (state_of s) (drop_all (length text) text (omega arith))))
 
 -- an instruction that ends the turn leaves window, dice and streams as they are
-pub stops_around : (loaded : Loaded) {first : Here} {s t : State} {here : Next} {p : Place} (a b : TurnState) → b ≡ a
-    → StopsBy (standard_step loaded) first s (place a here) p t
-    → StopsBy (standard_step loaded) first s (place b here) p t
-stops_around loaded {first} {s} {t} {here} {p} a b e h =
-    subst (λ x. StopsBy (standard_step loaded) first s (place x here) p t) (sym e) h
+pub stops_around : (story : Story) {first : Here} {s t : State} {here : Next} {p : Place} (a b : TurnState) → b ≡ a
+    → StopsBy (any_step story) first s (place a here) p t
+    → StopsBy (any_step story) first s (place b here) p t
+stops_around story {first} {s} {t} {here} {p} a b e h =
+    subst (λ x. StopsBy (any_step story) first s (place x here) p t) (sym e) h
 
 -- where a turn begins
 pub begun_place : (turn : TurnState) (standard_state : StandardState) (next : Next) → turn.standard_state ≡ standard_state
@@ -175,15 +181,15 @@ ended_nothing standard_state next end m =
 -- The end of a turn
 
 -- the whole state that is left, where the text was cut
-pub standard_whole : (loaded : Loaded) (first : Here) (turn : TurnState) (here : Next) (end : Place) (s : State)
+pub standard_whole : (story : Story) (first : Here) (turn : TurnState) (here : Next) (end : Place) (s : State)
     (m n : Contents) (x z y : List ℕ) (long : ℕ)
-    → StopsBy (standard_step loaded) first s (place turn here) end (state_of m (drop long x))
+    → StopsBy (any_step story) first s (place turn here) end (state_of m (drop long x))
     → ((l : List ℕ) → state_of n l ≡ state_of m l) → program_counter_of (slice_index n.cells) ≡ here.program_counter
     → standard_state_of (slice_index n.cells) ≡ turn.standard_state → drop long z ≡ shown (place turn here) end (drop long x)
     → y ≡ z ++ notice end → long ≤ length z
-    → TurnsBy (standard loaded) first s (whole_of n end (drop long y))
-standard_whole loaded first turn here end s m n x z y long h same counter kept cut text le =
-    let stopped = stops_whole (standard loaded) first (place turn here) end s (state_of m (drop long x)) h in
+    → TurnsBy (any story) first s (whole_of n end (drop long y))
+standard_whole story first turn here end s m n x z y long h same counter kept cut text le =
+    let stopped = stops_whole (any story) first (place turn here) end s (state_of m (drop long x)) h in
     let words : drop long y ≡ shown (place turn here) end (drop long x) ++ notice end = ap (drop long) text
     ∙ drop-append-le long z (notice end) le ∙ ap (λ l. l ++ notice end) cut in
     let e : standard_ended (place turn here) end (state_of m (drop long x))
@@ -191,24 +197,25 @@ standard_whole loaded first turn here end s m n x z y long h same counter kept c
     ap (standard_ended (place turn here) end) (sym (same (drop long x))) in
     let f : standard_ended (place turn here) end (state_of n (drop long x)) ≡ whole_of n end (drop long y) =
     rw (words, counter, kept) refl in
-    subst (λ w. TurnsBy (standard loaded) first s w) (e ∙ f) stopped
+    subst (λ w. TurnsBy (any story) first s w) (e ∙ f) stopped
 
 -- what the machine waits for can be given to a store of the same state
-pub right_after : (m n : Contents) (text : List ℕ) → WaitsRight (state_of m text)
-    → ((l : List ℕ) → state_of n l ≡ state_of m l) → CanBeGiven n
-right_after m n text w same = record {
+pub right_after : (story : Story) (m n : Contents) (text : List ℕ) → WaitsForLine story (state_of m text)
+    → ((l : List ℕ) → state_of n l ≡ state_of m l) → CanBeGivenBy story n
+right_after story m n text w same = record {
   pending = w.pending;
   waits = ap (λ (t : State). t.pending) (same text) ∙ w.waits;
-  right = ap (λ (t : State). can_take t.memory w.pending.text_buffer w.pending.parse_buffer) (same text) ∙ w.right;
+  right = ap (λ (t : State). can_be_given story t.memory w.pending.text_buffer w.pending.parse_buffer) (same text)
+      ∙ w.right;
 }
 
 -- a turn that stopped to wait
-pub standard_waits : (loaded : Loaded) (first here : Here) (end : Place) (s : State) (m n : Contents) (text : List ℕ)
-    → StopsBy (standard_step loaded) first s here end (state_of m text)
-    → ((l : List ℕ) → state_of n l ≡ state_of m l) → end ≡ places.Waiting → CanBeGiven n
-standard_waits loaded first here end s m n text stops same e =
-    right_after m n text
-    (standard_step_waits loaded here stops.before (state_of m text)
+pub standard_waits : (story : Story) (first here : Here) (end : Place) (s : State) (m n : Contents) (text : List ℕ)
+    → StopsBy (any_step story) first s here end (state_of m text)
+    → ((l : List ℕ) → state_of n l ≡ state_of m l) → end ≡ places.Waiting → CanBeGivenBy story n
+standard_waits story first here end s m n text stops same e =
+    right_after story m n text
+    (any_step_waits story here stops.before (state_of m text)
     (stops.stops ∙ ap (λ p. halt p (state_of m text)) e)) same
 
 -- a line that ends the turn at once
@@ -227,20 +234,20 @@ stopped_standard m n standard_state fuel counter end x y same kept rest text =
     f ∙ sym (ended_nothing standard_state here.next end n) ∙ ap (standard_ended here end) (same [])
 
 -- the opening
-opens : (loaded : Loaded) (s : Contents) (fuel : ℕ) (first : Next) (memory : List ℕ) (whole : Whole) → IsOpening s
+opens : (story : Story) (s : Contents) (fuel : ℕ) (first : Next) (memory : List ℕ) (whole : Whole) → IsOpening s
     → memory ≡ memory_of s → first ≡ first_next memory fuel
-    → TurnsBy (standard loaded) (begins loaded.dice first) (state_of s []) whole → OpensStandard loaded s fuel whole
-opens loaded s fuel first memory whole begin is e h =
-    subst (λ n. TurnsBy (standard loaded) (begins loaded.dice n) (first_state (memory_of s)) whole)
+    → TurnsBy (any story) (begins story.loaded.dice first) (state_of s []) whole → OpensStandard story s fuel whole
+opens story s fuel first memory whole begin is e h =
+    subst (λ n. TurnsBy (any story) (begins story.loaded.dice n) (first_state (memory_of s)) whole)
     (e ∙ ap (λ m. first_next m fuel) is)
-    (subst (λ t. TurnsBy (standard loaded) (begins loaded.dice first) t whole) begin.first h)
+    (subst (λ t. TurnsBy (any story) (begins story.loaded.dice first) t whole) begin.first h)
 
-pub opens_standard : {E : Type 0} (result : Result Place E) (loaded : Loaded) (s : Contents) (fuel : ℕ) (dice : StandardState)
-    (first : Next) (memory : List ℕ) (whole : Place → Whole) → dice ≡ loaded.dice → IsOpening s
+pub opens_standard : {E : Type 0} (result : Result Place E) (story : Story) (s : Contents) (fuel : ℕ) (dice : StandardState)
+    (first : Next) (memory : List ℕ) (whole : Place → Whole) → dice ≡ story.loaded.dice → IsOpening s
     → memory ≡ memory_of s → first ≡ first_next memory fuel
-    → IfOk result (λ place. TurnsBy (standard loaded) (begins dice first) (state_of s []) (whole place))
-    → IfOk result (λ place. OpensStandard loaded s fuel (whole place))
-opens_standard (Ok place) loaded s fuel dice first memory whole d begin is e h =
-    opens loaded s fuel first memory (whole place) begin is e
-    (subst (λ b. TurnsBy (standard loaded) (begins b first) (state_of s []) (whole place)) d h)
-opens_standard (Err x) loaded s fuel dice first memory whole d begin is e h = tt
+    → IfOk result (λ place. TurnsBy (any story) (begins dice first) (state_of s []) (whole place))
+    → IfOk result (λ place. OpensStandard story s fuel (whole place))
+opens_standard (Ok place) story s fuel dice first memory whole d begin is e h =
+    opens story s fuel first memory (whole place) begin is e
+    (subst (λ b. TurnsBy (any story) (begins b first) (state_of s []) (whole place)) d h)
+opens_standard (Err x) story s fuel dice first memory whole d begin is e h = tt

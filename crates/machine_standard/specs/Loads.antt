@@ -1,25 +1,43 @@
 -- What loading a story comes to.
-use Rattle.std.specs.Prelude.{◌≡◌, ℕ, List, [], length, take, Result, Ok, Err}
+use Rattle.std.specs.Prelude.{◌≡◌, ◌≤◌, ℕ, true, false, List, [], length, take, Result, Ok, Err}
 use Rattle.zcore.specs.Header.{static_base_of}
+use Rattle.zcore.specs.Layout.{longest_story}
 use Rattle.zcore.specs.Turn.{first_state}
 use Rattle.zcore_standard_loading.specs.declared.loading.LoadedStory.{LoadedStory}
-use Rattle.zcore_standard_loading.specs.Loading.{ReadsFile, characters_of, own_alphabets_of, loaded_of, memory_for}
+use Rattle.zcore_standard_loading.specs.Loading.{ReadsFile, characters_of, is_played, own_alphabets_of, memory_for}
+use Rattle.zcore_standard_loading.specs.Loading as loading
 use Rattle.zcore_standard.specs.Loaded.{seeded}
+use Rattle.zcore_versions.specs.declared.version.StoryVersion.{StoryVersion}
+use Rattle.zcore_versions.specs.Versions.{Story, locks_alphabets, versioned}
 use Rattle.machine_frames.specs.Contents.{Contents, memory_of}
 use Rattle.machine_frames.specs.States.{state_of, IsStoreOf}
 use Rattle.machine_standard.specs.declared.load.StandardFault.{StandardFault}
 use Rattle.machine_standard.specs.declared.load.StandardFault.TheVariants as faults
 use Rattle.machine_standard.specs.declared.turn.StandardMachine.{StandardMachine}
 
+-- the story that a machine plays: what loading fixes, and the version
+abbrev pub story_of : StandardMachine → Story
+story_of machine = versioned machine.loaded machine.version
+
+-- A version that is played: no text locks an alphabet, and packed addresses count from places that a word of the header
+-- can name.
+pub record IsPlayedVersion (version : StoryVersion) : Type 0 where
+  pub played : is_played version.number ≡ true
+  pub unlocked : locks_alphabets version ≡ false
+  pub routines : version.routine_offset ≤ longest_story
+  pub texts : version.text_offset ≤ longest_story
+
 -- a store that this machine plays: it is of the story with this header, and loading has kept its dynamic memory
 pub record IsStoreFor (machine : StandardMachine) (contents : Contents) : Type 0 where
   pub store : IsStoreOf machine.header contents
   pub dynamic : length machine.loaded.dynamic ≡ static_base_of (memory_of contents)
+  pub version : IsPlayedVersion machine.version
 
 -- a machine and a store that begin with this memory
 pub record Begins (memory : List ℕ) (story : LoadedStory) (seed : ℕ) (machine : StandardMachine)
     (contents : Contents) : Type 0 where
   pub header : machine.header ≡ story.header
+  pub version : machine.version ≡ story.version
   pub loaded : machine.loaded ≡ record {
     dynamic = take (static_base_of memory) memory;
     dice = seeded seed;
@@ -35,7 +53,7 @@ pub record IsLoaded (file : List ℕ) (seed : ℕ) (machine : StandardMachine) (
   pub story : LoadedStory
   pub read : ReadsFile file (Ok story)
   pub header : machine.header ≡ story.header
-  pub loaded : machine.loaded ≡ loaded_of file seed
+  pub played : story_of machine ≡ loading.story_of file seed
   pub store : IsStoreFor machine contents
   pub state : state_of contents [] ≡ first_state (memory_for file)
 

@@ -5,47 +5,48 @@ use Rattle.journal.specs.Recording.{Recording}
 use Rattle.zcore.specs.declared.next.Next.{Next}
 use Rattle.zcore.specs.State.{Pending}
 use Rattle.zcore.specs.Turn.{ReachesBy, Whole, TurnsBy, first_next, first_state, weight}
-use Rattle.zcore_standard.specs.Loaded.{Loaded}
-use Rattle.zcore_standard.specs.Machine.{standard, standard_step, standard_ended, begins}
+use Rattle.zcore_standard.specs.Machine.{standard_ended, begins}
 use Rattle.machine_frames.specs.Contents.{Contents, memory_of}
-use Rattle.zcore_standard.specs.Reading.{standard_given}
 use Rattle.machine_frames.specs.Playing.{FollowsBy, IsOpening}
 use Rattle.machine_frames.specs.States.{state_of, pending_of, program_counter_of, standard_state_of}
 use Rattle.machine_frames.specs.Went.{GoesOn}
 use Rattle.machine_standard_windows.specs.TurnState.{place}
 use Rattle.machine_standard_windows.specs.declared.turn_state.TurnState.{TurnState}
-use Rattle.machine_standard_words.specs.Taking.{CanBeGiven}
+use Rattle.machine_versions_words.specs.Taking.{CanBeGivenBy}
+use Rattle.zcore_versions.specs.Machine.{any, any_step}
+use Rattle.zcore_versions.specs.Reading.{any_given}
+use Rattle.zcore_versions.specs.Versions.{Story}
 
 -- the turn of a store of a story that begins
-abbrev pub OpensStandard : Loaded → Contents → ℕ → Whole → Type 0
-OpensStandard loaded s fuel whole =
-    TurnsBy (standard loaded) (begins loaded.dice (first_next (memory_of s) fuel)) (first_state (memory_of s)) whole
+abbrev pub OpensStandard : Story → Contents → ℕ → Whole → Type 0
+OpensStandard story s fuel whole =
+    TurnsBy (any story) (begins story.loaded.dice (first_next (memory_of s) fuel)) (first_state (memory_of s)) whole
 
 -- The turn of a line that is given to a store which waits for a line or a key, with the window and the dice that the
 -- store keeps.
-abbrev pub AnswersStandard : Loaded → List ℕ → Contents → ℕ → Whole → Type 0
-AnswersStandard loaded line s fuel whole =
+abbrev pub AnswersStandard : Story → List ℕ → Contents → ℕ → Whole → Type 0
+AnswersStandard story line s fuel whole =
     let kept = standard_state_of (slice_index s.cells) in
     let waited : Next = record { program_counter = program_counter_of (slice_index s.cells); fuel = fuel } in
     (pending : Pending)
     × (pending_of (slice_index s.cells) ≡ Some pending)
-    × FollowsBy (λ next t w. TurnsBy (standard loaded) (begins kept next) t w)
-    (standard_given loaded pending line fuel (state_of s [])) (standard_ended (begins kept waited)) whole
+    × FollowsBy (λ next t w. TurnsBy (any story) (begins kept next) t w)
+    (any_given story pending line fuel (state_of s [])) (standard_ended (begins kept waited)) whole
 
 -- which turn is played: without a line the opening, else that of the line
-abbrev pub OpensOrAnswersStandard : Loaded → Option (Bor (List ℕ)) → Contents → ℕ → Whole → Type 0
-OpensOrAnswersStandard loaded None = OpensStandard loaded
-OpensOrAnswersStandard loaded (Some line) = AnswersStandard loaded line.now
+abbrev pub OpensOrAnswersStandard : Story → Option (Bor (List ℕ)) → Contents → ℕ → Whole → Type 0
+OpensOrAnswersStandard story None = OpensStandard story
+OpensOrAnswersStandard story (Some line) = AnswersStandard story line.now
 
 -- a store on which it can be played
-abbrev pub IsReadyForStandard : Option (Bor (List ℕ)) → Contents → Type 0
-IsReadyForStandard None = IsOpening
-IsReadyForStandard (Some line) = CanBeGiven
+abbrev pub IsReadyForStandard : Story → Option (Bor (List ℕ)) → Contents → Type 0
+IsReadyForStandard story None = IsOpening
+IsReadyForStandard story (Some line) = CanBeGivenBy story
 
 -- steps of this machine lead from one place to another, and leave what is around them as it is
-pub record Ahead (loaded : Loaded) (first : Next) (old : Recording Contents) (here : Next)
+pub record Ahead (story : Story) (first : Next) (old : Recording Contents) (here : Next)
     (new : Recording Contents) : Type 0 where
   pub goes_on : GoesOn old new
-  pub reached : (turn : TurnState) (text : List ℕ) → (n : ℕ) × ReachesBy (standard_step loaded) n (place turn first)
+  pub reached : (turn : TurnState) (text : List ℕ) → (n : ℕ) × ReachesBy (any_step story) n (place turn first)
       (state_of old.store text) (place turn here) (state_of new.store text)
   pub lighter : (text : List ℕ) → weight here (state_of new.store text) ≤ weight first (state_of old.store text)

@@ -59,7 +59,7 @@ fn begin(
     story: LoadedStory,
     seed: u32,
 ) -> Result<(StandardMachine, Store), AllocError>
-    requires playable { IsPlayable memory.items story.header }
+    requires playable { IsPlayable memory.items story.header story.version }
     requires short { length memory.items ≤ longest_story }
     ensures { IfOk result (λ begun. Begins memory.items story seed begun.0 begun.1) }
 {
@@ -69,7 +69,15 @@ fn begin(
     let dynamic = front(alloc, &memory, header.static_base as usize)?;
     let store = Store::new(alloc, memory, header.static_base)?;
     let loaded = Loaded::new(dynamic, seeded(seed), story.is_sum_right, characters, own);
-    Ok((StandardMachine { header, loaded }, store))
+    let version = story.version;
+    Ok((
+        StandardMachine {
+            header,
+            loaded,
+            version,
+        },
+        store,
+    ))
 }
 
 /// The first bytes of memory.

@@ -6,4 +6,4 @@ pub mod Values
 mod Calling
 mod InitialValues
 mod Setting
-mod Printing
+mod VersionTexts

@@ -182,6 +182,37 @@ fn perform_silent(
     }
 }
 
+/// Does an operation of versions up to 4.
+fn perform_older(
+    header: &Header,
+    store: &mut Recorded<Store>,
+    text: &mut Vec<u8>,
+    start: usize,
+    loaded: &Loaded,
+    version: StoryVersion,
+    turn: &TurnState,
+    here: Next,
+    operation: OlderOperation,
+    values: &[u16],
+    ending: Ending,
+) -> Result<Next, End>
+    requires store { IsStoreOf header.now store.old.store }
+    requires text { HasBegun start text.old.items }
+    requires after { ending.after ≤ longest_story }
+    ensures told { ToldFrom start (seen (place turn.now) result) store.old text.old.items
+        store.new text.new.items (definitions.perform (versioned loaded.now version)
+        (operations.Older operation) (place turn.now here) ending.after ending.result ending.branch
+        values.now) }
+    ensures text { Keeps start text.old.items text.new.items }
+{
+    match operation {
+        OlderOperation::Read => read_line(
+            header, store, text, start, loaded, version, turn, values, ending,
+        ),
+        _ => perform_silent(header, store, version, here, operation, values, ending),
+    }
+}
+
 /// Does an operation on the values of its operands.
 pub(crate) fn perform(
     header: &Header,
@@ -212,12 +243,9 @@ pub(crate) fn perform(
         VersionOperation::Known(known) => perform_known(
             header, store, text, start, loaded, version, here, known, values, ending,
         ),
-        VersionOperation::Older(OlderOperation::Read) => read_line(
-            header, store, text, start, loaded, version, turn, values, ending,
+        VersionOperation::Older(older) => perform_older(
+            header, store, text, start, loaded, version, turn, here, older, values, ending,
         ),
-        VersionOperation::Older(older) => {
-            perform_silent(header, store, version, here, older, values, ending)
-        }
         VersionOperation::SplitWindow => {
             split_window(text, start, turn, 0);
             Ok(Next {

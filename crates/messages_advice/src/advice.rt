@@ -10,14 +10,9 @@ use crate::prints::{FORMS, FORMS_OF_ITEMS, ITEMS, ITEMS_BESIDE, WITHOUT_PRINT};
 use crate::signs::{COMMENTS, PAIRS};
 use crate::statements::{BEGINNINGS, OBJECT_STATEMENTS, WHOLE_STATEMENTS};
 use crate::switches::{CASES, COLONS, ELSES, NO_PAIRS, VALUES_OF_CASES};
-use messages_contexts::{Advice, Place, Want, is_in_routine};
+use messages_contexts::{Advice, Place, Want, is_in_routine, wants};
 use messages_tokens::Grouped;
 use syntax_lexer::{Sign, Token, Word};
-
-/// A set of one member if something is expected, and else of none.
-fn wants(want: Want, is_expected: bool) -> u64 {
-    u64::from(is_expected).wrapping_shl(u32::from(want as u8))
-}
 
 /// What of these kinds is expected.
 fn wants_of(wanted: Option<&Grouped>) -> u64 {
@@ -72,15 +67,19 @@ fn in_routine(place: Place<'_, '_>) -> Option<Advice> {
     ]))
 }
 
-/// What is wrong at the token of a number that does not fit, in the place of which these kinds are
-/// expected, if its form tells.
-pub fn advice_at(
-    source: &[u8],
-    tokens: &[Token<'_>],
+/// The place of the token of a number that does not fit, in the place of which these kinds are
+/// expected.
+pub fn place_of<'t, 's>(
+    source: &'t [u8],
+    tokens: &'t [Token<'s>],
     at: usize,
     wanted: Option<&Grouped>,
-) -> Option<Advice> {
-    let place = Place::new(source, tokens, at, wants_of(wanted));
+) -> Place<'t, 's> {
+    Place::new(source, tokens, at, wants_of(wanted))
+}
+
+/// What is wrong at a token that does not fit, if its form tells.
+pub fn advice_at(place: Place<'_, '_>) -> Option<Advice> {
     let told = place
         .first_told(&[NEGATIONS, COMMENTS, QUOTES])
         .or(in_definition(place))
@@ -88,7 +87,7 @@ pub fn advice_at(
     if told.is_some() {
         return told;
     }
-    let told = if is_in_routine(tokens, at) {
+    let told = if is_in_routine(place.tokens, place.at) {
         in_routine(place)
     } else {
         None
@@ -97,8 +96,8 @@ pub fn advice_at(
 }
 
 /// What is wrong at a token that does not fit, and for which no small change would do.
-pub fn late_advice_at(tokens: &[Token<'_>], at: usize, wanted: Option<&Grouped>) -> Option<Advice> {
-    Place::new(b"", tokens, at, wants_of(wanted)).first_told(&[
+pub fn late_advice_at(place: Place<'_, '_>) -> Option<Advice> {
+    place.first_told(&[
         LATE_LOOPS,
         ITEMS_BESIDE,
         NO_DIRECTIVES,

@@ -14,4 +14,4 @@ mod signs;
 mod statements;
 mod switches;
 
-pub use advice::{advice_at, late_advice_at};
+pub use advice::{advice_at, late_advice_at, place_of};

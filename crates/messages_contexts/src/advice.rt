@@ -1,5 +1,6 @@
 //! What is wrong at a token that does not fit.
 
+use crate::rules::Want;
 use messages_parts::Feature;
 
 /// What is wrong at a token that does not fit.
@@ -13,4 +14,7 @@ pub enum Advice {
 
     /// What to write, or to leave out.
     Do(&'static str),
+
+    /// What is wanted in the place of a name.
+    Want(Want),
 }

@@ -142,11 +142,6 @@ pub fn is_unknown(tokens: &[Token<'_>], at: usize) -> bool {
     is_name(tokens, at) && known_as(tokens, at).is_none()
 }
 
-/// Whether the token of a number is the name of a routine.
-pub fn is_routine(tokens: &[Token<'_>], at: usize) -> bool {
-    matches!(known_as(tokens, at), Some(Known::File(Definition::Routine)))
-}
-
 /// Whether the token of a number is the name of an attribute.
 pub fn is_attribute(tokens: &[Token<'_>], at: usize) -> bool {
     matches!(

@@ -2,7 +2,7 @@
 
 use crate::kinds;
 use crate::kinds::{Kinds, is_of};
-use crate::tokens::{before, is_sign, is_word};
+use crate::tokens::{after, before, is_sign, is_word};
 use syntax_lexer::{Sign, Token, Word};
 
 /// Whether the token of a number is `++` or `--`.
@@ -54,4 +54,28 @@ pub fn owns_parentheses(tokens: &[Token<'_>], at: usize) -> bool {
         Is Name, Word Parent Child Sibling If While Until Switch Objectloop
     );
     is_of(tokens, at, OWNERS)
+}
+
+/// Whether parentheses that hold an expression are so far around a name.
+fn is_enclosed(tokens: &[Token<'_>], at: usize, far: usize) -> bool {
+    is_sign(tokens, before(at, far), Sign::OpenParenthesis)
+        && is_sign(tokens, after(at, far), Sign::CloseParenthesis)
+        && !owns_parentheses(tokens, before(at, far.saturating_add(1)))
+}
+
+/// Whether a value is assigned to a name, which may be in parentheses, or it is stepped.
+pub fn is_changed(tokens: &[Token<'_>], at: usize) -> bool {
+    for pairs in 0..at {
+        let far = pairs.saturating_add(1);
+        if is_step(tokens, before(at, far)) || is_step(tokens, after(at, far)) {
+            return true;
+        }
+        if is_sign(tokens, after(at, far), Sign::Assign) {
+            return begins_expression(tokens, before(at, far));
+        }
+        if !is_enclosed(tokens, at, far) {
+            return false;
+        }
+    }
+    false
 }

@@ -1,20 +1,24 @@
 //! A place in a source, and the first rule that holds there.
 
 use crate::advice::Advice;
-use crate::definitions::is_unknown;
+use crate::definitions::{Definition, defined_at, is_unknown};
 use crate::kinds::{has, is_of};
 use crate::objects::is_property;
-use crate::operands::ends_operand;
-use crate::rules::{Say, Spot, Step, Test};
+use crate::operands::{begins_expression, ends_operand, is_changed};
+use crate::rules::{Say, Spot, Step, Test, Want, wants};
 use crate::statements::{
     begins_line, group_at, is_joined, last_open, open_parenthesis, start_of, switch_around,
 };
 use crate::tokens::{after, before, begins_statement, text_at};
 use crate::walks::{
-    begins_two_commas, bytes_after, count_of, ends_else, is_after, is_case, is_in_brackets,
-    is_in_constant, is_in_names, is_inequality, is_known, is_listed, is_negation, last_do,
+    begins_two_commas, bytes_after, count_of, end_of_definition, ends_else, is_after,
+    is_before_colon, is_case, is_in_brackets, is_in_constant, is_in_main, is_in_names,
+    is_inequality, is_known, is_listed, is_negation, last_do, repeats,
 };
-use messages_parts::{Feature, habit_as_operand, habit_at_beginning, habit_between, named};
+use messages_parts::{
+    Feature, habit_as_name, habit_as_operand, habit_at_beginning, habit_between, named,
+    named_in_expression,
+};
 use syntax_lexer::{Sign, Token};
 
 /// A place in a source: the token of a number, which does not fit. The other numbers are of tokens
@@ -22,10 +26,12 @@ use syntax_lexer::{Sign, Token};
 #[derive(Clone, Copy)]
 pub struct Place<'t, 's> {
     source: &'t [u8],
-    tokens: &'t [Token<'s>],
-    at: usize,
-    /// What is expected at the place.
+    pub tokens: &'t [Token<'s>],
+    pub at: usize,
+    /// What is expected or wanted at the place.
     wants: u64,
+    /// What is found by the name at the place.
+    found: u64,
     /// The first of the statement or the definition around the place.
     start: usize,
     /// The `(` that is open at the place.
@@ -37,6 +43,21 @@ pub struct Place<'t, 's> {
     /// The last `do` before the place, or the `[` of its routine.
     last_do: usize,
 }
+
+/// What holds of the conditions of a rule, as far as they were asked.
+#[derive(Clone, Copy)]
+pub struct Conditions {
+    /// All after the last `|`.
+    all: bool,
+    /// All from one `|` to another.
+    pub any: bool,
+}
+
+/// None was asked.
+pub const NO_CONDITIONS: Conditions = Conditions {
+    all: true,
+    any: false,
+};
 
 impl<'t, 's> Place<'t, 's> {
     /// The place at the token of a number, where something is expected.
@@ -51,11 +72,28 @@ impl<'t, 's> Place<'t, 's> {
             tokens,
             at,
             wants,
+            found: 0,
             start,
             open,
             group,
             brace,
             last_do,
+        }
+    }
+
+    /// The place where something of a kind is found by the name.
+    pub fn finding(self, what: Definition) -> Self {
+        Self {
+            found: 1_u64.wrapping_shl(u32::from(what as u8)),
+            ..self
+        }
+    }
+
+    /// The place where something is wanted.
+    pub fn wanting(self, want: Want) -> Self {
+        Self {
+            wants: wants(want, true),
+            ..self
         }
     }
 
@@ -65,7 +103,7 @@ impl<'t, 's> Place<'t, 's> {
     }
 
     /// The number of the token at a spot; a number of none where there is none.
-    fn number(self, spot: Spot) -> usize {
+    pub fn number(self, spot: Spot) -> usize {
         match spot {
             Spot::FourthLast => before(self.at, 4),
             Spot::ThirdLast => before(self.at, 3),
@@ -87,6 +125,7 @@ impl<'t, 's> Place<'t, 's> {
             Spot::BeforeDo => before(self.last_do, 1),
             Spot::Do => self.last_do,
             Spot::AfterDo => after(self.last_do, 1),
+            Spot::AfterDefinition => end_of_definition(self.tokens, self.at),
         }
     }
 
@@ -99,13 +138,19 @@ impl<'t, 's> Place<'t, 's> {
             Test::Named(names) => is_listed(tokens, number, names),
             Test::Unknown => is_unknown(tokens, number),
             Test::Known(set) => is_known(tokens, number, set),
+            Test::Defines => defined_at(tokens, number).is_some(),
             Test::Given => is_property(tokens, number),
+            Test::Joint => habit_between(text_at(tokens, number)).is_some(),
             Test::Foreign => habit_at_beginning(text_at(tokens, number)).is_some(),
             Test::BeginsLine => begins_line(tokens, number),
             Test::BeginsStatement => begins_statement(tokens, number),
             Test::Joined => is_joined(tokens, number),
             Test::First => number == self.start,
             Test::Continues => number < tokens.len() && start_of(tokens, number) < number,
+            Test::Repeats => repeats(tokens, number),
+            Test::BeginsExpression => begins_expression(tokens, number),
+            Test::Changed => is_changed(tokens, number),
+            Test::BeforeColon => is_before_colon(tokens, number),
             Test::EndsOperand => ends_operand(tokens, number),
             Test::Closes(kinds) => is_of(tokens, before(group_at(tokens, number), 1), kinds),
             Test::After(kinds, ends) => is_after(tokens, number, kinds, ends, false),
@@ -124,6 +169,8 @@ impl<'t, 's> Place<'t, 's> {
         let tokens = self.tokens;
         match test {
             Test::Wants(want) => has(self.wants, want as u8),
+            Test::Found(set) => set & self.found != 0,
+            Test::InMain => is_in_main(tokens, self.at),
             Test::InBrackets => is_in_brackets(tokens, self.start),
             Test::InNames => is_in_names(tokens, self.at),
             Test::InCase => is_case(tokens, self.start, self.at),
@@ -135,7 +182,7 @@ impl<'t, 's> Place<'t, 's> {
     }
 
     /// The bytes of the token at a spot.
-    fn text(self, spot: Spot) -> &'s [u8] {
+    pub fn text(self, spot: Spot) -> &'s [u8] {
         text_at(self.tokens, self.number(spot))
     }
 
@@ -157,31 +204,47 @@ impl<'t, 's> Place<'t, 's> {
             Say::Between(spot) => self.word(spot, habit_between(self.text(spot))),
             Say::Beginning(spot) => self.word(spot, habit_at_beginning(self.text(spot))),
             Say::Inform(spot) => self.word(spot, named(self.text(spot))),
+            Say::InExpression(spot) => self.word(spot, named_in_expression(self.text(spot))),
+            Say::AsName(spot) => self.word(spot, habit_as_name(self.text(spot))),
+            Say::Want(want) => Some(Advice::Want(want)),
             Say::Operand(spot) => self.word(spot, habit_as_operand(self.text(spot))),
+        }
+    }
+
+    /// What holds of a rule after one more of its conditions.
+    pub fn passed(self, conditions: Conditions, step: Step) -> Conditions {
+        let Conditions { all, any } = conditions;
+        match step {
+            Step::Is(spot, test) => Conditions {
+                all: all && self.passes(spot, test),
+                any,
+            },
+            Step::Not(spot, test) => Conditions {
+                all: all && !self.passes(spot, test),
+                any,
+            },
+            _ => Conditions {
+                all: true,
+                any: any || all,
+            },
         }
     }
 
     /// What is told by the first rule that holds and tells something, or ends the table; none if no
     /// rule holds.
     fn answer(self, steps: &'static [Step]) -> Option<Option<Advice>> {
-        let mut holds = true;
-        let mut is_any = false;
+        let mut conditions = NO_CONDITIONS;
         for step in steps {
             match *step {
-                Step::Is(spot, test) => holds = holds && self.passes(spot, test),
-                Step::Not(spot, test) => holds = holds && !self.passes(spot, test),
-                Step::Or => {
-                    is_any = is_any || holds;
-                    holds = true;
-                }
-                Step::Say(say) if is_any => {
+                Step::Say(say) if conditions.any => {
                     let told = self.told_by(say);
                     if told.is_some() || matches!(say, Say::Nothing) {
                         return Some(told);
                     }
-                    is_any = false;
+                    conditions = NO_CONDITIONS;
                 }
-                Step::Say(_) => {}
+                Step::Say(_) => conditions = NO_CONDITIONS,
+                condition => conditions = self.passed(conditions, condition),
             }
         }
         None

@@ -34,9 +34,11 @@ pub enum Spot {
     /// The last `do` before the place, if it is in the same routine.
     Do,
     AfterDo,
+    /// The one after the definition that begins at the place.
+    AfterDefinition,
 }
 
-/// What may be expected at a place.
+/// What may be expected at a place, or wanted in the place of a name.
 #[derive(Clone, Copy)]
 pub enum Want {
     /// Only `until`.
@@ -50,6 +52,19 @@ pub enum Want {
     Directive,
     /// `;`.
     End,
+    Array,
+    Attribute,
+    /// A value that is known before a story runs.
+    Constant,
+    Object,
+    Property,
+    Routine,
+    Variable,
+}
+
+/// A set of one member if something is wanted, and else of none.
+pub fn wants(want: Want, is_wanted: bool) -> u64 {
+    u64::from(is_wanted).wrapping_shl(u32::from(want as u8))
 }
 
 /// What is asked of a token, or of the place.
@@ -63,8 +78,14 @@ pub enum Test {
     Unknown,
     /// It is a name that a definition gives, of what is in a set.
     Known(u64),
+    /// What is found by the name at the place is in a set.
+    Found(u64),
+    /// It is a name where a definition gives it.
+    Defines,
     /// It is in the place of a property that an object gives.
     Given,
+    /// It is a word that other languages have between operands.
+    Joint,
     /// It is a word with which other languages begin a statement or a definition.
     Foreign,
     /// It is the first of its line.
@@ -77,6 +98,14 @@ pub enum Test {
     First,
     /// It is not the first of its own statement or definition.
     Continues,
+    /// It is the same as the token before it.
+    Repeats,
+    /// A whole expression or a statement begins after it.
+    BeginsExpression,
+    /// A value is assigned to the name that it is, or it is stepped.
+    Changed,
+    /// A `:` is after it and the values that follow it.
+    BeforeColon,
     /// An operand ends with it.
     EndsOperand,
     /// It is the `)` of parentheses after a token of a kind in a set.
@@ -95,8 +124,10 @@ pub enum Test {
     BeforeNegation,
     /// `!=` is after it in its line.
     BeforeInequality,
-    /// Something is expected at the place.
+    /// Something is expected or wanted at the place.
     Wants(Want),
+    /// The place is in the routine Main.
+    InMain,
     /// A `]` is before the first `;` of the statement or the definition around the place.
     InBrackets,
     /// The place is among the values of the property `name`.
@@ -128,6 +159,12 @@ pub enum Say {
     Beginning(Spot),
     /// What to write for a word of another language in the place of an operand.
     Operand(Spot),
+    /// What to write for a word of Inform 6 in an expression.
+    InExpression(Spot),
+    /// What to write for a word of another language that is read as a name.
+    AsName(Spot),
+    /// What is wanted in the place of a name.
+    Want(Want),
 }
 
 /// A step through a table of rules. A rule is its conditions and then what it says, all in one
@@ -150,6 +187,9 @@ macro_rules! test {
     (Named $names:literal) => { $crate::Test::Named($names) };
     (Known $($what:ident)+) => {
         $crate::Test::Known(0 $(| 1 << $crate::Definition::$what as u64)+)
+    };
+    (Found $($what:ident)+) => {
+        $crate::Test::Found(0 $(| 1 << $crate::Definition::$what as u64)+)
     };
     (Closes $($word:ident)+) => { $crate::Test::Closes($crate::kinds!(Word $($word)+)) };
     (After $($word:ident)+) => { $crate::test!(After (Word $($word)+) (Is Divider)) };

@@ -1,9 +1,10 @@
 //! The statement or the definition around a place, and what is open there. The tokens before the
 //! place begin a program.
 
-use crate::definitions::{Definition, begun_at};
-use crate::tokens::{after, before, divides_at, is_name, is_sign, is_word, kind_at, line_of};
-use syntax_lexer::{Kind, Sign, Token, Word};
+use crate::kinds;
+use crate::tokens::{after, before, divides_at, is_sign, is_word, line_of};
+use crate::walks::is_after;
+use syntax_lexer::{Sign, Token, Word};
 
 /// The number of the first token of the statement or definition in which the token of a number is:
 /// the one after the nearest `;`, `{` or `}` before it.
@@ -24,26 +25,13 @@ pub fn begins_line(tokens: &[Token<'_>], at: usize) -> bool {
 
 /// Whether the token of a number is in a routine: a `[` is before it that no `]` closes.
 pub fn is_in_routine(tokens: &[Token<'_>], at: usize) -> bool {
-    for count in 0..at {
-        let number = before(at, count.saturating_add(1));
-        if is_sign(tokens, number, Sign::CloseBracket) {
-            return false;
-        }
-        if is_sign(tokens, number, Sign::OpenBracket) {
-            return true;
-        }
-    }
-    false
-}
-
-/// What the definition is of in which the token of a number is: that of a routine is its head only.
-pub fn definition_of(tokens: &[Token<'_>], at: usize) -> Option<Definition> {
-    let start = start_of(tokens, at);
-    if start < at {
-        begun_at(tokens, start)
-    } else {
-        None
-    }
+    is_after(
+        tokens,
+        at,
+        kinds!(Sign OpenBracket),
+        kinds!(Sign CloseBracket),
+        false,
+    )
 }
 
 /// The number of the last token before one that is an opening sign and is not closed before it.
@@ -100,34 +88,10 @@ pub fn switch_around(tokens: &[Token<'_>], at: usize) -> Option<usize> {
     }
 }
 
-/// The number of the last token before one that is a reserved word in its statement.
-pub fn last_word(tokens: &[Token<'_>], at: usize, word: Word) -> Option<usize> {
-    for count in 0..at {
-        let number = before(at, count.saturating_add(1));
-        if is_word(tokens, number, word) {
-            return Some(number);
-        }
-        if divides_at(tokens, number) {
-            return None;
-        }
-    }
-    None
-}
-
 /// Whether the token of a number directly follows the one before it.
 pub fn is_joined(tokens: &[Token<'_>], at: usize) -> bool {
     match (tokens.get(before(at, 1)), tokens.get(at)) {
         (Some(last), Some(token)) => last.end() == token.position.offset,
         _ => false,
     }
-}
-
-/// Whether the token of a number is a name that directly follows a word or a character in single
-/// quotes: the second quote may be meant as an apostrophe.
-pub fn is_after_apostrophe(tokens: &[Token<'_>], at: usize) -> bool {
-    let is_quoted = match kind_at(tokens, before(at, 1)) {
-        Kind::DictionaryWord(_) | Kind::Character(_) => true,
-        _ => false,
-    };
-    is_quoted && is_name(tokens, at) && is_joined(tokens, at)
 }

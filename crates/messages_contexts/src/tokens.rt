@@ -93,20 +93,6 @@ pub fn text_at<'a>(tokens: &[Token<'a>], number: usize) -> &'a [u8] {
     }
 }
 
-/// Whether the token of a number is in a statement after a reserved word.
-pub fn is_after_word(tokens: &[Token<'_>], at: usize, word: Word) -> bool {
-    for count in 1..at {
-        let number = before(at, count);
-        if is_word(tokens, number, word) {
-            return true;
-        }
-        if divides_at(tokens, number) {
-            return false;
-        }
-    }
-    false
-}
-
 /// Whether a `;` is among the tokens from one number to another.
 pub fn ends_within(tokens: &[Token<'_>], from: usize, to: usize) -> bool {
     for number in from..to {

@@ -1,6 +1,6 @@
 //! What rules ask that takes a walk over the tokens, or over the bytes after one.
 
-use crate::definitions::{Definition, Known, around, is_routine, known_as};
+use crate::definitions::{Definition, Known, around, known_as};
 use crate::kinds::{Kinds, has, is_of};
 use crate::objects::is_property;
 use crate::statements::{last_open, start_of};
@@ -132,7 +132,7 @@ pub fn is_in_names(tokens: &[Token<'_>], at: usize) -> bool {
 /// which the `:` is missing.
 pub fn is_case(tokens: &[Token<'_>], start: usize, at: usize) -> bool {
     start < at
-        && !is_routine(tokens, start)
+        && !is_known(tokens, start, 1 << Definition::Routine as u64)
         && count_of(tokens, start, at, IN_CASES) == at.saturating_sub(start)
 }
 
@@ -194,4 +194,47 @@ pub fn is_negation(bytes: &[u8]) -> bool {
 /// Whether bytes begin with `!=`, or with a blank between.
 pub fn is_inequality(bytes: &[u8]) -> bool {
     bytes.starts_with(b"!=") || bytes.starts_with(b"! =")
+}
+
+/// Whether the token of a number is the same as the one before it.
+pub fn repeats(tokens: &[Token<'_>], number: usize) -> bool {
+    match (tokens.get(before(number, 1)), tokens.get(number)) {
+        (Some(last), Some(token)) => last.text == token.text,
+        _ => false,
+    }
+}
+
+/// The number of the token after the end of the definition that begins with the token of a number.
+pub fn end_of_definition(tokens: &[Token<'_>], number: usize) -> usize {
+    let is_routine = is_sign(tokens, number, Sign::OpenBracket);
+    for at in number..tokens.len() {
+        let is_end = !is_routine || is_sign(tokens, before(at, 1), Sign::CloseBracket);
+        if is_end && is_sign(tokens, at, Sign::Semicolon) {
+            return after(at, 1);
+        }
+    }
+    tokens.len()
+}
+
+/// Whether a `:` is after the values that the token of a number begins.
+pub fn is_before_colon(tokens: &[Token<'_>], at: usize) -> bool {
+    const VALUES: Kinds = crate::kinds!(
+        Is Name Number Character DictionaryWord, Sign Comma Minus, Word To True False Nothing
+    );
+    for number in at..tokens.len() {
+        if !is_of(tokens, number, VALUES) {
+            return is_sign(tokens, number, Sign::Colon);
+        }
+    }
+    false
+}
+
+/// Whether the token of a number is in the routine Main.
+pub fn is_in_main(tokens: &[Token<'_>], at: usize) -> bool {
+    match around(tokens, at) {
+        Some(found) => {
+            matches!(found.what, Definition::Routine) && is_named(tokens, found.name, b"main")
+        }
+        None => false,
+    }
 }

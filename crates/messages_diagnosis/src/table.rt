@@ -33,6 +33,15 @@ impl Display for Line {
     }
 }
 
+/// Figures by what they are, with the limits that are named.
+macro_rules! lines {
+    ($($what:literal: $figure:expr $(=> $most:expr)?;)+) => {
+        [$(Line($what, $figure, lines!(@ $($most)?))),+]
+    };
+    (@) => { None };
+    (@ $most:expr) => { Some($most) };
+}
+
 /// Figures, each on a line.
 #[derive(Clone, Copy)]
 struct Lines<'a>(&'a [Line]);
@@ -76,26 +85,14 @@ impl Display for RoutineFigures<'_> {
 
 impl Display for Counts {
     fn fmt<W: fmt::Write>(&self, f: &mut Formatter<W>) -> fmt::Result {
-        let lines = [
-            Line("globals", self.globals as u128, Some(MOST_GLOBALS as u128)),
-            Line(
-                "attributes",
-                self.attributes as u128,
-                Some(ATTRIBUTE_COUNT as u128),
-            ),
-            Line(
-                "properties beside name",
-                self.properties as u128,
-                Some(MOST_PROPERTIES as u128),
-            ),
-            Line("objects", self.objects as u128, Some(MOST_OBJECTS as u128)),
-            Line("keys of dictionary words", self.words as u128, None),
-            Line(
-                "abbreviations",
-                self.abbreviations as u128,
-                Some(MOST_ABBREVIATIONS as u128),
-            ),
-            Line("routines", self.routines as u128, None),
+        let lines = lines![
+            "globals": self.globals as u128 => MOST_GLOBALS as u128;
+            "attributes": self.attributes as u128 => ATTRIBUTE_COUNT as u128;
+            "properties beside name": self.properties as u128 => MOST_PROPERTIES as u128;
+            "objects": self.objects as u128 => MOST_OBJECTS as u128;
+            "keys of dictionary words": self.words as u128;
+            "abbreviations": self.abbreviations as u128 => MOST_ABBREVIATIONS as u128;
+            "routines": self.routines as u128;
         ];
         write!(f, "{}", Lines(&lines))
     }
@@ -103,11 +100,11 @@ impl Display for Counts {
 
 impl Display for TableBytes {
     fn fmt<W: fmt::Write>(&self, f: &mut Formatter<W>) -> fmt::Result {
-        let lines = [
-            Line("bytes of arrays", self.arrays as u128, None),
-            Line("bytes of objects", self.objects, None),
-            Line("bytes of dictionary words", self.words, None),
-            Line("bytes of abbreviations", self.abbreviations, None),
+        let lines = lines![
+            "bytes of arrays": self.arrays as u128;
+            "bytes of objects": self.objects;
+            "bytes of dictionary words": self.words;
+            "bytes of abbreviations": self.abbreviations;
         ];
         write!(f, "{}", Lines(&lines))
     }
@@ -158,31 +155,21 @@ impl Display for Figures<'_> {
         }
         let temporaries = Greatest(self.temporaries);
         write!(f, "{}{temporaries}{}", self.counts, self.tables)?;
-        let lines = [
-            Line(
-                "bytes of these four",
-                self.table_total,
-                Some(MOST_TABLE_BYTES),
-            ),
-            Line(
-                "bytes of header and tables of one length",
-                FIXED_LENGTH,
-                None,
-            ),
-            Line("bytes of routines", self.code, None),
+        let lines = lines![
+            "bytes of these four": self.table_total => MOST_TABLE_BYTES;
+            "bytes of header and tables of one length": FIXED_LENGTH;
+            "bytes of routines": self.code;
         ];
         write!(f, "{}", Lines(&lines))?;
         let Ok(story) = self.story else {
             return Ok(());
         };
-        let lines = [
-            Line(
-                "bytes of texts of faults, and of filling",
-                self.rest(story),
-                None,
-            ),
-            Line("bytes of the story file", story as u128, most_length),
-        ];
-        write!(f, "{}", Lines(&lines))
+        let lines = lines!["bytes of texts of faults, and of filling": self.rest(story);];
+        write!(f, "{}", Lines(&lines))?;
+        writeln!(
+            f,
+            "{}",
+            Line("bytes of the story file", story as u128, most_length)
+        )
     }
 }

@@ -2,8 +2,8 @@
 
 use crate::explanation::{Explanation, explanations};
 
-/// The three limits of a turn, J1, and S1 to S3.
-pub(crate) static SESSIONS: [Explanation; 7] = explanations![
+/// The three limits of a turn, J1, and S1 to S4.
+pub(crate) static SESSIONS: [Explanation; 8] = explanations![
     "limit-turn" "turn too long" =>
         "A turn may spend 1,000,000 units of fuel, or the number after --fuel: 1 for each
 call of a routine, and 1 each time the story goes back, as a loop does. This
@@ -39,4 +39,8 @@ again where there is room.";
         "The system refused memory while the story ran up to the place where it first
 waits for a line, so nothing was played. This says nothing about the story. End
 other programs or raise the memory limit (ulimit -v), and play it again.";
+    "S4" "a line could not be kept" =>
+        "The file after --session could not be written, for example because a disk is
+full. The line is not answered, and play ends with status 5. All lines before it
+are in the file: make room, and go on with the same command.";
 ];

@@ -2,7 +2,7 @@
 
 use checker_names::{Binding, Table, find};
 use meaning::limits::MOST_ARRAY_BYTES;
-use messages_contexts::{Defined, is_local};
+use messages_contexts::{Defined, Definition, Want, is_local};
 use syntax::{ArrayKind, Token};
 
 /// What a name stands for in a definition.
@@ -33,12 +33,35 @@ pub fn kind_of(binding: Binding) -> &'static str {
     }
 }
 
+/// What the definition of a name is of. A local is a variable as a global is.
+pub fn definition_of(binding: Binding) -> Definition {
+    match binding {
+        Binding::Constant(_) => Definition::Constant,
+        Binding::Global(_) | Binding::Local(_) => Definition::Global,
+        Binding::Array(_, _) => Definition::Array,
+        Binding::Routine(_, _) => Definition::Routine,
+        Binding::Attribute(_) => Definition::Attribute,
+        Binding::Property(_) => Definition::Property,
+        Binding::Object(_) => Definition::Object,
+    }
+}
+
 /// Whether a name is a variable.
 pub fn is_variable(binding: Binding) -> bool {
-    match binding {
-        Binding::Global(_) => true,
-        Binding::Local(_) => true,
-        _ => false,
+    matches!(definition_of(binding), Definition::Global)
+}
+
+/// What is wanted, in words.
+pub fn words_of(want: Want) -> &'static str {
+    match want {
+        Want::Array => "an array",
+        Want::Attribute => "an attribute",
+        Want::Constant => "a Constant or an object",
+        Want::Object => "an object",
+        Want::Property => "a property",
+        Want::Routine => "a routine",
+        Want::Variable => "a variable",
+        _ => "a value",
     }
 }
 

@@ -1,163 +1,104 @@
 //! The defined name that is nearest to one that is not known.
 
 use crate::site::Site;
-use crate::wanted::{Wanted, wanted_in};
 use messages_contexts::{
-    Defined, Definition, after, defined_at, in_small_letters, is_attribute, is_name, is_near,
-    text_at,
+    Definition, Want, after, defined_at, in_small_letters, is_attribute, is_in_routine, is_name,
+    is_near, text_at,
 };
 use std::alloc::{AllocError, Global};
 use strsim::generic_levenshtein;
 use syntax::Token;
 
-/// A defined name, by the number of its token, and how many edits lead to it.
+/// Whether what is wanted may be of that kind.
+fn suits(wanted: Want, what: Definition) -> bool {
+    match what {
+        Definition::Global => matches!(wanted, Want::Value | Want::Variable),
+        Definition::Constant => matches!(wanted, Want::Value | Want::Constant),
+        Definition::Object => matches!(wanted, Want::Value | Want::Constant | Want::Object),
+        Definition::Array => matches!(wanted, Want::Array),
+        Definition::Attribute => matches!(wanted, Want::Attribute),
+        Definition::Property => matches!(wanted, Want::Property),
+        Definition::Routine => matches!(wanted, Want::Routine),
+    }
+}
+
+/// How many edits lead from a name in small letters to another one.
+fn edits_to(alloc: Global, name: &[u8], other: &[u8]) -> Result<usize, AllocError> {
+    let other = in_small_letters(alloc, other)?;
+    generic_levenshtein(alloc, name, other.as_slice())
+}
+
+/// A search for the name to which the fewest edits lead from one in small letters.
 #[derive(Clone, Copy)]
-struct Near {
-    number: usize,
+struct Search<'n, 't, 'a> {
+    alloc: Global,
+    name: &'n [u8],
+    tokens: &'t [Token<'a>],
+
+    /// The bytes of the first name with the fewest edits so far, if one may be meant.
+    found: Option<&'a [u8]>,
+
     edits: usize,
 }
 
-/// A name that is not known, in small letters, and what is wanted in its place.
-#[derive(Clone, Copy)]
-struct Asked<'n> {
-    name: &'n [u8],
-    wanted: Wanted,
-}
-
-/// Whether what is wanted may be of that kind.
-fn suits(wanted: Wanted, what: Definition) -> bool {
-    match what {
-        Definition::Global => matches!(wanted, Wanted::Value | Wanted::Variable),
-        Definition::Constant => matches!(wanted, Wanted::Value | Wanted::Constant),
-        Definition::Object => {
-            matches!(wanted, Wanted::Value | Wanted::Constant | Wanted::Object)
+impl Search<'_, '_, '_> {
+    /// Compares the token of a number.
+    fn compare(&mut self, number: usize) -> Result<(), AllocError> {
+        let other = text_at(self.tokens, number);
+        let edits = edits_to(self.alloc, self.name, other)?;
+        if edits < self.edits && is_near(self.name, edits, other) {
+            self.found = Some(other);
+            self.edits = edits;
         }
-        Definition::Array => matches!(wanted, Wanted::Array),
-        Definition::Attribute => matches!(wanted, Wanted::Attribute),
-        Definition::Property => matches!(wanted, Wanted::Property),
-        Definition::Routine => matches!(wanted, Wanted::Routine),
+        Ok(())
     }
-}
 
-/// The nearer of a name that was found and that of the token of a number. The first that was found
-/// if both are as near.
-fn nearer(
-    alloc: Global,
-    tokens: &[Token<'_>],
-    number: usize,
-    asked: Asked<'_>,
-    found: Option<Near>,
-) -> Result<Option<Near>, AllocError> {
-    let Ok(defined) = in_small_letters(alloc, text_at(tokens, number)) else {
-        return Err(AllocError);
-    };
-    let Ok(edits) = generic_levenshtein(alloc, asked.name, defined.as_slice()) else {
-        return Err(AllocError);
-    };
-    let has_fewer = match found {
-        None => true,
-        Some(near) => edits < near.edits,
-    };
-    if has_fewer && is_near(asked.name, edits, &defined) {
-        Ok(Some(Near { number, edits }))
-    } else {
-        Ok(found)
-    }
-}
-
-/// Whether what is wanted may be what is defined at the token of a number.
-fn suits_at(tokens: &[Token<'_>], number: usize, wanted: Wanted) -> bool {
-    match defined_at(tokens, number) {
-        Some(what) => suits(wanted, what),
-        None => false,
-    }
-}
-
-/// The nearest name that is defined in the file.
-fn nearest_definition(
-    alloc: Global,
-    tokens: &[Token<'_>],
-    asked: Asked<'_>,
-) -> Result<Option<Near>, AllocError> {
-    let mut found = None;
-    for number in 0..tokens.len() {
-        if suits_at(tokens, number, asked.wanted) {
-            found = nearer(alloc, tokens, number, asked, found)?;
+    /// Compares what the file defines that may be wanted.
+    fn compare_definitions(&mut self, wanted: Want) -> Result<(), AllocError> {
+        for number in 0..self.tokens.len() {
+            match defined_at(self.tokens, number) {
+                Some(what) if suits(wanted, what) => self.compare(number)?,
+                _ => {}
+            }
         }
+        Ok(())
     }
-    Ok(found)
-}
 
-/// The nearest of a name that was found and the locals of the routine whose name has a number.
-fn nearest_local(
-    alloc: Global,
-    tokens: &[Token<'_>],
-    routine: usize,
-    asked: Asked<'_>,
-    found: Option<Near>,
-) -> Result<Option<Near>, AllocError> {
-    let mut found = found;
-    for number in routine.saturating_add(1)..tokens.len() {
-        if !is_name(tokens, number) {
-            break;
+    /// Compares the locals of the routine whose name has a number.
+    fn compare_locals(&mut self, routine: usize) -> Result<(), AllocError> {
+        for number in routine.saturating_add(1)..self.tokens.len() {
+            if !is_name(self.tokens, number) {
+                break;
+            }
+            self.compare(number)?;
         }
-        found = nearer(alloc, tokens, number, asked, found)?;
-    }
-    Ok(found)
-}
-
-/// The nearest name in a definition, whether it is a local or not.
-fn nearest_in(
-    alloc: Global,
-    tokens: &[Token<'_>],
-    around: Defined,
-    asked: Asked<'_>,
-) -> Result<Option<Near>, AllocError> {
-    let Ok(found) = nearest_definition(alloc, tokens, asked) else {
-        return Err(AllocError);
-    };
-    match around.what {
-        Definition::Routine if suits(asked.wanted, Definition::Global) => {
-            nearest_local(alloc, tokens, around.name, asked, found)
-        }
-        _ => Ok(found),
+        Ok(())
     }
 }
 
-/// The defined name that may be meant by one that is not known: the nearest of those that can be
-/// there.
+/// The defined name that may be meant by one that is not known: the nearest of those that are wanted.
 ///
 /// # Errors
 ///
 /// `AllocError` if memory is refused.
-pub fn nearest<'a>(site: Site<'_, 'a>) -> Result<Option<&'a [u8]>, AllocError> {
-    let Some(around) = site.around() else {
-        return Ok(None);
-    };
-    let Ok(small) = in_small_letters(site.alloc, site.token.text) else {
-        return Err(AllocError);
-    };
-    let asked = Asked {
+pub fn nearest<'a>(site: Site<'_, 'a>, wanted: Want) -> Result<Option<&'a [u8]>, AllocError> {
+    let small = in_small_letters(site.alloc, site.token.text)?;
+    let mut search = Search {
+        alloc: site.alloc,
         name: small.as_slice(),
-        wanted: wanted_in(site.tokens, site.at, around, false),
+        tokens: site.tokens,
+        found: None,
+        edits: usize::MAX,
     };
-    match nearest_in(site.alloc, site.tokens, around, asked) {
-        Ok(Some(near)) => Ok(Some(text_at(site.tokens, near.number))),
-        Ok(None) => Ok(None),
-        Err(refused) => Err(refused),
+    search.compare_definitions(wanted)?;
+    match site.around() {
+        Some(around)
+            if matches!(around.what, Definition::Routine) && suits(wanted, Definition::Global) => {
+            search.compare_locals(around.name)?;
+        }
+        _ => {}
     }
-}
-
-/// The reserved words that can be in the place of a name.
-fn words_for(site: Site<'_, '_>, around: Defined) -> &'static [&'static str] {
-    match wanted_in(site.tokens, site.at, around, false) {
-        Wanted::Value => &["true", "false", "nothing"],
-        Wanted::Routine => &["parent", "child", "sibling"],
-        Wanted::Constant if matches!(around.what, Definition::Routine) => &["default"],
-        Wanted::Property if is_attribute(site.tokens, after(site.at, 1)) => &["has"],
-        Wanted::Property => &["name"],
-        _ => &[],
-    }
+    Ok(search.found)
 }
 
 /// The first of some words to which so few edits lead from a name that it may be meant: one, or two
@@ -167,13 +108,9 @@ fn near_word(
     name: &[u8],
     words: &[&'static str],
 ) -> Result<Option<&'static str>, AllocError> {
-    let Ok(small) = in_small_letters(alloc, name) else {
-        return Err(AllocError);
-    };
+    let small = in_small_letters(alloc, name)?;
     for word in words {
-        let Ok(edits) = generic_levenshtein(alloc, small.as_slice(), word.as_bytes()) else {
-            return Err(AllocError);
-        };
+        let edits = edits_to(alloc, &small, word.as_bytes())?;
         let is_alike = edits == 1 || name.len() == word.len();
         if is_alike && is_near(name, edits, word.as_bytes()) {
             return Ok(Some(*word));
@@ -182,16 +119,21 @@ fn near_word(
     Ok(None)
 }
 
-/// The reserved word that may be meant by a name that is not known.
+/// The reserved word that may be meant by a name that is not known, of those that can be there.
 ///
 /// # Errors
 ///
 /// `AllocError` if memory is refused.
-pub fn nearest_word(site: Site<'_, '_>) -> Result<Option<&'static str>, AllocError> {
-    match site.around() {
-        Some(around) => near_word(site.alloc, site.token.text, words_for(site, around)),
-        None => Ok(None),
-    }
+pub fn nearest_word(site: Site<'_, '_>, wanted: Want) -> Result<Option<&'static str>, AllocError> {
+    let words: &[&'static str] = match wanted {
+        Want::Value => &["true", "false", "nothing"],
+        Want::Routine => &["parent", "child", "sibling"],
+        Want::Constant if is_in_routine(site.tokens, site.at) => &["default"],
+        Want::Property if is_attribute(site.tokens, after(site.at, 1)) => &["has"],
+        Want::Property => &["name"],
+        _ => &[],
+    };
+    near_word(site.alloc, site.token.text, words)
 }
 
 /// The number of the token of the first routine by whose name `Main` may be meant.
@@ -201,13 +143,10 @@ pub fn nearest_word(site: Site<'_, '_>) -> Result<Option<&'static str>, AllocErr
 /// `AllocError` if memory is refused.
 pub fn nearest_main(alloc: Global, tokens: &[Token<'_>]) -> Result<Option<usize>, AllocError> {
     for number in 0..tokens.len() {
-        let is_routine = matches!(defined_at(tokens, number), Some(Definition::Routine));
-        if is_routine {
-            match near_word(alloc, text_at(tokens, number), &["main"]) {
-                Ok(None) => {}
-                Ok(Some(_)) => return Ok(Some(number)),
-                Err(refused) => return Err(refused),
-            }
+        if matches!(defined_at(tokens, number), Some(Definition::Routine))
+            && near_word(alloc, text_at(tokens, number), &["main"])?.is_some()
+        {
+            return Ok(Some(number));
         }
     }
     Ok(None)

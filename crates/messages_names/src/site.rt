@@ -1,6 +1,7 @@
-//! The token at which a rule is broken.
+//! The token at which a rule is broken, and what is wanted there.
 
-use messages_contexts::{Defined, around};
+use crate::tables::WANTED;
+use messages_contexts::{Advice, Defined, Definition, Place, Want, around};
 use std::alloc::Global;
 use syntax::Token;
 
@@ -17,9 +18,43 @@ pub struct Site<'t, 'a> {
     pub token: Token<'a>,
 }
 
-impl Site<'_, '_> {
+impl<'t, 'a> Site<'t, 'a> {
+    /// The token that begins at an offset. `None` where none does.
+    pub fn at_offset(alloc: Global, tokens: &'t [Token<'a>], offset: usize) -> Option<Self> {
+        for at in 0..tokens.len() {
+            let token = tokens[at];
+            if token.position.offset == offset {
+                return Some(Self {
+                    alloc,
+                    tokens,
+                    at,
+                    token,
+                });
+            }
+        }
+        None
+    }
+
     /// The definition around the token.
-    pub fn around(&self) -> Option<Defined> {
+    pub fn around(self) -> Option<Defined> {
         around(self.tokens, self.at)
+    }
+
+    /// Its place, of which rules ask.
+    pub fn place(self) -> Place<'t, 'a> {
+        Place::new(b"", self.tokens, self.at, 0)
+    }
+
+    /// Its place with what is wanted there, where a definition of a kind is found by the name, or none.
+    pub fn wanting(self, found: Option<Definition>) -> (Place<'t, 'a>, Want) {
+        let place = match found {
+            Some(what) => self.place().finding(what),
+            None => self.place(),
+        };
+        let want = match place.told(WANTED) {
+            Some(Advice::Want(want)) => want,
+            _ => Want::Value,
+        };
+        (place.wanting(want), want)
     }
 }

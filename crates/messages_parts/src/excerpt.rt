@@ -1,8 +1,9 @@
 //! The line of a source in which something is at fault, as it is shown.
 
-use crate::lines::{from, front, line_length};
+use crate::lines::line_length;
 use crate::place::Place;
 use std::fmt::{self, Display, Formatter};
+use syntax_lexer::{from, front};
 
 /// The most bytes of a line that are shown.
 const MOST_SHOWN: usize = 160;

@@ -1,6 +1,6 @@
 //! Lines, columns and parts of a source.
 
-ghost use Rattle.std.specs.Prelude.{◌≡◌, ◌≢◌, ◌≤◌, ◌<◌, ◌+◌, false, length, slice_index, take, drop};
+ghost use Rattle.std.specs.Prelude.{◌≡◌, ◌≢◌, ◌≤◌, ◌<◌, ◌+◌, false, length, slice_index, take};
 ghost use Rattle.std.specs.List.{All};
 ghost use Rattle.syntax_lexer.specs.Bytes.{is_divider};
 ghost use Rattle.syntax_lexer.specs.Placed.{line_behind};
@@ -45,18 +45,4 @@ pub fn line_length(bytes: &[u8]) -> usize
         length += 1;
     }
     length
-}
-
-/// The bytes from an offset on; none behind the last.
-pub fn from(bytes: &[u8], at: usize) -> &[u8]
-    ensures { result.now ≡ drop at bytes.now }
-{
-    bytes.split_at(at.min(bytes.len())).1
-}
-
-/// So many bytes of the front, or all.
-pub fn front(bytes: &[u8], count: usize) -> &[u8]
-    ensures { result.now ≡ take count bytes.now }
-{
-    bytes.split_at(count.min(bytes.len())).0
 }

@@ -4,9 +4,10 @@ ghost use Rattle.std.specs.Prelude.{◌≡◌, ◌≢◌, ◌≤◌, ◌<◌, �
 ghost use Rattle.syntax_lexer.specs.Placed.{IsInLine};
 ghost use Rattle.messages_parts.specs.Lines.{IsPlaceIn};
 
-use crate::lines::{column_behind, from, front, line_behind, line_length};
+use crate::lines::{column_behind, line_behind, line_length};
 use syntax_lexer::{
-    BAD_NUMBER, BAD_TEXT, NAME_TOO_LONG, PlacedFault, STRAY_BYTE, SourceFault, token_length,
+    BAD_NUMBER, BAD_TEXT, NAME_TOO_LONG, PlacedFault, STRAY_BYTE, SourceFault, from, front,
+    token_length,
 };
 
 /// What is at fault: a span of the source within one line.

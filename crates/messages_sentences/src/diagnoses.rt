@@ -1,10 +1,10 @@
 //! The sentence of a diagnosis.
 
 use crate::analysis::{Analysis, unless_refused};
+use crate::grammar::Told;
 use crate::rules::{at_offset, at_place, misfit_of};
 use meaning::greatest_weight;
 use messages_diagnosis::{Limit, MOST_TABLE_BYTES, greatest_length, measure};
-use messages_grammar::Told;
 use messages_parts::{Diagnosis, Place};
 use messages_tokens::{Figure, some, source_sentence};
 use std::alloc::{AllocError, Global};
@@ -33,13 +33,12 @@ struct Whole {
 
 /// The figures of a source by a limit. `None` where another rule is broken.
 fn figures_of(alloc: Global, source: &[u8], limit: Limit) -> Result<Option<Whole>, AllocError> {
-    match unless_refused(measure(alloc, source, Version::V8, limit)) {
-        Ok(Some(figures)) => Ok(Some(Whole {
+    match unless_refused(measure(alloc, source, Version::V8, limit))? {
+        Some(figures) => Ok(Some(Whole {
             tables: figures.table_total,
             is_large_story: figures.story.is_ok(),
         })),
-        Ok(None) => Ok(None),
-        Err(refused) => Err(refused),
+        None => Ok(None),
     }
 }
 
@@ -48,24 +47,9 @@ fn but_room(alloc: Global, analysis: &Analysis<'_>) -> Result<&'static str, Allo
     if matches!(analysis.version, Version::V8) {
         return Ok("");
     }
-    match figures_of(alloc, analysis.source, analysis.limit) {
-        Ok(Some(whole)) if whole.is_large_story => Ok(", but -v 8 has room for it"),
-        Ok(_) => Ok(""),
-        Err(refused) => Err(refused),
-    }
-}
-
-/// What is said of version 8 where a source of that weight weighs too much for another one. To
-/// measure it takes longer than to compile it, so it is not done where the weight says all.
-fn but_light(
-    alloc: Global,
-    analysis: &Analysis<'_>,
-    weight: u128,
-) -> Result<&'static str, AllocError> {
-    if weight > greatest_weight(Version::V8) {
-        Ok("")
-    } else {
-        but_room(alloc, analysis)
+    match figures_of(alloc, analysis.source, analysis.limit)? {
+        Some(whole) if whole.is_large_story => Ok(", but -v 8 has room for it"),
+        _ => Ok(""),
     }
 }
 
@@ -77,43 +61,39 @@ fn number_of(version: Version) -> u8 {
     }
 }
 
-/// What is wrong with a source of that weight, which is too much for its version.
+/// What is wrong with a source of that weight, which is too much for its version. To measure it for
+/// version 8 takes longer than to compile it, so it is not done where the weight says all.
 fn heavy(alloc: Global, analysis: &Analysis<'_>, found: u128) -> Result<String, AllocError> {
     let weight = Figure(found);
     let most = Figure(greatest_weight(analysis.version));
     let number = number_of(analysis.version);
-    match but_light(alloc, analysis, found) {
-        Ok(but) => format!(in alloc;
-            "the source weighs {weight}; the limit of version {number} is {most}{but}"
-        ),
-        Err(refused) => Err(refused),
-    }
+    let but = if found > greatest_weight(Version::V8) {
+        ""
+    } else {
+        but_room(alloc, analysis)?
+    };
+    format!(in alloc; "the source weighs {weight}; the limit of version {number} is {most}{but}")
 }
 
 /// What is wrong with a source whose story is longer than packed addresses of its version reach.
 fn long(alloc: Global, analysis: &Analysis<'_>) -> Result<String, AllocError> {
     let most = Figure(greatest_length(analysis.version) as u128);
     let number = number_of(analysis.version);
-    match but_room(alloc, analysis) {
-        Ok(but) => format!(in alloc;
-            "the story has more than {most} bytes, the limit of version {number}{but}"
-        ),
-        Err(refused) => Err(refused),
-    }
+    let but = but_room(alloc, analysis)?;
+    format!(in alloc; "the story has more than {most} bytes, the limit of version {number}{but}")
 }
 
 /// What is wrong with a source whose tables are too large.
 fn large_tables(alloc: Global, source: &[u8]) -> Result<Option<String>, AllocError> {
-    match figures_of(alloc, source, Limit::Weight) {
-        Ok(Some(whole)) => {
+    match figures_of(alloc, source, Limit::Weight)? {
+        Some(whole) => {
             let bytes = Figure(whole.tables);
             let most = Figure(MOST_TABLE_BYTES);
             some(format!(in alloc;
                 "arrays, objects, words and abbreviations have {bytes} bytes; the limit is {most}"
             ))
         }
-        Ok(None) => Ok(None),
-        Err(refused) => Err(refused),
+        None => Ok(None),
     }
 }
 
@@ -169,17 +149,6 @@ fn shown(source: &[u8], diagnosis: Diagnosis, told: &Told) -> Diagnosis {
     }
 }
 
-/// The broken rule of a diagnosis in words.
-fn in_words(alloc: Global, diagnosis: Diagnosis) -> Result<Message, AllocError> {
-    match String::from_str(alloc, diagnosis.fault.rule()) {
-        Ok(sentence) => Ok(Message {
-            sentence,
-            diagnosis,
-        }),
-        Err(refused) => Err(refused),
-    }
-}
-
 /// What is wrong with a source that is refused, by one of its diagnoses. If no sentence is found, it
 /// is the broken rule in words.
 ///
@@ -191,15 +160,15 @@ pub fn message_of(
     analysis: &Analysis<'_>,
     diagnosis: Diagnosis,
 ) -> Result<Message, AllocError> {
-    match told_of(alloc, analysis, diagnosis) {
-        Ok(Some(told)) => {
-            let diagnosis = shown(analysis.source, diagnosis, &told);
-            Ok(Message {
-                sentence: told.sentence,
-                diagnosis,
-            })
-        }
-        Ok(None) => in_words(alloc, diagnosis),
-        Err(refused) => Err(refused),
-    }
+    let Some(told) = told_of(alloc, analysis, diagnosis)? else {
+        return Ok(Message {
+            sentence: String::from_str(alloc, diagnosis.fault.rule())?,
+            diagnosis,
+        });
+    };
+    let diagnosis = shown(analysis.source, diagnosis, &told);
+    Ok(Message {
+        sentence: told.sentence,
+        diagnosis,
+    })
 }

@@ -3,15 +3,14 @@
 #![tactic(auto)]
 
 mod analysis;
-mod arguments;
-mod arrays;
-mod assignments;
+mod attempts;
+mod causes;
 mod diagnoses;
-mod duplicates;
 mod faults_after;
-mod limits;
+mod grammar;
+mod misspelt;
 mod rules;
-mod weights;
+mod trials;
 
 pub use analysis::Analysis;
 pub use diagnoses::{Message, message_of};

@@ -4,15 +4,14 @@ ghost use Rattle.syntax_lexer.specs.Token.{lexemes};
 ghost use Rattle.syntax_lexer.specs.Tokens.{EndsOnce};
 
 use crate::analysis::Parts;
-use crate::arguments::too_many_arguments;
-use crate::arrays::bad_array;
-use crate::assignments::{not_assignable, outside};
-use crate::duplicates::{bad_abbreviation, defined_twice};
-use crate::limits::{too_large, too_many};
-use crate::weights::too_heavy;
+use crate::grammar::{Told, misfit_at, too_deep};
 use checker_names::{Table, tabulate};
-use messages_grammar::{Told, misfit_at, too_deep};
-use messages_names::{Site, no_main, unknown, wrong_kind};
+use meaning::limits::MOST_TEMPORARIES;
+use messages_diagnosis::temporaries_at;
+use messages_names::{
+    Site, bad_abbreviation, bad_array, defined_twice, no_main, not_assignable, outside, too_heavy,
+    too_many, too_many_arguments, unknown, wrong_kind,
+};
 use messages_tokens::some;
 use std::alloc::{AllocError, Global};
 use syntax::{Directive, Program, Token, lex};
@@ -22,7 +21,7 @@ use syntax_lexer::{
     TOO_MANY_ARGUMENTS, UNKNOWN_NAME, WRONG_KIND,
 };
 
-/// What is wrong at a token, by the number of a rule that asks what names of the program stand for.
+/// What is wrong at a token, by the number of a rule that asks what names of the program are.
 fn by_names(site: Site<'_, '_>, table: &Table, rule: u8) -> Result<Option<String>, AllocError> {
     match rule {
         NO_PROPER_MAIN => no_main(site, table),
@@ -34,10 +33,16 @@ fn by_names(site: Site<'_, '_>, table: &Table, rule: u8) -> Result<Option<String
     }
 }
 
-/// What the names of a program stand for.
-fn table_of<'a>(alloc: Global, program: &Program<'a>) -> Result<Table, AllocError> {
-    let directives: &[Directive<'a>] = &program.directives;
-    tabulate(directives, alloc)
+/// What is wrong with the expression of a statement or of a print item that begins at a token: it
+/// needs so many temporaries, or more where 255 are told.
+fn too_large(site: Site<'_, '_>, program: &Program<'_>) -> Result<Option<String>, AllocError> {
+    let Some(number) = temporaries_at(program, site.token.position.offset) else {
+        return Ok(None);
+    };
+    let or_more = if number == u8::MAX { " or more" } else { "" };
+    some(format!(in site.alloc;
+        "the expression needs {number}{or_more} temporaries; the limit is {MOST_TEMPORARIES}: assign a part to a variable before"
+    ))
 }
 
 /// What is wrong at a token, by the number of a rule that the tree tells of.
@@ -49,7 +54,8 @@ fn by_program(
     if rule == EXPRESSION_TOO_LARGE {
         return too_large(site, program);
     }
-    match table_of(site.alloc, program) {
+    let directives: &[Directive<'_>] = &program.directives;
+    match tabulate(directives, site.alloc) {
         Ok(table) => by_names(site, &table, rule),
         Err(refused) => Err(refused),
     }
@@ -73,24 +79,6 @@ fn by_rule(
             Some(program) => by_program(site, program, rule),
             None => Ok(None),
         },
-    }
-}
-
-/// The number of the token that begins at an offset. A number of none where none does.
-fn number_at(tokens: &[Token<'_>], offset: usize) -> usize {
-    for number in 0..tokens.len() {
-        if begins_at(tokens, number, offset) {
-            return number;
-        }
-    }
-    usize::MAX
-}
-
-/// Whether the token of a number begins at an offset.
-fn begins_at(tokens: &[Token<'_>], number: usize, offset: usize) -> bool {
-    match tokens.get(number) {
-        Some(token) => token.position.offset == offset,
-        None => false,
     }
 }
 
@@ -120,13 +108,12 @@ fn misfit_in(
 ) -> Result<Option<Told>, AllocError>
     requires { EndsOnce (lexemes tokens.now) }
 {
-    let at = number_at(tokens, offset);
-    let Some(token) = tokens.get(at).copied() else {
-        return Ok(None);
-    };
-    match misfit_at(alloc, source, tokens, at, token) {
-        Ok(told) => Ok(Some(told)),
-        Err(refused) => Err(refused),
+    match Site::at_offset(alloc, tokens, offset) {
+        Some(site) => match misfit_at(alloc, source, tokens, site.at, site.token) {
+            Ok(told) => Ok(Some(told)),
+            Err(refused) => Err(refused),
+        },
+        None => Ok(None),
     }
 }
 
@@ -145,7 +132,7 @@ pub fn misfit_of(alloc: Global, source: &[u8], offset: usize) -> Result<Option<T
 }
 
 /// What is wrong at an offset of a source, by the number of the broken rule: E05, E20 to E29, E32
-/// and E33. `None` for another rule, and where no such thing stands there.
+/// and E33. `None` for another rule, and where no such thing is there.
 ///
 /// # Errors
 ///
@@ -156,16 +143,8 @@ pub fn at_offset(
     rule: u8,
     offset: usize,
 ) -> Result<Option<Told>, AllocError> {
-    let tokens = parts.tokens.as_slice();
-    let at = number_at(tokens, offset);
-    let Some(token) = tokens.get(at).copied() else {
-        return Ok(None);
-    };
-    let site = Site {
-        alloc,
-        tokens,
-        at,
-        token,
-    };
-    at_place(by_rule(site, parts.program.as_ref(), rule))
+    match Site::at_offset(alloc, &parts.tokens, offset) {
+        Some(site) => at_place(by_rule(site, parts.program.as_ref(), rule)),
+        None => Ok(None),
+    }
 }

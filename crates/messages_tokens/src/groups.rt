@@ -1,6 +1,6 @@
 //! Groups of kinds that have one name.
 
-use crate::kinds::TokenKind;
+use crate::kinds::{TokenKind, token_kinds};
 use std::alloc::{AllocError, Global};
 use syntax::{Sign, Word};
 
@@ -100,19 +100,8 @@ const GROUPS: [Group; 7] = [
     Group::Directive,
 ];
 
-/// Kinds of tokens: those that hold something, reserved words, and signs.
-macro_rules! kinds {
-    ($(Is $($kind:ident)+;)? $(Word $($word:ident)+;)? Sign $($sign:ident)+) => {
-        [
-            $($(TokenKind::$kind,)+)?
-            $($(TokenKind::Reserved(Word::$word),)+)?
-            $(TokenKind::Sign(Sign::$sign),)+
-        ]
-    };
-}
-
 /// What a statement begins with.
-const STATEMENT: &[TokenKind] = &kinds!(
+const STATEMENT: &[TokenKind] = &token_kinds!(
     Is Name Number Text Character DictionaryWord;
     Word Break Child Continue Do False For Give If Move NewLine Nothing Objectloop Parent Print
         PrintRet Quit Read Remove Return Rfalse Rtrue Sibling Switch True While;
@@ -120,42 +109,42 @@ const STATEMENT: &[TokenKind] = &kinds!(
 );
 
 /// What an expression begins with.
-const EXPRESSION: &[TokenKind] = &kinds!(
+const EXPRESSION: &[TokenKind] = &token_kinds!(
     Is Name Number Character DictionaryWord;
     Word Child False Nothing Parent Sibling True;
     Sign OpenParenthesis Not Tilde Increment Minus Decrement
 );
 
 /// What an operand of a sum or a product begins with.
-const OPERAND: &[TokenKind] = &kinds!(
+const OPERAND: &[TokenKind] = &token_kinds!(
     Is Name Number Character DictionaryWord;
     Word Child False Nothing Parent Sibling True;
     Sign OpenParenthesis Tilde Increment Minus Decrement
 );
 
 /// What a value that is known before a story runs begins with.
-const VALUE: &[TokenKind] = &kinds!(
+const VALUE: &[TokenKind] = &token_kinds!(
     Is Name Number Character DictionaryWord;
     Word False Nothing True;
     Sign Minus
 );
 
 /// What may follow an operand that is not a name alone.
-const OPERATOR: &[TokenKind] = &kinds!(
+const OPERATOR: &[TokenKind] = &token_kinds!(
     Word Has Hasnt In Notin Provides;
     Sign Dot DotAmpersand DotHash Assign Equal NotEqual Greater GreaterOrEqual Less LessOrEqual
         AndAlso Ampersand OrElse Bar Plus Increment Minus Decrement Star Slash Percent
 );
 
 /// Operators between two operands, `=` apart.
-const BINARY_OPERATOR: &[TokenKind] = &kinds!(
+const BINARY_OPERATOR: &[TokenKind] = &token_kinds!(
     Word Has Hasnt In Notin Provides;
     Sign Equal NotEqual Greater GreaterOrEqual Less LessOrEqual AndAlso Ampersand OrElse Bar Plus
         Minus Star Slash Percent
 );
 
 /// What a directive begins with.
-const DIRECTIVE: &[TokenKind] = &kinds!(
+const DIRECTIVE: &[TokenKind] = &token_kinds!(
     Word Abbreviate Array Attribute Constant Global Object Property;
     Sign OpenBracket
 );

@@ -1,8 +1,9 @@
 //! Why no number begins at a digit or a `$` (E03).
 
-use crate::runs::{Class, from, front, run_length};
+use crate::runs::{Class, run_length};
 use crate::written::{Cut, Quoted};
 use std::alloc::{AllocError, Global};
+use syntax_lexer::{from, front};
 
 /// The class of a number's digits, the length of what stands before them, and their word.
 fn digits(bytes: &[u8]) -> (Class, usize, &'static str) {

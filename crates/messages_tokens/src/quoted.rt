@@ -1,9 +1,10 @@
 //! Why no text, no character and no word begins at a quote (E02).
 
-use crate::runs::{Class, byte_of_line, from, front, run_length};
+use crate::runs::{Class, byte_of_line, run_length};
 use crate::told::some;
 use messages_parts::{ACCENTS, APOSTROPHES, Absent};
 use std::alloc::{AllocError, Global};
+use syntax_lexer::{from, front};
 
 /// What is wrong with a text that is not closed, where so many quotes are before it in its line.
 fn unclosed(rest: &[u8], quotes: usize) -> &'static str {

@@ -1,6 +1,6 @@
 //! Runs of bytes of one class at the front of some bytes.
 
-ghost use Rattle.std.specs.Prelude.{◌≡◌, ◌≤◌, length, take, drop};
+ghost use Rattle.std.specs.Prelude.{◌≤◌, length};
 
 /// What bytes a run is of.
 #[derive(Clone, Copy)]
@@ -41,20 +41,6 @@ pub fn run_length(class: Class, bytes: &[u8]) -> usize
         }
     }
     bytes.len()
-}
-
-/// The bytes from a place on; none behind the last.
-pub fn from(bytes: &[u8], at: usize) -> &[u8]
-    ensures { result.now ≡ drop at bytes.now }
-{
-    bytes.split_at(at.min(bytes.len())).1
-}
-
-/// So many bytes of the front, or all.
-pub fn front(bytes: &[u8], count: usize) -> &[u8]
-    ensures { result.now ≡ take count bytes.now }
-{
-    bytes.split_at(count.min(bytes.len())).0
 }
 
 /// The byte at a place, if there is one in its line: none at its end, a byte 10 or 13.

@@ -2,7 +2,7 @@
 
 use crate::numbers::number;
 use crate::quoted::{misplaced, quoted};
-use crate::runs::{Class, from, front, run_length};
+use crate::runs::{Class, run_length};
 use crate::told::some;
 use crate::written::Quoted;
 use messages_parts::{
@@ -10,7 +10,7 @@ use messages_parts::{
     named_as_directive,
 };
 use std::alloc::{AllocError, Global};
-use syntax_lexer::{BAD_NUMBER, BAD_TEXT, NAME_TOO_LONG, STRAY_BYTE};
+use syntax_lexer::{BAD_NUMBER, BAD_TEXT, NAME_TOO_LONG, STRAY_BYTE, from, front};
 
 /// Whether a word begins a directive.
 fn begins_directive(word: &[u8]) -> bool {

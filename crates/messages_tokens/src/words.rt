@@ -10,93 +10,33 @@ use syntax::{Sign, Word};
 #[derive(Clone, Copy)]
 pub struct Expected<'a>(pub Option<&'a Grouped>);
 
+/// Rows of a variant of a type and its bytes.
+macro_rules! spellings {
+    ($of:ident: $($variant:ident $bytes:literal)+) => { [$(($of::$variant, $bytes)),+] };
+}
+
 /// The signs, and their bytes.
-const SIGNS: [(Sign, &str); 34] = [
-    (Sign::OpenParenthesis, "("),
-    (Sign::CloseParenthesis, ")"),
-    (Sign::OpenBrace, "{"),
-    (Sign::CloseBrace, "}"),
-    (Sign::OpenBracket, "["),
-    (Sign::CloseBracket, "]"),
-    (Sign::Semicolon, ";"),
-    (Sign::Comma, ","),
-    (Sign::Colon, ":"),
-    (Sign::Dot, "."),
-    (Sign::DotAmpersand, ".&"),
-    (Sign::DotHash, ".#"),
-    (Sign::Assign, "="),
-    (Sign::Equal, "=="),
-    (Sign::NotEqual, "~="),
-    (Sign::Not, "~~"),
-    (Sign::Tilde, "~"),
-    (Sign::Greater, ">"),
-    (Sign::GreaterOrEqual, ">="),
-    (Sign::Less, "<"),
-    (Sign::LessOrEqual, "<="),
-    (Sign::AndAlso, "&&"),
-    (Sign::Ampersand, "&"),
-    (Sign::OrElse, "||"),
-    (Sign::Bar, "|"),
-    (Sign::Plus, "+"),
-    (Sign::Increment, "++"),
-    (Sign::Minus, "-"),
-    (Sign::Decrement, "--"),
-    (Sign::Arrow, "->"),
-    (Sign::LongArrow, "-->"),
-    (Sign::Star, "*"),
-    (Sign::Slash, "/"),
-    (Sign::Percent, "%"),
-];
+const SIGNS: [(Sign, &str); 34] = spellings!(
+    Sign:
+    OpenParenthesis "(" CloseParenthesis ")" OpenBrace "{" CloseBrace "}" OpenBracket "["
+    CloseBracket "]" Semicolon ";" Comma "," Colon ":" Dot "." DotAmpersand ".&" DotHash ".#"
+    Assign "=" Equal "==" NotEqual "~=" Not "~~" Tilde "~" Greater ">" GreaterOrEqual ">=" Less "<"
+    LessOrEqual "<=" AndAlso "&&" Ampersand "&" OrElse "||" Bar "|" Plus "+" Increment "++"
+    Minus "-" Decrement "--" Arrow "->" LongArrow "-->" Star "*" Slash "/" Percent "%"
+);
 
 /// The reserved words, and their bytes in small letters.
-pub const RESERVED_WORDS: [(Word, &str); 46] = [
-    (Word::Abbreviate, "abbreviate"),
-    (Word::Array, "array"),
-    (Word::Attribute, "attribute"),
-    (Word::Break, "break"),
-    (Word::Char, "char"),
-    (Word::Child, "child"),
-    (Word::Constant, "constant"),
-    (Word::Continue, "continue"),
-    (Word::Default, "default"),
-    (Word::Do, "do"),
-    (Word::Else, "else"),
-    (Word::False, "false"),
-    (Word::For, "for"),
-    (Word::Give, "give"),
-    (Word::Global, "global"),
-    (Word::Has, "has"),
-    (Word::Hasnt, "hasnt"),
-    (Word::If, "if"),
-    (Word::In, "in"),
-    (Word::Move, "move"),
-    (Word::NewLine, "new_line"),
-    (Word::Nothing, "nothing"),
-    (Word::Notin, "notin"),
-    (Word::Object, "object"),
-    (Word::Objectloop, "objectloop"),
-    (Word::Or, "or"),
-    (Word::Parent, "parent"),
-    (Word::Print, "print"),
-    (Word::PrintRet, "print_ret"),
-    (Word::Property, "property"),
-    (Word::Provides, "provides"),
-    (Word::Quit, "quit"),
-    (Word::Read, "read"),
-    (Word::Remove, "remove"),
-    (Word::Return, "return"),
-    (Word::Rfalse, "rfalse"),
-    (Word::Rtrue, "rtrue"),
-    (Word::Sibling, "sibling"),
-    (Word::String, "string"),
-    (Word::Switch, "switch"),
-    (Word::Table, "table"),
-    (Word::To, "to"),
-    (Word::True, "true"),
-    (Word::Until, "until"),
-    (Word::While, "while"),
-    (Word::With, "with"),
-];
+pub const RESERVED_WORDS: [(Word, &str); 46] = spellings!(
+    Word:
+    Abbreviate "abbreviate" Array "array" Attribute "attribute" Break "break" Char "char"
+    Child "child" Constant "constant" Continue "continue" Default "default" Do "do" Else "else"
+    False "false" For "for" Give "give" Global "global" Has "has" Hasnt "hasnt" If "if" In "in"
+    Move "move" NewLine "new_line" Nothing "nothing" Notin "notin" Object "object"
+    Objectloop "objectloop" Or "or" Parent "parent" Print "print" PrintRet "print_ret"
+    Property "property" Provides "provides" Quit "quit" Read "read" Remove "remove" Return "return"
+    Rfalse "rfalse" Rtrue "rtrue" Sibling "sibling" String "string" Switch "switch" Table "table"
+    To "to" True "true" Until "until" While "while" With "with"
+);
 
 /// The bytes of a sign.
 fn sign(sign: Sign) -> &'static str {

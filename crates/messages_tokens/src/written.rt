@@ -1,8 +1,7 @@
 //! Parts of sentences: bytes of a source, figures and counts, each on one line.
 
-use crate::runs::front;
 use std::fmt::{self, Display, Formatter};
-use syntax_lexer::{Kind, Token};
+use syntax_lexer::{Kind, Token, front};
 
 /// The most bytes of a token that are written.
 const MOST_WRITTEN: usize = 40;

@@ -32,6 +32,9 @@ pub struct Groups {
     has_words: Vec<bool>,
 
     letters: Vec<Letter>,
+
+    /// Whether memory was refused for one. What is found then is of no use.
+    pub is_refused: bool,
 }
 
 /// The tokens of a program, and what is known of them: where each name is defined, and where
@@ -56,19 +59,21 @@ impl Groups {
         Ok(Groups {
             has_words: vec![in alloc; false; length]?,
             letters: Vec::new(alloc),
+            is_refused: false,
         })
     }
 
     /// Takes a value of a group, which is the token of a number.
-    fn take(&mut self, tokens: &[Token<'_>], at: usize, group: usize) -> Result<(), AllocError> {
+    fn take(&mut self, tokens: &[Token<'_>], at: usize, group: usize) {
         match kind_at(tokens, at) {
             Kind::DictionaryWord(_) => set_flag(&mut self.has_words, group),
             Kind::Character(letter) if letter.is_ascii_alphabetic() => {
-                self.letters.push(Letter { at, letter, group })?;
+                if self.letters.push(Letter { at, letter, group }).is_err() {
+                    self.is_refused = true;
+                }
             }
             _ => {}
         }
-        Ok(())
     }
 
     /// Marks the letters in groups that have dictionary words.
@@ -125,11 +130,7 @@ fn is_compared(tokens: &[Token<'_>], at: usize, last: usize) -> bool {
 }
 
 /// Takes the values in a routine with which something is compared by `==` and `~=`.
-fn take_compared(
-    context: Context<'_, '_>,
-    routine: Routine,
-    groups: &mut Groups,
-) -> Result<(), AllocError> {
+fn take_compared(context: Context<'_, '_>, routine: Routine, groups: &mut Groups) {
     let tokens = context.tokens;
     let mut group = NONE;
     let mut last = NONE;
@@ -137,13 +138,10 @@ fn take_compared(
         if is_of(tokens, at, EQUALITIES) {
             group = group_of(context, before(at, 1), at, groups);
         } else if is_compared(tokens, at, last) {
-            let Ok(()) = groups.take(tokens, at, group) else {
-                return Err(AllocError);
-            };
+            groups.take(tokens, at, group);
             last = at;
         }
     }
-    Ok(())
 }
 
 /// The group of the values of a `switch` whose `{` has a number; [`NONE`] where that begins a block.
@@ -159,11 +157,7 @@ fn group_of_block(context: Context<'_, '_>, brace: usize, groups: &mut Groups) -
 }
 
 /// Takes the values of the cases in a routine.
-fn take_cases(
-    context: Context<'_, '_>,
-    routine: Routine,
-    groups: &mut Groups,
-) -> Result<(), AllocError> {
+fn take_cases(context: Context<'_, '_>, routine: Routine, groups: &mut Groups) {
     let tokens = context.tokens;
     let mut blocks = Vec::new(context.alloc);
     let mut in_case = false;
@@ -172,19 +166,15 @@ fn take_cases(
             in_case = is_case(tokens, at);
         }
         if is_sign(tokens, at, Sign::OpenBrace) {
-            let Ok(()) = blocks.push(group_of_block(context, at, groups)) else {
-                return Err(AllocError);
-            };
+            if blocks.push(group_of_block(context, at, groups)).is_err() {
+                groups.is_refused = true;
+            }
         } else if is_sign(tokens, at, Sign::CloseBrace) {
             blocks.pop();
         } else if in_case {
-            let group = blocks.last().copied().unwrap_or(NONE);
-            let Ok(()) = groups.take(tokens, at, group) else {
-                return Err(AllocError);
-            };
+            groups.take(tokens, at, blocks.last().copied().unwrap_or(NONE));
         }
     }
-    Ok(())
 }
 
 /// Notes the arrays of words that `read` fills.
@@ -198,20 +188,10 @@ fn note_read(context: Context<'_, '_>, routine: Routine, groups: &mut Groups) {
 }
 
 /// Takes the values in a routine.
-///
-/// # Errors
-///
-/// `AllocError` where memory is refused.
-pub fn take_routine(
-    context: Context<'_, '_>,
-    routine: Routine,
-    groups: &mut Groups,
-) -> Result<(), AllocError> {
+pub fn take_routine(context: Context<'_, '_>, routine: Routine, groups: &mut Groups) {
     note_read(context, routine, groups);
-    let Ok(()) = take_compared(context, routine, groups) else {
-        return Err(AllocError);
-    };
-    take_cases(context, routine, groups)
+    take_compared(context, routine, groups);
+    take_cases(context, routine, groups);
 }
 
 /// Whether the values of an array or of a property begin after the token of a number.
@@ -220,16 +200,7 @@ fn begins_list(tokens: &[Token<'_>], at: usize) -> bool {
 }
 
 /// Takes the values in the definitions from one token to another, which are no routines.
-///
-/// # Errors
-///
-/// `AllocError` where memory is refused.
-pub fn take_definitions(
-    tokens: &[Token<'_>],
-    first: usize,
-    end: usize,
-    groups: &mut Groups,
-) -> Result<(), AllocError> {
+pub fn take_definitions(tokens: &[Token<'_>], first: usize, end: usize, groups: &mut Groups) {
     let mut group = NONE;
     for at in first..end {
         if begins_list(tokens, at) {
@@ -240,10 +211,7 @@ pub fn take_definitions(
         } else if is_sign(tokens, at, Sign::Semicolon) {
             group = NONE;
         } else {
-            let Ok(()) = groups.take(tokens, at, group) else {
-                return Err(AllocError);
-            };
+            groups.take(tokens, at, group);
         }
     }
-    Ok(())
 }

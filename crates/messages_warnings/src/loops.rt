@@ -2,7 +2,7 @@
 
 use crate::numbers::NONE;
 use messages_contexts::{after, is_word, kind_at};
-use std::alloc::{AllocError, Global};
+use std::alloc::Global;
 use syntax_lexer::{Kind, Sign, Token, Word};
 
 /// A statement that has begun and not ended.
@@ -32,6 +32,9 @@ pub struct OpenStatements {
     /// How many of them are loops.
     loops: usize,
 
+    /// Whether memory was refused for one. What is found then is of no use.
+    pub is_refused: bool,
+
     /// The token with which the outermost loop begins; [`NONE`] where there is no loop.
     pub outermost: usize,
 }
@@ -42,18 +45,25 @@ impl OpenStatements {
         OpenStatements {
             unended: Vec::new(alloc),
             loops: 0,
+            is_refused: false,
             outermost: NONE,
         }
     }
 
+    /// A statement begins.
+    fn begin(&mut self, begun: Unended) {
+        if self.unended.push(begun).is_err() {
+            self.is_refused = true;
+        }
+    }
+
     /// A loop begins with the token of a number.
-    fn enter(&mut self, at: usize, begun: Unended) -> Result<(), AllocError> {
-        self.unended.push(begun)?;
+    fn enter(&mut self, at: usize, begun: Unended) {
+        self.begin(begun);
         if self.loops == 0 {
             self.outermost = at;
         }
         self.loops = self.loops.saturating_add(1);
-        Ok(())
     }
 
     /// The last statement ends.
@@ -97,45 +107,22 @@ impl OpenStatements {
         }
     }
 
-    /// Takes a reserved word, which is the token of a number.
-    fn take_word(&mut self, word: Word, at: usize) -> Result<(), AllocError> {
-        match word {
-            Word::If => {
-                self.unended.push(Unended::If)?;
-                Ok(())
+    /// Takes the next token of a routine, which has a number.
+    pub fn take(&mut self, tokens: &[Token<'_>], at: usize) {
+        let has_else = is_word(tokens, after(at, 1), Word::Else);
+        match kind_at(tokens, at) {
+            Kind::Reserved(Word::If) => self.begin(Unended::If),
+            Kind::Reserved(Word::While | Word::For | Word::Objectloop) => {
+                self.enter(at, Unended::Loop);
             }
-            Word::While => self.enter(at, Unended::Loop),
-            Word::For => self.enter(at, Unended::Loop),
-            Word::Objectloop => self.enter(at, Unended::Loop),
-            Word::Do => self.enter(at, Unended::Do),
-            _ => Ok(()),
-        }
-    }
-
-    /// Takes a sign, before an `else` or not.
-    fn take_sign(&mut self, sign: Sign, has_else: bool) -> Result<(), AllocError> {
-        match sign {
-            Sign::OpenBrace => self.unended.push(Unended::Block)?,
-            Sign::CloseBrace => {
+            Kind::Reserved(Word::Do) => self.enter(at, Unended::Do),
+            Kind::Sign(Sign::OpenBrace) => self.begin(Unended::Block),
+            Kind::Sign(Sign::CloseBrace) => {
                 self.end_last();
                 self.end(has_else);
             }
-            Sign::Semicolon => self.end(has_else),
+            Kind::Sign(Sign::Semicolon) => self.end(has_else),
             _ => {}
-        }
-        Ok(())
-    }
-
-    /// Takes the next token of a routine, which has a number.
-    ///
-    /// # Errors
-    ///
-    /// `AllocError` where memory is refused.
-    pub fn take(&mut self, tokens: &[Token<'_>], at: usize) -> Result<(), AllocError> {
-        match kind_at(tokens, at) {
-            Kind::Reserved(word) => self.take_word(word, at),
-            Kind::Sign(sign) => self.take_sign(sign, is_word(tokens, after(at, 1), Word::Else)),
-            _ => Ok(()),
         }
     }
 }

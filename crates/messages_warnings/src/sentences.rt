@@ -49,37 +49,21 @@ fn why_left(tokens: &[Token<'_>], at: usize) -> &'static str {
     }
 }
 
-/// What is said of a `;` after a condition.
-fn of_semicolon(concern: Concern) -> Option<&'static str> {
-    match concern {
-        Concern::EmptyIf => Some("';' ends this 'if' here: what follows is run in any case"),
-        Concern::EmptyLoop => Some("';' ends this 'while' here: what follows is no part of it"),
-        _ => None,
-    }
-}
-
-/// What is said before and after the name of which a warning is, if it needs nothing else.
-fn around_name(concern: Concern) -> Option<(&'static str, &'static str)> {
-    match concern {
-        Concern::UnusedGlobal => Some(("the global ", " is never used")),
-        Concern::UnusedRoutine => Some(("the routine ", " is never called")),
-        Concern::UnusedProperty => Some(("the property ", " is never used")),
-        Concern::Unset => Some(("", " is read here before anything sets it: it is 0")),
-        _ => None,
-    }
-}
-
 impl Display for Sentence<'_, '_> {
     fn fmt<W: fmt::Write>(&self, f: &mut Formatter<W>) -> fmt::Result {
         let at = self.warning.at;
         let name = Quoted(text_at(self.tokens, at));
-        if let Some((front, rest)) = around_name(self.warning.concern) {
-            return write!(f, "{front}{name}{rest}");
-        }
-        if let Some(sentence) = of_semicolon(self.warning.concern) {
-            return f.write_str(sentence);
-        }
         match self.warning.concern {
+            Concern::EmptyIf => {
+                f.write_str("';' ends this 'if' here: what follows is run in any case")
+            }
+            Concern::EmptyLoop => {
+                f.write_str("';' ends this 'while' here: what follows is no part of it")
+            }
+            Concern::UnusedGlobal => write!(f, "the global {name} is never used"),
+            Concern::UnusedRoutine => write!(f, "the routine {name} is never called"),
+            Concern::UnusedProperty => write!(f, "the property {name} is never used"),
+            Concern::Unset => write!(f, "{name} is read here before anything sets it: it is 0"),
             Concern::UnusedLocal(routine) => {
                 let routine = Quoted(text_at(self.tokens, routine));
                 write!(f, "the local {name} of {routine} is never used")

@@ -65,15 +65,17 @@ fn note_body(
 ) -> Result<(), AllocError> {
     let mut open = OpenStatements::none(alloc);
     for at in routine.body..routine.end {
-        let Ok(()) = open.take(tokens, at) else {
-            return Err(AllocError);
-        };
+        open.take(tokens, at);
         let meaning = number_at(meant, at);
         if meaning < uses.len() && meaning != routine.name {
             note(&mut uses[meaning], at, open.outermost, sets(tokens, at));
         }
     }
-    Ok(())
+    if open.is_refused {
+        Err(AllocError)
+    } else {
+        Ok(())
+    }
 }
 
 /// Notes the uses of names in the definitions from one token to another, which are no routines.

@@ -24,17 +24,15 @@ fn groups_of(context: Context<'_, '_>, routines: &[Routine]) -> Result<Groups, A
     };
     let mut end = 0;
     for routine in routines {
-        let Ok(()) = take_definitions(tokens, end, routine.name, &mut groups) else {
-            return Err(AllocError);
-        };
-        let Ok(()) = take_routine(context, *routine, &mut groups) else {
-            return Err(AllocError);
-        };
+        take_definitions(tokens, end, routine.name, &mut groups);
+        take_routine(context, *routine, &mut groups);
         end = routine.end;
     }
-    match take_definitions(tokens, end, tokens.len(), &mut groups) {
-        Ok(()) => Ok(groups),
-        Err(refused) => Err(refused),
+    take_definitions(tokens, end, tokens.len(), &mut groups);
+    if groups.is_refused {
+        Err(AllocError)
+    } else {
+        Ok(groups)
     }
 }
 

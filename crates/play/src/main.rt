@@ -3,27 +3,39 @@
 
 mod checking;
 mod filling;
+mod graphical;
+mod keeping;
+mod lock;
 mod names;
+mod options;
 mod place;
 mod reading;
 mod screen;
+mod seed;
 mod standing;
+mod stop;
 mod transcript;
 mod unread;
 
 ghost use Rattle.terminal.specs.Range.{IsInRange};
 
 use crate::checking::{check, take_mode};
+use crate::graphical::refused_as_graphical;
+use crate::keeping::{Keeping, Kept};
+use crate::lock::Lock;
 use crate::names::{given_words, has_marked};
 use crate::place::{Placed, map_in, rows_in};
 use crate::reading::story_in;
 use crate::screen::Screen;
+use crate::seed::{seeded, told_seed};
+use crate::stop::Stop;
 use crate::transcript::Transcript;
 use map_text::Row;
 use messages_explanations::Program;
 use session::{Mode, Place, RunFault, Session, run, status};
+use session_file::{Later, Typed, count_lines};
 use std::fmt::Display;
-use std::io::{IsTerminal, Write};
+use std::io::{Cursor, IsTerminal, Read, Write};
 use std::process::ExitCode;
 use terminal::play::{Asked, Words, take_format, words_of};
 use terminal::{OneLine, Wrapped};
@@ -51,7 +63,7 @@ fn main(rt: HostRuntime) -> ExitCode {
     match words_of(alloc, given.as_slice()) {
         Ok(Asked::Check(files)) => check(&rt, files.as_slice(), mode, format),
         _ if is_marked => refuse(&rt, UNREADABLE),
-        Ok(Asked::Play(words)) => play(&rt, words),
+        Ok(Asked::Play(words)) => play_session(&rt, words),
         Ok(Asked::Explain(name)) => explain(&rt, name),
         Err(error) => {
             let status = if error.use_stderr() { REFUSED } else { 0 };
@@ -89,7 +101,7 @@ fn explain(rt: &HostRuntime, name: Option<&str>) -> ExitCode {
 }
 
 /// Says on standard error what failed.
-pub(crate) fn broken(rt: &HostRuntime, fault: RunFault) -> ExitCode {
+pub(crate) fn broken<W: Display + Drop>(rt: &HostRuntime, fault: W) -> ExitCode {
     let _ = eprintln!(rt; "play: {fault}");
     ExitCode::from(BROKEN)
 }
@@ -102,38 +114,80 @@ fn story_of(rt: &HostRuntime, words: Words<'_>) -> Result<Vec<u8>, ExitCode> {
         None => survey::Mode::Profile,
     };
     match story_in(rt, words.story, mode) {
-        Ok(Ok(story)) => Ok(story),
+        Ok(Ok(story)) => match refused_as_graphical(&story, mode) {
+            Some(why) => Err(refuse(rt, why)),
+            None => Ok(story),
+        },
         Ok(Err(fault)) => Err(refuse(rt, fault)),
         Err(_) => Err(refuse(rt, format_args!("cannot read {}", OneLine(words.story)))),
     }
+}
+
+/// Plays a story file, and keeps the session in a file where one is named.
+fn play_session(rt: &HostRuntime, words: Words<'_>) -> ExitCode
+    requires { IsInRange words }
+{
+    let Some(name) = words.session else {
+        return status_of(play(rt, seeded(rt, words), None));
+    };
+    match Lock::take(rt, name) {
+        Ok(lock) => {
+            let status = status_of(play_kept(rt, words, name));
+            lock.release(rt);
+            status
+        }
+        Err(status) => status,
+    }
+}
+
+/// The status with which the program ends, whether or not it has said why.
+fn status_of(played: Result<ExitCode, ExitCode>) -> ExitCode {
+    match played {
+        Ok(status) | Err(status) => status,
+    }
+}
+
+/// Plays a story whose session is kept in a file of this name.
+fn play_kept<'a>(rt: &HostRuntime, words: Words<'a>, name: &'a str) -> Result<ExitCode, ExitCode>
+    requires { IsInRange words }
+{
+    let keeping = Keeping::open(rt, name)?;
+    let words = keeping.settle(rt, words)?;
+    play(rt, words, Some(keeping))
 }
 
 /// Plays a story file on the lines of standard input. The transcript goes to standard output, each
 /// reply as soon as its line was read. Zero bytes with which Inform 6 filled the file do not count.
 /// Where it is asked for, its lines are broken at words, and a line on standard error says at the
 /// end where the story stands.
-fn play(rt: &HostRuntime, words: Words<'_>) -> ExitCode
+fn play(
+    rt: &HostRuntime,
+    words: Words<'_>,
+    keeping: Option<Keeping<'_>>,
+) -> Result<ExitCode, ExitCode>
     requires { IsInRange words }
 {
-    let story = match story_of(rt, words) {
-        Ok(story) => story,
-        Err(status) => return status,
+    let story = story_of(rt, words)?;
+    let keeping = match keeping {
+        Some(keeping) => Some(keeping.with_story(rt, &story)?),
+        None => None,
     };
     let Some(map) = words.map else {
-        return play_story(rt, words, story, &[]);
+        return play_story(rt, words, story, &[], keeping);
     };
-    let text = match map_in(rt, map) {
-        Ok(text) => text,
-        Err(status) => return status,
-    };
-    match rows_in(rt, map, &text, &story) {
-        Ok(rows) => play_story(rt, words, story, &rows),
-        Err(status) => status,
-    }
+    let text = map_in(rt, map)?;
+    let rows = rows_in(rt, map, &text, &story)?;
+    play_story(rt, words, story, &rows, keeping)
 }
 
 /// Plays a story, of which these are the rows of its map.
-fn play_story(rt: &HostRuntime, words: Words<'_>, story: Vec<u8>, rows: &[Row<'_>]) -> ExitCode
+fn play_story(
+    rt: &HostRuntime,
+    words: Words<'_>,
+    story: Vec<u8>,
+    rows: &[Row<'_>],
+    keeping: Option<Keeping<'_>>,
+) -> Result<ExitCode, ExitCode>
     requires { IsInRange words }
 {
     let mode = match words.seed {
@@ -142,40 +196,95 @@ fn play_story(rt: &HostRuntime, words: Words<'_>, story: Vec<u8>, rows: &[Row<'_
     };
     let mut session = match Session::open_with(rt.alloc(), story, mode, words.fuel, words.keep) {
         Ok(session) => session,
-        Err(fault) => return refuse(rt, fault),
+        Err(fault) => return Err(refuse(rt, fault)),
+    };
+    let kept = match keeping.map(|keeping| keeping.begin(rt, words)).transpose() {
+        Ok(kept) => kept,
+        Err(status) => {
+            session.leave();
+            return Err(status);
+        }
     };
     let ran = match words.wrap {
-        None => run_to(rt, rt.stdout(), &mut session, words.map.is_some()),
+        None => run_to(rt, rt.stdout(), &mut session, words.map.is_some(), kept),
         Some(columns) => {
             let wrapped = Wrapped::new(rt.alloc(), rt.stdout(), columns as usize);
-            run_to(rt, wrapped, &mut session, words.map.is_some())
+            run_to(rt, wrapped, &mut session, words.map.is_some(), kept)
         }
     };
     if words.why && ran.is_ok() {
-        let placed = Placed::of(rt.alloc(), &session, mode, rows);
-        let _ = eprintln!(rt; "{placed}");
+        say_why(rt, words, Placed::of(rt.alloc(), &session, mode, rows));
     }
     session.leave();
     match ran {
-        Ok(place) => ExitCode::from(status(&place)),
-        Err(fault) => broken(rt, fault),
+        Ok(place) => Ok(ExitCode::from(status(&place))),
+        Err(stop) => Err(broken(rt, stop)),
     }
 }
 
-/// Plays a session on the lines of standard input. The transcript goes to a writer. A user at a
-/// terminal is told more beside it, where no map is given also how to find the line of a runtime
-/// fault.
+/// Says on standard error where the story stands, and the seed that its user has not given.
+fn say_why(rt: &HostRuntime, words: Words<'_>, placed: Placed<'_>) {
+    let _ = match told_seed(rt, words) {
+        Some(seed) => eprintln!(rt; "{placed}; the seed is {seed}"),
+        None => eprintln!(rt; "{placed}"),
+    };
+}
+
+/// Plays a session on the lines of standard input, after those that were kept. The transcript goes to
+/// a writer. A user at a terminal is told more beside it, where no map is given also how to find the
+/// line of a runtime fault.
 fn run_to<W: Write + Drop>(
     rt: &HostRuntime,
     mut writer: W,
     session: &mut Session,
     is_mapped: bool,
-) -> Result<Place, RunFault> {
+    kept: Option<Kept>,
+) -> Result<Place, Stop> {
     let is_seen = rt.stdout().is_terminal();
-    if is_seen || rt.stdin().is_terminal() {
-        let screen = Screen::new(rt.alloc(), writer, is_seen);
-        let mut transcript = Transcript::new(rt, screen, is_mapped);
-        return run(&mut rt.stdin(), &mut transcript, session);
+    if kept.is_none() && !is_seen && !rt.stdin().is_terminal() {
+        return stopped(run(&mut rt.stdin(), &mut writer, session));
     }
-    run(&mut rt.stdin(), &mut writer, session)
+    let screen = Screen::new(rt.alloc(), writer, is_seen);
+    match kept {
+        Some(kept) => {
+            let later = Later::new(screen, count_lines(&kept.typed));
+            run_on(rt, Transcript::new(rt, later, is_mapped), session, kept)
+        }
+        None => {
+            let mut transcript = Transcript::new(rt, Later::new(screen, 0), is_mapped);
+            stopped(run(&mut rt.stdin(), &mut transcript, session))
+        }
+    }
+}
+
+/// Plays a session on the lines that were kept, and then on those of standard input, which are kept
+/// before they are answered.
+fn run_on<W: Write + Drop>(
+    rt: &HostRuntime,
+    mut transcript: W,
+    session: &mut Session,
+    kept: Kept,
+) -> Result<Place, Stop> {
+    let Kept { file, typed } = kept;
+    let mut is_broken = false;
+    let ran = {
+        let after = Typed::new(rt.alloc(), rt.stdin(), file, &mut is_broken);
+        run(
+            &mut Cursor::new(typed).chain(after),
+            &mut transcript,
+            session,
+        )
+    };
+    match ran {
+        Err(_) if is_broken => Err(Stop::Unkept),
+        ran => stopped(ran),
+    }
+}
+
+/// How a run ended.
+fn stopped(ran: Result<Place, RunFault>) -> Result<Place, Stop> {
+    match ran {
+        Ok(place) => Ok(place),
+        Err(fault) => Err(Stop::Run(fault)),
+    }
 }

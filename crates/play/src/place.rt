@@ -186,7 +186,7 @@ pub fn map_in(rt: &HostRuntime, name: &str) -> Result<Vec<u8>, ExitCode> {
 }
 
 /// The bytes of a file; `None` if there are too many. One byte more than may be is read at most.
-fn read_whole(rt: &HostRuntime, name: &str) -> io::Result<Option<Vec<u8>>> {
+pub fn read_whole(rt: &HostRuntime, name: &str) -> io::Result<Option<Vec<u8>>> {
     let file = File::open(rt, name)?;
     let mut text = Vec::new(rt.alloc());
     file.take(MOST_BYTES as u64 + 1).read_to_end(&mut text)?;

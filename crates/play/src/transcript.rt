@@ -1,8 +1,10 @@
 //! What a user at a terminal is told beside the transcript.
 
 ghost use Rattle.std.specs.Prelude.{◌≡◌};
+ghost use Rattle.session_file.specs.Later.{later_contents};
 
 use crate::screen::show;
+use session_file::Later;
 use std::alloc::Global;
 use std::io::{self, IsTerminal, Write};
 
@@ -30,10 +32,11 @@ const LINE_OF_FAULT: &str =
 /// A writer of the transcript, for a user at a terminal. It tells the user more, on standard error;
 /// the transcript is the same. After the first runtime fault it says how to find its line. If the
 /// input is at a terminal, it says after the first answer that the story is over how to end it. After
-/// another notice it shows the story's last prompt again, if the transcript is at a terminal too.
+/// another notice it shows the story's last prompt again, if the transcript is at a terminal too. Of
+/// replies that are dropped the user is told nothing.
 #[derive(Drop)]
 pub struct Transcript<'a, W> {
-    writer: W,
+    writer: Later<W>,
     rt: &'a HostRuntime,
 
     /// Whether the user has not been told how to end the input yet.
@@ -94,18 +97,18 @@ fn ends_with_fault(text: &[u8]) -> bool {
 }
 
 impl<'a, W: Write> Transcript<'a, W> {
-    /// The transcript that a writer is given. Standard input or output is a terminal. Says whether a
-    /// map was given.
-    pub fn new(rt: &'a HostRuntime, writer: W, is_mapped: bool) -> Transcript<'a, W>
+    /// The transcript that a writer is given. Says whether a map was given.
+    pub fn new(rt: &'a HostRuntime, writer: Later<W>, is_mapped: bool) -> Transcript<'a, W>
         ensures { result.writer ≡ writer }
     {
         let is_typed = rt.stdin().is_terminal();
+        let is_seen = rt.stdout().is_terminal();
         Transcript {
             writer,
             rt,
             is_waiting: is_typed,
-            is_shown: is_typed && rt.stdout().is_terminal(),
-            is_unmapped: !is_mapped,
+            is_shown: is_typed && is_seen,
+            is_unmapped: !is_mapped && (is_typed || is_seen),
             latest: Latest::Story,
             prompt: Vec::new(rt.alloc()),
         }
@@ -155,7 +158,7 @@ fn last_line(text: &[u8]) -> &[u8] {
 }
 
 impl<W: Write> Write for Transcript<'_, W> {
-    ghost contents = { λ transcript. W.contents transcript.writer };
+    ghost contents = { λ transcript. later_contents W.contents transcript.writer };
 
     fn write(&mut self, buf: &[u8]) -> io::Result<usize> {
         if self.is_waiting || self.is_shown || self.is_unmapped {
@@ -165,8 +168,11 @@ impl<W: Write> Write for Transcript<'_, W> {
     }
 
     fn flush(&mut self) -> io::Result<()> {
+        let is_dropped = self.writer.is_silent();
         self.writer.flush()?;
-        self.tell();
+        if !is_dropped {
+            self.tell();
+        }
         Ok(())
     }
 }

@@ -45,7 +45,7 @@ impl Unread {
     }
 
     /// The cause of an error.
-    fn of(error: &io::Error) -> Unread {
+    pub fn of(error: &io::Error) -> Unread {
         match error.kind() {
             ErrorKind::NotFound | ErrorKind::NotADirectory => Unread::Missing,
             ErrorKind::PermissionDenied => Unread::Denied,

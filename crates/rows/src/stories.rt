@@ -52,7 +52,8 @@ pub fn put_text_at(story: &mut Vec<u8>, alloc: Global, text: &str) -> Result<(),
 /// Fills a story up to a multiple of the scale of its version, and writes its length and its sum.
 pub fn mend(story: &mut Vec<u8>) -> Result<(), RowError> {
     let scale = match story.as_slice() {
-        [8, ..] => 8,
+        [3, ..] => 2,
+        [7 | 8, ..] => 8,
         _ => 4,
     };
     for _ in 1..scale {

@@ -19,12 +19,12 @@ use Rattle.zcore.specs.declared.header.Header.{Header}
 use Rattle.zcore.specs.Header.{static_base_of}
 use Rattle.zcore.specs.declared.standard_state.StandardState.{StandardState}
 use Rattle.zcore.specs.Turn.{TurnsBy}
-use Rattle.zcore_standard.specs.Loaded.{Loaded}
-use Rattle.zcore_standard.specs.Machine.{standard, standard_turn, standard_pending, standard_opening, standard_turn_on}
+use Rattle.zcore_versions.specs.Machine.{any, any_turn, any_pending, any_opening, any_turn_on}
+use Rattle.zcore_versions.specs.Reading.{any_given}
+use Rattle.zcore_versions.specs.Versions.{Story}
+use Rattle.zcore_versions.proofs.Turning.{any_turn_is}
 use Rattle.zcore_standard.specs.Machine.{standard_ended, begins}
-use Rattle.zcore_standard.specs.Reading.{standard_given}
-use Rattle.zcore_standard_laws.proofs.Turning.{standard_turn_is}
-use Rattle.machine_standard.specs.Loads.{IsLoaded as IsStandardLoaded, IsStoreFor}
+use Rattle.machine_standard.specs.Loads.{IsLoaded as IsStandardLoaded, IsPlayedVersion, IsStoreFor, story_of}
 use Rattle.machine_standard.specs.Playing.{OpensStandard, AnswersStandard, OpensOrAnswersStandard}
 use Rattle.machine_standard.specs.Playing.{IsReadyForStandard}
 use Rattle.machine_standard.specs.declared.turn.StandardMachine.{StandardMachine}
@@ -96,60 +96,61 @@ profile_ready header (Some line) s h = h
 
 -- The Standard's machine
 
-opens_standard : (loaded : Loaded) (s : Contents) (fuel : ℕ) (whole : Whole) → OpensStandard loaded s fuel whole
-    → standard_opening loaded (memory_of s) fuel ≡ Some whole
-unfolding standard_opening
-opens_standard loaded s fuel whole h =
-    standard_turn_is loaded (begins loaded.dice (first_next (memory_of s) fuel)) (first_state (memory_of s)) whole h
+opens_standard : (story : Story) (s : Contents) (fuel : ℕ) (whole : Whole) → OpensStandard story s fuel whole
+    → any_opening story (memory_of s) fuel ≡ Some whole
+unfolding any_opening
+opens_standard story s fuel whole h =
+    any_turn_is story (begins story.loaded.dice (first_next (memory_of s) fuel)) (first_state (memory_of s)) whole h
 
-follows_standard : (loaded : Loaded) (standard_state : StandardState) (o : Out Next) (stop : Place → State → Whole) (whole : Whole)
-    → FollowsBy (λ next t w. TurnsBy (standard loaded) (begins standard_state next) t w) o stop whole
-    → after_step o (λ next t. standard_turn loaded (begins standard_state next) t) (λ place t. Some (stop place t)) ≡ Some whole
-follows_standard loaded standard_state (done next t) stop whole h = standard_turn_is loaded (begins standard_state next) t whole h
-follows_standard loaded standard_state (halt place t) stop whole h = ap (λ (w : Whole). Some w) (sym h)
+follows_standard : (story : Story) (standard_state : StandardState) (o : Out Next) (stop : Place → State → Whole) (whole : Whole)
+    → FollowsBy (λ next t w. TurnsBy (any story) (begins standard_state next) t w) o stop whole
+    → after_step o (λ next t. any_turn story (begins standard_state next) t) (λ place t. Some (stop place t)) ≡ Some whole
+follows_standard story standard_state (done next t) stop whole h = any_turn_is story (begins standard_state next) t whole h
+follows_standard story standard_state (halt place t) stop whole h = ap (λ (w : Whole). Some w) (sym h)
 
-answers_standard : (loaded : Loaded) (line : List ℕ) (s : Contents) (fuel : ℕ) (whole : Whole)
-    → AnswersStandard loaded line s fuel whole → standard_turn_on loaded line fuel (play_of s) ≡ Some whole
-unfolding standard_turn_on
-answers_standard loaded line s fuel whole h =
-    ap (λ p. standard_pending loaded p line fuel (play_of s)) h.1
-    ∙ follows_standard loaded (play_of s).standard_state (standard_given loaded h.0 line fuel (resumed (play_of s)))
+answers_standard : (story : Story) (line : List ℕ) (s : Contents) (fuel : ℕ) (whole : Whole)
+    → AnswersStandard story line s fuel whole → any_turn_on story line fuel (play_of s) ≡ Some whole
+unfolding any_turn_on
+answers_standard story line s fuel whole h =
+    ap (λ p. any_pending story p line fuel (play_of s)) h.1
+    ∙ follows_standard story (play_of s).standard_state (any_given story h.0 line fuel (resumed (play_of s)))
     (standard_ended (begins (play_of s).standard_state (record { program_counter = (play_of s).program_counter; fuel = fuel })))
     whole h.2
 
 -- a machine of the whole Standard that was loaded
 pub standard_player : (story : List ℕ) (seed : ℕ) (machine : StandardMachine) (s : Contents)
     → IsStandardLoaded story seed machine s
-    → IsPlayerOf (Standard seed) story (record { header = machine.header; loaded = Some machine.loaded }) s
+    → IsPlayerOf (Standard seed) story (record { header = machine.header; loaded = Some (story_of machine) }) s
 standard_player story seed machine s h = record {
   can = (h.story, h.read);
-  loaded = ap (λ l. Some l) h.loaded;
-  settled = h.store.dynamic ∙ sym h.store.store.headed.static_base;
+  loaded = ap (λ l. Some l) h.played;
+  settled = (h.store.dynamic ∙ sym h.store.store.headed.static_base, h.store.version);
   store = h.store.store;
   state = h.state;
   static_base = h.store.store.headed.static_base ∙ ap (λ (t : State). static_base_of t.memory) h.state;
 }
 
 -- its turns
-pub standard_machine_turn : (header : Header) (loaded : Loaded) (line : Option (Bor (List ℕ))) (s : Contents) (fuel : ℕ)
-    (whole : Whole) → OpensOrAnswersStandard loaded line s fuel whole
-    → PlayerTurn (record { header = header; loaded = Some loaded }) line s fuel whole
-standard_machine_turn header loaded None s fuel whole h = opens_standard loaded s fuel whole h
-standard_machine_turn header loaded (Some line) s fuel whole h = answers_standard loaded line.now s fuel whole h
+pub standard_machine_turn : (header : Header) (story : Story) (line : Option (Bor (List ℕ))) (s : Contents) (fuel : ℕ)
+    (whole : Whole) → OpensOrAnswersStandard story line s fuel whole
+    → PlayerTurn (record { header = header; loaded = Some story }) line s fuel whole
+standard_machine_turn header story None s fuel whole h = opens_standard story s fuel whole h
+standard_machine_turn header story (Some line) s fuel whole h = answers_standard story line.now s fuel whole h
 
 -- a store on which one can be played
-pub standard_ready : (header : Header) (loaded : Loaded) (line : Option (Bor (List ℕ))) (s : Contents)
-    → IsReadyIn (record { header = header; loaded = Some loaded }) line s → IsReadyForStandard line s
-standard_ready header loaded None s h = h
-standard_ready header loaded (Some line) s h = h
+pub standard_ready : (header : Header) (story : Story) (line : Option (Bor (List ℕ))) (s : Contents)
+    → IsReadyIn (record { header = header; loaded = Some story }) line s → IsReadyForStandard story line s
+standard_ready header story None s h = h
+standard_ready header story (Some line) s h = h
 
 abbrev pub standard_known : StandardMachine → Known
-standard_known machine = record { header = machine.header; loaded = Some machine.loaded }
+standard_known machine = record { header = machine.header; loaded = Some (story_of machine) }
 
 -- a store that a session has settled is one that the machine plays
 pub standard_store : (machine : StandardMachine) (s : Contents) (known : Known) → known ≡ standard_known machine
     → IsStoreOf known.header s → IsSettled known → IsStoreFor machine s
 standard_store machine s known is store settled =
     let o : IsStoreOf machine.header s = subst (λ (k : Known). IsStoreOf k.header s) is store in
-    let l : length machine.loaded.dynamic ≡ machine.header.static_base = subst IsSettled is settled in
-    record { store = o; dynamic = l ∙ o.headed.static_base }
+    let l : (length machine.loaded.dynamic ≡ machine.header.static_base) × IsPlayedVersion machine.version =
+    subst IsSettled is settled in
+    record { store = o; dynamic = l.0 ∙ o.headed.static_base; version = l.1 }

@@ -4,6 +4,7 @@ use lib.Utf8.{encode}
 use Rattle.std.specs.Prelude.{replicate}
 use Rattle.std.specs.Str.{chars, is_utf8}
 use Rattle.zcore_standard.specs.Loaded.{Loaded}
+use Rattle.zcore_versions.specs.Versions.{Story, versioned}
 use Rattle.zcore_standard.specs.Unicode.{default_characters}
 use Rattle.session.specs.Game.{Game, answer}
 use Rattle.session.specs.Modes.{is_typable_with}
@@ -49,15 +50,18 @@ loaded = record {
   own_alphabets = None;
 }
 
-accent_typed : is_typable_with (Some loaded) e_acute ≡ true
+abbrev story : Story
+story = versioned loaded (record { number = 5; routine_offset = 0; text_offset = 0 })
+
+accent_typed : is_typable_with (Some story) e_acute ≡ true
 unfolding is_utf8 chars encode
 accent_typed = refl
 
-half_refused : is_typable_with (Some loaded) (0xC3 ∷ []) ≡ false
+half_refused : is_typable_with (Some story) (0xC3 ∷ []) ≡ false
 unfolding is_utf8 chars
 half_refused = refl
 
-too_long_refused : is_typable_with (Some loaded) (replicate 1001 32) ≡ false
+too_long_refused : is_typable_with (Some story) (replicate 1001 32) ≡ false
 too_long_refused = refl
 
 command_with_a_space : (s : Standing)

@@ -8,7 +8,7 @@ use Rattle.std.specs.List.{list_all}
 use Rattle.std.specs.Io.KnownBytes.{Appends}
 use Rattle.zcore.specs.Turn.{is_waiting}
 use Rattle.zcore_standard.specs.Input.{can_be_typed}
-use Rattle.zcore_standard.specs.Loaded.{Loaded}
+use Rattle.zcore_versions.specs.Versions.{Story}
 use Rattle.session.specs.Modes.{loaded_in, is_typable_with}
 use Rattle.session.specs.Game.{Game, telling_of, text_on, place_on, is_typable_on, answer}
 use Rattle.session_lines.specs.Standing.{Standing, longest_line, undo_of, redo_of, taken, is_typable_byte}
@@ -174,10 +174,10 @@ above n m h = grind (arith, nat_tests)
 pub unequal : (xs ys : List ℕ) → (length xs ≡ length ys → ⊥) → bytes_eq xs ys ≡ false
 unequal xs ys h = unequal_at xs ys h (bytes_eq xs ys) refl
 
-long_with : (loaded : Option Loaded) (line : List ℕ) → longest_line < length line → is_typable_with loaded line ≡ false
+long_with : (loaded : Option Story) (line : List ℕ) → longest_line < length line → is_typable_with loaded line ≡ false
 long_with None line h = ap (λ b. b && list_all is_typable_byte line) (above (length line) longest_line h)
-long_with (Some loaded) line h =
-    ap (λ b. b && can_be_typed loaded.characters line) (above (length line) longest_line h)
+long_with (Some story) line h =
+    ap (λ b. b && can_be_typed story.loaded.characters line) (above (length line) longest_line h)
 
 pub long_untypable : (game : Game) (line : List ℕ) → longest_line < length line → is_typable_on game line ≡ false
 long_untypable game line h = long_with (loaded_in game.mode game.story) line h

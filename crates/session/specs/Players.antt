@@ -6,6 +6,7 @@ use Rattle.zcore.specs.Turn.{Whole, first_state}
 use Rattle.machine_frames.specs.Contents.{Contents, memory_of}
 use Rattle.machine_frames.specs.Playing.{IsOpening}
 use Rattle.machine_frames.specs.States.{state_of, play_of, IsStoreOf}
+use Rattle.machine_standard.specs.Loads.{story_of}
 use Rattle.session.specs.declared.fault.OpenFault.{OpenFault}
 use Rattle.session.specs.declared.mode.Mode.{Mode}
 use Rattle.session.specs.declared.player.Player.{Player}
@@ -15,7 +16,7 @@ use Rattle.session.specs.Modes.{Known, IsSettled, CanTake, loaded_in, bytes_in, 
 
 abbrev pub known_of : Player → Known
 known_of (players.Profile machine) = record { header = machine.header; loaded = None }
-known_of (players.Standard machine) = record { header = machine.header; loaded = Some machine.loaded }
+known_of (players.Standard machine) = record { header = machine.header; loaded = Some (story_of machine) }
 
 -- The player knows the story's header and what loading fixes in the mode, and the store is the story's at its beginning.
 pub record IsPlayerOf (mode : Mode) (story : List ℕ) (known : Known) (s : Contents) : Type 0 where

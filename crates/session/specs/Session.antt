@@ -2,7 +2,7 @@
 use Rattle.std.specs.Prelude.{ℕ, ◌+◌, List, Option}
 use Rattle.zcore.specs.declared.place.Place.{Place}
 use Rattle.zcore.specs.Turn.{StateOfPlay}
-use Rattle.zcore_standard.specs.Loaded.{Loaded}
+use Rattle.zcore_versions.specs.Versions.{Story}
 use Rattle.machine_frames.specs.Layout.{words_before_memory}
 
 -- the most cells that the record of a turn holds: those of registers, frame records and the stack, and one for each
@@ -18,7 +18,7 @@ pub record Session : Type 0 where
   -- the units of fuel of a turn
   pub fuel : ℕ
   -- what the Standard's machine was loaded with; none in the profile
-  pub loaded : Option Loaded
+  pub loaded : Option Story
   -- the story's first address that no instruction writes
   pub static_base : ℕ
   -- the text of the opening

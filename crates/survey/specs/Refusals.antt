@@ -8,6 +8,7 @@ use Rattle.zcore.specs.declared.operations.OpcodeRow.{OpcodeRow}
 use Rattle.zcore.specs.Operations.{row_of}
 use Rattle.ztext.specs.Results.{◌>>=◌}
 use Rattle.zcore_standard.specs.declared.opcode.Opcode.{Opcode}
+use Rattle.zcore_standard.specs.declared.opcodes.Action.{Action}
 use Rattle.zcore_standard.specs.Instruction.{row_types, counted}
 use Rattle.zcore_standard.specs.Operations as table
 use Rattle.zcore_standard.specs.Operations.{profile_of}
@@ -46,6 +47,12 @@ IsRefusalBy (Some operation) refusal = IsOperandsRefusal (row_of operation) refu
 abbrev pub SaysOfOperands : List ℕ → ℕ → Option Refusal → Opcode → Type 0
 SaysOfOperands story at refusal opcode = IfSome (table.standard_of opcode)
     (λ operation. is_said refusal ≡ is_refused (counted_at story at (table.row_of operation)))
+
+-- Of an opcode that does this in a version the operands are refused exactly if they are not as its row says; of one that
+-- the version does not have the opcode is.
+abbrev pub SaysOfVersion : List ℕ → ℕ → Option (Action × OpcodeRow) → Option Refusal → Type 0
+SaysOfVersion story at None refusal = refusal ≡ Some refusals.Opcode
+SaysOfVersion story at (Some x) refusal = is_said refusal ≡ is_refused (counted_at story at x.1)
 
 abbrev pub IsProfileRefusal : Opcode → Refusal → Type 0
 IsProfileRefusal opcode refusal = IsRefusalBy (profile_of opcode) refusal

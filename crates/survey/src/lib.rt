@@ -9,7 +9,6 @@ mod refusal;
 mod successors;
 mod survey;
 mod sweep;
-mod tables;
 mod unplayed;
 
 pub use columns::Columns;

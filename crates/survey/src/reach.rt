@@ -265,7 +265,8 @@ impl Walk {
 
     /// Reaches the instructions to which one leads.
     fn follow(&mut self, story: &[u8], successors: Successors) -> Result<(), AllocError>
-        requires { successors.after ≤ longest_story }
+        requires story { length story.now ≤ longest_story }
+        requires after { successors.after ≤ longest_story }
     {
         let after = successors.after;
         self.branch(successors.branch, after)?;
@@ -306,7 +307,9 @@ impl Walk {
 
     /// Reaches the routine that is called, where a constant names it (sections 1.2.3 and 5.2). A
     /// call of 0 calls nothing.
-    fn call(&mut self, story: &[u8], routine: Option<Operand>) -> Result<(), AllocError> {
+    fn call(&mut self, story: &[u8], routine: Option<Operand>) -> Result<(), AllocError>
+        requires { length story.now ≤ longest_story }
+    {
         let Some(packed) = constant(routine) else {
             self.meet_computed();
             return Ok(());

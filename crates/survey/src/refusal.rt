@@ -1,12 +1,14 @@
 //! What of an instruction a machine refuses.
 
-ghost use Rattle.std.specs.Prelude.{◌≡◌, ◌≤◌, ◌<◌, true, false, not, Some, None, IfSome, length};
+ghost use Rattle.std.specs.Prelude.{◌≡◌, ◌≤◌, ◌<◌, true, false, not, Some, None, IfSome, length, slice_index};
 ghost use Rattle.zcore.specs.Instruction.{opcode};
 ghost use Rattle.zcore.specs.Layout.{longest_story};
-ghost use Rattle.zcore_standard.specs.Opcodes.{opcode_at};
+ghost use Rattle.zcore_standard.specs.Opcodes.{opcode_at, opcode_of};
+ghost use Rattle.zcore_standard.specs.OlderOpcodes.{action_in};
+ghost use Rattle.zcore_standard.specs.Rows.{said_by};
 ghost use Rattle.zcore_standard.specs.Operations as table;
 ghost use Rattle.survey.specs.Refusals.{is_refused, is_said, takes, counted_at};
-ghost use Rattle.survey.specs.Refusals.{IsOperandsRefusal, IsProfileRefusal, SaysOfOperands};
+ghost use Rattle.survey.specs.Refusals.{IsOperandsRefusal, IsProfileRefusal, SaysOfOperands, SaysOfVersion};
 ghost use Rattle.survey.specs.declared.refusal.Refusal.TheVariants as refusals;
 
 use std::fmt;
@@ -84,6 +86,8 @@ pub fn standard_refusal_at(story: &[u8], at: usize) -> Option<Refusal>
 /// M1: an opcode that the version does not have, or a number of operands that it does not take.
 pub fn older_refusal_at(story: &[u8], at: usize, version: u8) -> Option<Refusal>
     requires { length story.now ≤ longest_story }
+    ensures { at < length story.now → SaysOfVersion story.now at
+        (said_by version (action_in version (opcode_of (slice_index story.now at) 0))) result }
 {
     if story.len() <= at {
         return None;

@@ -5,8 +5,10 @@ mod beginning;
 mod edition;
 mod facts;
 mod misplaced;
+mod tables;
 
 pub use beginning::Beginning;
 pub use edition::Edition;
 pub use facts::{Facts, Serial};
 pub use misplaced::{Misplaced, Table, first_misplaced};
+pub use tables::{ObjectTable, most_abbreviations, object_table};

@@ -5,4 +5,4 @@ mod taking;
 mod words;
 
 pub use taking::{Format, place_of, take_format};
-pub use words::{Asked, Words, words_of};
+pub use words::{Asked, Given, Words, words_of};

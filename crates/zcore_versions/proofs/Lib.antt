@@ -13,3 +13,4 @@ mod TextSamples
 mod CallSamples
 mod LineSamples
 pub mod Finding
+mod Table

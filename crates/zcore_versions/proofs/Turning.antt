@@ -47,6 +47,14 @@ pub is_any_turn : (story : Story) (here : Here) (s : State) (whole : Whole) → 
 unfolding any_turn
 is_any_turn story here s whole e = record { count = weighs here s; ends = e }
 
+-- the turn is what the function gives
+pub any_turn_is : (story : Story) (here : Here) (s : State) (whole : Whole) → TurnsBy (any story) here s whole
+    → any_turn story here s ≡ Some whole
+any_turn_is story here s whole turn =
+    let e = any_ends story here s in
+    let same = turns_by_same (any story) here s e.0 whole (is_any_turn story here s e.0 e.1) turn in
+    e.1 ∙ ap (λ w. Some w) same
+
 pub any_ends_once : (story : Story) (here : Here) (s : State) → EndsOneWay story here s
 any_ends_once story here s =
     let e = any_ends story here s in

@@ -219,7 +219,7 @@ old_taken m text parse e =
     let r = and_parts (are_writable m text (2 + room)) (nat_le 1 room) q.0 in
     and_so _ _ (and_so _ _ (fewer_writable m text (2 + room) (1 + room) (omega arith) r.0) r.1) p.1) e
 
-from_right : (story : Story) (t : State) → WaitsRight t → WaitsForLine story t
+pub from_right : (story : Story) (t : State) → WaitsRight t → WaitsForLine story t
 from_right story t w = record {
   pending = w.pending;
   waits = w.waits;

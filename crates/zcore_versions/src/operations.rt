@@ -1,6 +1,7 @@
 //! The operations that a version performs otherwise than versions 5 and 8.
 
-ghost use Rattle.std.specs.Prelude.{◌≡◌};
+ghost use Rattle.std.specs.Prelude.{◌≡◌, ◌==◌, ◌&&◌, Some};
+ghost use Rattle.zcore_standard.specs.Rows.{row_in};
 ghost use Rattle.zcore.specs.Operations.{plain};
 ghost use Rattle.zcore.specs.declared.operations.OperandCount.TheVariants as counts;
 ghost use Rattle.zcore_versions.specs.Operations as table;
@@ -35,20 +36,42 @@ impl StoryVersion {
         if self.is_late() {
             return None;
         }
-        let Some(row) = opcode.row(self.number) else {
-            return Some((VersionOperation::Missing, no_operands()));
-        };
-        match row.action {
-            Action::Profile(operation) if differs(self.number, operation) => {
-                Some((VersionOperation::Known(operation), row.shape))
-            }
-            Action::Standard(StandardOperation::SplitWindow) if self.number == 3 => {
-                Some((VersionOperation::SplitWindow, row.shape))
-            }
-            Action::Older(operation) => Some((VersionOperation::Older(operation), row.shape)),
-            _ => None,
+        match opcode.row(self.number) {
+            None => Some((VersionOperation::Missing, no_operands())),
+            Some(row) => otherwise(self.number, row.action, row.shape),
         }
     }
+}
+
+/// What a version makes of an action that it has, where versions 5 and 8 make something else of it.
+fn otherwise(version: u8, action: Action, shape: OpcodeRow) -> Option<(VersionOperation, OpcodeRow)>
+    requires { shape ≡ row_in version action }
+    ensures { result ≡ table.with_row version (table.otherwise version (Some action)) }
+{
+    match action {
+        Action::Profile(operation) => {
+            if differs(version, operation) {
+                Some((VersionOperation::Known(operation), shape))
+            } else {
+                None
+            }
+        }
+        Action::Standard(operation) => {
+            if empties(version, operation) {
+                Some((VersionOperation::SplitWindow, shape))
+            } else {
+                None
+            }
+        }
+        Action::Older(operation) => Some((VersionOperation::Older(operation), shape)),
+    }
+}
+
+/// Whether an operation empties the upper window in a version: `split_window` in version 3.
+fn empties(version: u8, operation: StandardOperation) -> bool
+    ensures { result ≡ ((version == 3) && table.splits operation) }
+{
+    version == 3 && matches!(operation, StandardOperation::SplitWindow)
 }
 
 /// The row of what is not there.

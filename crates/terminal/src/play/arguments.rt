@@ -16,8 +16,8 @@ At a terminal, ctrl-D ends the input.
 With `--format tsv` beside it, --check prints a line of 9 columns for each STORY.
 With --standard beside it, --check names the opcodes that --standard does not play.
 
-Example, which keeps the lines and the transcript:
-  tee lines | play game.z5 | tee transcript
+Example, which keeps the session, and goes on with it another day:
+  play --session game.session game.z5
 
 The installed documents and examples are in share/doc/felgoniz:
   docs/COMMANDS.md    all options, messages and statuses
@@ -77,7 +77,7 @@ fn number_of_seed<'a>(alloc: Global) -> Arg<'a>
     ensures { IsPlainNamed (codes "seed") result }
 {
     let help =
-        "With --standard, begin the random numbers with N, from 0 to 4294967295 [default: 12345]";
+        "With --standard, begin the random numbers with N, from 0 to 4294967295 [default: 12345, at a terminal a new one]";
     option(alloc, "seed", "N", help).value_parser(value_parser!(u32))
 }
 
@@ -90,6 +90,14 @@ fn seed_argument<'a>(alloc: Global) -> Result<Arg<'a>, AllocError>
     ensures { IfOk result (IsPlainNamed (codes "seed")) }
 {
     number_of_seed(alloc).requires_arg("standard")
+}
+
+/// The file in which the session is kept.
+fn session_argument<'a>(alloc: Global) -> Arg<'a>
+    ensures { IsPlainNamed (codes "session") result }
+{
+    let help = "Keep each line in FILE, and go on from the last one where FILE has some";
+    option(alloc, "session", "FILE", help)
 }
 
 /// The width of the lines.
@@ -138,6 +146,7 @@ fn arguments<'a>(alloc: Global) -> Result<Vec<Arg<'a>>, AllocError>
         map,
         standard_argument(alloc),
         seed,
+        session_argument(alloc),
         wrap_argument(alloc),
         check_argument(alloc),
         explain(

@@ -28,6 +28,16 @@ pub enum Asked<'a> {
     Check(Vec<&'a str>),
 }
 
+/// Which numbers the command line has itself, where others have a default.
+#[derive(Clone, Copy)]
+pub struct Given {
+    /// The units of fuel of a turn.
+    pub fuel: bool,
+
+    /// The seed of the random numbers.
+    pub seed: bool,
+}
+
 /// What is played, and how.
 #[derive(Clone, Copy)]
 pub struct Words<'a> {
@@ -49,6 +59,12 @@ pub struct Words<'a> {
     /// The seed of the random numbers, if the story may use every opcode of the Standard; `None` if it
     /// may use those of the profile.
     pub seed: Option<u32>,
+
+    /// Whether the command line has the fuel and the seed itself.
+    pub is_given: Given,
+
+    /// The name of the file in which the session is kept, if it is.
+    pub session: Option<&'a str>,
 
     /// How many columns a line of the transcript has; `None` where no line is broken.
     pub wrap: Option<u32>,
@@ -118,6 +134,11 @@ fn words_in<'a>(matches: &ArgMatches<'a>) -> Words<'a>
         why: matches.get_flag("why"),
         map: matches.get_str("map"),
         seed: seed_in(matches),
+        is_given: Given {
+            fuel: fuel.is_some(),
+            seed: matches.contains_id("seed"),
+        },
+        session: matches.get_str("session"),
         wrap: matches.get_one::<u32>("wrap"),
     }
 }

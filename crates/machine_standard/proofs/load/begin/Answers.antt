@@ -19,6 +19,6 @@ returns c =
     let characters : c.in_ok-characters.characters.items ≡ characters_of memory = c.in_ok-characters.ensures
     ∙ ap characters_of c.deref.ensures.value in
     let own = c.own_alphabets_of-own.ensures ∙ ap own_alphabets_of c.deref-2.ensures.value in
-    begins_with memory c.args.story c.args.seed _ c.in_ok-store.store c.requires.playable refl
+    begins_with memory c.args.story c.args.seed _ c.in_ok-store.store c.requires.playable refl refl
     (loaded_as c.new-loaded.result _ _ _ _ _ _ _ _ _ c.new-loaded.ensures dynamic c.seeded.ensures characters own)
     c.in_ok-store.ensures.sound c.in_ok-store.ensures.state

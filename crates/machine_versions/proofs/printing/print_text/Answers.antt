@@ -1,7 +1,7 @@
 use Rattle.zcore_versions.specs.Printing.{print_text}
 use Rattle.zcore_versions.specs.Versions.{versioned}
 use Rattle.machine_frames.proofs.Steps.{told_as}
-use Rattle.machine_versions.proofs.Printing.{text_printed}
+use Rattle.machine_versions.proofs.VersionTexts.{text_printed}
 use Rattle.machine_versions.proofs.printing.print_text.Goals as goal
 
 pub returns-clause-told : goal.returns-clause-told

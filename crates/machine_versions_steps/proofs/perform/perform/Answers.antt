@@ -1,12 +1,10 @@
-use Rattle.std.proofs.Common.{refl, sym}
 use Rattle.zcore_standard.specs.Windows.{split_window}
 use Rattle.zcore_versions.specs.Performing.{perform}
 use Rattle.zcore_versions.specs.Versions.{versioned}
-use Rattle.machine_frames.proofs.Steps.{told_went}
 use Rattle.machine_standard_windows.specs.TurnState.{place}
 use Rattle.machine_standard_windows.proofs.Drawing.{redraws_told}
 use Rattle.machine_standard_windows.proofs.TurnTexts.{keeps_still, keeps_grew}
-use Rattle.machine_versions_steps.proofs.Performing.{known_within, silent_within, missing_halts}
+use Rattle.machine_versions_steps.proofs.Performing.{known_within, missing_halts}
 use Rattle.machine_versions_steps.proofs.perform.perform.Goals as goal
 
 pub perform_known-requires-clause-differs : goal.perform_known-requires-clause-differs
@@ -34,3 +32,6 @@ returns-in-Missing-clause-told c = rw c.in-Missing.is
 
 pub returns-in-Missing-clause-text : goal.returns-in-Missing-clause-text
 returns-in-Missing-clause-text c = keeps_still _ _ c.requires.text
+
+pub returns-in-Older-clause-told : goal.returns-in-Older-clause-told
+returns-in-Older-clause-told c = rw c.in-Older.is c.perform_older.ensures.told

@@ -5,7 +5,7 @@ use Rattle.machine_versions_steps.proofs.perform.perform_silent.Goals as goal
 
 pub returns-in-Not : goal.returns-in-Not
 unfolding perform_older
-returns-in-Not c = λ loaded. rw (c.in-Not.is, sym c.value_of.ensures) c.give_result.ensures
+returns-in-Not c = λ loaded. rw (c.in-Not.is, sym c.value_of-word.ensures) c.give_result.ensures
 
 pub returns-in-Pop : goal.returns-in-Pop
 unfolding perform_older

@@ -3,6 +3,7 @@ use Rattle.zcore_standard.specs.Loaded.{alphabets_of}
 use Rattle.machine_frames.proofs.Steps.{goes_on_after, given_up_after}
 use Rattle.machine_frames.specs.States.{standard_state_of}
 use Rattle.machine.proofs.Turning.{front_still, front_with, ends_after, ends_given_up}
+use Rattle.machine_standard.specs.Loads.{story_of}
 use Rattle.machine_standard.proofs.Answering.{answers_on, answers_stop, given_waits}
 use Rattle.machine_standard.proofs.Whole.{store_goes_on, stopped_standard}
 use Rattle.machine_standard.proofs.turn.StandardMachine.answer.Goals as goal
@@ -22,7 +23,7 @@ returns-in-Ok c =
     let given = c.in-Ok.ensures w.pending w.waits in
     let played = rw c.standard_state-kept.ensures at c.play.ensures in
     ends_after _ given.told.0
-    (answers_on c.args.self.now.loaded _ _ c.args.store.now.store _ w.pending c.in-Ok.first _ _ w.waits
+    (answers_on (story_of c.args.self.now) _ _ c.args.store.now.store _ w.pending c.in-Ok.first _ _ w.waits
     given.told.1 played.whole) played
 
 pub returns-in-Err-Memory : goal.returns-in-Err-Memory
@@ -45,11 +46,11 @@ returns-in_ok-end-in-Err-Stop c =
     let e = c.in_ok-end-in-Err-Stop.ensures in
     let b = standard_state_of (slice_index c.args.store.now.store.cells) in
     record {
-      whole = answers_stop c.args.self.now.loaded _ c.args.store.now.store c.give_typed.new.store.store c.args.fuel _
+      whole = answers_stop (story_of c.args.self.now) _ c.args.store.now.store c.give_line.new.store.store c.args.fuel _
           w.pending _ _ w.waits given.told.1 c.program_counter.ensures
-          (stopped_standard c.give_typed.new.store.store c.end.new.store.store b c.args.fuel _ _
+          (stopped_standard c.give_line.new.store.store c.end.new.store.store b c.args.fuel _ _
           c.args.text.now.items c.end.new.text.items e.kept.1 e.kept.2 (e.standard_state ∙ c.standard_state-kept.ensures) e.text);
-      waits = λ waits. given_waits c.args.self.now.loaded w.pending _ _ _ c.give_typed.new.store.store c.end.new.store.store _ given.told.1 e.kept.1
+      waits = λ waits. given_waits (story_of c.args.self.now) w.pending _ _ _ c.give_line.new.store.store c.end.new.store.store _ given.told.1 e.kept.1
           waits;
       goes_on = goes_on_after given.told.0 e.kept.0;
       given_up = tt;

@@ -2,6 +2,7 @@ use Rattle.std.proofs.Common.{ap, ◌∙◌, arith, length}
 use Rattle.machine_frames.specs.Contents.{memory_of}
 use Rattle.machine_frames.proofs.Steps.{goes_on_still}
 use Rattle.machine.proofs.Turning.{long_memory, ends_after}
+use Rattle.machine_standard.specs.Loads.{story_of}
 use Rattle.machine_standard.proofs.Whole.{opens_standard}
 use Rattle.machine_standard.proofs.turn.StandardMachine.open.Goals as goal
 
@@ -13,7 +14,7 @@ first_next-first-requires c =
 pub returns : goal.returns
 returns c =
     ends_after _ (goes_on_still _ c.requires.store.store.sound)
-    (opens_standard c.play.result c.args.self.now.loaded c.args.store.now.store c.args.fuel c.dice.result _ _ _
+    (opens_standard c.play.result (story_of c.args.self.now) c.args.store.now.store c.args.fuel c.dice.result _ _ _
     c.dice.ensures c.requires.opening (c.memory.ensures ∙ ap memory_of c.store.ensures) c.first_next-first.ensures
     c.play.ensures.whole)
     c.play.ensures

@@ -1,12 +1,13 @@
 use Rattle.std.proofs.Common.{sym, subst, refl, [], drop, length}
 use Rattle.std.specs.Prelude.{IfOk}
 use Rattle.zcore.specs.Turn.{TurnsBy}
-use Rattle.zcore_standard.specs.Machine.{standard, begins}
+use Rattle.zcore_standard.specs.Machine.{begins}
+use Rattle.zcore_versions.specs.Machine.{any}
 use Rattle.machine_frames.specs.Contents.{Contents}
 use Rattle.machine_frames.specs.Playing.{whole_of}
 use Rattle.machine_frames.specs.States.{state_of}
 use Rattle.machine.proofs.Turning.{goes_on_kept, front_still, ends_after, ends_given_up}
-use Rattle.machine_standard.specs.Loads.{IsStoreFor}
+use Rattle.machine_standard.specs.Loads.{IsStoreFor, story_of}
 use Rattle.machine_standard.proofs.turn.StandardMachine.play.Goals as goal
 
 pub keep_stack-requires : goal.keep_stack-requires
@@ -25,7 +26,7 @@ returns c =
     let k = c.in_ok-keep_stack.ensures.more in
     let e = c.play_on.ensures in
     ends_after _ (goes_on_kept c.args.store.now c.keep_stack.new.store c.requires.store.sound k.store k.beginning)
-    (subst (λ (x : Contents). IfOk c.play_on.result (λ place. TurnsBy (standard c.args.self.now.loaded)
+    (subst (λ (x : Contents). IfOk c.play_on.result (λ place. TurnsBy (any (story_of c.args.self.now))
     (begins c.args.kept c.args.first) (state_of x [])
     (whole_of c.play_on.new.store.store place (drop (length c.args.text.now.items) c.play_on.new.text.items))))
     k.store e.whole)

@@ -1,11 +1,12 @@
 use Rattle.std.proofs.Common.{◌≡◌, [], ap, ◌∙◌, length, take, subst, arith, drop}
-use Rattle.zcore_standard.specs.Machine.{standard_step}
+use Rattle.zcore_versions.specs.Machine.{any_step}
 use Rattle.machine_frames.proofs.Steps.{goes_on_after, given_up_after}
 use Rattle.machine_frames.specs.Playing.{StopsBy}
 use Rattle.machine_frames.specs.States.{state_of}
 use Rattle.machine.proofs.Turning.{front_with, ends_given_up}
 use Rattle.machine_standard_windows.specs.TurnState.{place}
 use Rattle.machine_standard_windows.proofs.TurnTexts.{keeps_begun, keeps_after}
+use Rattle.machine_standard.specs.Loads.{story_of}
 use Rattle.machine_standard.proofs.Whole.{standard_whole, standard_waits, begun_place, keeps_at, front_kept}
 use Rattle.machine_standard.proofs.turn.StandardMachine.play_on.Goals as goal
 
@@ -35,17 +36,17 @@ returns c =
     let e = c.in_ok-end.ensures in
     let long : c.len-start.result ≡ length c.args.text.now.items = omega arith in
     let all = keeps_after c.run.ensures.text (keeps_at _ _ _ _ long c.cut_to_shown.ensures.text) in
-    let stops = subst (λ first. StopsBy (standard_step c.args.self.now.loaded) first (state_of c.args.store.now.store [])
+    let stops = subst (λ first. StopsBy (any_step (story_of c.args.self.now)) first (state_of c.args.store.now.store [])
     (place c.run.new.turn c.in_ok-here.here) c.in_ok-here.place
     (state_of c.run.new.store.store (drop (length c.args.text.now.items) c.run.new.text.items)))
     (begun_place _ c.args.kept c.args.first c.new-turn.ensures.standard_state c.new-turn.ensures.streams
     c.new-turn.ensures.upper) r.stops in
     record {
-      whole = standard_whole c.args.self.now.loaded _ c.run.new.turn c.in_ok-here.here c.in_ok-here.place _
+      whole = standard_whole (story_of c.args.self.now) _ c.run.new.turn c.in_ok-here.here c.in_ok-here.place _
           c.run.new.store.store c.end.new.store.store c.run.new.text.items c.cut_to_shown.new.text.items
           c.end.new.text.items (length c.args.text.now.items) stops e.kept.1 e.kept.2 e.standard_state
           (rw long at c.cut_to_shown.ensures.shown c.in_ok-here.here) e.text all.begun;
-      waits = λ waits. standard_waits c.args.self.now.loaded _ (place c.run.new.turn c.in_ok-here.here)
+      waits = λ waits. standard_waits (story_of c.args.self.now) _ (place c.run.new.turn c.in_ok-here.here)
           c.in_ok-here.place _ c.run.new.store.store c.end.new.store.store _ r.stops e.kept.1 waits;
       goes_on = goes_on_after r.goes_on e.kept.0;
       given_up = tt;

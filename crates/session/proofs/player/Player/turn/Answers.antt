@@ -2,7 +2,8 @@ use Rattle.std.proofs.Common.{ap, subst, sym}
 use Rattle.machine.specs.Ended.{OpensOrAnswers, TurnEndsBy}
 use Rattle.machine_frames.specs.Playing.{IsWaiting}
 use Rattle.machine_standard.specs.Playing.{OpensOrAnswersStandard}
-use Rattle.machine_standard_words.specs.Taking.{CanBeGiven}
+use Rattle.machine_standard.specs.Loads.{story_of}
+use Rattle.machine_versions_words.specs.Taking.{CanBeGivenBy}
 use Rattle.session.specs.Modes.{CanTake}
 use Rattle.session.specs.Players.{known_of, IsReadyIn, PlayerTurn}
 use Rattle.session.proofs.Players.{ends_as, profile_turn, profile_ready, standard_machine_turn, standard_store}
@@ -21,7 +22,7 @@ turn-requires-in-Standard-clause-store c =
 
 pub turn-requires-in-Standard-clause-ready : goal.turn-requires-in-Standard-clause-ready
 turn-requires-in-Standard-clause-ready c =
-    standard_ready c.in-Standard.machine.header c.in-Standard.machine.loaded c.args.line c.args.store.now.store
+    standard_ready c.in-Standard.machine.header (story_of c.in-Standard.machine) c.args.line c.args.store.now.store
     (subst (λ k. IsReadyIn k c.args.line c.args.store.now.store) (ap known_of c.in-Standard.is) c.requires.ready)
 
 pub returns-in-Profile-clause-ends : goal.returns-in-Profile-clause-ends
@@ -39,8 +40,8 @@ returns-in-Standard-clause-ends c =
     subst (λ k. TurnEndsBy (CanTake k.loaded) (PlayerTurn k c.args.line c.args.store.now.store c.args.fuel)
     c.args.store.now c.args.text.now.items c.turn-in-Standard.new.store c.turn-in-Standard.new.text.items
     c.turn-in-Standard.result) (sym (ap known_of c.in-Standard.is))
-    (ends_as CanBeGiven (OpensOrAnswersStandard c.in-Standard.machine.loaded c.args.line c.args.store.now.store c.args.fuel)
+    (ends_as (CanBeGivenBy (story_of c.in-Standard.machine)) (OpensOrAnswersStandard (story_of c.in-Standard.machine) c.args.line c.args.store.now.store c.args.fuel)
     (PlayerTurn (standard_known c.in-Standard.machine) c.args.line c.args.store.now.store c.args.fuel) c.args.store.now
     c.args.text.now.items c.turn-in-Standard.new.store c.turn-in-Standard.new.text.items c.turn-in-Standard.result
-    (λ whole h. standard_machine_turn c.in-Standard.machine.header c.in-Standard.machine.loaded c.args.line
+    (λ whole h. standard_machine_turn c.in-Standard.machine.header (story_of c.in-Standard.machine) c.args.line
     c.args.store.now.store c.args.fuel whole h) c.turn-in-Standard.ensures.ends)

@@ -1,0 +1,115 @@
+//! The entry or the size of an array (E28). The tokens are those of a program.
+
+use crate::kinds::{array_kind, most_entries};
+use crate::site::Site;
+use checker_names::{Known, Table, constant_known, find};
+use messages_contexts::{after, is_sign, kind_at};
+use messages_tokens::{Figure, Quoted, some};
+use std::alloc::{AllocError, Global};
+use syntax::{ArrayKind, Kind, Sign, Token, Word};
+
+/// What is known of the value that begins with the token of a number.
+fn known_at(tokens: &[Token<'_>], at: usize, table: &Table) -> Option<Known> {
+    match kind_at(tokens, at) {
+        Kind::Sign(Sign::Minus) => match known_token(tokens, after(at, 1), table) {
+            Some(Known::Number(number)) => Some(Known::Number(0_u16.wrapping_sub(number))),
+            other => other,
+        },
+        _ => known_token(tokens, at, table),
+    }
+}
+
+/// What is known of the value that is the token of a number, but of one with `-` before it.
+fn known_token(tokens: &[Token<'_>], at: usize, table: &Table) -> Option<Known> {
+    match kind_at(tokens, at) {
+        Kind::Number(number) => Some(Known::Number(number)),
+        Kind::Character(character) => Some(Known::Number(character as u16)),
+        Kind::DictionaryWord(_) => Some(Known::Key(0)),
+        Kind::Name(text) => constant_known(find(table, text)),
+        Kind::Reserved(word) => Some(Known::Number(matches!(word, Word::True) as u16)),
+        _ => None,
+    }
+}
+
+/// The kind of the array of which the token of a number tells it.
+fn kind_told(tokens: &[Token<'_>], at: usize) -> ArrayKind {
+    match kind_at(tokens, at) {
+        Kind::Sign(Sign::Arrow) => ArrayKind::Bytes,
+        Kind::Sign(Sign::LongArrow) => ArrayKind::Words,
+        Kind::Reserved(Word::String) => ArrayKind::String,
+        _ => ArrayKind::Table,
+    }
+}
+
+/// How many values are from the token of a number to the end of a definition.
+fn values(tokens: &[Token<'_>], first: usize) -> usize {
+    let mut count: usize = 0;
+    for number in first..tokens.len() {
+        if is_sign(tokens, number, Sign::Semicolon) {
+            break;
+        }
+        if !is_sign(tokens, number, Sign::Minus) {
+            count = count.saturating_add(1);
+        }
+    }
+    count
+}
+
+/// What is wrong with an entry that is no byte.
+fn entry(alloc: Global, known: Option<Known>) -> Result<Option<String>, AllocError> {
+    match known {
+        Some(Known::Number(number)) => {
+            let number = Figure(number as u128);
+            some(format!(in alloc;
+                "an entry of {number}; a byte holds at most 255: write '-->' or 'table' for words"
+            ))
+        }
+        Some(Known::Key(_)) => {
+            let sentence =
+                "a dictionary word does not fit into a byte: write '-->' or 'table' for words";
+            some(String::from_str(alloc, sentence))
+        }
+        None => Ok(None),
+    }
+}
+
+/// What is wrong with a number of entries.
+fn size(site: Site<'_, '_>, kind: ArrayKind, count: usize) -> Result<String, AllocError> {
+    let name = Quoted(site.token.text);
+    let (count, most) = (Figure(count as u128), Figure(most_entries(kind) as u128));
+    let kind = array_kind(kind);
+    format!(in site.alloc; "{name} has {count} entries; {kind} has 1 to {most}")
+}
+
+/// What is wrong with the number of entries of the array whose name is a token.
+fn entries(site: Site<'_, '_>, table: &Table) -> Result<Option<String>, AllocError> {
+    let kind = kind_told(site.tokens, after(site.at, 1));
+    let first = after(site.at, 2);
+    match (
+        values(site.tokens, first),
+        known_at(site.tokens, first, table),
+    ) {
+        (1, Some(Known::Number(count))) => some(size(site, kind, count as usize)),
+        (1, Some(Known::Key(_))) => {
+            let name = Quoted(site.token.text);
+            some(format!(in site.alloc;
+                "the size of {name} is a dictionary word; a number is expected"
+            ))
+        }
+        (1, None) => Ok(None),
+        (count, _) => some(size(site, kind, count)),
+    }
+}
+
+/// What is wrong with the entry or the size of an array at a token.
+///
+/// # Errors
+///
+/// `AllocError` where memory is refused.
+pub fn bad_array(site: Site<'_, '_>, table: &Table) -> Result<Option<String>, AllocError> {
+    match site.around() {
+        None => Ok(None),
+        Some(found) if found.name == site.at => entries(site, table),
+        Some(_) => entry(site.alloc, known_at(site.tokens, site.at, table)),
+    }
+}

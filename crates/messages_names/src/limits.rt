@@ -1,0 +1,63 @@
+//! Too many of something (E24). The tokens are those of a program.
+
+use crate::duplicates::is_abbreviation;
+use crate::site::Site;
+use meaning::limits::{
+    MOST_ARGUMENTS, MOST_GLOBALS, MOST_OBJECTS, MOST_PROPERTIES, MOST_PROPERTY_WORDS,
+};
+use meaning::name_words;
+use messages_contexts::{Definition, ends_within};
+use messages_tokens::{Figure, some};
+use std::alloc::AllocError;
+use syntax::Kind;
+use zcore::MOST_ABBREVIATIONS;
+use zcore::layout::{ATTRIBUTE_COUNT, LONGEST_SHORT_NAME, MOST_LOCALS};
+
+/// The limit that is passed at a token: how many there may be, and of what, with what to write
+/// instead.
+fn passed(site: Site<'_, '_>) -> Option<(usize, &'static str)> {
+    if is_abbreviation(site.tokens, site.at) {
+        return Some((MOST_ABBREVIATIONS, "abbreviations: leave one out"));
+    }
+    let around = site.around()?;
+    match (around.what, around.name == site.at) {
+        (Definition::Global, true) => Some((MOST_GLOBALS, "globals: use entries of an array")),
+        (Definition::Attribute, true) => {
+            let most = ATTRIBUTE_COUNT as usize;
+            Some((most, "attributes: use properties of 0 and 1"))
+        }
+        (Definition::Property, true) => {
+            Some((MOST_PROPERTIES, "properties besides name: use arrays"))
+        }
+        (Definition::Object, true) => Some((MOST_OBJECTS, "objects: use numbers and arrays")),
+        (Definition::Object, false) => {
+            Some((MOST_PROPERTY_WORDS, "words of a property: use a second one"))
+        }
+        (Definition::Routine, false) if ends_within(site.tokens, around.name, site.at) => {
+            Some((MOST_ARGUMENTS, "arguments of a call: use globals"))
+        }
+        (Definition::Routine, false) => Some((MOST_LOCALS, "locals of a routine: use globals")),
+        _ => None,
+    }
+}
+
+/// What there is too much of at a token. A text there that is no abbreviation is a short name.
+///
+/// # Errors
+///
+/// `AllocError` where memory is refused.
+pub fn too_many(site: Site<'_, '_>) -> Result<Option<String>, AllocError> {
+    match (site.token.kind, passed(site)) {
+        (Kind::Text(text), _) if !is_abbreviation(site.tokens, site.at) => {
+            let words = Figure(name_words(text));
+            some(format!(in site.alloc;
+                "a short name of {words} words of Z-text; the limit is {LONGEST_SHORT_NAME}: shorten it"
+            ))
+        }
+        (_, Some((most, what))) => {
+            let most = Figure(most as u128);
+            some(format!(in site.alloc; "more than {most} {what}"))
+        }
+        (_, None) => Ok(None),
+    }
+}

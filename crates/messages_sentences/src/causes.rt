@@ -1,0 +1,53 @@
+//! The likely cause of a token that does not fit.
+
+use crate::attempts::{AT_END, BESIDE, Cause, HELPING, HELPING_SIGNS, MENDING, MENDING_SIGNS};
+use crate::misspelt::misspelt;
+use crate::trials::Trial;
+use messages_advice::{advice_at, late_advice_at};
+use messages_contexts::Place;
+
+/// The most tokens of a source in which signs are tried: more than the weight of a source for
+/// version 8 allows.
+const MOST_TOKENS: usize = 15_000;
+
+/// What may be the cause of a token that does not fit, the one at a place. Each change costs a parse,
+/// so most are not tried in a source of very many tokens.
+pub fn likely_cause(trial: &mut Trial<'_, '_>, place: Place<'_, '_>) -> Cause {
+    let is_small = trial.tokens.len() <= MOST_TOKENS;
+    if is_small && let Some((number, word)) = misspelt(trial, place.at) {
+        return Cause::Misspelt(number, word);
+    }
+    if let Some(advice) = advice_at(place) {
+        return Cause::Told(advice);
+    }
+    if let Some(cause) = trial.cause_by(place, BESIDE) {
+        return cause;
+    }
+    if is_small && let Some(cause) = mended(trial, place) {
+        return cause;
+    }
+    if let Some(cause) = trial.cause_by(place, AT_END) {
+        return cause;
+    }
+    match late_advice_at(place) {
+        Some(advice) => Cause::Told(advice),
+        None if is_small => helped(trial, place),
+        None => Cause::Unknown,
+    }
+}
+
+/// The cause by a change after which the tokens are a program.
+fn mended(trial: &mut Trial<'_, '_>, place: Place<'_, '_>) -> Option<Cause> {
+    match trial.cause_by(place, MENDING_SIGNS) {
+        Some(cause) => Some(cause),
+        None => trial.cause_by(place, MENDING),
+    }
+}
+
+/// The cause by a change with which the parser gets on.
+fn helped(trial: &mut Trial<'_, '_>, place: Place<'_, '_>) -> Cause {
+    match trial.cause_by(place, HELPING_SIGNS) {
+        Some(cause) => cause,
+        None => trial.cause_by(place, HELPING).unwrap_or(Cause::Unknown),
+    }
+}

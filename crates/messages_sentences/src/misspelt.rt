@@ -1,0 +1,85 @@
+//! Reserved words that may be misspelt as names.
+
+use crate::attempts::Put;
+use crate::trials::Trial;
+use messages_contexts::{
+    MOST_EDITS, before, in_small_letters, is_near, is_unknown, start_of, text_at,
+};
+use messages_parts::is_habit;
+use messages_tokens::RESERVED_WORDS;
+use strsim::generic_levenshtein;
+use syntax::Word;
+
+/// How many tokens before one that does not fit may be misspelt, at most.
+const MOST_BEFORE: usize = 12;
+
+/// The reserved word with which the tokens are a program in the place of the token of a number,
+/// among those with so many edits to its name.
+fn word_at_distance(
+    trial: &mut Trial<'_, '_>,
+    number: usize,
+    name: &[u8],
+    distance: usize,
+) -> Option<Word> {
+    for row in &RESERVED_WORDS {
+        let word = row.0;
+        let written = row.1.as_bytes();
+        let Ok(edits) = generic_levenshtein(trial.alloc, name, written) else {
+            trial.is_refused = true;
+            return None;
+        };
+        if edits == distance
+            && is_near(name, edits, written)
+            && trial.reach(number, number.saturating_add(1), Put::Word(word)) == usize::MAX
+        {
+            return Some(word);
+        }
+    }
+    None
+}
+
+/// The reserved word with which the tokens are a program in the place of the token of a number: the
+/// nearest to its name.
+fn word_at(trial: &mut Trial<'_, '_>, number: usize) -> Option<Word> {
+    let Ok(name) = in_small_letters(trial.alloc, text_at(trial.tokens, number)) else {
+        trial.is_refused = true;
+        return None;
+    };
+    for distance in 1..=MOST_EDITS {
+        let word = word_at_distance(trial, number, &name, distance);
+        if word.is_some() {
+            return word;
+        }
+    }
+    None
+}
+
+/// The reserved word that the token of a number may be meant as: a name that is defined nowhere, and
+/// no word of another language.
+fn meant_at(trial: &mut Trial<'_, '_>, number: usize) -> Option<Word> {
+    if is_unknown(trial.tokens, number) && !is_habit(text_at(trial.tokens, number)) {
+        word_at(trial, number)
+    } else {
+        None
+    }
+}
+
+/// The number of the token that may be a misspelt reserved word, and that word: in the statement of
+/// the token of a number, which does not fit, the last with which the tokens are a program, or the
+/// first of the statement.
+pub fn misspelt(trial: &mut Trial<'_, '_>, number: usize) -> Option<(usize, Word)> {
+    let start = start_of(trial.tokens, number);
+    for count in 0..MOST_BEFORE {
+        let place = before(number, count);
+        if place < start || place > number {
+            return None;
+        }
+        if let Some(word) = meant_at(trial, place) {
+            return Some((place, word));
+        }
+    }
+    match meant_at(trial, start) {
+        Some(word) => Some((start, word)),
+        None => None,
+    }
+}

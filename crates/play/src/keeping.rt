@@ -1,0 +1,230 @@
+//! The file in which a session is kept.
+
+ghost use Rattle.std.specs.Prelude.{IfOk};
+ghost use Rattle.terminal.specs.Range.{IsInRange};
+
+use crate::options::{Begun, options_in, options_of};
+use crate::place::read_whole;
+use crate::refuse;
+use crate::seed::seeded;
+use crate::unread::Unread;
+use session_file::{
+    Heading, LinesFault, heading_in, heading_of, lines_in, story_line, whole_length,
+};
+use std::fmt::Display;
+use std::fs::{self, File, OpenOptions, TryLockError};
+use std::io::{ErrorKind, Write};
+use std::process::ExitCode;
+use terminal::OneLine;
+use terminal::play::Words;
+
+/// How many lines the heading of a session's file has.
+const HEADING_LINES: usize = 3;
+
+/// What is said where memory is refused.
+const NO_MEMORY: &str = "memory was refused";
+
+/// The file in which a session is to be kept.
+#[derive(Drop)]
+pub struct Keeping<'a> {
+    name: &'a str,
+
+    /// The file, if there is one already.
+    file: Option<File>,
+
+    /// What is in it; nothing where the session is new.
+    text: Vec<u8>,
+
+    /// The line of the story that is played.
+    story: String,
+}
+
+/// A session's file, to which lines are added, and what was typed before.
+#[derive(Drop)]
+pub struct Kept {
+    pub file: File,
+    pub typed: Vec<u8>,
+}
+
+impl<'a> Keeping<'a> {
+    /// Opens a session's file and reads it, where there is one, or else says why not.
+    pub fn open(rt: &HostRuntime, name: &'a str) -> Result<Keeping<'a>, ExitCode> {
+        let file = match existing(rt, name) {
+            Ok(Some(file)) => file,
+            Ok(None) => {
+                return Ok(Keeping {
+                    name,
+                    file: None,
+                    text: Vec::new(rt.alloc()),
+                    story: String::new(rt.alloc()),
+                });
+            }
+            Err(why) => {
+                let shown = OneLine(name);
+                return Err(refuse(rt, format_args!("cannot use {shown}{why}")));
+            }
+        };
+        let file = only_here(rt, name, file)?;
+        match read_whole(rt, name) {
+            Ok(Some(text)) => Ok(Keeping {
+                name,
+                file: Some(file),
+                text,
+                story: String::new(rt.alloc()),
+            }),
+            Ok(None) => Err(unused(rt, name, "it is larger than 67,108,864 bytes")),
+            Err(_) => Err(refuse(rt, format_args!("cannot use {}", OneLine(name)))),
+        }
+    }
+
+    /// What is played: by the command line, or for a session that goes on by its own options, which the
+    /// command line may repeat.
+    pub fn settle(&self, rt: &HostRuntime, words: Words<'a>) -> Result<Words<'a>, ExitCode>
+        requires { IsInRange words }
+        ensures { IfOk result IsInRange }
+    {
+        if self.text.is_empty() {
+            return Ok(seeded(rt, words));
+        }
+        let heading = self.heading(rt)?;
+        let Some(settled) = options_in(rt.alloc(), words, heading.options) else {
+            return Err(self.malformed(rt, HEADING_LINES));
+        };
+        match Begun::against(words, settled) {
+            Some(begun) => Err(unused(rt, self.name, begun)),
+            None => Ok(settled),
+        }
+    }
+
+    /// The same for a story, which must be that of a session that goes on.
+    pub fn with_story(self, rt: &HostRuntime, story: &[u8]) -> Result<Keeping<'a>, ExitCode> {
+        let Ok(line) = story_line(rt.alloc(), story) else {
+            return Err(unused(rt, self.name, NO_MEMORY));
+        };
+        if !self.text.is_empty() && self.heading(rt)?.story != line.as_bytes() {
+            return Err(unused(rt, self.name, "it is the session of another story"));
+        }
+        Ok(Keeping {
+            story: line,
+            ..self
+        })
+    }
+
+    /// The session that is played as these words say: what was typed in it, and the file to which more is
+    /// added. A new file gets its heading.
+    pub fn begin(self, rt: &HostRuntime, words: Words<'_>) -> Result<Kept, ExitCode> {
+        if self.text.is_empty() {
+            self.begin_new(rt, words)
+        } else {
+            self.go_on(rt)
+        }
+    }
+
+    /// Writes the heading of a new session, in a file that is made where there is none.
+    fn begin_new(self, rt: &HostRuntime, words: Words<'_>) -> Result<Kept, ExitCode> {
+        let name = self.name;
+        let mut file = match self.file {
+            Some(file) => file,
+            None => made(rt, name)?,
+        };
+        let heading = match options_of(rt.alloc(), words) {
+            Ok(options) => heading_of(rt.alloc(), self.story.as_str(), options.as_str()),
+            Err(error) => Err(error),
+        };
+        match heading {
+            Ok(heading) if file.write_all(&heading).is_ok() => Ok(Kept {
+                file,
+                typed: Vec::new(rt.alloc()),
+            }),
+            _ => Err(refuse(rt, format_args!("cannot write {}", OneLine(name)))),
+        }
+    }
+
+    /// Reads what was typed in a session. A line that was not whole is dropped from the file.
+    fn go_on(self, rt: &HostRuntime) -> Result<Kept, ExitCode> {
+        let lines = self.heading(rt)?.lines;
+        let whole = whole_length(lines);
+        let typed = match lines_in(rt.alloc(), &lines[..whole]) {
+            Ok(typed) => typed,
+            Err(LinesFault::Unmarked(number)) => {
+                return Err(self.malformed(rt, number.saturating_add(HEADING_LINES)));
+            }
+            Err(LinesFault::Memory) => return Err(unused(rt, self.name, NO_MEMORY)),
+        };
+        let lost = lines.len() - whole;
+        let name = self.name;
+        let length = self.text.len().saturating_sub(lost);
+        let Some(file) = self.file else {
+            return Err(unused(rt, name, Unread::Missing.words()));
+        };
+        if lost > 0 {
+            if file.set_len(length as u64).is_err() {
+                return Err(refuse(rt, format_args!("cannot write {}", OneLine(name))));
+            }
+            let shown = OneLine(name);
+            let _ = eprintln!(rt; "play: the last line of {shown} was not whole and is dropped");
+        }
+        Ok(Kept { file, typed })
+    }
+
+    /// The heading of the file, or else it is not used.
+    fn heading(&self, rt: &HostRuntime) -> Result<Heading<'_>, ExitCode> {
+        match heading_in(&self.text) {
+            Ok(heading) => Ok(heading),
+            Err(fault) => Err(unused(rt, self.name, fault)),
+        }
+    }
+
+    /// Says that a line of the file is none of a session.
+    fn malformed(&self, rt: &HostRuntime, number: usize) -> ExitCode {
+        unused(
+            rt,
+            self.name,
+            format_args!("its line {number} is malformed"),
+        )
+    }
+}
+
+/// Says why a session's file is not used.
+fn unused<W: Display + Drop>(rt: &HostRuntime, name: &str, why: W) -> ExitCode {
+    refuse(rt, format_args!("cannot use {}: {why}", OneLine(name)))
+}
+
+/// The file of a name, to be read and added to; `None` where there is none.
+fn existing(rt: &HostRuntime, name: &str) -> Result<Option<File>, Unread> {
+    match fs::metadata(rt, name) {
+        Ok(found) if found.is_dir() => return Err(Unread::Directory),
+        Ok(found) if !found.is_file() => return Err(Unread::Irregular),
+        Ok(_) => {}
+        Err(error) if error.kind() == ErrorKind::NotFound => return Ok(None),
+        Err(error) => return Err(Unread::of(&error)),
+    }
+    match OpenOptions::new().read(true).append(true).open(rt, name) {
+        Ok(file) => Ok(Some(file)),
+        Err(error) => Err(Unread::of(&error)),
+    }
+}
+
+/// The file of a new session.
+fn made(rt: &HostRuntime, name: &str) -> Result<File, ExitCode> {
+    match OpenOptions::new()
+        .append(true)
+        .create_new(true)
+        .open(rt, name)
+    {
+        Ok(file) => only_here(rt, name, file),
+        Err(error) => {
+            let why = Unread::of(&error);
+            Err(refuse(rt, format_args!("cannot write {}{why}", OneLine(name))))
+        }
+    }
+}
+
+/// A file that no other process plays on: of two that take over one lock, only one gets it. Where the
+/// system has no such locks, the lock beside the file must do.
+fn only_here(rt: &HostRuntime, name: &str, file: File) -> Result<File, ExitCode> {
+    match file.try_lock() {
+        Err(TryLockError::WouldBlock) => Err(unused(rt, name, "another process plays on it")),
+        Ok(()) | Err(TryLockError::Error(_)) => Ok(file),
+    }
+}

@@ -1,0 +1,113 @@
+//! The options by which a session is played, as its file has them.
+
+ghost use Rattle.std.specs.Prelude.{IfSome};
+ghost use Rattle.terminal.specs.Range.{IsInRange};
+
+use std::alloc::{AllocError, Global};
+use std::fmt::{self, Display, Formatter};
+use std::str;
+use terminal::play::{Asked, Words, words_of};
+
+/// The options that decide the transcript beside the story and the lines, as on a command line.
+pub fn options_of(alloc: Global, words: Words<'_>) -> Result<String, AllocError> {
+    let mut text = String::new(alloc);
+    if let Some(seed) = words.seed {
+        text.push_str(format!(in alloc; "--standard --seed {seed} ")?.as_str())?;
+    }
+    let fuel = words.fuel;
+    text.push_str(format!(in alloc; "--fuel {fuel}")?.as_str())?;
+    if let Some(turns) = words.keep {
+        text.push_str(format!(in alloc; " --undo {turns}")?.as_str())?;
+    }
+    Ok(text)
+}
+
+/// What is played, by the options in a session's file; `None` where they are not as `options_of` writes
+/// them.
+pub fn options_in<'a>(alloc: Global, words: Words<'a>, line: &[u8]) -> Option<Words<'a>>
+    requires { IsInRange words }
+    ensures { IfSome result IsInRange }
+{
+    let given = command_line(alloc, str::from_utf8(line).ok()?).ok()?;
+    let Ok(Asked::Play(found)) = words_of(alloc, given.as_slice()) else {
+        return None;
+    };
+    let settled = Words {
+        fuel: found.fuel,
+        keep: found.keep,
+        seed: found.seed,
+        ..words
+    };
+    let text = options_of(alloc, settled).ok()?;
+    if text.as_bytes() == line {
+        Some(settled)
+    } else {
+        None
+    }
+}
+
+/// The words of a command line with these options.
+fn command_line(alloc: Global, options: &str) -> Result<Vec<String>, AllocError> {
+    let mut words = Vec::new(alloc);
+    words.push(String::from_str(alloc, "play")?)?;
+    for option in options.split(' ') {
+        words.push(String::from_str(alloc, option)?)?;
+    }
+    words.push(String::from_str(alloc, "story")?)?;
+    Ok(words)
+}
+
+/// An option with which a session was begun, and which the command line contradicts. `Display` writes
+/// it in words.
+#[derive(Clone, Copy)]
+pub enum Begun {
+    /// It was begun in the profile.
+    Profile,
+
+    /// It was begun with this seed.
+    Seed(u32),
+
+    /// It was begun with these units of fuel.
+    Fuel(u32),
+
+    /// So many turns can be undone.
+    Undo(u32),
+
+    /// All turns can be undone.
+    UndoAll,
+}
+
+impl Begun {
+    /// The first option of a command line that a session's options contradict.
+    pub fn against(words: Words<'_>, settled: Words<'_>) -> Option<Begun> {
+        match settled.seed {
+            None if words.seed.is_some() => return Some(Begun::Profile),
+            Some(seed) if words.is_given.seed && words.seed != settled.seed => {
+                return Some(Begun::Seed(seed));
+            }
+            _ => {}
+        }
+        if words.is_given.fuel && words.fuel != settled.fuel {
+            return Some(Begun::Fuel(settled.fuel));
+        }
+        if words.keep.is_none() || words.keep == settled.keep {
+            return None;
+        }
+        match settled.keep {
+            Some(turns) => Some(Begun::Undo(turns)),
+            None => Some(Begun::UndoAll),
+        }
+    }
+}
+
+impl Display for Begun {
+    fn fmt<W: fmt::Write>(&self, f: &mut Formatter<W>) -> fmt::Result {
+        match *self {
+            Begun::Profile => f.write_str("it was begun without --standard"),
+            Begun::Seed(seed) => write!(f, "it was begun with --seed {seed}"),
+            Begun::Fuel(fuel) => write!(f, "it was begun with --fuel {fuel}"),
+            Begun::Undo(turns) => write!(f, "it was begun with --undo {turns}"),
+            Begun::UndoAll => f.write_str("it was begun without --undo"),
+        }
+    }
+}

@@ -1,0 +1,35 @@
+//! The seed of a session of its own.
+
+ghost use Rattle.terminal.specs.Range.{IsInRange};
+
+use std::io::IsTerminal;
+use std::random::RandomSource;
+use terminal::play::Words;
+
+/// What is played, with a seed of its own where a user types at a terminal and gives none. Where the
+/// system has no random bytes, the seed is as without a terminal.
+pub fn seeded<'a>(rt: &HostRuntime, words: Words<'a>) -> Words<'a>
+    requires { IsInRange words }
+    ensures { IsInRange result }
+{
+    if words.seed.is_none() || words.is_given.seed || !rt.stdin().is_terminal() {
+        return words;
+    }
+    let mut bytes = [0; 4];
+    match rt.fill_bytes(&mut bytes) {
+        Ok(()) => Words {
+            seed: Some(u32::from_be_bytes(bytes)),
+            ..words
+        },
+        Err(_) => words,
+    }
+}
+
+/// The seed that a user is told, who has not given it: that of a session of its own or of a file.
+pub fn told_seed(rt: &HostRuntime, words: Words<'_>) -> Option<u32> {
+    if words.is_given.seed || !(words.session.is_some() || rt.stdin().is_terminal()) {
+        None
+    } else {
+        words.seed
+    }
+}

@@ -1,0 +1,23 @@
+//! What stops a run.
+
+use session::RunFault;
+use std::fmt::{self, Display, Formatter};
+
+/// What stopped a run. `Display` writes the number alone.
+#[derive(Clone, Copy)]
+pub enum Stop {
+    /// Reading or writing failed.
+    Run(RunFault),
+
+    /// A line could not be kept in the session's file.
+    Unkept,
+}
+
+impl Display for Stop {
+    fn fmt<W: fmt::Write>(&self, f: &mut Formatter<W>) -> fmt::Result {
+        match self {
+            Stop::Run(fault) => write!(f, "{fault}"),
+            Stop::Unkept => f.write_str("S4"),
+        }
+    }
+}

@@ -1,0 +1,3 @@
+pub mod Headings
+pub mod Marks
+pub mod Waiting
