@@ -33,6 +33,21 @@ enum Taking {
 
     /// The process of this number holds it.
     Held(String),
+
+    /// The file of its name is no lock.
+    Foreign,
+}
+
+/// What the text of a lock says.
+enum Holder {
+    /// The process of this number runs.
+    Running(String),
+
+    /// Its process is gone.
+    Gone,
+
+    /// It is no lock's text.
+    Foreign,
 }
 
 impl Lock {
@@ -44,6 +59,10 @@ impl Lock {
             Ok(Taking::Held(process)) => Err(refuse(
                 rt,
                 format_args!("cannot use {shown}: process {process} plays on it"),
+            )),
+            Ok(Taking::Foreign) => Err(refuse(
+                rt,
+                format_args!("cannot write {shown}.lock: it is no lock"),
             )),
             Err(error) => {
                 let why = Unread::of(&error);
@@ -64,10 +83,12 @@ fn take_over(rt: &HostRuntime, file: &str) -> io::Result<Taking> {
     let mut lock = match File::create_new(rt, name.as_str()) {
         Ok(lock) => lock,
         Err(error) if error.kind() == ErrorKind::AlreadyExists => {
-            match holder(rt, read_text(rt, name.as_str())?.as_str()) {
-                Some(process) => return Ok(Taking::Held(process)),
-                None => File::create(rt, name.as_str())?,
+            match holder_of(rt, name.as_str())? {
+                Holder::Running(process) => return Ok(Taking::Held(process)),
+                Holder::Foreign => return Ok(Taking::Foreign),
+                Holder::Gone => fs::remove_file(rt, name.as_str())?,
             }
+            File::create_new(rt, name.as_str())?
         }
         Err(error) => return Err(error),
     };
@@ -90,18 +111,33 @@ struct Running {
     start: String,
 }
 
-/// The number of the process that holds a lock of this text; `None` where it is gone.
-fn holder(rt: &HostRuntime, text: &str) -> Option<String> {
-    let mut words = text.split_ascii_whitespace();
-    let number = words.next()?;
-    if !number.bytes().all(|byte| byte.is_ascii_digit()) {
-        return None;
+/// The process that holds the lock in a file. An empty one was left by a process that was killed while
+/// it made it.
+fn holder_of(rt: &HostRuntime, name: &str) -> io::Result<Holder> {
+    if !fs::symlink_metadata(rt, name)?.is_file() {
+        return Ok(Holder::Foreign);
     }
-    let process = process_of(rt, number)?;
-    match words.next() {
-        Some(start) if start != process.start.as_str() => None,
-        _ => Some(process.number),
+    let text = read_text(rt, name)?;
+    let mut words = text.as_str().split_ascii_whitespace();
+    let Some(number) = words.next() else {
+        return Ok(Holder::Gone);
+    };
+    let start = words.next();
+    if !is_number(number) || !is_number(start.unwrap_or("0")) || words.next().is_some() {
+        return Ok(Holder::Foreign);
     }
+    let Some(process) = process_of(rt, number) else {
+        return Ok(Holder::Gone);
+    };
+    match start {
+        Some(start) if start != process.start.as_str() => Ok(Holder::Gone),
+        _ => Ok(Holder::Running(process.number)),
+    }
+}
+
+/// Whether a word has digits alone.
+fn is_number(word: &str) -> bool {
+    word.bytes().all(|byte| byte.is_ascii_digit())
 }
 
 /// What the system says of a process, by its number; `None` where it has ended.
