@@ -74,7 +74,7 @@ either_given false f g p line fuel s t v w h = w h
 stores_well : (p : Pending) (word fuel : ℕ) (s t : State)
     → (store_result p.result word >>= λ _. goes_on p.return_address fuel) s ≡ halt places.Waiting t → WaitsWell t
 stores_well p word fuel s t h =
-    waits_bound (store_result p.result word s) _ t (λ f. waits_store_result p.result word s t f)
+    waits_bound (store_result p.result word s) _ t (λ u f. waits_store_result p.result word s u f)
     (λ _ u _ f. waits_goes_on p.return_address fuel u t f) h
 
 older_well : (story : Story) (p : Pending) (line : List ℕ) (fuel : ℕ) (s t : State)
