@@ -77,7 +77,7 @@ fn fill_letters(
 ) -> Result<(), NoMemory>
     requires store { IsStoreOf header.now store.old.store }
     requires unlocked { locks_alphabets version ≡ false }
-    requires few { length letters.now ≤ 254 }
+    requires few { length letters.now ≤ 255 }
     requires past_header { header_size ≤ text }
     requires room { text + 2 + length letters.now ≤ static_base_of (memory_of store.old.store) }
     requires words_past_header { parse ≢ 0 → header_size ≤ parse }
@@ -105,7 +105,7 @@ fn fill_words(
 ) -> Result<(), NoMemory>
     requires store { IsStoreOf header.now store.old.store }
     requires unlocked { locks_alphabets version ≡ false }
-    requires few { length letters.now ≤ 254 }
+    requires few { length letters.now ≤ 255 }
     requires past_header { header_size ≤ text }
     requires room { text + 2 + length letters.now ≤ static_base_of (memory_of store.old.store) }
     requires given { parse ≢ 0 }

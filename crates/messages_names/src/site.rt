@@ -1,6 +1,6 @@
 //! The token at which a rule is broken, and what is wanted there.
 
-use crate::tables::WANTED;
+use crate::rules::WANTED;
 use messages_contexts::{Advice, Defined, Definition, Place, Want, around};
 use std::alloc::Global;
 use syntax::Token;

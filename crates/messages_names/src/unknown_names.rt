@@ -2,8 +2,8 @@
 
 use crate::kinds::kind_of;
 use crate::nearest::{nearest, nearest_main, nearest_word};
+use crate::rules::{AFTER_WORD, FORMS, HYPHENED, IN_NAMES, WORDS};
 use crate::site::Site;
-use crate::tables::{AFTER_WORD, FORMS, HYPHENED, IN_NAMES, WORDS};
 use checker_names::{Binding, Table, find};
 use messages_contexts::{
     Advice, Place, Spot, Want, after, first_definition, is_sign, line_of, text_at,

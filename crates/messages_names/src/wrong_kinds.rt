@@ -1,8 +1,8 @@
 //! A name of the wrong kind (E23): what it is, and what is wanted where it is.
 
 use crate::kinds::{array_kind, binding_in, definition_of, kind_of, words_of};
+use crate::rules::{HINTS, MISSING};
 use crate::site::Site;
-use crate::tables::{HINTS, MISSING};
 use checker_names::{Binding, Table};
 use messages_contexts::{Advice, before, is_word};
 use messages_parts::Instead;

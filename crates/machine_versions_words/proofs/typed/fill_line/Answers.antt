@@ -1,5 +1,5 @@
 use Rattle.std.proofs.Common.{◌≡◌, ◌+◌, ◌-◌, ap, ◌∙◌, arith, length, map, take, slice_index}
-use Rattle.std.proofs.lemmas.List.{length-take-le}
+use Rattle.std.proofs.lemmas.List.{length-take}
 use Rattle.zcore_standard.specs.Input.{codes_typed, small}
 use Rattle.zcore_versions.specs.Reading.{letters_for}
 use Rattle.zcore_versions.specs.Versions.{versioned}
@@ -28,9 +28,8 @@ overflow_sub-most c =
 pub fill_letters-requires-clause-few : goal.fill_letters-requires-clause-few
 fill_letters-requires-clause-few c =
     let size : length c.put_small_letters-count.new.letters ≡ 255 = c.put_small_letters-count.array_long in
-    let long = length-take-le c.put_small_letters-count.result c.put_small_letters-count.new.letters
-    (omega (arith, size, c.put_small_letters-count.ensures.most, c.type_inv.memory c.args.text)) in
-    omega (arith, long, c.put_small_letters-count.ensures.most, c.type_inv.memory c.args.text)
+    let long = length-take c.put_small_letters-count.result c.put_small_letters-count.new.letters in
+    omega (arith, long, size)
 
 pub fill_letters-requires-clause-past_header : goal.fill_letters-requires-clause-past_header
 fill_letters-requires-clause-past_header c =
@@ -40,9 +39,7 @@ pub fill_letters-requires-clause-room : goal.fill_letters-requires-clause-room
 fill_letters-requires-clause-room c =
     let is = c.memory-memory.ensures ∙ ap memory_of c.store.ensures in
     let r = takes_letters (memory_of c.args.store.now.store) c.args.text c.args.parse c.requires.right c.requires.given in
-    let size : length c.put_small_letters-count.new.letters ≡ 255 = c.put_small_letters-count.array_long in
-    let long = length-take-le c.put_small_letters-count.result c.put_small_letters-count.new.letters
-    (omega (arith, size, c.put_small_letters-count.ensures.most, c.type_inv.memory c.args.text)) in
+    let long = length-take c.put_small_letters-count.result c.put_small_letters-count.new.letters in
     omega (
       arith,
       r.room,
