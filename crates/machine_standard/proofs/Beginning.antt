@@ -1,7 +1,8 @@
 -- The machine and the store of a story that was loaded.
-use Rattle.std.proofs.Common.{◌≡◌, ◌≤◌, ℕ, zero, suc, Bool, true, false, List, [], length, take, refl, ap, sym, ◌∙◌}
+use Rattle.std.proofs.Common.{◌≡◌, ◌≤◌, ℕ, zero, suc, Bool, true, false, List, [], length, take, ap, sym, ◌∙◌}
 use Rattle.std.proofs.Common.{subst, arith, Ok, Option}
 use Rattle.std.specs.Prelude.{nat_le}
+use Rattle.std.proofs.lemmas.Bool.{lt-leb}
 use Rattle.std.proofs.lemmas.List.{length-take-le}
 use Rattle.zcore.specs.declared.standard_state.StandardState.{StandardState}
 use Rattle.zcore.specs.declared.header.Header.{Header}
@@ -62,7 +63,7 @@ no_locks : (number : ℕ) → is_played number ≡ true → nat_le number 2 ≡ 
 no_locks zero e = absurd (cc)
 no_locks (suc zero) e = absurd (cc)
 no_locks (suc (suc zero)) e = absurd (cc)
-no_locks (suc (suc (suc n))) e = refl
+no_locks (suc (suc (suc n))) e = lt-leb (suc (suc (suc n))) 2 (omega arith)
 
 played_version : (version : StoryVersion) → is_played version.number ≡ true
     → (version.routine_offset ≤ longest_story) × (version.text_offset ≤ longest_story) → IsPlayedVersion version

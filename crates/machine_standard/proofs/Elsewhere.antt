@@ -61,14 +61,6 @@ record IsAlike (version : StoryVersion) : Type 0 where
 abbrev version_of : ℕ → ℕ → ℕ → StoryVersion
 version_of number routines texts = record { number = number; routine_offset = routines; text_offset = texts }
 
-first_alike : (routines texts : ℕ) → IsAlike (version_of 1 routines texts)
-unfolding all_below told_alike
-first_alike routines texts = record { two = refl; one = refl; none = refl; several = refl }
-
-second_alike : (routines texts : ℕ) → IsAlike (version_of 2 routines texts)
-unfolding all_below told_alike
-second_alike routines texts = record { two = refl; one = refl; none = refl; several = refl }
-
 third_alike : (routines texts : ℕ) → IsAlike (version_of 3 routines texts)
 unfolding all_below told_alike
 third_alike routines texts = record { two = refl; one = refl; none = refl; several = refl }
@@ -147,43 +139,38 @@ played_cases number e =
           inr (leb-true 7 number parts.0, leb-true number 8 parts.1)
     ]
 
-not_played : (number : ℕ) → is_played number ≡ true → ((number ≡ 0) ⊎ ((number ≡ 6) ⊎ (9 ≤ number))) → ⊥
-not_played number e other = elim (played_cases number e) [
-  | inl p ↦ elim other [
-    | inl q ↦ omega (arith, p.0, q)
-    | inr q ↦ elim q [
-      | inl r ↦ omega (arith, p.1, r)
-      | inr r ↦ omega (arith, p.1, r)
-    ]
-  ]
-  | inr p ↦ elim other [
-    | inl q ↦ omega (arith, p.0, q)
-    | inr q ↦ elim q [
-      | inl r ↦ omega (arith, p.0, r)
-      | inr r ↦ omega (arith, p.1, r)
-    ]
-  ]
+not_played : (number : ℕ) → is_played number ≡ true → (number ≤ 2) ⊎ ((number ≡ 6) ⊎ (9 ≤ number)) → ⊥
+not_played number e (inl q) = elim (played_cases number e) [
+  | inl p ↦ omega (arith, p.0, q)
+  | inr p ↦ omega (arith, p.0, q)
+]
+not_played number e (inr (inl q)) = elim (played_cases number e) [
+  | inl p ↦ omega (arith, p.1, q)
+  | inr p ↦ omega (arith, p.0, q)
+]
+not_played number e (inr (inr q)) = elim (played_cases number e) [
+  | inl p ↦ omega (arith, p.1, q)
+  | inr p ↦ omega (arith, p.1, q)
 ]
 
 by_number : (number routines texts first second : ℕ) → is_played number ≡ true → is_left number first ≡ false
     → of_opcode (version_of number routines texts) (opcode_of first second) ≡ None
 unfolding is_left
-by_number 0 routines texts first second e late = absurd (not_played 0 e (inl refl))
-by_number 1 routines texts first second e late =
-    bytes_alike (version_of 1 routines texts) first second (first_alike routines texts) refl late
-by_number 2 routines texts first second e late =
-    bytes_alike (version_of 2 routines texts) first second (second_alike routines texts) refl late
-by_number 3 routines texts first second e late =
+by_number zero routines texts first second e late = absurd (not_played 0 e (inl (omega arith)))
+by_number (suc zero) routines texts first second e late = absurd (not_played 1 e (inl (omega arith)))
+by_number (suc (suc zero)) routines texts first second e late = absurd (not_played 2 e (inl (omega arith)))
+by_number (suc (suc (suc zero))) routines texts first second e late =
     bytes_alike (version_of 3 routines texts) first second (third_alike routines texts) refl late
-by_number 4 routines texts first second e late =
+by_number (suc (suc (suc (suc zero)))) routines texts first second e late =
     bytes_alike (version_of 4 routines texts) first second (fourth_alike routines texts) refl late
-by_number 5 routines texts first second e late = refl
-by_number 6 routines texts first second e late = absurd (not_played 6 e (inr (inl refl)))
-by_number 7 routines texts first second e late =
+by_number (suc (suc (suc (suc (suc zero))))) routines texts first second e late = refl
+by_number (suc (suc (suc (suc (suc (suc zero)))))) routines texts first second e late = absurd (not_played 6 e (inr (inl refl)))
+by_number (suc (suc (suc (suc (suc (suc (suc zero))))))) routines texts first second e late =
     bytes_alike (version_of 7 routines texts) first second (seventh_alike routines texts) refl late
-by_number 8 routines texts first second e late = refl
+by_number (suc (suc (suc (suc (suc (suc (suc (suc zero)))))))) routines texts first second e late = refl
 by_number (suc (suc (suc (suc (suc (suc (suc (suc (suc number))))))))) routines texts first second e late =
-    absurd (not_played (number + 9) e (inr (inr (omega arith))))
+    absurd (not_played (suc (suc (suc (suc (suc (suc (suc (suc (suc number))))))))) e
+    (inr (inr (omega arith))))
 
 none_there : {A : Type 0} (code : Bool) (o : Option A) → o ≡ None → (if code then o else None) ≡ None
 none_there true o e = e

@@ -126,11 +126,12 @@ fn holder_of(rt: &HostRuntime, name: &str) -> io::Result<Holder> {
     if !is_number(number) || !is_number(start.unwrap_or("0")) || words.next().is_some() {
         return Ok(Holder::Foreign);
     }
-    match process_of(rt, number) {
-        Some(process) if process.start.as_str() == start.unwrap_or(process.start.as_str()) => {
-            Ok(Holder::Running(process.number))
-        }
-        _ => Ok(Holder::Gone),
+    let Some(process) = process_of(rt, number) else {
+        return Ok(Holder::Gone);
+    };
+    match start {
+        Some(start) if start != process.start.as_str() => Ok(Holder::Gone),
+        _ => Ok(Holder::Running(process.number)),
     }
 }
 

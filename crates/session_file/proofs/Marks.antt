@@ -1,5 +1,5 @@
 -- What is kept of the lines of play reads back.
-use Rattle.std.proofs.Common.{◌≡◌, ◌++◌, ◌∙◌, ℕ, Bool, true, false, List, [], ◌∷◌, Some, refl, ap}
+use Rattle.std.proofs.Common.{◌≡◌, ◌++◌, ℕ, Bool, true, false, List, [], ◌∷◌, Some, refl, ap}
 use Rattle.std.specs.Prelude.{option_map}
 use Rattle.session_file.specs.Lines.{begins_line, is_begun_after, mark_byte, marked, unmarked}
 

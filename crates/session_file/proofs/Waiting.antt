@@ -1,25 +1,8 @@
 -- What is left of a reader's bytes while some of them wait.
-use Rattle.std.proofs.Common.{
-  ◌≡◌,
-  ◌+◌,
-  ◌++◌,
-  ◌∙◌,
-  ℕ,
-  List,
-  [],
-  Option,
-  Some,
-  None,
-  length,
-  take,
-  drop,
-  ap,
-  sym,
-  arith,
-  drop_of_length-le,
-}
+use Rattle.std.proofs.Common.{◌≡◌, ◌+◌, ◌++◌, ◌∙◌, ℕ, List, [], Option, Some, None, length, take, drop, ap, sym}
+use Rattle.std.proofs.Common.{arith, drop_of_length-le}
 use Rattle.std.proofs.lemmas.List.{append_assoc, drop-drop, take-append-drop}
-use Rattle.std.specs.Io.KnownBytes.{Consumes, IsAtEnd, Keeps, prepend_known}
+use Rattle.std.specs.Io.KnownBytes.{Consumes, IsAtEnd, Keeps}
 use Rattle.session_file.specs.Waiting.{left_of}
 
 -- bytes that were read wait, where none waited
@@ -28,13 +11,6 @@ pub read_waits : (given : ℕ) (before : List ℕ) (old new : Option (List ℕ))
 read_waits given before None new read none consumed = tt
 read_waits given before (Some xs) None read none consumed = absurd consumed
 read_waits given before (Some xs) (Some ys) read none consumed = sym consumed ∙ sym (ap (λ l. l ++ xs) none)
-
--- nothing was read, where nothing waited
-pub none_waits : (given : ℕ) (before : List ℕ) (old new : Option (List ℕ)) → drop given before ≡ []
-    → Keeps old new → Keeps (left_of given before old) (left_of 0 [] new)
-none_waits given before None new none kept = tt
-none_waits given before (Some xs) None none kept = absurd kept
-none_waits given before (Some xs) (Some ys) none kept = kept ∙ sym (ap (λ l. l ++ xs) none)
 
 -- bytes that wait are given on
 pub given_on : (given n : ℕ) (read : List ℕ) (reader : Option (List ℕ))
