@@ -119,21 +119,25 @@ fn near_word(
     Ok(None)
 }
 
-/// The reserved word that may be meant by a name that is not known, of those that can be there.
-///
-/// # Errors
-///
-/// `AllocError` if memory is refused.
-pub fn nearest_word(site: Site<'_, '_>, wanted: Want) -> Result<Option<&'static str>, AllocError> {
-    let words: &[&'static str] = match wanted {
+/// The reserved words that can be in the place of a name.
+fn words_for(site: Site<'_, '_>, wanted: Want) -> &'static [&'static str] {
+    match wanted {
         Want::Value => &["true", "false", "nothing"],
         Want::Routine => &["parent", "child", "sibling"],
         Want::Constant if is_in_routine(site.tokens, site.at) => &["default"],
         Want::Property if is_attribute(site.tokens, after(site.at, 1)) => &["has"],
         Want::Property => &["name"],
         _ => &[],
-    };
-    near_word(site.alloc, site.token.text, words)
+    }
+}
+
+/// The reserved word that may be meant by a name that is not known, of those that can be there.
+///
+/// # Errors
+///
+/// `AllocError` if memory is refused.
+pub fn nearest_word(site: Site<'_, '_>, wanted: Want) -> Result<Option<&'static str>, AllocError> {
+    near_word(site.alloc, site.token.text, words_for(site, wanted))
 }
 
 /// The number of the token of the first routine by whose name `Main` may be meant.
