@@ -1,11 +1,12 @@
 //! What is in story files, without running them.
 
+use crate::broken;
 use crate::names::shown_mark;
-use crate::unread::{Unread, regular_story};
-use crate::{broken, refuse};
+use crate::unread::regular_story;
 use blorb::BlorbFault;
 use messages_explanations::Program;
 use session::{LoadFault, RunFault};
+use session_keeping::{Unread, refuse};
 use std::fmt::Display;
 use std::io;
 use std::process::ExitCode;

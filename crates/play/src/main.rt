@@ -4,14 +4,10 @@
 mod checking;
 mod filling;
 mod graphical;
-mod keeping;
-mod lock;
 mod names;
-mod options;
 mod place;
 mod reading;
 mod screen;
-mod seed;
 mod standing;
 mod stop;
 mod transcript;
@@ -21,27 +17,22 @@ ghost use Rattle.terminal.specs.Range.{IsInRange};
 
 use crate::checking::{check, take_mode};
 use crate::graphical::refused_as_graphical;
-use crate::keeping::{Keeping, Kept};
-use crate::lock::Lock;
 use crate::names::{given_words, has_marked};
 use crate::place::{Placed, map_in, rows_in};
 use crate::reading::story_in;
 use crate::screen::Screen;
-use crate::seed::{seeded, told_seed};
 use crate::stop::Stop;
 use crate::transcript::Transcript;
 use map_text::Row;
 use messages_explanations::Program;
 use session::{Mode, Place, RunFault, Session, run, status};
 use session_file::{Later, Typed, count_lines};
+use session_keeping::{Keeping, Kept, Lock, REFUSED, refuse, seeded, told_seed};
 use std::fmt::Display;
 use std::io::{Cursor, IsTerminal, Read, Write};
 use std::process::ExitCode;
 use terminal::play::{Asked, Words, take_format, words_of};
 use terminal::{OneLine, Wrapped};
-
-/// The exit status where the story cannot be played.
-const REFUSED: u8 = 1;
 
 /// The exit status where an answer is to be explained that is none.
 const UNKNOWN: u8 = 2;
@@ -73,12 +64,6 @@ fn main(rt: HostRuntime) -> ExitCode {
             }
         }
     }
-}
-
-/// Says on standard error why the story is not played.
-pub(crate) fn refuse<W: Display + Drop>(rt: &HostRuntime, why: W) -> ExitCode {
-    let _ = eprintln!(rt; "play: {why}");
-    ExitCode::from(REFUSED)
 }
 
 /// Prints the explanation of an answer, or the names of all answers with their titles.

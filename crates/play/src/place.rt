@@ -1,18 +1,13 @@
 //! Which routine and line a story is in, by the map of its addresses.
 
-use crate::refuse;
 use crate::standing::Standing;
 use map_text::{MapFault, Row, heading, read_map, row_at};
 use session::{Mode, Place, Session};
+use session_keeping::{read_whole, refuse};
 use std::alloc::Global;
 use std::fmt;
-use std::fs::File;
-use std::io::{self, Read};
 use std::process::ExitCode;
 use terminal::OneLine;
-
-/// The most bytes of a map: 64 MB.
-const MOST_BYTES: usize = 67_108_864;
 
 /// The first byte of the instruction that prints the text at a packed address, `print_paddr` of a
 /// large constant (Z-Machine Standards Document 1.1, section 14). Two bytes follow it.
@@ -183,17 +178,6 @@ pub fn map_in(rt: &HostRuntime, name: &str) -> Result<Vec<u8>, ExitCode> {
         )),
         Err(_) => Err(refuse(rt, format_args!("cannot read {shown}"))),
     }
-}
-
-/// The bytes of a file; `None` if there are too many. One byte more than may be is read at most.
-pub fn read_whole(rt: &HostRuntime, name: &str) -> io::Result<Option<Vec<u8>>> {
-    let file = File::open(rt, name)?;
-    let mut text = Vec::new(rt.alloc());
-    file.take(MOST_BYTES as u64 + 1).read_to_end(&mut text)?;
-    if text.len() > MOST_BYTES {
-        return Ok(None);
-    }
-    Ok(Some(text))
 }
 
 /// The rows of the map of a story.

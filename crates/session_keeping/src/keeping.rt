@@ -4,10 +4,10 @@ ghost use Rattle.std.specs.Prelude.{IfOk};
 ghost use Rattle.terminal.specs.Range.{IsInRange};
 
 use crate::options::{Begun, options_in, options_of};
-use crate::place::read_whole;
-use crate::refuse;
+use crate::refusal::refuse;
 use crate::seed::seeded;
 use crate::unread::Unread;
+use crate::whole::read_whole;
 use session_file::{
     Heading, LinesFault, heading_in, heading_of, lines_in, story_line, whole_length,
 };

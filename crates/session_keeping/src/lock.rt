@@ -1,6 +1,6 @@
 //! The lock of a session's file, so that no two processes play on one session.
 
-use crate::refuse;
+use crate::refusal::refuse;
 use crate::unread::Unread;
 use std::fs::{self, File};
 use std::io::{self, ErrorKind, Read, Write};
