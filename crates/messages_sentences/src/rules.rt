@@ -45,6 +45,12 @@ fn too_large(site: Site<'_, '_>, program: &Program<'_>) -> Result<Option<String>
     ))
 }
 
+/// What the names of a program are. A function of its own: within its caller the proof is too long.
+fn table_of<'a>(alloc: Global, program: &Program<'a>) -> Result<Table, AllocError> {
+    let directives: &[Directive<'a>] = &program.directives;
+    tabulate(directives, alloc)
+}
+
 /// What is wrong at a token, by the number of a rule that the tree tells of.
 fn by_program(
     site: Site<'_, '_>,
@@ -54,8 +60,7 @@ fn by_program(
     if rule == EXPRESSION_TOO_LARGE {
         return too_large(site, program);
     }
-    let directives: &[Directive<'_>] = &program.directives;
-    match tabulate(directives, site.alloc) {
+    match table_of(site.alloc, program) {
         Ok(table) => by_names(site, &table, rule),
         Err(refused) => Err(refused),
     }
