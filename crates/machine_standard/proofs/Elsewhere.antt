@@ -14,8 +14,8 @@ use Rattle.zcore_standard.specs.Opcodes.{numbered, plain, opcode_of}
 use Rattle.zcore_standard_loading.specs.Loading.{is_played}
 use Rattle.zcore_versions.specs.declared.version.StoryVersion.{StoryVersion}
 use Rattle.zcore_versions.specs.Operations.{of_opcode, older_at}
-use Rattle.machine_code.specs.Left.{is_left, told_from, two_operand_from, one_operand_from, no_operand_from}
-use Rattle.machine_code.specs.Left.{several_operand_from}
+use Rattle.machine_units.specs.Left.{is_left, told_from, two_operand_from, one_operand_from, no_operand_from}
+use Rattle.machine_units.specs.Left.{several_operand_from}
 use Rattle.machine_arms.specs.Passed.{flown}
 use Rattle.machine_arms.proofs.Flown.{flown_goes_on, flown_steps}
 

@@ -18,7 +18,7 @@ use Rattle.zcore_standard.specs.Loaded.{Loaded, seeded}
 use Rattle.zcore_standard.specs.Unicode.{default_characters}
 use Rattle.zcore_versions.specs.declared.version.StoryVersion.{StoryVersion}
 use Rattle.zcore_versions.specs.SmallObjects.{small_defaults_size}
-use Rattle.zcore_versions.specs.Versions.{Story}
+use Rattle.zcore_versions.specs.Versions.{Story, version_in}
 
 -- The version (11.1)
 
@@ -29,17 +29,6 @@ number_of story = slice_index story 0
 -- Versions 1, 2 and 6 are not played.
 abbrev pub is_played : ℕ → Bool
 is_played number = (nat_le 3 number && nat_le number 5) || (nat_le 7 number && nat_le number 8)
-
--- what packed addresses count from: in version 7 a word of the header says it, in eights of bytes (1.2.3)
-abbrev pub offset_in : List ℕ → ℕ → ℕ
-offset_in story word = if number_of story == 7 then 8 * word_at story word else 0
-
-abbrev pub version_in : List ℕ → StoryVersion
-version_in story = record {
-  number = number_of story;
-  routine_offset = offset_in story 0x28;
-  text_offset = offset_in story 0x2A;
-}
 
 -- The story in its file (11.1.6)
 

@@ -47,12 +47,6 @@ const COLOURS: usize = 0x2C;
 /// The revision of the Standard.
 const REVISION: usize = 0x32;
 
-/// The words from which packed addresses of routines and of texts count in version 7, in eights of
-/// bytes (section 1.2.3).
-const ROUTINES_WORD: usize = 0x28;
-
-const TEXTS_WORD: usize = 0x2A;
-
 /// From version 4 on: a fixed-space style is there, and nothing else that Flags 1 tells of.
 const FIXED_SPACE: u8 = 0x10;
 
@@ -199,33 +193,6 @@ fn story_length(file: &[u8]) -> usize
     }
 }
 
-/// From where packed addresses count that a word of the header tells of.
-fn offset(memory: &[u8], word: usize) -> u32
-    requires header { HasHeader memory.now }
-    requires word { word + 2 ≤ header_size }
-    ensures offset { result ≡ definitions.offset_in memory.now word }
-    ensures near { result ≤ longest_story }
-{
-    if memory[0] == 7 {
-        8 * u32::from(read_word(memory, word))
-    } else {
-        0
-    }
-}
-
-/// The version of a memory.
-fn version(memory: &[u8]) -> StoryVersion
-    requires header { HasHeader memory.now }
-    ensures version { result ≡ definitions.version_in memory.now }
-    ensures near { (result.routine_offset ≤ longest_story) × (result.text_offset ≤ longest_story) }
-{
-    StoryVersion {
-        number: memory[0],
-        routine_offset: offset(memory, ROUTINES_WORD),
-        text_offset: offset(memory, TEXTS_WORD),
-    }
-}
-
 /// The version by which a machine of versions 5 and 8 counts packed addresses.
 fn counted_as(number: u8) -> Version
     ensures { (memory : List ℕ) → slice_index memory 0 ≡ number → scale_of result ≡ scale_in memory }
@@ -287,7 +254,7 @@ fn read_header(memory: &[u8]) -> Result<(Header, StoryVersion), HeaderFault>
     let Some(dictionary) = read_dictionary(memory, read_word(memory, DICTIONARY_WORD)) else {
         return Err(HeaderFault::WrongAddress);
     };
-    Ok((header_of(memory, dictionary), version(memory)))
+    Ok((header_of(memory, dictionary), StoryVersion::of_story(memory)))
 }
 
 /// Cuts a file to its story.

@@ -1,7 +1,8 @@
 mod TextFacts
 mod SmallKeeping
 mod SmallFalls
-mod CallFalls
+pub mod CallFalls
+pub mod ZeroValues
 pub mod Stepping
 mod SmallWaitingParts
 mod SmallWaiting

@@ -1,7 +1,33 @@
 //! The version of a story file.
 
-ghost use Rattle.std.specs.Prelude.{◌≡◌, ◌≤◌, ◌+◌, ◌*◌};
+ghost use Rattle.std.specs.Prelude.{◌≡◌, ◌≤◌, ◌+◌, ◌*◌, length, true};
+ghost use Rattle.zcore.specs.Layout.{header_size, longest_story};
 ghost use Rattle.zcore_versions.specs.Versions as versions;
+
+use ztext::read_word;
+
+/// The byte that holds a story's version (Z-Machine Standards Document 1.1, section 11.1).
+const VERSION: usize = 0;
+
+/// The words from which packed addresses of routines and of texts count in version 7, in eights of bytes
+/// (section 1.2.3).
+const ROUTINES_WORD: usize = 0x28;
+
+const TEXTS_WORD: usize = 0x2A;
+
+/// From where packed addresses count that a word of the header tells of.
+fn offset(story: &[u8], word: usize) -> u32
+    requires header { header_size ≤ length story.now }
+    requires word { word + 2 ≤ header_size }
+    ensures offset { result ≡ versions.offset_in story.now word }
+    ensures near { result ≤ longest_story }
+{
+    if story[VERSION] == 7 {
+        8 * u32::from(read_word(story, word))
+    } else {
+        0
+    }
+}
 
 /// The version of a story, and what its packed addresses count from (Z-Machine Standards Document 1.1,
 /// section 1.2.3).
@@ -18,6 +44,49 @@ pub struct StoryVersion {
 }
 
 impl StoryVersion {
+    /// The version of a story.
+    pub fn of_story(story: &[u8]) -> StoryVersion
+        requires header { header_size ≤ length story.now }
+        ensures version { result ≡ versions.version_in story.now }
+        ensures near { (result.routine_offset ≤ longest_story) × (result.text_offset ≤ longest_story) }
+    {
+        StoryVersion {
+            number: story[VERSION],
+            routine_offset: offset(story, ROUTINES_WORD),
+            text_offset: offset(story, TEXTS_WORD),
+        }
+    }
+
+    /// By how many bytes packed addresses count (section 1.2.3).
+    pub fn scale(self) -> u32
+        ensures same { result ≡ versions.scale_of self }
+        ensures few { result ≤ 8 }
+    {
+        match self.number {
+            0..=3 => 2,
+            8 => 8,
+            _ => 4,
+        }
+    }
+
+    /// The address that a packed address of a routine stands for.
+    pub fn routine_at(self, packed: u16) -> u32
+        requires { self.routine_offset ≤ longest_story }
+        ensures { result ≡ versions.routine_at self packed }
+    {
+        self.scale() * packed as u32 + self.routine_offset
+    }
+
+    /// Whether it is the same version as another, with packed addresses that count from the same places.
+    #[inline]
+    pub fn is_same(self, other: StoryVersion) -> bool
+        ensures { result ≡ true → self ≡ other }
+    {
+        self.number == other.number
+            && self.routine_offset == other.routine_offset
+            && self.text_offset == other.text_offset
+    }
+
     /// Whether this is version 1 or 2, in which a text can lock an alphabet.
     pub fn locks_alphabets(self) -> bool
         ensures { result ≡ versions.locks_alphabets self }
