@@ -3,6 +3,7 @@ mod SmallKeeping
 mod SmallFalls
 pub mod CallFalls
 pub mod ZeroValues
+pub mod VersionCalls
 pub mod Stepping
 mod SmallWaitingParts
 mod SmallWaiting
