@@ -4,6 +4,7 @@ mod SmallFalls
 pub mod CallFalls
 pub mod ZeroValues
 pub mod VersionCalls
+pub mod KnownDecoding
 pub mod Stepping
 mod SmallWaitingParts
 mod SmallWaiting
