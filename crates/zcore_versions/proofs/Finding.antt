@@ -1,5 +1,5 @@
 -- Where an operation of versions up to 4 is found, the version is one of them.
-use Rattle.std.proofs.Common.{◌≡◌, ◌<◌, ℕ, List, length, refl, subst, Bool, true, false, cond, Option, Some, None}
+use Rattle.std.proofs.Common.{◌≡◌, ◌<◌, ℕ, List, length, ap, refl, subst, Bool, true, false, cond, Option, Some, None}
 use Rattle.std.proofs.Common.{slice_index, ◌+◌}
 use Rattle.std.proofs.lemmas.Bool.{and_parts, ltb-true}
 use Rattle.std.specs.Prelude.{◌==◌, ◌&&◌, nat_le}
@@ -139,3 +139,61 @@ pub found_within : (version : StoryVersion) (memory : List ℕ) (at : ℕ) (oper
 found_within version memory at operation e =
     code_within (is_code memory at) memory at
     (of_opcode version (opcode_of (slice_index memory at) (slice_index memory (at + 1)))) operation refl e
+
+-- What is performed otherwise of the profile is the opcode's operation in the profile
+
+known_by : (b : Bool) (o operation : Operation) → cond b (Some (Known o)) None ≡ Some (Known operation) → o ≡ operation
+known_by true o operation e = cc
+known_by false o operation e = absurd (cc)
+
+not_split : {P : Type 0} (b : Bool) (operation : Operation) → cond b (Some SplitWindow) None ≡ Some (Known operation) → P
+not_split true operation e = absurd (cc)
+not_split false operation e = absurd (cc)
+
+action_known : (version : ℕ) (action : Option Action) (operation : Operation)
+    → otherwise version action ≡ Some (Known operation) → action ≡ Some (actions.Profile operation)
+action_known version None operation e = absurd (cc)
+action_known version (Some (actions.Profile o)) operation e =
+    ap (λ (k : Operation). Some (actions.Profile k)) (known_by (differs version o) o operation e)
+action_known version (Some (actions.Standard o)) operation e = not_split (version == 3 && splits o) operation e
+action_known version (Some (actions.Older o)) operation e = absurd (cc)
+
+older_not : {P : Type 0} (b : Bool) (o : Option OlderOperation) (operation : Operation)
+    → cond b (as_older o) None ≡ Some (actions.Profile operation) → P
+older_not true None operation e = absurd (cc)
+older_not true (Some o) operation e = absurd (cc)
+older_not false o operation e = absurd (cc)
+
+in_standard : {P : Type 0} (b : Bool) (o : StandardOperation) (old : Bool) (older : Option OlderOperation)
+    (operation : Operation) → or_else (cond b (Some (actions.Standard o)) None) (cond old (as_older older) None)
+    ≡ Some (actions.Profile operation) → P
+in_standard true o old older operation e = absurd (cc)
+in_standard false o old older operation e = older_not old older operation e
+
+in_profile : (b : Bool) (o : Operation) (old : Bool) (older : Option OlderOperation) (operation : Operation)
+    → or_else (cond b (Some (actions.Profile o)) None) (cond old (as_older older) None)
+    ≡ Some (actions.Profile operation) → Some o ≡ Some operation
+in_profile true o old older operation e = cc
+in_profile false o old older operation e = older_not old older operation e
+
+profile_by : (version : ℕ) (p : Option Operation) (q : Option StandardOperation) (old : Bool)
+    (older : Option OlderOperation) (operation : Operation)
+    → or_else (newer_in version p q) (cond old (as_older older) None) ≡ Some (actions.Profile operation)
+    → p ≡ Some operation
+profile_by version p (Some o) old older operation e =
+    in_standard (nat_le (first_version_of o) version && nat_le version last_version) o old older operation e
+profile_by version (Some o) None old older operation e =
+    in_profile (nat_le (first_version o) version && nat_le version last_version) o old older operation e
+profile_by version None None old older operation e = older_not old older operation e
+
+known_late : (late : Bool) (version : ℕ) (action : Option Action) (operation : Operation)
+    → cond late None (otherwise version action) ≡ Some (Known operation) → action ≡ Some (actions.Profile operation)
+known_late true version action operation e = absurd (cc)
+known_late false version action operation e = action_known version action operation e
+
+pub known_profile : (version : StoryVersion) (opcode : Opcode) (operation : Operation)
+    → of_opcode version opcode ≡ Some (Known operation) → profile_of opcode ≡ Some operation
+known_profile version opcode operation e =
+    profile_by version.number (profile_of opcode) (standard_of opcode) (nat_le 1 version.number && nat_le version.number 4)
+    (older_of opcode) operation
+    (known_late (is_late version) version.number (action_in version.number opcode) operation e)

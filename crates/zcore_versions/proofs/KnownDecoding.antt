@@ -13,9 +13,14 @@ use Rattle.zcore.specs.Instruction.{Instruction, Opcode, branch, byte, decode, g
 use Rattle.zcore.specs.Instruction.{opcode_of, operands, result_variable, short_form, variable_form, variable_types}
 use Rattle.zcore.specs.Operations.{has_more_types, least_operands, most_operands, no_operand, one_operand, row_of}
 use Rattle.zcore.specs.Operations.{several_operand, two_operand}
+use Rattle.std.proofs.lemmas.Bool.{eqb-false, eqb-true, le-ltb, lt-ltb, ltb-false, ltb-true}
 use Rattle.zcore.proofs.Ahead.{chosen, read, refused}
 use Rattle.zcore_standard.specs.Instruction.{branch_after, counted, decode_row, result_at, row_types, types_at}
 use Rattle.zcore_standard.specs.Instruction as parts
+use Rattle.zcore_standard.specs.declared.opcode.Numbering.TheVariants.{Two, One, Zero, Several, Extended}
+use Rattle.zcore_standard.specs.Opcodes as opcodes
+use Rattle.zcore_standard.specs.Opcodes.{numbered}
+use Rattle.zcore_standard.specs.Operations.{profile_of}
 
 -- the operands that an opcode has, by its row
 record Rows (memory : List ℕ) (at : ℕ) (x : Opcode × ℕ) : Type 0 where
@@ -183,3 +188,104 @@ decoded_row memory at x h =
     ∙ ap (λ v. v >>= λ (to : Option Branch × ℕ).
     Ok (record { operands = q.value.0; result = r.value.0; branch = to.0 }, to.1)) t.first
     ∙ ap read_as t.second)
+
+-- The operation is that of the opcode
+
+abbrev opcode_in : Result (Opcode × ℕ) Fault → Option Operation
+opcode_in (Ok x) = Some x.0.operation
+opcode_in (Err cause) = None
+
+abbrev some_in : Result Operation Fault → Option Operation
+some_in (Ok operation) = Some operation
+some_in (Err cause) = None
+
+operation_by : (o : Option Operation) (types : List ℕ) (after : ℕ) (x : Opcode × ℕ) → opcode_of o types after ≡ Ok x
+    → o ≡ Some x.0.operation
+operation_by None types after x h = absurd (refused _ x h)
+operation_by (Some operation) types after x h =
+    chosen (Some operation ≡ Some x.0.operation)
+    (nat_le (least_operands operation) (length types) && nat_le (length types) (most_operands operation)) _ _ x
+    (λ _ e. ap opcode_in e) (λ _ e. absurd (refused _ x e)) h
+
+known_is : (o : Option Operation) (operation : Operation) → known o ≡ Ok operation → o ≡ Some operation
+known_is None operation e = absurd (refused _ operation e)
+known_is (Some other) operation e = ap some_in e
+
+variable_operation : (memory : List ℕ) (first after : ℕ) (x : Opcode × ℕ) → variable_form memory first after ≡ Ok x
+    → (if nat_lt first 224 then two_operand (first % 32) else several_operand (first % 32)) ≡ Some x.0.operation
+variable_operation memory first after x h =
+    let o = if nat_lt first 224 then two_operand (first % 32) else several_operand (first % 32) in
+    let p = read (known o) _ x h in
+    let q = read (variable_types memory (has_more_types p.value) after) _ x p.second in
+    let r = read (given_types q.value.0) _ x q.second in
+    known_is o p.value p.first ∙ operation_by (Some p.value) r.value q.value.1 x r.second
+
+-- the operation of a first byte
+abbrev first_operation : ℕ → Option Operation
+first_operation first =
+    if nat_lt first 128 then two_operand (first % 32)
+    else (if nat_lt first 176 then one_operand (first % 16)
+    else (if nat_lt first 192 then no_operand (first % 16)
+    else (if nat_lt first 224 then two_operand (first % 32)
+    else several_operand (first % 32))))
+
+form_operation : (memory : List ℕ) (first after : ℕ) (x : Opcode × ℕ)
+    → (if first == 190 then Err faults.Opcode
+    else (if nat_lt first 128 then long_form first after
+    else (if nat_lt first 192 then short_form first after
+    else variable_form memory first after))) ≡ Ok x
+    → ((first == 190) ≡ false) × (first_operation first ≡ Some x.0.operation)
+form_operation memory first after x h =
+    let goal : Type 0 = ((first == 190) ≡ false) × (first_operation first ≡ Some x.0.operation) in
+    chosen goal (first == 190) _ _ x (λ _ e. absurd (refused _ x e))
+    (λ other e. (other, chosen (first_operation first ≡ Some x.0.operation) (nat_lt first 128) _ _ x
+    (λ long f. rw long (operation_by (two_operand (first % 32)) _ after x f))
+    (λ long f. chosen (first_operation first ≡ Some x.0.operation) (nat_lt first 192) _ _ x
+    (λ short g. chosen (first_operation first ≡ Some x.0.operation) (first / 16 % 4 == 3) _ _ x
+    (λ none i.
+    let high : nat_lt first 176 ≡ false = le-ltb first 176 (omega (arith, eqb-true (first / 16 % 4) 3 none, ltb-false first 128 long, ltb-true first 192 short)) in
+    rw (long, high, short) (operation_by (no_operand (first % 16)) [] after x i))
+    (λ one i.
+    let low : nat_lt first 176 ≡ true = lt-ltb first 176 (omega (arith, eqb-false (first / 16 % 4) 3 one, ltb-false first 128 long, ltb-true first 192 short)) in
+    rw (long, low) (operation_by (one_operand (first % 16)) _ after x i)) g)
+    (λ short g.
+    let high : nat_lt first 176 ≡ false = le-ltb first 176 (omega (arith, ltb-false first 192 short)) in
+    rw (long, high, short) (variable_operation memory first after x g)) f) e)) h
+
+profile_form : (long short without two : Bool) (first : ℕ)
+    → profile_of
+    (if long then numbered Two (first % 32)
+    else (if short then numbered One (first % 16)
+    else (if without then numbered Zero (first % 16)
+    else (if two then numbered Two (first % 32)
+    else numbered Several (first % 32)))))
+    ≡ (if long then two_operand (first % 32)
+    else (if short then one_operand (first % 16)
+    else (if without then no_operand (first % 16)
+    else (if two then two_operand (first % 32)
+    else several_operand (first % 32)))))
+profile_form true short without two first = refl
+profile_form false true without two first = refl
+profile_form false false true two first = refl
+profile_form false false false true first = refl
+profile_form false false false false first = refl
+
+-- the profile's operation of the two bytes at an address where it decodes an instruction
+pub decoded_profile : (memory : List ℕ) (at second : ℕ) (x : Instruction × ℕ) → decode memory at ≡ Ok x
+    → profile_of (opcodes.opcode_of (slice_index memory at) second) ≡ Some x.0.operation
+unfolding decode opcode
+decoded_profile memory at second x h =
+    let first = slice_index memory at in
+    let p = read (opcode memory at) _ x h in
+    let q = read (operands memory p.value.0.types p.value.1) _ x p.second in
+    let r = read (result_variable memory p.value.0.operation q.value.1) _ x q.second in
+    let t = read (branch memory p.value.0.operation r.value.1) _ x r.second in
+    let b = read (byte memory at) _ p.value p.first in
+    let form = form_operation memory first (at + 1) p.value
+    (subst (λ (b : ℕ × ℕ). (if b.0 == 190 then Err faults.Opcode
+    else (if nat_lt b.0 128 then long_form b.0 b.1
+    else (if nat_lt b.0 192 then short_form b.0 b.1
+    else variable_form memory b.0 b.1))) ≡ Ok p.value) (byte_there memory at b.value b.first) b.second) in
+    ap (λ (e : Bool). profile_of (if e then numbered Extended second else opcodes.plain first)) form.0
+    ∙ profile_form (nat_lt first 128) (nat_lt first 176) (nat_lt first 192) (nat_lt first 224) first ∙ form.1
+    ∙ ap (λ (o : Operation). Some o) (ap operation_in t.second)

@@ -6,14 +6,17 @@ use Rattle.zcore.specs.declared.instruction.Operation.{Operation}
 use Rattle.zcore.specs.declared.instruction.Operation.TheVariants as known
 use Rattle.zcore.specs.declared.next.Next.{Next}
 use Rattle.zcore.specs.Execution.{first}
+use Rattle.zcore.specs.Instruction.{Instruction, decode}
 use Rattle.zcore.specs.Operations.{has_result}
 use Rattle.zcore.specs.Parts.{operand_values}
 use Rattle.zcore.specs.State.{Out, State, bound, done, halt}
 use Rattle.zcore_standard.specs.Place.{Here, within}
 use Rattle.zcore_versions.specs.declared.operations.VersionOperation.TheVariants.{Known}
 use Rattle.zcore_versions.specs.Calls.{call_older}
-use Rattle.zcore_versions.specs.Operations.{is_call}
-use Rattle.zcore_versions.specs.Performing.{perform, perform_older, perform_other}
+use Rattle.zcore_versions.specs.Operations.{is_call, older_at}
+use Rattle.zcore_versions.specs.Machine.{any_step, chosen}
+use Rattle.zcore_versions.specs.Performing.{execute_older, perform, perform_older, perform_other}
+use Rattle.zcore_versions.proofs.KnownDecoding.{decoded_row}
 use Rattle.zcore_versions.specs.Versions.{Story}
 
 -- a call stores a result only where its operation does
@@ -55,3 +58,17 @@ pub executes_older : (story : Story) (operation : Operation) (here : Here) (afte
 unfolding perform
 executes_older story operation here after result to operands s is none =
     by_values (operand_values operands s) story operation here after result to is none
+
+-- a call at an address is a step of the machine
+pub calls_are_steps : (story : Story) (here : Here) (s : State) (x : Instruction × ℕ)
+    → older_at story.version s.memory here.next.program_counter ≡ Some (Known x.0.operation)
+    → decode s.memory here.next.program_counter ≡ Ok x → is_call x.0.operation ≡ true
+    → (has_result x.0.operation ≡ false → x.0.result ≡ None)
+    → any_step story here s ≡ within here (bound (operand_values x.0.operands s) (λ values.
+    call_older story.version here.next x.1 x.0.result (first values) (drop 1 values)))
+unfolding any_step
+calls_are_steps story here s x older read is none =
+    ap (λ o. chosen story o here s) older
+    ∙ ap (λ r. execute_older story (Known x.0.operation) here r s)
+    (decoded_row s.memory here.next.program_counter x read)
+    ∙ executes_older story x.0.operation here x.1 x.0.result x.0.branch x.0.operands s is none
