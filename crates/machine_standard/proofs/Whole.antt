@@ -35,7 +35,9 @@ use Rattle.machine_standard_windows.specs.TurnState.{place, Keeps}
 use Rattle.machine_standard_windows.specs.declared.turn_state.TurnState.{TurnState}
 use Rattle.machine_versions_words.specs.Taking.{CanBeGivenBy}
 use Rattle.machine_standard.specs.Loads.{IsStoreFor}
-use Rattle.machine_standard.proofs.Elsewhere.{flown_elsewhere}
+use Rattle.zcore_versions.specs.Operations.{older_at}
+use Rattle.zcore_versions.specs.Versions.{is_late}
+use Rattle.machine_standard.proofs.Elsewhere.{flown_early, flown_late_elsewhere}
 use Rattle.machine_standard.specs.Playing.{Ahead, OpensStandard}
 use Rattle.machine_standard.specs.declared.turn.StandardMachine.{StandardMachine}
 
@@ -61,18 +63,34 @@ or_true true = refl
 or_true false = refl
 
 -- a step that units do is a step of this machine
-flown_goes_on : (story : Story) (turn : TurnState) (here next : Next) (s t : State) → story.loaded.own_alphabets ≡ None
-    → is_played story.version.number ≡ true → flown story.version.number here s ≡ done next t
+by_profile : (story : Story) (turn : TurnState) (here next : Next) (s t : State) → story.loaded.own_alphabets ≡ None
+    → (step here s ≡ done next t) × (older_at story.version s.memory here.program_counter ≡ None)
     → any_step story (place turn here) s ≡ done (place turn next) t
-flown_goes_on story turn here next s t own played e =
-    let x = flown_elsewhere story.version here next s t played e in
+by_profile story turn here next s t own x =
     steps_elsewhere story (place turn here) s own x.1 (ap ends_in_fault x.0)
     (ap (closes_none (place turn here)) x.0 ∙ or_true (is_plain (place turn here)))
     ∙ ap (within (place turn here)) x.0
 
+flown_by : (late : Bool) (story : Story) (turn : TurnState) (here next : Next) (s t : State)
+    → is_late story.version ≡ late → story.loaded.own_alphabets ≡ None → is_played story.version.number ≡ true
+    → flown story.version here s ≡ done next t → any_step story (place turn here) s ≡ done (place turn next) t
+flown_by true story turn here next s t late own played e =
+    by_profile story turn here next s t own (flown_late_elsewhere story.version here next s t late e)
+flown_by false story turn here next s t early own played e =
+    elim (flown_early story (place turn here) next s t played early e) [
+      | inl x ↦ by_profile story turn here next s t own x
+      | inr called ↦ called
+    ]
+
+flown_goes_on : (story : Story) (turn : TurnState) (here next : Next) (s t : State) → story.loaded.own_alphabets ≡ None
+    → is_played story.version.number ≡ true → flown story.version here s ≡ done next t
+    → any_step story (place turn here) s ≡ done (place turn next) t
+flown_goes_on story turn here next s t own played e =
+    flown_by (is_late story.version) story turn here next s t refl own played e
+
 pub reaches_any : (story : Story) (turn : TurnState) (count : ℕ) (first here : Next) (s t : State)
     → story.loaded.own_alphabets ≡ None → is_played story.version.number ≡ true
-    → ReachesBy (flown story.version.number) count first s here t
+    → ReachesBy (flown story.version) count first s here t
     → ReachesBy (any_step story) count (place turn first) s (place turn here) t
 reaches_any story turn zero first here s t own played h = (ap (place turn) h.0, h.1)
 reaches_any story turn (suc count) first here s t own played h = (
@@ -89,9 +107,9 @@ none_there (Some x) e = absurd (cc)
 -- steps by units, where the story has no alphabets of its own
 pub quickly_ahead : {E : Type 0} (s t : Recording Contents) (r : Result Next E) (story : Story) (first : Next)
     → is_some story.loaded.own_alphabets ≡ false → is_played story.version.number ≡ true
-    → IfOk r (λ here. Passed story.version.number first s here t) → IfOk r (λ here. Ahead story first s here t)
+    → IfOk r (λ here. Passed story.version first s here t) → IfOk r (λ here. Ahead story first s here t)
 quickly_ahead s t (Ok here) story first own played passed =
-    let p : Passed story.version.number first s here t = passed in
+    let p : Passed story.version first s here t = passed in
     record {
       goes_on = p.goes_on;
       reached = λ turn text.

@@ -11,7 +11,7 @@ use Rattle.zcore.specs.declared.place.Fault.{Fault}
 use Rattle.zcore.specs.declared.place.Fault.TheVariants as faults
 use Rattle.zcore.specs.Instruction.{Instruction, Opcode, branch, byte, decode, given_types, known, long_form, opcode}
 use Rattle.zcore.specs.Instruction.{opcode_of, operands, result_variable, short_form, variable_form, variable_types}
-use Rattle.zcore.specs.Operations.{has_more_types, least_operands, most_operands, no_operand, one_operand, row_of}
+use Rattle.zcore.specs.Operations.{has_more_types, has_result, least_operands, most_operands, no_operand, one_operand, row_of}
 use Rattle.zcore.specs.Operations.{several_operand, two_operand}
 use Rattle.std.proofs.lemmas.Bool.{eqb-false, eqb-true, le-ltb, lt-ltb, ltb-false, ltb-true}
 use Rattle.zcore.proofs.Ahead.{chosen, read, refused}
@@ -289,3 +289,24 @@ decoded_profile memory at second x h =
     ap (λ (e : Bool). profile_of (if e then numbered Extended second else opcodes.plain first)) form.0
     ∙ profile_form (nat_lt first 128) (nat_lt first 176) (nat_lt first 192) (nat_lt first 224) first ∙ form.1
     ∙ ap (λ (o : Operation). Some o) (ap operation_in t.second)
+
+abbrev result_in : Result (Option ℕ × ℕ) Fault → Option ℕ
+result_in (Ok x) = x.0
+result_in (Err cause) = None
+
+abbrev stored_in : Result (Instruction × ℕ) Fault → Option ℕ
+stored_in (Ok x) = x.0.result
+stored_in (Err cause) = None
+
+-- an instruction has a result only where its operation stores one
+pub decoded_result : (memory : List ℕ) (at : ℕ) (x : Instruction × ℕ) → decode memory at ≡ Ok x
+    → has_result x.0.operation ≡ false → x.0.result ≡ None
+unfolding decode result_variable
+decoded_result memory at x h none =
+    let p = read (opcode memory at) _ x h in
+    let q = read (operands memory p.value.0.types p.value.1) _ x p.second in
+    let r = read (result_variable memory p.value.0.operation q.value.1) _ x q.second in
+    let t = read (branch memory p.value.0.operation r.value.1) _ x r.second in
+    let same : has_result p.value.0.operation ≡ false = ap has_result (ap operation_in t.second) ∙ none in
+    let e : result_variable memory p.value.0.operation q.value.1 ≡ Ok (None, q.value.1) = rw same refl in
+    sym (ap stored_in t.second) ∙ sym (ap result_in r.first) ∙ ap result_in e
