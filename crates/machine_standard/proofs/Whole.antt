@@ -1,6 +1,6 @@
 -- A whole turn of the Standard's machine.
 use Rattle.std.proofs.Common.{◌≡◌, ◌≢◌, ℕ, zero, suc, ◌≤◌, List, [], ◌++◌, length, take, drop, refl, ap, sym, ◌∙◌}
-use Rattle.std.proofs.Common.{subst, arith, slice_index, Result, Ok, Err, Bool, true, false, cond, Option, None, Some, is_some}
+use Rattle.std.proofs.Common.{subst, arith, slice_index, Result, Ok, Err, Bool, true, false, cond, Option, None, Some, is_some, inl, inr}
 use Rattle.std.specs.Prelude.{◌==◌, ◌||◌, if◌then◌else◌, IfOk, OnOk}
 use Rattle.std.proofs.lemmas.List.{drop-append-le, drop_all, take_all}
 use Rattle.journal.specs.Recording.{Recording}
@@ -17,6 +17,7 @@ use Rattle.zcore_standard.specs.Machine.{standard_ended, shown, with_standard_st
 use Rattle.zcore_standard.specs.Windows.{begun_at, lower}
 use Rattle.zcore_standard.specs.Streams.{heard_of}
 use Rattle.zcore_versions.specs.Laws.{WaitsForLine}
+use Rattle.zcore.specs.Execution.{step}
 use Rattle.zcore_versions.specs.Machine.{any, any_step}
 use Rattle.zcore_versions.specs.Reading.{can_be_given}
 use Rattle.zcore_versions.specs.Versions.{Story}
