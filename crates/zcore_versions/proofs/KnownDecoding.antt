@@ -298,15 +298,21 @@ abbrev stored_in : Result (Instruction × ℕ) Fault → Option ℕ
 stored_in (Ok x) = x.0.result
 stored_in (Err cause) = None
 
+result_none : (memory : List ℕ) (operation : Operation) (at : ℕ) (x : Option ℕ × ℕ)
+    → result_variable memory operation at ≡ Ok x → has_result operation ≡ false → x.0 ≡ None
+unfolding result_variable
+result_none memory operation at x h none =
+    let e : result_variable memory operation at ≡ Ok (None, at) = rw none refl in
+    sym (ap result_in h) ∙ ap result_in e
+
 -- an instruction has a result only where its operation stores one
 pub decoded_result : (memory : List ℕ) (at : ℕ) (x : Instruction × ℕ) → decode memory at ≡ Ok x
     → has_result x.0.operation ≡ false → x.0.result ≡ None
-unfolding decode result_variable
+unfolding decode
 decoded_result memory at x h none =
     let p = read (opcode memory at) _ x h in
     let q = read (operands memory p.value.0.types p.value.1) _ x p.second in
     let r = read (result_variable memory p.value.0.operation q.value.1) _ x q.second in
     let t = read (branch memory p.value.0.operation r.value.1) _ x r.second in
-    let same : has_result p.value.0.operation ≡ false = ap has_result (ap operation_in t.second) ∙ none in
-    let e : result_variable memory p.value.0.operation q.value.1 ≡ Ok (None, q.value.1) = rw same refl in
-    sym (ap stored_in t.second) ∙ sym (ap result_in r.first) ∙ ap result_in e
+    sym (ap stored_in t.second)
+    ∙ result_none memory p.value.0.operation q.value.1 r.value r.first (ap has_result (ap operation_in t.second) ∙ none)
