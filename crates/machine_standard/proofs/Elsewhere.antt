@@ -269,22 +269,22 @@ flown_early story here next s t played early e =
     elim (by_number version.number version.routine_offset version.text_offset memory at p.x played early
     (flown_goes_on version here.next next s t e) p.is_there read) [
       | inl other ↦ inl (
-          ap (λ (b : Bool). if b then execute here.next (decode memory at) s else fault faults.Code s) p.is_there
-          ∙ ap (λ r. execute here.next r s) read
-          ∙ bound_alike (operand_values p.x.0.operands s)
-              (perform operation here.next p.x.1 p.x.0.result p.x.0.branch)
-              (perform_in version operation here.next p.x.1 p.x.0.result p.x.0.branch)
-              (λ values. sym (performs_other version operation here.next p.x.1 p.x.0.result p.x.0.branch values other.1))
-          ∙ p.performed,
-          other.0,
-        )
+        ap (λ (b : Bool). if b then execute here.next (decode memory at) s else fault faults.Code s) p.is_there
+            ∙ ap (λ r. execute here.next r s) read
+            ∙ bound_alike (operand_values p.x.0.operands s)
+            (perform operation here.next p.x.1 p.x.0.result p.x.0.branch)
+            (perform_in version operation here.next p.x.1 p.x.0.result p.x.0.branch)
+            (λ values. sym (performs_other version operation here.next p.x.1 p.x.0.result p.x.0.branch values other.1))
+            ∙ p.performed,
+        other.0,
+      )
       | inr call ↦ inr (
           calls_are_steps story here s p.x call.0 read call.1 (decoded_result memory at p.x read)
           ∙ ap (within here) (bound_alike (operand_values p.x.0.operands s)
-              (λ values. call_older version here.next p.x.1 p.x.0.result (first values) (drop 1 values))
-              (perform_in version operation here.next p.x.1 p.x.0.result p.x.0.branch)
-              (λ values. sym (performs_older version operation here.next p.x.1 p.x.0.result p.x.0.branch values call.1
-              early)) ∙ p.performed))
+          (λ values. call_older version here.next p.x.1 p.x.0.result (first values) (drop 1 values))
+          (perform_in version operation here.next p.x.1 p.x.0.result p.x.0.branch)
+          (λ values. sym (performs_older version operation here.next p.x.1 p.x.0.result p.x.0.branch values call.1
+          early)) ∙ p.performed))
     ]
 
 none_there : {A : Type 0} (code : Bool) (o : Option A) → o ≡ None → (if code then o else None) ≡ None

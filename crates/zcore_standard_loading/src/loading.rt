@@ -254,7 +254,10 @@ fn read_header(memory: &[u8]) -> Result<(Header, StoryVersion), HeaderFault>
     let Some(dictionary) = read_dictionary(memory, read_word(memory, DICTIONARY_WORD)) else {
         return Err(HeaderFault::WrongAddress);
     };
-    Ok((header_of(memory, dictionary), StoryVersion::of_story(memory)))
+    Ok((
+        header_of(memory, dictionary),
+        StoryVersion::of_story(memory),
+    ))
 }
 
 /// Cuts a file to its story.

@@ -238,19 +238,22 @@ form_operation : (memory : List ℕ) (first after : ℕ) (x : Opcode × ℕ)
 form_operation memory first after x h =
     let goal : Type 0 = ((first == 190) ≡ false) × (first_operation first ≡ Some x.0.operation) in
     chosen goal (first == 190) _ _ x (λ _ e. absurd (refused _ x e))
-    (λ other e. (other, chosen (first_operation first ≡ Some x.0.operation) (nat_lt first 128) _ _ x
-    (λ long f. rw long (operation_by (two_operand (first % 32)) _ after x f))
-    (λ long f. chosen (first_operation first ≡ Some x.0.operation) (nat_lt first 192) _ _ x
-    (λ short g. chosen (first_operation first ≡ Some x.0.operation) (first / 16 % 4 == 3) _ _ x
-    (λ none i.
-    let high : nat_lt first 176 ≡ false = le-ltb first 176 (omega (arith, eqb-true (first / 16 % 4) 3 none, ltb-false first 128 long, ltb-true first 192 short)) in
-    rw (long, high, short) (operation_by (no_operand (first % 16)) [] after x i))
-    (λ one i.
-    let low : nat_lt first 176 ≡ true = lt-ltb first 176 (omega (arith, eqb-false (first / 16 % 4) 3 one, ltb-false first 128 long, ltb-true first 192 short)) in
-    rw (long, low) (operation_by (one_operand (first % 16)) _ after x i)) g)
-    (λ short g.
-    let high : nat_lt first 176 ≡ false = le-ltb first 176 (omega (arith, ltb-false first 192 short)) in
-    rw (long, high, short) (variable_operation memory first after x g)) f) e)) h
+    (λ other e. (
+      other,
+      chosen (first_operation first ≡ Some x.0.operation) (nat_lt first 128) _ _ x
+          (λ long f. rw long (operation_by (two_operand (first % 32)) _ after x f))
+          (λ long f. chosen (first_operation first ≡ Some x.0.operation) (nat_lt first 192) _ _ x
+          (λ short g. chosen (first_operation first ≡ Some x.0.operation) (first / 16 % 4 == 3) _ _ x
+          (λ none i.
+          let high : nat_lt first 176 ≡ false = le-ltb first 176 (omega (arith, eqb-true (first / 16 % 4) 3 none, ltb-false first 128 long, ltb-true first 192 short)) in
+          rw (long, high, short) (operation_by (no_operand (first % 16)) [] after x i))
+          (λ one i.
+          let low : nat_lt first 176 ≡ true = lt-ltb first 176 (omega (arith, eqb-false (first / 16 % 4) 3 one, ltb-false first 128 long, ltb-true first 192 short)) in
+          rw (long, low) (operation_by (one_operand (first % 16)) _ after x i)) g)
+          (λ short g.
+          let high : nat_lt first 176 ≡ false = le-ltb first 176 (omega (arith, ltb-false first 192 short)) in
+          rw (long, high, short) (variable_operation memory first after x g)) f) e,
+    )) h
 
 profile_form : (long short without two : Bool) (first : ℕ)
     → profile_of
