@@ -2,15 +2,17 @@
 
 ghost use Rattle.std.specs.Prelude.{◌≡◌, ◌∷◌, [], bytes_eq, codes, false};
 ghost use Rattle.session.specs.Game.{IsSessionOf, Game};
-ghost use Rattle.session.specs.Heard.{Hears};
+ghost use Rattle.session.specs.Heard.{Hears, TellsStatus};
 ghost use Rattle.session_lines.specs.Standing.{Standing};
 
 use crate::reply::Reply;
 use crate::session::Session;
+use journal::NoMemory;
 use session_lines::{WriteFailed, put, tell};
 use std::io::Write;
+use zcore::Place;
 
-/// Answers a line: the two commands of the player, or a line for the story.
+/// Answers a line: a command of the player, or a line for the story.
 pub(crate) fn answer<W: Write>(
     line: &[u8],
     writer: &mut W,
@@ -51,6 +53,8 @@ fn answer_other<W: Write>(
             }
             None => tell(writer, b"[Nothing to redo.]\n"),
         }
+    } else if session.asks(line) {
+        answer_status(writer, session)
     } else {
         match session.reply(line) {
             Reply::Taken(text) => tell(writer, text),
@@ -58,5 +62,24 @@ fn answer_other<W: Write>(
             Reply::Over => tell(writer, b"[The story is over.]\n"),
             Reply::NoMemory => tell(writer, b"[No memory: line not taken.]\n"),
         }
+    }
+}
+
+/// Answers a line that asks for the status line.
+fn answer_status<W: Write>(writer: &mut W, session: &mut Session) -> Result<(), WriteFailed>
+    ensures says { (game : Game) (s : Standing) → IsSessionOf game s session.old
+        → TellsStatus game s (W.contents writer.old) (W.contents writer.new) result }
+    ensures same { session.new ≡ session.old }
+{
+    if session.place() != Place::Waiting {
+        return tell(writer, b"[The story is over.]\n");
+    }
+    match session.status_line() {
+        Ok([]) => tell(writer, b"[No status line.]\n"),
+        Ok(line) => {
+            put(writer, line)?;
+            tell(writer, b"\n")
+        }
+        Err(NoMemory) => tell(writer, b"[No memory: line not taken.]\n"),
     }
 }

@@ -12,5 +12,6 @@ mod OpcodeSamples
 mod TextSamples
 mod CallSamples
 mod LineSamples
+mod StatusSamples
 pub mod Finding
 mod Table
