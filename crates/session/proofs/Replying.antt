@@ -10,7 +10,7 @@ use Rattle.zcore.specs.Turn.{is_waiting}
 use Rattle.zcore_standard.specs.Input.{can_be_typed}
 use Rattle.zcore_versions.specs.Versions.{Story}
 use Rattle.session.specs.Modes.{loaded_in, is_typable_with}
-use Rattle.session.specs.Asking.{asks_with, told_at}
+use Rattle.session.specs.Asking.{asks_with, told_at, told_waiting}
 use Rattle.session.specs.Game.{Game, telling_of, text_on, place_on, is_typable_on, answer, asks_on, asked_on, status_on}
 use Rattle.session_lines.specs.Standing.{Standing, longest_line, undo_of, redo_of, taken, is_typable_byte}
 use Rattle.session_lines.specs.Transcript.{answer_of, Answer, note, answer_undo, answer_redo, answer_line}
@@ -124,6 +124,26 @@ some n h = grind (arith, nat_tests)
 
 none_of : (n : ℕ) → n ≤ 0 → (n == 0) ≡ true
 none_of n h = grind (arith, nat_tests)
+
+-- the reply to a line that asks, case by case
+pub reply_over : (game : Game) (s : Standing) → is_waiting (place_on game s.done) ≡ false
+    → asked_reply game s false ≡ note (codes "[The story is over.]")
+reply_over game s e = ap (λ b. if b then told_waiting (status_on game s.done) else note (codes "[The story is over.]")) e
+
+reply_waiting : (game : Game) (s : Standing) (line : List ℕ) → is_waiting (place_on game s.done) ≡ true
+    → line ≡ status_on game s.done → asked_reply game s false ≡ told_waiting line
+reply_waiting game s line e f =
+    ap (λ b. if b then told_waiting (status_on game s.done) else note (codes "[The story is over.]")) e
+    ∙ ap told_waiting (sym f)
+
+pub reply_none : (game : Game) (s : Standing) (line : List ℕ) → is_waiting (place_on game s.done) ≡ true
+    → line ≡ status_on game s.done → line ≡ [] → asked_reply game s false ≡ note (codes "[No status line.]")
+reply_none game s line e f g = reply_waiting game s line e f ∙ ap told_waiting g
+
+pub reply_line : (game : Game) (s : Standing) (line : List ℕ) → is_waiting (place_on game s.done) ≡ true
+    → line ≡ status_on game s.done → 0 < length line → asked_reply game s false ≡ note line
+reply_line game s line e f g = reply_waiting game s line e f
+    ∙ ap (λ b. if b then note (codes "[No status line.]") else note line) (some (length line) g)
 
 pub undo_some : (s : Standing) → 0 < s.kept → answer_undo s
     ≡ record { reply = note (codes "[Undone.]"); standing = undo_of s }
