@@ -19,8 +19,8 @@ pub use calls::{call, call_packed, give_back, return_popped, unpacked};
 pub use jumps::{branch_on, branch_target, check_argument_count, jump, test_branch};
 pub use lines::read;
 pub use machine_decoding::Ending;
-pub use numbers::signed_digits;
 pub use memory::{load_byte, load_word, store_byte, store_word, word_address};
+pub use numbers::signed_digits;
 pub use printing::{
     print_address, print_character, print_characters, print_inline, print_number, print_packed,
     print_return,

@@ -12,11 +12,12 @@ use std::io::{self, IsTerminal, Write};
 const OVER: &[u8] = b"[The story is over.]\n";
 
 /// What it answers else that the story does not know of, and behind which the story still waits.
-const NOTICES: [&[u8]; 5] = [
+const NOTICES: [&[u8]; 6] = [
     b"[Undone.]\n",
     b"[Nothing to undo.]\n",
     b"[Nothing to redo.]\n",
     b"[Line refused.]\n",
+    b"[No status line.]\n",
     b"[No memory: line not taken.]\n",
 ];
 

@@ -3,7 +3,9 @@
 ghost use Rattle.std.specs.Prelude.{◌≡◌, ◌∷◌, [], bytes_eq, codes, false};
 ghost use Rattle.session.specs.Game.{IsSessionOf, Game};
 ghost use Rattle.session.specs.Heard.{Hears, TellsStatus};
+ghost use Rattle.session.specs.Asking.{told_waiting};
 ghost use Rattle.session_lines.specs.Standing.{Standing};
+ghost use Rattle.session_lines.specs.Wrote.{WroteText};
 
 use crate::reply::Reply;
 use crate::session::Session;
@@ -75,11 +77,18 @@ fn answer_status<W: Write>(writer: &mut W, session: &mut Session) -> Result<(), 
         return tell(writer, b"[The story is over.]\n");
     }
     match session.status_line() {
-        Ok([]) => tell(writer, b"[No status line.]\n"),
-        Ok(line) => {
-            put(writer, line)?;
-            tell(writer, b"\n")
-        }
+        Ok(line) => put_status(writer, line),
         Err(NoMemory) => tell(writer, b"[No memory: line not taken.]\n"),
     }
+}
+
+/// Writes a status line, or that there is none.
+fn put_status<W: Write>(writer: &mut W, line: &[u8]) -> Result<(), WriteFailed>
+    ensures { WroteText (W.contents writer.old) (W.contents writer.new) (told_waiting line.now) result }
+{
+    if line.len() == 0 {
+        return tell(writer, b"[No status line.]\n");
+    }
+    put(writer, line)?;
+    tell(writer, b"\n")
 }
