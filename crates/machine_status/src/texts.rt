@@ -67,9 +67,21 @@ pub(crate) fn join_lines(text: &mut Vec<u8>, start: usize)
     ensures { text.new.items
         ≡ take start text.old.items ++ definitions.on_one_line (drop start text.old.items) }
 {
-    for at in start..text.len() {
-        if text[at] == b'\n' {
-            text[at] = b' ';
-        }
+    join(&mut text[start..]);
+}
+
+/// Makes each new line a space.
+fn join(bytes: &mut [u8])
+    ensures { bytes.new ≡ definitions.on_one_line bytes.old }
+{
+    for i in 0..bytes.len() {
+        bytes[i] = joined(bytes[i]);
     }
+}
+
+/// A new line as a space.
+fn joined(byte: u8) -> u8
+    ensures { result ≡ definitions.joined byte }
+{
+    if byte == b'\n' { b' ' } else { byte }
 }

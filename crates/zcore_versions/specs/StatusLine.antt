@@ -34,8 +34,11 @@ unfoldable pub short_name : Story → State → ℕ → List ℕ
 short_name story s object = printed (print_object story nowhere 0 object (record s { text = [] }))
 
 -- a new line as a space
+abbrev pub joined : ℕ → ℕ
+joined byte = if is_new_line byte then 32 else byte
+
 abbrev pub on_one_line : List ℕ → List ℕ
-on_one_line text = map (λ byte. if is_new_line byte then 32 else byte) text
+on_one_line text = map joined text
 
 -- The line
 
