@@ -118,11 +118,16 @@ fn put_name(
     // what was printed was no part of a turn
     store.abandon();
     match printed {
-        Ok(_) => join_lines(text, start),
-        Err(End::Stop(_)) => text.truncate(start),
-        Err(End::Memory) => return Err(NoMemory),
+        Ok(_) => {
+            join_lines(text, start);
+            Ok(())
+        }
+        Err(End::Stop(_)) => {
+            text.truncate(start);
+            Ok(())
+        }
+        Err(End::Memory) => Err(NoMemory),
     }
-    Ok(())
 }
 
 /// Adds the score and the number of moves.

@@ -1,13 +1,32 @@
-use Rattle.std.proofs.Common.{◌≡◌, ◌++◌, ℕ, List, [], take, drop, length, ap, sym, ◌∙◌, subst, append-nil}
-use Rattle.zcore.specs.State.{State}
-use Rattle.zcore_versions.specs.StatusLine.{nowhere, on_one_line, short_name}
-use Rattle.zcore_versions.specs.SmallObjects.{print_object}
-use Rattle.machine_frames.specs.States.{state_of}
-use Rattle.machine_status.proofs.Naming.{all_taken, given_up_is, name_printed, name_unread, none_left}
+use Rattle.std.proofs.Common.{sym, ◌∙◌}
+use Rattle.zcore_versions.specs.Versions.{versioned}
+use Rattle.machine_status.proofs.Naming.{beginning_kept, given_up_is, name_added, no_name_added}
 use Rattle.machine_status.proofs.line.put_name.Goals as goal
 
--- NOT CHECKED: names of goals and parts are guesses.
--- In each branch: c.print_object-printed.ensures.told.told is ToldBy: .0 is GoesOn old mid (or GivenUp, for End::Memory), .1 the
--- equation of print_object, on state_of old (drop (length was) was), which none_left makes state_of old []. GoesOn.beginning,
--- .fixed with abandon's cells, beginning, kept, fixed give `same` by given_up_is; `name` is join_lines' text: take start mid is
--- take start was (Grew.front), which all_taken makes was, and on_one_line of drop start mid, which name_printed says of short_name.
+pub returns-in-Ok-clause-name : goal.returns-in-Ok-clause-name
+returns-in-Ok-clause-name c = name_added (versioned c.args.loaded.now c.args.version) c.args.store.now.store
+    c.print_object-printed.new.store.store c.args.text.now.items c.print_object-printed.new.text.items _ c.args.object _
+    c.in-Ok.ensures.told.told.1 c.print_object-printed.ensures.text.front c.join_lines.ensures
+
+pub returns-in-Stop-clause-name : goal.returns-in-Stop-clause-name
+returns-in-Stop-clause-name c = no_name_added (versioned c.args.loaded.now c.args.version) c.args.store.now.store
+    c.print_object-printed.new.store.store c.args.text.now.items c.print_object-printed.new.text.items _ c.args.object _
+    c.in-Stop.ensures.told.told.1 c.print_object-printed.ensures.text.front c.truncate.ensures.items
+
+pub returns-in-Ok-clause-same : goal.returns-in-Ok-clause-same
+returns-in-Ok-clause-same c =
+    let b = beginning_kept _ _ _ _ _ _ c.print_object-printed.ensures.told.told in
+    given_up_is _ _ (c.abandon.ensures.cells ∙ b.0 ∙ c.requires.begun) (c.abandon.ensures.fixed ∙ b.1)
+    (c.abandon.ensures.beginning ∙ b.0) (c.abandon.ensures.kept ∙ sym c.requires.idle)
+
+pub returns-in-Stop-clause-same : goal.returns-in-Stop-clause-same
+returns-in-Stop-clause-same c =
+    let b = beginning_kept _ _ _ _ _ _ c.print_object-printed.ensures.told.told in
+    given_up_is _ _ (c.abandon.ensures.cells ∙ b.0 ∙ c.requires.begun) (c.abandon.ensures.fixed ∙ b.1)
+    (c.abandon.ensures.beginning ∙ b.0) (c.abandon.ensures.kept ∙ sym c.requires.idle)
+
+pub returns-in-Memory-clause-same : goal.returns-in-Memory-clause-same
+returns-in-Memory-clause-same c =
+    let b = beginning_kept _ _ _ _ _ _ c.print_object-printed.ensures.told.told in
+    given_up_is _ _ (c.abandon.ensures.cells ∙ b.0 ∙ c.requires.begun) (c.abandon.ensures.fixed ∙ b.1)
+    (c.abandon.ensures.beginning ∙ b.0) (c.abandon.ensures.kept ∙ sym c.requires.idle)

@@ -1,0 +1,36 @@
+-- The columns of a line, one text after another.
+use Rattle.std.proofs.Common.{◌≡◌, ℕ, List, [], ◌∷◌, ◌++◌, ap, sym, ◌∙◌, append_assoc}
+use Rattle.std.specs.Prelude.{codes}
+use Rattle.zcore.specs.Arithmetic.{signed_text}
+use Rattle.zcore_versions.specs.StatusLine.{filled, global_in, minutes_text, third_column, with_score, with_time}
+
+-- two parts that were added one after the other
+both_added : (t u v x y : List ℕ) → u ≡ t ++ x → v ≡ u ++ y → v ≡ t ++ (x ++ y)
+both_added t u v x y e f = f ∙ ap (λ l. l ++ y) e ∙ append_assoc t x y
+
+-- a title, and a number
+numbered : (t u v title : List ℕ) (n g : ℕ) → u ≡ t ++ title → v ≡ u ++ signed_text n → n ≡ g
+    → v ≡ t ++ (title ++ signed_text g)
+numbered t u v title n g e f same = both_added t u v title (signed_text n) e f
+    ∙ ap (λ k. t ++ (title ++ signed_text k)) same
+
+pub score_is : (memory t u v w x y : List ℕ) (score moves : ℕ) → u ≡ t ++ codes "Score: " → v ≡ u ++ signed_text score
+    → score ≡ global_in memory 17 → w ≡ filled third_column v → x ≡ w ++ codes "Moves: " → y ≡ x ++ signed_text moves
+    → moves ≡ global_in memory 18 → y ≡ with_score memory t
+unfolding with_score
+score_is memory t u v w x y score moves a b same c d e other =
+    numbered w x y (codes "Moves: ") moves (global_in memory 18) d e other
+    ∙ ap (λ l. l ++ (codes "Moves: " ++ signed_text (global_in memory 18)))
+    (c ∙ ap (filled third_column) (numbered t u v (codes "Score: ") score (global_in memory 17) a b same))
+
+pub time_is : (memory t u v w x : List ℕ) (hours minutes : ℕ) → u ≡ t ++ codes "Time: " → v ≡ u ++ signed_text hours
+    → hours ≡ global_in memory 17 → w ≡ v ++ 58 ∷ [] → x ≡ w ++ minutes_text minutes → minutes ≡ global_in memory 18
+    → x ≡ with_time memory t
+unfolding with_time
+time_is memory t u v w x hours minutes a b same c d other =
+    let first = numbered t u v (codes "Time: ") hours (global_in memory 17) a b same in
+    let rest = both_added v w x (58 ∷ []) (minutes_text minutes) c d
+    ∙ ap (λ k. v ++ 58 ∷ minutes_text k) other in
+    let colon : List ℕ = 58 ∷ minutes_text (global_in memory 18) in
+    rest ∙ ap (λ l. l ++ colon) first ∙ append_assoc t (codes "Time: " ++ signed_text (global_in memory 17)) colon
+    ∙ ap (λ l. t ++ l) (append_assoc (codes "Time: ") (signed_text (global_in memory 17)) colon)
