@@ -1,6 +1,6 @@
 -- The columns of a line, one text after another.
-use Rattle.std.proofs.Common.{◌≡◌, ℕ, List, [], ◌∷◌, ◌++◌, ap, sym, ◌∙◌, append_assoc}
-use Rattle.std.specs.Prelude.{codes}
+use Rattle.std.proofs.Common.{◌≡◌, ℕ, List, [], ◌∷◌, ◌++◌, ap, ◌∙◌, append_assoc, Result, Ok, Err}
+use Rattle.std.specs.Prelude.{codes, OnOk}
 use Rattle.zcore.specs.Arithmetic.{signed_text}
 use Rattle.zcore_versions.specs.StatusLine.{filled, global_in, minutes_text, third_column, with_score, with_time}
 
@@ -34,3 +34,8 @@ time_is memory t u v w x hours minutes a b same c d other =
     let colon : List ℕ = 58 ∷ minutes_text (global_in memory 18) in
     rest ∙ ap (λ l. l ++ colon) first ∙ append_assoc t (codes "Time: " ++ signed_text (global_in memory 17)) colon
     ∙ ap (λ l. t ++ l) (append_assoc (codes "Time: ") (signed_text (global_in memory 17)) colon)
+
+-- what follows from what holds where no memory was refused
+pub on_ok : {E P Q : Type 0} (r : Result (Unit {0}) E) → (P → Q) → OnOk r P → OnOk r Q
+on_ok (Ok a) f p = f p
+on_ok (Err e) f p = tt
