@@ -13,5 +13,6 @@ mod TextSamples
 mod CallSamples
 mod LineSamples
 mod StatusSamples
+mod PictureSamples
 pub mod Finding
 mod Table
