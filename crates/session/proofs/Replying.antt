@@ -130,20 +130,11 @@ pub reply_over : (game : Game) (s : Standing) → is_waiting (place_on game s.do
     → asked_reply game s false ≡ note (codes "[The story is over.]")
 reply_over game s e = ap (λ b. if b then told_waiting (status_on game s.done) else note (codes "[The story is over.]")) e
 
-reply_waiting : (game : Game) (s : Standing) (line : List ℕ) → is_waiting (place_on game s.done) ≡ true
+pub reply_waiting : (game : Game) (s : Standing) (line : List ℕ) → is_waiting (place_on game s.done) ≡ true
     → line ≡ status_on game s.done → asked_reply game s false ≡ told_waiting line
 reply_waiting game s line e f =
     ap (λ b. if b then told_waiting (status_on game s.done) else note (codes "[The story is over.]")) e
     ∙ ap told_waiting (sym f)
-
-pub reply_none : (game : Game) (s : Standing) (line : List ℕ) → is_waiting (place_on game s.done) ≡ true
-    → line ≡ status_on game s.done → line ≡ [] → asked_reply game s false ≡ note (codes "[No status line.]")
-reply_none game s line e f g = reply_waiting game s line e f ∙ ap told_waiting g
-
-pub reply_line : (game : Game) (s : Standing) (line : List ℕ) → is_waiting (place_on game s.done) ≡ true
-    → line ≡ status_on game s.done → 0 < length line → asked_reply game s false ≡ note line
-reply_line game s line e f g = reply_waiting game s line e f
-    ∙ ap (λ b. if b then note (codes "[No status line.]") else note line) (some (length line) g)
 
 pub undo_some : (s : Standing) → 0 < s.kept → answer_undo s
     ≡ record { reply = note (codes "[Undone.]"); standing = undo_of s }

@@ -1,7 +1,8 @@
 //! The reply to a line.
 
 ghost use Rattle.std.specs.Prelude.{◌≡◌, ◌∷◌, [], bytes_eq, codes, false};
-ghost use Rattle.session.specs.Game.{IsSessionOf, Game};
+ghost use Rattle.session.specs.Game.{IsSessionOf, Game, InEach, place_on};
+ghost use Rattle.zcore.specs.Turn.{is_waiting};
 ghost use Rattle.session.specs.Heard.{Hears, TellsStatus};
 ghost use Rattle.session.specs.Asking.{told_waiting};
 ghost use Rattle.session_lines.specs.Standing.{Standing};
@@ -73,12 +74,22 @@ fn answer_status<W: Write>(writer: &mut W, session: &mut Session) -> Result<(), 
         → TellsStatus game s (W.contents writer.old) (W.contents writer.new) result }
     ensures same { session.new ≡ session.old }
 {
-    if session.place() != Place::Waiting {
+    if !waits(session) {
         return tell(writer, b"[The story is over.]\n");
     }
     match session.status_line() {
         Ok(line) => put_status(writer, line),
         Err(NoMemory) => tell(writer, b"[No memory: line not taken.]\n"),
+    }
+}
+
+/// Whether the story waits at the present.
+fn waits(session: &Session) -> bool
+    ensures { InEach session.now (λ game s. result ≡ is_waiting (place_on game s.done)) }
+{
+    match session.place() {
+        Place::Waiting => true,
+        _ => false,
     }
 }
 

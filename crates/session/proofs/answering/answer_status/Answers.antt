@@ -1,9 +1,24 @@
-use Rattle.std.proofs.Common.{◌≡◌, ◌==◌, ℕ, Bool, true, false, if◌then◌else◌, List, [], ◌∷◌, length, codes, ap, sym, ◌∙◌, subst}
-use Rattle.session_lines.specs.Transcript.{note}
+use Rattle.std.proofs.Common.{true, false, sym, ◌∙◌, subst}
+use Rattle.session.specs.Asking.{told_waiting}
 use Rattle.session_lines.specs.Wrote.{WroteText}
-use Rattle.session_lines.proofs.Telling.{wrote_both, wrote_first}
-use Rattle.session.specs.Heard.{asked_reply}
-use Rattle.session.proofs.Replying.{reply_over, reply_none, reply_line}
+use Rattle.session.proofs.Replying.{reply_over, reply_waiting}
 use Rattle.session.proofs.answering.answer_status.Goals as goal
 
--- NOT CHECKED: one answer for each of the five replies; the names of the goals are guesses.
+pub returns-then-not-waits-clause-says : goal.returns-then-not-waits-clause-says
+returns-then-not-waits-clause-says g c = λ game s h. (
+  false,
+  subst (λ t. WroteText (g.W.Write.contents c.args.writer.now) (g.W.Write.contents c.tell.new.writer) t c.tell.result)
+      (sym (reply_over game s (sym (c.waits.ensures game s h) ∙ c.if-not-waits.true))) c.tell.ensures,
+)
+
+pub returns-in-Ok-clause-says : goal.returns-in-Ok-clause-says
+returns-in-Ok-clause-says g c = λ game s h. (
+  false,
+  subst (λ t. WroteText (g.W.Write.contents c.args.writer.now) (g.W.Write.contents c.put_status.new.writer) t
+      c.put_status.result)
+      (sym (reply_waiting game s c.in-Ok.line.now (sym (c.waits.ensures game s h) ∙ c.if-not-waits.false)
+      (c.in-Ok.ensures.line game s h))) c.put_status.ensures,
+)
+
+pub returns-in-Err-clause-says : goal.returns-in-Err-clause-says
+returns-in-Err-clause-says g c = λ game s h. (true, c.tell-2.ensures)
