@@ -1,5 +1,6 @@
 -- The columns of a line, one text after another.
-use Rattle.std.proofs.Common.{◌≡◌, ℕ, List, [], ◌∷◌, ◌++◌, ap, ◌∙◌, append_assoc, Result, Ok, Err}
+use Rattle.std.proofs.Common.{◌≡◌, ℕ, List, [], ◌∷◌, ◌++◌, ap, sym, ◌∙◌, append_assoc, Result, Ok, Err}
+use Rattle.std.proofs.Common.{◌<◌, ◌≤◌, if◌then◌else◌, lt-ltb, le-ltb}
 use Rattle.std.specs.Prelude.{codes, OnOk}
 use Rattle.zcore.specs.Arithmetic.{signed_text}
 use Rattle.zcore_versions.specs.StatusLine.{filled, global_in, minutes_text, third_column, with_score, with_time}
@@ -39,3 +40,15 @@ time_is memory t u v w x hours minutes a b same c d other =
 pub on_ok : {E P Q : Type 0} (r : Result (Unit {0}) E) → (P → Q) → OnOk r P → OnOk r Q
 on_ok (Ok a) f p = f p
 on_ok (Err e) f p = tt
+
+-- minutes of one digit, and of more
+pub minutes_short : (t u v : List ℕ) (minutes : ℕ) → minutes < 10 → u ≡ t ++ 48 ∷ [] → v ≡ u ++ signed_text minutes
+    → v ≡ t ++ minutes_text minutes
+unfolding minutes_text
+minutes_short t u v minutes lt e f = both_added t u v (48 ∷ []) (signed_text minutes) e f
+    ∙ ap (λ b. t ++ (if b then 48 ∷ signed_text minutes else signed_text minutes)) (sym (lt-ltb lt))
+
+pub minutes_long : (t v : List ℕ) (minutes : ℕ) → 10 ≤ minutes → v ≡ t ++ signed_text minutes → v ≡ t ++ minutes_text minutes
+unfolding minutes_text
+minutes_long t v minutes le e =
+    e ∙ ap (λ b. t ++ (if b then 48 ∷ signed_text minutes else signed_text minutes)) (sym (le-ltb le))
