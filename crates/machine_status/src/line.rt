@@ -159,9 +159,10 @@ fn put_time(header: &Header, store: &Recorded<Store>, text: &mut Vec<u8>) -> Res
 fn put_minutes(text: &mut Vec<u8>, minutes: u16) -> Result<(), NoMemory>
     ensures { OnOk result (text.new.items ≡ text.old.items ++ definitions.minutes_text minutes) }
 {
-    if minutes < 10 {
-        put(text, b"0")?;
+    if minutes >= 10 {
+        return put_number(text, minutes);
     }
+    put(text, b"0")?;
     put_number(text, minutes)
 }
 

@@ -1,7 +1,11 @@
-use Rattle.std.proofs.Common.{◌≡◌, ◌∷◌, [], ◌++◌, ap, ◌∙◌, append_assoc}
-use Rattle.zcore_versions.specs.StatusLine.{minutes_text}
-use Rattle.zcore.specs.Arithmetic.{signed_text}
 use Rattle.machine_status.proofs.Columns.{minutes_short, minutes_long, on_ok}
 use Rattle.machine_status.proofs.line.put_minutes.Goals as goal
 
--- NOT CHECKED: the code below is one return for both sides of the test, so this may be two goals
+pub returns-then-minutes-ge10 : goal.returns-then-minutes-ge10
+returns-then-minutes-ge10 c = on_ok c.put_number.result
+    (minutes_long c.args.text.now.items _ c.args.minutes c.if-minutes-ge10.true) c.put_number.ensures
+
+pub returns : goal.returns
+returns c = on_ok c.put_number-2.result
+    (minutes_short c.args.text.now.items _ _ c.args.minutes c.if-minutes-ge10.false c.in_ok-put.ensures)
+    c.put_number-2.ensures
