@@ -114,7 +114,9 @@ fn put_name(
         program_counter: 0,
         fuel: 0,
     };
-    let printed = print_object(header, store, text, start, loaded, version, nowhere, 0, object);
+    let printed = print_object(
+        header, store, text, start, loaded, version, nowhere, 0, object,
+    );
     // what was printed was no part of a turn
     store.abandon();
     match printed {

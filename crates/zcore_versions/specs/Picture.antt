@@ -5,17 +5,16 @@ use Rattle.std.specs.Prelude.{◌==◌, ◌&&◌, ◌||◌, ◌+◌, ◌-◌, �
 use Rattle.std.specs.Prelude.{◌++◌, length, take, drop, map, replicate, slice_index_or, bytes_eq, Option, Some, None}
 use Rattle.std.specs.Prelude.{Result, Ok, Err}
 use Rattle.std.specs.List.{concat, join_with_byte, suffix_len}
-use Rattle.zcore.specs.declared.instruction.Instruction.{Instruction}
 use Rattle.zcore.specs.declared.place.Fault.{Fault}
 use Rattle.zcore.specs.Parts.{operand_values}
-use Rattle.zcore.specs.State.{State, Out, done, halt}
+use Rattle.zcore.specs.State.{State}
 use Rattle.zcore.specs.Turn.{after_step}
 use Rattle.zcore_standard.specs.declared.opcodes.Action.{Action}
 use Rattle.zcore_standard.specs.declared.opcodes.Action.TheVariants.{Standard}
 use Rattle.zcore_standard.specs.declared.operations.StandardOperation.{StandardOperation}
 use Rattle.zcore_standard.specs.declared.operations.StandardOperation.TheVariants.{Restart, SplitWindow, SetWindow}
 use Rattle.zcore_standard.specs.declared.operations.StandardOperation.TheVariants.{EraseWindow, EraseLine, SetCursor}
-use Rattle.zcore_standard.specs.Instruction.{decode_row}
+use Rattle.zcore_standard.specs.Instruction.{Instruction, decode_row}
 use Rattle.zcore_standard.specs.OlderOpcodes.{action_in}
 use Rattle.zcore_standard.specs.Opcodes.{opcode_of}
 use Rattle.zcore_standard.specs.Operations.{row_of}

@@ -1,7 +1,7 @@
 -- The status line of versions 1 to 3 (Z-Machine Standards Document 1.1, section 8.2). It shows an object and two numbers,
 -- which the story keeps in its first three globals. So it is made of the state alone, and can be asked for whenever the
 -- story waits.
-use Rattle.std.specs.Prelude.{◌==◌, ◌&&◌, ◌+◌, ◌-◌, ◌/◌, ◌%◌, ℕ, nat_lt, Bool, if◌then◌else◌, List, [], ◌∷◌, ◌++◌}
+use Rattle.std.specs.Prelude.{◌==◌, ◌&&◌, ◌-◌, ◌/◌, ◌%◌, ℕ, nat_lt, Bool, if◌then◌else◌, List, [], ◌∷◌, ◌++◌}
 use Rattle.std.specs.Prelude.{codes, map, replicate, slice_index}
 use Rattle.std.specs.List.{count_by}
 use Rattle.ztext.specs.Bytes.{word_at}
