@@ -20,6 +20,7 @@ pub use jumps::{branch_on, branch_target, check_argument_count, jump, test_branc
 pub use lines::read;
 pub use machine_decoding::Ending;
 pub use memory::{load_byte, load_word, store_byte, store_word, word_address};
+pub use numbers::signed_digits;
 pub use printing::{
     print_address, print_character, print_characters, print_inline, print_number, print_packed,
     print_return,

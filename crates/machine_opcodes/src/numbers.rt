@@ -7,7 +7,7 @@ use crate::arithmetic::{NEGATIVE, magnitude};
 
 /// A signed word in decimal: the characters from a place on.
 #[inline]
-pub(crate) fn signed_digits(number: u16) -> ([u8; 6], usize)
+pub fn signed_digits(number: u16) -> ([u8; 6], usize)
     ensures digits { drop result.1 result.0 ≡ signed_text number }
     ensures length { length result.0 ≡ 6 }
     ensures within { result.1 ≤ 5 }

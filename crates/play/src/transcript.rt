@@ -12,13 +12,17 @@ use std::io::{self, IsTerminal, Write};
 const OVER: &[u8] = b"[The story is over.]\n";
 
 /// What it answers else that the story does not know of, and behind which the story still waits.
-const NOTICES: [&[u8]; 5] = [
+const NOTICES: [&[u8]; 6] = [
     b"[Undone.]\n",
     b"[Nothing to undo.]\n",
     b"[Nothing to redo.]\n",
     b"[Line refused.]\n",
+    b"[No status line.]\n",
     b"[No memory: line not taken.]\n",
 ];
+
+/// What ends a status line, which is written by itself: the story did not write that line.
+const LINE_END: &[u8] = b"\n";
 
 /// How the text of a runtime fault begins and ends, after which the story quits.
 const FAULT: &[u8] = b"[Fault: ";
@@ -32,8 +36,8 @@ const LINE_OF_FAULT: &str =
 /// A writer of the transcript, for a user at a terminal. It tells the user more, on standard error;
 /// the transcript is the same. After the first runtime fault it says how to find its line. If the
 /// input is at a terminal, it says after the first answer that the story is over how to end it. After
-/// another notice it shows the story's last prompt again, if the transcript is at a terminal too. Of
-/// replies that are dropped the user is told nothing.
+/// another notice or a status line it shows the story's last prompt again, if the transcript is at a
+/// terminal too. Of replies that are dropped the user is told nothing.
 #[derive(Drop)]
 pub struct Transcript<'a, W> {
     writer: Later<W>,
@@ -53,6 +57,12 @@ pub struct Transcript<'a, W> {
 
     /// The last line of what the story wrote last; nothing where there was no memory for it.
     prompt: Vec<u8>,
+
+    /// The last line of what was written since the last flush, if the story wrote it.
+    line: Vec<u8>,
+
+    /// Whether anything was written since then.
+    is_written: bool,
 }
 
 /// What was written last.
@@ -111,6 +121,8 @@ impl<'a, W: Write> Transcript<'a, W> {
             is_unmapped: !is_mapped && (is_typed || is_seen),
             latest: Latest::Story,
             prompt: Vec::new(rt.alloc()),
+            line: Vec::new(rt.alloc()),
+            is_written: false,
         }
     }
 
@@ -118,11 +130,28 @@ impl<'a, W: Write> Transcript<'a, W> {
     fn note(&mut self, text: &[u8])
         ensures { self.new.writer ≡ self.old.writer }
     {
-        self.latest = latest_of(text);
+        self.latest = if text == LINE_END && self.line.len() > 0 {
+            Latest::Notice
+        } else {
+            latest_of(text)
+        };
+        self.is_written = true;
+        self.line.clear();
         if self.is_shown && matches!(self.latest, Latest::Story | Latest::Fault) {
-            self.prompt.clear();
-            let _ = self.prompt.extend_from_slice(last_line(text));
+            let _ = self.line.extend_from_slice(last_line(text));
         }
+    }
+
+    /// Keeps the story's prompt, if the story wrote last.
+    fn keep_prompt(&mut self)
+        ensures { self.new.writer ≡ self.old.writer }
+    {
+        if self.is_written && matches!(self.latest, Latest::Story | Latest::Fault) {
+            self.prompt.clear();
+            let _ = self.prompt.extend_from_slice(&self.line);
+        }
+        self.line.clear();
+        self.is_written = false;
     }
 
     /// Tells the user what the latest text asks for.
@@ -168,6 +197,7 @@ impl<W: Write> Write for Transcript<'_, W> {
     }
 
     fn flush(&mut self) -> io::Result<()> {
+        self.keep_prompt();
         let is_dropped = self.writer.is_silent();
         self.writer.flush()?;
         if !is_dropped {

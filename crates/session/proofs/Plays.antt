@@ -3,6 +3,8 @@ use Rattle.std.proofs.Common.{Option, None, Some, ◌≡◌, ℕ, zero, suc, ◌
 use Rattle.std.proofs.Common.{length, get_or, take, refl, ap, sym, ◌∙◌, subst, arith, if◌then◌else◌, add-one}
 use Rattle.std.proofs.lemmas.List.{get_or_default}
 use Rattle.zcore.specs.Turn.{StateOfPlay, Whole, Play, is_waiting, entries, follow, plays_of, last_text, last_place}
+use Rattle.zcore_versions.specs.Versions.{Story}
+use Rattle.session.specs.Asking.{last_status, status_with}
 
 front_next : (o : Option Whole) (f g : Whole → List Whole) (n k : ℕ)
     → ((v : Whole) → length (g v) ≡ n + k → f v ≡ take n (g v)) → length (entries o g) ≡ suc n + k
@@ -97,3 +99,10 @@ last_place_at [] k d h = absurd (omega arith)
 last_place_at (w ∷ ws) zero d h = refl
 last_place_at (w ∷ []) (suc k) d h = absurd (omega arith)
 last_place_at (w ∷ v ∷ ws) (suc k) d h = last_place_at (v ∷ ws) k d (omega arith)
+
+pub last_status_at : (loaded : Option Story) (ws : List Whole) (k : ℕ) (d : Whole) → k < length ws
+    → last_status loaded (take (suc k) ws) ≡ status_with loaded (get_or ws k d).state
+last_status_at loaded [] k d h = absurd (omega arith)
+last_status_at loaded (w ∷ ws) zero d h = refl
+last_status_at loaded (w ∷ []) (suc k) d h = absurd (omega arith)
+last_status_at loaded (w ∷ v ∷ ws) (suc k) d h = last_status_at loaded (v ∷ ws) k d (omega arith)

@@ -6,7 +6,9 @@ use Rattle.std.specs.Str.{chars, is_utf8}
 use Rattle.zcore_standard.specs.Loaded.{Loaded}
 use Rattle.zcore_versions.specs.Versions.{Story, versioned}
 use Rattle.zcore_standard.specs.Unicode.{default_characters}
-use Rattle.session.specs.Game.{Game, answer}
+use Rattle.zcore.specs.declared.place.Place.TheVariants.{Waiting, Quit}
+use Rattle.session.specs.Asking.{asks_with, told_at}
+use Rattle.session.specs.Game.{Game, answer, asks_on}
 use Rattle.session.specs.Modes.{is_typable_with}
 use Rattle.session.specs.declared.mode.Mode.{Mode}
 use Rattle.session.specs.declared.mode.Mode.TheVariants.{Profile}
@@ -68,3 +70,20 @@ command_with_a_space : (s : Standing)
     → (answer (in_mode Profile) s (record { line = codes "/undo\t"; refused = false })).reply ≡ note (codes "[Line refused.]")
 unfolding answer_of
 command_with_a_space s = refl
+
+-- `/status` asks, to the byte, but in the profile it is a line for the story
+
+asks_by_standard : asks_with (Some story) (codes "/status") ≡ true
+asks_by_standard = refl
+
+no_command : asks_with (Some story) (codes "/status ") ≡ false
+no_command = refl
+
+line_in_profile : asks_on (in_mode Profile) (codes "/status") ≡ false
+line_in_profile = refl
+
+no_line : told_at Waiting [] ≡ note (codes "[No status line.]")
+no_line = refl
+
+over : told_at Quit (codes " Garden") ≡ note (codes "[The story is over.]")
+over = refl

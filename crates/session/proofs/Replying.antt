@@ -10,10 +10,11 @@ use Rattle.zcore.specs.Turn.{is_waiting}
 use Rattle.zcore_standard.specs.Input.{can_be_typed}
 use Rattle.zcore_versions.specs.Versions.{Story}
 use Rattle.session.specs.Modes.{loaded_in, is_typable_with}
-use Rattle.session.specs.Game.{Game, telling_of, text_on, place_on, is_typable_on, answer}
+use Rattle.session.specs.Asking.{asks_with, told_at, told_waiting}
+use Rattle.session.specs.Game.{Game, telling_of, text_on, place_on, is_typable_on, answer, asks_on, asked_on, status_on}
 use Rattle.session_lines.specs.Standing.{Standing, longest_line, undo_of, redo_of, taken, is_typable_byte}
 use Rattle.session_lines.specs.Transcript.{answer_of, Answer, note, answer_undo, answer_redo, answer_line}
-use Rattle.session.specs.Heard.{Heard, Broke, Hears}
+use Rattle.session.specs.Heard.{Heard, Broke, Hears, asked_reply}
 use Rattle.session_lines.specs.Wrote.{WroteText, WroteSome}
 
 pub heard_ok : (game : Game) (w w' : Option (List ℕ)) (s : Standing) (P : Standing → Type 0) (line : List ℕ)
@@ -74,7 +75,7 @@ unfolding answer_of
 at_undo game s line m e = ap
     (λ b. if b then answer_undo s
     else (if bytes_eq line (codes "/redo") then answer_redo (telling_of game) s
-    else answer_line (telling_of game) game.keep s (record { line = line; refused = m }))) e
+    else answer_line (asked_on game line) (telling_of game) game.keep s (record { line = line; refused = m }))) e
 
 pub at_redo : (game : Game) (s : Standing) (line : List ℕ) (m : Bool) → bytes_eq line (codes "/undo") ≡ false
     → bytes_eq line (codes "/redo") ≡ true
@@ -83,27 +84,57 @@ unfolding answer_of
 at_redo game s line m d e =
     ap (λ b. if b then answer_undo s
     else (if bytes_eq line (codes "/redo") then answer_redo (telling_of game) s
-    else answer_line (telling_of game) game.keep s (record { line = line; refused = m }))) d
+    else answer_line (asked_on game line) (telling_of game) game.keep s (record { line = line; refused = m }))) d
     ∙ ap (λ b. if b then answer_redo (telling_of game) s
-    else answer_line (telling_of game) game.keep s (record { line = line; refused = m })) e
+    else answer_line (asked_on game line) (telling_of game) game.keep s (record { line = line; refused = m })) e
 
-pub at_line : (game : Game) (s : Standing) (line : List ℕ) (m : Bool) → bytes_eq line (codes "/undo") ≡ false
+at_other : (game : Game) (s : Standing) (line : List ℕ) (m : Bool) → bytes_eq line (codes "/undo") ≡ false
     → bytes_eq line (codes "/redo") ≡ false
     → answer game s (record { line = line; refused = m })
-    ≡ answer_line (telling_of game) game.keep s (record { line = line; refused = m })
+    ≡ answer_line (asked_on game line) (telling_of game) game.keep s (record { line = line; refused = m })
 unfolding answer_of
-at_line game s line m d e =
+at_other game s line m d e =
     ap (λ b. if b then answer_undo s
     else (if bytes_eq line (codes "/redo") then answer_redo (telling_of game) s
-    else answer_line (telling_of game) game.keep s (record { line = line; refused = m }))) d
+    else answer_line (asked_on game line) (telling_of game) game.keep s (record { line = line; refused = m }))) d
     ∙ ap (λ b. if b then answer_redo (telling_of game) s
-    else answer_line (telling_of game) game.keep s (record { line = line; refused = m })) e
+    else answer_line (asked_on game line) (telling_of game) game.keep s (record { line = line; refused = m })) e
+
+-- the reply to a line, where it asks and where it does not
+answer_if : Game → Standing → List ℕ → Bool → Bool → Answer
+answer_if game s line m asks = answer_line
+    (if asks then Some (λ lines. told_at (place_on game lines) (status_on game lines)) else None) (telling_of game)
+    game.keep s (record { line = line; refused = m })
+
+pub at_line : (game : Game) (s : Standing) (line : List ℕ) (m : Bool) → bytes_eq line (codes "/undo") ≡ false
+    → bytes_eq line (codes "/redo") ≡ false → asks_on game line ≡ false
+    → answer game s (record { line = line; refused = m })
+    ≡ answer_line None (telling_of game) game.keep s (record { line = line; refused = m })
+unfolding answer_if
+at_line game s line m d e f = at_other game s line m d e ∙ ap (answer_if game s line m) f
+
+pub at_asked : (game : Game) (s : Standing) (line : List ℕ) (m : Bool) → bytes_eq line (codes "/undo") ≡ false
+    → bytes_eq line (codes "/redo") ≡ false → asks_on game line ≡ true
+    → answer game s (record { line = line; refused = m }) ≡ record { reply = asked_reply game s m; standing = s }
+unfolding answer_if
+at_asked game s line m d e f = at_other game s line m d e ∙ ap (answer_if game s line m) f
 
 some : (n : ℕ) → 0 < n → (n == 0) ≡ false
 some n h = grind (arith, nat_tests)
 
 none_of : (n : ℕ) → n ≤ 0 → (n == 0) ≡ true
 none_of n h = grind (arith, nat_tests)
+
+-- the reply to a line that asks, case by case
+pub reply_over : (game : Game) (s : Standing) → is_waiting (place_on game s.done) ≡ false
+    → asked_reply game s false ≡ note (codes "[The story is over.]")
+reply_over game s e = ap (λ b. if b then told_waiting (status_on game s.done) else note (codes "[The story is over.]")) e
+
+pub reply_waiting : (game : Game) (s : Standing) (line : List ℕ) → is_waiting (place_on game s.done) ≡ true
+    → line ≡ status_on game s.done → asked_reply game s false ≡ told_waiting line
+reply_waiting game s line e f =
+    ap (λ b. if b then told_waiting (status_on game s.done) else note (codes "[The story is over.]")) e
+    ∙ ap told_waiting (sym f)
 
 pub undo_some : (s : Standing) → 0 < s.kept → answer_undo s
     ≡ record { reply = note (codes "[Undone.]"); standing = undo_of s }
@@ -143,24 +174,24 @@ redo_none game s h = ap
 
 pub line_taken : (game : Game) (s : Standing) (line : List ℕ) → is_typable_on game line ≡ true
     → is_waiting (place_on game s.done) ≡ true
-    → answer_line (telling_of game) game.keep s (record { line = line; refused = false })
+    → answer_line None (telling_of game) game.keep s (record { line = line; refused = false })
     ≡ record { reply = text_on game (s.done ++ line ∷ []); standing = taken game.keep line s }
 line_taken game s line d e = rw (d, e) refl
 
 pub line_unmet : (game : Game) (s : Standing) (line : List ℕ) → is_typable_on game line ≡ true
     → is_waiting (place_on game s.done) ≡ true
-    → answer_line (telling_of game) game.keep s (record { line = line; refused = true })
+    → answer_line None (telling_of game) game.keep s (record { line = line; refused = true })
     ≡ record { reply = note (codes "[No memory: line not taken.]"); standing = s }
 line_unmet game s line d e = rw (d, e) refl
 
 pub line_over : (game : Game) (s : Standing) (line : List ℕ) (m : Bool) → is_typable_on game line ≡ true
     → is_waiting (place_on game s.done) ≡ false
-    → answer_line (telling_of game) game.keep s (record { line = line; refused = m })
+    → answer_line None (telling_of game) game.keep s (record { line = line; refused = m })
     ≡ record { reply = note (codes "[The story is over.]"); standing = s }
 line_over game s line m d e = rw (d, e) refl
 
 pub line_refused : (game : Game) (s : Standing) (line : List ℕ) (m : Bool) → is_typable_on game line ≡ false
-    → answer_line (telling_of game) game.keep s (record { line = line; refused = m })
+    → answer_line None (telling_of game) game.keep s (record { line = line; refused = m })
     ≡ record { reply = note (codes "[Line refused.]"); standing = s }
 line_refused game s line m d = rw d refl
 
@@ -182,13 +213,17 @@ long_with (Some story) line h =
 pub long_untypable : (game : Game) (line : List ℕ) → longest_line < length line → is_typable_on game line ≡ false
 long_untypable game line h = long_with (loaded_in game.mode game.story) line h
 
+asks_not_with : (loaded : Option Story) (line : List ℕ) → longest_line < length line → asks_with loaded line ≡ false
+asks_not_with None line h = refl
+asks_not_with (Some story) line h = unequal line (codes "/status") (λ e. omega arith)
+
 -- a line of more than 1,000 bytes is refused
 pub answer_long : (game : Game) (s : Standing) (line : List ℕ) → longest_line < length line
     → answer game s (record { line = line; refused = false })
     ≡ record { reply = note (codes "[Line refused.]"); standing = s }
 answer_long game s line h =
     at_line game s line false (unequal line (codes "/undo") (λ e. omega arith))
-    (unequal line (codes "/redo") (λ e. omega arith))
+    (unequal line (codes "/redo") (λ e. omega arith)) (asks_not_with (loaded_in game.mode game.story) line h)
     ∙ line_refused game s line false (long_untypable game line h)
 
 pub untrue : (n m : ℕ) → (n ≡ m → ⊥) → (n == m) ≡ false

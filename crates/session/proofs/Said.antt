@@ -35,6 +35,7 @@ pub record Agree (a b : Telling) : Type 0 where
   pub texts : (ls : List (List ℕ)) → a.text ls ≡ b.text ls
   pub places : (ls : List (List ℕ)) → a.place ls ≡ b.place ls
   pub takes : (l : List ℕ) → a.takes l ≡ b.takes l
+  pub asked : (l : List ℕ) → a.asked l ≡ b.asked l
 
 pub answer_same : (a b : Telling) (keep : Option ℕ) → Agree a b → (s : Standing) (x : Typed)
     → answer_of a keep s x ≡ answer_of b keep s x

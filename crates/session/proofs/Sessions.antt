@@ -14,7 +14,9 @@ use Rattle.session.specs.Session.{Session, largest_record}
 use Rattle.session.specs.Stepped.{stepped_back, stepped_forward, without_oldest, bounded}
 use Rattle.session.specs.Stepped.{bounded_by, latest_text, text_before, latest_size, size_before}
 use Rattle.session.specs.Sessions.{all_lines, IsSession}
-use Rattle.session.proofs.Plays.{plays_front, last_text_at, last_place_at}
+use Rattle.zcore_versions.specs.Versions.{Story}
+use Rattle.session.specs.Asking.{last_status, status_with}
+use Rattle.session.proofs.Plays.{plays_front, last_text_at, last_place_at, last_status_at}
 
 -- any whole state
 abbrev pub some_whole : Whole
@@ -130,6 +132,16 @@ pub session_place : (story : List ℕ) (units : ℕ) (play : Play) (most : Optio
     → p ≡ last_place (plays_of play s.done)
 session_place story units play most s v p e h = e ∙ present_place story units play s v places.Quit (unbounded h)
     ∙ sym (place_is story units play s v (unbounded h))
+
+-- the status line of the present
+pub session_status : (loaded : Option Story) (story : List ℕ) (units : ℕ) (play : Play) (most : Option ℕ) (s : Standing)
+    (v : Session) (e : StateOfPlay) → IsSession story units play most s v
+    → status_with loaded (get_or v.states v.present e) ≡ last_status loaded (plays_of play s.done)
+unfolding present_of
+session_status loaded story units play most s v e h =
+    ap (status_with loaded) (present_state story units play s v e (unbounded h))
+    ∙ sym (last_status_at loaded (plays_of play (all_lines s)) (length s.done) some_whole (omega (arith, h.whole)))
+    ∙ sym (ap (last_status loaded) (done_plays story units play s v (unbounded h)))
 
 -- the text of the latest turn that is done
 pub session_text : (story : List ℕ) (units : ℕ) (play : Play) (s : Standing) (v : Session) (k : ℕ) → k + 1 ≡ v.present

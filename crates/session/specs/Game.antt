@@ -1,8 +1,9 @@
 -- A game: a story as a session plays it.
-use Rattle.std.specs.Prelude.{◌≡◌, ℕ, Bool, Option, List}
+use Rattle.std.specs.Prelude.{◌≡◌, ℕ, Bool, if◌then◌else◌, Option, None, Some, List}
 use Rattle.zcore.specs.declared.place.Place.{Place}
 use Rattle.zcore.specs.Turn.{Play, plays_of, last_text, last_place}
 use Rattle.session.specs.declared.mode.Mode.{Mode}
+use Rattle.session.specs.Asking.{asks_with, last_status, told_at}
 use Rattle.session.specs.Modes.{loaded_in, bytes_in, play_in, is_typable_with}
 use Rattle.session_lines.specs.Standing.{Standing}
 use Rattle.session.specs.Session.{Session}
@@ -42,8 +43,21 @@ place_on game lines = last_place (plays_of (play_on game) lines)
 abbrev pub is_typable_on : Game → List ℕ → Bool
 is_typable_on game line = is_typable_with (loaded_in game.mode game.story) line
 
+-- whether a line asks for the status line, and what that is on these lines
+abbrev pub asks_on : Game → List ℕ → Bool
+asks_on game line = asks_with (loaded_in game.mode game.story) line
+
+abbrev pub status_on : Game → List (List ℕ) → List ℕ
+status_on game lines = last_status (loaded_in game.mode game.story) (plays_of (play_on game) lines)
+
+-- the reply to a line that asks
+abbrev pub asked_on : Game → List ℕ → Option (List (List ℕ) → List ℕ)
+asked_on game line =
+    if asks_on game line then Some (λ lines. told_at (place_on game lines) (status_on game lines)) else None
+
 abbrev pub telling_of : Game → Telling
-telling_of game = record { text = text_on game; place = place_on game; takes = is_typable_on game }
+telling_of game =
+    record { text = text_on game; place = place_on game; takes = is_typable_on game; asked = asked_on game }
 
 -- The session plays this game by its machine, and these lines stand.
 pub record IsSessionOf (game : Game) (s : Standing) (v : Session) : Type 0 where

@@ -8,6 +8,7 @@ pub mod Modes
 pub mod Loads
 pub mod Players
 pub mod Sessions
+pub mod Asking
 pub mod Game
 pub mod Stepped
 pub mod Turned

@@ -51,8 +51,7 @@ pub record BrokeInOpening (telling : Telling) (io : Streams) (P : Standing → T
   pub wrote : WroteSome io.held_before io.held_after (telling.text [])
   pub stands : P nothing
 
--- The lines that were read of an input: those that have their end; a last line without it only where the input has
--- ended.
+-- the lines that were read of an input: a last line without its end only where the input has ended
 abbrev pub LinesRead : Option (List ℕ) → List ℕ → List (List ℕ) → Type 0
 LinesRead unread input lines = (lines ≡ whole_lines input) ⊎ (IsAtEnd unread × (lines ≡ lines_of input))
 

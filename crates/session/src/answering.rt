@@ -1,16 +1,21 @@
 //! The reply to a line.
 
 ghost use Rattle.std.specs.Prelude.{◌≡◌, ◌∷◌, [], bytes_eq, codes, false};
-ghost use Rattle.session.specs.Game.{IsSessionOf, Game};
-ghost use Rattle.session.specs.Heard.{Hears};
+ghost use Rattle.session.specs.Game.{IsSessionOf, Game, InEach, place_on};
+ghost use Rattle.zcore.specs.Turn.{is_waiting};
+ghost use Rattle.session.specs.Heard.{Hears, TellsStatus};
+ghost use Rattle.session.specs.Asking.{told_waiting};
 ghost use Rattle.session_lines.specs.Standing.{Standing};
+ghost use Rattle.session_lines.specs.Wrote.{WroteText};
 
 use crate::reply::Reply;
 use crate::session::Session;
+use journal::NoMemory;
 use session_lines::{WriteFailed, put, tell};
 use std::io::Write;
+use zcore::Place;
 
-/// Answers a line: the two commands of the player, or a line for the story.
+/// Answers a line: a command of the player, or a line for the story.
 pub(crate) fn answer<W: Write>(
     line: &[u8],
     writer: &mut W,
@@ -51,6 +56,8 @@ fn answer_other<W: Write>(
             }
             None => tell(writer, b"[Nothing to redo.]\n"),
         }
+    } else if session.asks(line) {
+        answer_status(writer, session)
     } else {
         match session.reply(line) {
             Reply::Taken(text) => tell(writer, text),
@@ -59,4 +66,40 @@ fn answer_other<W: Write>(
             Reply::NoMemory => tell(writer, b"[No memory: line not taken.]\n"),
         }
     }
+}
+
+/// Answers a line that asks for the status line.
+fn answer_status<W: Write>(writer: &mut W, session: &mut Session) -> Result<(), WriteFailed>
+    ensures says { (game : Game) (s : Standing) → IsSessionOf game s session.old
+        → TellsStatus game s (W.contents writer.old) (W.contents writer.new) result }
+    ensures same { session.new ≡ session.old }
+{
+    if !waits(session) {
+        return tell(writer, b"[The story is over.]\n");
+    }
+    match session.status_line() {
+        Ok(line) => put_status(writer, line),
+        Err(NoMemory) => tell(writer, b"[No memory: line not taken.]\n"),
+    }
+}
+
+/// Whether the story waits at the present.
+fn waits(session: &Session) -> bool
+    ensures { InEach session.now (λ game s. result ≡ is_waiting (place_on game s.done)) }
+{
+    match session.place() {
+        Place::Waiting => true,
+        _ => false,
+    }
+}
+
+/// Writes a status line, or that there is none.
+fn put_status<W: Write>(writer: &mut W, line: &[u8]) -> Result<(), WriteFailed>
+    ensures { WroteText (W.contents writer.old) (W.contents writer.new) (told_waiting line.now) result }
+{
+    if line.len() == 0 {
+        return tell(writer, b"[No status line.]\n");
+    }
+    put(writer, line)?;
+    tell(writer, b"\n")
 }

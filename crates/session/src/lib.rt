@@ -16,6 +16,7 @@ mod turns;
 mod written;
 
 pub use fault::{OpenFault, RunFault};
+pub use journal::NoMemory;
 pub use machine::LoadFault;
 pub use machine_standard::StandardFault;
 pub use mode::Mode;

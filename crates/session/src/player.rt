@@ -1,9 +1,11 @@
 //! The machine of a session, in either mode.
 
 ghost use Rattle.std.specs.Prelude.{OnOk, OnErr};
-ghost use Rattle.std.specs.Prelude.{◌≡◌};
+ghost use Rattle.std.specs.Prelude.{◌≡◌, []};
+ghost use Rattle.journal.specs.Recording.{IsNothingKept};
 ghost use Rattle.machine.specs.Ended.{TurnEndsBy};
-ghost use Rattle.machine_frames.specs.States.{IsStoreOf};
+ghost use Rattle.machine_frames.specs.States.{IsStoreOf, play_of};
+ghost use Rattle.session.specs.Asking.{asks_with, status_with};
 ghost use Rattle.session.specs.Modes.{CanTake, IsSettled, is_typable_with};
 ghost use Rattle.session.specs.Players.{known_of, IsReadyIn, LoadsPlayer, PlayerTurn};
 
@@ -60,6 +62,42 @@ impl Player {
         match self {
             Player::Profile(_) => is_typable(line),
             Player::Standard(machine) => is_short(line) && machine.can_take(line),
+        }
+    }
+
+    /// Whether a line asks for the status line: `/status`, by the whole Standard.
+    pub(crate) fn asks(&self, line: &[u8]) -> bool
+        ensures { result ≡ asks_with (known_of self.now).loaded line.now }
+    {
+        match self {
+            Player::Profile(_) => false,
+            Player::Standard(_) => line == b"/status".as_slice(),
+        }
+    }
+
+    /// Puts the status line of the state between two turns into an empty text: by the whole Standard
+    /// that of versions 1 to 3, else none. The store stays as it is.
+    ///
+    /// # Errors
+    ///
+    /// Memory was refused.
+    pub(crate) fn put_status_line(
+        &self,
+        store: &mut Recorded<Store>,
+        text: &mut Vec<u8>,
+    ) -> Result<(), NoMemory>
+        requires store { IsStoreOf (known_of self.now).header store.old.store }
+        requires settled { IsSettled (known_of self.now) }
+        requires idle { IsNothingKept store.old }
+        requires begun { store.old.beginning ≡ store.old.store.cells }
+        requires empty { text.old.items ≡ [] }
+        ensures line { OnOk result (text.new.items
+            ≡ status_with (known_of self.now).loaded (play_of store.old.store)) }
+        ensures same { store.new ≡ store.old }
+    {
+        match self {
+            Player::Profile(_) => Ok(()),
+            Player::Standard(machine) => machine.put_status_line(store, text),
         }
     }
 

@@ -16,8 +16,8 @@ use zcore::Place;
 /// memory but for the session's turns.
 ///
 /// A line ends at byte 10; a last line without it counts if it is not empty. `/undo` and `/redo`,
-/// to the byte, take the last turn back and do it again; any other line goes to the story. It
-/// answers where the story then stands.
+/// to the byte, take the last turn back and do it again, and by the whole Standard `/status` asks for
+/// the status line; any other line goes to the story. It answers where the story then stands.
 ///
 /// # Errors
 ///

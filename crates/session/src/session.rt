@@ -1,7 +1,7 @@
 //! The session of a player.
 
 ghost use Rattle.std.specs.Prelude.{◌≡◌, ◌<◌, ◌≤◌, ◌+◌, ◌↔◌, []};
-ghost use Rattle.std.specs.Prelude.{length, slice_index_or, IsTrue, IsSome, IfSome, OnOk, OnErr};
+ghost use Rattle.std.specs.Prelude.{length, slice_index_or, IsTrue, IsSome, IfSome, IfOk, OnOk, OnErr};
 ghost use Rattle.std.specs.Borrow.{sem};
 ghost use Rattle.std.specs.Io.BufRead.{Rests};
 ghost use Rattle.zcore.specs.declared.place.Place.TheVariants as places;
@@ -11,7 +11,8 @@ ghost use Rattle.session.specs.Session.{largest_record};
 ghost use Rattle.session.specs.Stepped.{latest_text, latest_size};
 ghost use Rattle.session.specs.Stepped.{stepped_back, bounded, without_oldest};
 ghost use Rattle.session.specs.Turned.{Turned};
-ghost use Rattle.session.specs.Game.{InEach, bytes_of, game_of, is_typable_on, place_on, text_on};
+ghost use Rattle.session.specs.Game.{InEach, asks_on, bytes_of, game_of, is_typable_on, place_on};
+ghost use Rattle.session.specs.Game.{status_on, text_on};
 ghost use Rattle.session.specs.declared.mode.Mode.TheVariants.{Profile};
 ghost use Rattle.session.specs.Stepped.{IsSize, Moves, Redone};
 ghost use Rattle.session.specs.Replies.{After, OpensSession, RepliesWith};
@@ -221,6 +222,31 @@ impl Session {
         do_again(&mut self.store, &mut self.turns[self.done]);
         self.done += 1;
         Some(self.turns[self.done - 1].written.text())
+    }
+
+    /// Whether a line asks for the status line: `/status`, by the whole Standard. In the profile it is
+    /// a line for the story.
+    pub fn asks(&self, line: &[u8]) -> bool
+        ensures { InEach self.now (λ game s. result ≡ asks_on game line.now) }
+    {
+        self.player.asks(line)
+    }
+
+    /// The status line that the story has at the present, also after turns were taken back or done
+    /// again: of versions 1 to 3 by the whole Standard, else an empty text. The session stays as it is.
+    ///
+    /// # Errors
+    ///
+    /// Memory was refused.
+    pub fn status_line(&mut self) -> Result<&[u8], NoMemory>
+        ensures* rests { sem 𝓛 (Rests the_row self.entry (λ new. new ≡ self.old)) }
+        ensures line { InEach self.old
+            (λ game s. IfOk result (λ line. line.now ≡ status_on game s.done)) }
+    {
+        self.gathered.clear();
+        self.player
+            .put_status_line(&mut self.store, &mut self.gathered)?;
+        Ok(&self.gathered)
     }
 
     /// How many turns are kept, and how many are undone.

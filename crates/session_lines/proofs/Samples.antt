@@ -105,7 +105,8 @@ unmet line = record { line = line; refused = true }
 
 -- a story that prints such a text, is at a place, and can be given each line or none
 abbrev story : (List (List ℕ) → List ℕ) → Place → Bool → Telling
-story text place takes = record { text = text; place = λ lines. place; takes = λ line. takes }
+story text place takes =
+    record { text = text; place = λ lines. place; takes = λ line. takes; asked = λ line. None }
 
 -- of two lines one is undone
 abbrev between : Standing
@@ -177,6 +178,25 @@ line_refused : (text : List (List ℕ) → List ℕ) → answer_of (story text W
     ≡ record { reply = note (codes "[Line refused.]"); standing = between }
 unfolding answer_of
 line_refused text = refl
+
+-- a line that asks is no turn
+abbrev asking : Telling
+asking = record (story (λ lines. []) Waiting true) { asked = λ line. Some (λ lines. note (codes "Garden")) }
+
+asked : answer_of asking (Some 1) between (typed a) ≡ record { reply = note (codes "Garden"); standing = between }
+unfolding answer_of
+asked = refl
+
+asked_unmet : answer_of asking (Some 1) between (unmet a)
+    ≡ record { reply = note (codes "[No memory: line not taken.]"); standing = between }
+unfolding answer_of
+asked_unmet = refl
+
+-- but the commands come first
+undone_asking : answer_of asking None between (typed (codes "/undo"))
+    ≡ record { reply = note (codes "[Undone.]"); standing = undo_of between }
+unfolding answer_of
+undone_asking = refl
 
 story_over : (text : List (List ℕ) → List ℕ) → answer_of (story text Quit true) (Some 1) between (typed a)
     ≡ record { reply = note (codes "[The story is over.]"); standing = between }

@@ -1,5 +1,6 @@
 -- The reply to a line, and the transcript of many.
-use Rattle.std.specs.Prelude.{ℕ, Bool, Option, ◌==◌, List, [], ◌∷◌, ◌++◌, length, map, bytes_eq, codes, if◌then◌else◌}
+use Rattle.std.specs.Prelude.{ℕ, Bool, Option, Some, None, ◌==◌, List, [], ◌∷◌, ◌++◌, length, map, bytes_eq, codes}
+use Rattle.std.specs.Prelude.{if◌then◌else◌}
 use Rattle.zcore.specs.declared.place.Place.{Place}
 use Rattle.zcore.specs.Turn.{is_waiting}
 use Rattle.session_lines.specs.Standing.{Standing, nothing, taken, undo_of, redo_of}
@@ -10,6 +11,8 @@ pub record Telling : Type 0 where
   pub place : List (List ℕ) → Place
   -- which lines it can be given
   pub takes : List ℕ → Bool
+  -- what is replied to a line that only asks where the story is, and is none for it
+  pub asked : List ℕ → Option (List (List ℕ) → List ℕ)
 
 -- a line of input, and its mark: whether it met refused memory
 pub record Typed : Type 0 where
@@ -43,23 +46,24 @@ answer_redo telling s = record {
   standing = redo_of s;
 }
 
--- a line for the story, of whose turns so many are kept; of two notices that hold the first is given
-abbrev pub answer_line : Telling → Option ℕ → Standing → Typed → Answer
-answer_line telling keep s x =
+-- A line that asks leaves all as it is. Of the turns of lines for the story so many are kept; of two notices that hold
+-- the first is given.
+abbrev pub answer_line : Option (List (List ℕ) → List ℕ) → Telling → Option ℕ → Standing → Typed → Answer
+answer_line (Some reply) telling keep s x =
+    record { reply = if x.refused then note (codes "[No memory: line not taken.]") else reply s.done; standing = s }
+answer_line None telling keep s x =
     if telling.takes x.line then (
     if is_waiting (telling.place s.done) then (
-    if x.refused
-    then (record { reply = note (codes "[No memory: line not taken.]"); standing = s })
-    else (record { reply = telling.text (s.done ++ x.line ∷ []); standing = taken keep x.line s })
-    )
-    else (record { reply = note (codes "[The story is over.]"); standing = s })
-    )
+    if x.refused then (record { reply = note (codes "[No memory: line not taken.]"); standing = s })
+    else (record { reply = telling.text (s.done ++ x.line ∷ []); standing = taken keep x.line s }))
+    else (record { reply = note (codes "[The story is over.]"); standing = s }))
     else (record { reply = note (codes "[Line refused.]"); standing = s })
 
 unfoldable pub answer_of : Telling → Option ℕ → Standing → Typed → Answer
 answer_of telling keep s x =
     if bytes_eq x.line (codes "/undo") then answer_undo s
-    else (if bytes_eq x.line (codes "/redo") then answer_redo telling s else answer_line telling keep s x)
+    else (if bytes_eq x.line (codes "/redo") then answer_redo telling s
+    else answer_line (telling.asked x.line) telling keep s x)
 
 -- the replies in order
 abbrev pub replies_of : Telling → Option ℕ → Standing → List Typed → List ℕ

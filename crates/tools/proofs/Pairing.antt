@@ -41,6 +41,7 @@ agrees story fuel keep p h = record {
   texts = λ lines. last_said (plays story fuel lines) ∙ ap last_of (h lines).texts;
   places = λ lines. (h lines).place;
   takes = λ line. refl;
+  asked = λ line. refl;
 }
 
 -- a story has one version

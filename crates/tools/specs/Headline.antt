@@ -1,5 +1,5 @@
 -- From a source to what is written: the source is compiled, its story opened, and the lines of a reader are played.
-use Rattle.std.specs.Prelude.{◌≡◌, ◌⊎◌, ℕ, List, [], ◌∷◌, Option, Result, Ok, Err}
+use Rattle.std.specs.Prelude.{◌≡◌, ◌⊎◌, ℕ, List, [], ◌∷◌, Option, None, Result, Ok, Err}
 use Rattle.std.specs.Io.KnownBytes.{Keeps}
 use Rattle.zcore.specs.declared.header.Version.{Version}
 use Rattle.zcore.specs.declared.place.Place.{Place}
@@ -34,6 +34,7 @@ meant_by p fuel =
       text = λ lines. last_of (meaning p fuel lines).texts;
       place = λ lines. (meaning p fuel lines).place;
       takes = is_typable;
+      asked = λ line. None;
     }
 
 -- By some limits, the source has a story of the version; what a run of its lines wrote, the opening first, is what the source means on

@@ -15,5 +15,7 @@ mod OpcodeSamples
 mod TextSamples
 mod CallSamples
 mod LineSamples
+mod StatusSamples
+mod PictureSamples
 pub mod Finding
 mod Table

@@ -7,6 +7,8 @@ pub mod SmallObjects
 pub mod SmallProperties
 pub mod Keys
 pub mod Reading
+pub mod StatusLine
 pub mod Performing
 pub mod Machine
+pub mod Picture
 pub mod Laws

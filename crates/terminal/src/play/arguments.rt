@@ -11,6 +11,7 @@ use std::alloc::{AllocError, Global};
 
 /// The end of the help: the player's own lines, an example, and the documents that say more.
 const MORE: &str = "The line /undo takes back the latest turn, and the line /redo does it again.
+With --standard, the line /status shows the status line of a story of version 3.
 At a terminal, ctrl-D ends the input.
 
 With `--format tsv` beside it, --check prints a line of 9 columns for each STORY.

@@ -2,9 +2,10 @@ use Rattle.std.proofs.Common.{◌∙◌, refl, sym, ℕ, ◌∷◌, List, [], tr
 use Rattle.session.specs.Game.{IsSessionOf, text_on}
 use Rattle.session_lines.specs.Standing.{redo_of, taken}
 use Rattle.session_lines.specs.Transcript.{note}
+use Rattle.session.specs.Heard.{asked_reply}
 use Rattle.session.specs.Replies.{After}
 use Rattle.session_lines.specs.Wrote.{WroteText}
-use Rattle.session.proofs.Replying.{heard_one, heard_err, hears_err, absent, tested, at_redo, at_line}
+use Rattle.session.proofs.Replying.{heard_one, heard_err, hears_err, absent, tested, at_redo, at_line, at_asked}
 use Rattle.session.proofs.Replying.{redo_some, redo_none, line_taken, line_unmet, line_over, line_refused}
 use Rattle.session_lines.proofs.Telling.{wrote_both, wrote_first}
 use Rattle.session.proofs.answering.answer_other.Goals as goal
@@ -59,6 +60,19 @@ returns-in-None g c = λ game s p.
     ∙ redo_none game s (absent _ ((c.in-None.ensures.found game s p).1)))
     (c.redo.follows.holds-at-none.stands game s p) c.tell-in-None.ensures
 
+pub returns-then-asks : goal.returns-then-asks
+returns-then-asks g c = λ game s p.
+    let told = c.answer_status.ensures.says game s p in
+    heard_one game (g.W.Write.contents c.args.writer.now) (g.W.Write.contents c.answer_status.new.writer) s
+    (λ t. IsSessionOf game t c.answer_status.new.session)
+    c.args.line.now told.0 (record { reply = asked_reply game s told.0; standing = s })
+    c.answer_status.result
+    (at_asked game s c.args.line.now told.0
+    c.requires
+    (tested c.args.line.now (codes "/redo") c.as_slice.result.now c.eq.result false
+    c.as_slice.ensures c.eq.ensures c.if-eq.false) (sym (c.asks.ensures game s p) ∙ c.if-asks.true))
+    (subst (IsSessionOf game s) (sym c.answer_status.ensures.same) p) told.1
+
 pub returns-in-Taken : goal.returns-in-Taken
 returns-in-Taken g c = λ game s p.
     heard_one game (g.W.Write.contents c.args.writer.now) (g.W.Write.contents c.tell-in-Taken.new.writer) s
@@ -71,7 +85,7 @@ returns-in-Taken g c = λ game s p.
     (at_line game s c.args.line.now false
     c.requires
     (tested c.args.line.now (codes "/redo") c.as_slice.result.now c.eq.result false
-    c.as_slice.ensures c.eq.ensures c.if-eq.false)
+    c.as_slice.ensures c.eq.ensures c.if-eq.false) (sym (c.asks.ensures game s p) ∙ c.if-asks.false)
     ∙ line_taken game s c.args.line.now (c.in-Taken.ensures.says game s p).0
     (c.in-Taken.ensures.says game s p).1)
     ((subst (λ r. After c.args.line.now r c.args.session.now c.reply.follows.lender-at-none) c.in-Taken.is
@@ -88,7 +102,7 @@ returns-in-Refused g c = λ game s p.
     (at_line game s c.args.line.now false
     c.requires
     (tested c.args.line.now (codes "/redo") c.as_slice.result.now c.eq.result false
-    c.as_slice.ensures c.eq.ensures c.if-eq.false)
+    c.as_slice.ensures c.eq.ensures c.if-eq.false) (sym (c.asks.ensures game s p) ∙ c.if-asks.false)
     ∙ line_refused game s c.args.line.now false (c.in-Refused.ensures.says game s p))
     (subst (IsSessionOf game s)
     (sym (subst (λ r. After c.args.line.now r c.args.session.now c.reply.follows.lender-at-none) c.in-Refused.is
@@ -102,7 +116,7 @@ returns-in-Over g c = λ game s p.
     (at_line game s c.args.line.now false
     c.requires
     (tested c.args.line.now (codes "/redo") c.as_slice.result.now c.eq.result false
-    c.as_slice.ensures c.eq.ensures c.if-eq.false)
+    c.as_slice.ensures c.eq.ensures c.if-eq.false) (sym (c.asks.ensures game s p) ∙ c.if-asks.false)
     ∙ line_over game s c.args.line.now false (c.in-Over.ensures.says game s p).0
     (c.in-Over.ensures.says game s p).1)
     (subst (IsSessionOf game s)
@@ -118,7 +132,7 @@ returns-in-NoMemory g c = λ game s p.
     (at_line game s c.args.line.now true
     c.requires
     (tested c.args.line.now (codes "/redo") c.as_slice.result.now c.eq.result false
-    c.as_slice.ensures c.eq.ensures c.if-eq.false)
+    c.as_slice.ensures c.eq.ensures c.if-eq.false) (sym (c.asks.ensures game s p) ∙ c.if-asks.false)
     ∙ line_unmet game s c.args.line.now (c.in-NoMemory.ensures.says game s p).0
     (c.in-NoMemory.ensures.says game s p).1)
     (subst (IsSessionOf game s)

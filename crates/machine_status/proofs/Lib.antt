@@ -1,0 +1,4 @@
+mod Naming
+mod Joining
+mod Filling
+mod Columns

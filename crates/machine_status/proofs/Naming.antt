@@ -1,0 +1,74 @@
+-- What is printed of a name, and a store after a turn that was given up.
+use Rattle.std.proofs.Common.{◌≡◌, ℕ, List, [], ◌∷◌, ◌++◌, length, take, drop, refl, ap, sym, ◌∙◌, append-nil, Result, Ok, Err}
+use Rattle.journal.specs.Recording.{Recording}
+use Rattle.machine_frames.specs.Contents.{Contents}
+use Rattle.zcore.specs.declared.next.Next.{Next}
+use Rattle.zcore.specs.declared.place.Place.{Place}
+use Rattle.zcore.specs.State.{State, Out, done, halt}
+use Rattle.machine_frames.specs.declared.end.End.{End}
+use Rattle.machine_frames.specs.declared.end.End.TheVariants as ends
+use Rattle.machine_frames.specs.States.{state_of}
+use Rattle.machine_frames.specs.Went.{ToldBy}
+use Rattle.zcore_versions.specs.SmallObjects.{print_object}
+use Rattle.zcore_versions.specs.StatusLine.{nowhere, on_one_line, printed, short_name}
+use Rattle.zcore_versions.specs.Versions.{Story}
+
+pub name_printed : (story : Story) (s t : State) (object : ℕ) (next : Next)
+    → print_object story nowhere 0 object (record s { text = [] }) ≡ done next t → short_name story s object ≡ t.text
+unfolding short_name
+name_printed story s t object next e = ap printed e
+
+pub name_unread : (story : Story) (s t : State) (object : ℕ) (place : Place)
+    → print_object story nowhere 0 object (record s { text = [] }) ≡ halt place t → short_name story s object ≡ []
+unfolding short_name
+name_unread story s t object place e = ap printed e
+
+pub none_left : (xs : List ℕ) → drop (length xs) xs ≡ []
+none_left [] = refl
+none_left (x ∷ xs) = none_left xs
+
+pub all_taken : (xs : List ℕ) → take (length xs) xs ≡ xs
+all_taken [] = refl
+all_taken (x ∷ xs) = ap (λ ys. x ∷ ys) (all_taken xs)
+
+-- the store of a turn that is given up is that of its beginning
+pub given_up_is : (old new : Recording Contents) → new.store.cells ≡ old.store.cells → new.store.fixed ≡ old.store.fixed
+    → new.beginning ≡ old.beginning → new.kept ≡ old.kept → new ≡ old
+given_up_is old new cells fixed beginning kept =
+    let r : List ℕ → List ℕ → List ℕ → List ℕ → Recording Contents =
+    λ a b c d. record { store = record { cells = a; fixed = b }; beginning = c; kept = d } in
+    ap (λ a. r a new.store.fixed new.beginning new.kept) cells
+    ∙ ap (λ b. r old.store.cells b new.beginning new.kept) fixed
+    ∙ ap (λ c. r old.store.cells old.store.fixed c new.kept) beginning
+    ∙ ap (λ d. r old.store.cells old.store.fixed old.beginning d) kept
+
+-- whatever a part that prints came to, it keeps the beginning of the turn
+pub beginning_kept : {A : Type 0} (r : Result A End) (old mid : Recording Contents) (was now : List ℕ) (f : State → Out A)
+    → ToldBy r old was mid now f → (mid.beginning ≡ old.beginning) × (mid.store.fixed ≡ old.store.fixed)
+beginning_kept (Ok a) old mid was now f h = (h.0.beginning, h.0.fixed)
+beginning_kept (Err ends.Memory) old mid was now f h = (h.beginning, h.fixed)
+beginning_kept (Err (ends.Stop place)) old mid was now f h = (h.0.beginning, h.0.fixed)
+
+-- the text after a name was added, and after one that cannot be read
+pub name_added : (story : Story) (old mid : Contents) (was now after : List ℕ) (object : ℕ) (next : Next)
+    → print_object story nowhere 0 object (state_of old (drop (length was) was))
+    ≡ done next (state_of mid (drop (length was) now))
+    → take (length was) now ≡ take (length was) was
+    → after ≡ take (length was) now ++ on_one_line (drop (length was) now)
+    → after ≡ was ++ on_one_line (short_name story (state_of old []) object)
+name_added story old mid was now after object next told front is =
+    is ∙ ap (λ l. l ++ on_one_line (drop (length was) now)) (front ∙ all_taken was)
+    ∙ ap (λ l. was ++ on_one_line l)
+    (sym (name_printed story (state_of old []) (state_of mid (drop (length was) now)) object next
+    (ap (λ t. print_object story nowhere 0 object (state_of old t)) (sym (none_left was)) ∙ told)))
+
+pub no_name_added : (story : Story) (old mid : Contents) (was now after : List ℕ) (object : ℕ) (place : Place)
+    → print_object story nowhere 0 object (state_of old (drop (length was) was))
+    ≡ halt place (state_of mid (drop (length was) now))
+    → take (length was) now ≡ take (length was) was → after ≡ take (length was) now
+    → after ≡ was ++ on_one_line (short_name story (state_of old []) object)
+no_name_added story old mid was now after object place told front is =
+    is ∙ front ∙ all_taken was ∙ sym (append-nil was)
+    ∙ ap (λ l. was ++ on_one_line l)
+    (sym (name_unread story (state_of old []) (state_of mid (drop (length was) now)) object place
+    (ap (λ t. print_object story nowhere 0 object (state_of old t)) (sym (none_left was)) ∙ told)))

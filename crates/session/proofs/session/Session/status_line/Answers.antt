@@ -1,0 +1,57 @@
+use Rattle.std.proofs.Common.{◌≡◌, ap, sym, subst, ◌∙◌, refl, get_or}
+use Rattle.zcore.specs.Turn.{StateOfPlay}
+use Rattle.machine_frames.specs.States.{play_of}
+use Rattle.session.specs.Asking.{status_with}
+use Rattle.session.specs.Game.{bytes_of, play_on}
+use Rattle.session.specs.Inside.{IsBetweenTurns, view_of}
+use Rattle.session.specs.Modes.{loaded_in}
+use Rattle.session.specs.Players.{known_of}
+use Rattle.session.specs.Written.{text_of}
+use Rattle.session.proofs.Insides.{ready_now}
+use Rattle.session.proofs.Sessions.{session_status}
+use Rattle.session.proofs.Views.{view_loaded, view_state}
+use Rattle.session.proofs.session.Session.status_line.Goals as goal
+
+pub put_status_line-requires-clause-store : goal.put_status_line-requires-clause-store
+put_status_line-requires-clause-store c =
+    let i = c.self.inside in
+    (ready_now (known_of i.player) i.store i.first i.turns.items i.done c.self.invariant).store
+
+pub put_status_line-requires-clause-settled : goal.put_status_line-requires-clause-settled
+put_status_line-requires-clause-settled c = c.self.invariant.settled
+
+pub put_status_line-requires-clause-idle : goal.put_status_line-requires-clause-idle
+put_status_line-requires-clause-idle c = c.self.invariant.idle
+
+pub put_status_line-requires-clause-begun : goal.put_status_line-requires-clause-begun
+put_status_line-requires-clause-begun c = c.self.invariant.begun
+
+pub invariant_of-self : goal.invariant_of-self
+invariant_of-self c =
+    let i = c.self.inside in
+    subst (λ s. IsBetweenTurns (known_of i.player) s i.first i.turns.items i.done)
+    (sym c.put_status_line.ensures.same) c.self.invariant
+
+pub returns : goal.returns
+unfolding view_of
+returns c =
+    let i = c.self.inside in
+    let now = c.args.self.now in
+    let line = λ game s h.
+        c.in_ok-put_status_line.ensures.line
+        ∙ ap (λ l. status_with l (play_of i.store.store))
+        (sym (view_loaded i.keep i.fuel (known_of i.player) i.opening.items i.store.store i.first i.turns.items i.done
+        (text_of i.given_up) now c.self.view_is) ∙ h.loaded)
+        ∙ ap (status_with (loaded_in game.mode game.story))
+        (sym (view_state i.keep i.fuel (known_of i.player) i.opening.items i.store.store i.first i.turns.items i.done
+        (text_of i.given_up) now (play_of i.store.store) c.self.view_is c.self.invariant.within))
+        ∙ session_status (loaded_in game.mode game.story) (bytes_of game) game.fuel (play_on game) game.keep s now
+        (play_of i.store.store) h.session in (
+      (
+        refl,
+        (λ _. tt),
+        ap (λ t. view_of i.keep i.fuel (known_of i.player) i.opening.items t.store i.first i.turns.items i.done
+        (text_of i.given_up)) c.put_status_line.ensures.same ∙ c.self.view_is,
+      ),
+      record { rests = tt; line = line },
+    )
