@@ -4,3 +4,4 @@ pub mod FoundChunks
 pub mod Lengths
 pub mod ReadSaves
 pub mod Samples
+pub mod FewFrames

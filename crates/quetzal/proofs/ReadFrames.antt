@@ -8,7 +8,8 @@ use Rattle.std.specs.List.{All, starts_with}
 use Rattle.std.proofs.lemmas.Bool.{and_from, and_left, and_parts, and_right, false≢true, le-leb, leb-true, lt-leb, lt-ltb, le-ltb}
 use Rattle.std.proofs.lemmas.List.{drop-drop, drop_at, get_or-drop, length-append}
 use Rattle.quetzal.specs.declared.frames.FrameHead.{FrameHead}
-use Rattle.quetzal.specs.Frames.{CanBeWritten, Frame, Stacks, flags_of, frame_bytes, frame_in, frames_bytes, frames_in}
+use Rattle.zcore.specs.State.{Frame}
+use Rattle.quetzal.specs.Frames.{CanBeWritten, Stacks, flags_of, frame_bytes, frame_in, frames_bytes, frames_in}
 use Rattle.quetzal.specs.Frames.{head_for, head_of, is_frame, main_and_calls, main_frame, masks, most_frames}
 use Rattle.quetzal.specs.Frames.{most_words, place_in, size_of, stacks_bytes, stacks_in, variable_of, words, words_from, words_in}
 use Rattle.quetzal.specs.Frames.{words_of}

@@ -3,19 +3,8 @@ use Rattle.std.specs.Prelude.{◌==◌, ◌≤◌, ◌<◌, ◌&&◌, ◌+◌, �
 use Rattle.std.specs.Prelude.{Bool, if◌then◌else◌, List, [], ◌∷◌, ◌++◌, length, drop, slice_index, Option, Some, None}
 use Rattle.std.specs.List.{starts_with}
 use Rattle.std.specs.Option.{option_and_then, option_map}
+use Rattle.zcore.specs.State.{Frame}
 use Rattle.quetzal.specs.declared.frames.FrameHead.{FrameHead}
-
--- A routine that runs.
-pub record Frame : Type 0 where
-  pub locals : List ℕ
-  -- its own stack, the word pushed last at the end
-  pub stack : List ℕ
-  -- how many arguments the call gave
-  pub arguments : ℕ
-  -- where its caller goes on
-  pub return_address : ℕ
-  -- the variable for its result
-  pub result : Option ℕ
 
 pub record Stacks : Type 0 where
   -- of the main code

@@ -10,6 +10,9 @@ use std::alloc::AllocError;
 /// How many bytes are compared at once.
 const PAGE: usize = 64;
 
+/// How many bytes of a page that differs are compared at once.
+const BLOCK: usize = 8;
+
 /// How many equal bytes a run has at most.
 const RUN: usize = 256;
 
@@ -35,27 +38,59 @@ pub(crate) fn pack(base: &[u8], memory: &[u8], out: &mut Vec<u8>) -> Result<(), 
     let mut equal = 0;
     let mut at = 0;
     while at < base.len() {
-        let next = page_end(at, base.len());
+        let next = part_end(at, base.len(), PAGE);
         equal = put_page(out, equal, &base[at..next], &memory[at..next])?;
         at = next;
     }
     Ok(())
 }
 
-/// Where a page ends that begins before an end.
+/// Where a part of some bytes ends that begins before an end.
 #[inline(always)]
-fn page_end(at: usize, end: usize) -> usize
-    requires { at < end }
+fn part_end(at: usize, end: usize, size: usize) -> usize
+    requires before { at < end }
+    requires some { 0 < size }
     ensures more { at < result }
     ensures within { result ≤ end }
 {
-    if end - at < PAGE { end } else { at + PAGE }
+    if end - at < size { end } else { at + size }
 }
 
 /// Appends the differences of some bytes. `equal` equal bytes come before them that are not written
 /// yet; it returns how many there are then.
 #[inline(always)]
 fn put_page(out: &mut Vec<u8>, equal: usize, was: &[u8], now: &[u8]) -> Result<usize, AllocError>
+    requires same { length was.now ≡ length now.now }
+    requires few { equal + length was.now < 2 ^ 64 }
+    ensures put { IfOk result (AppendsPacked equal was.now now.now out.old.items out.new.items) }
+    ensures few { IfOk result (λ left. left ≤ equal + length was.now) }
+{
+    if was == now {
+        return Ok(equal + was.len());
+    }
+    put_blocks(out, equal, was, now)
+}
+
+/// The same, block by block.
+fn put_blocks(out: &mut Vec<u8>, equal: usize, was: &[u8], now: &[u8]) -> Result<usize, AllocError>
+    requires same { length was.now ≡ length now.now }
+    requires few { equal + length was.now < 2 ^ 64 }
+    ensures put { IfOk result (AppendsPacked equal was.now now.now out.old.items out.new.items) }
+    ensures few { IfOk result (λ left. left ≤ equal + length was.now) }
+{
+    let mut left = equal;
+    let mut at = 0;
+    while at < was.len() {
+        let next = part_end(at, was.len(), BLOCK);
+        left = put_block(out, left, &was[at..next], &now[at..next])?;
+        at = next;
+    }
+    Ok(left)
+}
+
+/// The same for one block.
+#[inline(always)]
+fn put_block(out: &mut Vec<u8>, equal: usize, was: &[u8], now: &[u8]) -> Result<usize, AllocError>
     requires same { length was.now ≡ length now.now }
     requires few { equal + length was.now < 2 ^ 64 }
     ensures put { IfOk result (AppendsPacked equal was.now now.now out.old.items out.new.items) }

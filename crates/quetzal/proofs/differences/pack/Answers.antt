@@ -17,18 +17,18 @@ returns c =
 pub loop-at-preserved : goal.loop-at-preserved
 loop-at-preserved c =
     let at : ℕ = c.loop-at.at in
-    let next : ℕ = c.page_end-next.result in
+    let next : ℕ = c.part_end-next.result in
     let base : List ℕ = c.args.base.now in
     let memory : List ℕ = c.args.memory.now in
-    let forward : at ≤ next = omega (arith, c.page_end-next.ensures.more) in
+    let forward : at ≤ next = omega (arith, c.part_end-next.ensures.more) in
     record {
-      within = c.page_end-next.ensures.within;
+      within = c.part_end-next.ensures.within;
       few = omega (
         arith,
         c.in_ok-equal.ensures.few,
         c.loop-at.invariant.few,
         length-take-le (next - at) (drop at base)
-            (omega (arith, length-drop at base, c.page_end-next.ensures.within)),
+            (omega (arith, length-drop at base, c.part_end-next.ensures.within)),
         forward,
       );
       whole = c.in_ok-equal.ensures.put (drop next base) (drop next memory)

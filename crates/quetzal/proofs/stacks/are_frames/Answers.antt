@@ -2,7 +2,8 @@ use Rattle.std.proofs.Common.{◌≡◌, ◌<◌, ◌-◌, ℕ, suc, List, Optio
 use Rattle.std.specs.Option.{is_some}
 use Rattle.std.proofs.lemmas.Bool.{eqb-true}
 use Rattle.quetzal.specs.declared.frames.FrameHead.{FrameHead}
-use Rattle.quetzal.specs.Frames.{Frame, frames_in, head_of, size_of, words_of}
+use Rattle.zcore.specs.State.{Frame}
+use Rattle.quetzal.specs.Frames.{frames_in, head_of, size_of, words_of}
 use Rattle.quetzal.proofs.ReadFrames.{frame_fits, frames_done, no_frames_left, not_frames, some_more}
 use Rattle.quetzal.proofs.stacks.are_frames.Goals as goal
 
