@@ -26,40 +26,40 @@ use Rattle.machine_standard.specs.Playing.{AnswersStandard}
 use Rattle.machine_standard.proofs.Whole.{right_after}
 
 -- a line leads on
-pub answers_on : {E : Type 0} (story : Story) (result : Result Place E) (line : List ℕ) (s : Contents) (fuel : ℕ)
+pub answers_on : {E : Type 0} (story : Story) (result : Result Place E) (line : List ℕ) (kept_states : List (List ℕ)) (s : Contents) (fuel : ℕ)
     (p : Pending) (first : Next) (t : State) (whole : Place → Whole) → pending_of (slice_index s.cells) ≡ Some p
     → any_given story p line fuel (state_of s []) ≡ done first t
-    → IfOk result (λ place. TurnsBy (any story) (begins (standard_state_of (slice_index s.cells)) first) t (whole place))
-    → IfOk result (λ place. AnswersStandard story line s fuel (whole place))
-answers_on story (Ok place) line s fuel p first t whole waits e turn =
-    let kept = standard_state_of (slice_index s.cells) in
+    → IfOk result (λ place. TurnsBy (any story) (begins (standard_state_of (slice_index s.cells)) kept_states first) t (whole place))
+    → IfOk result (λ place. AnswersStandard story line kept_states s fuel (whole place))
+answers_on story (Ok place) line kept_states s fuel p first t whole waits e turn =
+    let dice = standard_state_of (slice_index s.cells) in
     let waited : Next = record { program_counter = program_counter_of (slice_index s.cells); fuel = fuel } in (
       p,
       waits,
       subst
-          (λ o. FollowsBy (λ next u w. TurnsBy (any story) (begins kept next) u w) o
-          (standard_ended (begins kept waited)) (whole place)) (sym e) turn,
+          (λ o. FollowsBy (λ next u w. TurnsBy (any story) (begins dice kept_states next) u w) o
+          (standard_ended (begins dice kept_states waited)) (whole place)) (sym e) turn,
     )
-answers_on story (Err x) line s fuel p first t whole waits e turn = tt
+answers_on story (Err x) line kept_states s fuel p first t whole waits e turn = tt
 
 -- a line that ends the turn at once
-pub answers_stop : (story : Story) (line : List ℕ) (s m : Contents) (fuel counter : ℕ) (p : Pending) (place : Place)
+pub answers_stop : (story : Story) (line : List ℕ) (kept_states : List (List ℕ)) (s m : Contents) (fuel counter : ℕ) (p : Pending) (place : Place)
     (whole : Whole) → pending_of (slice_index s.cells) ≡ Some p
     → any_given story p line fuel (state_of s []) ≡ halt place (state_of m [])
     → counter ≡ program_counter_of (slice_index s.cells)
-    → whole ≡ standard_ended (begins (standard_state_of (slice_index s.cells))
+    → whole ≡ standard_ended (begins (standard_state_of (slice_index s.cells)) kept_states
     (record { program_counter = counter; fuel = fuel })) place (state_of m [])
-    → AnswersStandard story line s fuel whole
-answers_stop story line s m fuel counter p place whole waits e is h =
-    let kept = standard_state_of (slice_index s.cells) in
+    → AnswersStandard story line kept_states s fuel whole
+answers_stop story line kept_states s m fuel counter p place whole waits e is h =
+    let dice = standard_state_of (slice_index s.cells) in
     let waited : Next = record { program_counter = program_counter_of (slice_index s.cells); fuel = fuel } in
-    let g : whole ≡ standard_ended (begins kept waited) place (state_of m []) = h
-    ∙ ap (λ n. standard_ended (begins kept (record { program_counter = n; fuel = fuel })) place (state_of m [])) is in (
+    let g : whole ≡ standard_ended (begins dice kept_states waited) place (state_of m []) = h
+    ∙ ap (λ n. standard_ended (begins dice kept_states (record { program_counter = n; fuel = fuel })) place (state_of m [])) is in (
       p,
       waits,
       subst
-          (λ o. FollowsBy (λ next u w. TurnsBy (any story) (begins kept next) u w) o
-          (standard_ended (begins kept waited)) whole) (sym e) g,
+          (λ o. FollowsBy (λ next u w. TurnsBy (any story) (begins dice kept_states next) u w) o
+          (standard_ended (begins dice kept_states waited)) whole) (sym e) g,
     )
 
 -- it would wait only for what can be given

@@ -77,33 +77,37 @@ pub quiet : (operation : StandardOperation) → does_nothing operation ≡ false
     → is_quiet operation ≡ true
 quiet operation a b c m n = rw (a, b, c, prints_not operation m n) refl
 
--- windows, dice and streams stay
+-- windows, dice, streams and kept states stay
 
 keeping_is : (loaded : Loaded) (operation : StandardOperation) (here : Here) (after : ℕ) (result : Option ℕ)
     (branch : Option Branch) (values : List ℕ) (s : State) → operation ≢ operations.Restart
     → operation ≢ operations.Random → operation ≢ operations.Read → operation ≢ operations.ReadChar
-    → operation ≢ operations.OutputStream → is_on_windows operation ≡ false
+    → operation ≢ operations.OutputStream → operation ≢ operations.SaveUndo → operation ≢ operations.RestoreUndo
+    → is_on_windows operation ≡ false
     → perform_further loaded operation here after result branch values s
     ≡ within here (perform_keeping loaded operation here.next after result branch values s)
 unfolding perform_further
-keeping_is loaded operations.Restart here after result branch values s m n k j l e = absurd (m refl)
-keeping_is loaded operations.Random here after result branch values s m n k j l e = absurd (n refl)
-keeping_is loaded operations.Read here after result branch values s m n k j l e = absurd (k refl)
-keeping_is loaded operations.ReadChar here after result branch values s m n k j l e = absurd (j refl)
-keeping_is loaded operations.OutputStream here after result branch values s m n k j l e = absurd (l refl)
-keeping_is loaded operations.SetWindow here after result branch values s m n k j l e = absurd (cc)
-keeping_is loaded operations.SetCursor here after result branch values s m n k j l e = absurd (cc)
-keeping_is loaded operations.EraseWindow here after result branch values s m n k j l e = absurd (cc)
-keeping_is loaded operations.SplitWindow here after result branch values s m n k j l e = absurd (cc)
-keeping_is loaded _ here after result branch values s m n k j l e = refl
+keeping_is loaded operations.Restart here after result branch values s m n k j l o p e = absurd (m refl)
+keeping_is loaded operations.Random here after result branch values s m n k j l o p e = absurd (n refl)
+keeping_is loaded operations.Read here after result branch values s m n k j l o p e = absurd (k refl)
+keeping_is loaded operations.ReadChar here after result branch values s m n k j l o p e = absurd (j refl)
+keeping_is loaded operations.OutputStream here after result branch values s m n k j l o p e = absurd (l refl)
+keeping_is loaded operations.SaveUndo here after result branch values s m n k j l o p e = absurd (o refl)
+keeping_is loaded operations.RestoreUndo here after result branch values s m n k j l o p e = absurd (p refl)
+keeping_is loaded operations.SetWindow here after result branch values s m n k j l o p e = absurd (cc)
+keeping_is loaded operations.SetCursor here after result branch values s m n k j l o p e = absurd (cc)
+keeping_is loaded operations.EraseWindow here after result branch values s m n k j l o p e = absurd (cc)
+keeping_is loaded operations.SplitWindow here after result branch values s m n k j l o p e = absurd (cc)
+keeping_is loaded _ here after result branch values s m n k j l o p e = refl
 
 pub keeping_told : {s t : Recording Contents} {x y : List ℕ} (r : Result Next End) (loaded : Loaded)
     (operation : StandardOperation) (here : Here) (after : ℕ) (result : Option ℕ) (branch : Option Branch)
     (values : List ℕ) → operation ≢ operations.Restart → operation ≢ operations.Random → operation ≢ operations.Read
-    → operation ≢ operations.ReadChar → operation ≢ operations.OutputStream → is_on_windows operation ≡ false
+    → operation ≢ operations.ReadChar → operation ≢ operations.OutputStream → operation ≢ operations.SaveUndo
+    → operation ≢ operations.RestoreUndo → is_on_windows operation ≡ false
     → Told r s x t y (perform_keeping loaded operation here.next after result branch values)
     → Told (seen (on here) r) s x t y (perform_further loaded operation here after result branch values)
-keeping_told {s} {x = x} r loaded operation here after result branch values m n k j l e w =
+keeping_told {s} {x = x} r loaded operation here after result branch values m n k j l o p e w =
     told_as (seen (on here) r) (perform_further loaded operation here after result branch values)
-    (keeping_is loaded operation here after result branch values (state_of s.store x) m n k j l e)
+    (keeping_is loaded operation here after result branch values (state_of s.store x) m n k j l o p e)
     (told_within r here (perform_keeping loaded operation here.next after result branch values) w)

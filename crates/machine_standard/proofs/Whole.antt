@@ -13,7 +13,7 @@ use Rattle.zcore.specs.Turn.{ReachesBy, TurnsBy, Whole, ended, first_next, first
 use Rattle.zcore_standard_laws.specs.Laws.{ends_in_fault, is_plain, closes_none}
 use Rattle.zcore_standard.specs.Place.{Here, plain, within}
 use Rattle.zcore_standard.specs.Loaded.{Loaded}
-use Rattle.zcore_standard.specs.Machine.{standard_ended, shown, with_standard_state, begins}
+use Rattle.zcore_standard.specs.Machine.{keeping, standard_ended, shown, with_standard_state, begins}
 use Rattle.zcore_standard.specs.Windows.{begun_at, lower}
 use Rattle.zcore_standard.specs.Streams.{heard_of}
 use Rattle.zcore_versions.specs.Laws.{WaitsForLine}
@@ -157,13 +157,14 @@ stops_around story {first} {s} {t} {here} {p} a b e h =
     subst (λ x. StopsBy (any_step story) first s (place x here) p t) (sym e) h
 
 -- where a turn begins
-pub begun_place : (turn : TurnState) (standard_state : StandardState) (next : Next) → turn.standard_state ≡ standard_state
-    → turn.streams.items ≡ [] → turn.upper ≡ (if standard_state.window == 0 then None else Some (begun_at 0))
-    → place turn next ≡ begins standard_state next
-begun_place turn standard_state next e f g =
+pub begun_place : (turn : TurnState) (standard_state : StandardState) (kept : List (List ℕ)) (next : Next)
+    → turn.standard_state ≡ standard_state → turn.kept ≡ kept → turn.streams.items ≡ [] → turn.upper ≡ (if standard_state.window == 0 then None else Some (begun_at 0))
+    → place turn next ≡ begins standard_state kept next
+begun_place turn standard_state kept next e k f g =
     ap (λ b. let h : Here = record (place turn next) { standard_state = b } in h) e
-    ∙ ap (λ l. let h : Here = record (place turn next) { standard_state = standard_state; streams = l } in h) f
-    ∙ ap (λ u. let h : Here = record (plain standard_state next) { upper = u } in h) g
+    ∙ ap (λ l. let h : Here = record (place turn next) { standard_state = standard_state; kept = l } in h) k
+    ∙ ap (λ l. let h : Here = record (place turn next) { standard_state = standard_state; kept = kept; streams = l } in h) f
+    ∙ ap (λ u. let h : Here = record (plain standard_state kept next) { upper = u } in h) g
 
 -- The text of a turn
 
@@ -186,16 +187,16 @@ lower_nothing : (b : Bool) → lower (cond b None (Some (begun_at 0))) [] ≡ []
 lower_nothing true = refl
 lower_nothing false = refl
 
-shown_nothing : (standard_state : StandardState) (next : Next) (end : Place) → shown (begins standard_state next) end [] ≡ []
-shown_nothing standard_state next places.Waiting = refl
-shown_nothing standard_state next places.Quit = lower_nothing (standard_state.window == 0)
-shown_nothing standard_state next (places.Limit limit) = lower_nothing (standard_state.window == 0)
-shown_nothing standard_state next (places.Fault cause) = lower_nothing (standard_state.window == 0)
+shown_nothing : (standard_state : StandardState) (kept_states : List (List ℕ)) (next : Next) (end : Place) → shown (begins standard_state kept_states next) end [] ≡ []
+shown_nothing standard_state kept_states next places.Waiting = refl
+shown_nothing standard_state kept_states next places.Quit = lower_nothing (standard_state.window == 0)
+shown_nothing standard_state kept_states next (places.Limit limit) = lower_nothing (standard_state.window == 0)
+shown_nothing standard_state kept_states next (places.Fault cause) = lower_nothing (standard_state.window == 0)
 
-ended_nothing : (standard_state : StandardState) (next : Next) (end : Place) (m : Contents)
-    → standard_ended (begins standard_state next) end (state_of m []) ≡ with_standard_state standard_state (ended next end (state_of m []))
-ended_nothing standard_state next end m =
-    ap (λ l. with_standard_state standard_state (ended next end (state_of m l))) (shown_nothing standard_state next end)
+ended_nothing : (standard_state : StandardState) (kept_states : List (List ℕ)) (next : Next) (end : Place) (m : Contents)
+    → standard_ended (begins standard_state kept_states next) end (state_of m []) ≡ with_standard_state standard_state kept_states (ended next end (state_of m []))
+ended_nothing standard_state kept_states next end m =
+    ap (λ l. with_standard_state standard_state kept_states (ended next end (state_of m l))) (shown_nothing standard_state kept_states next end)
 
 -- The end of a turn
 
@@ -206,7 +207,7 @@ pub standard_whole : (story : Story) (first : Here) (turn : TurnState) (here : N
     → ((l : List ℕ) → state_of n l ≡ state_of m l) → program_counter_of (slice_index n.cells) ≡ here.program_counter
     → standard_state_of (slice_index n.cells) ≡ turn.standard_state → drop long z ≡ shown (place turn here) end (drop long x)
     → y ≡ z ++ notice end → long ≤ length z
-    → TurnsBy (any story) first s (whole_of n end (drop long y))
+    → TurnsBy (any story) first s (keeping turn.kept (whole_of n end (drop long y)))
 standard_whole story first turn here end s m n x z y long h same counter kept cut text le =
     let stopped = stops_whole (any story) first (place turn here) end s (state_of m (drop long x)) h in
     let words : drop long y ≡ shown (place turn here) end (drop long x) ++ notice end = ap (drop long) text
@@ -214,7 +215,8 @@ standard_whole story first turn here end s m n x z y long h same counter kept cu
     let e : standard_ended (place turn here) end (state_of m (drop long x))
     ≡ standard_ended (place turn here) end (state_of n (drop long x)) =
     ap (standard_ended (place turn here) end) (sym (same (drop long x))) in
-    let f : standard_ended (place turn here) end (state_of n (drop long x)) ≡ whole_of n end (drop long y) =
+    let f : standard_ended (place turn here) end (state_of n (drop long x))
+    ≡ keeping turn.kept (whole_of n end (drop long y)) =
     rw (words, counter, kept) refl in
     subst (λ w. TurnsBy (any story) first s w) (e ∙ f) stopped
 
@@ -238,35 +240,35 @@ standard_waits story first here end s m n text stops same e =
     (stops.stops ∙ ap (λ p. halt p (state_of m text)) e)) same
 
 -- a line that ends the turn at once
-pub stopped_standard : (m n : Contents) (standard_state : StandardState) (fuel counter : ℕ) (end : Place) (x y : List ℕ)
+pub stopped_standard : (m n : Contents) (standard_state : StandardState) (kept_states : List (List ℕ)) (fuel counter : ℕ) (end : Place) (x y : List ℕ)
     → ((l : List ℕ) → state_of n l ≡ state_of m l) → program_counter_of (slice_index n.cells) ≡ counter
     → standard_state_of (slice_index n.cells) ≡ standard_state → y ≡ x ++ notice end
-    → whole_of n end (drop (length x) y)
-    ≡ standard_ended (begins standard_state (record { program_counter = counter; fuel = fuel })) end (state_of m [])
-stopped_standard m n standard_state fuel counter end x y same kept rest text =
-    let here : Here = begins standard_state (record { program_counter = counter; fuel = fuel }) in
+    → keeping kept_states (whole_of n end (drop (length x) y))
+    ≡ standard_ended (begins standard_state kept_states (record { program_counter = counter; fuel = fuel })) end (state_of m [])
+stopped_standard m n standard_state kept_states fuel counter end x y same kept rest text =
+    let here : Here = begins standard_state kept_states (record { program_counter = counter; fuel = fuel }) in
     let d : drop (length x) y ≡ notice end = ap (drop (length x)) text
     ∙ drop-append-le (length x) x (notice end) (omega arith)
     ∙ ap (λ l. l ++ notice end) (drop_all (length x) x (omega arith)) in
-    let f : whole_of n end (drop (length x) y) ≡ with_standard_state standard_state (ended here.next end (state_of n [])) =
+    let f : keeping kept_states (whole_of n end (drop (length x) y)) ≡ with_standard_state standard_state kept_states (ended here.next end (state_of n [])) =
     rw (d, kept, rest) refl in
-    f ∙ sym (ended_nothing standard_state here.next end n) ∙ ap (standard_ended here end) (same [])
+    f ∙ sym (ended_nothing standard_state kept_states here.next end n) ∙ ap (standard_ended here end) (same [])
 
 -- the opening
-opens : (story : Story) (s : Contents) (fuel : ℕ) (first : Next) (memory : List ℕ) (whole : Whole) → IsOpening s
+opens : (story : Story) (kept_states : List (List ℕ)) (s : Contents) (fuel : ℕ) (first : Next) (memory : List ℕ) (whole : Whole) → IsOpening s
     → memory ≡ memory_of s → first ≡ first_next memory fuel
-    → TurnsBy (any story) (begins story.loaded.dice first) (state_of s []) whole → OpensStandard story s fuel whole
-opens story s fuel first memory whole begin is e h =
-    subst (λ n. TurnsBy (any story) (begins story.loaded.dice n) (first_state (memory_of s)) whole)
+    → TurnsBy (any story) (begins story.loaded.dice kept_states first) (state_of s []) whole → OpensStandard story kept_states s fuel whole
+opens story kept_states s fuel first memory whole begin is e h =
+    subst (λ n. TurnsBy (any story) (begins story.loaded.dice kept_states n) (first_state (memory_of s)) whole)
     (e ∙ ap (λ m. first_next m fuel) is)
-    (subst (λ t. TurnsBy (any story) (begins story.loaded.dice first) t whole) begin.first h)
+    (subst (λ t. TurnsBy (any story) (begins story.loaded.dice kept_states first) t whole) begin.first h)
 
-pub opens_standard : {E : Type 0} (result : Result Place E) (story : Story) (s : Contents) (fuel : ℕ) (dice : StandardState)
+pub opens_standard : {E : Type 0} (result : Result Place E) (story : Story) (kept_states : List (List ℕ)) (s : Contents) (fuel : ℕ) (dice : StandardState)
     (first : Next) (memory : List ℕ) (whole : Place → Whole) → dice ≡ story.loaded.dice → IsOpening s
     → memory ≡ memory_of s → first ≡ first_next memory fuel
-    → IfOk result (λ place. TurnsBy (any story) (begins dice first) (state_of s []) (whole place))
-    → IfOk result (λ place. OpensStandard story s fuel (whole place))
-opens_standard (Ok place) story s fuel dice first memory whole d begin is e h =
-    opens story s fuel first memory (whole place) begin is e
-    (subst (λ b. TurnsBy (any story) (begins b first) (state_of s []) (whole place)) d h)
-opens_standard (Err x) story s fuel dice first memory whole d begin is e h = tt
+    → IfOk result (λ place. TurnsBy (any story) (begins dice kept_states first) (state_of s []) (whole place))
+    → IfOk result (λ place. OpensStandard story kept_states s fuel (whole place))
+opens_standard (Ok place) story kept_states s fuel dice first memory whole d begin is e h =
+    opens story kept_states s fuel first memory (whole place) begin is e
+    (subst (λ b. TurnsBy (any story) (begins b kept_states first) (state_of s []) (whole place)) d h)
+opens_standard (Err x) story kept_states s fuel dice first memory whole d begin is e h = tt

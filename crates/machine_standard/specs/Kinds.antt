@@ -44,8 +44,6 @@ gives_word Restore = true
 gives_word LogShift = true
 gives_word ArtShift = true
 gives_word SetFont = true
-gives_word SaveUndo = true
-gives_word RestoreUndo = true
 gives_word CheckUnicode = true
 gives_word _ = false
 

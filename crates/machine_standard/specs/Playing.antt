@@ -18,23 +18,23 @@ use Rattle.zcore_versions.specs.Reading.{any_given}
 use Rattle.zcore_versions.specs.Versions.{Story}
 
 -- the turn of a store of a story that begins
-abbrev pub OpensStandard : Story → Contents → ℕ → Whole → Type 0
-OpensStandard story s fuel whole =
-    TurnsBy (any story) (begins story.loaded.dice (first_next (memory_of s) fuel)) (first_state (memory_of s)) whole
+abbrev pub OpensStandard : Story → List (List ℕ) → Contents → ℕ → Whole → Type 0
+OpensStandard story kept s fuel whole =
+    TurnsBy (any story) (begins story.loaded.dice kept (first_next (memory_of s) fuel)) (first_state (memory_of s)) whole
 
 -- The turn of a line that is given to a store which waits for a line or a key, with the window and the dice that the
--- store keeps.
-abbrev pub AnswersStandard : Story → List ℕ → Contents → ℕ → Whole → Type 0
-AnswersStandard story line s fuel whole =
-    let kept = standard_state_of (slice_index s.cells) in
+-- store keeps, and these states that the story has kept.
+abbrev pub AnswersStandard : Story → List ℕ → List (List ℕ) → Contents → ℕ → Whole → Type 0
+AnswersStandard story line kept s fuel whole =
+    let dice = standard_state_of (slice_index s.cells) in
     let waited : Next = record { program_counter = program_counter_of (slice_index s.cells); fuel = fuel } in
     (pending : Pending)
     × (pending_of (slice_index s.cells) ≡ Some pending)
-    × FollowsBy (λ next t w. TurnsBy (any story) (begins kept next) t w)
-    (any_given story pending line fuel (state_of s [])) (standard_ended (begins kept waited)) whole
+    × FollowsBy (λ next t w. TurnsBy (any story) (begins dice kept next) t w)
+    (any_given story pending line fuel (state_of s [])) (standard_ended (begins dice kept waited)) whole
 
 -- which turn is played: without a line the opening, else that of the line
-abbrev pub OpensOrAnswersStandard : Story → Option (Bor (List ℕ)) → Contents → ℕ → Whole → Type 0
+abbrev pub OpensOrAnswersStandard : Story → Option (Bor (List ℕ)) → List (List ℕ) → Contents → ℕ → Whole → Type 0
 OpensOrAnswersStandard story None = OpensStandard story
 OpensOrAnswersStandard story (Some line) = AnswersStandard story line.now
 

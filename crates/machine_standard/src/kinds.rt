@@ -11,9 +11,6 @@ use zcore_standard::{Loaded, StandardOperation};
 /// What `save`, `restore` and `restore_undo` answer, which fail.
 const FAILED: u16 = 0;
 
-/// What `save_undo` answers where there is no undo: -1.
-const HAS_NO_UNDO: u16 = 0xFFFF;
-
 /// Whether an operation does nothing.
 pub(crate) fn does_nothing(operation: StandardOperation) -> bool
     ensures { result ≡ does_nothing operation }
@@ -51,9 +48,7 @@ pub(crate) fn word_of(loaded: &Loaded, operation: StandardOperation, values: &[u
     ensures none { IfNone result (gives_word operation ≡ false) }
 {
     match operation {
-        StandardOperation::Save | StandardOperation::Restore | StandardOperation::RestoreUndo =>
-            Some(FAILED),
-        StandardOperation::SaveUndo => Some(HAS_NO_UNDO),
+        StandardOperation::Save | StandardOperation::Restore => Some(FAILED),
         StandardOperation::LogShift => Some(shifted(values[0], values[1])),
         StandardOperation::ArtShift => Some(shifted_with_sign(values[0], values[1])),
         StandardOperation::SetFont => Some(font_of(values[0])),

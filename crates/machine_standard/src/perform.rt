@@ -22,6 +22,7 @@ use journal::Recorded;
 use machine_frames::{End, Store};
 use machine_opcodes::{Ending, branch_on, give_result};
 use machine_standard_opcodes::{output_stream, print_unicode, random, restart};
+use machine_standard_saves::{restore_undo, save_undo};
 use machine_standard_tables::print_table;
 use machine_standard_windows::{TurnState, erase_window, set_cursor, set_window, split_window};
 use zcore::{Header, Next};
@@ -69,6 +70,14 @@ pub(crate) fn perform_further(
                 ending.result,
                 values[0],
             )
+        }
+        StandardOperation::SaveUndo => {
+            let Ending { after, result, .. } = ending;
+            save_undo(header, store, loaded, turn, here, after, result)
+        }
+        StandardOperation::RestoreUndo => {
+            let Ending { after, result, .. } = ending;
+            restore_undo(header, store, loaded, turn, here, after, result)
         }
         StandardOperation::Read => read_line(
             header, store, text, start, loaded, turn, values, ending,
@@ -133,7 +142,7 @@ fn perform_on_windows(
     }
 }
 
-/// Does a further operation that leaves windows, dice and streams as they are.
+/// Does a further operation that leaves windows, dice, streams and kept states as they are.
 fn perform_keeping(
     header: &Header,
     store: &mut Recorded<Store>,

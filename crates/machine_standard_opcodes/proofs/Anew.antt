@@ -131,6 +131,7 @@ pub begun_anew : (s m t : Recording Contents) (x y : List ℕ) (loaded : Loaded)
     → Told (Ok (record {
       next = record { program_counter = address; fuel = left };
       standard_state = standard_state;
+      kept = here.kept;
       streams = streams;
       upper = None;
     })) s x t y (restart loaded here)

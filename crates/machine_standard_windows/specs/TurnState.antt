@@ -6,7 +6,13 @@ use Rattle.zcore_standard.specs.Place.{Here}
 use Rattle.machine_standard_windows.specs.declared.turn_state.TurnState.{TurnState}
 
 abbrev pub place : TurnState → Next → Here
-place turn next = record { next = next; standard_state = turn.standard_state; streams = turn.streams.items; upper = turn.upper }
+place turn next = record {
+  next = next;
+  standard_state = turn.standard_state;
+  kept = turn.kept;
+  streams = turn.streams.items;
+  upper = turn.upper;
+}
 
 -- what was printed before the turn stands, and the turn has printed no more than it may
 pub record Keeps (start : ℕ) (was now : List ℕ) : Type 0 where

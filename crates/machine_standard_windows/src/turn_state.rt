@@ -5,7 +5,7 @@ ghost use Rattle.zcore_standard.specs.Windows.{begun_at};
 
 use arrayvec::ArrayVec;
 use zcore::StandardState;
-use zcore_standard::{Stream, Upper};
+use zcore_standard::{KeptStates, Stream, Upper};
 
 /// How many streams may be open at once.
 pub const MOST_STREAMS: usize = 16;
@@ -22,6 +22,9 @@ pub struct TurnState {
     /// What is kept between turns: the window and the dice.
     pub standard_state: StandardState,
 
+    /// The states that the story has kept.
+    pub kept: KeptStates,
+
     /// The open memory streams, the innermost first.
     pub streams: ArrayVec<Stream, MOST_STREAMS>,
 
@@ -30,10 +33,11 @@ pub struct TurnState {
 }
 
 impl TurnState {
-    /// What goes with the place where a turn begins: no stream is open, and the upper window is
+    /// What goes with the place where a turn begins, with these states kept: no stream is open, and the upper window is
     /// there, empty, if it is selected.
-    pub fn new(standard_state: StandardState) -> TurnState
+    pub fn new(standard_state: StandardState, kept: KeptStates) -> TurnState
         ensures standard_state { result.standard_state ≡ standard_state }
+        ensures kept { result.kept ≡ kept }
         ensures streams { result.streams.items ≡ [] }
         ensures upper { result.upper ≡ (if standard_state.window == 0 then None else Some (begun_at 0)) }
     {
@@ -47,6 +51,7 @@ impl TurnState {
         };
         TurnState {
             standard_state,
+            kept,
             streams: ArrayVec::new(),
             upper,
         }

@@ -10,14 +10,18 @@ use Rattle.zcore.specs.declared.place.Place.{Place}
 use Rattle.zcore.specs.declared.place.Place.TheVariants as places
 use Rattle.zcore.specs.Turn.{StateOfPlay}
 use Rattle.machine_frames.specs.Contents.{Contents, bound_of}
+use Rattle.std.specs.List.{zip}
+use Rattle.zcore_standard.specs.Machine.{play_keeping}
 use Rattle.machine_frames.specs.States.{play_of}
+use Rattle.session.specs.declared.turns.Reached.{Reached}
 use Rattle.session.specs.declared.turns.Turn.{Turn}
 use Rattle.session.specs.Modes.{Known}
 use Rattle.session.specs.Session.{Session, largest_record}
 use Rattle.session.specs.Stepped.{without_oldest}
 use Rattle.session.specs.Times.{all_cells}
-use Rattle.session.specs.Inside.{records_of, with_cells, places_of, view_of, Swaps, IsReady, IsBetweenTurns}
+use Rattle.session.specs.Inside.{kept_of, records_of, with_cells, places_of, view_of, Swaps, IsReady, IsBetweenTurns}
 use Rattle.session.specs.Written.{text_of, line_of}
+use Rattle.session.proofs.Zips.{zip_past_one}
 use Rattle.session.proofs.Moves.{cells_undo, cells_redo, cells_older, present_cells, length-back, length-forward}
 
 -- a turn that is exchanged for one with the same part
@@ -46,8 +50,12 @@ pub turn_fits : (P : List (ℕ × ℕ) → Type 0) (turns : List Turn) (k : ℕ)
 turn_fits P turns k t lt is all = subst P (sym (record_at turns k t lt is))
     (all k t.overwritten (omega (arith, length-map turns (λ (x : Turn). x.overwritten))))
 
-abbrev states_with : List ℕ → List (List ℕ) → List StateOfPlay
-states_with fixed cells = map (λ c. play_of (record { cells = c; fixed = fixed })) cells
+-- a state of play, by what a store holds and what the story has kept
+abbrev pub play_with : List ℕ → List ℕ × List (List ℕ) → StateOfPlay
+play_with fixed x = play_keeping x.1 (play_of (record { cells = x.0; fixed = fixed }))
+
+abbrev pub states_with : List ℕ → List (List ℕ) → List (List (List ℕ)) → List StateOfPlay
+states_with fixed cells kept = map (play_with fixed) (zip cells kept)
 
 -- the same session, in other fields
 same_view : (v : Session) (states : List StateOfPlay) (places : List Place) (texts lines : List (List ℕ))
@@ -70,7 +78,7 @@ pub record Exchanged (t u : Turn) (entries : List (ℕ × ℕ)) : Type 0 where
   pub size : length entries ≡ length t.overwritten
 
 exchanged_view : (keep : Option ℕ) (fuel : ℕ) (known : Known) (opening : List ℕ) (store new : Contents)
-    (first : Place) (turns : List Turn) (t u : Turn) (entries : List (ℕ × ℕ)) (k from to : ℕ) (given_up : List ℕ)
+    (first : Reached) (turns : List Turn) (t u : Turn) (entries : List (ℕ × ℕ)) (k from to : ℕ) (given_up : List ℕ)
     → k < length turns → t ≡ get_or turns k t → Exchanged t u entries → new.fixed ≡ store.fixed
     → all_cells new.cells (records_of (set turns k u)) to ≡ all_cells store.cells (records_of turns) from
     → view_of keep fuel known opening new first (set turns k u) to given_up
@@ -78,12 +86,15 @@ exchanged_view : (keep : Option ℕ) (fuel : ℕ) (known : Known) (opening : Lis
 unfolding view_of
 exchanged_view keep fuel known opening store new first turns t u entries k from to given_up lt is x fixed cells =
     same_view (view_of keep fuel known opening store first turns from given_up)
-    (states_with new.fixed (all_cells new.cells (records_of (set turns k u)) to)) (places_of first (set turns k u))
+    (states_with new.fixed (all_cells new.cells (records_of (set turns k u)) to) (kept_of first (set turns k u)))
+    (places_of first (set turns k u))
     (map (λ y. text_of y.written) (set turns k u)) (map (λ y. line_of y.written) (set turns k u))
     (map (λ y. length y.overwritten) (set turns k u)) to
-    (ap (λ f. states_with f (all_cells new.cells (records_of (set turns k u)) to)) fixed
-    ∙ ap (states_with store.fixed) cells)
-    (ap (λ ps. first ∷ ps) (kept_by (λ y. y.place) turns k t u lt is (ap (λ (y : Turn). y.place) x.is)))
+    (ap (λ f. states_with f (all_cells new.cells (records_of (set turns k u)) to) (kept_of first (set turns k u))) fixed
+    ∙ ap (λ cs. states_with store.fixed cs (kept_of first (set turns k u))) cells
+    ∙ ap (λ kept. states_with store.fixed (all_cells store.cells (records_of turns) from) (first.kept ∷ kept))
+    (kept_by (λ y. y.reached.kept) turns k t u lt is (ap (λ (y : Turn). y.reached.kept) x.is)))
+    (ap (λ ps. first.place ∷ ps) (kept_by (λ y. y.reached.place) turns k t u lt is (ap (λ (y : Turn). y.reached.place) x.is)))
     (kept_by (λ y. text_of y.written) turns k t u lt is (ap (λ (y : Turn). text_of y.written) x.is))
     (kept_by (λ y. line_of y.written) turns k t u lt is (ap (λ (y : Turn). line_of y.written) x.is))
     (kept_by (λ y. length y.overwritten) turns k t u lt is (ap (λ (y : Turn). length y.overwritten) x.is ∙ x.size))
@@ -100,7 +111,7 @@ ready_as known f g cs ds ps qs k a b c s =
     subst (λ x. IsReady known (record { cells = get_or ds k []; fixed = g }) (get_or x k places.Quit)) (sym c)
     then_at
 
-exchanged_between : (known : Known) (store new : Recording Contents) (first : Place) (turns : List Turn)
+exchanged_between : (known : Known) (store new : Recording Contents) (first : Reached) (turns : List Turn)
     (t u : Turn) (entries : List (ℕ × ℕ)) (k from to : ℕ)
     → k < length turns → t ≡ get_or turns k t → Exchanged t u entries → new.store.fixed ≡ store.store.fixed
     → all_cells new.store.cells (records_of (set turns k u)) to
@@ -129,7 +140,7 @@ exchanged_between known store new first turns t u entries k from to lt is x fixe
           small);
       ready = λ n le. ready_as known store.store.fixed new.store.fixed _ _ (places_of first turns)
           (places_of first (set turns k u)) n fixed cells
-          (ap (λ ps. first ∷ ps) (kept_by (λ y. y.place) turns k t u lt is (ap (λ (y : Turn). y.place) x.is)))
+          (ap (λ ps. first.place ∷ ps) (kept_by (λ y. y.reached.place) turns k t u lt is (ap (λ (y : Turn). y.reached.place) x.is)))
           (i.ready n (omega (arith, long)));
     }
 
@@ -167,7 +178,7 @@ again_turn : (store new : Recording Contents) (t u : Turn) → Swaps forward bac
 again_turn store new t u h = record { is = h.turn; size = length-forward store.store.cells t.overwritten }
 
 pub undo_view : (keep : Option ℕ) (fuel : ℕ) (known : Known) (opening : List ℕ) (store new : Recording Contents)
-    (first : Place) (turns : List Turn) (t u : Turn) (k done : ℕ) (given_up : List ℕ) → k + 1 ≡ done
+    (first : Reached) (turns : List Turn) (t u : Turn) (k done : ℕ) (given_up : List ℕ) → k + 1 ≡ done
     → StandsAt turns k t → Swaps back forward store new t u
     → view_of keep fuel known opening new.store first (set turns k u) k given_up
     ≡ record (view_of keep fuel known opening store.store first turns done given_up) { present = k }
@@ -177,7 +188,7 @@ undo_view keep fuel known opening store new first turns t u k done given_up e st
     (back_turn store new t u h) (ap (λ (s : Contents). s.fixed) h.store)
     (back_cells store new turns k t u stands h ∙ ap (all_cells store.store.cells (records_of turns)) e)
 
-pub undo_between : (known : Known) (store new : Recording Contents) (first : Place) (turns : List Turn)
+pub undo_between : (known : Known) (store new : Recording Contents) (first : Reached) (turns : List Turn)
     (t u : Turn) (k done : ℕ) → k + 1 ≡ done → StandsAt turns k t → Swaps back forward store new t u
     → IsBetweenTurns known store first turns done → IsBetweenTurns known new first (set turns k u) k
 undo_between known store new first turns t u k done e stands h i =
@@ -187,7 +198,7 @@ undo_between known store new first turns t u k done e stands h i =
     (omega (arith, stands.here)) h.idle h.begun h.size h.fits i
 
 pub redo_view : (keep : Option ℕ) (fuel : ℕ) (known : Known) (opening : List ℕ) (store new : Recording Contents)
-    (first : Place) (turns : List Turn) (t u : Turn) (k : ℕ) (given_up : List ℕ) → StandsAt turns k t
+    (first : Reached) (turns : List Turn) (t u : Turn) (k : ℕ) (given_up : List ℕ) → StandsAt turns k t
     → Swaps forward back store new t u
     → view_of keep fuel known opening new.store first (set turns k u) (k + 1) given_up
     ≡ record (view_of keep fuel known opening store.store first turns k given_up) { present = k + 1 }
@@ -197,7 +208,7 @@ redo_view keep fuel known opening store new first turns t u k given_up stands h 
     (again_turn store new t u h) (ap (λ (s : Contents). s.fixed) h.store)
     (again_cells store new turns k t u stands h)
 
-pub redo_between : (known : Known) (store new : Recording Contents) (first : Place) (turns : List Turn)
+pub redo_between : (known : Known) (store new : Recording Contents) (first : Reached) (turns : List Turn)
     (t u : Turn) (k : ℕ) → StandsAt turns k t → Swaps forward back store new t u
     → IsBetweenTurns known store first turns k → IsBetweenTurns known new first (set turns k u) (k + 1)
 redo_between known store new first turns t u k stands h i =
@@ -215,8 +226,8 @@ redone_text turns k j t u x entries lt e at is =
 -- The oldest turn is given up
 
 pub oldest_view : (keep : Option ℕ) (fuel : ℕ) (known : Known) (opening : List ℕ) (store : Contents)
-    (first : Place) (turns rest : List Turn) (t : Turn) (done : ℕ) (given_up : List ℕ) → turns ≡ t ∷ rest → 0 < done
-    → view_of keep fuel known opening store t.place rest (done - 1) (text_of t.written)
+    (first : Reached) (turns rest : List Turn) (t : Turn) (done : ℕ) (given_up : List ℕ) → turns ≡ t ∷ rest → 0 < done
+    → view_of keep fuel known opening store t.reached rest (done - 1) (text_of t.written)
     ≡ without_oldest (view_of keep fuel known opening store first turns done given_up)
 unfolding view_of
 oldest_view keep fuel known opening store first turns rest t done given_up is some =
@@ -226,14 +237,16 @@ oldest_view keep fuel known opening store first turns rest t done given_up is so
     ap {A = List StateOfPlay}
     (λ x. record
     (without_oldest (view_of keep fuel known opening store first (t ∷ rest) done given_up)) { states = x })
-    (ap (states_with store.fixed) cells
-    ∙ sym (drop-map (λ c. play_of (record { cells = c; fixed = store.fixed })) 1
-    (all_cells store.cells (records_of (t ∷ rest)) done)))
+    (ap (λ cs. states_with store.fixed cs (kept_of t.reached rest)) cells
+    ∙ ap (map (play_with store.fixed))
+    (zip_past_one (all_cells store.cells (records_of (t ∷ rest)) done) (kept_of first (t ∷ rest)))
+    ∙ sym (drop-map (play_with store.fixed) 1
+    (zip (all_cells store.cells (records_of (t ∷ rest)) done) (kept_of first (t ∷ rest)))))
     ∙ ap (λ ts. without_oldest (view_of keep fuel known opening store first ts done given_up)) (sym is)
 
-oldest_by : (known : Known) (store : Recording Contents) (first : Place) (rest : List Turn) (t : Turn) (done : ℕ)
+oldest_by : (known : Known) (store : Recording Contents) (first : Reached) (rest : List Turn) (t : Turn) (done : ℕ)
     → 0 < done → IsBetweenTurns known store first (t ∷ rest) done
-    → IsBetweenTurns known store t.place rest (done - 1)
+    → IsBetweenTurns known store t.reached rest (done - 1)
 oldest_by known store first rest t done some i =
     let cells : all_cells store.store.cells (records_of rest) (done - 1)
     ≡ drop 1 (all_cells store.store.cells (records_of (t ∷ rest)) done) = cells_older store.store.cells
@@ -251,19 +264,19 @@ oldest_by known store first rest t done some i =
           ≡ get_or (all_cells store.store.cells (records_of (t ∷ rest)) done) (suc k) [] =
           ap (λ cs. get_or cs k []) cells ∙ get_or-drop 1 (all_cells store.store.cells (records_of (t ∷ rest)) done)
           k [] ∙ ap (λ n. get_or (all_cells store.store.cells (records_of (t ∷ rest)) done) n []) e in
-          subst (λ c. IsReady known (with_cells store.store c) (get_or (places_of t.place rest) k places.Quit))
+          subst (λ c. IsReady known (with_cells store.store c) (get_or (places_of t.reached rest) k places.Quit))
           (sym at) (i.ready (suc k) (omega arith));
     }
 
-pub oldest_between : (known : Known) (store : Recording Contents) (first : Place) (turns rest : List Turn)
+pub oldest_between : (known : Known) (store : Recording Contents) (first : Reached) (turns rest : List Turn)
     (t : Turn) (done : ℕ) → turns ≡ t ∷ rest → 0 < done → IsBetweenTurns known store first turns done
-    → IsBetweenTurns known store t.place rest (done - 1)
+    → IsBetweenTurns known store t.reached rest (done - 1)
 oldest_between known store first turns rest t done is some i = oldest_by known store first rest t done some
     (subst (λ ts. IsBetweenTurns known store first ts done) is i)
 
 -- The present
 
-pub ready_now : (known : Known) (store : Recording Contents) (first : Place) (turns : List Turn) (done : ℕ)
+pub ready_now : (known : Known) (store : Recording Contents) (first : Reached) (turns : List Turn) (done : ℕ)
     → IsBetweenTurns known store first turns done
     → IsReady known store.store (get_or (places_of first turns) done places.Quit)
 ready_now known store first turns done i =

@@ -1,3 +1,4 @@
+pub mod Zips
 pub mod Moves
 pub mod Insides
 pub mod Views

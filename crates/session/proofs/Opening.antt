@@ -11,7 +11,9 @@ use Rattle.zcore.specs.Turn.{Whole, entries, plays_of, last_text}
 use Rattle.machine_frames.specs.Contents.{Contents, memory_of}
 use Rattle.machine_frames.specs.Playing.{whole_of}
 use Rattle.machine_frames.specs.States.{IsStoreOf}
+use Rattle.session.specs.declared.turns.Reached.{Reached}
 use Rattle.session.specs.declared.turns.Turn.{Turn}
+use Rattle.zcore_standard.specs.Machine.{keeping}
 use Rattle.session.specs.Times.{all_cells}
 use Rattle.session.specs.Inside.{with_cells, places_of, view_of, IsReady, IsBetweenTurns}
 use Rattle.session.specs.Game.{Game, bytes_of, play_on, IsSessionOf}
@@ -20,14 +22,14 @@ use Rattle.session.specs.Players.{IsPlayerOf, PlayerTurn}
 use Rattle.session_lines.specs.Standing.{nothing}
 use Rattle.session.proofs.Moves.{present_cells}
 
-pub opened_between : (known : Known) (new : Recording Contents) (first : Place) (turns : List Turn) → turns ≡ []
-    → IsSettled known → IsStoreOf known.header new.store → (first ≡ places.Waiting → CanTake known.loaded new.store) → IsNothingKept new
+pub opened_between : (known : Known) (new : Recording Contents) (first : Reached) (turns : List Turn) → turns ≡ []
+    → IsSettled known → IsStoreOf known.header new.store → (first.place ≡ places.Waiting → CanTake known.loaded new.store) → IsNothingKept new
     → new.beginning ≡ new.store.cells
     → IsBetweenTurns known new first turns 0
 opened_between known new first turns e settled o waits idle begun =
-    let now : IsReady known new.store first = record { store = o; waits = waits } in
-    let start : IsReady known (with_cells new.store (get_or (all_cells new.store.cells [] 0) 0 [])) first = subst
-    (λ c. IsReady known (with_cells new.store c) first)
+    let now : IsReady known new.store first.place = record { store = o; waits = waits } in
+    let start : IsReady known (with_cells new.store (get_or (all_cells new.store.cells [] 0) 0 [])) first.place = subst
+    (λ c. IsReady known (with_cells new.store c) first.place)
     (sym (present_cells new.store.cells [] 0 [] (omega arith))) now in
     let result : IsBetweenTurns known new first [] 0 = record {
       settled = settled;
@@ -47,13 +49,13 @@ bound_start : (keep : Option ℕ) → IfSome keep (λ n. 0 + 0 ≤ n)
 bound_start None = tt
 bound_start (Some n) = omega arith
 
-opened_by : (game : Game) (known : Known) (new : Contents) (first : Place) (text given_up : List ℕ)
-    → (play_on game).opening ≡ Some (whole_of new first text) → known.loaded ≡ loaded_in game.mode game.story
+opened_by : (game : Game) (known : Known) (new : Contents) (first : Reached) (text given_up : List ℕ)
+    → (play_on game).opening ≡ Some (keeping first.kept (whole_of new first.place text)) → known.loaded ≡ loaded_in game.mode game.story
     → known.header.static_base ≡ static_base_of (bytes_of game)
     → IsSessionOf game nothing (view_of game.keep game.fuel known text new first [] 0 given_up)
 unfolding view_of all_cells
 opened_by game known new first text given_up e loaded base =
-    let all : plays_of (play_on game) [] ≡ whole_of new first text ∷ [] = ap (λ o. entries o (λ w. [])) e in
+    let all : plays_of (play_on game) [] ≡ keeping first.kept (whole_of new first.place text) ∷ [] = ap (λ o. entries o (λ w. [])) e in
     record {
       loaded = loaded;
       session = record {
@@ -75,15 +77,15 @@ opened_by game known new first text given_up e loaded base =
     }
 
 -- the session of a story that was opened
-pub session_opened : (game : Game) (known : Known) (old new : Contents) (first : Place) (turns : List Turn)
+pub session_opened : (game : Game) (known : Known) (old new : Contents) (first : Reached) (turns : List Turn)
     (text words given_up : List ℕ) → turns ≡ [] → IsPlayerOf game.mode game.story known old
-    → PlayerTurn known None old game.fuel (whole_of new first text) → text ≡ words
+    → PlayerTurn known None [] old game.fuel (keeping first.kept (whole_of new first.place text)) → text ≡ words
     → IsSessionOf game nothing (view_of game.keep game.fuel known words new first turns 0 given_up)
 session_opened game known old new first turns text words given_up none o opens is =
     let memory : memory_of old ≡ bytes_in game.mode game.story = ap (λ (s : State). s.memory) o.state in
-    let turn : (play_on game).opening ≡ Some (whole_of new first words) =
+    let turn : (play_on game).opening ≡ Some (keeping first.kept (whole_of new first.place words)) =
     sym (ap (λ l. opening_with l (memory_of old) game.fuel) o.loaded
     ∙ ap (λ m. opening_with (loaded_in game.mode game.story) m game.fuel) memory)
-    ∙ opens ∙ ap (λ x. Some (whole_of new first x)) is in
+    ∙ opens refl ∙ ap (λ x. Some (keeping first.kept (whole_of new first.place x))) is in
     subst (λ ts. IsSessionOf game nothing (view_of game.keep game.fuel known words new first ts 0 given_up)) (sym none)
     (opened_by game known new first words given_up turn o.loaded o.static_base)

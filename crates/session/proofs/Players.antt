@@ -1,5 +1,5 @@
 -- What the turns of a machine come to, as functions of what its store holds.
-use Rattle.std.proofs.Common.{◌≡◌, ℕ, List, Option, Some, None, Result, Ok, Err, length, refl, ap, sym, subst, ◌∙◌}
+use Rattle.std.proofs.Common.{◌≡◌, ℕ, List, [], Option, Some, None, Result, Ok, Err, length, drop, refl, ap, sym, subst, ◌∙◌}
 use Rattle.std.specs.Borrow.{Bor}
 use Rattle.journal.specs.Recording.{Recording}
 use Rattle.journal.specs.declared.recorded.NoMemory.{NoMemory}
@@ -10,7 +10,7 @@ use Rattle.zcore.specs.Turn.{Whole, ended, after_step, turn_from, turn_on, turn_
 use Rattle.zcore.specs.Turn.{first_next, first_state}
 use Rattle.zcore.proofs.Turning.{turns_is}
 use Rattle.machine_frames.specs.Contents.{Contents, memory_of}
-use Rattle.machine_frames.specs.Playing.{Follows, FollowsBy, Answers, Opens}
+use Rattle.machine_frames.specs.Playing.{Follows, FollowsBy, Answers, Opens, whole_of}
 use Rattle.machine_frames.specs.States.{play_of, IsStoreOf}
 use Rattle.machine.specs.Ended.{TurnEndsBy, IsReadyFor, OpensOrAnswers}
 use Rattle.machine.specs.Loaded.{IsLoaded}
@@ -23,7 +23,7 @@ use Rattle.zcore_versions.specs.Machine.{any, any_turn, any_pending, any_opening
 use Rattle.zcore_versions.specs.Reading.{any_given}
 use Rattle.zcore_versions.specs.Versions.{Story}
 use Rattle.zcore_versions.proofs.Turning.{any_turn_is}
-use Rattle.zcore_standard.specs.Machine.{standard_ended, begins}
+use Rattle.zcore_standard.specs.Machine.{standard_ended, begins, keeping, play_keeping}
 use Rattle.machine_standard.specs.Loads.{IsLoaded as IsStandardLoaded, IsPlayedVersion, IsStoreFor, story_of}
 use Rattle.machine_standard.specs.Playing.{OpensStandard, AnswersStandard, OpensOrAnswersStandard}
 use Rattle.machine_standard.specs.Playing.{IsReadyForStandard}
@@ -34,10 +34,11 @@ use Rattle.session.specs.Players.{IsPlayerOf, IsReadyIn, PlayerTurn}
 
 -- a turn that ends by one description ends by another that follows from it
 pub ends_as : (takes : Contents → Type 0) (turn other : Whole → Type 0) (old : Recording Contents) (was : List ℕ) (new : Recording Contents)
-    (now : List ℕ) (result : Result Place NoMemory) → ((whole : Whole) → turn whole → other whole)
+    (now : List ℕ) (result : Result Place NoMemory)
+    → ((place : Place) (text : List ℕ) → turn (whole_of new.store place text) → other (whole_of new.store place text))
     → TurnEndsBy takes turn old was new now result → TurnEndsBy takes other old was new now result
 ends_as takes turn other old was new now (Ok place) so h = record {
-  whole = so _ h.whole;
+  whole = so place (drop (length was) now) h.whole;
   waits = h.waits;
   goes_on = h.goes_on;
   given_up = h.given_up;
@@ -61,11 +62,11 @@ follows_turn : (o : Out Next) (stop : Place → State → Whole) (whole : Whole)
 follows_turn (done next s) stop whole h = turns_is next s whole h
 follows_turn (halt place s) stop whole h = ap (λ (w : Whole). Some w) (sym h)
 
-pub answers_turn : (line : List ℕ) (s : Contents) (fuel : ℕ) (whole : Whole) → Answers line s fuel whole
-    → turn_on line fuel (play_of s) ≡ Some whole
+pub answers_turn : (line : List ℕ) (kept : List (List ℕ)) (s : Contents) (fuel : ℕ) (whole : Whole)
+    → Answers line s fuel whole → turn_on line fuel (play_keeping kept (play_of s)) ≡ Some whole
 unfolding turn_on
-answers_turn line s fuel whole h =
-    ap (λ p. turn_pending p line fuel (play_of s)) h.1
+answers_turn line kept s fuel whole h =
+    ap (λ p. turn_pending p line fuel (play_keeping kept (play_of s))) h.1
     ∙ follows_turn (given h.0 line fuel (resumed (play_of s)))
     (ended (record { program_counter = (play_of s).program_counter; fuel = fuel })) whole h.2
 
@@ -82,11 +83,19 @@ profile_player story machine s h = record {
 }
 
 -- its turns
-pub profile_turn : (header : Header) (line : Option (Bor (List ℕ))) (s : Contents) (fuel : ℕ) (whole : Whole)
-    → OpensOrAnswers line s fuel whole
-    → PlayerTurn (record { header = header; loaded = None }) line s fuel whole
-profile_turn header None s fuel whole h = opens_turn s fuel whole h
-profile_turn header (Some line) s fuel whole h = answers_turn line.now s fuel whole h
+pub profile_turn : (header : Header) (line : Option (Bor (List ℕ))) (kept : List (List ℕ)) (s : Contents) (fuel : ℕ)
+    (whole : Whole) → OpensOrAnswers line s fuel whole
+    → PlayerTurn (record { header = header; loaded = None }) line kept s fuel whole
+profile_turn header None kept s fuel whole h = λ none. opens_turn s fuel whole h
+profile_turn header (Some line) kept s fuel whole h = answers_turn line.now kept s fuel whole h
+
+-- a turn of the profile leaves nothing that is kept
+pub none_kept : (header : Header) (line : Option (Bor (List ℕ))) (before : List (List ℕ)) (s : Contents) (fuel : ℕ)
+    (kept : List (List ℕ)) → kept ≡ [] → (whole : Whole) → OpensOrAnswers line s fuel whole → whole.state.kept ≡ []
+    → PlayerTurn (record { header = header; loaded = None }) line before s fuel (keeping kept whole)
+none_kept header line before s fuel kept none whole h is =
+    subst (λ (w : Whole). PlayerTurn (record { header = header; loaded = None }) line before s fuel w)
+    (ap (λ k. keeping k whole) (is ∙ sym none)) (profile_turn header line before s fuel whole h)
 
 -- a store on which one can be played
 pub profile_ready : (header : Header) (line : Option (Bor (List ℕ))) (s : Contents)
@@ -96,25 +105,27 @@ profile_ready header (Some line) s h = h
 
 -- The Standard's machine
 
-opens_standard : (story : Story) (s : Contents) (fuel : ℕ) (whole : Whole) → OpensStandard story s fuel whole
+opens_standard : (story : Story) (s : Contents) (fuel : ℕ) (whole : Whole) → OpensStandard story [] s fuel whole
     → any_opening story (memory_of s) fuel ≡ Some whole
 unfolding any_opening
 opens_standard story s fuel whole h =
-    any_turn_is story (begins story.loaded.dice (first_next (memory_of s) fuel)) (first_state (memory_of s)) whole h
+    any_turn_is story (begins story.loaded.dice [] (first_next (memory_of s) fuel)) (first_state (memory_of s)) whole h
 
-follows_standard : (story : Story) (standard_state : StandardState) (o : Out Next) (stop : Place → State → Whole) (whole : Whole)
-    → FollowsBy (λ next t w. TurnsBy (any story) (begins standard_state next) t w) o stop whole
-    → after_step o (λ next t. any_turn story (begins standard_state next) t) (λ place t. Some (stop place t)) ≡ Some whole
-follows_standard story standard_state (done next t) stop whole h = any_turn_is story (begins standard_state next) t whole h
-follows_standard story standard_state (halt place t) stop whole h = ap (λ (w : Whole). Some w) (sym h)
+follows_standard : (story : Story) (dice : StandardState) (kept : List (List ℕ)) (o : Out Next)
+    (stop : Place → State → Whole) (whole : Whole)
+    → FollowsBy (λ next t w. TurnsBy (any story) (begins dice kept next) t w) o stop whole
+    → after_step o (λ next t. any_turn story (begins dice kept next) t) (λ place t. Some (stop place t)) ≡ Some whole
+follows_standard story dice kept (done next t) stop whole h = any_turn_is story (begins dice kept next) t whole h
+follows_standard story dice kept (halt place t) stop whole h = ap (λ (w : Whole). Some w) (sym h)
 
-answers_standard : (story : Story) (line : List ℕ) (s : Contents) (fuel : ℕ) (whole : Whole)
-    → AnswersStandard story line s fuel whole → any_turn_on story line fuel (play_of s) ≡ Some whole
+answers_standard : (story : Story) (line : List ℕ) (kept : List (List ℕ)) (s : Contents) (fuel : ℕ) (whole : Whole)
+    → AnswersStandard story line kept s fuel whole
+    → any_turn_on story line fuel (play_keeping kept (play_of s)) ≡ Some whole
 unfolding any_turn_on
-answers_standard story line s fuel whole h =
-    ap (λ p. any_pending story p line fuel (play_of s)) h.1
-    ∙ follows_standard story (play_of s).standard_state (any_given story h.0 line fuel (resumed (play_of s)))
-    (standard_ended (begins (play_of s).standard_state (record { program_counter = (play_of s).program_counter; fuel = fuel })))
+answers_standard story line kept s fuel whole h =
+    ap (λ p. any_pending story p line fuel (play_keeping kept (play_of s))) h.1
+    ∙ follows_standard story (play_of s).standard_state kept (any_given story h.0 line fuel (resumed (play_of s)))
+    (standard_ended (begins (play_of s).standard_state kept (record { program_counter = (play_of s).program_counter; fuel = fuel })))
     whole h.2
 
 -- a machine of the whole Standard that was loaded
@@ -131,11 +142,12 @@ standard_player story seed machine s h = record {
 }
 
 -- its turns
-pub standard_machine_turn : (header : Header) (story : Story) (line : Option (Bor (List ℕ))) (s : Contents) (fuel : ℕ)
-    (whole : Whole) → OpensOrAnswersStandard story line s fuel whole
-    → PlayerTurn (record { header = header; loaded = Some story }) line s fuel whole
-standard_machine_turn header story None s fuel whole h = opens_standard story s fuel whole h
-standard_machine_turn header story (Some line) s fuel whole h = answers_standard story line.now s fuel whole h
+pub standard_machine_turn : (header : Header) (story : Story) (line : Option (Bor (List ℕ))) (kept : List (List ℕ))
+    (s : Contents) (fuel : ℕ) (whole : Whole) → OpensOrAnswersStandard story line kept s fuel whole
+    → PlayerTurn (record { header = header; loaded = Some story }) line kept s fuel whole
+standard_machine_turn header story None kept s fuel whole h = λ none.
+    opens_standard story s fuel whole (subst (λ k. OpensStandard story k s fuel whole) none h)
+standard_machine_turn header story (Some line) kept s fuel whole h = answers_standard story line.now kept s fuel whole h
 
 -- a store on which one can be played
 pub standard_ready : (header : Header) (story : Story) (line : Option (Bor (List ℕ))) (s : Contents)

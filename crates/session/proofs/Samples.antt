@@ -23,7 +23,7 @@ all_times = refl
 -- a session that keeps one turn
 
 abbrev state : ℕ → StateOfPlay
-state n = record { memory = []; frames = []; pending = None; program_counter = n; standard_state = at_rest }
+state n = record { memory = []; frames = []; pending = None; program_counter = n; standard_state = at_rest; kept = [] }
 
 abbrev at_start : Session
 at_start = record {

@@ -22,7 +22,7 @@ use Rattle.session.proofs.Plays.{plays_front, last_text_at, last_place_at, last_
 abbrev pub some_whole : Whole
 some_whole =
     record {
-      state = record { memory = []; frames = []; pending = None; program_counter = 0; standard_state = at_rest };
+      state = record { memory = []; frames = []; pending = None; program_counter = 0; standard_state = at_rest; kept = [] };
       place = places.Quit;
       text = [];
     }

@@ -15,20 +15,25 @@ use Rattle.zcore.specs.declared.place.Place.TheVariants as places
 use Rattle.zcore.specs.Turn.{StateOfPlay}
 use Rattle.machine_frames.specs.Contents.{Contents, bound_of}
 use Rattle.machine_frames.specs.Playing.{whole_of}
+use Rattle.std.specs.List.{zip}
+use Rattle.zcore_standard.specs.Machine.{keeping, play_keeping}
 use Rattle.machine_frames.specs.States.{play_of, IsStoreOf}
 use Rattle.machine_frames.specs.Went.{GivenUp, GoesOn}
 use Rattle.machine_frames.proofs.Steps.{given_up_after, store_after}
 use Rattle.machine.specs.Ended.{TurnEndsBy}
+use Rattle.session.specs.declared.turns.Reached.{Reached}
 use Rattle.session.specs.declared.turns.Turn.{Turn}
 use Rattle.session.specs.Session.{Session, largest_record}
 use Rattle.session.specs.Stepped.{with_turn}
 use Rattle.session.specs.Times.{all_cells}
-use Rattle.session.specs.Inside.{records_of, with_cells, places_of, view_of, IsReady, IsBetweenTurns}
+use Rattle.session.specs.Inside.{kept_of, records_of, with_cells, places_of, view_of, IsReady, IsBetweenTurns}
 use Rattle.session.specs.Turned.{Turned}
 use Rattle.session.specs.Modes.{Known, CanTake, turn_with}
 use Rattle.session.specs.Players.{LineTurn}
 use Rattle.session.proofs.Views.{view_state, view_fuel, view_loaded, header_base}
 use Rattle.session.specs.Written.{text_of, line_of}
+use Rattle.session.proofs.Insides.{play_with, states_with}
+use Rattle.session.proofs.Zips.{zip_push, zip_take}
 use Rattle.session.proofs.Moves.{cells_taken, length-all_cells}
 
 -- a list cut behind its entry k, and one entry more
@@ -45,10 +50,11 @@ all_taken P xs k x le all p n d lt =
     ]
 
 -- a turn whose line was given to a waiting store
-pub record IsPlayed (known : Known) (old new : Recording Contents) (line : List ℕ) (fuel : ℕ) (t : Turn) : Type 0
+pub record IsPlayed (known : Known) (kept : List (List ℕ)) (old new : Recording Contents) (line : List ℕ) (fuel : ℕ)
+    (t : Turn) : Type 0
   where
-    pub turn : LineTurn known line old.store fuel (whole_of new.store t.place (text_of t.written))
-    pub waits : t.place ≡ places.Waiting → CanTake known.loaded new.store
+    pub turn : LineTurn known line kept old.store fuel (keeping t.reached.kept (whole_of new.store t.reached.place (text_of t.written)))
+    pub waits : t.reached.place ≡ places.Waiting → CanTake known.loaded new.store
     pub line_is : (line_of t.written) ≡ line
     pub store : IsStoreOf known.header new.store
     pub fixed : new.store.fixed ≡ old.store.fixed
@@ -63,54 +69,73 @@ map_taken : {X : Type 0} (f : Turn → X) (turns : List Turn) (k : ℕ) (t : Tur
     → map f (take k turns ++ t ∷ []) ≡ take k (map f turns) ++ f t ∷ []
 map_taken f turns k t = map_push f (take k turns) t ∙ ap (λ xs. xs ++ f t ∷ []) (sym (take-map f k turns))
 
-taken_cells : (known : Known) (old new : Recording Contents) (line : List ℕ) (fuel : ℕ) (turns : List Turn) (k : ℕ)
-    (t : Turn) → k ≤ length turns → IsPlayed known old new line fuel t
+taken_cells : (known : Known) (kept_before : List (List ℕ)) (old new : Recording Contents) (line : List ℕ) (fuel : ℕ) (turns : List Turn) (k : ℕ)
+    (t : Turn) → k ≤ length turns → IsPlayed known kept_before old new line fuel t
     → all_cells new.store.cells (records_of (take k turns ++ t ∷ [])) (k + 1)
     ≡ take (k + 1) (all_cells old.store.cells (records_of turns) k) ++ new.store.cells ∷ []
-taken_cells known old new line fuel turns k t le h =
+taken_cells known kept_before old new line fuel turns k t le h =
     ap (λ rs. all_cells new.store.cells rs (k + 1)) (map_taken (λ x. x.overwritten) turns k t)
     ∙ cells_taken old.store.cells new.store.cells t.overwritten (records_of turns) k
     (omega (arith, length-map turns (λ (x : Turn). x.overwritten))) h.back_is
 
-taken_places : (first : Place) (turns : List Turn) (k : ℕ) (t : Turn)
-    → places_of first (take k turns ++ t ∷ []) ≡ take (k + 1) (places_of first turns) ++ t.place ∷ []
+taken_places : (first : Reached) (turns : List Turn) (k : ℕ) (t : Turn)
+    → places_of first (take k turns ++ t ∷ []) ≡ take (k + 1) (places_of first turns) ++ t.reached.place ∷ []
 taken_places first turns k t =
-    ap (λ ps. first ∷ ps) (map_taken (λ x. x.place) turns k t)
-    ∙ ap (λ n. take n (places_of first turns) ++ t.place ∷ []) (sym (add-one k))
+    ap (λ ps. first.place ∷ ps) (map_taken (λ x. x.reached.place) turns k t)
+    ∙ ap (λ n. take n (places_of first turns) ++ t.reached.place ∷ []) (sym (add-one k))
 
-abbrev states_with : List ℕ → List (List ℕ) → List StateOfPlay
-states_with fixed cells = map (λ c. play_of (record { cells = c; fixed = fixed })) cells
+taken_kept : (first : Reached) (turns : List Turn) (k : ℕ) (t : Turn)
+    → kept_of first (take k turns ++ t ∷ []) ≡ take (k + 1) (kept_of first turns) ++ t.reached.kept ∷ []
+taken_kept first turns k t =
+    ap (λ ks. first.kept ∷ ks) (map_taken (λ x. x.reached.kept) turns k t)
+    ∙ ap (λ n. take n (kept_of first turns) ++ t.reached.kept ∷ []) (sym (add-one k))
 
-taken_states : (known : Known) (old new : Recording Contents) (line : List ℕ) (fuel : ℕ) (turns : List Turn)
-    (k : ℕ) (t : Turn) → k ≤ length turns → IsPlayed known old new line fuel t
+taken_states : (known : Known) (kept_before : List (List ℕ)) (old new : Recording Contents) (first : Reached) (line : List ℕ) (fuel : ℕ)
+    (turns : List Turn) (k : ℕ) (t : Turn) → k ≤ length turns → IsPlayed known kept_before old new line fuel t
     → states_with new.store.fixed (all_cells new.store.cells (records_of (take k turns ++ t ∷ [])) (k + 1))
-    ≡ take (k + 1) (states_with old.store.fixed (all_cells old.store.cells (records_of turns) k))
-    ++ play_of new.store ∷ []
-taken_states known old new line fuel turns k t le h =
-    let cells = all_cells old.store.cells (records_of turns) k in
-    ap (states_with new.store.fixed) (taken_cells known old new line fuel turns k t le h)
-    ∙ map_push (λ c. play_of (record { cells = c; fixed = new.store.fixed })) (take (k + 1) cells) new.store.cells
-    ∙ ap (λ f. states_with f (take (k + 1) cells) ++ play_of new.store ∷ []) h.fixed
-    ∙ ap (λ xs. xs ++ play_of new.store ∷ [])
-    (sym (take-map (λ c. play_of (record { cells = c; fixed = old.store.fixed })) (k + 1) cells))
+    (kept_of first (take k turns ++ t ∷ []))
+    ≡ take (k + 1) (states_with old.store.fixed (all_cells old.store.cells (records_of turns) k) (kept_of first turns))
+    ++ play_keeping t.reached.kept (play_of new.store) ∷ []
+taken_states known kept_before old new first line fuel turns k t le h =
+    let cells : List (List ℕ) = all_cells old.store.cells (records_of turns) k in
+    let kept : List (List (List ℕ)) = kept_of first turns in
+    let many : length cells ≡ length turns + 1 = length-all_cells old.store.cells (records_of turns) k
+    (omega (arith, length-map turns (λ (x : Turn). x.overwritten)))
+    ∙ ap (λ m. m + 1) (length-map turns (λ (x : Turn). x.overwritten)) in
+    let same : length (take (k + 1) cells) ≡ length (take (k + 1) kept) =
+    length-take-le (k + 1) cells (omega arith)
+    ∙ sym (length-take-le (k + 1) kept (omega (arith, length-map turns (λ (x : Turn). x.reached.kept)))) in
+    ap (λ cs. states_with new.store.fixed cs (kept_of first (take k turns ++ t ∷ [])))
+    (taken_cells known kept_before old new line fuel turns k t le h)
+    ∙ ap (states_with new.store.fixed (take (k + 1) cells ++ new.store.cells ∷ [])) (taken_kept first turns k t)
+    ∙ ap (map (play_with new.store.fixed))
+    (zip_push (take (k + 1) cells) (take (k + 1) kept) new.store.cells t.reached.kept same)
+    ∙ map_push (play_with new.store.fixed) (zip (take (k + 1) cells) (take (k + 1) kept))
+    (new.store.cells, t.reached.kept)
+    ∙ ap (λ f. map (play_with f) (zip (take (k + 1) cells) (take (k + 1) kept))
+    ++ play_keeping t.reached.kept (play_of new.store) ∷ []) h.fixed
+    ∙ ap (λ xs. map (play_with old.store.fixed) xs ++ play_keeping t.reached.kept (play_of new.store) ∷ [])
+    (sym (zip_take (k + 1) cells kept))
+    ∙ ap (λ xs. xs ++ play_keeping t.reached.kept (play_of new.store) ∷ [])
+    (sym (take-map (play_with old.store.fixed) (k + 1) (zip cells kept)))
 
-pub taken_view : (keep : Option ℕ) (units : ℕ) (known : Known) (opening : List ℕ) (old new : Recording Contents)
-    (first : Place) (line : List ℕ) (turns : List Turn) (k : ℕ) (t : Turn) (given_up : List ℕ) → k ≤ length turns
-    → IsPlayed known old new line units t
+pub taken_view : (keep : Option ℕ) (units : ℕ) (known : Known) (kept_before : List (List ℕ)) (opening : List ℕ) (old new : Recording Contents)
+    (first : Reached) (line : List ℕ) (turns : List Turn) (k : ℕ) (t : Turn) (given_up : List ℕ) → k ≤ length turns
+    → IsPlayed known kept_before old new line units t
     → view_of keep units known opening new.store first (take k turns ++ t ∷ []) (k + 1) given_up
-    ≡ with_turn line (length t.overwritten) (whole_of new.store t.place (text_of t.written))
+    ≡ with_turn line (length t.overwritten) (keeping t.reached.kept (whole_of new.store t.reached.place (text_of t.written)))
     (view_of keep units known opening old.store first turns k given_up)
 unfolding view_of
-taken_view keep units known opening old new first line turns k t given_up le h =
+taken_view keep units known kept_before opening old new first line turns k t given_up le h =
     let more = take k turns ++ t ∷ [] in
-    let v : Session = with_turn line (length t.overwritten) (whole_of new.store t.place (text_of t.written))
+    let v : Session = with_turn line (length t.overwritten) (keeping t.reached.kept (whole_of new.store t.reached.place (text_of t.written)))
     (view_of keep units known opening old.store first turns k given_up) in
     let texts : List (List ℕ) = map (λ x. text_of x.written) more in
     let lines : List (List ℕ) = map (λ x. line_of x.written) more in
     let sizes : List ℕ = map (λ x. length x.overwritten) more in
     ap {A = List StateOfPlay}
     (λ x. record v { states = x; places = places_of first more; texts = texts; lines = lines; sizes = sizes })
-    (taken_states known old new line units turns k t le h)
+    (taken_states known kept_before old new first line units turns k t le h)
     ∙ ap {A = List Place} (λ x. record v { places = x; texts = texts; lines = lines; sizes = sizes })
     (taken_places first turns k t)
     ∙ ap {A = List (List ℕ)} (λ x. record v { texts = x; lines = lines; sizes = sizes })
@@ -120,15 +145,15 @@ taken_view keep units known opening old new first line turns k t given_up le h =
     ∙ ap (λ l. take k (map (λ x. line_of x.written) turns) ++ l ∷ []) h.line_is)
     ∙ ap {A = List ℕ} (λ x. record v { sizes = x }) (map_taken (λ x. length x.overwritten) turns k t)
 
-taken_ready : (known : Known) (old new : Recording Contents) (first : Place) (line : List ℕ) (units : ℕ)
+taken_ready : (known : Known) (kept_before : List (List ℕ)) (old new : Recording Contents) (first : Reached) (line : List ℕ) (units : ℕ)
     (turns : List Turn) (k : ℕ) (t : Turn) → IsBetweenTurns known old first turns k
-    → IsPlayed known old new line units t
+    → IsPlayed known kept_before old new line units t
     → (n : ℕ) → n ≤ k + 1
     → IsReady known
     (with_cells new.store
     (get_or (take (k + 1) (all_cells old.store.cells (records_of turns) k) ++ new.store.cells ∷ []) n []))
-    (get_or (take (k + 1) (places_of first turns) ++ t.place ∷ []) n places.Quit)
-taken_ready known old new first line units turns k t i h n le =
+    (get_or (take (k + 1) (places_of first turns) ++ t.reached.place ∷ []) n places.Quit)
+taken_ready known kept_before old new first line units turns k t i h n le =
     let cells = all_cells old.store.cells (records_of turns) k in
     let ps = places_of first turns in
     let within = i.within in
@@ -137,23 +162,23 @@ taken_ready known old new first line units turns k t i h n le =
     ∙ ap (λ m. m + 1) (length-map turns (λ (x : Turn). x.overwritten)) in
     let long : length (take (k + 1) cells) ≡ k + 1 = length-take-le (k + 1) cells (omega arith) in
     let spots : length (take (k + 1) ps) ≡ k + 1 = length-take-le (k + 1) ps
-    (omega (arith, length-map turns (λ (x : Turn). x.place))) in
+    (omega (arith, length-map turns (λ (x : Turn). x.reached.place))) in
     elim (eq-or-lt_of_le le) [
       | inl e ↦
           let c : get_or (take (k + 1) cells ++ new.store.cells ∷ []) n []
           ≡ new.store.cells = get_or_push (take (k + 1) cells) new.store.cells [] n (omega arith) in
-          let p : get_or (take (k + 1) ps ++ t.place ∷ []) n places.Quit
-          ≡ t.place = get_or_push (take (k + 1) ps) t.place places.Quit n (omega arith) in
-          let now : IsReady known new.store t.place = record { store = h.store; waits = h.waits } in
+          let p : get_or (take (k + 1) ps ++ t.reached.place ∷ []) n places.Quit
+          ≡ t.reached.place = get_or_push (take (k + 1) ps) t.reached.place places.Quit n (omega arith) in
+          let now : IsReady known new.store t.reached.place = record { store = h.store; waits = h.waits } in
           subst (λ x. IsReady known (with_cells new.store x)
-          (get_or (take (k + 1) ps ++ t.place ∷ []) n places.Quit)) (sym c)
+          (get_or (take (k + 1) ps ++ t.reached.place ∷ []) n places.Quit)) (sym c)
           (subst (λ x. IsReady known new.store x) (sym p) now)
       | inr less ↦
           let c : get_or (take (k + 1) cells ++ new.store.cells ∷ []) n []
           ≡ get_or cells n [] = get_or_append_left (take (k + 1) cells) (new.store.cells ∷ []) [] n (omega arith)
           ∙ get_or-take (k + 1) cells n [] less in
-          let p : get_or (take (k + 1) ps ++ t.place ∷ []) n places.Quit
-          ≡ get_or ps n places.Quit = get_or_append_left (take (k + 1) ps) (t.place ∷ []) places.Quit n
+          let p : get_or (take (k + 1) ps ++ t.reached.place ∷ []) n places.Quit
+          ≡ get_or ps n places.Quit = get_or_append_left (take (k + 1) ps) (t.reached.place ∷ []) places.Quit n
           (omega arith) ∙ get_or-take (k + 1) ps n places.Quit less in
           let before : IsReady known (with_cells old.store (get_or cells n [])) (get_or ps n places.Quit) = i.ready
           n (omega arith) in
@@ -161,15 +186,15 @@ taken_ready known old new first line units turns k t i h n le =
           (λ f. IsReady known (record { cells = get_or cells n []; fixed = f }) (get_or ps n places.Quit))
           (sym h.fixed) before in
           subst (λ x. IsReady known (with_cells new.store x)
-          (get_or (take (k + 1) ps ++ t.place ∷ []) n places.Quit)) (sym c)
+          (get_or (take (k + 1) ps ++ t.reached.place ∷ []) n places.Quit)) (sym c)
           (subst (λ x. IsReady known (with_cells new.store (get_or cells n [])) x) (sym p) fixed)
     ]
 
-pub taken_between : (known : Known) (old new : Recording Contents) (first : Place) (line : List ℕ) (units : ℕ)
+pub taken_between : (known : Known) (kept_before : List (List ℕ)) (old new : Recording Contents) (first : Reached) (line : List ℕ) (units : ℕ)
     (turns : List Turn) (k : ℕ) (t : Turn) → IsBetweenTurns known old first turns k
-    → IsPlayed known old new line units t
+    → IsPlayed known kept_before old new line units t
     → IsBetweenTurns known new first (take k turns ++ t ∷ []) (k + 1)
-taken_between known old new first line units turns k t i h =
+taken_between known kept_before old new first line units turns k t i h =
     let long : length (take k turns ++ t ∷ []) ≡ k + 1 = length_push (take k turns) t
     ∙ ap (λ m. m + 1) (length-take-le k turns i.within) in
     let rs = records_of turns in
@@ -189,35 +214,38 @@ taken_between known old new first line units turns k t i h =
       ready = λ n small.
           subst (λ cs. IsReady known (with_cells new.store (get_or cs n []))
           (get_or (places_of first (take k turns ++ t ∷ [])) n places.Quit))
-          (sym (taken_cells known old new line units turns k t i.within h))
+          (sym (taken_cells known kept_before old new line units turns k t i.within h))
           (subst (λ ps. IsReady known
           (with_cells new.store
           (get_or (take (k + 1) (all_cells old.store.cells rs k) ++ new.store.cells ∷ []) n []))
           (get_or ps n places.Quit)) (sym (taken_places first turns k t))
-          (taken_ready known old new first line units turns k t i h n (omega (arith, long))));
+          (taken_ready known kept_before old new first line units turns k t i h n (omega (arith, long))));
     }
 
 -- the session then is one turn on
-pub taken_turned : (keep : Option ℕ) (units : ℕ) (known : Known) (opening : List ℕ) (old new : Recording Contents)
-    (first : Place) (line : List ℕ) (turns more : List Turn) (k : ℕ) (t : Turn) (given_up : List ℕ) (v : Session)
+pub taken_turned : (keep : Option ℕ) (units : ℕ) (known : Known) (kept_before : List (List ℕ)) (opening : List ℕ) (old new : Recording Contents)
+    (first : Reached) (line : List ℕ) (turns more : List Turn) (k : ℕ) (t : Turn) (given_up : List ℕ) (v : Session)
     → view_of keep units known opening old.store first turns k given_up ≡ v → k ≤ length turns
-    → IsPlayed known old new line units t → more ≡ take k turns ++ t ∷ []
+    → IsPlayed known kept_before old new line units t → more ≡ take k turns ++ t ∷ []
+    → get_or (kept_of first turns) k [] ≡ kept_before
     → Turned line v (view_of keep units known opening new.store first more (k + 1) given_up)
-taken_turned keep units known opening old new first line turns more k t given_up v is le h e = record {
-  whole = whole_of new.store t.place (text_of t.written);
+taken_turned keep units known kept_before opening old new first line turns more k t given_up v is le h e before =
+    let state = play_keeping kept_before (play_of old.store) in record {
+  whole = keeping t.reached.kept (whole_of new.store t.reached.place (text_of t.written));
   size = length t.overwritten;
   turn = λ d.
       ap (λ p. turn_with v.loaded line v.fuel p)
-      (view_state keep units known opening old.store first turns k given_up v d is le)
-      ∙ ap (λ n. turn_with v.loaded line n (play_of old.store))
+      (view_state keep units known opening old.store first turns k given_up v d is le
+      ∙ ap (λ kept. play_keeping kept (play_of old.store)) before)
+      ∙ ap (λ n. turn_with v.loaded line n state)
       (view_fuel keep units known opening old.store first turns k given_up v is)
-      ∙ ap (λ l. turn_with l line units (play_of old.store))
+      ∙ ap (λ l. turn_with l line units state)
       (view_loaded keep units known opening old.store first turns k given_up v is)
       ∙ h.turn;
   small = omega (arith, h.small, header_base keep units known opening old.store first turns k given_up v is);
   is = ap (λ ts. view_of keep units known opening new.store first ts (k + 1) given_up) e
-      ∙ taken_view keep units known opening old new first line turns k t given_up le h
-      ∙ ap {A = Session} (λ w. with_turn line (length t.overwritten) (whole_of new.store t.place (text_of t.written)) w) is;
+      ∙ taken_view keep units known kept_before opening old new first line turns k t given_up le h
+      ∙ ap {A = Session} (λ w. with_turn line (length t.overwritten) (keeping t.reached.kept (whole_of new.store t.reached.place (text_of t.written))) w) is;
 }
 
 -- how long stores of one machine are
@@ -239,18 +267,18 @@ kept_line before text bytes line n is size all front =
     ∙ ap (λ (x : List ℕ). take (length x) text) (sym is) ∙ front ∙ is
 
 -- what `turn`, `keep_written` and `close` say, as a turn that was played
-pub played : (known : Known) (old ran mid new : Recording Contents) (line : List ℕ) (units : ℕ) (t : Turn)
+pub played : (known : Known) (kept_before : List (List ℕ)) (old ran mid new : Recording Contents) (line : List ℕ) (units : ℕ) (t : Turn)
     (before text : List ℕ) → IsStoreOf known.header old.store
-    → TurnEndsBy (CanTake known.loaded) (LineTurn known line old.store units) old before ran text (Ok t.place) → mid ≡ ran → before ≡ line
+    → TurnEndsBy (CanTake known.loaded) (λ w. LineTurn known line kept_before old.store units (keeping t.reached.kept w)) old before ran text (Ok t.reached.place) → mid ≡ ran → before ≡ line
     → t.written.line ≡ length line → t.written.bytes ≡ text → old.beginning ≡ old.store.cells
     → (back mid.store.cells t.overwritten).cells ≡ mid.beginning
     → Fits (length mid.store.cells) bound_of t.overwritten
     → length t.overwritten ≤ length mid.store.cells
     → new ≡ record { store = mid.store; beginning = mid.store.cells; kept = [] }
-    → IsPlayed known old new line units t
-played known old ran mid new line units t before text o ended same first long all begun was fits small e =
-    let ends : TurnEndsBy (CanTake known.loaded) (LineTurn known line old.store units) old before mid text (Ok t.place) =
-    subst (λ (r : Recording Contents). TurnEndsBy (CanTake known.loaded) (LineTurn known line old.store units) old before r text (Ok t.place))
+    → IsPlayed known kept_before old new line units t
+played known kept_before old ran mid new line units t before text o ended same first long all begun was fits small e =
+    let ends : TurnEndsBy (CanTake known.loaded) (λ w. LineTurn known line kept_before old.store units (keeping t.reached.kept w)) old before mid text (Ok t.reached.place) =
+    subst (λ (r : Recording Contents). TurnEndsBy (CanTake known.loaded) (λ w. LineTurn known line kept_before old.store units (keeping t.reached.kept w)) old before r text (Ok t.reached.place))
     (sym same) ended in
     let words : drop (length before) text ≡ text_of t.written =
     kept_text before text t.written.bytes line t.written.line first long all in
@@ -258,9 +286,10 @@ played known old ran mid new line units t before text o ended same first long al
     kept_line before text t.written.bytes line t.written.line first long all ends.front in
     let store : IsStoreOf known.header mid.store = store_after o ends.goes_on in
     let size : length mid.store.cells ≡ largest_record known.header.static_base = store_size known.header mid.store store in
-    let result : IsPlayed known old (record { store = mid.store; beginning = mid.store.cells; kept = [] }) line
+    let result : IsPlayed known kept_before old (record { store = mid.store; beginning = mid.store.cells; kept = [] }) line
     units t = record {
-      turn = subst (λ x. LineTurn known line old.store units (whole_of mid.store t.place x)) words ends.whole;
+      turn = subst (λ x. LineTurn known line kept_before old.store units
+          (keeping t.reached.kept (whole_of mid.store t.reached.place x))) words ends.whole;
       waits = ends.waits;
       line_is = is;
       store = store;
@@ -272,7 +301,7 @@ played known old ran mid new line units t before text o ended same first long al
       idle = refl;
       begun = refl;
     } in
-    subst (λ r. IsPlayed known old r line units t) (sym e) result
+    subst (λ r. IsPlayed known kept_before old r line units t) (sym e) result
 
 -- a turn that is given up leaves the store as it was between turns
 as_before : (old new : Recording Contents) → GivenUp old new → old.beginning ≡ old.store.cells → IsNothingKept old
@@ -285,7 +314,7 @@ as_before old new g begun idle =
     same_recording new.store old.store new.beginning old.beginning new.kept old.kept store g.beginning
     (g.kept ∙ sym idle)
 
-pub given_up_between : (known : Known) (old ran new : Recording Contents) (first : Place) (turns more : List Turn)
+pub given_up_between : (known : Known) (old ran new : Recording Contents) (first : Reached) (turns more : List Turn)
     (k : ℕ) → IsBetweenTurns known old first turns k → GoesOn old ran → GivenUp ran new → more ≡ turns
     → IsBetweenTurns known new first more k
 given_up_between known old ran new first turns more k i on g e =
@@ -294,7 +323,7 @@ given_up_between known old ran new first turns more k i on g e =
     (sym (as_before old new (given_up_after on g) i.begun i.idle)) i)
 
 pub given_up_view : (keep : Option ℕ) (units : ℕ) (known : Known) (opening : List ℕ)
-    (old ran new : Recording Contents) (first : Place) (turns more : List Turn) (k : ℕ) (given_up : List ℕ)
+    (old ran new : Recording Contents) (first : Reached) (turns more : List Turn) (k : ℕ) (given_up : List ℕ)
     (v : Session) → IsBetweenTurns known old first turns k → GoesOn old ran → GivenUp ran new → more ≡ turns
     → view_of keep units known opening old.store first turns k given_up ≡ v
     → view_of keep units known opening new.store first more k given_up ≡ v

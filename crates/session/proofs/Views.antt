@@ -1,36 +1,52 @@
 -- The parts of a session, as its view tells them.
-use Rattle.std.proofs.Common.{◌≡◌, ℕ, suc, ◌-◌, ◌≤◌, ◌<◌, List, [], length, get_or, ap, sym, ◌∙◌, arith, Option}
+use Rattle.std.proofs.Common.{◌≡◌, ℕ, suc, ◌+◌, ◌-◌, ◌≤◌, ◌<◌, List, [], length, get_or, ap, sym, ◌∙◌, arith, Option}
 use Rattle.std.proofs.lemmas.List.{get_or-map, length-map}
 use Rattle.zcore.specs.declared.place.Place.{Place}
 use Rattle.zcore.specs.declared.place.Place.TheVariants as places
 use Rattle.zcore.specs.Turn.{StateOfPlay}
 use Rattle.machine_frames.specs.Contents.{Contents}
 use Rattle.machine_frames.specs.States.{play_of}
+use Rattle.session.specs.declared.turns.Reached.{Reached}
 use Rattle.session.specs.declared.turns.Turn.{Turn}
 use Rattle.session.specs.Modes.{Known}
 use Rattle.session.specs.Session.{Session}
 use Rattle.session.specs.Times.{all_cells}
-use Rattle.session.specs.Inside.{records_of, places_of, view_of}
+use Rattle.session.specs.Inside.{kept_of, play_at, records_of, places_of, view_of}
+use Rattle.session.proofs.Zips.{length-zip, zip_at}
+use Rattle.std.specs.List.{zip}
+use Rattle.zcore_standard.specs.Machine.{play_keeping}
 use Rattle.session.specs.Written.{text_of, line_of}
 use Rattle.session.proofs.Moves.{present_cells, length-all_cells}
 
-pub first_place : (first : Place) (turns : List Turn) (done : ℕ) → done ≡ 0
-    → first ≡ get_or (places_of first turns) done places.Quit
+pub first_place : (first : Reached) (turns : List Turn) (done : ℕ) → done ≡ 0
+    → first.place ≡ get_or (places_of first turns) done places.Quit
 first_place first turns done e = sym (ap (λ k. get_or (places_of first turns) k places.Quit) e)
 
-pub later_place : (first : Place) (turns : List Turn) (done : ℕ) (t : Turn) → 0 < done → done ≤ length turns
-    → t ≡ get_or turns (done - 1) t → t.place ≡ get_or (places_of first turns) done places.Quit
+pub later_place : (first : Reached) (turns : List Turn) (done : ℕ) (t : Turn) → 0 < done → done ≤ length turns
+    → t ≡ get_or turns (done - 1) t → t.reached.place ≡ get_or (places_of first turns) done places.Quit
 later_place first turns done t some le is =
     let e : suc (done - 1) ≡ done = omega arith in
-    ap (λ (x : Turn). x.place) is ∙ sym (get_or-map (λ x. x.place) turns (done - 1) t places.Quit (omega arith))
+    ap (λ (x : Turn). x.reached.place) is ∙ sym (get_or-map (λ x. x.reached.place) turns (done - 1) t places.Quit (omega arith))
     ∙ ap (λ k. get_or (places_of first turns) k places.Quit) e
+
+pub first_kept : (first : Reached) (turns : List Turn) (done : ℕ) → done ≡ 0
+    → first.kept ≡ get_or (kept_of first turns) done []
+first_kept first turns done e = sym (ap (λ k. get_or (kept_of first turns) k []) e)
+
+pub later_kept : (first : Reached) (turns : List Turn) (done : ℕ) (t : Turn) → 0 < done → done ≤ length turns
+    → t ≡ get_or turns (done - 1) t → t.reached.kept ≡ get_or (kept_of first turns) done []
+later_kept first turns done t some le is =
+    let e : suc (done - 1) ≡ done = omega arith in
+    ap (λ (x : Turn). x.reached.kept) is
+    ∙ sym (get_or-map (λ x. x.reached.kept) turns (done - 1) t [] (omega arith))
+    ∙ ap (λ k. get_or (kept_of first turns) k []) e
 
 -- where the view says how many turns are done, and how many there are
 pub record Counted (v : Session) (turns : List Turn) (done : ℕ) : Type 0 where
   pub present : done ≡ v.present
   pub size : length turns ≡ length v.lines
 
-pub counted : (keep : Option ℕ) (fuel : ℕ) (known : Known) (opening : List ℕ) (store : Contents) (first : Place)
+pub counted : (keep : Option ℕ) (fuel : ℕ) (known : Known) (opening : List ℕ) (store : Contents) (first : Reached)
     (turns : List Turn) (done : ℕ) (given_up : List ℕ) (v : Session)
     → view_of keep fuel known opening store first turns done given_up ≡ v → Counted v turns done
 unfolding view_of
@@ -40,7 +56,7 @@ counted keep fuel known opening store first turns done given_up v is = record {
 }
 
 -- the text of a turn
-pub turn_text : (keep : Option ℕ) (fuel : ℕ) (known : Known) (opening : List ℕ) (store : Contents) (first : Place)
+pub turn_text : (keep : Option ℕ) (fuel : ℕ) (known : Known) (opening : List ℕ) (store : Contents) (first : Reached)
     (turns : List Turn) (done : ℕ) (given_up : List ℕ) (v : Session) (k : ℕ) (t : Turn)
     → view_of keep fuel known opening store first turns done given_up ≡ v → k < length turns → t ≡ get_or turns k t
     → (text_of t.written) ≡ get_or v.texts k []
@@ -50,7 +66,7 @@ turn_text keep fuel known opening store first turns done given_up v k t is lt at
     ∙ ap (λ (w : Session). get_or w.texts k []) is
 
 -- the size of a turn's record
-pub turn_size : (keep : Option ℕ) (fuel : ℕ) (known : Known) (opening : List ℕ) (store : Contents) (first : Place)
+pub turn_size : (keep : Option ℕ) (fuel : ℕ) (known : Known) (opening : List ℕ) (store : Contents) (first : Reached)
     (turns : List Turn) (done : ℕ) (given_up : List ℕ) (v : Session) (k : ℕ) (t : Turn)
     → view_of keep fuel known opening store first turns done given_up ≡ v → k < length turns → t ≡ get_or turns k t
     → length t.overwritten ≡ get_or v.sizes k 0
@@ -60,12 +76,12 @@ turn_size keep fuel known opening store first turns done given_up v k t is lt at
     ∙ ap (λ (w : Session). get_or w.sizes k 0) is
 
 pub header_base : (keep : Option ℕ) (fuel : ℕ) (known : Known) (opening : List ℕ) (store : Contents)
-    (first : Place) (turns : List Turn) (done : ℕ) (given_up : List ℕ) (v : Session)
+    (first : Reached) (turns : List Turn) (done : ℕ) (given_up : List ℕ) (v : Session)
     → view_of keep fuel known opening store first turns done given_up ≡ v → known.header.static_base ≡ v.static_base
 unfolding view_of
 header_base keep fuel known opening store first turns done given_up v is = ap (λ (w : Session). w.static_base) is
 
-pub view_place : (keep : Option ℕ) (fuel : ℕ) (known : Known) (opening : List ℕ) (store : Contents) (first : Place)
+pub view_place : (keep : Option ℕ) (fuel : ℕ) (known : Known) (opening : List ℕ) (store : Contents) (first : Reached)
     (turns : List Turn) (done : ℕ) (given_up : List ℕ) (v : Session)
     → view_of keep fuel known opening store first turns done given_up ≡ v
     → get_or (places_of first turns) done places.Quit ≡ get_or v.places v.present places.Quit
@@ -73,39 +89,46 @@ unfolding view_of
 view_place keep fuel known opening store first turns done given_up v is = ap
     (λ (w : Session). get_or w.places w.present places.Quit) is
 
-pub view_state : (keep : Option ℕ) (fuel : ℕ) (known : Known) (opening : List ℕ) (store : Contents) (first : Place)
+pub view_state : (keep : Option ℕ) (fuel : ℕ) (known : Known) (opening : List ℕ) (store : Contents) (first : Reached)
     (turns : List Turn) (done : ℕ) (given_up : List ℕ) (v : Session) (d : StateOfPlay)
     → view_of keep fuel known opening store first turns done given_up ≡ v → done ≤ length turns
-    → get_or v.states v.present d ≡ play_of store
+    → get_or v.states v.present d ≡ play_keeping (get_or (kept_of first turns) done []) (play_of store)
 unfolding view_of
 view_state keep fuel known opening store first turns done given_up v d is le =
     let rs = records_of turns in
+    let kept : List (List (List ℕ)) = kept_of first turns in
     let in_reach : done ≤ length rs = omega (arith, length-map turns (λ (x : Turn). x.overwritten)) in
+    let cells : List (List ℕ) = all_cells store.cells rs done in
+    let many : length cells ≡ length turns + 1 = length-all_cells store.cells rs done in_reach
+    ∙ ap (λ m. m + 1) (length-map turns (λ (x : Turn). x.overwritten)) in
+    let as_many : length kept ≡ length turns + 1 = omega (arith, length-map turns (λ (x : Turn). x.reached.kept)) in
     ap (λ (w : Session). get_or w.states w.present d) (sym is)
-    ∙ get_or-map (λ c. play_of (record { cells = c; fixed = store.fixed })) (all_cells store.cells rs done) done [] d
-    (omega (arith, length-all_cells store.cells rs done in_reach))
-    ∙ ap (λ c. play_of (record { cells = c; fixed = store.fixed })) (present_cells store.cells rs done [] in_reach)
+    ∙ get_or-map (play_at store) (zip cells kept) done ([], []) d
+    (omega (arith, length-zip cells kept (many ∙ sym as_many), many))
+    ∙ ap (play_at store) (zip_at cells kept done [] [] (omega (arith, many)) (omega (arith, as_many)))
+    ∙ ap (λ c. play_keeping (get_or kept done []) (play_of (record { cells = c; fixed = store.fixed })))
+    (present_cells store.cells rs done [] in_reach)
 
-pub view_fuel : (keep : Option ℕ) (fuel : ℕ) (known : Known) (opening : List ℕ) (store : Contents) (first : Place)
+pub view_fuel : (keep : Option ℕ) (fuel : ℕ) (known : Known) (opening : List ℕ) (store : Contents) (first : Reached)
     (turns : List Turn) (done : ℕ) (given_up : List ℕ) (v : Session)
     → view_of keep fuel known opening store first turns done given_up ≡ v → v.fuel ≡ fuel
 unfolding view_of
 view_fuel keep fuel known opening store first turns done given_up v is = ap (λ (w : Session). w.fuel) (sym is)
 
-pub view_loaded : (keep : Option ℕ) (fuel : ℕ) (known : Known) (opening : List ℕ) (store : Contents) (first : Place)
+pub view_loaded : (keep : Option ℕ) (fuel : ℕ) (known : Known) (opening : List ℕ) (store : Contents) (first : Reached)
     (turns : List Turn) (done : ℕ) (given_up : List ℕ) (v : Session)
     → view_of keep fuel known opening store first turns done given_up ≡ v → v.loaded ≡ known.loaded
 unfolding view_of
 view_loaded keep fuel known opening store first turns done given_up v is = ap (λ (w : Session). w.loaded) (sym is)
 
-pub view_keep : (keep : Option ℕ) (fuel : ℕ) (known : Known) (opening : List ℕ) (store : Contents) (first : Place)
+pub view_keep : (keep : Option ℕ) (fuel : ℕ) (known : Known) (opening : List ℕ) (store : Contents) (first : Reached)
     (turns : List Turn) (done : ℕ) (given_up : List ℕ) (v : Session)
     → view_of keep fuel known opening store first turns done given_up ≡ v → v.keep ≡ keep
 unfolding view_of
 view_keep keep fuel known opening store first turns done given_up v is = ap (λ (w : Session). w.keep) (sym is)
 
 pub view_given_up : (keep : Option ℕ) (fuel : ℕ) (known : Known) (opening : List ℕ) (store : Contents)
-    (first : Place) (turns : List Turn) (done : ℕ) (given_up : List ℕ) (v : Session)
+    (first : Reached) (turns : List Turn) (done : ℕ) (given_up : List ℕ) (v : Session)
     → view_of keep fuel known opening store first turns done given_up ≡ v → given_up ≡ v.given_up
 unfolding view_of
 view_given_up keep fuel known opening store first turns done given_up v is = ap (λ (w : Session). w.given_up) is

@@ -1,12 +1,15 @@
 -- What a session's fields stand for.
 use Rattle.std.specs.Prelude.{◌≡◌, ◌≤◌, ℕ, List, [], ◌∷◌, length, map, slice_index_or, Option}
-use Rattle.std.specs.List.{All}
+use Rattle.std.specs.List.{All, zip}
+use Rattle.zcore.specs.Turn.{StateOfPlay}
+use Rattle.zcore_standard.specs.Machine.{play_keeping}
 use Rattle.journal.specs.Recording.{Recording, IsNothingKept}
 use Rattle.journal.specs.Swap.{Fits, Swapped}
 use Rattle.zcore.specs.declared.place.Place.{Place}
 use Rattle.zcore.specs.declared.place.Place.TheVariants as places
 use Rattle.machine_frames.specs.Contents.{Contents, bound_of}
 use Rattle.machine_frames.specs.States.{play_of, IsStoreOf}
+use Rattle.session.specs.declared.turns.Reached.{Reached}
 use Rattle.session.specs.declared.turns.Turn.{Turn}
 use Rattle.session.specs.Modes.{Known, IsSettled, CanTake}
 use Rattle.session.specs.Session.{Session, largest_record}
@@ -35,24 +38,33 @@ pub record Swaps (swap other : List ℕ → List (ℕ × ℕ) → Swapped) (old 
   pub begun : new.beginning ≡ new.store.cells
 
 -- where the machine stood, from the first place on
-abbrev pub places_of : Place → List Turn → List Place
-places_of first turns = first ∷ map (λ t. t.place) turns
+abbrev pub places_of : Reached → List Turn → List Place
+places_of first turns = first.place ∷ map (λ t. t.reached.place) turns
 
-abbrev pub place_at : Place → List Turn → ℕ → Place
+abbrev pub place_at : Reached → List Turn → ℕ → Place
 place_at first turns k = slice_index_or (places_of first turns) k places.Quit
 
 -- the cells of a store after so many of the turns, where `done` of them are done
 abbrev pub cells_at : Contents → List Turn → ℕ → ℕ → List ℕ
 cells_at store turns done k = slice_index_or (all_cells store.cells (records_of turns) done) k []
 
-unfoldable pub view_of : Option ℕ → ℕ → Known → List ℕ → Contents → Place → List Turn → ℕ → List ℕ → Session
+-- what the story has kept, from the first state on
+abbrev pub kept_of : Reached → List Turn → List (List (List ℕ))
+kept_of first turns = first.kept ∷ map (λ t. t.reached.kept) turns
+
+-- a state of play, by the cells of a store and what the story has kept
+abbrev pub play_at : Contents → List ℕ × List (List ℕ) → StateOfPlay
+play_at store x = play_keeping x.1 (play_of (with_cells store x.0))
+
+unfoldable pub view_of :
+    Option ℕ → ℕ → Known → List ℕ → Contents → Reached → List Turn → ℕ → List ℕ → Session
 view_of keep fuel known opening store first turns done given_up = record {
   keep = keep;
   fuel = fuel;
   loaded = known.loaded;
   static_base = known.header.static_base;
   opening = opening;
-  states = map (λ cells. play_of (with_cells store cells)) (all_cells store.cells (records_of turns) done);
+  states = map (play_at store) (zip (all_cells store.cells (records_of turns) done) (kept_of first turns));
   places = places_of first turns;
   texts = map (λ t. text_of t.written) turns;
   lines = map (λ t. line_of t.written) turns;
@@ -68,7 +80,7 @@ pub record IsReady (known : Known) (s : Contents) (place : Place) : Type 0 where
 
 -- Nothing is recorded between turns, each record fits the store, and at all times that the records reach the store
 -- was one of this machine.
-pub record IsBetweenTurns (known : Known) (store : Recording Contents) (first : Place) (turns : List Turn)
+pub record IsBetweenTurns (known : Known) (store : Recording Contents) (first : Reached) (turns : List Turn)
     (done : ℕ) : Type 0 where
   pub settled : IsSettled known
   pub within : done ≤ length turns

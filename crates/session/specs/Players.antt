@@ -7,6 +7,7 @@ use Rattle.machine_frames.specs.Contents.{Contents, memory_of}
 use Rattle.machine_frames.specs.Playing.{IsOpening}
 use Rattle.machine_frames.specs.States.{state_of, play_of, IsStoreOf}
 use Rattle.machine_standard.specs.Loads.{story_of}
+use Rattle.zcore_standard.specs.Machine.{play_keeping}
 use Rattle.session.specs.declared.fault.OpenFault.{OpenFault}
 use Rattle.session.specs.declared.mode.Mode.{Mode}
 use Rattle.session.specs.declared.player.Player.{Player}
@@ -31,14 +32,14 @@ abbrev pub LoadsPlayer : Mode → List ℕ → Result (Player × Contents) OpenF
 LoadsPlayer mode story (Ok x) = IsPlayerOf mode story (known_of x.0) x.1
 LoadsPlayer mode story (Err fault) = RefusesToLoad mode story fault
 
--- the turn of a line comes to a whole state, from what a store holds
-abbrev pub LineTurn : Known → List ℕ → Contents → ℕ → Whole → Type 0
-LineTurn known line s fuel whole = turn_with known.loaded line fuel (play_of s) ≡ Some whole
+-- the turn of a line comes to a whole state, from what a store holds and what the story has kept
+abbrev pub LineTurn : Known → List ℕ → List (List ℕ) → Contents → ℕ → Whole → Type 0
+LineTurn known line kept s fuel whole = turn_with known.loaded line fuel (play_keeping kept (play_of s)) ≡ Some whole
 
--- a turn: without a line the opening, else that of the line
-abbrev pub PlayerTurn : Known → Option (Bor (List ℕ)) → Contents → ℕ → Whole → Type 0
-PlayerTurn known None s fuel whole = opening_with known.loaded (memory_of s) fuel ≡ Some whole
-PlayerTurn known (Some line) s fuel whole = LineTurn known line.now s fuel whole
+-- a turn: without a line the opening, before which nothing is kept, else that of the line
+abbrev pub PlayerTurn : Known → Option (Bor (List ℕ)) → List (List ℕ) → Contents → ℕ → Whole → Type 0
+PlayerTurn known None kept s fuel whole = kept ≡ [] → opening_with known.loaded (memory_of s) fuel ≡ Some whole
+PlayerTurn known (Some line) kept s fuel whole = LineTurn known line.now kept s fuel whole
 
 -- a store on which it can be played
 abbrev pub IsReadyIn : Known → Option (Bor (List ℕ)) → Contents → Type 0

@@ -5,6 +5,7 @@ ghost use Rattle.std.specs.Prelude.{◌≡◌, []};
 ghost use Rattle.journal.specs.Recording.{IsNothingKept};
 ghost use Rattle.machine.specs.Ended.{TurnEndsBy};
 ghost use Rattle.machine_frames.specs.States.{IsStoreOf, play_of};
+ghost use Rattle.zcore_standard.specs.Machine.{keeping};
 ghost use Rattle.session.specs.Asking.{asks_with, status_with};
 ghost use Rattle.session.specs.Modes.{CanTake, IsSettled, is_typable_with};
 ghost use Rattle.session.specs.Players.{known_of, IsReadyIn, LoadsPlayer, PlayerTurn};
@@ -17,6 +18,7 @@ use machine_standard::StandardMachine;
 use session_lines::{is_short, is_typable};
 use std::alloc::Global;
 use zcore::Place;
+use zcore_standard::KeptStates;
 
 /// The machine that plays a session's story.
 #[derive(Drop)]
@@ -101,16 +103,18 @@ impl Player {
         }
     }
 
-    /// Plays a turn, as [`Machine::turn`] does.
+    /// Plays a turn, as [`Machine::turn`] does. `kept` is what the story has kept before it, and then
+    /// after it; in the profile that is nothing.
     ///
     /// # Errors
     ///
     /// Memory was refused: the turn is given up, the store is as at its beginning, and nothing is
-    /// added to the text.
+    /// added to the text. `kept` may be anything then.
     pub(crate) fn turn(
         &self,
         line: Option<&[u8]>,
         fuel: u32,
+        kept: &mut KeptStates,
         store: &mut Recorded<Store>,
         text: &mut Vec<u8>,
     ) -> Result<Place, NoMemory>
@@ -118,13 +122,16 @@ impl Player {
         requires settled { IsSettled (known_of self.now) }
         requires ready { IsReadyIn (known_of self.now) line store.old.store }
         ensures ends { TurnEndsBy (CanTake (known_of self.now).loaded)
-            (PlayerTurn (known_of self.now) line.entry store.old.store fuel)
+            (λ whole. PlayerTurn (known_of self.now) line.entry kept.old store.old.store fuel (keeping kept.new whole))
             store.old text.old.items store.new text.new.items result }
         ensures text { OnErr result (text.new.items ≡ text.old.items) }
     {
         match self {
-            Player::Profile(machine) => machine.turn(line, fuel, store, text),
-            Player::Standard(machine) => machine.turn(line, fuel, store, text),
+            Player::Profile(machine) => {
+                *kept = KeptStates::none(kept.alloc());
+                machine.turn(line, fuel, store, text)
+            }
+            Player::Standard(machine) => machine.turn(line, fuel, kept, store, text),
         }
     }
 }

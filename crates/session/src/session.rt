@@ -22,7 +22,7 @@ use crate::fault::OpenFault;
 use crate::mode::Mode;
 use crate::player::Player;
 use crate::reply::Reply;
-use crate::turns::{Turn, begin_text, do_again, keep_written, put_turn, take_back};
+use crate::turns::{Reached, Turn, begin_text, do_again, keep_written, put_turn, take_back};
 use crate::written::Written;
 use journal::{NoMemory, Recorded};
 use machine::Store;
@@ -32,6 +32,7 @@ use std::collections::VecDeque;
 use std::marker::Model;
 use std::mem::forget;
 use zcore::Place;
+use zcore_standard::KeptStates;
 
 /// A story that is played line by line. The turns of its lines can be taken back one after another,
 /// and done again until another line is taken; the opening cannot be taken back.
@@ -45,8 +46,8 @@ pub struct Session {
     /// The text of the opening.
     opening: Vec<u8>,
 
-    /// Where the machine stood before the first of the turns.
-    first: Place,
+    /// Where the machine stood before the first of the turns, and what the story had kept.
+    first: Reached,
 
     /// The turns that are kept, and then those that are undone.
     turns: VecDeque<Turn>,
@@ -120,14 +121,15 @@ impl Session {
         };
         let mut store = Recorded::new(alloc, store);
         let mut opening = Vec::new(alloc);
-        match player.turn(None, fuel, &mut store, &mut opening) {
-            Ok(first) => {
+        let mut kept = KeptStates::none(alloc);
+        match player.turn(None, fuel, &mut kept, &mut store, &mut opening) {
+            Ok(place) => {
                 store.close();
                 Ok(Session {
                     player,
                     store,
                     opening,
-                    first,
+                    first: Reached { place, kept },
                     turns: VecDeque::new(alloc),
                     done: 0,
                     fuel,
@@ -169,9 +171,9 @@ impl Session {
             (λ game s. result ≡ place_on game s.done) }
     {
         if self.done == 0 {
-            self.first
+            self.first.place
         } else {
-            self.turns[self.done - 1].place
+            self.turns[self.done - 1].reached.place
         }
     }
 
@@ -314,18 +316,38 @@ impl Session {
         ensures same { OnErr result (self.new ≡ self.old) }
     {
         begin_text(&mut self.turns, &mut self.gathered, line)?;
-        let place = self
-            .player
-            .turn(Some(line), self.fuel, &mut self.store, &mut self.gathered)?;
+        let mut kept = match self.kept().share() {
+            Ok(kept) => kept,
+            Err(_) => return Err(NoMemory),
+        };
+        let place = self.player.turn(
+            Some(line),
+            self.fuel,
+            &mut kept,
+            &mut self.store,
+            &mut self.gathered,
+        )?;
         let written = keep_written(self.alloc, &mut self.store, &self.gathered, line.len())?;
         let turn = Turn {
             written,
-            place,
+            reached: Reached { place, kept },
             overwritten: self.store.close(),
         };
         put_turn(&mut self.turns, self.done, turn);
         self.done += 1;
         Ok(())
+    }
+
+    /// The states that the story has kept at the present.
+    fn kept(&self) -> &KeptStates
+        ensures { (state : StateOfPlay) → result.now
+            ≡ (slice_index_or self.now.states self.now.present state).kept }
+    {
+        if self.done == 0 {
+            &self.first.kept
+        } else {
+            &self.turns[self.done - 1].reached.kept
+        }
     }
 
     /// Gives up the oldest turn where more are kept than may be. It takes no memory.
@@ -348,8 +370,9 @@ impl Session {
         ensures { self.new ≡ without_oldest self.old }
     {
         if let Some(oldest) = self.turns.pop_front() {
-            self.first = oldest.place;
-            self.given_up = oldest.into_written();
+            let (written, reached) = oldest.into_parts();
+            self.first = reached;
+            self.given_up = written;
             self.done -= 1;
         }
     }

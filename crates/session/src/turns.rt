@@ -15,6 +15,17 @@ use machine::Store;
 use std::alloc::Global;
 use std::collections::VecDeque;
 use zcore::Place;
+use zcore_standard::KeptStates;
+
+/// What a turn led to, besides its store.
+#[derive(Drop)]
+pub(crate) struct Reached {
+    /// Where it left the machine.
+    pub(crate) place: Place,
+
+    /// The states that the story has kept.
+    pub(crate) kept: KeptStates,
+}
 
 /// A turn that a line led to.
 #[derive(Drop)]
@@ -22,20 +33,22 @@ pub(crate) struct Turn {
     /// The line, and what the turn printed.
     pub(crate) written: Written,
 
-    /// Where it left the machine.
-    pub(crate) place: Place,
+    /// Where it left the machine, and what the story had kept then.
+    pub(crate) reached: Reached,
 
     /// What it overwrote, or, once it is taken back, what it had written.
     pub(crate) overwritten: Record,
 }
 
 impl Turn {
-    /// Its line, and what it printed.
-    pub(crate) fn into_written(self) -> Written
-        ensures { result ≡ self.written }
+    /// Its line and what it printed, and what it led to.
+    pub(crate) fn into_parts(self) -> (Written, Reached)
+        ensures { result ≡ (self.written, self.reached) }
     {
-        let Turn { written, .. } = self;
-        written
+        let Turn {
+            written, reached, ..
+        } = self;
+        (written, reached)
     }
 }
 

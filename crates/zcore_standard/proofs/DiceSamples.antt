@@ -54,10 +54,10 @@ sets_32768 : rolled 0x8000 (counting 2) ≡ (0, seeded 32768)
 sets_32768 = refl
 
 abbrev from : Here
-from = plain (seeded 12345) (record { program_counter = 100; fuel = 5 })
+from = plain (seeded 12345) [] (record { program_counter = 100; fuel = 5 })
 
 stored : random from 103 (Some 0) 100 (first_state [])
-    ≡ done (plain (seeded 1002789326) (record { program_counter = 103; fuel = 5 }))
+    ≡ done (plain (seeded 1002789326) [] (record { program_counter = 103; fuel = 5 }))
     (record (first_state []) { frames = record first_environment { stack = 2 ∷ [] } ∷ [] })
 unfolding random give_result test_result store_result write_variable push
 stored = refl

@@ -1,4 +1,4 @@
--- restart, catch, throw, verify, saves and undo, computed.
+-- restart, catch, throw, verify and saves, computed.
 use Rattle.std.proofs.Common.{◌≡◌, ℕ, List, [], ◌∷◌, ◌++◌, replicate, Option, Some, None, true, false, refl}
 use Rattle.zcore.specs.declared.instruction.Branch.{Branch}
 use Rattle.zcore.specs.declared.next.Next.{Next}
@@ -10,7 +10,7 @@ use Rattle.zcore.specs.Parts.{test_result, store_result, write_variable, write_l
 use Rattle.zcore.specs.Parts.{take_branch, branch_on}
 use Rattle.zcore.specs.State.{Frame, State, done, halt}
 use Rattle.zcore.specs.Turn.{first_environment, first_state}
-use Rattle.zcore_standard.specs.declared.operations.StandardOperation.TheVariants.{Piracy, Save, Restore, SaveUndo, RestoreUndo}
+use Rattle.zcore_standard.specs.declared.operations.StandardOperation.TheVariants.{Piracy, Save, Restore}
 use Rattle.zcore_standard.specs.Flags.{with_kept_bits}
 use Rattle.zcore_standard.specs.Flow.{restart, catch, leave_frame, throw, verify}
 use Rattle.zcore_standard.specs.Fuel.{spend_for}
@@ -45,15 +45,16 @@ abbrev playing : Here
 playing = record {
   next = here;
   standard_state = record { window = 1; random = 7; interval = 3; counter = 2 };
+  kept = (1 ∷ 2 ∷ []) ∷ [];
   streams = record { table = 64; from = 2 } ∷ [];
   upper = Some (record { from = 1; mark = 1; row = 1 });
 }
 
--- dynamic memory, frames and dice are as at loading, and a unit is spent; the text stays, without that of the stream and
--- of the upper window
+-- dynamic memory, frames and dice are as at loading, and a unit is spent; kept states stay, and so does the text, without
+-- that of the stream and of the upper window
 restarted : restart loaded playing
     (record (first_state (story 5)) { frames = called 70 ∷ first_environment ∷ []; text = 65 ∷ 66 ∷ 67 ∷ [] })
-    ≡ done (plain (seeded 12345) (record { program_counter = 66; fuel = 4 }))
+    ≡ done (plain (seeded 12345) ((1 ∷ 2 ∷ []) ∷ []) (record { program_counter = 66; fuel = 4 }))
     (record (first_state (story 1)) { text = 65 ∷ [] })
 unfolding restart spend spend_for
 restarted = refl
@@ -135,7 +136,7 @@ piracy : perform_keeping loaded Piracy (record here { program_counter = 66 }) 70
 unfolding perform_keeping branch_on take_branch test_target go
 piracy = refl
 
--- save, restore and restore_undo fail, save_undo answers -1
+-- save and restore fail
 abbrev with_result : ℕ → State
 with_result word = record (first_state []) { frames = record first_environment { stack = word ∷ [] } ∷ [] }
 
@@ -148,13 +149,3 @@ restore : perform_keeping loaded Restore here 104 (Some 0) None (70 ∷ 4 ∷ 72
     ≡ done (record here { program_counter = 104 }) (with_result 0)
 unfolding perform_keeping give_result test_result store_result write_variable push
 restore = refl
-
-save_undo : perform_keeping loaded SaveUndo here 104 (Some 0) None [] (first_state [])
-    ≡ done (record here { program_counter = 104 }) (with_result 0xFFFF)
-unfolding perform_keeping give_result test_result store_result write_variable push
-save_undo = refl
-
-restore_undo : perform_keeping loaded RestoreUndo here 104 (Some 0) None [] (first_state [])
-    ≡ done (record here { program_counter = 104 }) (with_result 0)
-unfolding perform_keeping give_result test_result store_result write_variable push
-restore_undo = refl

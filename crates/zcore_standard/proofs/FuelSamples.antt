@@ -95,13 +95,13 @@ prints_257 = refl
 
 -- a stream to 64 is closed, of so many bytes
 abbrev with_stream : Here
-with_stream = record (plain (seeded 0) here) { streams = record { table = 64; from = 0 } ∷ [] }
+with_stream = record (plain (seeded 0) [] here) { streams = record { table = 64; from = 0 } ∷ [] }
 
 abbrev with_text : ℕ → State
 with_text count = record state { text = replicate count 65 }
 
 closes_256 : output_stream [] with_stream 106 (0xFFFD ∷ []) (with_text 256)
-    ≡ done (plain (seeded 0) there)
+    ≡ done (plain (seeded 0) [] there)
     (first_state (replicate 14 0 ++ 1 ∷ 144 ∷ replicate 48 0 ++ 1 ∷ 0 ∷ replicate 256 65 ++ replicate 78 0))
 unfolding output_stream test_table spend_cut close characters_in write_bytes settled spend_for
 closes_256 = refl
@@ -122,10 +122,10 @@ abbrev loaded : Loaded
 loaded = record { dynamic = []; dice = seeded 0; is_sum_right = false; characters = []; own_alphabets = None }
 
 abbrev with_unit : Here
-with_unit = plain (seeded 0) (record { program_counter = 100; fuel = 1 })
+with_unit = plain (seeded 0) [] (record { program_counter = 100; fuel = 1 })
 
 restarts_256 : restart loaded with_unit (with_base 1 0)
-    ≡ done (plain (seeded 0) (record { program_counter = 0; fuel = 0 })) (with_base 1 0)
+    ≡ done (plain (seeded 0) [] (record { program_counter = 0; fuel = 0 })) (with_base 1 0)
 unfolding restart spend spend_for
 restarts_256 = refl
 

@@ -26,7 +26,7 @@ abbrev story : List ℕ → State
 story bytes = first_state (replicate 15 0 ++ (80 ∷ []) ++ replicate 48 0 ++ bytes ++ replicate 20 0)
 
 abbrev at : ℕ → Here
-at place = begins (seeded 12345) (record { program_counter = place; fuel = 5 })
+at place = begins (seeded 12345) [] (record { program_counter = place; fuel = 5 })
 
 abbrev with_word : List ℕ → ℕ → State
 with_word bytes word = record (story bytes) { frames = record first_environment { stack = word ∷ [] } ∷ [] }

@@ -38,7 +38,7 @@ own_table = refl
 
 abbrev with_streams : List Stream → ℕ → Here
 with_streams streams place =
-    record (plain (seeded 12345) (record { program_counter = place; fuel = 5 })) { streams = streams }
+    record (plain (seeded 12345) [] (record { program_counter = place; fuel = 5 })) { streams = streams }
 
 abbrev stream : ℕ → ℕ → Stream
 stream table from = record { table = table; from = from }

@@ -20,6 +20,7 @@ abbrev here : ℕ → List Stream → Option Upper → Here
 here window streams upper = record {
   next = record { program_counter = 100; fuel = 5 };
   standard_state = record (seeded 12345) { window = window };
+  kept = [];
   streams = streams;
   upper = upper;
 }
@@ -35,10 +36,10 @@ stream = record { table = 64; from = 2 }
 
 -- The beginning of a turn, and set_window
 
-begins_lower : begins (seeded 12345) (record { program_counter = 100; fuel = 5 }) ≡ here 0 [] None
+begins_lower : begins (seeded 12345) [] (record { program_counter = 100; fuel = 5 }) ≡ here 0 [] None
 begins_lower = refl
 
-begins_upper : begins (record (seeded 12345) { window = 1 }) (record { program_counter = 100; fuel = 5 })
+begins_upper : begins (record (seeded 12345) { window = 1 }) [] (record { program_counter = 100; fuel = 5 })
     ≡ here 1 [] (upper 0 0 1)
 begins_upper = refl
 

@@ -27,7 +27,8 @@ use Rattle.zcore_standard.specs.Instruction.{Instruction}
 use Rattle.zcore_standard.specs.Shifts.{log_shift, art_shift}
 use Rattle.zcore_standard.specs.Dice.{random}
 use Rattle.zcore_standard.specs.Unicode.{print_unicode, check_unicode}
-use Rattle.zcore_standard.specs.Flow.{restart, catch, throw, verify, failed, has_no_undo}
+use Rattle.zcore_standard.specs.Flow.{restart, catch, throw, verify, failed}
+use Rattle.zcore_standard.specs.SavedStates.{save_undo, restore_undo}
 use Rattle.zcore_standard.specs.Screen.{get_cursor, set_font}
 use Rattle.zcore_standard.specs.Windows.{set_window, set_cursor, erase_window, split_window}
 use Rattle.zcore_standard.specs.Streams.{output_stream}
@@ -50,7 +51,7 @@ words_of_table = 0x82
 abbrev pub one_row : ℕ
 one_row = 1
 
--- The operations that leave windows, dice and streams as they are, with the address after the instruction, the variable
+-- The operations that leave windows, dice, streams and kept states as they are, with the address after the instruction, the variable
 -- for the result, the branch, and the values of the operands.
 unfoldable pub perform_keeping :
     Loaded → StandardOperation → Next → ℕ → Option ℕ → Option Branch → List ℕ → State → Out Next
@@ -83,8 +84,6 @@ perform_keeping loaded LogShift here after result branch values = log_shift here
 perform_keeping loaded ArtShift here after result branch values = art_shift here after result
     (first values) (second values)
 perform_keeping loaded SetFont here after result branch values = set_font here after result (first values)
-perform_keeping loaded SaveUndo here after result branch values = give_result here after result has_no_undo
-perform_keeping loaded RestoreUndo here after result branch values = give_result here after result failed
 perform_keeping loaded PrintUnicode here after result branch values = print_unicode here after (first values)
 perform_keeping loaded CheckUnicode here after result branch values = check_unicode loaded.characters here after result
     (first values)
@@ -105,6 +104,8 @@ perform_further loaded SetCursor here after result branch values = set_cursor (p
     (second values)
 perform_further loaded EraseWindow here after result branch values = erase_window (past here after) (first values)
 perform_further loaded SplitWindow here after result branch values = split_window (past here after) (first values)
+perform_further loaded SaveUndo here after result branch values = save_undo loaded here after result
+perform_further loaded RestoreUndo here after result branch values = restore_undo loaded here after result
 perform_further loaded operation here after result branch values = λ s.
     within here (perform_keeping loaded operation here.next after result branch values s)
 

@@ -214,10 +214,9 @@ perform_keeping_falls loaded operations.ArtShift here after result branch values
     result (slice_index values 0) (slice_index values 1) ahead
 perform_keeping_falls loaded operations.SetFont here after result branch values ahead = set_font_falls here after
     result (slice_index values 0) ahead
-perform_keeping_falls loaded operations.SaveUndo here after result branch values ahead = give_result_falls here after
-    result _ ahead
-perform_keeping_falls loaded operations.RestoreUndo here after result branch values ahead = give_result_falls here
-    after result _ ahead
+perform_keeping_falls loaded operations.SaveUndo here after result branch values ahead = fault_falls here faults.Opcode
+perform_keeping_falls loaded operations.RestoreUndo here after result branch values ahead = fault_falls here
+    faults.Opcode
 perform_keeping_falls loaded operations.PrintUnicode here after result branch values ahead = print_unicode_falls here
     after (slice_index values 0) ahead
 perform_keeping_falls loaded operations.CheckUnicode here after result branch values ahead = check_unicode_falls

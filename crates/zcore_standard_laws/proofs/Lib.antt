@@ -19,3 +19,4 @@ pub mod Waiting
 pub mod GivenAlike
 pub mod Turning
 pub mod Running
+pub mod Restoring

@@ -1,8 +1,10 @@
 -- A step of the Standard's machine makes the profile's weight fall.
 use Rattle.std.proofs.Common.{◌≡◌, ℕ, ◌+◌, ◌*◌, ◌<◌, ◌≤◌, ◌/◌, ◌%◌, List, [], length, drop, refl, ap, sym, ◌∙◌, arith}
-use Rattle.std.proofs.Common.{slice_index, slice_index_or, Bool, false, Option, Some, None, Result, Ok, Err}
+use Rattle.std.proofs.Common.{slice_index, slice_index_or, Bool, true, false, Option, Some, None, Result, Ok, Err}
+use Rattle.std.proofs.Common.{◌-◌, ◌∷◌, if◌then◌else◌}
+use Rattle.std.proofs.Math.Nat.{mul-le-mul_right}
 use Rattle.std.specs.Prelude.{◌==◌, nat_lt}
-use Rattle.std.proofs.lemmas.List.{length-set}
+use Rattle.std.proofs.lemmas.List.{length-set, length-reverse}
 use Rattle.zcore.specs.declared.instruction.Branch.{Branch}
 use Rattle.zcore.specs.declared.place.Fault.{Fault}
 use Rattle.zcore.specs.declared.place.Fault.TheVariants as faults
@@ -11,11 +13,12 @@ use Rattle.zcore.specs.Instruction.{byte, operands, variable_types, given_types,
 use Rattle.zcore.specs.State.{State, Out, done, halt}
 use Rattle.zcore.specs.Header.{static_base_of}
 use Rattle.zcore.specs.Layout.{header_size}
-use Rattle.zcore.specs.Parts.{operand_values, spend}
-use Rattle.zcore.specs.Turn.{with_bytes}
+use Rattle.zcore.specs.Effects.{give_result}
+use Rattle.zcore.specs.Parts.{operand_values, spend, store_result, goes_on}
+use Rattle.zcore.specs.Turn.{weight, with_bytes, first_environment}
 use Rattle.zcore.proofs.Ahead as ahead
-use Rattle.zcore.proofs.Keeping.{spend_less, keeps_spend}
-use Rattle.zcore.proofs.KeepingReads.{done_state, done_value, never, both, keeps_operand_values}
+use Rattle.zcore.proofs.Keeping.{spend_less, keeps_spend, keeps_store_result}
+use Rattle.zcore.proofs.KeepingReads.{alike_same, done_state, done_value, never, both, keeps_operand_values}
 use Rattle.zcore.proofs.FallsOfParts as parts
 use Rattle.zcore.proofs.FallsOfParts.{Lighter, lighter_alike}
 use Rattle.zcore.proofs.FallsOfEffects.{give_result_falls}
@@ -28,7 +31,13 @@ use Rattle.zcore_standard.specs.Instruction.{Instruction, typed, types_at, count
 use Rattle.zcore_standard.specs.Instruction.{decode_row, row_types, short_types}
 use Rattle.zcore.specs.declared.operations.OpcodeRow.{OpcodeRow}
 use Rattle.zcore_standard.specs.Dice.{rolled, random}
+use Rattle.quetzal.specs.SaveFiles.{Saved, saved_in}
+use Rattle.quetzal.specs.declared.fault.SaveFault.{SaveFault}
+use Rattle.quetzal.proofs.FewFrames.{few_saved}
 use Rattle.zcore_standard.specs.Flow.{restart}
+use Rattle.zcore_standard.specs.Keeping.{newest, with_newest, without_newest}
+use Rattle.zcore_standard.specs.SavedStates.{can_be_kept, file_of, restore_newest, restore_undo, resume, resume_if_read}
+use Rattle.zcore_standard.specs.SavedStates.{save_undo, state_in, take_up}
 use Rattle.zcore_standard.specs.Fuel.{spend_for}
 use Rattle.zcore_standard.specs.Performing.{perform_keeping, perform_further, execute_further}
 use Rattle.zcore_standard.specs.Nothing.{step_known}
@@ -95,6 +104,101 @@ restart_lighter loaded here s t next inside h =
     parts.spent_lighter here.next next.next s t memory (omega (arith, frames)) (omega (arith, fuel, few, less))
     (λ _. omega (arith, frames))
 
+-- one of two ends
+either_lighter : (here next : Here) (s t : State) (is : Bool) (o p : Out Here)
+    → (o ≡ done next t → Lighter here.next s next.next t) → (p ≡ done next t → Lighter here.next s next.next t)
+    → (if is then o else p) ≡ done next t → Lighter here.next s next.next t
+either_lighter here next s t true o p one two h = one h
+either_lighter here next s t false o p one two h = two h
+
+within_lighter : (here there : Here) (f : State → Out Next)
+    → ((s t : State) (next : Next) → here.next.program_counter < length s.memory → f s ≡ done next t
+    → Lighter here.next s next t) → LighterFrom here (λ s. within there (f s))
+within_lighter here there f lighter s t next inside h = lighter s t next.next inside (within_done there next (f s) t h)
+
+give_result_lighter : (here : Next) (after : ℕ) (result : Option ℕ) (word : ℕ) → here.program_counter < after
+    → (s t : State) (next : Next) → here.program_counter < length s.memory
+    → give_result here after result word s ≡ done next t → Lighter here s next t
+give_result_lighter here after result word past s t next inside h =
+    (give_result_falls here after result word past s t next inside h).lighter
+
+save_undo_lighter : (loaded : Loaded) (here : Here) (after : ℕ) (result : Option ℕ) → here.next.program_counter < after
+    → LighterFrom here (save_undo loaded here after result)
+unfolding save_undo
+save_undo_lighter loaded here after result past s t next inside h =
+    either_lighter here next s t (can_be_kept s) _ _
+    (λ e. give_result_lighter here.next after result 1 past s t next.next inside
+    (within_done (record here { kept = with_newest (file_of loaded (after - 1) s) here.kept }) next
+    (give_result here.next after result 1 s) t e))
+    (λ e. give_result_lighter here.next after result 65535 past s t next.next inside
+    (within_done here next (give_result here.next after result 65535 s) t e)) h
+
+-- A unit is spent, and there are at most as many frames as there may be: the weight falls, whatever the frames were.
+less_than_any : (less fuel few many size place target : ℕ) → less < fuel → few ≤ 1001
+    → less * (1002 * (size + 1)) + few * (size + 1) + (size - target) + 1
+    < fuel * (1002 * (size + 1)) + many * (size + 1) + (size - place) + 1
+less_than_any less fuel few many size place target p q =
+    let a = parts.less_times less fuel (1002 * (size + 1)) p in
+    let b : few * (size + 1) ≤ 1001 * (size + 1) = mul-le-mul_right (size + 1) q in
+    omega arith
+
+any_frames_lighter : (here next : Next) (s t : State) → length t.memory ≡ length s.memory → length t.frames ≤ 1001
+    → next.fuel < here.fuel → Lighter here s next t
+unfolding weight
+any_frames_lighter here next s t memory frames fuel =
+    let h = less_than_any next.fuel here.fuel (length t.frames) (length s.frames) (length s.memory)
+    here.program_counter next.program_counter fuel frames in
+    record { falls = rw memory h; memory = memory; frames = λ _. frames }
+
+-- a state is taken up that has no more frames than there may be
+resume_lighter : (saved : Saved) (here : Next) → length saved.stacks.calls + 1 ≤ 1001 → (s t : State) (next : Next)
+    → resume saved here.fuel s ≡ done next t → Lighter here s next t
+unfolding resume take_up
+resume_lighter saved here few s t next h =
+    let p = both (spend here.fuel s) _ next t h in
+    let less = spend_less here.fuel s p.between p.value p.first in
+    let one = keeps_spend here.fuel s p.between p.value p.first in
+    let u : State = state_in saved p.between in
+    let variable : Option ℕ = Some (slice_index u.memory saved.program_counter) in
+    let r = both (store_result variable 2 u) (λ _. goes_on (saved.program_counter + 1) p.value) next t p.second in
+    let three = keeps_store_result variable 2 u r.between r.value r.first in
+    let four = alike_same r.between t
+    (done_state (record { program_counter = saved.program_counter + 1; fuel = p.value }) next r.between t r.second) in
+    let v = done_value (record { program_counter = saved.program_counter + 1; fuel = p.value }) next r.between t r.second in
+    let memory : length t.memory ≡ length s.memory = four.memory ∙ three.memory
+        ∙ length-with_bytes p.between.memory header_size (drop header_size saved.memory) ∙ one.memory in
+    let frames : length t.frames ≡ length saved.stacks.calls + 1 = four.frames ∙ three.frames
+        ∙ length-reverse (record first_environment { stack = saved.stacks.stack } ∷ saved.stacks.calls)
+        ∙ omega arith in
+    let fuel : next.fuel ≡ p.value = ap (λ (x : Next). x.fuel) v in
+    any_frames_lighter here next s t memory (omega (arith, frames, few)) (omega (arith, fuel, less))
+
+resume_if_read_lighter : (r : Result Saved SaveFault) (here : Next) (after : ℕ) (result : Option ℕ)
+    → here.program_counter < after → ((saved : Saved) → r ≡ Ok saved → length saved.stacks.calls + 1 ≤ 1001)
+    → (s t : State) (next : Next) → here.program_counter < length s.memory
+    → resume_if_read r here after result s ≡ done next t → Lighter here s next t
+resume_if_read_lighter (Err fault) here after result past few s t next inside h =
+    give_result_lighter here after result 0 past s t next inside h
+resume_if_read_lighter (Ok saved) here after result past few s t next inside h =
+    resume_lighter saved here (few saved refl) s t next h
+
+restore_newest_lighter : (loaded : Loaded) (here : Here) (after : ℕ) (result : Option ℕ) (files : List (List ℕ))
+    → here.next.program_counter < after → LighterFrom here (restore_newest loaded here after result files)
+restore_newest_lighter loaded here after result [] past s t next inside h =
+    within_lighter here here (give_result here.next after result 0) (give_result_lighter here.next after result 0 past)
+    s t next inside h
+restore_newest_lighter loaded here after result (file ∷ files) past s t next inside h =
+    let r = saved_in loaded.dynamic (length s.memory) file in
+    resume_if_read_lighter r here.next after result past
+    (λ saved e. few_saved loaded.dynamic (length s.memory) file saved e) s t next.next inside
+    (within_done (record here { kept = without_newest here.kept }) next (resume_if_read r here.next after result s) t h)
+
+restore_undo_lighter : (loaded : Loaded) (here : Here) (after : ℕ) (result : Option ℕ)
+    → here.next.program_counter < after → LighterFrom here (restore_undo loaded here after result)
+unfolding restore_undo
+restore_undo_lighter loaded here after result past =
+    restore_newest_lighter loaded here after result (newest here.kept) past
+
 keeping_falls : (loaded : Loaded) (operation : StandardOperation) (here : Here) (after : ℕ) (result : Option ℕ)
     (branch : Option Branch) (values : List ℕ) → here.next.program_counter < after
     → FallsFrom here (λ s. within here (perform_keeping loaded operation here.next after result branch values s))
@@ -122,6 +226,10 @@ perform_further_lighter loaded operations.EraseWindow here after result branch v
     (erase_window_falls here after (slice_index values 0) past)
 perform_further_lighter loaded operations.SplitWindow here after result branch values past = lighter_from here _
     (split_window_falls here after (slice_index values 0) past)
+perform_further_lighter loaded operations.SaveUndo here after result branch values past =
+    save_undo_lighter loaded here after result past
+perform_further_lighter loaded operations.RestoreUndo here after result branch values past =
+    restore_undo_lighter loaded here after result past
 perform_further_lighter loaded operation here after result branch values past = lighter_from here _
     (keeping_falls loaded operation here after result branch values past)
 

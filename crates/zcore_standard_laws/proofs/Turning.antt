@@ -108,9 +108,9 @@ some_is : (a b : Whole) → (let o : Option Whole = Some a in o) ≡ Some b → 
 some_is a b h = cc
 
 -- where the lower window is selected, a turn begins with no upper one
-begins_plain : (standard_state : StandardState) (next : Next) → standard_state.window ≡ 0 → begins standard_state next ≡ plain standard_state next
-begins_plain standard_state next e =
-    ap (λ (w : ℕ). let h : Here = record (plain standard_state next) { upper = if w == 0 then None else Some (begun_at 0) } in h)
+begins_plain : (standard_state : StandardState) (kept_states : List (List ℕ)) (next : Next) → standard_state.window ≡ 0 → begins standard_state kept_states next ≡ plain standard_state kept_states next
+begins_plain standard_state kept_states next e =
+    ap (λ (w : ℕ). let h : Here = record (plain standard_state kept_states next) { upper = if w == 0 then None else Some (begun_at 0) } in h)
     e
 
 both_same : {A : Type 0} (b : Bool) (a : A) → cond b a a ≡ a
@@ -118,48 +118,48 @@ both_same true a = refl
 both_same false a = refl
 
 -- and ends as in the profile
-ended_plain : (standard_state : StandardState) (here : Next) (place : Place) (s : State)
-    → standard_ended (plain standard_state here) place s ≡ with_standard_state standard_state (ended here place s)
-ended_plain standard_state here place s =
-    ap (λ text. with_standard_state standard_state (ended here place (record s { text = text }))) (both_same (is_waiting place) s.text)
+ended_plain : (standard_state : StandardState) (kept_states : List (List ℕ)) (here : Next) (place : Place) (s : State)
+    → standard_ended (plain standard_state kept_states here) place s ≡ with_standard_state standard_state kept_states (ended here place s)
+ended_plain standard_state kept_states here place s =
+    ap (λ text. with_standard_state standard_state kept_states (ended here place (record s { text = text }))) (both_same (is_waiting place) s.text)
 
 -- a step of the profile, and what follows it
-after_keeps : (loaded : Loaded) (standard_state : StandardState) (here : Next) (s : State) (count : ℕ) (whole : Whole) (o : Out Next)
+after_keeps : (loaded : Loaded) (standard_state : StandardState) (kept_states : List (List ℕ)) (here : Next) (s : State) (count : ℕ) (whole : Whole) (o : Out Next)
     → ((next : Next) (t : State) → turn_in count next t ≡ Some whole
-    → turn_by (standard loaded) count (plain standard_state next) t ≡ Some (with_standard_state standard_state whole))
+    → turn_by (standard loaded) count (plain standard_state kept_states next) t ≡ Some (with_standard_state standard_state kept_states whole))
     → is_fault whole.place ≡ false
-    → (ends_in_fault o ≡ false → standard_step loaded (plain standard_state here) s ≡ within (plain standard_state here) o)
+    → (ends_in_fault o ≡ false → standard_step loaded (plain standard_state kept_states here) s ≡ within (plain standard_state kept_states here) o)
     → after_step o (turn_in count) (λ place t. Some (ended here place t)) ≡ Some whole
-    → turn_by (standard loaded) (suc count) (plain standard_state here) s ≡ Some (with_standard_state standard_state whole)
-after_keeps loaded standard_state here s count whole (done next t) rest plays same e =
+    → turn_by (standard loaded) (suc count) (plain standard_state kept_states here) s ≡ Some (with_standard_state standard_state kept_states whole)
+after_keeps loaded standard_state kept_states here s count whole (done next t) rest plays same e =
     ap (λ o. after_step o (turn_by (standard loaded) count)
-    (λ place u. Some ((standard loaded).ended (plain standard_state here) place u))) (same refl)
+    (λ place u. Some ((standard loaded).ended (plain standard_state kept_states here) place u))) (same refl)
     ∙ rest next t e
-after_keeps loaded standard_state here s count whole (halt place t) rest plays same e =
+after_keeps loaded standard_state kept_states here s count whole (halt place t) rest plays same e =
     let w : ended here place t ≡ whole = some_is _ whole e in
     ap (λ o. after_step o (turn_by (standard loaded) count)
-    (λ place u. Some ((standard loaded).ended (plain standard_state here) place u)))
+    (λ place u. Some ((standard loaded).ended (plain standard_state kept_states here) place u)))
     (same (ap (λ (x : Whole). is_fault x.place) w ∙ plays))
-    ∙ ap (λ x. Some x) (ended_plain standard_state here place t)
-    ∙ ap (λ x. Some (with_standard_state standard_state x)) w
+    ∙ ap (λ x. Some x) (ended_plain standard_state kept_states here place t)
+    ∙ ap (λ x. Some (with_standard_state standard_state kept_states x)) w
 
-turn_in_keeps : (loaded : Loaded) (standard_state : StandardState) (count : ℕ) (here : Next) (s : State) (whole : Whole)
+turn_in_keeps : (loaded : Loaded) (standard_state : StandardState) (kept_states : List (List ℕ)) (count : ℕ) (here : Next) (s : State) (whole : Whole)
     → loaded.own_alphabets ≡ None → turn_in count here s ≡ Some whole → is_fault whole.place ≡ false
-    → turn_by (standard loaded) count (plain standard_state here) s ≡ Some (with_standard_state standard_state whole)
-turn_in_keeps loaded standard_state zero here s whole own e plays = absurd (cc)
-turn_in_keeps loaded standard_state (suc count) here s whole own e plays =
-    after_keeps loaded standard_state here s count whole (step here s)
-    (λ next t h. turn_in_keeps loaded standard_state count next t whole own h plays) plays
-    (λ h. standard_steps loaded (plain standard_state here) s own h refl) e
+    → turn_by (standard loaded) count (plain standard_state kept_states here) s ≡ Some (with_standard_state standard_state kept_states whole)
+turn_in_keeps loaded standard_state kept_states zero here s whole own e plays = absurd (cc)
+turn_in_keeps loaded standard_state kept_states (suc count) here s whole own e plays =
+    after_keeps loaded standard_state kept_states here s count whole (step here s)
+    (λ next t h. turn_in_keeps loaded standard_state kept_states count next t whole own h plays) plays
+    (λ h. standard_steps loaded (plain standard_state kept_states here) s own h refl) e
 
-pub standard_turn_keeps : (loaded : Loaded) (standard_state : StandardState) (here : Next) (s : State) (whole : Whole)
+pub standard_turn_keeps : (loaded : Loaded) (standard_state : StandardState) (kept_states : List (List ℕ)) (here : Next) (s : State) (whole : Whole)
     → loaded.own_alphabets ≡ None → standard_state.window ≡ 0
     → turn_from here s ≡ Some whole → is_fault whole.place ≡ false
-    → standard_turn loaded (begins standard_state here) s ≡ Some (with_standard_state standard_state whole)
+    → standard_turn loaded (begins standard_state kept_states here) s ≡ Some (with_standard_state standard_state kept_states whole)
 unfolding turn_from standard_turn
-standard_turn_keeps loaded standard_state here s whole own lower e plays =
-    ap (λ first. turn_by (standard loaded) (weight here s) first s) (begins_plain standard_state here lower)
-    ∙ turn_in_keeps loaded standard_state (weight here s) here s whole own e plays
+standard_turn_keeps loaded standard_state kept_states here s whole own lower e plays =
+    ap (λ first. turn_by (standard loaded) (weight here s) first s) (begins_plain standard_state kept_states here lower)
+    ∙ turn_in_keeps loaded standard_state kept_states (weight here s) here s whole own e plays
 
 -- The turn of a line
 
@@ -167,28 +167,28 @@ line_keeps : (loaded : Loaded) (fuel : ℕ) (play : StateOfPlay) (whole : Whole)
     → loaded.own_alphabets ≡ None → play.standard_state.window ≡ 0 → is_fault whole.place ≡ false
     → after_step o turn_from
     (λ place s. Some (ended (record { program_counter = play.program_counter; fuel = fuel }) place s)) ≡ Some whole
-    → after_step o (λ next s. standard_turn loaded (begins play.standard_state next) s)
+    → after_step o (λ next s. standard_turn loaded (begins play.standard_state play.kept next) s)
     (λ place s. Some (standard_ended
-    (begins play.standard_state (record { program_counter = play.program_counter; fuel = fuel })) place s))
-    ≡ Some (with_standard_state play.standard_state whole)
+    (begins play.standard_state play.kept (record { program_counter = play.program_counter; fuel = fuel })) place s))
+    ≡ Some (with_standard_state play.standard_state play.kept whole)
 line_keeps loaded fuel play whole (done next t) own lower plays e =
-    standard_turn_keeps loaded play.standard_state next t whole own lower e plays
+    standard_turn_keeps loaded play.standard_state play.kept next t whole own lower e plays
 line_keeps loaded fuel play whole (halt place t) own lower plays e =
     let here : Next = record { program_counter = play.program_counter; fuel = fuel } in
-    ap (λ first. Some (standard_ended first place t)) (begins_plain play.standard_state here lower)
-    ∙ ap (λ x. Some x) (ended_plain play.standard_state here place t)
-    ∙ ap (λ x. Some (with_standard_state play.standard_state x)) (some_is _ whole e)
+    ap (λ first. Some (standard_ended first place t)) (begins_plain play.standard_state play.kept here lower)
+    ∙ ap (λ x. Some x) (ended_plain play.standard_state play.kept here place t)
+    ∙ ap (λ x. Some (with_standard_state play.standard_state play.kept x)) (some_is _ whole e)
 
 pending_keeps : (loaded : Loaded) (line : List ℕ) (fuel : ℕ) (play : StateOfPlay) (whole : Whole) (p : Option Pending)
     → loaded.own_alphabets ≡ None → list_all is_ascii line ≡ true → play.standard_state.window ≡ 0
     → IfSome p (λ pending. is_text_buffer play.memory pending.text_buffer ≡ true)
     → turn_pending p line fuel play ≡ Some whole → is_fault whole.place ≡ false
-    → standard_pending loaded p line fuel play ≡ Some (with_standard_state play.standard_state whole)
+    → standard_pending loaded p line fuel play ≡ Some (with_standard_state play.standard_state play.kept whole)
 pending_keeps loaded line fuel play whole None own plain lower waits e plays = absurd (cc)
 pending_keeps loaded line fuel play whole (Some pending) own plain lower waits e plays =
-    ap (λ o. after_step o (λ next s. standard_turn loaded (begins play.standard_state next) s)
+    ap (λ o. after_step o (λ next s. standard_turn loaded (begins play.standard_state play.kept next) s)
     (λ place s. Some (standard_ended
-    (begins play.standard_state (record { program_counter = play.program_counter; fuel = fuel })) place s)))
+    (begins play.standard_state play.kept (record { program_counter = play.program_counter; fuel = fuel })) place s)))
     (given_alike loaded pending line fuel (resumed play) own plain waits)
     ∙ line_keeps loaded fuel play whole (given pending line fuel (resumed play)) own lower plays e
 
@@ -196,7 +196,7 @@ pub standard_turn_on_keeps : (loaded : Loaded) (line : List ℕ) (fuel : ℕ) (p
     → loaded.own_alphabets ≡ None → list_all is_ascii line ≡ true → play.standard_state.window ≡ 0 → WaitsAsTheProfile play
     → turn_on line fuel play ≡ Some whole
     → is_fault whole.place ≡ false
-    → standard_turn_on loaded line fuel play ≡ Some (with_standard_state play.standard_state whole)
+    → standard_turn_on loaded line fuel play ≡ Some (with_standard_state play.standard_state play.kept whole)
 unfolding turn_on standard_turn_on
 standard_turn_on_keeps loaded line fuel play whole own plain lower waits e plays =
     pending_keeps loaded line fuel play whole play.pending own plain lower waits e plays

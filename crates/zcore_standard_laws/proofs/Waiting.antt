@@ -27,6 +27,11 @@ use Rattle.zcore_standard.specs.Dice.{rolled, random}
 use Rattle.zcore_standard.specs.Unicode.{transcript_of, print_whole, print_unicode, check_unicode}
 use Rattle.zcore_standard.specs.Flow.{restart, catch, frames_at, leave_frame, throw, verify}
 use Rattle.zcore_standard.specs.Screen.{get_cursor, set_font}
+use Rattle.quetzal.specs.SaveFiles.{Saved, saved_in}
+use Rattle.quetzal.specs.declared.fault.SaveFault.{SaveFault}
+use Rattle.zcore_standard.specs.Keeping.{newest}
+use Rattle.zcore_standard.specs.SavedStates.{can_be_kept, restore_newest, restore_undo, resume, resume_if_read, save_undo}
+use Rattle.zcore_standard.specs.SavedStates.{state_in, take_up}
 use Rattle.zcore_standard.specs.Performing.{perform_keeping, perform_further, execute_further, words_of_table, one_row}
 use Rattle.zcore_standard.specs.Nothing.{step_known}
 use Rattle.zcore_standard.specs.Machine.{chosen, standard_step}
@@ -147,9 +152,6 @@ waits_perform_keeping loaded operations.ArtShift here after result branch values
     (slice_index values 0) (slice_index values 1)
 waits_perform_keeping loaded operations.SetFont here after result branch values = waits_set_font here after result
     (slice_index values 0)
-waits_perform_keeping loaded operations.SaveUndo here after result branch values = waits_give_result here after result _
-waits_perform_keeping loaded operations.RestoreUndo here after result branch values = waits_give_result here after
-    result _
 waits_perform_keeping loaded operations.PrintUnicode here after result branch values = waits_print_unicode here after
     (slice_index values 0)
 waits_perform_keeping loaded operations.CheckUnicode here after result branch values = waits_check_unicode
@@ -186,6 +188,38 @@ waits_restart loaded here =
     waits_then _ _ (waits_spend here.next.fuel) (λ fuel.
     waits_then _ _ (λ s t h. waits_spend_for (static_base_of s.memory) fuel s t h) (λ _ s t h. waits_done _ _ t h))
 
+waits_save_undo : (loaded : Loaded) (here : Here) (after : ℕ) (result : Option ℕ)
+    → Waits (save_undo loaded here after result)
+unfolding save_undo
+waits_save_undo loaded here after result s t h =
+    waits_either (can_be_kept s) _ _ t
+    (waits_within _ _ (waits_give_result here.next after result 1) s t)
+    (waits_within _ _ (waits_give_result here.next after result 65535) s t) h
+
+waits_resume : (saved : Saved) (fuel : ℕ) → Waits (resume saved fuel)
+unfolding resume take_up
+waits_resume saved fuel =
+    waits_then _ _ (waits_spend fuel) (λ left.
+    waits_then _ _ (λ s t h. waits_done tt (state_in saved s) t h) (λ _.
+    waits_then _ _ (λ s t h. waits_store_result (Some (slice_index s.memory saved.program_counter)) 2 s t h) (λ _.
+    waits_goes_on (saved.program_counter + 1) left)))
+
+waits_resume_if_read : (r : Result Saved SaveFault) (here : Next) (after : ℕ) (result : Option ℕ)
+    → Waits (resume_if_read r here after result)
+waits_resume_if_read (Err fault) here after result = waits_give_result here after result 0
+waits_resume_if_read (Ok saved) here after result = waits_resume saved here.fuel
+
+waits_restore_newest : (loaded : Loaded) (here : Here) (after : ℕ) (result : Option ℕ) (files : List (List ℕ))
+    → Waits (restore_newest loaded here after result files)
+waits_restore_newest loaded here after result [] = waits_within _ _ (waits_give_result here.next after result 0)
+waits_restore_newest loaded here after result (file ∷ files) s t h =
+    waits_within _ _ (waits_resume_if_read (saved_in loaded.dynamic (length s.memory) file) here.next after result) s t h
+
+waits_restore_undo : (loaded : Loaded) (here : Here) (after : ℕ) (result : Option ℕ)
+    → Waits (restore_undo loaded here after result)
+unfolding restore_undo
+waits_restore_undo loaded here after result = waits_restore_newest loaded here after result (newest here.kept)
+
 waits_keeping : (loaded : Loaded) (operation : StandardOperation) (here : Here) (after : ℕ) (result : Option ℕ)
     (branch : Option Branch) (values : List ℕ)
     → Waits (λ s. within here (perform_keeping loaded operation here.next after result branch values s))
@@ -213,6 +247,10 @@ waits_perform_further loaded operations.EraseWindow here after result branch val
     (waits_erase_window (past here after) (slice_index values 0))
 waits_perform_further loaded operations.SplitWindow here after result branch values = for_well _
     (waits_split_window (past here after) (slice_index values 0))
+waits_perform_further loaded operations.SaveUndo here after result branch values = for_well _ (waits_save_undo loaded
+    here after result)
+waits_perform_further loaded operations.RestoreUndo here after result branch values = for_well _ (waits_restore_undo
+    loaded here after result)
 waits_perform_further loaded operation here after result branch values = for_well _ (waits_keeping loaded operation here
     after result branch values)
 

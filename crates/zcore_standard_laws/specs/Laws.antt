@@ -1,7 +1,7 @@
 -- The laws of the Standard's machine that functions of `laws` carry as their contracts. Those that compare it with the
 -- profile's are of stories without alphabets of their own: the profile would read the texts of others by the default
 -- alphabets.
-use Rattle.std.specs.Prelude.{◌≡◌, ◌&&◌, ◌||◌, ℕ, Bool, true, false, not, List, Some, None, map, IfSome}
+use Rattle.std.specs.Prelude.{◌≡◌, ◌&&◌, ◌||◌, ℕ, Bool, true, false, not, List, [], Some, None, map, IfSome}
 use Rattle.std.specs.List.{list_all}
 use Rattle.std.specs.Option.{is_none}
 use Rattle.zcore.specs.State.{State, Out, done, halt}
@@ -57,12 +57,13 @@ KeepsWhatTheProfileSteps =
     → standard_step loaded here s ≡ within here (step here.next s)
 
 -- A turn of the profile that ends in no fault is the Standard's turn in the lower window: with the same text, memory,
--- frames, place and program counter, and with the window and the dice that it began with.
+-- frames, place and program counter, and with the window, the dice and the kept states that it began with.
 abbrev pub KeepsWhatTheProfilePlays : Type 0
 KeepsWhatTheProfilePlays =
-    (loaded : Loaded) (standard_state : StandardState) (next : Next) (s : State) (whole : Whole) → loaded.own_alphabets ≡ None
-    → standard_state.window ≡ 0 → turn_from next s ≡ Some whole → is_fault whole.place ≡ false
-    → standard_turn loaded (begins standard_state next) s ≡ Some (with_standard_state standard_state whole)
+    (loaded : Loaded) (standard_state : StandardState) (kept : List (List ℕ)) (next : Next) (s : State) (whole : Whole)
+    → loaded.own_alphabets ≡ None → standard_state.window ≡ 0
+    → turn_from next s ≡ Some whole → is_fault whole.place ≡ false
+    → standard_turn loaded (begins standard_state kept next) s ≡ Some (with_standard_state standard_state kept whole)
 
 -- A line is waited for as the profile does it: no letter is left over in the text buffer, which is after the header.
 abbrev pub WaitsAsTheProfile : StateOfPlay → Type 0
@@ -79,7 +80,7 @@ KeepsWhatTheProfileAnswers =
     (loaded : Loaded) (line : List ℕ) (fuel : ℕ) (play : StateOfPlay) (whole : Whole) → loaded.own_alphabets ≡ None
     → is_plain_line line ≡ true → play.standard_state.window ≡ 0 → WaitsAsTheProfile play
     → turn_on line fuel play ≡ Some whole → is_fault whole.place ≡ false
-    → standard_turn_on loaded line fuel play ≡ Some (with_standard_state play.standard_state whole)
+    → standard_turn_on loaded line fuel play ≡ Some (with_standard_state play.standard_state play.kept whole)
 
 -- no turn of these ends in a fault
 abbrev pub have_no_fault : List Whole → Bool
@@ -90,4 +91,4 @@ abbrev pub KeepsWhatTheProfileRuns : Type 0
 KeepsWhatTheProfileRuns =
     (loaded : Loaded) (story : List ℕ) (fuel : ℕ) (lines : List (List ℕ)) → loaded.own_alphabets ≡ None
     → loaded.dice.window ≡ 0 → list_all is_plain_line lines ≡ true → have_no_fault (plays story fuel lines) ≡ true
-    → plays_of (by_standard loaded story fuel) lines ≡ map (with_standard_state loaded.dice) (plays story fuel lines)
+    → plays_of (by_standard loaded story fuel) lines ≡ map (with_standard_state loaded.dice []) (plays story fuel lines)

@@ -3,6 +3,7 @@
 
 ghost use Rattle.zcore_standard_laws.specs.Laws.{EveryStandardTurnEnds, KeepsWhatTheProfileSteps};
 ghost use Rattle.zcore_standard_laws.specs.Laws.{KeepsWhatTheProfilePlays, KeepsWhatTheProfileAnswers, KeepsWhatTheProfileRuns};
+ghost use Rattle.zcore_standard_laws.specs.Saves.{RestoresAllFrames, RestoresWhatWasKept};
 
 /// Every turn of the Standard's machine ends, and in one way, within the weight of its beginning.
 pub fn every_standard_turn_ends()
@@ -17,8 +18,8 @@ pub fn keeps_what_the_profile_steps()
 {}
 
 /// A turn of the profile's machine that ends in no fault is the Standard's turn in the lower window:
-/// the same text, memory, frames, place and program counter, with the window and the dice that it
-/// began with.
+/// the same text, memory, frames, place and program counter, with the window, the dice and the kept
+/// states that it began with.
 pub fn keeps_what_the_profile_plays()
     ensures { KeepsWhatTheProfilePlays }
 {}
@@ -32,4 +33,15 @@ pub fn keeps_what_the_profile_answers()
 /// machine over the same memory and the same lines, turn by turn.
 pub fn keeps_what_the_profile_runs()
     ensures { KeepsWhatTheProfileRuns }
+{}
+
+/// The state that a story kept last by `save_undo` is restored by `restore_undo`, whatever the present
+/// state is.
+pub fn restores_what_was_kept()
+    ensures { RestoresWhatWasKept }
+{}
+
+/// All frames of a state that is kept are restored.
+pub fn restores_all_frames()
+    ensures { RestoresAllFrames }
 {}

@@ -6,5 +6,6 @@ mod laws;
 
 pub use laws::{
     every_standard_turn_ends, keeps_what_the_profile_answers, keeps_what_the_profile_plays,
-    keeps_what_the_profile_runs, keeps_what_the_profile_steps,
+    keeps_what_the_profile_runs, keeps_what_the_profile_steps, restores_all_frames,
+    restores_what_was_kept,
 };

@@ -78,12 +78,12 @@ header_stays story =
     let number = number_of story in
     let first = flags_1 number (slice_index story 1) ∷ [] in
     let one = with_bytes story 0x01 first in
-    let two = with_bytes one 0x10 (flags_2 story) in
+    let two = with_bytes one 0x10 (flags_2 (number_of story) story) in
     let three = with_bytes two 0x1E (screen number) in
     let four = with_bytes three 0x2C (colours number) in
     let five = with_bytes four 0x32 revision in
     stays_then story one _ (bytes_stay story 0x01 first (omega arith))
-    (stays_then one two _ (bytes_stay one 0x10 (flags_2 story) (omega arith))
+    (stays_then one two _ (bytes_stay one 0x10 (flags_2 (number_of story) story) (omega arith))
     (stays_then two three _ (bytes_stay two 0x1E (screen number) (omega arith))
     (stays_then three four _ (bytes_stay three 0x2C (colours number) (omega arith))
     (stays_then four five _ (bytes_stay four 0x32 revision (omega arith)) (extension_stays five)))))

@@ -41,9 +41,9 @@ sum_right = refl
 sum_wrong : is_sum_right (story 0 (replicate 20 8)) ≡ false
 sum_wrong = refl
 
--- the header's bytes: Flags 2 keep their bits 0 to 2 and 9 to 15
+-- the header's bytes: Flags 2 keep their bits 0 to 2, 4 and 9 to 15
 header : with_header (story 0 bytes)
-    ≡ (5 ∷ 16 ∷ []) ++ replicate 13 0 ++ (74 ∷ []) ++ (254 ∷ 7 ∷ []) ++ replicate 8 7 ++ (0 ∷ 21 ∷ 0 ∷ 180 ∷ [])
+    ≡ (5 ∷ 16 ∷ []) ++ replicate 13 0 ++ (74 ∷ []) ++ (254 ∷ 23 ∷ []) ++ replicate 8 7 ++ (0 ∷ 21 ∷ 0 ∷ 180 ∷ [])
     ++ (1 ∷ 70 ∷ 255 ∷ 80 ∷ 0 ∷ 80 ∷ 0 ∷ 255 ∷ 1 ∷ 1 ∷ []) ++ replicate 4 7 ++ (2 ∷ 9 ∷ []) ++ replicate 4 7
     ++ (1 ∷ 1 ∷ 7 ∷ 7 ∷ 0 ∷ 0 ∷ []) ++ replicate 8 7 ++ bytes
 unfolding with_header

@@ -136,9 +136,14 @@ flags_1 number byte =
     if nat_le 4 number then 0x10
     else byte / 128 * 128 + (if number == 3 then 0x20 else 0) + byte % 16
 
--- Flags 2: bits 3 to 8 are cleared, which ask for pictures, undo, a mouse, colours, sounds and menus
-abbrev pub flags_2 : List ℕ → List ℕ
-flags_2 story = (slice_index story 0x10 / 2 * 2) ∷ (slice_index story 0x11 % 8) ∷ []
+-- bit 4 of Flags 2, by which a story of version 5 on asks for undo, which is there
+abbrev pub undo_flag : ℕ → ℕ → ℕ
+undo_flag number byte = if nat_le 5 number then byte / 16 % 2 * 16 else 0
+
+-- Flags 2: bits 3 and 5 to 8 are cleared, which ask for pictures, a mouse, colours, sounds and menus
+abbrev pub flags_2 : ℕ → List ℕ → List ℕ
+flags_2 number story =
+    (slice_index story 0x10 / 2 * 2) ∷ (slice_index story 0x11 % 8 + undo_flag number (slice_index story 0x11)) ∷ []
 
 -- From $1E on, in version 4: interpreter number 1 and version F; 255 lines, which means no end, and 80 columns. From
 -- version 5 on besides: the same size in units, first the width; a font is one unit wide and one high (8.4, 11.1.3)
@@ -176,7 +181,7 @@ unfoldable pub with_header : List ℕ → List ℕ
 with_header story =
     with_extension
     (with_bytes (with_bytes (with_bytes (with_bytes (with_bytes story 0x01 (flags_1 (number_of story)
-    (slice_index story 1) ∷ [])) 0x10 (flags_2 story)) 0x1E (screen (number_of story))) 0x2C (colours (number_of story)))
+    (slice_index story 1) ∷ [])) 0x10 (flags_2 (number_of story) story)) 0x1E (screen (number_of story))) 0x2C (colours (number_of story)))
     0x32 revision)
 
 -- memory when the opening begins

@@ -7,7 +7,7 @@ ghost use Rattle.zcore.specs.Header.{HasHeader, IsDictionaryOf, dictionary_of, s
 ghost use Rattle.zcore.specs.Parts.{scale_in};
 ghost use Rattle.zcore.specs.Turn.{with_bytes};
 ghost use Rattle.zcore_standard_loading.specs.Loading as definitions;
-ghost use Rattle.zcore_standard_loading.specs.Loading.{IsHeadOf, IsNotWhole, IsWhole, ReadsFile, ReadsMemory};
+ghost use Rattle.zcore_standard_loading.specs.Loading.{IsHeadOf, IsNotWhole, IsWhole, ReadsFile, ReadsMemory, undo_flag};
 
 use crate::placing::{extension, is_placed, read_dictionary};
 use zcore::layout::{
@@ -149,8 +149,10 @@ fn set_header(memory: &mut [u8])
 {
     let number = memory[0];
     let flags_1 = [flags_1(number, memory[FLAGS_1])];
-    // bits 3 to 8 are cleared
-    let flags_2 = [memory[FLAGS_2] / 2 * 2, memory[FLAGS_2 + 1] % 8];
+    let flags_2 = [
+        memory[FLAGS_2] / 2 * 2,
+        flags_2_low(number, memory[FLAGS_2 + 1]),
+    ];
     write_bytes(memory, FLAGS_1, &flags_1);
     write_bytes(memory, FLAGS_2, &flags_2);
     write_bytes(memory, SCREEN, screen(number));
@@ -159,6 +161,17 @@ fn set_header(memory: &mut [u8])
     write_extension_word(memory, FLAGS_3, 0);
     write_extension_word(memory, FOREGROUND, WHITE);
     write_extension_word(memory, BACKGROUND, 0);
+}
+
+/// The second byte of Flags 2: bits 0 to 2 of the story's, and from version 5 on bit 4, for undo.
+fn flags_2_low(number: u8, byte: u8) -> u8
+    ensures { result ≡ byte % 8 + undo_flag number byte }
+{
+    if number >= 5 {
+        byte % 8 + byte / 16 % 2 * 16
+    } else {
+        byte % 8
+    }
 }
 
 /// Whether a version is played: each but 1, 2 and 6.

@@ -53,7 +53,7 @@ abbrev story : ℕ → List ℕ → State
 story number bytes = first_state ((number ∷ []) ++ replicate 14 0 ++ (80 ∷ []) ++ replicate 48 0 ++ bytes ++ replicate 20 0)
 
 abbrev at : ℕ → Here
-at place = begins (seeded 12345) (record { program_counter = place; fuel = 5 })
+at place = begins (seeded 12345) [] (record { program_counter = place; fuel = 5 })
 
 -- call 36 9 -> sp, of a routine at 72 with three locals of the initial values 1, 2 and 258
 abbrev a_call : List ℕ

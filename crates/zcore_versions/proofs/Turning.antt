@@ -132,13 +132,13 @@ pending_alike : (story : Story) (pending : Option Pending) (line : List ℕ) (fu
 pending_alike story None line fuel play late = refl
 pending_alike story (Some pending) line fuel play late =
     let ends : Place → State → Option Whole = λ place t. Some (standard_ended
-    (begins play.standard_state (record { program_counter = play.program_counter; fuel = fuel })) place t) in
-    ap (λ f. after_step (f pending line fuel (resumed play)) (λ next t. any_turn story (begins play.standard_state next) t) ends)
+    (begins play.standard_state play.kept (record { program_counter = play.program_counter; fuel = fuel })) place t) in
+    ap (λ f. after_step (f pending line fuel (resumed play)) (λ next t. any_turn story (begins play.standard_state play.kept next) t) ends)
     (late_given story late)
     ∙ after_alike (standard_given story.loaded pending line fuel (resumed play))
-    (λ next t. any_turn story (begins play.standard_state next) t)
-    (λ next t. standard_turn story.loaded (begins play.standard_state next) t) ends ends
-    (λ next t. late_turns story (begins play.standard_state next) t late) (λ place t. refl)
+    (λ next t. any_turn story (begins play.standard_state play.kept next) t)
+    (λ next t. standard_turn story.loaded (begins play.standard_state play.kept next) t) ends ends
+    (λ next t. late_turns story (begins play.standard_state play.kept next) t late) (λ place t. refl)
 
 late_answers : (story : Story) (line : List ℕ) (fuel : ℕ) (play : StateOfPlay) → is_late story.version ≡ true
     → any_turn_on story line fuel play ≡ standard_turn_on story.loaded line fuel play

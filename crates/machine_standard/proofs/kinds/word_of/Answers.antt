@@ -17,10 +17,6 @@ pub returns-in-SetFont-clause-some : goal.returns-in-SetFont-clause-some
 unfolding perform_keeping set_font
 returns-in-SetFont-clause-some c = λ here after into branch. rw (c.in-SetFont.is, c.font_of.ensures) refl
 
-pub returns-in-SaveUndo-clause-some : goal.returns-in-SaveUndo-clause-some
-unfolding perform_keeping
-returns-in-SaveUndo-clause-some c = λ here after into branch. rw c.in-SaveUndo.is refl
-
 pub returns-in-CheckUnicode-clause-some : goal.returns-in-CheckUnicode-clause-some
 unfolding perform_keeping check_unicode
 returns-in-CheckUnicode-clause-some c = λ here after into branch.
@@ -30,6 +26,5 @@ pub returns-in-Save-clause-some : goal.returns-in-Save-clause-some
 unfolding perform_keeping
 returns-in-Save-clause-some c = λ here after into branch. elim c.in-Save.is [
   | inl e ↦ rw e refl
-  | inr (inl e) ↦ rw e refl
-  | inr (inr e) ↦ rw e refl
+  | inr e ↦ rw e refl
 ]

@@ -21,9 +21,9 @@ pub returns-in-Ok : goal.returns-in-Ok
 returns-in-Ok c =
     let w = c.requires.waiting in
     let given = c.in-Ok.ensures w.pending w.waits in
-    let played = rw c.standard_state-kept.ensures at c.play.ensures in
+    let played = rw c.standard_state-dice.ensures at c.play.ensures in
     ends_after _ given.told.0
-    (answers_on (story_of c.args.self.now) _ _ c.args.store.now.store _ w.pending c.in-Ok.first _ _ w.waits
+    (answers_on (story_of c.args.self.now) _ _ c.args.kept.now c.args.store.now.store _ w.pending c.in-Ok.first _ _ w.waits
     given.told.1 played.whole) played
 
 pub returns-in-Err-Memory : goal.returns-in-Err-Memory
@@ -46,10 +46,10 @@ returns-in_ok-end-in-Err-Stop c =
     let e = c.in_ok-end-in-Err-Stop.ensures in
     let b = standard_state_of (slice_index c.args.store.now.store.cells) in
     record {
-      whole = answers_stop (story_of c.args.self.now) _ c.args.store.now.store c.give_line.new.store.store c.args.fuel _
+      whole = answers_stop (story_of c.args.self.now) _ c.args.kept.now c.args.store.now.store c.give_line.new.store.store c.args.fuel _
           w.pending _ _ w.waits given.told.1 c.program_counter.ensures
-          (stopped_standard c.give_line.new.store.store c.end.new.store.store b c.args.fuel _ _
-          c.args.text.now.items c.end.new.text.items e.kept.1 e.kept.2 (e.standard_state ∙ c.standard_state-kept.ensures) e.text);
+          (stopped_standard c.give_line.new.store.store c.end.new.store.store b c.args.kept.now c.args.fuel _ _
+          c.args.text.now.items c.end.new.text.items e.kept.1 e.kept.2 (e.standard_state ∙ c.standard_state-dice.ensures) e.text);
       waits = λ waits. given_waits (story_of c.args.self.now) w.pending _ _ _ c.give_line.new.store.store c.end.new.store.store _ given.told.1 e.kept.1
           waits;
       goes_on = goes_on_after given.told.0 e.kept.0;

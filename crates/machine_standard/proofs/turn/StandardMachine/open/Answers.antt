@@ -14,7 +14,7 @@ first_next-first-requires c =
 pub returns : goal.returns
 returns c =
     ends_after _ (goes_on_still _ c.requires.store.store.sound)
-    (opens_standard c.play.result (story_of c.args.self.now) c.args.store.now.store c.args.fuel c.dice.result _ _ _
+    (opens_standard c.play.result (story_of c.args.self.now) c.args.kept.now c.args.store.now.store c.args.fuel c.dice.result _ _ _
     c.dice.ensures c.requires.opening (c.memory.ensures ∙ ap memory_of c.store.ensures) c.first_next-first.ensures
     c.play.ensures.whole)
     c.play.ensures

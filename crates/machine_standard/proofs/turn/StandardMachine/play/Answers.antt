@@ -1,7 +1,7 @@
 use Rattle.std.proofs.Common.{sym, subst, refl, [], drop, length}
 use Rattle.std.specs.Prelude.{IfOk}
 use Rattle.zcore.specs.Turn.{TurnsBy}
-use Rattle.zcore_standard.specs.Machine.{begins}
+use Rattle.zcore_standard.specs.Machine.{begins, keeping}
 use Rattle.zcore_versions.specs.Machine.{any}
 use Rattle.machine_frames.specs.Contents.{Contents}
 use Rattle.machine_frames.specs.Playing.{whole_of}
@@ -27,7 +27,7 @@ returns c =
     let e = c.play_on.ensures in
     ends_after _ (goes_on_kept c.args.store.now c.keep_stack.new.store c.requires.store.sound k.store k.beginning)
     (subst (λ (x : Contents). IfOk c.play_on.result (λ place. TurnsBy (any (story_of c.args.self.now))
-    (begins c.args.kept c.args.first) (state_of x [])
-    (whole_of c.play_on.new.store.store place (drop (length c.args.text.now.items) c.play_on.new.text.items))))
+    (begins c.args.dice c.args.kept.now c.args.first) (state_of x [])
+    (keeping c.play_on.new.kept (whole_of c.play_on.new.store.store place (drop (length c.args.text.now.items) c.play_on.new.text.items)))))
     k.store e.whole)
     e

@@ -1,12 +1,13 @@
-use Rattle.std.proofs.Common.{ap, subst, sym}
+use Rattle.std.proofs.Common.{ap, refl, subst, sym}
 use Rattle.machine.specs.Ended.{OpensOrAnswers, TurnEndsBy}
-use Rattle.machine_frames.specs.Playing.{IsWaiting}
+use Rattle.machine_frames.specs.Playing.{IsWaiting, whole_of}
 use Rattle.machine_standard.specs.Playing.{OpensOrAnswersStandard}
 use Rattle.machine_standard.specs.Loads.{story_of}
 use Rattle.machine_versions_words.specs.Taking.{CanBeGivenBy}
+use Rattle.zcore_standard.specs.Machine.{keeping}
 use Rattle.session.specs.Modes.{CanTake}
 use Rattle.session.specs.Players.{known_of, IsReadyIn, PlayerTurn}
-use Rattle.session.proofs.Players.{ends_as, profile_turn, profile_ready, standard_machine_turn, standard_store}
+use Rattle.session.proofs.Players.{ends_as, none_kept, profile_ready, standard_machine_turn, standard_store}
 use Rattle.session.proofs.Players.{standard_known, standard_ready}
 use Rattle.session.proofs.player.Player.turn.Goals as goal
 
@@ -27,21 +28,27 @@ turn-requires-in-Standard-clause-ready c =
 
 pub returns-in-Profile-clause-ends : goal.returns-in-Profile-clause-ends
 returns-in-Profile-clause-ends c =
-    subst (λ k. TurnEndsBy (CanTake k.loaded) (PlayerTurn k c.args.line c.args.store.now.store c.args.fuel)
+    subst (λ k. TurnEndsBy (CanTake k.loaded)
+    (λ whole. PlayerTurn k c.args.line c.args.kept.now c.args.store.now.store c.args.fuel (keeping c.none.result whole))
     c.args.store.now c.args.text.now.items c.turn.new.store c.turn.new.text.items c.turn.result)
     (sym (ap known_of c.in-Profile.is))
     (ends_as IsWaiting (OpensOrAnswers c.args.line c.args.store.now.store c.args.fuel) _ c.args.store.now
     c.args.text.now.items c.turn.new.store c.turn.new.text.items c.turn.result
-    (λ whole h. profile_turn c.in-Profile.machine.header c.args.line c.args.store.now.store c.args.fuel whole h)
+    (λ place text h. none_kept c.in-Profile.machine.header c.args.line c.args.kept.now c.args.store.now.store c.args.fuel
+    c.none.result c.none.ensures (whole_of c.turn.new.store.store place text) h refl)
     c.turn.ensures.ends)
 
 pub returns-in-Standard-clause-ends : goal.returns-in-Standard-clause-ends
 returns-in-Standard-clause-ends c =
-    subst (λ k. TurnEndsBy (CanTake k.loaded) (PlayerTurn k c.args.line c.args.store.now.store c.args.fuel)
+    subst (λ k. TurnEndsBy (CanTake k.loaded)
+    (λ whole. PlayerTurn k c.args.line c.args.kept.now c.args.store.now.store c.args.fuel (keeping c.turn-in-Standard.new.kept whole))
     c.args.store.now c.args.text.now.items c.turn-in-Standard.new.store c.turn-in-Standard.new.text.items
     c.turn-in-Standard.result) (sym (ap known_of c.in-Standard.is))
-    (ends_as (CanBeGivenBy (story_of c.in-Standard.machine)) (OpensOrAnswersStandard (story_of c.in-Standard.machine) c.args.line c.args.store.now.store c.args.fuel)
-    (PlayerTurn (standard_known c.in-Standard.machine) c.args.line c.args.store.now.store c.args.fuel) c.args.store.now
+    (ends_as (CanBeGivenBy (story_of c.in-Standard.machine))
+    (λ whole. OpensOrAnswersStandard (story_of c.in-Standard.machine) c.args.line c.args.kept.now c.args.store.now.store c.args.fuel
+    (keeping c.turn-in-Standard.new.kept whole))
+    (λ whole. PlayerTurn (standard_known c.in-Standard.machine) c.args.line c.args.kept.now c.args.store.now.store c.args.fuel
+    (keeping c.turn-in-Standard.new.kept whole)) c.args.store.now
     c.args.text.now.items c.turn-in-Standard.new.store c.turn-in-Standard.new.text.items c.turn-in-Standard.result
-    (λ whole h. standard_machine_turn c.in-Standard.machine.header (story_of c.in-Standard.machine) c.args.line
-    c.args.store.now.store c.args.fuel whole h) c.turn-in-Standard.ensures.ends)
+    (λ place text h. standard_machine_turn c.in-Standard.machine.header (story_of c.in-Standard.machine) c.args.line
+    c.args.kept.now c.args.store.now.store c.args.fuel (keeping c.turn-in-Standard.new.kept (whole_of c.turn-in-Standard.new.store.store place text)) h) c.turn-in-Standard.ensures.ends)

@@ -1,9 +1,11 @@
-use Rattle.std.proofs.Common.{◌-◌, ◌<◌, ◌∙◌, ap, arith}
-use Rattle.session.specs.Inside.{view_of}
+use Rattle.std.proofs.Common.{◌-◌, ◌<◌, ◌∙◌, ap, subst, sym, arith}
+use Rattle.session.specs.Inside.{view_of, IsBetweenTurns}
 use Rattle.session.specs.Session.{Session}
 use Rattle.session.specs.Stepped.{without_oldest}
 use Rattle.session.proofs.Insides.{oldest_view, oldest_between}
 use Rattle.session.proofs.Views.{counted}
+use Rattle.session.specs.declared.turns.Reached.{Reached}
+use Rattle.session.specs.declared.written.Written.{Written}
 use Rattle.session.specs.Written.{text_of}
 use Rattle.session.specs.Players.{known_of}
 use Rattle.session.proofs.session.Session.give_up_oldest.Goals as goal
@@ -21,8 +23,10 @@ invariant_of-self c =
     let n = counted i.keep i.fuel (known_of i.player) i.opening.items i.store.store i.first i.turns.items i.done
     (text_of i.given_up) c.args.self.now c.self.view_is in
     let some : 0 < i.done = omega (arith, n.present, c.requires) in
-    oldest_between (known_of i.player) i.store i.first i.turns.items c.pop_front.new.self.items c.in-Some.oldest i.done
-    c.in-Some.ensures.items some c.self.invariant
+    subst (λ (x : Written × Reached). IsBetweenTurns (known_of i.player) i.store x.1 c.pop_front.new.self.items (i.done - 1))
+    (sym c.into_parts.ensures)
+    (oldest_between (known_of i.player) i.store i.first i.turns.items c.pop_front.new.self.items c.in-Some.oldest i.done
+    c.in-Some.ensures.items some c.self.invariant)
 
 pub returns-in-Some : goal.returns-in-Some
 returns-in-Some c =
@@ -30,8 +34,8 @@ returns-in-Some c =
     let n = counted i.keep i.fuel (known_of i.player) i.opening.items i.store.store i.first i.turns.items i.done
     (text_of i.given_up) c.args.self.now c.self.view_is in
     let some : 0 < i.done = omega (arith, n.present, c.requires) in
-    ap (λ w. view_of i.keep i.fuel (known_of i.player) i.opening.items i.store.store c.in-Some.oldest.place
-    c.pop_front.new.self.items (i.done - 1) (text_of w)) c.into_written.ensures
+    ap (λ (x : Written × Reached). view_of i.keep i.fuel (known_of i.player) i.opening.items i.store.store x.1
+    c.pop_front.new.self.items (i.done - 1) (text_of x.0)) c.into_parts.ensures
     ∙ oldest_view i.keep i.fuel (known_of i.player) i.opening.items i.store.store i.first i.turns.items
     c.pop_front.new.self.items c.in-Some.oldest i.done (text_of i.given_up) c.in-Some.ensures.items some
     ∙ ap {A = Session} without_oldest c.self.view_is

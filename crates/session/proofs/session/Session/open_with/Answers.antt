@@ -1,11 +1,11 @@
-use Rattle.std.proofs.Common.{◌≡◌, ℕ, ap, sym, subst, refl, drop, length, List, []}
+use Rattle.std.proofs.Common.{◌≡◌, ℕ, ap, sym, subst, refl, drop, length, List, [], None}
 use Rattle.journal.specs.Recording.{Recording}
 use Rattle.machine_frames.specs.Contents.{Contents}
 use Rattle.machine_frames.specs.States.{IsStoreOf}
 use Rattle.machine_frames.proofs.Steps.{store_after}
 use Rattle.session.specs.Inside.{IsBetweenTurns, view_of}
 use Rattle.session.specs.Game.{Game, game_of, IsSessionOf}
-use Rattle.session.specs.Players.{known_of, IsPlayerOf}
+use Rattle.session.specs.Players.{known_of, IsPlayerOf, PlayerTurn}
 use Rattle.session_lines.specs.Standing.{nothing}
 use Rattle.session.specs.Written.{text_of}
 use Rattle.session.proofs.Opening.{opened_between, session_opened}
@@ -18,10 +18,10 @@ invariant_of-result c =
     let same : c.new-store.result.store ≡ c.in-Ok.loaded.1 = ap (λ (r : Recording Contents). r.store)
     c.new-store.ensures in
     let before : IsStoreOf known.header c.new-store.result.store = subst (IsStoreOf known.header) (sym same) l.store in
-    subst (λ r. IsBetweenTurns known r c.in-Ok-turn.first c.new.result.items 0) (sym c.close.ensures.new)
+    subst (λ r. IsBetweenTurns known r (record { place = c.in-Ok-turn.place; kept = c.turn.new.kept }) c.new.result.items 0) (sym c.close.ensures.new)
     (opened_between known
     (record { store = c.turn.new.store.store; beginning = c.turn.new.store.store.cells; kept = [] })
-    c.in-Ok-turn.first c.new.result.items c.new.ensures.items l.settled (store_after before c.in-Ok-turn.ensures.ends.goes_on)
+    (record { place = c.in-Ok-turn.place; kept = c.turn.new.kept }) c.new.result.items c.new.ensures.items l.settled (store_after before c.in-Ok-turn.ensures.ends.goes_on)
     c.in-Ok-turn.ensures.ends.waits refl refl)
 
 pub returns-in-Ok-turn : goal.returns-in-Ok-turn
@@ -39,10 +39,12 @@ returns-in-Ok-turn c =
     c.close.ensures.new in
     let session = subst
     (λ s. IsSessionOf game nothing
-    (view_of c.args.keep c.args.fuel known c.turn.new.text.items s c.in-Ok-turn.first c.new.result.items 0
+    (view_of c.args.keep c.args.fuel known c.turn.new.text.items s (record { place = c.in-Ok-turn.place; kept = c.turn.new.kept }) c.new.result.items 0
     (text_of c.none.result))) (sym closed)
     (session_opened game known c.new-store.result.store c.turn.new.store.store
-    c.in-Ok-turn.first c.new.result.items (drop (length c.new-opening.result.items) c.turn.new.text.items)
+    (record { place = c.in-Ok-turn.place; kept = c.turn.new.kept }) c.new.result.items (drop (length c.new-opening.result.items) c.turn.new.text.items)
     c.turn.new.text.items (text_of c.none.result)
-    c.new.ensures.items player c.in-Ok-turn.ensures.ends.whole words) in
+    c.new.ensures.items player
+    (subst (λ k. PlayerTurn known None k c.new-store.result.store c.args.fuel _) c.none.ensures c.in-Ok-turn.ensures.ends.whole)
+    words) in
     (l.can, session)

@@ -25,9 +25,9 @@ returns-else-self-eq0-clause-present c =
 pub returns-then-self-eq0-clause-place : goal.returns-then-self-eq0-clause-place
 returns-then-self-eq0-clause-place c = λ game s h.
     session_place (bytes_of game) game.fuel (play_on game) game.keep s c.args.self.now
-    c.self.inside.first (returns-then-self-eq0-clause-present c) h.session
+    c.self.inside.first.place (returns-then-self-eq0-clause-present c) h.session
 
 pub returns-else-self-eq0-clause-place : goal.returns-else-self-eq0-clause-place
 returns-else-self-eq0-clause-place c = λ game s h.
     session_place (bytes_of game) game.fuel (play_on game) game.keep s c.args.self.now
-    c.index.result.now.place (returns-else-self-eq0-clause-present c) h.session
+    c.index.result.now.reached.place (returns-else-self-eq0-clause-present c) h.session

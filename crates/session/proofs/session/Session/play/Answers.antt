@@ -2,7 +2,9 @@ use Rattle.std.proofs.Common.{◌+◌, ◌∙◌, ap, sym, subst, take, List, []
 use Rattle.session.specs.declared.turns.Turn.{Turn}
 use Rattle.session.specs.Inside.{IsBetweenTurns}
 use Rattle.session.proofs.Insides.{ready_now}
-use Rattle.session.proofs.Views.{view_place}
+use Rattle.zcore.specs.Turn.{StateOfPlay}
+use Rattle.machine_frames.specs.States.{play_of}
+use Rattle.session.proofs.Views.{view_place, view_state}
 use Rattle.session.proofs.Turning.{IsPlayed, at_err, given_up_between, given_up_view, played, taken_between}
 use Rattle.session.proofs.Turning.{taken_turned}
 use Rattle.session.specs.Written.{text_of}
@@ -46,18 +48,18 @@ invariant_of-self-2 c =
     let t : Turn =
     record {
       written = c.in_ok-written.written;
-      place = c.in_ok-place.place;
+      reached = record { place = c.in_ok-place.place; kept = c.turn.new.kept };
       overwritten = c.close.result;
     } in
-    let h : IsPlayed (known_of i.player) i.store c.close.new.self c.args.line.now i.fuel t =
-    played (known_of i.player) i.store c.turn.new.store c.keep_written.new.store c.close.new.self c.args.line.now i.fuel t
+    let h : IsPlayed (known_of i.player) c.in-Ok.kept i.store c.close.new.self c.args.line.now i.fuel t =
+    played (known_of i.player) c.in-Ok.kept i.store c.turn.new.store c.keep_written.new.store c.close.new.self c.args.line.now i.fuel t
     c.begin_text.new.text.items c.turn.new.text.items s c.in_ok-place.ensures.ends c.in_ok-written.ensures.same
     c.in_ok-begin_text.ensures.line c.in_ok-written.ensures.line (c.in_ok-written.ensures.bytes
     ∙ c.deref.ensures.value)
     c.self.invariant.begun c.close.ensures.back c.close.ensures.fits c.close.ensures.bound c.close.ensures.new in
     let more = c.put_turn.ensures ∙ ap (λ (ts : List Turn). take i.done ts ++ t ∷ []) c.begin_text.ensures.items in
     subst (λ ts. IsBetweenTurns (known_of i.player) c.close.new.self i.first ts (i.done + 1)) (sym more)
-    (taken_between (known_of i.player) i.store c.close.new.self i.first c.args.line.now i.fuel i.turns.items i.done
+    (taken_between (known_of i.player) c.in-Ok.kept i.store c.close.new.self i.first c.args.line.now i.fuel i.turns.items i.done
     t c.self.invariant h)
 
 pub returns-clause-turned : goal.returns-clause-turned
@@ -67,16 +69,19 @@ returns-clause-turned c =
     let t : Turn =
     record {
       written = c.in_ok-written.written;
-      place = c.in_ok-place.place;
+      reached = record { place = c.in_ok-place.place; kept = c.turn.new.kept };
       overwritten = c.close.result;
     } in
-    let h : IsPlayed (known_of i.player) i.store c.close.new.self c.args.line.now i.fuel t =
-    played (known_of i.player) i.store c.turn.new.store c.keep_written.new.store c.close.new.self c.args.line.now i.fuel t
+    let h : IsPlayed (known_of i.player) c.in-Ok.kept i.store c.close.new.self c.args.line.now i.fuel t =
+    played (known_of i.player) c.in-Ok.kept i.store c.turn.new.store c.keep_written.new.store c.close.new.self c.args.line.now i.fuel t
     c.begin_text.new.text.items c.turn.new.text.items s c.in_ok-place.ensures.ends c.in_ok-written.ensures.same
     c.in_ok-begin_text.ensures.line c.in_ok-written.ensures.line (c.in_ok-written.ensures.bytes
     ∙ c.deref.ensures.value)
     c.self.invariant.begun c.close.ensures.back c.close.ensures.fits c.close.ensures.bound c.close.ensures.new in
     let more = c.put_turn.ensures ∙ ap (λ (ts : List Turn). take i.done ts ++ t ∷ []) c.begin_text.ensures.items in
-    taken_turned i.keep i.fuel (known_of i.player) i.opening.items i.store c.close.new.self i.first c.args.line.now
+    taken_turned i.keep i.fuel (known_of i.player) c.in-Ok.kept i.opening.items i.store c.close.new.self i.first c.args.line.now
     i.turns.items c.put_turn.new.turns.items i.done t (text_of i.given_up) c.args.self.now c.self.view_is
     c.self.invariant.within h more
+    (sym (ap (λ (p : StateOfPlay). p.kept) (view_state i.keep i.fuel (known_of i.player) i.opening.items i.store.store i.first
+    i.turns.items i.done (text_of i.given_up) c.args.self.now (play_of i.store.store) c.self.view_is
+    c.self.invariant.within)) ∙ sym (c.kept.ensures (play_of i.store.store)) ∙ sym c.in-Ok.ensures)

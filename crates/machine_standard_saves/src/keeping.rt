@@ -1,0 +1,184 @@
+//! `save_undo` (Z-Machine Standards Document 1.1, section 15).
+
+ghost use Rattle.std.specs.Prelude.{◌≡◌, ◌≤◌, ◌<◌, ◌+◌, ◌-◌, nat_lt, length, slice_index, IfOk, OnErr};
+ghost use Rattle.std.specs.Option.{option_map};
+ghost use Rattle.zcore.specs.Header.{static_base_of};
+ghost use Rattle.zcore.specs.Layout.{longest_story, stack_size};
+ghost use Rattle.zcore_standard.specs.SavedStates as definitions;
+ghost use Rattle.machine_decoding.specs.Seen.{seen};
+ghost use Rattle.machine_frames.specs.Contents.{memory_of};
+ghost use Rattle.machine_frames.specs.Layout.{stack_offset};
+ghost use Rattle.machine_frames.specs.States.{cells_from, frame_count, IsSound, IsStoreOf};
+ghost use Rattle.machine_frames.specs.Went.{Went};
+ghost use Rattle.machine_standard_windows.specs.TurnState.{place};
+ghost use Rattle.machine_standard_saves.specs.Written.{IsFileOf, WritesFrame, WritesFrames, top_of};
+
+use journal::Recorded;
+use machine_frames::layout::{
+    ARGUMENT_COUNT, FRAME_COUNT, HEIGHT, LOCAL_COUNT, RECORD, RECORDS, RESULT, RETURN, STACK,
+};
+use machine_frames::{End, Store, cell, long, variable_in};
+use machine_opcodes::give_result;
+use machine_standard_windows::TurnState;
+use quetzal::{FrameHead, SaveState, put_frame, put_main, write_save};
+use std::alloc::{AllocError, Global};
+use zcore::{Header, Next};
+use zcore_standard::Loaded;
+
+/// What `save_undo` answers where the state is kept.
+const SUCCEEDED: u16 = 1;
+
+/// What it answers where the state is not kept: -1.
+const HAS_NO_UNDO: u16 = 65_535;
+
+/// How many locals a frame of a save file has at most.
+const MOST_LOCALS: u16 = 15;
+
+/// How many arguments a call gives at most.
+const MOST_ARGUMENTS: u16 = 7;
+
+/// Keeps the state: `save_undo`. The address after the instruction is one more than that of the byte
+/// that names the variable for its result.
+///
+/// # Errors
+///
+/// M6 and M4 of the result. `End::Memory` where memory was refused: the turn is given up.
+pub fn save_undo(
+    header: &Header,
+    store: &mut Recorded<Store>,
+    loaded: &Loaded,
+    turn: &mut TurnState,
+    here: Next,
+    after: u32,
+    variable: Option<u8>,
+) -> Result<Next, End>
+    requires store { IsStoreOf header.now store.old.store }
+    requires dynamic { length loaded.now.dynamic ≡ static_base_of (memory_of store.old.store) }
+    requires after { after ≤ longest_story }
+    ensures went { Went (seen (place turn.new) result) store.old store.new
+        (definitions.save_undo loaded.now (place turn.old here) after variable) }
+    ensures turn { OnErr result (turn.new ≡ turn.old) }
+{
+    let file = match file_of(store, loaded, after.saturating_sub(1), turn.kept.alloc()) {
+        Ok(Some(file)) => file,
+        Ok(None) => return give_result(header, store, here, after, variable, HAS_NO_UNDO),
+        Err(_) => {
+            store.abandon();
+            return Err(End::Memory);
+        }
+    };
+    let next = give_result(header, store, here, after, variable, SUCCEEDED)?;
+    match turn.kept.push(file) {
+        Ok(()) => Ok(next),
+        Err(_) => {
+            store.abandon();
+            Err(End::Memory)
+        }
+    }
+}
+
+/// The save file of a state that goes on with the result at an address, or none where no file can
+/// tell all of its frames. At `Err` memory was refused.
+fn file_of(
+    store: &Recorded<Store>,
+    loaded: &Loaded,
+    at: u32,
+    alloc: Global,
+) -> Result<Option<Vec<u8>>, AllocError>
+    requires sound { IsSound store.now.store }
+    requires dynamic { length loaded.now.dynamic ≡ static_base_of (memory_of store.now.store) }
+    requires at { at ≤ longest_story }
+    ensures { IfOk result (λ file. IsFileOf loaded.now at store.now.store (option_map (λ f. f.items) file)) }
+{
+    let mut stacks = Vec::new(alloc);
+    if !put_frames(store, &mut stacks)? {
+        return Ok(None);
+    }
+    let dynamic = loaded.dynamic();
+    let state = SaveState {
+        program_counter: at,
+        memory: &store.store().memory()[..dynamic.len()],
+        stacks: stacks.as_slice(),
+    };
+    let file = write_save(alloc, dynamic, state)?;
+    Ok(Some(file))
+}
+
+/// Appends the frames of a store, the oldest first. It returns false where no file can tell all of
+/// one; any bytes may be appended then. At `Err` memory was refused.
+fn put_frames(store: &Recorded<Store>, out: &mut Vec<u8>) -> Result<bool, AllocError>
+    requires { IsSound store.now.store }
+    ensures { IfOk result (WritesFrames store.now.store out.old.items out.new.items) }
+{
+    let frames = cell(store, FRAME_COUNT) as usize;
+    put_main(out, words_of(store, 0, top_of(store, 0, frames)))?;
+    for record in 1..frames {
+        if !put_call(store, out, record, top_of(store, record, frames))? {
+            return Ok(false);
+        }
+    }
+    Ok(true)
+}
+
+/// Appends the frame of a call that ends at a height of the stack, or returns false where no file can
+/// tell all of it. At `Err` memory was refused.
+fn put_call(
+    store: &Recorded<Store>,
+    out: &mut Vec<u8>,
+    record: usize,
+    top: usize,
+) -> Result<bool, AllocError>
+    requires sound { IsSound store.now.store }
+    requires record { record < frame_count (slice_index store.now.store.cells) }
+    requires top { top ≡ top_of (slice_index store.now.store.cells) record }
+    ensures { IfOk result (WritesFrame store.now.store record top out.old.items out.new.items) }
+{
+    let at = RECORDS + RECORD * record;
+    let base = long(store, at) as usize;
+    let locals = cell(store, at + LOCAL_COUNT);
+    let arguments = cell(store, at + ARGUMENT_COUNT);
+    let return_address = long(store, at + RETURN);
+    if locals > MOST_LOCALS || arguments > MOST_ARGUMENTS || !is_within(store, return_address) {
+        return Ok(false);
+    }
+    let bottom = base + locals as usize;
+    let head = FrameHead {
+        return_address,
+        locals: locals as u8,
+        variable: variable_in(cell(store, at + RESULT)),
+        arguments: arguments as u8,
+        words: (top - bottom) as u16,
+    };
+    put_frame(out, head, words_of(store, base, bottom), words_of(store, bottom, top))?;
+    Ok(true)
+}
+
+/// Whether an address lies in the story.
+fn is_within(store: &Recorded<Store>, address: u32) -> bool
+    ensures { result ≡ nat_lt address (length (memory_of store.now.store)) }
+{
+    (address as usize) < store.store().memory().len()
+}
+
+/// The height of the stack at which a frame ends: where the next one begins.
+fn top_of(store: &Recorded<Store>, record: usize, frames: usize) -> usize
+    requires sound { IsSound store.now.store }
+    requires record { record < frames }
+    requires frames { frames ≡ frame_count (slice_index store.now.store.cells) }
+    ensures { result ≡ top_of (slice_index store.now.store.cells) record }
+{
+    if record + 1 < frames {
+        long(store, RECORDS + RECORD * (record + 1)) as usize
+    } else {
+        long(store, HEIGHT) as usize
+    }
+}
+
+/// The words of the stack from a height to another.
+fn words_of(store: &Recorded<Store>, from: usize, to: usize) -> &[u16]
+    requires order { from ≤ to }
+    requires most { to ≤ stack_size }
+    ensures { result.now ≡ cells_from (slice_index store.now.store.cells) (stack_offset + from) (to - from) }
+{
+    &store.store().words()[STACK + from..STACK + to]
+}

@@ -1,0 +1,189 @@
+//! `restore_undo` (Z-Machine Standards Document 1.1, section 15).
+
+ghost use Rattle.std.specs.Prelude.{◌≡◌, ◌≤◌, ◌<◌, ◌+◌, Some, length, drop, slice_index, OnErr};
+ghost use Rattle.zcore.specs.Header.{static_base_of};
+ghost use Rattle.zcore.specs.Layout.{longest_story, stack_size};
+ghost use Rattle.quetzal.specs.Frames.{Stacks, size_of, stacks_in, words_from, words_of};
+ghost use Rattle.quetzal.specs.SaveFiles.{saved_in};
+ghost use Rattle.zcore_standard.specs.SavedStates as definitions;
+ghost use Rattle.machine_decoding.specs.Seen.{seen};
+ghost use Rattle.machine_frames.specs.Contents.{memory_of};
+ghost use Rattle.machine_frames.specs.Layout.{record_count};
+ghost use Rattle.machine_frames.specs.States.{IsSound, IsStoreOf, frame_count, height_of};
+ghost use Rattle.machine_frames.specs.Went.{Went};
+ghost use Rattle.machine_standard_windows.specs.TurnState.{place};
+ghost use Rattle.machine_standard_saves.specs.Restored.{frame_with, put_back_one, with_frames};
+
+use crate::frames::{begin_frames, push_frame};
+use journal::Recorded;
+use machine_frames::layout::WAITING;
+use machine_frames::{End, Store, store_result};
+use machine_lines::fill;
+use machine_opcodes::give_result;
+use machine_standard_windows::TurnState;
+use quetzal::{FrameHead, Save, read_head, read_save, read_words};
+use std::alloc::Global;
+use zcore::layout::HEADER_LENGTH;
+use zcore::{Header, Limit, Next, Place};
+use zcore_standard::Loaded;
+
+/// How many bytes a frame of a save file has before its words.
+const HEAD: usize = 8;
+
+/// How many words a save file has at most.
+const MOST_WORDS: usize = 65_536;
+
+/// What `restore_undo` answers where no state is kept.
+const FAILED: u16 = 0;
+
+/// What the `save_undo` of a state answers that is restored.
+const RESTORED: u16 = 2;
+
+/// Restores the state that was kept last, which is kept no longer: `restore_undo`. It takes a unit of
+/// fuel. Where no state is kept, the story goes on with the answer 0.
+///
+/// # Errors
+///
+/// The limit of fuel, and M6 and M4 of the result. `End::Memory` where memory was refused: the turn
+/// is given up.
+pub fn restore_undo(
+    header: &Header,
+    store: &mut Recorded<Store>,
+    loaded: &Loaded,
+    turn: &mut TurnState,
+    here: Next,
+    after: u32,
+    variable: Option<u8>,
+) -> Result<Next, End>
+    requires store { IsStoreOf header.now store.old.store }
+    requires dynamic { length loaded.now.dynamic ≡ static_base_of (memory_of store.old.store) }
+    requires after { after ≤ longest_story }
+    ensures went { Went (seen (place turn.new) result) store.old store.new
+        (definitions.restore_undo loaded.now (place turn.old here) after variable) }
+    ensures turn { OnErr result (turn.new ≡ turn.old) }
+{
+    let alloc = turn.kept.alloc();
+    let Some(file) = turn.kept.newest() else {
+        return give_result(header, store, here, after, variable, FAILED);
+    };
+    let next = restore(header, store, loaded, file, alloc, here, after, variable)?;
+    turn.kept.drop_newest();
+    Ok(next)
+}
+
+/// Restores the state of a file, or answers that this failed where the file is refused.
+fn restore(
+    header: &Header,
+    store: &mut Recorded<Store>,
+    loaded: &Loaded,
+    file: &[u8],
+    alloc: Global,
+    here: Next,
+    after: u32,
+    variable: Option<u8>,
+) -> Result<Next, End>
+    requires store { IsStoreOf header.now store.old.store }
+    requires dynamic { length loaded.now.dynamic ≡ static_base_of (memory_of store.old.store) }
+    requires after { after ≤ longest_story }
+    ensures { Went result store.old store.new (definitions.resume_if_read
+        (saved_in loaded.now.dynamic (length (memory_of store.old.store)) file.now) here after variable) }
+{
+    let mut memory = Vec::new(alloc);
+    if memory.extend_from_slice(loaded.dynamic()).is_err() {
+        store.abandon();
+        return Err(End::Memory);
+    }
+    let size = store.store().memory().len() as u32;
+    match read_save(&mut memory, size, file) {
+        Err(_) => give_result(header, store, here, after, variable, FAILED),
+        Ok(save) => resume(header, store, memory.as_slice(), save, alloc, here),
+    }
+}
+
+/// Goes on in a state with this dynamic memory and these frames, by the result at an address.
+fn resume(
+    header: &Header,
+    store: &mut Recorded<Store>,
+    memory: &[u8],
+    save: Save<'_>,
+    alloc: Global,
+    here: Next,
+) -> Result<Next, End>
+    requires store { IsStoreOf header.now store.old.store }
+    requires dynamic { length memory.now ≡ static_base_of (memory_of store.old.store) }
+    ensures { (read : Stacks) → stacks_in (length (memory_of store.old.store)) save.entry.stacks.now ≡ Some read
+        → Went result store.old store.new (definitions.resume (record {
+          program_counter = save.entry.program_counter;
+          memory = memory.now;
+          stacks = read;
+        }) here.fuel) }
+{
+    if here.fuel == 0 {
+        return Err(End::Stop(Place::Limit(Limit::Fuel)));
+    }
+    fill(store, HEADER_LENGTH, &memory[HEADER_LENGTH..])?;
+    store.put(WAITING, 0)?;
+    put_back(store, save.stacks, alloc)?;
+    let variable = byte_at(store, save.program_counter);
+    store_result(header, store, Some(variable), RESTORED)?;
+    Ok(Next {
+        program_counter: save.program_counter + 1,
+        fuel: here.fuel - 1,
+    })
+}
+
+/// The byte at an address, 0 after the end of the story.
+fn byte_at(store: &Recorded<Store>, at: u32) -> u8
+    ensures { result ≡ slice_index (memory_of store.now.store) at }
+{
+    let memory = store.store().memory();
+    if (at as usize) < memory.len() { memory[at as usize] } else { 0 }
+}
+
+/// Puts back the frames of a file, the oldest first.
+fn put_back(store: &mut Recorded<Store>, stacks: &[u8], alloc: Global) -> Result<(), End>
+    requires sound { IsSound store.old.store }
+    ensures { (read : Stacks) → stacks_in (length (memory_of store.old.store)) stacks.now ≡ Some read
+        → Went result store.old store.new (with_frames read) }
+{
+    let size = store.store().memory().len() as u32;
+    let mut words = Vec::new(alloc);
+    let mut rest = stacks;
+    let mut is_main = true;
+    while let Some(head) = read_head(rest, size, MOST_WORDS) {
+        let next = put_back_one(store, rest, head, is_main, &mut words);
+        if next.is_err() {
+            return next;
+        }
+        is_main = false;
+        rest = &rest[head.size()..];
+    }
+    Ok(())
+}
+
+/// Puts back the frame that bytes begin with.
+fn put_back_one(
+    store: &mut Recorded<Store>,
+    bytes: &[u8],
+    head: FrameHead,
+    is_main: bool,
+    words: &mut Vec<u16>,
+) -> Result<(), End>
+    requires sound { IsSound store.old.store }
+    requires whole { size_of head ≤ length bytes.now }
+    requires calls { frame_count (slice_index store.old.store.cells) < record_count }
+    requires room { height_of (slice_index store.old.store.cells) + words_of head ≤ stack_size }
+    ensures { Went result store.old store.new
+        (put_back_one is_main (frame_with head (words_from (words_of head) (drop HEAD bytes.now)))) }
+{
+    words.clear();
+    if read_words(&bytes[HEAD..], head.word_count(), words).is_err() {
+        store.abandon();
+        return Err(End::Memory);
+    }
+    if is_main {
+        begin_frames(store, words.as_slice())
+    } else {
+        push_frame(store, head, words.as_slice())
+    }
+}

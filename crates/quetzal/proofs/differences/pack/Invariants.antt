@@ -1,0 +1,14 @@
+use Rattle.std.proofs.Common.{◌≡◌, ◌≤◌, ◌-◌, ◌++◌, drop, length}
+use Rattle.quetzal.specs.Differences.{packed}
+use Rattle.quetzal.proofs.differences.pack.Given as goal
+
+abbrev pub invariant-loop-at : goal.invariant-loop-at
+invariant-loop-at l = record {
+  within : l.at ≤ length l.base;
+  few : l.equal ≤ l.at;
+  whole : l.out.items ++ packed l.equal (drop l.at l.base) (drop l.at l.memory)
+      ≡ l.initial.out.items ++ packed 0 l.base l.memory;
+}
+
+abbrev pub decreases-loop-at : goal.decreases-loop-at
+decreases-loop-at l = length l.base - l.at

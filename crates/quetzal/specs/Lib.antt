@@ -1,0 +1,5 @@
+pub mod Differences
+pub mod Frames
+pub mod Chunks
+pub mod SaveFiles
+pub mod Steps

@@ -1,0 +1,209 @@
+//! Memory as its differences from another memory of the same length.
+
+ghost use Rattle.std.specs.Prelude.{◌≡◌, ◌≤◌, ◌<◌, ◌+◌, ◌^◌, ℕ, false, List, [], ◌∷◌, ◌++◌, length};
+ghost use Rattle.std.specs.Prelude.{if◌then◌else◌, IfOk, IfSome, OnOk};
+ghost use Rattle.quetzal.specs.Differences.{full_runs, packed, short_run, unpacked, with_equal};
+ghost use Rattle.quetzal.specs.Steps.{Appends, AppendsPacked, IsStep};
+
+use std::alloc::AllocError;
+
+/// How many bytes are compared at once.
+const PAGE: usize = 64;
+
+/// How many bytes of a page that differs are compared at once.
+const BLOCK: usize = 8;
+
+/// How many equal bytes a run has at most.
+const RUN: usize = 256;
+
+/// How far reading has come.
+#[derive(Clone, Copy)]
+struct Place {
+    /// How many bytes of memory are done.
+    at: usize,
+
+    /// Whether the count of a run comes next.
+    is_run: bool,
+}
+
+/// Appends the differences of a memory from another.
+///
+/// # Errors
+///
+/// Memory was refused.
+pub(crate) fn pack(base: &[u8], memory: &[u8], out: &mut Vec<u8>) -> Result<(), AllocError>
+    requires { length base.now ≡ length memory.now }
+    ensures { OnOk result (out.new.items ≡ out.old.items ++ packed 0 base.now memory.now) }
+{
+    let mut equal = 0;
+    let mut at = 0;
+    while at < base.len() {
+        let next = part_end(at, base.len(), PAGE);
+        equal = put_page(out, equal, &base[at..next], &memory[at..next])?;
+        at = next;
+    }
+    Ok(())
+}
+
+/// Where a part of some bytes ends that begins before an end.
+#[inline(always)]
+fn part_end(at: usize, end: usize, size: usize) -> usize
+    requires before { at < end }
+    requires some { 0 < size }
+    ensures more { at < result }
+    ensures within { result ≤ end }
+{
+    if end - at < size { end } else { at + size }
+}
+
+/// Appends the differences of some bytes. `equal` equal bytes come before them that are not written
+/// yet; it returns how many there are then.
+#[inline(always)]
+fn put_page(out: &mut Vec<u8>, equal: usize, was: &[u8], now: &[u8]) -> Result<usize, AllocError>
+    requires same { length was.now ≡ length now.now }
+    requires few { equal + length was.now < 2 ^ 64 }
+    ensures put { IfOk result (AppendsPacked equal was.now now.now out.old.items out.new.items) }
+    ensures few { IfOk result (λ left. left ≤ equal + length was.now) }
+{
+    if was == now {
+        return Ok(equal + was.len());
+    }
+    put_blocks(out, equal, was, now)
+}
+
+/// The same, block by block.
+fn put_blocks(out: &mut Vec<u8>, equal: usize, was: &[u8], now: &[u8]) -> Result<usize, AllocError>
+    requires same { length was.now ≡ length now.now }
+    requires few { equal + length was.now < 2 ^ 64 }
+    ensures put { IfOk result (AppendsPacked equal was.now now.now out.old.items out.new.items) }
+    ensures few { IfOk result (λ left. left ≤ equal + length was.now) }
+{
+    let mut left = equal;
+    let mut at = 0;
+    while at < was.len() {
+        let next = part_end(at, was.len(), BLOCK);
+        left = put_block(out, left, &was[at..next], &now[at..next])?;
+        at = next;
+    }
+    Ok(left)
+}
+
+/// The same for one block.
+#[inline(always)]
+fn put_block(out: &mut Vec<u8>, equal: usize, was: &[u8], now: &[u8]) -> Result<usize, AllocError>
+    requires same { length was.now ≡ length now.now }
+    requires few { equal + length was.now < 2 ^ 64 }
+    ensures put { IfOk result (AppendsPacked equal was.now now.now out.old.items out.new.items) }
+    ensures few { IfOk result (λ left. left ≤ equal + length was.now) }
+{
+    if was == now {
+        return Ok(equal + was.len());
+    }
+    put_bytes(out, equal, was, now)
+}
+
+/// The same, byte by byte.
+fn put_bytes(out: &mut Vec<u8>, equal: usize, was: &[u8], now: &[u8]) -> Result<usize, AllocError>
+    requires same { length was.now ≡ length now.now }
+    requires few { equal + length was.now < 2 ^ 64 }
+    ensures put { IfOk result (AppendsPacked equal was.now now.now out.old.items out.new.items) }
+    ensures few { IfOk result (λ left. left ≤ equal + length was.now) }
+{
+    let mut left = equal;
+    for i in 0..was.len() {
+        left = put_byte(out, left, was[i], now[i])?;
+    }
+    Ok(left)
+}
+
+/// The same for one byte.
+#[inline(always)]
+fn put_byte(out: &mut Vec<u8>, equal: usize, was: u8, now: u8) -> Result<usize, AllocError>
+    requires { equal + 1 < 2 ^ 64 }
+    ensures put { IfOk result (AppendsPacked equal (was ∷ []) (now ∷ []) out.old.items out.new.items) }
+    ensures few { IfOk result (λ left. left ≤ equal + 1) }
+{
+    if was == now {
+        return Ok(equal + 1);
+    }
+    put_equal(out, equal)?;
+    out.push(was ^ now)?;
+    Ok(0)
+}
+
+/// Appends a number of equal bytes.
+fn put_equal(out: &mut Vec<u8>, equal: usize) -> Result<(), AllocError>
+    ensures { OnOk result (Appends (with_equal equal) out.old.items out.new.items) }
+{
+    put_full_runs(out, equal / RUN)?;
+    put_short_run(out, (equal % RUN) as u8)?;
+    Ok(())
+}
+
+/// Appends runs of 256 equal bytes.
+fn put_full_runs(out: &mut Vec<u8>, runs: usize) -> Result<(), AllocError>
+    ensures { OnOk result (Appends (full_runs runs) out.old.items out.new.items) }
+{
+    for _run in 0..runs {
+        out.extend_from_slice(&[0, 255])?;
+    }
+    Ok(())
+}
+
+/// Appends a run of fewer equal bytes, or none.
+fn put_short_run(out: &mut Vec<u8>, equal: u8) -> Result<(), AllocError>
+    ensures { OnOk result (Appends (short_run equal) out.old.items out.new.items) }
+{
+    if equal > 0 {
+        out.extend_from_slice(&[0, equal - 1])?;
+    }
+    Ok(())
+}
+
+/// Applies differences to memory. It returns false if they are cut short or pass its end; memory
+/// may be anything then.
+pub(crate) fn unpack(memory: &mut [u8], differences: &[u8]) -> bool
+    ensures { unpacked differences.now false memory.old ≡ (if result then Some memory.new else None) }
+{
+    let mut place = Place {
+        at: 0,
+        is_run: false,
+    };
+    for byte in differences {
+        match step(memory, place, *byte) {
+            Some(next) => place = next,
+            None => return false,
+        }
+    }
+    !place.is_run
+}
+
+/// Applies one byte of differences.
+#[inline(always)]
+fn step(memory: &mut [u8], place: Place, byte: u8) -> Option<Place>
+    requires { place.at ≤ length memory.old }
+    ensures step { IsStep memory.old place byte memory.new result }
+    ensures within { IfSome result (λ next. next.at ≤ length memory.new) }
+{
+    let at = place.at;
+    if place.is_run {
+        if byte as usize >= memory.len() - at {
+            return None;
+        }
+        return Some(Place {
+            at: at + byte as usize + 1,
+            is_run: false,
+        });
+    }
+    if byte == 0 {
+        return Some(Place { at, is_run: true });
+    }
+    if at >= memory.len() {
+        return None;
+    }
+    memory[at] ^= byte;
+    Some(Place {
+        at: at + 1,
+        is_run: false,
+    })
+}

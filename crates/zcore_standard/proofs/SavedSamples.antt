@@ -1,0 +1,86 @@
+-- States that are kept and restored, computed.
+use Rattle.std.proofs.Common.{◌≡◌, ℕ, ◌++◌, List, [], ◌∷◌, length, replicate, set, refl, Option, Some, None, true}
+use Rattle.zcore.specs.declared.place.Limit.TheVariants as limits
+use Rattle.zcore.specs.declared.place.Place.TheVariants as places
+use Rattle.zcore.specs.Effects.{give_result}
+use Rattle.zcore.specs.Parts.{push, spend, store_result, test_result, write_variable}
+use Rattle.zcore.specs.State.{Frame, State, done, halt}
+use Rattle.zcore.specs.Turn.{first_environment}
+use Rattle.quetzal.specs.Chunks.{chunk, chunks_after}
+use Rattle.quetzal.specs.Differences.{packed, unpacked, with_equal}
+use Rattle.quetzal.specs.Frames.{frame_bytes, frame_in, frames_in, is_frame}
+use Rattle.quetzal.specs.SaveFiles.{save_bytes, saved_in}
+use Rattle.zcore_standard.specs.Keeping.{with_newest}
+use Rattle.zcore_standard.specs.Loaded.{Loaded, seeded}
+use Rattle.zcore_standard.specs.Place.{Here, plain}
+use Rattle.zcore_standard.specs.SavedStates.{can_be_kept, file_of, resume, restore_undo, save_undo, take_up}
+
+-- 70 bytes of dynamic memory, and 6 after them; byte 72 names the stack, where the result of `save_undo` goes
+dynamic : List ℕ
+dynamic = replicate 64 0 ++ (1 ∷ 2 ∷ 3 ∷ 4 ∷ 5 ∷ 6 ∷ [])
+
+story : Loaded
+unfolding dynamic
+story = record { dynamic = dynamic; dice = seeded 1; is_sum_right = true; characters = []; own_alphabets = None }
+
+abbrev called : List ℕ → Frame
+called stack =
+    record { locals = 700 ∷ []; stack = stack; arguments = 1; return_address = 66; result = None }
+
+-- a routine runs with a local and a word on its stack, and byte 66 was changed
+abbrev in_call : List ℕ → State
+in_call stack = record {
+  memory = set dynamic 66 77 ++ replicate 6 0;
+  frames = called stack ∷ first_environment ∷ [];
+  pending = None;
+  text = [];
+}
+
+-- it has returned, and has printed a letter
+later : State
+unfolding dynamic
+later = record {
+  memory = dynamic ++ replicate 6 0;
+  frames = first_environment ∷ [];
+  pending = None;
+  text = 65 ∷ [];
+}
+
+abbrev at : ℕ → ℕ → List (List ℕ) → Here
+at place fuel kept = plain (seeded 1) kept (record { program_counter = place; fuel = fuel })
+
+-- the state is kept, and 1 is given
+saved : save_undo story (at 69 5 []) 73 (Some 0) (in_call (9 ∷ []))
+    ≡ done (at 73 5 (file_of story 72 (in_call (9 ∷ [])) ∷ [])) (in_call (9 ∷ 1 ∷ []))
+unfolding dynamic story save_undo can_be_kept give_result test_result store_result write_variable push
+saved = refl
+
+-- then it is restored, and 2 given; the text stays
+undone : restore_undo story (at 74 5 (file_of story 72 (in_call (9 ∷ [])) ∷ [])) 78 (Some 0) later
+    ≡ done (at 73 4 []) (record (in_call (9 ∷ 2 ∷ [])) { text = 65 ∷ [] })
+unfolding dynamic story later file_of restore_undo resume take_up save_bytes saved_in packed unpacked with_equal chunk chunks_after frame_bytes frame_in frames_in is_frame spend store_result write_variable push
+undone = refl
+
+-- no state is kept
+not_undone : restore_undo story (at 74 5 []) 78 (Some 0) later
+    ≡ done (at 78 5 []) (record later { frames = record first_environment { stack = 0 ∷ [] } ∷ [] })
+unfolding dynamic story later restore_undo give_result test_result store_result write_variable push
+not_undone = refl
+
+-- no unit is left: the turn is too long, and the state stays
+no_unit : restore_undo story (at 74 0 (file_of story 72 (in_call (9 ∷ [])) ∷ [])) 78 (Some 0) later
+    ≡ halt (places.Limit limits.Fuel) later
+unfolding dynamic story later file_of restore_undo resume save_bytes saved_in packed unpacked with_equal chunk chunks_after frame_bytes frame_in frames_in is_frame spend
+no_unit = refl
+
+-- a state with a frame of which no file can tell all is not kept: -1
+not_saved : save_undo story (at 69 5 []) 73 (Some 0)
+    (record (in_call []) { frames = record (called []) { arguments = 8 } ∷ first_environment ∷ [] })
+    ≡ done (at 73 5 [])
+    (record (in_call []) { frames = record (called (0xFFFF ∷ [])) { arguments = 8 } ∷ first_environment ∷ [] })
+unfolding dynamic story save_undo can_be_kept give_result test_result store_result write_variable push
+not_saved = refl
+
+-- of 101 states the oldest goes
+oldest_goes : length (with_newest (2 ∷ []) (replicate 100 (1 ∷ []))) ≡ 100
+oldest_goes = refl

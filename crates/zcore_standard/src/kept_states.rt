@@ -1,0 +1,116 @@
+//! The states that a story keeps.
+
+ghost use Rattle.std.specs.Prelude.{◌≡◌, ◌∷◌, [], map, IfOk, OnOk, OnErr, MatchOption};
+ghost use Rattle.zcore_standard.specs.Keeping.{cut, newest, with_newest, without_newest};
+
+use std::alloc::{AllocError, Global};
+use std::marker::Model;
+use std::rc::Rc;
+
+/// How many states a story keeps at most.
+const MOST: usize = 100;
+
+/// The states that a story keeps by `save_undo` (Z-Machine Standards Document 1.1, section 15), as
+/// save files, the newest last. Copies share the files.
+#[derive(Drop)]
+pub struct KeptStates {
+    files: Vec<Rc<Vec<u8>>>,
+
+    /// Where files and lists of them come from.
+    alloc: Global,
+}
+
+impl Model for KeptStates {
+    ghost use Rattle.std.specs.Prelude.{List, ℕ, map};
+
+    ghost Value = { List (List ℕ) };
+
+    ghost view = { λ k. map (λ rc. rc.value.items) k.files.items };
+}
+
+impl KeptStates {
+    /// No state. It takes no memory.
+    pub fn none(alloc: Global) -> KeptStates
+        ensures { result ≡ [] }
+    {
+        KeptStates {
+            files: Vec::new(alloc),
+            alloc,
+        }
+    }
+
+    /// Where the file of a state that is kept here comes from.
+    pub fn alloc(&self) -> Global {
+        self.alloc
+    }
+
+    /// The same states. The files are not copied.
+    ///
+    /// # Errors
+    ///
+    /// Memory was refused.
+    pub fn share(&self) -> Result<KeptStates, AllocError>
+        ensures { IfOk result (λ copy. copy ≡ self.now) }
+    {
+        let files = share_files(self.alloc, self.files.as_slice())?;
+        Ok(KeptStates {
+            files,
+            alloc: self.alloc,
+        })
+    }
+
+    /// Keeps one state more. Where there are more than may be, the oldest goes.
+    ///
+    /// # Errors
+    ///
+    /// Memory was refused, and nothing is changed.
+    pub fn push(&mut self, file: Vec<u8>) -> Result<(), AllocError>
+        ensures ok { OnOk result (self.new ≡ with_newest file.items self.old) }
+        ensures err { OnErr result (self.new ≡ self.old) }
+    {
+        let Ok(file) = Rc::new(self.alloc, file) else {
+            return Err(AllocError);
+        };
+        self.files.push(file)?;
+        drop_oldest(&mut self.files);
+        Ok(())
+    }
+
+    /// The newest state, if one is kept.
+    pub fn newest(&self) -> Option<&[u8]>
+        ensures { MatchOption result (newest self.now ≡ []) (λ file. newest self.now ≡ file.now ∷ []) }
+    {
+        match self.files.as_slice().last() {
+            Some(file) => Some(file.as_slice()),
+            None => None,
+        }
+    }
+
+    /// Keeps the newest state no longer.
+    pub fn drop_newest(&mut self)
+        ensures { self.new ≡ without_newest self.old }
+    {
+        drop(self.files.pop());
+    }
+}
+
+/// The same files, which are not copied.
+fn share_files(alloc: Global, files: &[Rc<Vec<u8>>]) -> Result<Vec<Rc<Vec<u8>>>, AllocError>
+    ensures { IfOk result (λ copies. map (λ rc. rc.value.items) copies.items ≡ map (λ rc. rc.value.items) files.now) }
+{
+    let mut copies = Vec::new(alloc);
+    copies.reserve(files.len())?;
+    for file in files {
+        copies.push(file.clone()?)?;
+    }
+    Ok(copies)
+}
+
+/// Where there are more than may be, the oldest goes.
+fn drop_oldest(files: &mut Vec<Rc<Vec<u8>>>)
+    ensures { files.new.items ≡ cut files.old.items }
+{
+    if files.len() > MOST {
+        drop(files.remove(0));
+    }
+}
