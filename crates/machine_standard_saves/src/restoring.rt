@@ -137,7 +137,11 @@ fn byte_at(store: &Recorded<Store>, at: u32) -> u8
     ensures { result ≡ slice_index (memory_of store.now.store) at }
 {
     let memory = store.store().memory();
-    if (at as usize) < memory.len() { memory[at as usize] } else { 0 }
+    if (at as usize) < memory.len() {
+        memory[at as usize]
+    } else {
+        0
+    }
 }
 
 /// Puts back the frames of a file, the oldest first.

@@ -231,22 +231,22 @@ pub taken_turned : (keep : Option ℕ) (units : ℕ) (known : Known) (kept_befor
     → Turned line v (view_of keep units known opening new.store first more (k + 1) given_up)
 taken_turned keep units known kept_before opening old new first line turns more k t given_up v is le h e before =
     let state = play_keeping kept_before (play_of old.store) in record {
-  whole = keeping t.reached.kept (whole_of new.store t.reached.place (text_of t.written));
-  size = length t.overwritten;
-  turn = λ d.
-      ap (λ p. turn_with v.loaded line v.fuel p)
-      (view_state keep units known opening old.store first turns k given_up v d is le
-      ∙ ap (λ kept. play_keeping kept (play_of old.store)) before)
-      ∙ ap (λ n. turn_with v.loaded line n state)
-      (view_fuel keep units known opening old.store first turns k given_up v is)
-      ∙ ap (λ l. turn_with l line units state)
-      (view_loaded keep units known opening old.store first turns k given_up v is)
-      ∙ h.turn;
-  small = omega (arith, h.small, header_base keep units known opening old.store first turns k given_up v is);
-  is = ap (λ ts. view_of keep units known opening new.store first ts (k + 1) given_up) e
-      ∙ taken_view keep units known kept_before opening old new first line turns k t given_up le h
-      ∙ ap {A = Session} (λ w. with_turn line (length t.overwritten) (keeping t.reached.kept (whole_of new.store t.reached.place (text_of t.written))) w) is;
-}
+      whole = keeping t.reached.kept (whole_of new.store t.reached.place (text_of t.written));
+      size = length t.overwritten;
+      turn = λ d.
+          ap (λ p. turn_with v.loaded line v.fuel p)
+          (view_state keep units known opening old.store first turns k given_up v d is le
+          ∙ ap (λ kept. play_keeping kept (play_of old.store)) before)
+          ∙ ap (λ n. turn_with v.loaded line n state)
+          (view_fuel keep units known opening old.store first turns k given_up v is)
+          ∙ ap (λ l. turn_with l line units state)
+          (view_loaded keep units known opening old.store first turns k given_up v is)
+          ∙ h.turn;
+      small = omega (arith, h.small, header_base keep units known opening old.store first turns k given_up v is);
+      is = ap (λ ts. view_of keep units known opening new.store first ts (k + 1) given_up) e
+          ∙ taken_view keep units known kept_before opening old new first line turns k t given_up le h
+          ∙ ap {A = Session} (λ w. with_turn line (length t.overwritten) (keeping t.reached.kept (whole_of new.store t.reached.place (text_of t.written))) w) is;
+    }
 
 -- how long stores of one machine are
 pub store_size : (header : Header) (s : Contents) → IsStoreOf header s

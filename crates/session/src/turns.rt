@@ -46,7 +46,9 @@ impl Turn {
         ensures { result ≡ (self.written, self.reached) }
     {
         let Turn {
-            written, reached, ..
+            written,
+            reached,
+            ..
         } = self;
         (written, reached)
     }

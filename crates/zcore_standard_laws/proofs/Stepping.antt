@@ -166,10 +166,10 @@ resume_lighter saved here few s t next h =
     (done_state (record { program_counter = saved.program_counter + 1; fuel = p.value }) next r.between t r.second) in
     let v = done_value (record { program_counter = saved.program_counter + 1; fuel = p.value }) next r.between t r.second in
     let memory : length t.memory ≡ length s.memory = four.memory ∙ three.memory
-        ∙ length-with_bytes p.between.memory header_size (drop header_size saved.memory) ∙ one.memory in
+    ∙ length-with_bytes p.between.memory header_size (drop header_size saved.memory) ∙ one.memory in
     let frames : length t.frames ≡ length saved.stacks.calls + 1 = four.frames ∙ three.frames
-        ∙ length-reverse (record first_environment { stack = saved.stacks.stack } ∷ saved.stacks.calls)
-        ∙ omega arith in
+    ∙ length-reverse (record first_environment { stack = saved.stacks.stack } ∷ saved.stacks.calls)
+    ∙ omega arith in
     let fuel : next.fuel ≡ p.value = ap (λ (x : Next). x.fuel) v in
     any_frames_lighter here next s t memory (omega (arith, frames, few)) (omega (arith, fuel, less))
 
