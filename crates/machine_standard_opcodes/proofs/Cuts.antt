@@ -13,7 +13,7 @@ use Rattle.journal.specs.Recording.{Recording}
 use Rattle.zcore.specs.declared.place.Fault.TheVariants as faults
 use Rattle.zcore.specs.declared.place.Place.TheVariants as places
 use Rattle.zcore.specs.Parts.{test}
-use Rattle.zcore.specs.State.{State, Out, done, bound, ◌>>=◌}
+use Rattle.zcore.specs.State.{State, Out, done, bound}
 use Rattle.zcore.specs.Turn.{with_bytes}
 use Rattle.zcore_standard.specs.declared.streams.Stream.{Stream}
 use Rattle.zcore_standard.specs.Fuel.{spend_for}
@@ -43,13 +43,6 @@ pub cut_again : (from : ℕ) (x w y : List ℕ) → take (length x) w ≡ x → 
     → y ≡ take from x
 cut_again from x w y front le is =
     is ∙ sym (take-take from (length x) w le) ∙ ap (take from) front
-
--- a part that comes after a definition has been followed so far
-pub told_on : {A : Type 0} (b : Result A End) {r s t : Recording Contents} {x y z : List ℕ} (f g : State → Out A)
-    → GoesOn r s → f (state_of r.store x) ≡ g (state_of s.store y) → Told b s y t z g → Told b r x t z f
-told_on (Ok a) f g v e w = record { told = (goes_on_after v w.told.0, e ∙ w.told.1) }
-told_on (Err ends.Memory) f g v e w = record { told = given_up_after v w.told }
-told_on (Err (ends.Stop p)) f g v e w = record { told = (goes_on_after v w.told.0, e ∙ w.told.1) }
 
 -- A stream is opened
 

@@ -163,10 +163,6 @@ pub tab_put : {x y : List ℕ} (h : Option Halt) (characters : List ℕ) (code :
     → Prints h x y (print_whole (32 ∷ [])) → Prints h x y (print_codes characters (code ∷ []))
 tab_put h characters code e w = one_put h characters code (32 ∷ []) (rw e refl) w
 
-pub spaces_put : {x y : List ℕ} (h : Option Halt) (characters : List ℕ) (code : ℕ) → code ≡ 11
-    → Prints h x y (print_each ((32 ∷ []) ∷ (32 ∷ []) ∷ [])) → Prints h x y (print_codes characters (code ∷ []))
-spaces_put h characters code e w = shown_put h characters code ((32 ∷ []) ∷ (32 ∷ []) ∷ []) (rw e refl) w
-
 pub line_put : {x y : List ℕ} (h : Option Halt) (characters : List ℕ) (code : ℕ) → code ≡ 13
     → Prints h x y (print_whole (10 ∷ [])) → Prints h x y (print_codes characters (code ∷ []))
 line_put h characters code e w = one_put h characters code (10 ∷ []) (rw e refl) w
@@ -193,23 +189,12 @@ first_halted why v = prints_no_further why (print_whole (32 ∷ [])) (print_each
 
 -- the bytes of a Unicode character
 
-pub printed_as : {x y : List ℕ} (h : Option Halt) (bytes : List ℕ) (code : ℕ) → bytes ≡ transcript_of code
-    → Prints h x y (print_whole bytes) → Prints h x y (print_whole (transcript_of code))
-printed_as {x} {y} h bytes code e w = subst (λ l. Prints h x y (print_whole l)) e w
-
-pub unknown_is : (code : ℕ) → is_printed code ≡ false → 63 ∷ [] ≡ transcript_of code
-unknown_is code e = rw e refl
-
 pub one_is : (code : ℕ) → is_printed code ≡ true → code < 128 → code ∷ [] ≡ transcript_of code
 one_is code e lt = rw (e, lt-ltb code 128 lt) refl
 
 pub two_are : (code : ℕ) → is_printed code ≡ true → 128 ≤ code → code < 2048
     → (192 + code / 64) ∷ (128 + code % 64) ∷ [] ≡ transcript_of code
 two_are code e le lt = rw (e, le-ltb code 128 le, lt-ltb code 2048 lt) refl
-
-pub three_are : (code : ℕ) → is_printed code ≡ true → 2048 ≤ code
-    → (224 + code / 4096) ∷ (128 + code / 64 % 64) ∷ (128 + code % 64) ∷ [] ≡ transcript_of code
-three_are code e le = rw (e, le-ltb code 128 (omega arith), le-ltb code 2048 le) refl
 
 -- Codes after codes
 

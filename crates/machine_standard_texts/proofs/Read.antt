@@ -138,12 +138,6 @@ named_next alphabets Punctuation z e =
 
 -- a piece, in a state that is known
 
-pub comes_in : (alphabets : List ℕ) (state is : declared.State) (z : ℕ) (r : Piece) → state ≡ is
-    → ((expand : ℕ → Result (List ℕ) Cause) → Comes expand (codes_of alphabets expand (state_of is) z) r)
-    → (expand : ℕ → Result (List ℕ) Cause) → Comes expand (codes_of alphabets expand (state_of state) z) r
-comes_in alphabets state is z r e h expand =
-    subst (λ s. Comes expand (codes_of alphabets expand (state_of s) z) r) (sym e) (h expand)
-
 letter_from_six : (alphabets : List ℕ) (expand : ℕ → Result (List ℕ) Cause) (s : ReadingState) (z : ℕ) → 6 ≤ z
     → (s ≡ Lower) ⊎ ((s ≡ Upper) ⊎ (s ≡ Punctuation)) → codes_of alphabets expand s z ≡ Ok (letter_codes alphabets s z)
 letter_from_six alphabets expand s z le (inl e) = rw (e, ne_eqb z 0 (λ h. omega arith), le-ltb z 6 le) refl
@@ -253,9 +247,6 @@ module _ (alphabets : List ℕ) (expand : ℕ → Result (List ℕ) Cause) (zs :
       (fails_bind fault _ (λ more. Ok (got ++ more))
       (fails_bind fault (expand named.number) (λ more. joined more
       (read_codes alphabets expand Lower (drop named.after zs))) h))
-
-pub rest_done : (got : List ℕ) (whole : Result (List ℕ) Cause) → joined got (Ok []) ≡ whole → whole ≡ Ok got
-rest_done got whole e = sym e ∙ ap (λ l. Ok l) (append-nil got)
 
 pub numbered : (from end : ℕ) (o : Option Named) → IsNamedWithin from end o → IsNumbered o
 numbered from end None h = tt

@@ -2,7 +2,7 @@
 use Rattle.std.proofs.Common.{◌≡◌, ℕ, zero, suc, ◌+◌, ◌<◌, ◌≤◌, List, [], ◌∷◌, ◌++◌, length, map, take, refl, ap, sym}
 use Rattle.std.proofs.Common.{◌∙◌, arith, append_assoc, append-nil}
 use Rattle.std.proofs.Math.ListN.{set}
-use Rattle.std.proofs.lemmas.List.{length-set, length_push, map-append, take-append-le, take_all, take_more_set, take-map}
+use Rattle.std.proofs.lemmas.List.{length-set, length_push, map-append, take_all, take_more_set, take-map}
 
 -- of the characters so far, at most so many are put after the letters that the row had
 pub record IsPut (f : ℕ → ℕ) (old letters characters : List ℕ) (left most end : ℕ) : Type 0 where
@@ -46,21 +46,6 @@ put_more f old letters characters left most end character p room row =
           ∙ ap (λ l. take left old ++ l)
           (sym (ap (map f) after ∙ map-append f characters (character ∷ [])));
       long = length-set letters end (f character) ∙ p.long;
-    }
-
--- and one for which there is none
-pub put_past : (f : ℕ → ℕ) (old letters characters : List ℕ) (left most end character : ℕ)
-    → IsPut f old letters characters left most end → left + most ≤ end
-    → IsPut f old letters (characters ++ character ∷ []) left most end
-put_past f old letters characters left most end character p full =
-    let more : length (characters ++ character ∷ []) ≡ length characters + 1 = length_push characters character in
-    record {
-      within = p.within;
-      some = λ h. absurd (omega (arith, h, full));
-      full = λ h. let enough = p.full full in omega (arith, more, enough);
-      so_far = p.so_far ∙ ap (λ l. take left old ++ map f l)
-          (sym (take-append-le most characters (character ∷ []) (p.full full)));
-      long = p.long;
     }
 
 map_twice : (f g : ℕ → ℕ) (characters : List ℕ) → map f (map g characters) ≡ map (λ c. f (g c)) characters

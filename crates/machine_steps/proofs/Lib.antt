@@ -1,4 +1,3 @@
-pub mod EndingsInside
 pub mod Performing
 pub mod Stepping
 pub mod Values

@@ -3,11 +3,9 @@
 #![tactic(auto)]
 
 pub mod first_bytes;
-mod inside;
 mod instruction;
 mod perform;
 
-pub use inside::result_inside;
 pub use instruction::{operand_values, step};
 pub use machine_decoding::{
     LARGE, OMITTED, OPERANDS, SMALL, TYPES, VARIABLE, byte_operand, far_jump, long_form,

@@ -13,8 +13,6 @@ use Rattle.machine_frames.specs.Contents.{Contents, memory_of}
 use Rattle.machine_frames.specs.Playing.{Follows, FollowsBy, Answers, Opens, whole_of}
 use Rattle.machine_frames.specs.States.{play_of, IsStoreOf}
 use Rattle.machine.specs.Ended.{TurnEndsBy, IsReadyFor, OpensOrAnswers}
-use Rattle.machine.specs.Loaded.{IsLoaded}
-use Rattle.machine.specs.declared.turn.Machine.{Machine}
 use Rattle.zcore.specs.declared.header.Header.{Header}
 use Rattle.zcore.specs.Header.{static_base_of}
 use Rattle.zcore.specs.declared.standard_state.StandardState.{StandardState}
@@ -28,7 +26,7 @@ use Rattle.machine_standard.specs.Loads.{IsLoaded as IsStandardLoaded, IsPlayedV
 use Rattle.machine_standard.specs.Playing.{OpensStandard, AnswersStandard, OpensOrAnswersStandard}
 use Rattle.machine_standard.specs.Playing.{IsReadyForStandard}
 use Rattle.machine_standard.specs.declared.turn.StandardMachine.{StandardMachine}
-use Rattle.session.specs.declared.mode.Mode.TheVariants.{Profile, Standard}
+use Rattle.session.specs.declared.mode.Mode.TheVariants.{Standard}
 use Rattle.session.specs.Modes.{Known, IsSettled}
 use Rattle.session.specs.Players.{IsPlayerOf, IsReadyIn, PlayerTurn}
 
@@ -69,18 +67,6 @@ answers_turn line kept s fuel whole h =
     ap (λ p. turn_pending p line fuel (play_keeping kept (play_of s))) h.1
     ∙ follows_turn (given h.0 line fuel (resumed (play_of s)))
     (ended (record { program_counter = (play_of s).program_counter; fuel = fuel })) whole h.2
-
--- a machine of the profile that was loaded
-pub profile_player : (story : List ℕ) (machine : Machine) (s : Contents) → IsLoaded story machine s
-    → IsPlayerOf Profile story (record { header = machine.header; loaded = None }) s
-profile_player story machine s h = record {
-  can = (machine.header, h.header);
-  loaded = refl;
-  settled = tt;
-  store = h.store;
-  state = h.state;
-  static_base = h.store.headed.static_base ∙ ap (λ (t : State). static_base_of t.memory) h.state;
-}
 
 -- its turns
 pub profile_turn : (header : Header) (line : Option (Bor (List ℕ))) (kept : List (List ℕ)) (s : Contents) (fuel : ℕ)
