@@ -19,7 +19,7 @@ use machine_frames::layout::MEMORY;
 use machine_frames::{End, Store};
 use machine_lines::fill;
 use machine_standard_texts::spend_for;
-use machine_standard_windows::{TurnState, cut, drop_upper, settle};
+use machine_standard_windows::{TurnState, begin_or_drop_upper, cut, drop_upper};
 use zcore::layout::HEADER_LENGTH;
 use zcore::{Fault, Header, Next, Place};
 use zcore_standard::{Loaded, Stream};
@@ -167,12 +167,12 @@ fn close_first(
         });
     }
     let stream = turn.streams.as_slice()[0];
-    let given = given_to(text, start, stream);
+    let given = text_since(text, start, stream);
     test_table(header, store, given, stream)?;
     let fuel = spend_for(given.len(), here.fuel)?;
     close(header, store, text, start, loaded.characters(), stream)?;
     turn.streams.remove(0);
-    settle(text, start, turn);
+    begin_or_drop_upper(text, start, turn);
     Ok(Next {
         program_counter: after,
         fuel,
@@ -180,7 +180,7 @@ fn close_first(
 }
 
 /// What was printed since a stream was opened.
-fn given_to(text: &Vec<u8>, start: usize, stream: Stream) -> &[u8]
+fn text_since(text: &Vec<u8>, start: usize, stream: Stream) -> &[u8]
     requires { HasBegun start text.now.items }
     ensures { result.now ≡ drop stream.from (drop start text.now.items) }
 {

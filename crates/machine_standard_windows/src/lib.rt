@@ -9,5 +9,5 @@ mod windows;
 pub use texts::cut;
 pub use turn_state::{MOST_STREAMS, TurnState};
 pub use windows::{
-    drop_upper, erase_window, set_cursor, set_window, settle, show_upper, split_window,
+    begin_or_drop_upper, drop_upper, erase_window, set_cursor, set_window, show_upper, split_window,
 };

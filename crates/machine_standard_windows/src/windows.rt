@@ -78,7 +78,7 @@ fn select_lower(text: &mut Vec<u8>, start: usize, turn: &mut TurnState)
     ensures text { Keeps start text.old.items text.new.items }
 {
     turn.standard_state.window = LOWER;
-    settle(text, start, turn);
+    begin_or_drop_upper(text, start, turn);
 }
 
 /// Selects the upper window where it is not there, or a stream is open.
@@ -89,12 +89,12 @@ fn begin_upper(text: &mut Vec<u8>, start: usize, turn: &mut TurnState)
     ensures text { Keeps start text.old.items text.new.items }
 {
     turn.standard_state.window = UPPER;
-    settle(text, start, turn);
+    begin_or_drop_upper(text, start, turn);
 }
 
 /// Where no stream is open, the upper window is there exactly if it is selected: it begins, or it
 /// is dropped with its text.
-pub fn settle(text: &mut Vec<u8>, start: usize, turn: &mut TurnState)
+pub fn begin_or_drop_upper(text: &mut Vec<u8>, start: usize, turn: &mut TurnState)
     requires { HasBegun start text.old.items }
     ensures redraws { Redraws start turn.old turn.new text.old.items text.new.items
         definitions.settled }
@@ -442,7 +442,7 @@ fn show_part(
         return Err(End::Stop(Place::Limit(Limit::Text)));
     }
     text.truncate(end);
-    match set_apart(text, begin, before, after) {
+    match put_newlines(text, begin, before, after) {
         Ok(()) => Ok(()),
         Err(_) => {
             store.abandon();
@@ -468,7 +468,12 @@ fn lines_around(text: &[u8], start: usize, begin: usize, end: usize) -> (usize, 
 }
 
 /// Puts newlines before and after the end of a text, which begins at a place of it: none or one.
-fn set_apart(text: &mut Vec<u8>, at: usize, before: usize, after: usize) -> Result<(), AllocError>
+fn put_newlines(
+    text: &mut Vec<u8>,
+    at: usize,
+    before: usize,
+    after: usize,
+) -> Result<(), AllocError>
     requires at { at ≤ length text.old.items }
     requires before { before ≤ 1 }
     requires after { after ≤ 1 }

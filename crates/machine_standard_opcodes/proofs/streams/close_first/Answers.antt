@@ -19,36 +19,36 @@ returns-in_err-test_table-clause-told c = told_seen_err (place c.args.turn.now) 
     (first_unfit c.args.loaded.now.characters (place c.args.turn.now c.args.here) c.args.after
     c.args.turn.now.streams.items c.as_slice-2.result.now _ _
     (λ e. c.if-as_slice-eq0.false (ap length c.as_slice.ensures.value ∙ e)) c.as_slice-2.ensures.value refl
-    (c.in_err-test_table.ensures c.args.loaded.now.characters _ c.given_to-given.ensures))
+    (c.in_err-test_table.ensures c.args.loaded.now.characters _ c.text_since-given.ensures))
 
 pub returns-in_err-fuel-clause-told : goal.returns-in_err-fuel-clause-told
 returns-in_err-fuel-clause-told c = told_seen_err (place c.args.turn.now) _ c.from_residual-in_err-fuel.ensures.1
     (first_unpaid c.args.loaded.now.characters (place c.args.turn.now c.args.here) c.args.after
     c.args.turn.now.streams.items c.as_slice-2.result.now _ _
     (λ e. c.if-as_slice-eq0.false (ap length c.as_slice.ensures.value ∙ e)) c.as_slice-2.ensures.value refl
-    (c.in_ok-test_table.ensures c.args.loaded.now.characters _ c.given_to-given.ensures)
-    (units_of_given (Err _) _ _ _ _ c.requires.store.sound c.given_to-given.ensures c.in_err-fuel.ensures))
+    (c.in_ok-test_table.ensures c.args.loaded.now.characters _ c.text_since-given.ensures)
+    (units_of_given (Err _) _ _ _ _ c.requires.store.sound c.text_since-given.ensures c.in_err-fuel.ensures))
 
 pub returns-in_err-close-clause-told : goal.returns-in_err-close-clause-told
 returns-in_err-close-clause-told c = told_seen_err (place c.args.turn.now) _ c.from_residual-in_err-close.ensures.1
     (first_stays c.args.loaded.now.characters (place c.args.turn.now c.args.here) c.args.after
     c.args.turn.now.streams.items c.as_slice-2.result.now _ _
     (λ e. c.if-as_slice-eq0.false (ap length c.as_slice.ensures.value ∙ e)) c.as_slice-2.ensures.value refl
-    (c.in_ok-test_table.ensures c.args.loaded.now.characters _ c.given_to-given.ensures)
-    (units_of_given (Ok c.in_ok-fuel.fuel) _ _ _ _ c.requires.store.sound c.given_to-given.ensures c.in_ok-fuel.ensures)
+    (c.in_ok-test_table.ensures c.args.loaded.now.characters _ c.text_since-given.ensures)
+    (units_of_given (Ok c.in_ok-fuel.fuel) _ _ _ _ c.requires.store.sound c.text_since-given.ensures c.in_ok-fuel.ensures)
     (rw c.characters.ensures at c.in_err-close.ensures.told))
 
-pub settle-requires : goal.settle-requires
-settle-requires c = keeps_begun c.close.ensures.text
+pub begin_or_drop_upper-requires : goal.begin_or_drop_upper-requires
+begin_or_drop_upper-requires c = keeps_begun c.close.ensures.text
 
 pub returns-clause-told : goal.returns-clause-told
 returns-clause-told c = first_closed c.args.loaded.now.characters (place c.args.turn.now c.args.here) c.args.after
     c.args.turn.now.streams.items c.as_slice-2.result.now _ _
     (λ e. c.if-as_slice-eq0.false (ap length c.as_slice.ensures.value ∙ e)) c.as_slice-2.ensures.value refl
-    _ (place c.settle.new.turn _) c.remove.ensures.items (λ s. c.settle.ensures.redraws _ s)
-    (c.in_ok-test_table.ensures c.args.loaded.now.characters _ c.given_to-given.ensures)
-    (units_of_given (Ok c.in_ok-fuel.fuel) _ _ _ _ c.requires.store.sound c.given_to-given.ensures c.in_ok-fuel.ensures)
+    _ (place c.begin_or_drop_upper.new.turn _) c.remove.ensures.items (λ s. c.begin_or_drop_upper.ensures.redraws _ s)
+    (c.in_ok-test_table.ensures c.args.loaded.now.characters _ c.text_since-given.ensures)
+    (units_of_given (Ok c.in_ok-fuel.fuel) _ _ _ _ c.requires.store.sound c.text_since-given.ensures c.in_ok-fuel.ensures)
     (rw c.characters.ensures at c.in_ok-close.ensures.told)
 
 pub returns-clause-text : goal.returns-clause-text
-returns-clause-text c = keeps_after c.close.ensures.text c.settle.ensures.text
+returns-clause-text c = keeps_after c.close.ensures.text c.begin_or_drop_upper.ensures.text

@@ -1,7 +1,7 @@
 use Rattle.std.proofs.Common.{◌+◌, ◌-◌, ap, arith, drop, length, sym, ◌∙◌}
 use Rattle.std.proofs.lemmas.List.{length-drop, take_all}
 use Rattle.machine_standard_windows.proofs.TurnTexts.{text_behind}
-use Rattle.machine_standard_opcodes.proofs.streams.given_to.Goals as goal
+use Rattle.machine_standard_opcodes.proofs.streams.text_since.Goals as goal
 
 pub returns : goal.returns
 returns c =

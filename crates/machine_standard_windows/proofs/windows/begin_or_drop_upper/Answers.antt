@@ -1,7 +1,7 @@
 use Rattle.std.proofs.Common.{ap, sym, ◌∙◌, arith, length}
 use Rattle.std.proofs.lemmas.List.{length-drop}
 use Rattle.machine_standard_windows.proofs.Selecting.{settles_open, settles_lower, settles_begun, settles_on}
-use Rattle.machine_standard_windows.proofs.windows.settle.Goals as goal
+use Rattle.machine_standard_windows.proofs.windows.begin_or_drop_upper.Goals as goal
 
 pub returns-then-as_slice-ne0-clause-redraws : goal.returns-then-as_slice-ne0-clause-redraws
 returns-then-as_slice-ne0-clause-redraws c = settles_open c.args.start c.args.turn.now c.args.text.now.items
