@@ -1,6 +1,6 @@
 //! A save file that is read.
 
-ghost use Rattle.std.specs.Prelude.{◌≡◌, ◌≤◌, None, Some, length, if◌then◌else◌};
+ghost use Rattle.std.specs.Prelude.{◌≡◌, ◌≤◌, ◌<◌, ◌^◌, None, Some, length, if◌then◌else◌, IfOk};
 ghost use Rattle.quetzal.specs.SaveFiles.{IsReadAs, form_in, header_in, header_size, is_save_of, memory_in, parts_in, saved_in};
 ghost use Rattle.quetzal.specs.Steps.{now_of, parts_of};
 
@@ -22,7 +22,8 @@ const HEADER: usize = 13;
 /// What a save file says, besides memory.
 #[derive(Clone, Copy)]
 pub struct Save<'f> {
-    /// The address where the story goes on, as `SaveState` has it. Nothing is known of it.
+    /// The address where the story goes on, as `SaveState` has it, in three bytes. Nothing else is
+    /// known of it.
     pub program_counter: u32,
 
     /// The frame of the main code, and those of the calls, the oldest first. `read_head` and
@@ -52,7 +53,8 @@ struct Parts<'f> {
 /// Why the file is refused.
 pub fn read_save<'f>(memory: &mut [u8], size: u32, bytes: &'f [u8]) -> Result<Save<'f>, SaveFault>
     requires { header_size ≤ length memory.old }
-    ensures { IsReadAs (saved_in memory.old size bytes.now) size memory.new result }
+    ensures read { IsReadAs (saved_in memory.old size bytes.now) size memory.new result }
+    ensures counter { IfOk result (λ save. save.program_counter < 2 ^ 24) }
 {
     let Some(parts) = find_parts(bytes) else {
         return Err(SaveFault::Damaged);
@@ -111,7 +113,8 @@ fn find_form(bytes: &[u8]) -> Option<&[u8]>
 /// Where the story goes on, if this is the header of one of its files.
 fn read_header(story: &[u8], header: &[u8]) -> Result<u32, SaveFault>
     requires { header_size ≤ length story.now }
-    ensures { result ≡ header_in story.now header.now }
+    ensures same { result ≡ header_in story.now header.now }
+    ensures counter { IfOk result (λ at. at < 2 ^ 24) }
 {
     if header.len() < HEADER {
         return Err(SaveFault::Damaged);

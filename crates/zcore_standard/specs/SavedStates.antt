@@ -9,7 +9,7 @@ use Rattle.zcore.specs.Layout.{header_size}
 use Rattle.zcore.specs.Parts.{spend, store_result, goes_on, with_stack}
 use Rattle.zcore.specs.State.{Frame, State, Out, done, ◌>>=◌}
 use Rattle.zcore.specs.Turn.{with_bytes, first_environment}
-use Rattle.quetzal.specs.Frames.{Stacks, most_arguments, most_locals}
+use Rattle.quetzal.specs.Frames.{Stacks, most_arguments, most_locals, most_words}
 use Rattle.quetzal.specs.SaveFiles.{Saved, save_bytes, saved_in}
 use Rattle.quetzal.specs.declared.fault.SaveFault.{SaveFault}
 use Rattle.zcore_standard.specs.Flow.{failed}
@@ -37,9 +37,12 @@ file_of loaded at s = save_bytes loaded.dynamic (saved_of loaded at s)
 
 -- a frame of which a file can tell all, in a story of this size
 abbrev pub is_savable : ℕ → Frame → Bool
-is_savable size f = nat_le (length f.locals) most_locals && nat_le f.arguments most_arguments && nat_lt f.return_address size
+is_savable size f =
+    nat_le (length f.locals) most_locals && nat_le f.arguments most_arguments && nat_lt f.return_address size
+    && nat_lt (length f.stack) most_words
 
--- Calls make no other frames, unless one is the story's last instruction: then the caller cannot go on.
+-- Calls make no other frames, unless one is the story's last instruction, so that the caller cannot go on, or one frame
+-- has all words of the stack.
 unfoldable pub can_be_kept : State → Bool
 can_be_kept s = list_all (is_savable (length s.memory)) s.frames
 

@@ -16,7 +16,7 @@ use Rattle.zcore_versions.specs.SmallObjects.{tested_attributes, read_link, writ
 use Rattle.zcore_versions.specs.SmallObjects.{test_removal, unlink, link_first, property_table}
 use Rattle.zcore_versions.specs.SmallProperties.{test_property_number, standing, property_in, property_list}
 use Rattle.zcore_versions.specs.SmallProperties.{property_at, search_list, find_property, tested_property}
-use Rattle.zcore_versions.specs.SmallProperties.{property_value, write_property, property_length, next_place}
+use Rattle.zcore_versions.specs.SmallProperties.{property_length, next_place}
 
 pub keeps_test_object : (object : ℕ) → Keeps (test_object object)
 unfolding test_object
@@ -119,19 +119,6 @@ unfolding tested_property
 keeps_tested_property object number =
     keeps_then _ _ (keeps_test_object object) (λ _.
     keeps_then _ _ (keeps_test_property_number number) (λ _. keeps_find_property object number))
-
-pub keeps_property_value : (number : ℕ) (found : Option Property) → Keeps (property_value number found)
-unfolding property_value
-keeps_property_value number None s t a h = keeps_read_word (default_place (defaults_of s.memory) number) s t a h
-keeps_property_value number (Some p) s t a h =
-    chosen (Alike s t) (p.size == 1) _ _ a t (λ _ e. keeps_read_byte p.address s t a e)
-    (λ _ e. keeps_read_word p.address s t a e) h
-
-pub keeps_write_property : (found : Option Property) (word : ℕ) → Keeps (write_property found word)
-unfolding write_property
-keeps_write_property None word = keeps_halt _
-keeps_write_property (Some p) word =
-    keeps_either (p.size == 1) _ _ (keeps_write_byte p.address (word % 256)) (keeps_write_word p.address word)
 
 pub keeps_property_length : (address : ℕ) → Keeps (property_length address)
 unfolding property_length

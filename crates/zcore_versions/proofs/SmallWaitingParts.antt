@@ -19,7 +19,7 @@ use Rattle.zcore_versions.specs.SmallObjects.{tested_attributes, read_link, writ
 use Rattle.zcore_versions.specs.SmallObjects.{test_removal, unlink, link_first, property_table}
 use Rattle.zcore_versions.specs.SmallProperties.{test_property_number, standing, property_in, property_list}
 use Rattle.zcore_versions.specs.SmallProperties.{property_at, search_list, find_property, tested_property}
-use Rattle.zcore_versions.specs.SmallProperties.{property_value, write_property, property_length, next_place}
+use Rattle.zcore_versions.specs.SmallProperties.{property_length, next_place}
 
 -- a value alone
 waits_value : {A : Type 0} (a : A) → Waits (λ s. done a s)
@@ -134,18 +134,6 @@ unfolding tested_property
 waits_tested_property object number =
     waits_then _ _ (waits_test_object object) (λ _.
     waits_then _ _ (waits_test_property_number number) (λ _. waits_find_property object number))
-
-pub waits_property_value : (number : ℕ) (found : Option Property) → Waits (property_value number found)
-unfolding property_value
-waits_property_value number None s t h = waits_read_word (default_place (defaults_of s.memory) number) s t h
-waits_property_value number (Some p) s t h =
-    waits_either (p.size == 1) _ _ t (waits_read_byte p.address s t) (waits_read_word p.address s t) h
-
-pub waits_write_property : (found : Option Property) (word : ℕ) → Waits (write_property found word)
-unfolding write_property
-waits_write_property None word = waits_stop _
-waits_write_property (Some p) word =
-    waits_chosen (p.size == 1) _ _ (waits_write_byte p.address (word % 256)) (waits_write_word p.address word)
 
 pub waits_property_length : (address : ℕ) → Waits (property_length address)
 unfolding property_length
