@@ -1,8 +1,5 @@
 -- Texts of versions 1 and 2, read from memory.
-use Rattle.std.proofs.Common.{◌≡◌, ℕ, ◌+◌, List, Bool, true, cond, ap, sym, Result, nat_le}
-use Rattle.ztext.specs.Reading.{Cause}
-use Rattle.ztext.specs.Bytes.{word_at}
-use Rattle.std.specs.Prelude.{length}
+use Rattle.std.proofs.Common.{◌≡◌, ℕ, List, Bool, true, cond, ap, sym}
 use Rattle.zcore_standard.specs.Loaded.{Loaded, alphabets_of}
 use Rattle.zcore_standard.specs.Texts.{codes_at}
 use Rattle.zcore_versions.specs.declared.version.StoryVersion.{StoryVersion}

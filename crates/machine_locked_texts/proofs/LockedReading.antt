@@ -23,7 +23,7 @@ use Rattle.machine_locked_texts.specs.declared.letters.Expected.TheVariants as c
 use Rattle.machine_locked_texts.specs.declared.letters.Piece.{Piece}
 use Rattle.machine_locked_texts.specs.declared.letters.Piece.TheVariants as pieces
 use Rattle.machine_locked_texts.specs.declared.reading.Named.{Named}
-use Rattle.machine_locked_texts.specs.Letters.{Comes, expected_of, read_with, ReadsPlain, IsNamedWithin, rest_of}
+use Rattle.machine_locked_texts.specs.Letters.{Comes, read_with, ReadsPlain, IsNamedWithin, rest_of}
 
 -- Z-characters one after another
 

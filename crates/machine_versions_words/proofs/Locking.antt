@@ -1,0 +1,89 @@
+-- How a word is spelled in versions 1 and 2, a code at a time.
+use Rattle.std.proofs.Common.{◌≡◌, ◌≢◌, ◌==◌, ◌+◌, ◌<◌, ◌≤◌, ℕ, suc, List, ◌∷◌, ◌++◌, length, get_or, drop}
+use Rattle.std.proofs.Common.{true, false, refl, sym, ap, ◌∙◌, subst, drop-cons, add-one}
+use Rattle.std.proofs.Common.{append-nil, append_assoc}
+use Rattle.std.proofs.lemmas.Bool.{eq-eqb, ne_eqb}
+use Rattle.std.proofs.lemmas.List.{drop_all}
+use Rattle.ztext.specs.TextParts.{AreSmall, filled, IsFilledKey}
+use Rattle.ztext.proofs.Packing.{small_append}
+use Rattle.ztext.proofs.Keys.{filled_small}
+use Rattle.zcore_versions.specs.LockedTexts.{alphabet_of, begins_in, lock_to, shift_to, spelled_within, spelled_with_locks}
+
+module _ (version : ℕ) (word : List ℕ) (place code : ℕ) (lt : place < length word) (is : code ≡ get_or word place 0)
+    where
+  on : drop place word ≡ code ∷ drop (place + 1) word
+  on = drop-cons word place 0 lt ∙ ap (λ (c : ℕ). c ∷ drop (suc place) word) (sym is)
+      ∙ ap (λ (k : ℕ). code ∷ drop k word) (sym (add-one {place}))
+
+  -- a code of the alphabet that is locked
+  pub spelled_same : (lock : ℕ) → alphabet_of version code ≡ lock
+      → spelled_with_locks version lock (drop place word)
+      ≡ spelled_within version code ++ spelled_with_locks version lock (drop (place + 1) word)
+  unfolding spelled_with_locks
+  spelled_same lock e = rw (on, eq-eqb (alphabet_of version code) lock e) refl
+
+  -- one before another of its alphabet
+  pub spelled_locked : (lock : ℕ) → alphabet_of version code ≢ lock
+      → begins_in version (alphabet_of version code) (drop (place + 1) word) ≡ true
+      → spelled_with_locks version lock (drop place word)
+      ≡ (lock_to lock (alphabet_of version code) ∷ spelled_within version code)
+      ++ spelled_with_locks version (alphabet_of version code) (drop (place + 1) word)
+  unfolding spelled_with_locks
+  spelled_locked lock other begins = rw (on, ne_eqb (alphabet_of version code) lock other, begins) refl
+
+  -- one alone
+  pub spelled_shifted : (lock : ℕ) → alphabet_of version code ≢ lock
+      → begins_in version (alphabet_of version code) (drop (place + 1) word) ≡ false
+      → spelled_with_locks version lock (drop place word)
+      ≡ (shift_to lock (alphabet_of version code) ∷ spelled_within version code)
+      ++ spelled_with_locks version lock (drop (place + 1) word)
+  unfolding spelled_with_locks
+  spelled_shifted lock other begins = rw (on, ne_eqb (alphabet_of version code) lock other, begins) refl
+
+-- the code at a place of a word, and none past its end
+
+pub begins_at : (version alphabet : ℕ) (word : List ℕ) (place code : ℕ) → place < length word
+    → code ≡ get_or word place 0
+    → (alphabet_of version code == alphabet) ≡ begins_in version alphabet (drop place word)
+begins_at version alphabet word place code lt is = rw (on version word place code lt is) refl
+
+pub begins_past : (version alphabet : ℕ) (word : List ℕ) (place : ℕ) → length word ≤ place
+    → false ≡ begins_in version alphabet (drop place word)
+begins_past version alphabet word place le = rw (drop_all place word le) refl
+
+-- What is in a key so far, and what is still to be spelled
+
+pub record SpellsFrom (version : ℕ) (word : List ℕ) (place lock count : ℕ) (key : List ℕ) : Type 0 where
+  pub zs : List ℕ
+  pub small : AreSmall zs
+  pub filled_so_far : IsFilledKey zs count key
+  pub rest : zs ++ spelled_with_locks version lock (drop place word) ≡ spelled_with_locks version 0 word
+
+pub spells_on : (version : ℕ) (word : List ℕ) (place lock next count more : ℕ) (key after zs : List ℕ)
+    → SpellsFrom version word place lock count key → AreSmall zs
+    → spelled_with_locks version lock (drop place word) ≡ zs ++ spelled_with_locks version next (drop (place + 1) word)
+    → ((so_far : List ℕ) → IsFilledKey so_far count key → IsFilledKey (so_far ++ zs) more after)
+    → SpellsFrom version word (place + 1) next more after
+spells_on version word place lock next count more key after zs h small e fills = record {
+  zs = h.zs ++ zs;
+  small = small_append h.zs zs h.small small;
+  filled_so_far = fills h.zs h.filled_so_far;
+  rest = append_assoc h.zs zs (spelled_with_locks version next (drop (place + 1) word))
+      ∙ ap (λ l. h.zs ++ l) (sym e) ∙ h.rest;
+}
+
+all_spelled : (version : ℕ) (word : List ℕ) (place lock count : ℕ) (key : List ℕ) → length word ≤ place
+    → (h : SpellsFrom version word place lock count key) → h.zs ≡ spelled_with_locks version 0 word
+unfolding spelled_with_locks
+all_spelled version word place lock count key le h =
+    sym (append-nil h.zs) ∙ ap (λ l. h.zs ++ spelled_with_locks version lock l) (sym (drop_all place word le)) ∙ h.rest
+
+pub spelled_is : (version : ℕ) (word : List ℕ) (place lock count : ℕ) (key : List ℕ) → length word ≤ place
+    → SpellsFrom version word place lock count key → key ≡ filled (spelled_with_locks version 0 word)
+spelled_is version word place lock count key le h =
+    h.filled_so_far.characters ∙ ap filled (all_spelled version word place lock count key le h)
+
+pub key_small : (version : ℕ) (word : List ℕ) (place lock count : ℕ) (key : List ℕ)
+    → SpellsFrom version word place lock count key → AreSmall key
+key_small version word place lock count key h =
+    subst AreSmall (sym h.filled_so_far.characters) (filled_small h.zs h.small)
