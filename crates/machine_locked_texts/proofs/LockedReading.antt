@@ -1,8 +1,9 @@
 -- Texts that are read, a Z-character at a time.
-use Rattle.std.proofs.Common.{◌≡◌, ℕ, suc, ◌+◌, ◌-◌, ◌*◌, ◌<◌, ◌≤◌, List, [], ◌∷◌, ◌++◌, length, drop, get_or}
+use Rattle.std.proofs.Common.{◌≡◌, ◌≢◌, ℕ, suc, ◌+◌, ◌-◌, ◌*◌, ◌<◌, ◌≤◌, List, [], ◌∷◌, ◌++◌, length, drop, get_or}
 use Rattle.std.proofs.Common.{Option, Some, None, Result, Ok, Err, refl, ap, sym, ◌∙◌, subst, arith, append-nil}
 use Rattle.std.proofs.Common.{add-one, drop-cons}
-use Rattle.std.specs.Prelude.{true, false}
+use Rattle.std.specs.Prelude.{true, false, slice_index}
+use Rattle.std.proofs.lemmas.Bool.{ne_eqb, le-ltb}
 use Rattle.std.proofs.lemmas.List.{drop_all}
 use Rattle.ztext.specs.declared.fault.TextFault.{TextFault}
 use Rattle.ztext.specs.declared.fault.TextFault.TheVariants as faults
@@ -13,7 +14,8 @@ use Rattle.ztext.specs.Words.{unpacked_text}
 use Rattle.ztext.specs.Faults.{FailsText}
 use Rattle.ztext.specs.TextParts.{words_of, z_character_at}
 use Rattle.ztext.proofs.Packing.{z_character-is, length-words_of}
-use Rattle.zcore_versions.specs.LockedTexts.{Expected, Letter, High, Low, Number, lock_after, expected_after}
+use Rattle.zcore_versions.specs.LockedTexts.{Expected, Letter, High, Low, Number, alphabets_in, letter_codes, lock_after}
+use Rattle.zcore_versions.specs.LockedTexts.{expected_after}
 use Rattle.zcore_versions.specs.LockedTexts.{locked_codes, read_locked, has_32_abbreviations, locked_abbreviation}
 use Rattle.zcore_versions.specs.LockedTexts.{locked_codes_at}
 use Rattle.machine_standard_texts.specs.Pieces.{joined}
@@ -107,6 +109,25 @@ module _ (version : ℕ) (expand : ℕ → Result (List ℕ) Cause) where
       joined_nothing (read_locked version expand new e (drop place (words_of words bytes)))
       ∙ ap (λ (l : ℕ). read_locked version expand l e (drop place (words_of words bytes))) is
       ∙ ap (λ (x : Expected). read_locked version expand lock x (drop place (words_of words bytes))) letter
+
+-- Letters
+
+pub sixth_letter : (version alphabet z code : ℕ) → z ≡ 6 → alphabet ≢ 2
+    → code ≡ slice_index (alphabets_in version) (26 * alphabet + (z - 6))
+    → letter_codes version alphabet z ≡ code ∷ []
+sixth_letter version alphabet z code six other is =
+    rw (six, ne_eqb alphabet 2 other) (ap (λ (c : ℕ). c ∷ []) (sym (rw six at is)))
+
+pub later_letter : (version alphabet z code : ℕ) → 7 ≤ z
+    → code ≡ slice_index (alphabets_in version) (26 * alphabet + (z - 6))
+    → letter_codes version alphabet z ≡ code ∷ []
+later_letter version alphabet z code le is =
+    rw (
+      ne_eqb z 0 (λ e. omega (arith, e, le)),
+      ne_eqb z 1 (λ e. omega (arith, e, le)),
+      le-ltb z 6 (omega (arith, le)),
+      ne_eqb z 6 (λ e. omega (arith, e, le)),
+    ) (ap (λ (c : ℕ). c ∷ []) (sym is))
 
 -- What a piece says
 

@@ -1,7 +1,7 @@
 //! What each Z-character of a text comes to, and what is read after it (Z-Machine Standards Document
 //! 1.1, sections 3.2 to 3.5).
 
-ghost use Rattle.std.specs.Prelude.{◌≡◌, ◌<◌, Ok};
+ghost use Rattle.std.specs.Prelude.{◌≡◌, ◌<◌, ◌≤◌, ◌+◌, ◌-◌, ◌*◌, slice_index, Ok};
 ghost use Rattle.zcore_versions.specs.LockedTexts as definitions;
 ghost use Rattle.machine_locked_texts.specs.Letters.{Comes, IsRight, IsSmall, expected_of};
 
@@ -14,23 +14,12 @@ const LETTERS: usize = 26;
 /// The alphabet in which an escape begins.
 const PUNCTUATION: u8 = 2;
 
-/// The Z-character of a space.
-const SPACE: u8 = 0;
-
-/// That of a new line in version 1, after which the number of an abbreviation follows in version 2.
-const LINE: u8 = 1;
-
-/// The Z-characters that shift to the alphabet after the one that is locked, and to the one before it.
-const SHIFT_AFTER: u8 = 2;
-
-const SHIFT_BEFORE: u8 = 3;
-
-/// Those that lock the alphabet after it, and the one before it.
+/// The Z-characters that lock the alphabet after the one that is locked, and the one before it.
 const LOCK_AFTER: u8 = 4;
 
 const LOCK_BEFORE: u8 = 5;
 
-/// The first Z-character that is a letter. In the third alphabet it begins an escape.
+/// The first Z-character that is a letter.
 const FIRST_LETTER: u8 = 6;
 
 /// What the next Z-character is.
@@ -104,21 +93,38 @@ fn expected_after_letter(version: u8, lock: u8, alphabet: u8, z: u8) -> Expected
         ≡ definitions.expected_after version lock (definitions.Letter alphabet) z }
     ensures small { IsSmall result }
 {
-    if z == LINE && version == 2 {
-        Expected::Number
-    } else if z == SHIFT_AFTER {
-        Expected::Letter(alphabet_after(lock))
-    } else if z == SHIFT_BEFORE {
-        Expected::Letter(alphabet_before(lock))
-    } else if z == FIRST_LETTER && alphabet == PUNCTUATION {
-        Expected::High
-    } else {
-        Expected::Letter(lock)
+    match z {
+        1 => match version {
+            2 => Expected::Number,
+            _ => Expected::Letter(lock),
+        },
+        2 => Expected::Letter(alphabet_after(lock)),
+        3 => Expected::Letter(alphabet_before(lock)),
+        6 => match alphabet {
+            PUNCTUATION => Expected::High,
+            _ => Expected::Letter(lock),
+        },
+        _ => Expected::Letter(lock),
     }
 }
 
-/// How a text is read on after a Z-character. A shift holds for one, and is reckoned from the alphabet
-/// that is locked.
+/// What is expected after a Z-character, with the alphabet that is locked then. A shift holds for one
+/// Z-character, and is reckoned from the lock.
+fn expected_after(version: u8, lock: u8, expected: Expected, z: u8) -> Expected
+    requires lock { lock < 3 }
+    requires below { z < 32 }
+    ensures expected { expected_of result
+        ≡ definitions.expected_after version lock (expected_of expected) z }
+    ensures small { IsSmall result }
+{
+    match expected {
+        Expected::High => Expected::Low(z),
+        Expected::Low(_) | Expected::Number => Expected::Letter(lock),
+        Expected::Letter(alphabet) => expected_after_letter(version, lock, alphabet, z),
+    }
+}
+
+/// How a text is read on after a Z-character.
 pub(crate) fn reading_after(version: u8, reading: Reading, z: u8) -> Reading
     requires small { IsRight reading }
     requires below { z < 32 }
@@ -128,31 +134,42 @@ pub(crate) fn reading_after(version: u8, reading: Reading, z: u8) -> Reading
     ensures small { IsRight result }
 {
     let lock = lock_after(reading.lock, reading.expected, z);
-    let expected = match reading.expected {
-        Expected::High => Expected::Low(z),
-        Expected::Low(_) | Expected::Number => Expected::Letter(lock),
-        Expected::Letter(alphabet) => expected_after_letter(version, lock, alphabet, z),
-    };
+    let expected = expected_after(version, lock, reading.expected, z);
     Reading { lock, expected }
 }
 
-/// What a Z-character comes to that can be a letter of an alphabet.
-fn letter(version: u8, alphabet: u8, z: u8) -> Piece
+/// The code of a Z-character that is a letter of an alphabet.
+fn letter(version: u8, alphabet: u8, z: u8) -> u16
+    requires alphabet { alphabet < 3 }
+    requires from { 6 ≤ z }
+    requires below { z < 32 }
+    ensures { result ≡ slice_index (definitions.alphabets_in version) (26 * alphabet + (z - 6)) }
+{
+    let place = LETTERS * alphabet as usize + (z - FIRST_LETTER) as usize;
+    u16::from(alphabets_in(version)[place])
+}
+
+/// What a Z-character comes to that can be a letter of an alphabet. 0 is a space; of the others below
+/// the letters 1 is a new line in version 1, and 6 begins an escape in the third alphabet.
+#[tactic(auto, using(crate::proofs::LockedReading::sixth_letter, crate::proofs::LockedReading::later_letter))]
+fn letter_piece(version: u8, alphabet: u8, z: u8) -> Piece
     requires alphabet { alphabet < 3 }
     requires below { z < 32 }
     ensures { (expand : _) → Comes expand (Ok (definitions.letter_codes version alphabet z)) result }
 {
-    if z == SPACE {
-        return Piece::Code(u16::from(b' '));
+    match z {
+        0 => Piece::Code(u16::from(b' ')),
+        1 => match version {
+            1 => Piece::Code(u16::from(NEW_LINE)),
+            _ => Piece::Nothing,
+        },
+        2..=5 => Piece::Nothing,
+        6 => match alphabet {
+            PUNCTUATION => Piece::Nothing,
+            _ => Piece::Code(letter(version, alphabet, z)),
+        },
+        _ => Piece::Code(letter(version, alphabet, z)),
     }
-    if z == LINE && version == 1 {
-        return Piece::Code(u16::from(NEW_LINE));
-    }
-    if z < FIRST_LETTER || z == FIRST_LETTER && alphabet == PUNCTUATION {
-        return Piece::Nothing;
-    }
-    let place = LETTERS * alphabet as usize + (z - FIRST_LETTER) as usize;
-    Piece::Code(u16::from(alphabets_in(version)[place]))
 }
 
 /// What a Z-character comes to.
@@ -166,6 +183,6 @@ pub(crate) fn piece_of(version: u8, expected: Expected, z: u8) -> Piece
         Expected::High => Piece::Nothing,
         Expected::Low(high) => Piece::Code(32 * u16::from(high) + u16::from(z)),
         Expected::Number => Piece::Abbreviation(z),
-        Expected::Letter(alphabet) => letter(version, alphabet, z),
+        Expected::Letter(alphabet) => letter_piece(version, alphabet, z),
     }
 }

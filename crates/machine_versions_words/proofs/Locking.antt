@@ -88,14 +88,17 @@ module _ (version : ℕ) (word : List ℕ) (place code : ℕ) (lt : place < leng
 
 -- the code at a place of a word, and none past its end
 
-pub begins_at : (version alphabet : ℕ) (word : List ℕ) (place code : ℕ) → place < length word
-    → code ≡ get_or word place 0
-    → (alphabet_of version code == alphabet) ≡ begins_in version alphabet (drop place word)
-begins_at version alphabet word place code lt is = rw (on version word place code lt is) refl
+pub begins_at : (version alphabet found : ℕ) (word : List ℕ) (place : ℕ) → place < length word
+    → found ≡ alphabet_of version (get_or word place 0)
+    → (found == alphabet) ≡ begins_in version alphabet (drop place word)
+begins_at version alphabet found word place lt is =
+    ap (λ (a : ℕ). a == alphabet) is
+    ∙ sym (ap (begins_in version alphabet) (on version word place (get_or word place 0) lt refl))
 
 pub begins_past : (version alphabet : ℕ) (word : List ℕ) (place : ℕ) → length word ≤ place
     → false ≡ begins_in version alphabet (drop place word)
-begins_past version alphabet word place le = rw (drop_all place word le) refl
+begins_past version alphabet word place le =
+    sym (ap (begins_in version alphabet) (drop_all place word le))
 
 -- What is in a key so far, and what is still to be spelled
 

@@ -79,11 +79,15 @@ fn alphabet_of(version: u8, code: u8) -> u8
 }
 
 /// Whether the code at a place of a word is of an alphabet.
+#[tactic(auto, using(crate::proofs::Locking::begins_at, crate::proofs::Locking::begins_past))]
 fn begins_in(version: u8, alphabet: u8, word: &[u8], place: usize) -> bool
     requires { version ≤ 2 }
     ensures { result ≡ definitions.begins_in version alphabet (drop place word.now) }
 {
-    place < word.len() && alphabet_of(version, word[place]) == alphabet
+    if place >= word.len() {
+        return false;
+    }
+    alphabet_of(version, word[place]) == alphabet
 }
 
 /// The Z-characters of a code in its alphabet, after one that shifts to this or locks it.
@@ -96,17 +100,31 @@ fn spelled(version: u8, alphabet: u8, code: u8, change: Option<u8>, lock: u8) ->
     ensures small { AreSmall (take result.length result.characters) }
     ensures lock { result.lock ≡ lock }
 {
-    let (high, low) = (code / 32, code % 32);
-    let (characters, length) = match (letter_of(version, alphabet, code), change) {
-        (Some(z), None) => ([z, FILLER, FILLER, FILLER], 1),
-        (Some(z), Some(shift)) => ([shift, z, FILLER, FILLER], 2),
-        (None, None) => ([ESCAPE, high, low, FILLER], 3),
-        (None, Some(shift)) => ([shift, ESCAPE, high, low], 4),
-    };
-    Spelling {
-        characters,
-        length,
-        lock,
+    match letter_of(version, alphabet, code) {
+        Some(z) => match change {
+            None => Spelling {
+                characters: [z, FILLER, FILLER, FILLER],
+                length: 1,
+                lock,
+            },
+            Some(shift) => Spelling {
+                characters: [shift, z, FILLER, FILLER],
+                length: 2,
+                lock,
+            },
+        },
+        None => match change {
+            None => Spelling {
+                characters: [ESCAPE, code / 32, code % 32, FILLER],
+                length: 3,
+                lock,
+            },
+            Some(shift) => Spelling {
+                characters: [shift, ESCAPE, code / 32, code % 32],
+                length: 4,
+                lock,
+            },
+        },
     }
 }
 

@@ -15,7 +15,7 @@ returns-then-begins_in-clause-rest c =
     rest_locked c.args.version word c.args.place (get_or word c.args.place 0) c.requires.place refl
     c.alphabet_of-alphabet.result c.alphabet_of-alphabet.ensures.alphabet c.args.lock _ c.lock_to-change.result _
     c.if-alphabet-lock.false (sym c.begins_in.ensures ∙ c.if-begins_in.true) c.lock_to-change.ensures.lock
-    c.spelled.ensures.spelled c.spelled.ensures.lock
+    c.spelled-then-begins_in.ensures.spelled c.spelled-then-begins_in.ensures.lock
 
 pub returns-clause-rest : goal.returns-clause-rest
 returns-clause-rest c =
@@ -23,4 +23,4 @@ returns-clause-rest c =
     rest_shifted c.args.version word c.args.place (get_or word c.args.place 0) c.requires.place refl
     c.alphabet_of-alphabet.result c.alphabet_of-alphabet.ensures.alphabet c.args.lock _ c.shift_to-change.result _
     c.if-alphabet-lock.false (sym c.begins_in.ensures ∙ c.if-begins_in.false) c.shift_to-change.ensures.shift
-    c.spelled.ensures.spelled c.spelled.ensures.lock
+    c.spelled-2.ensures.spelled c.spelled-2.ensures.lock
