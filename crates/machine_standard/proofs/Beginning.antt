@@ -12,7 +12,7 @@ use Rattle.zcore.specs.State.{State}
 use Rattle.zcore.specs.Turn.{first_state}
 use Rattle.zcore_standard_loading.specs.declared.loading.LoadedStory.{LoadedStory}
 use Rattle.zcore_standard_loading.specs.Loading.{IsPlayable, ReadsFile, characters_of, own_alphabets_of, loaded_of}
-use Rattle.zcore_standard_loading.specs.Loading.{is_played, memory_for, version_in}
+use Rattle.zcore_standard_loading.specs.Loading.{is_played, memory_for}
 use Rattle.zcore_standard.specs.Loaded.{seeded}
 use Rattle.zcore_standard_loading.specs.Loading.{story_in, story_length}
 use Rattle.zcore_standard_loading.proofs.Headers.{length_stays}
@@ -20,6 +20,7 @@ use Rattle.zcore_standard.specs.Loaded.{Loaded}
 use Rattle.machine_frames.specs.Contents.{Contents, memory_of}
 use Rattle.machine_frames.specs.States.{state_of, IsScaled, IsSound, IsHeadedBy}
 use Rattle.zcore_versions.specs.declared.version.StoryVersion.{StoryVersion}
+use Rattle.zcore_versions.specs.ReadVersions.{version_in}
 use Rattle.zcore_versions.specs.Versions.{Story, locks_alphabets, versioned}
 use Rattle.machine_standard.specs.Loads.{Begins, IsLoaded, IsPlayedVersion}
 use Rattle.machine_standard.specs.declared.turn.StandardMachine.{StandardMachine}

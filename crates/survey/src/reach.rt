@@ -3,7 +3,7 @@
 
 ghost use Rattle.std.specs.Prelude.{◌≡◌, ◌≤◌, length};
 ghost use Rattle.zcore.specs.Layout.{longest_story};
-ghost use Rattle.zcore_versions.specs.Versions.{scale_of, routine_at};
+ghost use Rattle.zcore_versions.specs.Versions.{routine_at};
 ghost use Rattle.survey.specs.declared.mode.Mode.TheVariants.{Profile};
 
 use crate::mode::Mode;
@@ -160,7 +160,7 @@ impl Walk {
     fn sweep(&mut self, story: &[u8], sweep: &mut Sweep) -> Result<(), AllocError>
         requires { length story.now ≤ longest_story }
     {
-        let scale = scale(self.version);
+        let scale = self.version.scale() as usize;
         let offset = self.version.routine_offset as usize;
         let from = first_covered(&self.covered).saturating_sub(offset) / scale;
         for packed in from..story.len() {
@@ -386,22 +386,9 @@ fn mark(marks: &mut [bool], at: usize) -> bool {
     true
 }
 
-/// By how many bytes packed addresses count (section 1.2.3).
-fn scale(version: StoryVersion) -> usize
-    ensures scale { result ≡ scale_of version }
-    ensures some { 1 ≤ result }
-    ensures small { result ≤ 8 }
-{
-    match version.number {
-        0..=3 => 2,
-        8 => 8,
-        _ => 4,
-    }
-}
-
 /// The address for which a packed address of a routine stands.
 fn unpacked(version: StoryVersion, packed: u16) -> usize
     ensures { result ≡ routine_at version packed }
 {
-    scale(version) * usize::from(packed) + version.routine_offset as usize
+    version.scale() as usize * usize::from(packed) + version.routine_offset as usize
 }

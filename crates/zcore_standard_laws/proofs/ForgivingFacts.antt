@@ -150,14 +150,14 @@ forgiving_alike _ here after result branch values s e = absurd (cc)
 
 -- The weight falls
 
-keeps_first_word : (number : ℕ) (found : Option Property) → Keeps (first_word number found)
+pub keeps_first_word : (number : ℕ) (found : Option Property) → Keeps (first_word number found)
 unfolding first_word
 keeps_first_word number None s t a h = keeps_read_word (default_place (defaults_of s.memory) number) s t a h
 keeps_first_word number (Some p) s t a h =
     chosen (Alike s t) (p.size == 1) _ _ a t (λ _ e. keeps_read_byte p.address s t a e)
     (λ _ e. keeps_read_word p.address s t a e) h
 
-keeps_write_first_word : (found : Option Property) (word : ℕ) → Keeps (write_first_word found word)
+pub keeps_write_first_word : (found : Option Property) (word : ℕ) → Keeps (write_first_word found word)
 unfolding write_first_word
 keeps_write_first_word None word = keeps_halt _
 keeps_write_first_word (Some p) word =
@@ -204,13 +204,13 @@ perform_forgiving_falls _ here after result branch values ahead =
 
 -- and nothing waits
 
-waits_first_word : (number : ℕ) (found : Option Property) → Waits (first_word number found)
+pub waits_first_word : (number : ℕ) (found : Option Property) → Waits (first_word number found)
 unfolding first_word
 waits_first_word number None s t h = waits_read_word (default_place (defaults_of s.memory) number) s t h
 waits_first_word number (Some p) s t h =
     waits_either (p.size == 1) _ _ t (waits_read_byte p.address s t) (waits_read_word p.address s t) h
 
-waits_write_first_word : (found : Option Property) (word : ℕ) → Waits (write_first_word found word)
+pub waits_write_first_word : (found : Option Property) (word : ℕ) → Waits (write_first_word found word)
 unfolding write_first_word
 waits_write_first_word None word s t h = waits_fault _ s t h
 waits_write_first_word (Some p) word s t h =

@@ -49,15 +49,19 @@ turn_on_not loaded line fuel play e = pending_not loaded line fuel play play.pen
 
 -- The profile does not read what is kept beside
 
-pending_unread : (standard_state : StandardState) (kept_states : List (List ℕ)) (line : List ℕ) (fuel : ℕ) (whole : Whole) (p : Option Pending)
-    → turn_pending p line fuel (with_standard_state standard_state kept_states whole).state ≡ turn_pending p line fuel whole.state
+pending_unread : (standard_state : StandardState) (kept_states : List (List ℕ)) (line : List ℕ) (fuel : ℕ)
+    (whole : Whole) (p : Option Pending)
+    → turn_pending p line fuel (with_standard_state standard_state kept_states whole).state
+    ≡ turn_pending p line fuel whole.state
 pending_unread standard_state kept_states line fuel whole None = refl
 pending_unread standard_state kept_states line fuel whole (Some pending) = refl
 
-standard_state_unread : (standard_state : StandardState) (kept_states : List (List ℕ)) (line : List ℕ) (fuel : ℕ) (whole : Whole)
+standard_state_unread : (standard_state : StandardState) (kept_states : List (List ℕ)) (line : List ℕ) (fuel : ℕ)
+    (whole : Whole)
     → turn_on line fuel (with_standard_state standard_state kept_states whole).state ≡ turn_on line fuel whole.state
 unfolding turn_on
-standard_state_unread standard_state kept_states line fuel whole = pending_unread standard_state kept_states line fuel whole whole.state.pending
+standard_state_unread standard_state kept_states line fuel whole =
+    pending_unread standard_state kept_states line fuel whole whole.state.pending
 
 -- Where the profile waits, its text buffer was tested
 
@@ -140,18 +144,21 @@ abbrev LeavesWell : Whole → Type 0
 LeavesWell whole = is_waiting whole.place ≡ true → WaitsAsTheProfile whole.state
 
 -- the turn of a line, and those that follow it
-turn_keeps : (loaded : Loaded) (standard_state : StandardState) (kept_states : List (List ℕ)) (fuel : ℕ) (line : List ℕ) (lines : List (List ℕ)) (whole : Whole)
+turn_keeps : (loaded : Loaded) (standard_state : StandardState) (kept_states : List (List ℕ)) (fuel : ℕ)
+    (line : List ℕ) (lines : List (List ℕ)) (whole : Whole)
     (o : Option Whole) → loaded.own_alphabets ≡ None → list_all is_ascii line ≡ true → standard_state.window ≡ 0
     → turn_on line fuel whole.state ≡ o → WaitsAsTheProfile whole.state
     → ((next : Whole) → LeavesWell next → have_no_fault (plays_from fuel next lines) ≡ true
-    → by_lines loaded fuel (with_standard_state standard_state kept_states next) lines ≡ map (with_standard_state standard_state kept_states) (plays_from fuel next lines))
+    → by_lines loaded fuel (with_standard_state standard_state kept_states next) lines
+    ≡ map (with_standard_state standard_state kept_states) (plays_from fuel next lines))
     → have_no_fault (entries o (λ next. plays_from fuel next lines)) ≡ true
     → entries (standard_turn_on loaded line fuel (with_standard_state standard_state kept_states whole).state)
     (λ next. by_lines loaded fuel next lines)
     ≡ map (with_standard_state standard_state kept_states) (entries o (λ next. plays_from fuel next lines))
 turn_keeps loaded standard_state kept_states fuel line lines whole None own plain lower e waits rest plays =
     ap (λ p. entries p (λ next. by_lines loaded fuel next lines))
-    (turn_on_not loaded line fuel (with_standard_state standard_state kept_states whole).state (standard_state_unread standard_state kept_states line fuel whole ∙ e))
+    (turn_on_not loaded line fuel (with_standard_state standard_state kept_states whole).state
+    (standard_state_unread standard_state kept_states line fuel whole ∙ e))
 turn_keeps loaded standard_state kept_states fuel line lines whole (Some next) own plain lower e waits rest plays =
     let parts = and_parts (not (is_fault next.place)) (have_no_fault (plays_from fuel next lines)) plays in
     ap (λ p. entries p (λ other. by_lines loaded fuel other lines))
@@ -162,14 +169,17 @@ turn_keeps loaded standard_state kept_states fuel line lines whole (Some next) o
 
 waiting_keeps : (waits : Bool) (standard_state : StandardState) (kept_states : List (List ℕ)) (given kept : List Whole)
     → (waits ≡ true → have_no_fault kept ≡ true → given ≡ map (with_standard_state standard_state kept_states) kept)
-    → have_no_fault (cond waits kept []) ≡ true → cond waits given [] ≡ map (with_standard_state standard_state kept_states) (cond waits kept [])
+    → have_no_fault (cond waits kept []) ≡ true
+    → cond waits given [] ≡ map (with_standard_state standard_state kept_states) (cond waits kept [])
 waiting_keeps true standard_state kept_states given kept same plays = same refl plays
 waiting_keeps false standard_state kept_states given kept same plays = refl
 
-follow_keeps : (loaded : Loaded) (standard_state : StandardState) (kept_states : List (List ℕ)) (fuel : ℕ) (lines : List (List ℕ)) (whole : Whole)
+follow_keeps : (loaded : Loaded) (standard_state : StandardState) (kept_states : List (List ℕ)) (fuel : ℕ)
+    (lines : List (List ℕ)) (whole : Whole)
     → loaded.own_alphabets ≡ None → standard_state.window ≡ 0 → list_all (list_all is_ascii) lines ≡ true
     → LeavesWell whole → have_no_fault (plays_from fuel whole lines) ≡ true
-    → by_lines loaded fuel (with_standard_state standard_state kept_states whole) lines ≡ map (with_standard_state standard_state kept_states) (plays_from fuel whole lines)
+    → by_lines loaded fuel (with_standard_state standard_state kept_states whole) lines
+    ≡ map (with_standard_state standard_state kept_states) (plays_from fuel whole lines)
 follow_keeps loaded standard_state kept_states fuel [] whole own lower plain leaves plays = refl
 follow_keeps loaded standard_state kept_states fuel (line ∷ lines) whole own lower plain leaves plays =
     let each = and_parts _ _ plain in
@@ -177,7 +187,8 @@ follow_keeps loaded standard_state kept_states fuel (line ∷ lines) whole own l
     (entries (standard_turn_on loaded line fuel (with_standard_state standard_state kept_states whole).state)
     (λ next. by_lines loaded fuel next lines))
     (entries (turn_on line fuel whole.state) (λ next. plays_from fuel next lines))
-    (λ waits. turn_keeps loaded standard_state kept_states fuel line lines whole (turn_on line fuel whole.state) own each.0 lower refl (leaves waits)
+    (λ waits. turn_keeps loaded standard_state kept_states fuel line lines whole
+    (turn_on line fuel whole.state) own each.0 lower refl (leaves waits)
     (λ next. follow_keeps loaded standard_state kept_states fuel lines next own lower each.1)) plays
 
 -- the opening, and the turns that follow it
@@ -196,7 +207,8 @@ opening_keeps loaded story fuel lines (Some whole) own lower plain e plays =
     ap (λ p. entries p (λ other. by_lines loaded fuel other lines))
     (standard_turn_keeps loaded loaded.dice [] (first_next story fuel) (first_state story) whole own lower e
     (no_fault (is_fault whole.place) parts.0))
-    ∙ ap (λ ws. with_standard_state loaded.dice [] whole ∷ ws) (follow_keeps loaded loaded.dice [] fuel lines whole own lower plain
+    ∙ ap (λ ws. with_standard_state loaded.dice [] whole ∷ ws)
+    (follow_keeps loaded loaded.dice [] fuel lines whole own lower plain
     (turn_waits (first_next story fuel) (first_state story) whole e) parts.1)
 
 pub standard_runs_keep : (loaded : Loaded) (story : List ℕ) (fuel : ℕ) (lines : List (List ℕ))

@@ -108,10 +108,12 @@ some_is : (a b : Whole) → (let o : Option Whole = Some a in o) ≡ Some b → 
 some_is a b h = cc
 
 -- where the lower window is selected, a turn begins with no upper one
-begins_plain : (standard_state : StandardState) (kept_states : List (List ℕ)) (next : Next) → standard_state.window ≡ 0 → begins standard_state kept_states next ≡ plain standard_state kept_states next
+begins_plain : (standard_state : StandardState) (kept_states : List (List ℕ)) (next : Next) → standard_state.window ≡ 0
+    → begins standard_state kept_states next ≡ plain standard_state kept_states next
 begins_plain standard_state kept_states next e =
-    ap (λ (w : ℕ). let h : Here = record (plain standard_state kept_states next) { upper = if w == 0 then None else Some (begun_at 0) } in h)
-    e
+    ap (λ (w : ℕ). let h : Here = record (plain standard_state kept_states next) {
+      upper = if w == 0 then None else Some (begun_at 0);
+    } in h) e
 
 both_same : {A : Type 0} (b : Bool) (a : A) → cond b a a ≡ a
 both_same true a = refl
@@ -119,18 +121,24 @@ both_same false a = refl
 
 -- and ends as in the profile
 ended_plain : (standard_state : StandardState) (kept_states : List (List ℕ)) (here : Next) (place : Place) (s : State)
-    → standard_ended (plain standard_state kept_states here) place s ≡ with_standard_state standard_state kept_states (ended here place s)
+    → standard_ended (plain standard_state kept_states here) place s
+    ≡ with_standard_state standard_state kept_states (ended here place s)
 ended_plain standard_state kept_states here place s =
-    ap (λ text. with_standard_state standard_state kept_states (ended here place (record s { text = text }))) (both_same (is_waiting place) s.text)
+    ap (λ text. with_standard_state standard_state kept_states (ended here place (record s { text = text })))
+    (both_same (is_waiting place) s.text)
 
 -- a step of the profile, and what follows it
-after_keeps : (loaded : Loaded) (standard_state : StandardState) (kept_states : List (List ℕ)) (here : Next) (s : State) (count : ℕ) (whole : Whole) (o : Out Next)
+after_keeps : (loaded : Loaded) (standard_state : StandardState) (kept_states : List (List ℕ)) (here : Next)
+    (s : State) (count : ℕ) (whole : Whole) (o : Out Next)
     → ((next : Next) (t : State) → turn_in count next t ≡ Some whole
-    → turn_by (standard loaded) count (plain standard_state kept_states next) t ≡ Some (with_standard_state standard_state kept_states whole))
+    → turn_by (standard loaded) count (plain standard_state kept_states next) t
+    ≡ Some (with_standard_state standard_state kept_states whole))
     → is_fault whole.place ≡ false
-    → (ends_in_fault o ≡ false → standard_step loaded (plain standard_state kept_states here) s ≡ within (plain standard_state kept_states here) o)
+    → (ends_in_fault o ≡ false
+    → standard_step loaded (plain standard_state kept_states here) s ≡ within (plain standard_state kept_states here) o)
     → after_step o (turn_in count) (λ place t. Some (ended here place t)) ≡ Some whole
-    → turn_by (standard loaded) (suc count) (plain standard_state kept_states here) s ≡ Some (with_standard_state standard_state kept_states whole)
+    → turn_by (standard loaded) (suc count) (plain standard_state kept_states here) s
+    ≡ Some (with_standard_state standard_state kept_states whole)
 after_keeps loaded standard_state kept_states here s count whole (done next t) rest plays same e =
     ap (λ o. after_step o (turn_by (standard loaded) count)
     (λ place u. Some ((standard loaded).ended (plain standard_state kept_states here) place u))) (same refl)
@@ -143,19 +151,23 @@ after_keeps loaded standard_state kept_states here s count whole (halt place t) 
     ∙ ap (λ x. Some x) (ended_plain standard_state kept_states here place t)
     ∙ ap (λ x. Some (with_standard_state standard_state kept_states x)) w
 
-turn_in_keeps : (loaded : Loaded) (standard_state : StandardState) (kept_states : List (List ℕ)) (count : ℕ) (here : Next) (s : State) (whole : Whole)
+turn_in_keeps : (loaded : Loaded) (standard_state : StandardState) (kept_states : List (List ℕ)) (count : ℕ)
+    (here : Next) (s : State) (whole : Whole)
     → loaded.own_alphabets ≡ None → turn_in count here s ≡ Some whole → is_fault whole.place ≡ false
-    → turn_by (standard loaded) count (plain standard_state kept_states here) s ≡ Some (with_standard_state standard_state kept_states whole)
+    → turn_by (standard loaded) count (plain standard_state kept_states here) s
+    ≡ Some (with_standard_state standard_state kept_states whole)
 turn_in_keeps loaded standard_state kept_states zero here s whole own e plays = absurd (cc)
 turn_in_keeps loaded standard_state kept_states (suc count) here s whole own e plays =
     after_keeps loaded standard_state kept_states here s count whole (step here s)
     (λ next t h. turn_in_keeps loaded standard_state kept_states count next t whole own h plays) plays
     (λ h. standard_steps loaded (plain standard_state kept_states here) s own h refl) e
 
-pub standard_turn_keeps : (loaded : Loaded) (standard_state : StandardState) (kept_states : List (List ℕ)) (here : Next) (s : State) (whole : Whole)
+pub standard_turn_keeps : (loaded : Loaded) (standard_state : StandardState) (kept_states : List (List ℕ))
+    (here : Next) (s : State) (whole : Whole)
     → loaded.own_alphabets ≡ None → standard_state.window ≡ 0
     → turn_from here s ≡ Some whole → is_fault whole.place ≡ false
-    → standard_turn loaded (begins standard_state kept_states here) s ≡ Some (with_standard_state standard_state kept_states whole)
+    → standard_turn loaded (begins standard_state kept_states here) s
+    ≡ Some (with_standard_state standard_state kept_states whole)
 unfolding turn_from standard_turn
 standard_turn_keeps loaded standard_state kept_states here s whole own lower e plays =
     ap (λ first. turn_by (standard loaded) (weight here s) first s) (begins_plain standard_state kept_states here lower)

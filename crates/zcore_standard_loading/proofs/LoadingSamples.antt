@@ -3,7 +3,7 @@ use Rattle.std.proofs.Common.{◌≡◌, ℕ, List, [], ◌∷◌, ◌++◌, len
 use Rattle.std.specs.Prelude.{slice_range}
 use Rattle.zcore_standard_loading.specs.Loading.{story_length, story_in, with_header, is_sum_right, characters_of}
 use Rattle.zcore_standard_loading.specs.Loading.{own_alphabets_of, is_played, defaults_size_in}
-use Rattle.zcore_versions.specs.Versions.{version_in}
+use Rattle.zcore_versions.specs.ReadVersions.{version_in}
 use Rattle.zcore_standard_loading.specs.Loading.{abbreviation_table_of, abbreviations_size}
 use Rattle.zcore_standard.specs.Texts.{default_alphabets}
 use Rattle.zcore_standard.specs.Unicode.{default_characters}

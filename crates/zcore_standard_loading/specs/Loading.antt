@@ -18,7 +18,8 @@ use Rattle.zcore_standard.specs.Loaded.{Loaded, seeded}
 use Rattle.zcore_standard.specs.Unicode.{default_characters}
 use Rattle.zcore_versions.specs.declared.version.StoryVersion.{StoryVersion}
 use Rattle.zcore_versions.specs.SmallObjects.{small_defaults_size}
-use Rattle.zcore_versions.specs.Versions.{Story, version_in}
+use Rattle.zcore_versions.specs.ReadVersions.{version_in}
+use Rattle.zcore_versions.specs.Versions.{Story}
 
 -- The version (11.1)
 

@@ -13,7 +13,8 @@ use Rattle.zcore_versions.specs.SmallObjects.{tested_attributes, set_attribute, 
 use Rattle.zcore_versions.specs.SmallObjects.{named_from, test_link, test_removal, unlink, link_first, remove_object}
 use Rattle.zcore_versions.specs.SmallObjects.{insert_object, property_table}
 use Rattle.zcore_versions.specs.SmallProperties.{test_property_number, property_list, search_list, find_property}
-use Rattle.zcore_versions.specs.SmallProperties.{found_in, tested_property, property_value, property_at, property_length}
+use Rattle.zcore_versions.specs.SmallProperties.{found_in, tested_property, property_at, property_length}
+use Rattle.zcore_standard.specs.Forgiving.{first_word}
 use Rattle.zcore_versions.specs.SmallProperties.{next_place}
 
 -- an entry: attributes 0 to 7, parent, sibling, child, and the low byte of the address of the properties
@@ -70,22 +71,22 @@ removed = refl
 -- Properties
 
 abbrev value_of : ℕ → State → Out ℕ
-value_of number = tested_property 1 number >>= property_value number
+value_of number = tested_property 1 number >>= first_word number
 
 value_of_two_bytes : value_of 5 family ≡ done 300 family
-unfolding tested_property test_object test_property_number find_property property_list property_table read_word read_byte search_list found_in property_value
+unfolding tested_property test_object test_property_number find_property property_list property_table read_word read_byte search_list found_in first_word
 value_of_two_bytes = refl
 
 value_of_a_byte : value_of 3 family ≡ done 9 family
-unfolding tested_property test_object test_property_number find_property property_list property_table read_word read_byte search_list found_in property_value
+unfolding tested_property test_object test_property_number find_property property_list property_table read_word read_byte search_list found_in first_word
 value_of_a_byte = refl
 
 first_word_of_three_bytes : value_of 1 family ≡ done 258 family
-unfolding tested_property test_object test_property_number find_property property_list property_table read_word read_byte search_list found_in property_value
+unfolding tested_property test_object test_property_number find_property property_list property_table read_word read_byte search_list found_in first_word
 first_word_of_three_bytes = refl
 
 default_value : value_of 2 family ≡ done 7 family
-unfolding tested_property test_object test_property_number find_property property_list property_table read_word read_byte search_list found_in property_value
+unfolding tested_property test_object test_property_number find_property property_list property_table read_word read_byte search_list found_in first_word
 default_value = refl
 
 no_property : value_of 32 family ≡ halt (places.Fault faults.Property) family

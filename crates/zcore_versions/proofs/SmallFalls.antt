@@ -19,7 +19,8 @@ use Rattle.zcore_versions.specs.SmallProperties.{get_property_length, get_next_p
 use Rattle.zcore_versions.proofs.SmallKeeping.{keeps_test_object, keeps_write_attributes, keeps_tested_attributes}
 use Rattle.zcore_versions.proofs.SmallKeeping.{keeps_read_link, keeps_test_removal, keeps_unlink, keeps_link_first}
 use Rattle.zcore_versions.proofs.SmallKeeping.{keeps_property_table, keeps_property_at, keeps_tested_property}
-use Rattle.zcore_versions.proofs.SmallKeeping.{keeps_property_value, keeps_write_property, keeps_property_length}
+use Rattle.zcore_versions.proofs.SmallKeeping.{keeps_property_length}
+use Rattle.zcore_standard_laws.proofs.ForgivingFacts.{keeps_first_word, keeps_write_first_word}
 use Rattle.zcore_versions.proofs.SmallKeeping.{keeps_next_place}
 use Rattle.zcore_versions.proofs.TextFacts.{print_text_falls}
 
@@ -118,7 +119,7 @@ pub get_property_falls : (here : Next) (after : ℕ) (result : Option ℕ) (obje
 unfolding get_property
 get_property_falls here after result object number ahead =
     falls_then here _ _ (keeps_tested_property object number) (λ found.
-    falls_then here _ _ (keeps_property_value number found) (λ word.
+    falls_then here _ _ (keeps_first_word number found) (λ word.
     give_result_falls here after result word ahead))
 
 pub put_property_falls : (here : Next) (after object number word : ℕ) → here.program_counter < after
@@ -126,7 +127,7 @@ pub put_property_falls : (here : Next) (after object number word : ℕ) → here
 unfolding put_property
 put_property_falls here after object number word ahead =
     falls_then here _ _ (keeps_tested_property object number) (λ found.
-    falls_then here _ _ (keeps_write_property found word) (λ _. goes_on_falls here after ahead))
+    falls_then here _ _ (keeps_write_first_word found word) (λ _. goes_on_falls here after ahead))
 
 pub get_property_address_falls : (here : Next) (after : ℕ) (result : Option ℕ) (object number : ℕ)
     → here.program_counter < after → FallsFrom here (get_property_address here after result object number)

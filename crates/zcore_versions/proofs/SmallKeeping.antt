@@ -1,22 +1,22 @@
 -- What the parts of opcodes on small objects keep of a state: the lengths of the memory and of the list of frames.
-use Rattle.std.proofs.Common.{ℕ, ◌+◌, ◌-◌, ◌/◌, ◌%◌, Option, Some, None}
+use Rattle.std.proofs.Common.{ℕ, ◌+◌, ◌-◌, ◌/◌, Option, Some, None}
 use Rattle.std.specs.Prelude.{◌==◌, ◌&&◌, nat_le, nat_lt}
 use Rattle.zcore.specs.declared.place.Fault.TheVariants as faults
 use Rattle.zcore.specs.Header.{defaults_of, static_end}
 use Rattle.zcore.specs.Entries.{Link, Parent, Sibling, Child}
 use Rattle.zcore.specs.Objects.{linked}
-use Rattle.zcore.specs.ObjectProperties.{default_place, listed, place_behind}
+use Rattle.zcore.specs.ObjectProperties.{listed, place_behind}
 use Rattle.zcore.specs.Properties.{Property, Standing, Terminator, Listed, Beyond, list_start}
 use Rattle.zcore.proofs.KeepingReads.{Alike, Keeps, keeps_then, keeps_either, keeps_done, keeps_halt, chosen, never}
 use Rattle.zcore.proofs.KeepingReads.{keeps_test, keeps_read_byte, keeps_read_word}
-use Rattle.zcore.proofs.Keeping.{keeps_write_byte, keeps_write_word}
+use Rattle.zcore.proofs.Keeping.{keeps_write_byte}
 use Rattle.zcore_versions.specs.SmallObjects.{is_small_object, small_entry, small_place_of, small_attribute_place}
 use Rattle.zcore_versions.specs.SmallObjects.{test_object, read_attributes, write_attributes}
 use Rattle.zcore_versions.specs.SmallObjects.{tested_attributes, read_link, write_link, link_to, test_link}
 use Rattle.zcore_versions.specs.SmallObjects.{test_removal, unlink, link_first, property_table}
 use Rattle.zcore_versions.specs.SmallProperties.{test_property_number, standing, property_in, property_list}
 use Rattle.zcore_versions.specs.SmallProperties.{property_at, search_list, find_property, tested_property}
-use Rattle.zcore_versions.specs.SmallProperties.{property_value, write_property, property_length, next_place}
+use Rattle.zcore_versions.specs.SmallProperties.{property_length, next_place}
 
 pub keeps_test_object : (object : ℕ) → Keeps (test_object object)
 unfolding test_object
@@ -119,19 +119,6 @@ unfolding tested_property
 keeps_tested_property object number =
     keeps_then _ _ (keeps_test_object object) (λ _.
     keeps_then _ _ (keeps_test_property_number number) (λ _. keeps_find_property object number))
-
-pub keeps_property_value : (number : ℕ) (found : Option Property) → Keeps (property_value number found)
-unfolding property_value
-keeps_property_value number None s t a h = keeps_read_word (default_place (defaults_of s.memory) number) s t a h
-keeps_property_value number (Some p) s t a h =
-    chosen (Alike s t) (p.size == 1) _ _ a t (λ _ e. keeps_read_byte p.address s t a e)
-    (λ _ e. keeps_read_word p.address s t a e) h
-
-pub keeps_write_property : (found : Option Property) (word : ℕ) → Keeps (write_property found word)
-unfolding write_property
-keeps_write_property None word = keeps_halt _
-keeps_write_property (Some p) word =
-    keeps_either (p.size == 1) _ _ (keeps_write_byte p.address (word % 256)) (keeps_write_word p.address word)
 
 pub keeps_property_length : (address : ℕ) → Keeps (property_length address)
 unfolding property_length

@@ -18,7 +18,8 @@ use Rattle.zcore_versions.specs.SmallProperties.{get_property_length, get_next_p
 use Rattle.zcore_versions.proofs.SmallWaitingParts.{waits_test_object, waits_write_attributes, waits_tested_attributes}
 use Rattle.zcore_versions.proofs.SmallWaitingParts.{waits_read_link, waits_test_removal, waits_unlink, waits_link_first}
 use Rattle.zcore_versions.proofs.SmallWaitingParts.{waits_property_table, waits_property_at, waits_tested_property}
-use Rattle.zcore_versions.proofs.SmallWaitingParts.{waits_property_value, waits_write_property, waits_property_length}
+use Rattle.zcore_versions.proofs.SmallWaitingParts.{waits_property_length}
+use Rattle.zcore_standard_laws.proofs.ForgivingFacts.{waits_first_word, waits_write_first_word}
 use Rattle.zcore_versions.proofs.SmallWaitingParts.{waits_next_place}
 use Rattle.zcore_versions.proofs.TextFacts.{waits_print_text}
 
@@ -115,7 +116,7 @@ pub waits_get_property : (here : Next) (after : ℕ) (result : Option ℕ) (obje
 unfolding get_property
 waits_get_property here after result object number =
     waits_then _ _ (waits_tested_property object number) (λ found.
-    waits_then _ _ (waits_property_value number found) (λ word.
+    waits_then _ _ (waits_first_word number found) (λ word.
     waits_give_result here after result word))
 
 pub waits_put_property : (here : Next) (after object number word : ℕ)
@@ -123,7 +124,7 @@ pub waits_put_property : (here : Next) (after object number word : ℕ)
 unfolding put_property
 waits_put_property here after object number word =
     waits_then _ _ (waits_tested_property object number) (λ found.
-    waits_then _ _ (waits_write_property found word) (λ _.
+    waits_then _ _ (waits_write_first_word found word) (λ _.
     waits_goes_on after here.fuel))
 
 pub waits_get_property_address : (here : Next) (after : ℕ) (result : Option ℕ) (object number : ℕ)

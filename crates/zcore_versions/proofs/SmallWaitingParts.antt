@@ -1,5 +1,5 @@
 -- The parts of opcodes on small objects: none of them ends a turn by waiting.
-use Rattle.std.proofs.Common.{ℕ, ◌+◌, ◌-◌, ◌/◌, ◌%◌, Option, Some, None}
+use Rattle.std.proofs.Common.{ℕ, ◌+◌, ◌-◌, ◌/◌, Option, Some, None}
 use Rattle.std.specs.Prelude.{◌==◌, ◌&&◌, nat_le, nat_lt}
 use Rattle.zcore.specs.declared.place.Fault.{Fault}
 use Rattle.zcore.specs.declared.place.Fault.TheVariants as faults
@@ -8,18 +8,18 @@ use Rattle.zcore.specs.State.{done, halt}
 use Rattle.zcore.specs.Header.{defaults_of, static_end}
 use Rattle.zcore.specs.Entries.{Link, Parent, Sibling, Child}
 use Rattle.zcore.specs.Objects.{linked}
-use Rattle.zcore.specs.ObjectProperties.{default_place, listed, place_behind}
+use Rattle.zcore.specs.ObjectProperties.{listed, place_behind}
 use Rattle.zcore.specs.Properties.{Property, Standing, Terminator, Listed, Beyond, list_start}
 use Rattle.zcore.proofs.WaitingTests.{Waits, waits_done, waits_fault, waits_then, waits_either, waits_chosen}
 use Rattle.zcore.proofs.WaitingTests.{waits_test}
-use Rattle.zcore.proofs.WaitingParts.{waits_write_byte, waits_write_word, waits_read_byte, waits_read_word}
+use Rattle.zcore.proofs.WaitingParts.{waits_write_byte, waits_read_byte, waits_read_word}
 use Rattle.zcore_versions.specs.SmallObjects.{is_small_object, small_entry, small_place_of, small_attribute_place}
 use Rattle.zcore_versions.specs.SmallObjects.{test_object, read_attributes, write_attributes}
 use Rattle.zcore_versions.specs.SmallObjects.{tested_attributes, read_link, write_link, link_to, test_link}
 use Rattle.zcore_versions.specs.SmallObjects.{test_removal, unlink, link_first, property_table}
 use Rattle.zcore_versions.specs.SmallProperties.{test_property_number, standing, property_in, property_list}
 use Rattle.zcore_versions.specs.SmallProperties.{property_at, search_list, find_property, tested_property}
-use Rattle.zcore_versions.specs.SmallProperties.{property_value, write_property, property_length, next_place}
+use Rattle.zcore_versions.specs.SmallProperties.{property_length, next_place}
 
 -- a value alone
 waits_value : {A : Type 0} (a : A) → Waits (λ s. done a s)
@@ -134,18 +134,6 @@ unfolding tested_property
 waits_tested_property object number =
     waits_then _ _ (waits_test_object object) (λ _.
     waits_then _ _ (waits_test_property_number number) (λ _. waits_find_property object number))
-
-pub waits_property_value : (number : ℕ) (found : Option Property) → Waits (property_value number found)
-unfolding property_value
-waits_property_value number None s t h = waits_read_word (default_place (defaults_of s.memory) number) s t h
-waits_property_value number (Some p) s t h =
-    waits_either (p.size == 1) _ _ t (waits_read_byte p.address s t) (waits_read_word p.address s t) h
-
-pub waits_write_property : (found : Option Property) (word : ℕ) → Waits (write_property found word)
-unfolding write_property
-waits_write_property None word = waits_stop _
-waits_write_property (Some p) word =
-    waits_chosen (p.size == 1) _ _ (waits_write_byte p.address (word % 256)) (waits_write_word p.address word)
 
 pub waits_property_length : (address : ℕ) → Waits (property_length address)
 unfolding property_length

@@ -1,3 +1,4 @@
+pub mod ReadVersions
 pub mod Versions
 pub mod Operations
 pub mod Calls

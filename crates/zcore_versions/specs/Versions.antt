@@ -1,6 +1,5 @@
 -- The versions of story files (Z-Machine Standards Document 1.1, sections 1.2.3, 3.2, 5.2 and 12.3).
-use Rattle.std.specs.Prelude.{◌==◌, ◌||◌, ◌+◌, ◌*◌, ℕ, nat_le, Bool, if◌then◌else◌, List, slice_index}
-use Rattle.ztext.specs.Bytes.{word_at}
+use Rattle.std.specs.Prelude.{◌==◌, ◌||◌, ◌+◌, ◌*◌, ℕ, nat_le, Bool, if◌then◌else◌}
 use Rattle.zcore_standard.specs.Loaded.{Loaded}
 use Rattle.zcore_versions.specs.declared.version.StoryVersion.{StoryVersion}
 
@@ -11,18 +10,6 @@ pub record Story : Type 0 where
 
 abbrev pub versioned : Loaded → StoryVersion → Story
 versioned loaded version = record { loaded = loaded; version = version }
-
--- what packed addresses count from: in version 7 a word of the header says it, in eights of bytes (1.2.3)
-abbrev pub offset_in : List ℕ → ℕ → ℕ
-offset_in story word = if slice_index story 0 == 7 then 8 * word_at story word else 0
-
--- the version of a story
-abbrev pub version_in : List ℕ → StoryVersion
-version_in story = record {
-  number = slice_index story 0;
-  routine_offset = offset_in story 0x28;
-  text_offset = offset_in story 0x2A;
-}
 
 -- versions 1 and 2: a text can lock an alphabet (3.2.2)
 abbrev pub locks_alphabets : StoryVersion → Bool

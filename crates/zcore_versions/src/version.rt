@@ -2,6 +2,7 @@
 
 ghost use Rattle.std.specs.Prelude.{◌≡◌, ◌≤◌, ◌+◌, ◌*◌, length, true};
 ghost use Rattle.zcore.specs.Layout.{header_size, longest_story};
+ghost use Rattle.zcore_versions.specs.ReadVersions.{offset_in, version_in};
 ghost use Rattle.zcore_versions.specs.Versions as versions;
 
 use ztext::read_word;
@@ -19,7 +20,7 @@ const TEXTS_WORD: usize = 0x2A;
 fn offset(story: &[u8], word: usize) -> u32
     requires header { header_size ≤ length story.now }
     requires word { word + 2 ≤ header_size }
-    ensures offset { result ≡ versions.offset_in story.now word }
+    ensures offset { result ≡ offset_in story.now word }
     ensures near { result ≤ longest_story }
 {
     if story[VERSION] == 7 {
@@ -47,7 +48,7 @@ impl StoryVersion {
     /// The version of a story.
     pub fn of_story(story: &[u8]) -> StoryVersion
         requires header { header_size ≤ length story.now }
-        ensures version { result ≡ versions.version_in story.now }
+        ensures version { result ≡ version_in story.now }
         ensures near { (result.routine_offset ≤ longest_story) × (result.text_offset ≤ longest_story) }
     {
         StoryVersion {
@@ -60,6 +61,7 @@ impl StoryVersion {
     /// By how many bytes packed addresses count (section 1.2.3).
     pub fn scale(self) -> u32
         ensures same { result ≡ versions.scale_of self }
+        ensures some { 1 ≤ result }
         ensures few { result ≤ 8 }
     {
         match self.number {
