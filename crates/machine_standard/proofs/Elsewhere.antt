@@ -29,14 +29,14 @@ use Rattle.zcore_versions.proofs.KnownDecoding.{decoded_profile, decoded_result}
 use Rattle.zcore_versions.proofs.VersionCalls.{calls_are_steps}
 use Rattle.zcore_standard.specs.Place.{Here, within}
 use Rattle.zcore_standard_loading.specs.Loading.{is_played}
-use Rattle.machine_units.specs.Left.{decode_for, is_left, told_from, two_operand_from, one_operand_from, no_operand_from}
-use Rattle.machine_units.specs.Left.{several_operand_from}
+use Rattle.machine_units.specs.Left.{decode_for, is_left, told_from, two_operand_from, one_operand_from}
+use Rattle.machine_units.specs.Left.{no_operand_from, several_operand_from}
 use Rattle.machine_arms.specs.Passed.{execute_in, flown, perform_in}
 use Rattle.machine_arms.proofs.Flown.{decoded_for, flown_goes_on, flown_steps, performs_older, performs_other}
 
 -- What is performed of an opcode
 
--- An opcode of which units tell the operation that the profile has: the version calls otherwise, and does the rest alike.
+-- An opcode of which units tell the operation that the profile has: the version calls otherwise, and does the rest so.
 abbrev agrees : Option Operation → Option VersionOperation → Bool
 agrees None o = true
 agrees (Some operation) None = not (is_call operation)
@@ -235,14 +235,15 @@ by_number (suc (suc (suc (suc (suc (suc (suc zero))))))) routines texts memory a
     done_by (version_of 7 routines texts) memory at x (seventh_alike routines texts) refl late code read
 by_number (suc (suc (suc (suc (suc (suc (suc (suc zero)))))))) routines texts memory at x e early late code read =
     absurd (true≢false early)
-by_number (suc (suc (suc (suc (suc (suc (suc (suc (suc number))))))))) routines texts memory at x e early late code read =
+by_number (suc (suc (suc (suc (suc (suc (suc (suc (suc number))))))))) routines texts memory at x e early late code
+    read =
     absurd (not_played (suc (suc (suc (suc (suc (suc (suc (suc (suc number))))))))) e (inr (inr (omega arith))))
 
 -- Steps
 
 -- what a step that goes on has decoded, and what it performed
-record HasDone (version : StoryVersion) (code : Bool) (r : Result (Instruction × ℕ) Fault) (here next : Next) (s t : State)
-    : Type 0 where
+record HasDone (version : StoryVersion) (code : Bool) (r : Result (Instruction × ℕ) Fault) (here next : Next)
+    (s t : State) : Type 0 where
   is_there : code ≡ true
   x : Instruction × ℕ
   read : r ≡ Ok x
@@ -262,7 +263,7 @@ bound_alike : (o : Out (List ℕ)) (f g : List ℕ → State → Out Next) → (
 bound_alike (done values s) f g same = ap (λ (k : State → Out Next). k s) (same values)
 bound_alike (halt place s) f g same = refl
 
--- a step that units do in a version that has calls of its own: one of the profile that the version does alike, or a call
+-- a step that units do in a version that has calls of its own: one of the profile that the version does too, or a call
 pub flown_early : (story : Story) (here : Here) (next : Next) (s t : State) → is_played story.version.number ≡ true
     → is_late story.version ≡ false → flown story.version here.next s ≡ done next t
     → ((step here.next s ≡ done next t) × (older_at story.version s.memory here.next.program_counter ≡ None))

@@ -1,2 +1,5 @@
 pub mod Adding
 pub mod KeptFiles
+pub mod WrittenFrames
+pub mod CallsBack
+pub mod Resumed

@@ -1,6 +1,6 @@
 //! `save_undo` (Z-Machine Standards Document 1.1, section 15).
 
-ghost use Rattle.std.specs.Prelude.{◌≡◌, ◌≤◌, ◌<◌, ◌+◌, ◌-◌, nat_lt, length, slice_index, IfOk, OnErr};
+ghost use Rattle.std.specs.Prelude.{◌≡◌, ◌≤◌, ◌<◌, ◌+◌, ◌-◌, length, slice_index, IfOk, OnErr};
 ghost use Rattle.std.specs.Option.{option_map};
 ghost use Rattle.zcore.specs.Header.{static_base_of};
 ghost use Rattle.zcore.specs.Layout.{longest_story, stack_size};
@@ -11,7 +11,7 @@ ghost use Rattle.machine_frames.specs.Layout.{stack_offset};
 ghost use Rattle.machine_frames.specs.States.{cells_from, frame_count, IsSound, IsStoreOf};
 ghost use Rattle.machine_frames.specs.Went.{Went};
 ghost use Rattle.machine_standard_windows.specs.TurnState.{place};
-ghost use Rattle.machine_standard_saves.specs.Written.{IsFileOf, WritesFrame, WritesFrames, top_of};
+ghost use Rattle.machine_standard_saves.specs.Written.{IsFileOf, IsHeadOf, WritesAll, WritesCall, WritesMain, end_of, frame_at};
 
 use journal::Recorded;
 use machine_frames::layout::{
@@ -36,6 +36,9 @@ const MOST_LOCALS: u16 = 15;
 
 /// How many arguments a call gives at most.
 const MOST_ARGUMENTS: u16 = 7;
+
+/// How many words the stack of a frame has less than: their number is told by two bytes.
+const WORD_LIMIT: usize = 65_536;
 
 /// Keeps the state: `save_undo`. The address after the instruction is one more than that of the byte
 /// that names the variable for its result.
@@ -91,13 +94,15 @@ fn file_of(
     ensures { IfOk result (λ file. IsFileOf loaded.now at store.now.store (option_map (λ f. f.items) file)) }
 {
     let mut stacks = Vec::new(alloc);
-    if !put_frames(store, &mut stacks)? {
+    let can_be_kept = put_frames(store, &mut stacks)?;
+    if !can_be_kept {
         return Ok(None);
     }
     let dynamic = loaded.dynamic();
+    let memory = store.store().memory();
     let state = SaveState {
         program_counter: at,
-        memory: &store.store().memory()[..dynamic.len()],
+        memory: &memory[..dynamic.len()],
         stacks: stacks.as_slice(),
     };
     let file = write_save(alloc, dynamic, state)?;
@@ -108,67 +113,102 @@ fn file_of(
 /// one; any bytes may be appended then. At `Err` memory was refused.
 fn put_frames(store: &Recorded<Store>, out: &mut Vec<u8>) -> Result<bool, AllocError>
     requires { IsSound store.now.store }
-    ensures { IfOk result (WritesFrames store.now.store out.old.items out.new.items) }
+    ensures { IfOk result (WritesAll store.now.store out.old.items out.new.items) }
 {
     let frames = cell(store, FRAME_COUNT) as usize;
-    put_main(out, words_of(store, 0, top_of(store, 0, frames)))?;
-    for record in 1..frames {
-        if !put_call(store, out, record, top_of(store, record, frames))? {
+    let is_main_told = put_main_code(store, out)?;
+    if !is_main_told {
+        return Ok(false);
+    }
+    for number in 1..frames {
+        let is_call_told = put_call(store, out, number)?;
+        if !is_call_told {
             return Ok(false);
         }
     }
     Ok(true)
 }
 
-/// Appends the frame of a call that ends at a height of the stack, or returns false where no file can
-/// tell all of it. At `Err` memory was refused.
-fn put_call(
-    store: &Recorded<Store>,
-    out: &mut Vec<u8>,
-    record: usize,
-    top: usize,
-) -> Result<bool, AllocError>
-    requires sound { IsSound store.now.store }
-    requires record { record < frame_count (slice_index store.now.store.cells) }
-    requires top { top ≡ top_of (slice_index store.now.store.cells) record }
-    ensures { IfOk result (WritesFrame store.now.store record top out.old.items out.new.items) }
+/// Appends the frame of the main code, or returns false where no file can tell all of it. At `Err`
+/// memory was refused.
+fn put_main_code(store: &Recorded<Store>, out: &mut Vec<u8>) -> Result<bool, AllocError>
+    requires { IsSound store.now.store }
+    ensures { IfOk result (WritesMain store.now.store out.old.items out.new.items) }
 {
-    let at = RECORDS + RECORD * record;
-    let base = long(store, at) as usize;
-    let locals = cell(store, at + LOCAL_COUNT);
-    let arguments = cell(store, at + ARGUMENT_COUNT);
-    let return_address = long(store, at + RETURN);
-    if locals > MOST_LOCALS || arguments > MOST_ARGUMENTS || !is_within(store, return_address) {
+    let top = end_of(store, 1);
+    let Some(head) = head_of(store, 0, top) else {
         return Ok(false);
+    };
+    put_main(out, words_of(store, top - head.words as usize, top))?;
+    Ok(true)
+}
+
+/// Appends the frame of a call, by the number of its record, or returns false where no file can tell
+/// all of it. At `Err` memory was refused.
+fn put_call(store: &Recorded<Store>, out: &mut Vec<u8>, number: usize) -> Result<bool, AllocError>
+    requires sound { IsSound store.now.store }
+    requires number { number < frame_count (slice_index store.now.store.cells) }
+    ensures { IfOk result (WritesCall store.now.store number out.old.items out.new.items) }
+{
+    let top = end_of(store, number + 1);
+    let Some(head) = head_of(store, number, top) else {
+        return Ok(false);
+    };
+    let bottom = top - head.words as usize;
+    let base = bottom - head.locals as usize;
+    put_frame(
+        out,
+        head,
+        words_of(store, base, bottom),
+        words_of(store, bottom, top),
+    )?;
+    Ok(true)
+}
+
+/// What a file tells of the frame of a record, which ends at a height of the stack, before its words;
+/// none where it cannot tell all of it.
+fn head_of(store: &Recorded<Store>, number: usize, top: usize) -> Option<FrameHead>
+    requires sound { IsSound store.now.store }
+    requires number { number < frame_count (slice_index store.now.store.cells) }
+    requires top { top ≡ end_of (slice_index store.now.store.cells) (number + 1) }
+    ensures { IsHeadOf (length (memory_of store.now.store)) (frame_at store.now.store number) result }
+{
+    let at = RECORDS + RECORD * number;
+    let locals = cell(store, at + LOCAL_COUNT);
+    if locals > MOST_LOCALS {
+        return None;
     }
-    let bottom = base + locals as usize;
-    let head = FrameHead {
+    let arguments = cell(store, at + ARGUMENT_COUNT);
+    if arguments > MOST_ARGUMENTS {
+        return None;
+    }
+    let return_address = long(store, at + RETURN);
+    let size = store.store().memory().len();
+    if return_address as usize >= size {
+        return None;
+    }
+    let base = long(store, at) as usize;
+    let words = top - (base + locals as usize);
+    if words >= WORD_LIMIT {
+        return None;
+    }
+    Some(FrameHead {
         return_address,
         locals: locals as u8,
         variable: variable_in(cell(store, at + RESULT)),
         arguments: arguments as u8,
-        words: (top - bottom) as u16,
-    };
-    put_frame(out, head, words_of(store, base, bottom), words_of(store, bottom, top))?;
-    Ok(true)
+        words: words as u16,
+    })
 }
 
-/// Whether an address lies in the story.
-fn is_within(store: &Recorded<Store>, address: u32) -> bool
-    ensures { result ≡ nat_lt address (length (memory_of store.now.store)) }
-{
-    (address as usize) < store.store().memory().len()
-}
-
-/// The height of the stack at which a frame ends: where the next one begins.
-fn top_of(store: &Recorded<Store>, record: usize, frames: usize) -> usize
+/// The height of the stack at which the first frames end, of which there are `count`.
+fn end_of(store: &Recorded<Store>, count: usize) -> usize
     requires sound { IsSound store.now.store }
-    requires record { record < frames }
-    requires frames { frames ≡ frame_count (slice_index store.now.store.cells) }
-    ensures { result ≡ top_of (slice_index store.now.store.cells) record }
+    requires count { count ≤ frame_count (slice_index store.now.store.cells) }
+    ensures { result ≡ end_of (slice_index store.now.store.cells) count }
 {
-    if record + 1 < frames {
-        long(store, RECORDS + RECORD * (record + 1)) as usize
+    if count < cell(store, FRAME_COUNT) as usize {
+        long(store, RECORDS + RECORD * count) as usize
     } else {
         long(store, HEIGHT) as usize
     }
@@ -176,6 +216,7 @@ fn top_of(store: &Recorded<Store>, record: usize, frames: usize) -> usize
 
 /// The words of the stack from a height to another.
 fn words_of(store: &Recorded<Store>, from: usize, to: usize) -> &[u16]
+    requires sound { IsSound store.now.store }
     requires order { from ≤ to }
     requires most { to ≤ stack_size }
     ensures { result.now ≡ cells_from (slice_index store.now.store.cells) (stack_offset + from) (to - from) }

@@ -1,9 +1,10 @@
 //! `restore_undo` (Z-Machine Standards Document 1.1, section 15).
 
-ghost use Rattle.std.specs.Prelude.{◌≡◌, ◌≤◌, ◌<◌, ◌+◌, Some, length, drop, slice_index, OnErr};
+ghost use Rattle.std.specs.Prelude.{◌≡◌, ◌≤◌, ◌<◌, ◌+◌, ◌^◌, List, false, length, drop, slice_index, OnErr};
 ghost use Rattle.zcore.specs.Header.{static_base_of};
 ghost use Rattle.zcore.specs.Layout.{longest_story, stack_size};
-ghost use Rattle.quetzal.specs.Frames.{Stacks, size_of, stacks_in, words_from, words_of};
+ghost use Rattle.zcore.specs.State.{Frame};
+ghost use Rattle.quetzal.specs.Frames.{Stacks, size_of, words_from, words_of};
 ghost use Rattle.quetzal.specs.SaveFiles.{saved_in};
 ghost use Rattle.zcore_standard.specs.SavedStates as definitions;
 ghost use Rattle.machine_decoding.specs.Seen.{seen};
@@ -12,7 +13,7 @@ ghost use Rattle.machine_frames.specs.Layout.{record_count};
 ghost use Rattle.machine_frames.specs.States.{IsSound, IsStoreOf, frame_count, height_of};
 ghost use Rattle.machine_frames.specs.Went.{Went};
 ghost use Rattle.machine_standard_windows.specs.TurnState.{place};
-ghost use Rattle.machine_standard_saves.specs.Restored.{frame_with, put_back_one, with_frames};
+ghost use Rattle.machine_standard_saves.specs.Restored.{AreCalls, AreStacks, add_frames, put_back_one, with_frames};
 
 use crate::frames::{begin_frames, push_frame};
 use journal::Recorded;
@@ -89,10 +90,10 @@ fn restore(
         (saved_in loaded.now.dynamic (length (memory_of store.old.store)) file.now) here after variable) }
 {
     let mut memory = Vec::new(alloc);
-    if memory.extend_from_slice(loaded.dynamic()).is_err() {
+    let Ok(()) = memory.extend_from_slice(loaded.dynamic()) else {
         store.abandon();
         return Err(End::Memory);
-    }
+    };
     let size = store.store().memory().len() as u32;
     match read_save(&mut memory, size, file) {
         Err(_) => give_result(header, store, here, after, variable, FAILED),
@@ -111,7 +112,9 @@ fn resume(
 ) -> Result<Next, End>
     requires store { IsStoreOf header.now store.old.store }
     requires dynamic { length memory.now ≡ static_base_of (memory_of store.old.store) }
-    ensures { (read : Stacks) → stacks_in (length (memory_of store.old.store)) save.entry.stacks.now ≡ Some read
+    requires counter { save.program_counter < 2 ^ 24 }
+    requires stacks { (read : Stacks) × AreStacks (length (memory_of store.old.store)) save.stacks.now read }
+    ensures { (read : Stacks) → AreStacks (length (memory_of store.old.store)) save.entry.stacks.now read
         → Went result store.old store.new (definitions.resume (record {
           program_counter = save.entry.program_counter;
           memory = memory.now;
@@ -121,7 +124,7 @@ fn resume(
     if here.fuel == 0 {
         return Err(End::Stop(Place::Limit(Limit::Fuel)));
     }
-    fill(store, HEADER_LENGTH, &memory[HEADER_LENGTH..])?;
+    fill(store, HEADER_LENGTH, bytes_after(memory, HEADER_LENGTH))?;
     store.put(WAITING, 0)?;
     put_back(store, save.stacks, alloc)?;
     let variable = byte_at(store, save.program_counter);
@@ -144,28 +147,58 @@ fn byte_at(store: &Recorded<Store>, at: u32) -> u8
     }
 }
 
+/// The bytes from one on.
+fn bytes_after(bytes: &[u8], at: usize) -> &[u8]
+    requires { at ≤ length bytes.now }
+    ensures { result.now ≡ drop at bytes.now }
+{
+    &bytes[at..]
+}
+
 /// Puts back the frames of a file, the oldest first.
 fn put_back(store: &mut Recorded<Store>, stacks: &[u8], alloc: Global) -> Result<(), End>
     requires sound { IsSound store.old.store }
-    ensures { (read : Stacks) → stacks_in (length (memory_of store.old.store)) stacks.now ≡ Some read
+    requires stacks { (read : Stacks) × AreStacks (length (memory_of store.old.store)) stacks.now read }
+    ensures { (read : Stacks) → AreStacks (length (memory_of store.old.store)) stacks.now read
         → Went result store.old store.new (with_frames read) }
 {
     let size = store.store().memory().len() as u32;
     let mut words = Vec::new(alloc);
-    let mut rest = stacks;
-    let mut is_main = true;
-    while let Some(head) = read_head(rest, size, MOST_WORDS) {
-        let next = put_back_one(store, rest, head, is_main, &mut words);
-        if next.is_err() {
-            return next;
-        }
-        is_main = false;
-        rest = &rest[head.size()..];
+    let Some(head) = read_head(stacks, size, MOST_WORDS) else {
+        return Ok(());
+    };
+    put_back_one(store, stacks, head, true, &mut words)?;
+    let most = MOST_WORDS - head.word_count();
+    let calls = bytes_after(stacks, head.size());
+    put_back_calls(store, calls, size, most, &mut words)
+}
+
+/// Puts back the frames of calls, the oldest first.
+fn put_back_calls(
+    store: &mut Recorded<Store>,
+    bytes: &[u8],
+    size: u32,
+    most: usize,
+    words: &mut Vec<u16>,
+) -> Result<(), End>
+    requires sound { IsSound store.old.store }
+    requires main { frame_count (slice_index store.old.store.cells) ≡ 1 }
+    requires room { height_of (slice_index store.old.store.cells) + most ≤ stack_size }
+    requires calls { (calls : List Frame) × AreCalls size most bytes.now calls }
+    ensures { (calls : List Frame) → AreCalls size most bytes.now calls
+        → Went result store.old store.new (add_frames calls) }
+{
+    let mut rest = bytes;
+    let mut left = most;
+    while let Some(head) = read_head(rest, size, left) {
+        put_back_one(store, rest, head, false, words)?;
+        left -= head.word_count();
+        rest = bytes_after(rest, head.size());
     }
     Ok(())
 }
 
-/// Puts back the frame that bytes begin with.
+/// Puts back the frame that bytes begin with: that of the main code, or of a call.
 fn put_back_one(
     store: &mut Recorded<Store>,
     bytes: &[u8],
@@ -175,16 +208,17 @@ fn put_back_one(
 ) -> Result<(), End>
     requires sound { IsSound store.old.store }
     requires whole { size_of head ≤ length bytes.now }
-    requires calls { frame_count (slice_index store.old.store.cells) < record_count }
-    requires room { height_of (slice_index store.old.store.cells) + words_of head ≤ stack_size }
+    requires few { words_of head ≤ stack_size }
+    requires calls { is_main ≡ false → frame_count (slice_index store.old.store.cells) < record_count }
+    requires room { is_main ≡ false → height_of (slice_index store.old.store.cells) + words_of head ≤ stack_size }
     ensures { Went result store.old store.new
-        (put_back_one is_main (frame_with head (words_from (words_of head) (drop HEAD bytes.now)))) }
+        (put_back_one is_main head (words_from (words_of head) (drop HEAD bytes.now))) }
 {
     words.clear();
-    if read_words(&bytes[HEAD..], head.word_count(), words).is_err() {
+    let Ok(()) = read_words(bytes_after(bytes, HEAD), head.word_count(), words) else {
         store.abandon();
         return Err(End::Memory);
-    }
+    };
     if is_main {
         begin_frames(store, words.as_slice())
     } else {

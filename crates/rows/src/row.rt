@@ -159,6 +159,14 @@ impl Row {
 fn is_call(word: &str) -> bool {
     matches!(
         word,
-        "reply" | "undo" | "redo" | "cells" | "words" | "write" | "close" | "abandon"
+        "reply"
+            | "undo"
+            | "redo"
+            | "status"
+            | "cells"
+            | "words"
+            | "write"
+            | "close"
+            | "abandon"
     )
 }

@@ -94,6 +94,10 @@ fn put_calls(
             "reply" => put_reply(shown, session, text, &written_bytes(setting.alloc, text)?),
             "undo" => put_undone(shown, session.undo()),
             "redo" => put_redone(shown, session.redo()),
+            "status" => {
+                put_status(shown, session);
+                continue;
+            }
             "cells" => {
                 put_cells(shown, session.last_cells(), number_in(text)?);
                 continue;
@@ -182,4 +186,19 @@ fn put_redone(shown: &mut Shown, told: Option<&[u8]>) {
         }
         None => shown.text("redo: false\n"),
     }
+}
+
+/// Adds the status line at the present, or that there is none. Where memory is refused, it is asked for
+/// once more.
+fn put_status(shown: &mut Shown, session: &mut Session) {
+    for _ in 0..2 {
+        if let Ok(line) = session.status_line() {
+            if line.is_empty() {
+                shown.text("no ");
+            }
+            shown.text("status line\n");
+            return shown.lines(line);
+        }
+    }
+    shown.text("no memory\n");
 }

@@ -5,7 +5,13 @@ use Rattle.std.proofs.Math.Seq.{take-length}
 use Rattle.std.proofs.lemmas.List.{length-drop}
 use Rattle.std.specs.Io.KnownBytes.{Appends}
 use Rattle.std.proofs.KnownBytes.{Appends-trans}
-use Rattle.session_lines.specs.Wrote.{WrittenSoFar, WroteSome, WroteText}
+use Rattle.session_lines.specs.Wrote.{WroteSome, WroteText}
+
+-- the text was written up to the rest
+pub record WrittenSoFar (old new : Option (List ℕ)) (text rest : List ℕ) : Type 0 where
+  pub part : List ℕ
+  pub whole : part ++ rest ≡ text
+  pub wrote : Appends old new part
 
 pub written_more : {a b c : Option (List ℕ)} {text rest : List ℕ} (n : ℕ) → WrittenSoFar a b text rest
     → Appends b c (take n rest) → WrittenSoFar a c text (drop n rest)

@@ -1,43 +1,38 @@
 -- The opcodes that print any ZSCII code: they make the weight fall, do not wait, and the profile answers M10 before them
 -- in the same state.
 use Rattle.std.proofs.Common.{◌≡◌, ℕ, ◌+◌, ◌^◌, ◌<◌, List, [], ◌∷◌, ◌++◌, refl, ap, sym, Bool, true, false, cond, arith}
-use Rattle.std.proofs.Common.{Option, Some, None, Result, Ok, Err, length, drop}
-use Rattle.std.specs.Prelude.{◌==◌, ◌||◌, ◌&&◌, nat_le, nat_lt}
-use Rattle.std.specs.List.{flat_map}
+use Rattle.std.proofs.Common.{Result, Ok, Err, drop}
+use Rattle.std.specs.Prelude.{◌==◌, nat_le, nat_lt}
 use Rattle.ztext.specs.Reading.{Cause, Lower}
 use Rattle.ztext.specs.Results.{◌>>=◌}
 use Rattle.ztext.specs.Words.{unpacked_text, last_word, three_of}
 use Rattle.ztext.specs.Text.{z_text_at}
-use Rattle.zcore.specs.declared.instruction.Branch.{Branch}
 use Rattle.zcore.specs.declared.instruction.Operation.{Operation}
 use Rattle.zcore.specs.declared.instruction.Operation.TheVariants as operations
 use Rattle.zcore.specs.declared.next.Next.{Next}
 use Rattle.zcore.specs.declared.place.Fault.{Fault}
 use Rattle.zcore.specs.declared.place.Fault.TheVariants as faults
-use Rattle.zcore.specs.declared.place.Limit.{Limit}
 use Rattle.zcore.specs.declared.place.Place.{Place}
 use Rattle.zcore.specs.declared.place.Place.TheVariants as places
 use Rattle.zcore.specs.Effects.{read_text}
-use Rattle.zcore.specs.Parts.{fault, goes_on, unpacked}
+use Rattle.zcore.specs.Parts.{fault, unpacked}
 use Rattle.zcore.specs.State.{State, Out, done, halt}
-use Rattle.zcore.proofs.KeepingReads.{Keeps, keeps_then, keeps_done, keeps_halt, tested, never, done_value}
+use Rattle.zcore.proofs.KeepingReads.{Keeps, keeps_done, keeps_halt, never, done_value}
 use Rattle.zcore.proofs.KeepingReads.{keeps_read_byte}
 use Rattle.zcore.proofs.Keeping.{keeps_test_return}
 use Rattle.zcore.proofs.KeepingObjects.{keeps_test_object, keeps_property_table}
 use Rattle.zcore.proofs.FallsOfParts.{FallsFrom, falls_given, falls_then, falls_either, goes_on_falls, give_back_falls}
-use Rattle.zcore.proofs.WaitingTests.{Waits, waits_done, waits_fault, waits_limit, waits_either, waits_then}
+use Rattle.zcore.proofs.WaitingTests.{Waits, waits_done, waits_fault, waits_then}
 use Rattle.zcore.proofs.WaitingTests.{waits_chosen, waits_test_return}
 use Rattle.zcore.proofs.WaitingParts.{waits_goes_on, waits_read_byte, waits_give_back}
 use Rattle.zcore.proofs.WaitingObjectParts.{waits_test_object, waits_property_table}
-use Rattle.zcore_standard.specs.Characters.{print_codes}
 use Rattle.zcore_standard_laws.proofs.PrintedCodes.{keeps_print_codes, waits_print_codes}
 use Rattle.zcore_standard_laws.specs.Laws.{ends_in_fault}
 use Rattle.zcore_standard.specs.Loaded.{Loaded, alphabets_of}
 use Rattle.zcore_standard.specs.Printing.{any_text_at, print_any_character, print_any_address, print_any_packed}
 use Rattle.zcore_standard.specs.Printing.{print_any_inline, print_any_return, print_any_object, perform_text}
 use Rattle.zcore_standard.specs.Printing.{is_refused}
-use Rattle.zcore_standard.specs.Texts.{read_codes, codes_with, codes_at, abbreviation_codes}
-use Rattle.zcore_standard.specs.Unicode.{print_whole}
+use Rattle.zcore_standard.specs.Texts.{read_codes, codes_at, abbreviation_codes}
 
 -- What is kept
 

@@ -1,17 +1,16 @@
 -- What was kept is restored.
 use Rattle.std.proofs.Common.{◌≡◌, ◌<◌, ℕ, ◌-◌, nat_lt, Bool, true, false, if◌then◌else◌, List, [], ◌∷◌, ◌++◌, length, reverse}
-use Rattle.std.proofs.Common.{take, drop, refl, ap, sym, ◌∙◌, arith, Option, Result, Ok}
+use Rattle.std.proofs.Common.{drop, refl, ap, sym, ◌∙◌, arith, Result, Ok}
 use Rattle.std.proofs.lemmas.List.{drop-append-le, drop_at, length_push, reverse-reverse}
 use Rattle.std.proofs.lemmas.Bool.{ltb-true}
-use Rattle.zcore.specs.State.{Frame, State, Out}
-use Rattle.zcore.specs.declared.next.Next.{Next}
+use Rattle.zcore.specs.State.{Frame, State}
 use Rattle.quetzal.specs.SaveFiles.{Saved, saved_in}
 use Rattle.quetzal.specs.declared.fault.SaveFault.{SaveFault}
 use Rattle.quetzal.proofs.ReadSaves as save_files
 use Rattle.zcore_standard.specs.Keeping.{newest, with_newest, without_newest}
 use Rattle.zcore_standard.specs.Loaded.{Loaded}
-use Rattle.zcore_standard.specs.Place.{Here, within}
-use Rattle.zcore_standard.specs.SavedStates.{file_of, frames_of, restore_newest, restore_undo, resume, resume_if_read}
+use Rattle.zcore_standard.specs.Place.{within}
+use Rattle.zcore_standard.specs.SavedStates.{file_of, frames_of, restore_newest, restore_undo, resume_if_read}
 use Rattle.zcore_standard.specs.SavedStates.{saved_of, stacks_of}
 use Rattle.zcore_standard_laws.specs.Saves.{BeginsWithMain, IsKeepable, RestoresAllFrames, RestoresWhatWasKept}
 

@@ -29,8 +29,8 @@ use Rattle.zcore_standard.specs.Flow.{restart, catch, frames_at, leave_frame, th
 use Rattle.zcore_standard.specs.Screen.{get_cursor, set_font}
 use Rattle.quetzal.specs.SaveFiles.{Saved, saved_in}
 use Rattle.quetzal.specs.declared.fault.SaveFault.{SaveFault}
-use Rattle.zcore_standard.specs.Keeping.{newest}
-use Rattle.zcore_standard.specs.SavedStates.{can_be_kept, restore_newest, restore_undo, resume, resume_if_read, save_undo}
+use Rattle.zcore_standard.specs.Keeping.{newest, with_newest, without_newest}
+use Rattle.zcore_standard.specs.SavedStates.{can_be_kept, file_of, restore_newest, restore_undo, resume, resume_if_read, save_undo}
 use Rattle.zcore_standard.specs.SavedStates.{state_in, take_up}
 use Rattle.zcore_standard.specs.Performing.{perform_keeping, perform_further, execute_further, words_of_table, one_row}
 use Rattle.zcore_standard.specs.Nothing.{step_known}
@@ -193,14 +193,19 @@ waits_save_undo : (loaded : Loaded) (here : Here) (after : ℕ) (result : Option
 unfolding save_undo
 waits_save_undo loaded here after result s t h =
     waits_either (can_be_kept s) _ _ t
-    (waits_within _ _ (waits_give_result here.next after result 1) s t)
-    (waits_within _ _ (waits_give_result here.next after result 65535) s t) h
+    (waits_within (record here { kept = with_newest (file_of loaded (after - 1) s) here.kept })
+    (give_result here.next after result 1) (waits_give_result here.next after result 1) s t)
+    (waits_within here (give_result here.next after result 65535) (waits_give_result here.next after result 65535) s t) h
+
+waits_take_up : (saved : Saved) → Waits (take_up saved)
+unfolding take_up
+waits_take_up saved s t h = waits_done tt (state_in saved s) t h
 
 waits_resume : (saved : Saved) (fuel : ℕ) → Waits (resume saved fuel)
-unfolding resume take_up
+unfolding resume
 waits_resume saved fuel =
     waits_then _ _ (waits_spend fuel) (λ left.
-    waits_then _ _ (λ s t h. waits_done tt (state_in saved s) t h) (λ _.
+    waits_then _ _ (waits_take_up saved) (λ _.
     waits_then _ _ (λ s t h. waits_store_result (Some (slice_index s.memory saved.program_counter)) 2 s t h) (λ _.
     waits_goes_on (saved.program_counter + 1) left)))
 
@@ -211,9 +216,12 @@ waits_resume_if_read (Ok saved) here after result = waits_resume saved here.fuel
 
 waits_restore_newest : (loaded : Loaded) (here : Here) (after : ℕ) (result : Option ℕ) (files : List (List ℕ))
     → Waits (restore_newest loaded here after result files)
-waits_restore_newest loaded here after result [] = waits_within _ _ (waits_give_result here.next after result 0)
+waits_restore_newest loaded here after result [] s t h =
+    waits_within here (give_result here.next after result 0) (waits_give_result here.next after result 0) s t h
 waits_restore_newest loaded here after result (file ∷ files) s t h =
-    waits_within _ _ (waits_resume_if_read (saved_in loaded.dynamic (length s.memory) file) here.next after result) s t h
+    let read = saved_in loaded.dynamic (length s.memory) file in
+    waits_within (record here { kept = without_newest here.kept }) (resume_if_read read here.next after result)
+    (waits_resume_if_read read here.next after result) s t h
 
 waits_restore_undo : (loaded : Loaded) (here : Here) (after : ℕ) (result : Option ℕ)
     → Waits (restore_undo loaded here after result)

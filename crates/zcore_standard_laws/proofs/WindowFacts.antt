@@ -4,7 +4,7 @@ use Rattle.std.proofs.Common.{Option, Some, None}
 use Rattle.std.specs.Prelude.{◌==◌, ◌&&◌, ◌||◌}
 use Rattle.zcore.specs.declared.next.Next.{Next}
 use Rattle.zcore.specs.State.{State, Out, done}
-use Rattle.zcore.proofs.KeepingReads.{Alike, Keeps, alike_same, alike_then, done_alike, done_state, done_value, both}
+use Rattle.zcore.proofs.KeepingReads.{Alike, Keeps, alike_same, alike_then, done_state, done_value, both}
 use Rattle.zcore.proofs.KeepingReads.{keeps_done, keeps_then, tested}
 use Rattle.zcore.proofs.FallsOfParts.{Falls, further, falls_alike}
 use Rattle.zcore.proofs.WaitingTests.{Waits, waits_done, waits_limit, waits_then, waits_chosen, waits_either}

@@ -1,15 +1,15 @@
 -- What the parts of opcodes on small objects keep of a state: the lengths of the memory and of the list of frames.
-use Rattle.std.proofs.Common.{ℕ, ◌+◌, ◌-◌, ◌/◌, ◌%◌, Option, Some, None}
+use Rattle.std.proofs.Common.{ℕ, ◌+◌, ◌-◌, ◌/◌, Option, Some, None}
 use Rattle.std.specs.Prelude.{◌==◌, ◌&&◌, nat_le, nat_lt}
 use Rattle.zcore.specs.declared.place.Fault.TheVariants as faults
 use Rattle.zcore.specs.Header.{defaults_of, static_end}
 use Rattle.zcore.specs.Entries.{Link, Parent, Sibling, Child}
 use Rattle.zcore.specs.Objects.{linked}
-use Rattle.zcore.specs.ObjectProperties.{default_place, listed, place_behind}
+use Rattle.zcore.specs.ObjectProperties.{listed, place_behind}
 use Rattle.zcore.specs.Properties.{Property, Standing, Terminator, Listed, Beyond, list_start}
 use Rattle.zcore.proofs.KeepingReads.{Alike, Keeps, keeps_then, keeps_either, keeps_done, keeps_halt, chosen, never}
 use Rattle.zcore.proofs.KeepingReads.{keeps_test, keeps_read_byte, keeps_read_word}
-use Rattle.zcore.proofs.Keeping.{keeps_write_byte, keeps_write_word}
+use Rattle.zcore.proofs.Keeping.{keeps_write_byte}
 use Rattle.zcore_versions.specs.SmallObjects.{is_small_object, small_entry, small_place_of, small_attribute_place}
 use Rattle.zcore_versions.specs.SmallObjects.{test_object, read_attributes, write_attributes}
 use Rattle.zcore_versions.specs.SmallObjects.{tested_attributes, read_link, write_link, link_to, test_link}

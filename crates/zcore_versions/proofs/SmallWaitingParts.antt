@@ -1,5 +1,5 @@
 -- The parts of opcodes on small objects: none of them ends a turn by waiting.
-use Rattle.std.proofs.Common.{ℕ, ◌+◌, ◌-◌, ◌/◌, ◌%◌, Option, Some, None}
+use Rattle.std.proofs.Common.{ℕ, ◌+◌, ◌-◌, ◌/◌, Option, Some, None}
 use Rattle.std.specs.Prelude.{◌==◌, ◌&&◌, nat_le, nat_lt}
 use Rattle.zcore.specs.declared.place.Fault.{Fault}
 use Rattle.zcore.specs.declared.place.Fault.TheVariants as faults
@@ -8,11 +8,11 @@ use Rattle.zcore.specs.State.{done, halt}
 use Rattle.zcore.specs.Header.{defaults_of, static_end}
 use Rattle.zcore.specs.Entries.{Link, Parent, Sibling, Child}
 use Rattle.zcore.specs.Objects.{linked}
-use Rattle.zcore.specs.ObjectProperties.{default_place, listed, place_behind}
+use Rattle.zcore.specs.ObjectProperties.{listed, place_behind}
 use Rattle.zcore.specs.Properties.{Property, Standing, Terminator, Listed, Beyond, list_start}
 use Rattle.zcore.proofs.WaitingTests.{Waits, waits_done, waits_fault, waits_then, waits_either, waits_chosen}
 use Rattle.zcore.proofs.WaitingTests.{waits_test}
-use Rattle.zcore.proofs.WaitingParts.{waits_write_byte, waits_write_word, waits_read_byte, waits_read_word}
+use Rattle.zcore.proofs.WaitingParts.{waits_write_byte, waits_read_byte, waits_read_word}
 use Rattle.zcore_versions.specs.SmallObjects.{is_small_object, small_entry, small_place_of, small_attribute_place}
 use Rattle.zcore_versions.specs.SmallObjects.{test_object, read_attributes, write_attributes}
 use Rattle.zcore_versions.specs.SmallObjects.{tested_attributes, read_link, write_link, link_to, test_link}

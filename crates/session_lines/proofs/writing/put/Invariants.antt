@@ -1,5 +1,5 @@
 use Rattle.std.proofs.Common.{length}
-use Rattle.session_lines.specs.Wrote.{WrittenSoFar}
+use Rattle.session_lines.proofs.Telling.{WrittenSoFar}
 use Rattle.session_lines.proofs.writing.put.Given as goal
 
 abbrev pub invariant-loop-rest : goal.invariant-loop-rest
