@@ -154,11 +154,13 @@ fn put_rest(
     ensures text { Extends start text.old.items text.new.items }
 {
     let mut named = Some(first);
-    while let Some(Named {
-        number,
-        after,
-        lock,
-    }) = named
+    while let Some(
+        Named {
+            number,
+            after,
+            lock,
+        },
+    ) = named
     {
         put_abbreviation(text, start, characters, version, halted, story, number)?;
         named = put_plain(

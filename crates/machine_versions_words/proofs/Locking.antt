@@ -11,80 +11,80 @@ use Rattle.zcore_versions.specs.LockedTexts.{alphabet_of, begins_in, letter_of, 
 use Rattle.zcore_versions.specs.LockedTexts.{spelled_within, spelled_with_locks}
 
 module _ (version : ℕ) (word : List ℕ) (place code : ℕ) (lt : place < length word) (is : code ≡ get_or word place 0)
-    where
-  on : drop place word ≡ code ∷ drop (place + 1) word
-  on = drop-cons word place 0 lt ∙ ap (λ (c : ℕ). c ∷ drop (suc place) word) (sym is)
-      ∙ ap (λ (k : ℕ). code ∷ drop k word) (sym (add-one {place}))
+  where
+    on : drop place word ≡ code ∷ drop (place + 1) word
+    on = drop-cons word place 0 lt ∙ ap (λ (c : ℕ). c ∷ drop (suc place) word) (sym is)
+        ∙ ap (λ (k : ℕ). code ∷ drop k word) (sym (add-one {place}))
 
-  -- a code of the alphabet that is locked
-  pub spelled_same : (lock : ℕ) → alphabet_of version code ≡ lock
-      → spelled_with_locks version lock (drop place word)
-      ≡ spelled_within version code ++ spelled_with_locks version lock (drop (place + 1) word)
-  unfolding spelled_with_locks
-  spelled_same lock e = rw (on, eq-eqb (alphabet_of version code) lock e) refl
+    -- a code of the alphabet that is locked
+    pub spelled_same : (lock : ℕ) → alphabet_of version code ≡ lock
+        → spelled_with_locks version lock (drop place word)
+        ≡ spelled_within version code ++ spelled_with_locks version lock (drop (place + 1) word)
+    unfolding spelled_with_locks
+    spelled_same lock e = rw (on, eq-eqb (alphabet_of version code) lock e) refl
 
-  -- one before another of its alphabet
-  pub spelled_locked : (lock : ℕ) → alphabet_of version code ≢ lock
-      → begins_in version (alphabet_of version code) (drop (place + 1) word) ≡ true
-      → spelled_with_locks version lock (drop place word)
-      ≡ (lock_to lock (alphabet_of version code) ∷ spelled_within version code)
-      ++ spelled_with_locks version (alphabet_of version code) (drop (place + 1) word)
-  unfolding spelled_with_locks
-  spelled_locked lock other begins = rw (on, ne_eqb (alphabet_of version code) lock other, begins) refl
+    -- one before another of its alphabet
+    pub spelled_locked : (lock : ℕ) → alphabet_of version code ≢ lock
+        → begins_in version (alphabet_of version code) (drop (place + 1) word) ≡ true
+        → spelled_with_locks version lock (drop place word)
+        ≡ (lock_to lock (alphabet_of version code) ∷ spelled_within version code)
+        ++ spelled_with_locks version (alphabet_of version code) (drop (place + 1) word)
+    unfolding spelled_with_locks
+    spelled_locked lock other begins = rw (on, ne_eqb (alphabet_of version code) lock other, begins) refl
 
-  -- one alone
-  pub spelled_shifted : (lock : ℕ) → alphabet_of version code ≢ lock
-      → begins_in version (alphabet_of version code) (drop (place + 1) word) ≡ false
-      → spelled_with_locks version lock (drop place word)
-      ≡ (shift_to lock (alphabet_of version code) ∷ spelled_within version code)
-      ++ spelled_with_locks version lock (drop (place + 1) word)
-  unfolding spelled_with_locks
-  spelled_shifted lock other begins = rw (on, ne_eqb (alphabet_of version code) lock other, begins) refl
+    -- one alone
+    pub spelled_shifted : (lock : ℕ) → alphabet_of version code ≢ lock
+        → begins_in version (alphabet_of version code) (drop (place + 1) word) ≡ false
+        → spelled_with_locks version lock (drop place word)
+        ≡ (shift_to lock (alphabet_of version code) ∷ spelled_within version code)
+        ++ spelled_with_locks version lock (drop (place + 1) word)
+    unfolding spelled_with_locks
+    spelled_shifted lock other begins = rw (on, ne_eqb (alphabet_of version code) lock other, begins) refl
 
-  module _ (alphabet : ℕ) (is_alphabet : alphabet ≡ alphabet_of version code) where
-    letters : List ℕ
-    letters = letter_or_escape (letter_of version alphabet code) code
+    module _ (alphabet : ℕ) (is_alphabet : alphabet ≡ alphabet_of version code) where
+      letters : List ℕ
+      letters = letter_or_escape (letter_of version alphabet code) code
 
-    letters_are : spelled_within version code ≡ letters
-    unfolding letters
-    letters_are = ap (λ (a : ℕ). letter_or_escape (letter_of version a code) code) (sym is_alphabet)
+      letters_are : spelled_within version code ≡ letters
+      unfolding letters
+      letters_are = ap (λ (a : ℕ). letter_or_escape (letter_of version a code) code) (sym is_alphabet)
 
-    rest : ℕ → List ℕ
-    rest lock = spelled_with_locks version lock (drop (place + 1) word)
+      rest : ℕ → List ℕ
+      rest lock = spelled_with_locks version lock (drop (place + 1) word)
 
-    -- the same three, from what the code computes
-    pub rest_same : (lock next : ℕ) (zs : List ℕ) → alphabet ≡ lock
-        → zs ≡ letter_or_escape (letter_of version alphabet code) code → next ≡ lock
-        → spelled_with_locks version lock (drop place word) ≡ zs ++ spelled_with_locks version next (drop (place + 1) word)
-    unfolding letters rest
-    rest_same lock next zs same e stays = spelled_same lock (sym is_alphabet ∙ same)
-        ∙ ap (λ ys. ys ++ rest lock) (letters_are ∙ sym e) ∙ ap (λ (l : ℕ). zs ++ rest l) (sym stays)
+      -- the same three, from what the code computes
+      pub rest_same : (lock next : ℕ) (zs : List ℕ) → alphabet ≡ lock
+          → zs ≡ letter_or_escape (letter_of version alphabet code) code → next ≡ lock
+          → spelled_with_locks version lock (drop place word) ≡ zs ++ spelled_with_locks version next (drop (place + 1) word)
+      unfolding letters rest
+      rest_same lock next zs same e stays = spelled_same lock (sym is_alphabet ∙ same)
+          ∙ ap (λ ys. ys ++ rest lock) (letters_are ∙ sym e) ∙ ap (λ (l : ℕ). zs ++ rest l) (sym stays)
 
-    pub rest_locked : (lock next z : ℕ) (zs : List ℕ) → alphabet ≢ lock
-        → begins_in version alphabet (drop (place + 1) word) ≡ true → z ≡ lock_to lock alphabet
-        → zs ≡ z ∷ letter_or_escape (letter_of version alphabet code) code → next ≡ alphabet
-        → spelled_with_locks version lock (drop place word) ≡ zs ++ spelled_with_locks version next (drop (place + 1) word)
-    unfolding letters rest
-    rest_locked lock next z zs other begins is_lock e moves =
-        spelled_locked lock (λ same. other (is_alphabet ∙ same))
-        (ap (λ (a : ℕ). begins_in version a (drop (place + 1) word)) (sym is_alphabet) ∙ begins)
-        ∙ ap (λ (a : ℕ). (lock_to lock a ∷ spelled_within version code) ++ rest a) (sym is_alphabet)
-        ∙ ap (λ ys. (lock_to lock alphabet ∷ ys) ++ rest alphabet) letters_are
-        ∙ ap (λ (k : ℕ). (k ∷ letters) ++ rest alphabet) (sym is_lock)
-        ∙ ap (λ ys. ys ++ rest alphabet) (sym e) ∙ ap (λ (l : ℕ). zs ++ rest l) (sym moves)
+      pub rest_locked : (lock next z : ℕ) (zs : List ℕ) → alphabet ≢ lock
+          → begins_in version alphabet (drop (place + 1) word) ≡ true → z ≡ lock_to lock alphabet
+          → zs ≡ z ∷ letter_or_escape (letter_of version alphabet code) code → next ≡ alphabet
+          → spelled_with_locks version lock (drop place word) ≡ zs ++ spelled_with_locks version next (drop (place + 1) word)
+      unfolding letters rest
+      rest_locked lock next z zs other begins is_lock e moves =
+          spelled_locked lock (λ same. other (is_alphabet ∙ same))
+          (ap (λ (a : ℕ). begins_in version a (drop (place + 1) word)) (sym is_alphabet) ∙ begins)
+          ∙ ap (λ (a : ℕ). (lock_to lock a ∷ spelled_within version code) ++ rest a) (sym is_alphabet)
+          ∙ ap (λ ys. (lock_to lock alphabet ∷ ys) ++ rest alphabet) letters_are
+          ∙ ap (λ (k : ℕ). (k ∷ letters) ++ rest alphabet) (sym is_lock)
+          ∙ ap (λ ys. ys ++ rest alphabet) (sym e) ∙ ap (λ (l : ℕ). zs ++ rest l) (sym moves)
 
-    pub rest_shifted : (lock next z : ℕ) (zs : List ℕ) → alphabet ≢ lock
-        → begins_in version alphabet (drop (place + 1) word) ≡ false → z ≡ shift_to lock alphabet
-        → zs ≡ z ∷ letter_or_escape (letter_of version alphabet code) code → next ≡ lock
-        → spelled_with_locks version lock (drop place word) ≡ zs ++ spelled_with_locks version next (drop (place + 1) word)
-    unfolding letters rest
-    rest_shifted lock next z zs other begins is_shift e stays =
-        spelled_shifted lock (λ same. other (is_alphabet ∙ same))
-        (ap (λ (a : ℕ). begins_in version a (drop (place + 1) word)) (sym is_alphabet) ∙ begins)
-        ∙ ap (λ (a : ℕ). (shift_to lock a ∷ spelled_within version code) ++ rest lock) (sym is_alphabet)
-        ∙ ap (λ ys. (shift_to lock alphabet ∷ ys) ++ rest lock) letters_are
-        ∙ ap (λ (k : ℕ). (k ∷ letters) ++ rest lock) (sym is_shift)
-        ∙ ap (λ ys. ys ++ rest lock) (sym e) ∙ ap (λ (l : ℕ). zs ++ rest l) (sym stays)
+      pub rest_shifted : (lock next z : ℕ) (zs : List ℕ) → alphabet ≢ lock
+          → begins_in version alphabet (drop (place + 1) word) ≡ false → z ≡ shift_to lock alphabet
+          → zs ≡ z ∷ letter_or_escape (letter_of version alphabet code) code → next ≡ lock
+          → spelled_with_locks version lock (drop place word) ≡ zs ++ spelled_with_locks version next (drop (place + 1) word)
+      unfolding letters rest
+      rest_shifted lock next z zs other begins is_shift e stays =
+          spelled_shifted lock (λ same. other (is_alphabet ∙ same))
+          (ap (λ (a : ℕ). begins_in version a (drop (place + 1) word)) (sym is_alphabet) ∙ begins)
+          ∙ ap (λ (a : ℕ). (shift_to lock a ∷ spelled_within version code) ++ rest lock) (sym is_alphabet)
+          ∙ ap (λ ys. (shift_to lock alphabet ∷ ys) ++ rest lock) letters_are
+          ∙ ap (λ (k : ℕ). (k ∷ letters) ++ rest lock) (sym is_shift)
+          ∙ ap (λ ys. ys ++ rest lock) (sym e) ∙ ap (λ (l : ℕ). zs ++ rest l) (sym stays)
 
 -- the code at a place of a word, and none past its end
 
