@@ -154,17 +154,10 @@ fn put_rest(
     ensures text { Extends start text.old.items text.new.items }
 {
     let mut named = Some(first);
-    while let Some(
-        Named {
-            number,
-            after,
-            lock,
-        },
-    ) = named
-    {
-        put_abbreviation(text, start, characters, version, halted, story, number)?;
+    while let Some(next) = named {
+        put_abbreviation(text, start, characters, version, halted, story, next.number)?;
         named = put_plain(
-            text, start, characters, version, halted, bytes, words, after, lock,
+            text, start, characters, version, halted, bytes, words, next.after, next.lock,
         );
     }
     Ok(())

@@ -34,7 +34,7 @@ returns-in_err-put_abbreviation-clause-read c =
     let p = err_from_is_err_and c.from_residual.result c.from_residual.ensures.1 in
     let so_far = c.loop-named.invariant.so_far in
     rw (p.1, p.2)
-    (rest_fails c.args.version expand zs c.in_err-put_abbreviation.field-0.0 c.in-Some.field-0 so_far.0 _
+    (rest_fails c.args.version expand zs c.in_err-put_abbreviation.field-0.0 c.in-Some.next so_far.0 _
     (sym (ap (λ o. joined so_far.0 (rest_of c.args.version expand zs o)) c.in-Some.is) ∙ so_far.2)
     c.in_err-put_abbreviation.ensures.read)
 
@@ -50,18 +50,18 @@ loop-named-preserved c =
     let first = c.in_ok-put_abbreviation.ensures.read in
     let second = c.put_plain-named.ensures.read in
     record {
-      number = numbered c.in-Some.field-0.after (3 * c.args.words) c.put_plain-named.result c.put_plain-named.ensures.named;
+      number = numbered c.in-Some.next.after (3 * c.args.words) c.put_plain-named.result c.put_plain-named.ensures.named;
       extends = extends_after (extends_after c.loop-named.invariant.extends c.put_abbreviation.ensures.text)
           c.put_plain-named.ensures.text;
       so_far = (
         so_far.0 ++ (first.0 ++ second.0),
         on_then so_far.0 (first.0 ++ second.0) so_far.1 (on_then first.0 second.0 first.2 second.2),
-        rest_on c.args.version expand zs c.in-Some.field-0 c.put_plain-named.result so_far.0 first.0 second.0 _
+        rest_on c.args.version expand zs c.in-Some.next c.put_plain-named.result so_far.0 first.0 second.0 _
             (sym (ap (λ o. joined so_far.0 (rest_of c.args.version expand zs o)) c.in-Some.is) ∙ so_far.2)
             first.1 second.1,
       );
     }
 
 pub loop-named-smaller : goal.loop-named-smaller
-loop-named-smaller c = left_less c.in-Some.field-0.after (3 * c.args.words) _ c.put_plain-named.result
+loop-named-smaller c = left_less c.in-Some.next.after (3 * c.args.words) _ c.put_plain-named.result
     c.put_plain-named.ensures.named (ap (left_places (3 * c.args.words)) c.in-Some.is)
