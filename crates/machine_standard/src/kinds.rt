@@ -8,7 +8,7 @@ ghost use Rattle.machine_standard.specs.Kinds.{does_nothing, is_on_windows, give
 use machine_standard_opcodes::{abilities, font_of, shifted, shifted_with_sign};
 use zcore_standard::{Loaded, StandardOperation};
 
-/// What `save`, `restore` and `restore_undo` answer, which fail.
+/// What `save` and `restore` answer, which fail.
 const FAILED: u16 = 0;
 
 /// Whether an operation does nothing.

@@ -4,14 +4,15 @@ use Rattle.std.proofs.Common.{List, [], ◌∷◌, ◌++◌, length, reverse, ta
 use Rattle.std.proofs.Common.{append_assoc, Option, Some, None, Result, Ok, Err}
 use Rattle.std.specs.Option.{option_and_then, option_map}
 use Rattle.std.specs.List.{starts_with}
-use Rattle.std.specs.Prelude.{nat_eq}
+use Rattle.std.specs.Prelude.{◌&&◌, nat_eq, nat_le, nat_lt}
+use Rattle.std.specs.Cmp.Lexicographic.{pointwise}
 use Rattle.std.proofs.lemmas.Bool.{and_parts, eqb-true, leb-true}
 use Rattle.std.proofs.lemmas.Grind.{reverse_onto}
 use Rattle.std.proofs.lemmas.List.{drop-drop, drop_at, length-append, take-append-drop, take_at}
 use Rattle.journal.specs.Recording.{Recording}
 use Rattle.zcore.specs.State.{Frame, State, Out, done, halt, words, ◌>>=◌}
 use Rattle.quetzal.specs.Frames.{Stacks, frame_in, frames_in, head_of, is_frame, main_and_calls, most_frames, most_words}
-use Rattle.quetzal.specs.Frames.{size_of, stacks_in, words_from, words_of}
+use Rattle.quetzal.specs.Frames.{masks, place_in, size_of, stacks_in, words_from, words_of}
 use Rattle.quetzal.specs.declared.frames.FrameHead.{FrameHead}
 use Rattle.quetzal.proofs.ReadFrames.{frames_done, frames_more, no_frames_left, not_frames}
 use Rattle.zcore_standard.specs.SavedStates.{frames_of as frames_read}
@@ -27,7 +28,7 @@ use Rattle.machine_standard_saves.specs.Restored.{most_calls, put_back_one, with
 
 -- What a part leaves
 
-left_in : {A : Type 0} → Out A → State
+abbrev left_in : {A : Type 0} → Out A → State
 left_in (done a s) = s
 left_in (halt place s) = s
 
@@ -131,12 +132,22 @@ pub record FrameParts (left : ℕ) (bytes : List ℕ) : Type 0 where
 pub frame_parts : (size left : ℕ) (bytes : List ℕ) → is_frame size left bytes ≡ true → FrameParts left bytes
 unfolding is_frame
 frame_parts size left bytes e =
-    let a = and_parts _ _ e in
-    let b = and_parts _ _ a.0 in
-    let c = and_parts _ _ b.0 in
-    let d = and_parts _ _ c.0 in
-    let f = and_parts _ _ d.0 in
-    record { head = leb-true _ _ f.0; words = leb-true _ _ b.1; end = leb-true _ _ a.1 }
+    let p : Bool = nat_le 8 (length bytes) in
+    let q : Bool = nat_lt (slice_index bytes 3) 32 in
+    let r : Bool = nat_lt (place_in masks (slice_index bytes 5)) 8 in
+    let t : Bool = nat_lt (head_of bytes).return_address size in
+    let u : Bool = nat_le (words_of (head_of bytes)) left in
+    let v : Bool = nat_le (size_of (head_of bytes)) (length bytes) in
+    let a = and_parts (p && q && r && t && u) v e in
+    let b = and_parts (p && q && r && t) u a.0 in
+    let c = and_parts (p && q && r) t b.0 in
+    let d = and_parts (p && q) r c.0 in
+    let f = and_parts p q d.0 in
+    record {
+      head = leb-true 8 (length bytes) f.0;
+      words = leb-true (words_of (head_of bytes)) left b.1;
+      end = leb-true (size_of (head_of bytes)) (length bytes) a.1;
+    }
 
 some_is : {A : Type 0} (a b : A) → (let o : Option A = Some a in o) ≡ Some b → a ≡ b
 some_is a b e = cc
@@ -322,11 +333,17 @@ main_of None x e = absurd (cc)
 main_of (Some []) x e = absurd (cc)
 main_of (Some (main ∷ calls)) x e =
     let made : Stacks = record { stack = main.stack; calls = calls } in
-    let is : made ≡ x = stacks_is made x e in
-    (
+    let is : made ≡ x = stacks_is made x e in (
       main,
       (ap (λ (y : Stacks). let o : Option (List Frame) = Some (main ∷ y.calls) in o) is, sym (ap (λ (y : Stacks). y.stack) is)),
     )
+
+fourth_part : (p q r t u : Bool) → (p && (q && (r && (t && u)))) ≡ true → t ≡ true
+fourth_part p q r t u e =
+    let a = and_parts p (q && (r && (t && u))) e in
+    let b = and_parts q (r && (t && u)) a.1 in
+    let c = and_parts r (t && u) b.1 in
+    (and_parts t u c.1).0
 
 fourth : (bytes : List ℕ) → starts_with nat_eq bytes (0 ∷ 0 ∷ 0 ∷ 0 ∷ 0 ∷ 0 ∷ []) ≡ true → slice_index bytes 3 ≡ 0
 fourth [] e = refl
@@ -334,11 +351,12 @@ fourth (a ∷ []) e = refl
 fourth (a ∷ b ∷ []) e = refl
 fourth (a ∷ b ∷ c ∷ []) e = refl
 fourth (a ∷ b ∷ c ∷ d ∷ bytes) e =
-    eqb-true d 0 (and_parts _ _ (and_parts _ _ (and_parts _ _ (and_parts _ _ e).1).1).1).0
+    sym (eqb-true 0 d (fourth_part (nat_eq 0 a) (nat_eq 0 b) (nat_eq 0 c) (nat_eq 0 d)
+    (pointwise nat_eq (0 ∷ 0 ∷ []) (take 2 bytes)) e))
 
 is_true : (b : Bool) → (b ≡ false → ⊥) → b ≡ true
-is_true true no = refl
-is_true false no = absurd (no refl)
+is_true true h = refl
+is_true false h = absurd (h refl)
 
 not_nil : (f : Frame) (fs : List Frame) → (let l : List Frame = f ∷ fs in l) ≡ [] → ⊥
 not_nil f fs e = cc
@@ -353,7 +371,7 @@ begins_stacks size bytes stacks are =
     (option_and_then main_and_calls (frames_in size most_frames most_words bytes)) stacks are in
     let m = main_of (frames_in size most_frames most_words bytes) stacks both.1 in
     let is : is_frame size 65536 bytes ≡ true = is_true (is_frame size 65536 bytes)
-    (λ no. not_nil m.0 stacks.calls (none_comes size most_frames 65536 bytes (m.0 ∷ stacks.calls) no m.1.0)) in
+    (λ h. not_nil m.0 stacks.calls (none_comes size most_frames 65536 bytes (m.0 ∷ stacks.calls) h m.1.0)) in
     let n = next_frame size most_frames 65536 bytes (m.0 ∷ stacks.calls) is m.1.0 in
     let first = same_first m.0 (frame_in bytes) stacks.calls n.after n.first in
     let fewer : n.fewer ≡ 1000 = omega (arith, n.count) in
@@ -391,3 +409,74 @@ pub all_back : {s m t : Recording Contents} (r : Result (Unit {0}) End) (stacks 
 all_back {s} r stacks values calls w v is are =
     went_as r (with_frames stacks) (λ text. same_frames stacks values calls (state_of s.store text) is are)
     (went_then (λ x. add_frames calls) w v)
+
+-- One frame
+
+pub read_values : (was now slice : List ℕ) (count : ℕ) (head : FrameHead) (bytes : List ℕ)
+    → now ≡ was ++ words_from count slice → was ≡ [] → count ≡ words_of head → slice ≡ drop 8 bytes
+    → now ≡ words_from (words_of head) (drop 8 bytes)
+read_values was now slice count head bytes is none e same =
+    is ∙ ap (λ (l : List ℕ). l ++ words_from count slice) none
+    ∙ ap (λ (x : ℕ). words_from x slice) e ∙ ap (λ (l : List ℕ). words_from (words_of head) l) same
+
+pub main_back : {s t : Recording Contents} (r : Result (Unit {0}) End) (is_main : Bool) (head : FrameHead)
+    (values all : List ℕ) → is_main ≡ true → values ≡ all → Went r s t (begin_frames values)
+    → Went r s t (put_back_one is_main head all)
+main_back {s} {t} r is_main head values all is same w =
+    subst (λ (b : Bool). Went r s t (put_back_one b head all)) (sym is)
+    (subst (λ (l : List ℕ). Went r s t (begin_frames l)) same w)
+
+pub call_back : {s t : Recording Contents} (r : Result (Unit {0}) End) (is_main : Bool) (head : FrameHead)
+    (values all : List ℕ) → is_main ≡ false → values ≡ all → Went r s t (add_frame (frame_with head values))
+    → Went r s t (put_back_one is_main head all)
+call_back {s} {t} r is_main head values all is same w =
+    subst (λ (b : Bool). Went r s t (put_back_one b head all)) (sym is)
+    (subst (λ (l : List ℕ). Went r s t (add_frame (frame_with head l))) same w)
+
+-- a call that was not put back gives the turn up
+pub call_gives_up : {e : End} {s t u : Recording Contents} (size most left : ℕ) (bytes rest : List ℕ)
+    (head : FrameHead) (values : List ℕ) (calls : List Frame) → PutsBack s t size most left bytes rest
+    → Went {A = Unit {0}} (Err e) t u (put_back_one false head values)
+    → Went {A = Unit {0}} (Err e) s u (add_frames calls)
+call_gives_up size most left bytes rest head values calls p w =
+    gives_up (add_frame (frame_with head values)) (add_frames calls) (add_is_done (frame_with head values)) p.goes_on w
+
+pub main_gives_up : {e : End} {s t : Recording Contents} (head : FrameHead) (values : List ℕ) (stacks : Stacks)
+    → IsSound s.store → Went {A = Unit {0}} (Err e) s t (put_back_one true head values)
+    → Went {A = Unit {0}} (Err e) s t (with_frames stacks)
+main_gives_up {s = s} head values stacks sound w =
+    gives_up (begin_frames values) (with_frames stacks) (begin_is_done values) (goes_on_still s sound) w
+
+-- stacks that are read with the size that they are known with
+pub are_read : (size known : ℕ) (bytes : List ℕ) (stacks : Stacks) → size ≡ known → AreStacks known bytes stacks
+    → BeginsStacks size bytes stacks
+are_read size known bytes stacks is are =
+    subst (λ (n : ℕ). BeginsStacks n bytes stacks) (sym is) (begins_stacks known bytes stacks are)
+
+pub main_values : (size : ℕ) (bytes : List ℕ) (stacks : Stacks) (head : FrameHead) → BeginsStacks size bytes stacks
+    → head ≡ head_of bytes → words_from (words_of head) (drop 8 bytes) ≡ stacks.stack
+main_values size bytes stacks head b same =
+    ap (λ (h : FrameHead). words_from (words_of h) (drop 8 bytes)) same ∙ sym b.stack
+
+pub calls_follow : (size most count end : ℕ) (bytes rest : List ℕ) (head : FrameHead) (stacks : Stacks)
+    → BeginsStacks size bytes stacks → head ≡ head_of bytes → most ≡ 65536 - count → count ≡ words_of head
+    → end ≡ size_of head → rest ≡ drop end bytes → AreCalls size most rest stacks.calls
+calls_follow size most count end bytes rest head stacks b same is_most is_count is_end is_rest =
+    ap (λ (l : List ℕ). frames_in size most_calls most l)
+    (is_rest ∙ ap (λ (n : ℕ). drop n bytes) (is_end ∙ ap (λ (h : FrameHead). size_of h) same))
+    ∙ ap (λ (n : ℕ). frames_in size most_calls n (drop (size_of (head_of bytes)) bytes))
+    (is_most ∙ ap (λ (n : ℕ). 65536 - n) (is_count ∙ ap (λ (h : FrameHead). words_of h) same))
+    ∙ b.calls
+
+-- there is room for the calls
+pub main_room : (s t : Recording Contents) (size most count : ℕ) (bytes : List ℕ) (head : FrameHead) (stacks : Stacks)
+    → BeginsStacks size bytes stacks → head ≡ head_of bytes → most ≡ 65536 - count → count ≡ words_of head
+    → Went (Ok tt) s t (begin_frames (words_from (words_of head) (drop 8 bytes)))
+    → (frame_count (slice_index t.store.cells) ≡ 1) × (height_of (slice_index t.store.cells) + most ≤ 65536)
+main_room s t size most count bytes head stacks b same is_most is_count w =
+    let h = main_stands s t (words_from (words_of head) (drop 8 bytes)) w in
+    let p = frame_parts size 65536 bytes b.is in
+    let words : words_of head ≡ words_of (head_of bytes) = ap (λ (x : FrameHead). words_of x) same in (
+      h.count,
+      omega (arith, h.height, length-words_from (words_of head) (drop 8 bytes), p.words, words, is_most, is_count),
+    )

@@ -1,19 +1,28 @@
 -- A state that a story keeps, or does not.
-use Rattle.std.proofs.Common.{◌≡◌, ℕ, ◌-◌, Bool, true, false, if◌then◌else◌, List, [], refl, ap, sym, ◌∙◌, Option, Result}
+use Rattle.std.proofs.Common.{◌≡◌, ℕ, ◌-◌, Bool, true, false, if◌then◌else◌, nat_lt, List, [], ◌∷◌, ◌++◌, length, reverse, take}
+use Rattle.std.proofs.Common.{refl, ap, sym, ◌∙◌, subst, slice_index, arith, Option, Some, None, Result, Ok, Err}
+use Rattle.std.specs.List.{list_all}
+use Rattle.std.specs.Result.{IsErrAnd}
+use Rattle.std.proofs.lemmas.Bool.{le-ltb}
+use Rattle.std.proofs.lemmas.Result.{err_from_is_err_and}
 use Rattle.journal.specs.Recording.{Recording}
 use Rattle.zcore.specs.declared.next.Next.{Next}
 use Rattle.zcore.specs.Effects.{give_result}
-use Rattle.zcore.specs.State.{State, Out}
-use Rattle.zcore_standard.specs.Keeping.{with_newest}
+use Rattle.zcore.specs.State.{Frame, State, Out}
+use Rattle.zcore_standard.specs.Keeping.{newest, with_newest, without_newest}
 use Rattle.zcore_standard.specs.Loaded.{Loaded}
 use Rattle.zcore_standard.specs.Place.{Here, on, within}
-use Rattle.zcore_standard.specs.SavedStates.{can_be_kept, file_of, save_undo}
+use Rattle.zcore_standard.specs.SavedStates.{can_be_kept, file_of, is_savable, restore_newest, restore_undo, resume_if_read}
+use Rattle.zcore_standard.specs.SavedStates.{save_undo, stacks_of}
+use Rattle.quetzal.specs.Frames.{Stacks, stacks_bytes}
+use Rattle.quetzal.specs.SaveFiles.{save_bytes, saved_in}
 use Rattle.machine_decoding.specs.Seen.{seen}
-use Rattle.machine_frames.specs.Contents.{Contents}
-use Rattle.machine_frames.specs.States.{state_of}
+use Rattle.machine_frames.specs.Contents.{Contents, memory_of}
+use Rattle.machine_frames.specs.States.{base_of, frame_count, frames_of, height_of, state_of}
 use Rattle.machine_frames.specs.Went.{Went}
 use Rattle.machine_frames.specs.declared.end.End.{End}
 use Rattle.machine_frames.proofs.Steps.{went_as}
+use Rattle.machine_standard_saves.specs.Written.{IsFileOf, WritesAll, end_of, first_frames}
 use Rattle.machine_standard_opcodes.proofs.Keeping.{went_within}
 
 -- of whether a state can be kept, and of its file, the text of the turn tells nothing
@@ -67,3 +76,80 @@ unsaved_went {s} r loaded here after result not w =
     went_as (seen (on here) r) (save_undo loaded here after result)
     (λ text. unsaved loaded here after result s.store text not)
     (went_within r here (give_result here.next after result 65535) w)
+
+-- at the exit of a `?`
+pub went_seen_err : {s t : Recording Contents} {e : End} {f : State → Out Here} (view : Next → Here)
+    (r : Result Next End) → IsErrAnd r (λ q. q ≡ e) → Went {A = Here} (Err e) s t f → Went (seen view r) s t f
+went_seen_err view r h w =
+    let p = err_from_is_err_and r h in
+    rw (p.1, p.2) w
+
+-- with the states that are kept then
+pub with_kept : {s t : Recording Contents} (here : Here) (kept : List (List ℕ)) (file : List ℕ) (next : Next)
+    (f : State → Out Here) → kept ≡ with_newest file here.kept
+    → Went (Ok (on (record here { kept = with_newest file here.kept }) next)) s t f
+    → Went (Ok (on (record here { kept = kept }) next)) s t f
+with_kept {s} {t} here kept file next f is w =
+    subst (λ (k : List (List ℕ)). Went (Ok (on (record here { kept = k }) next)) s t f) (sym is) w
+
+-- The file of a store
+
+all_frames : (s : Contents) → end_of (slice_index s.cells) (frame_count (slice_index s.cells))
+    ≡ height_of (slice_index s.cells)
+all_frames s =
+    let f = slice_index s.cells in
+    ap (λ (b : Bool). if b then base_of f (frame_count f) else height_of f)
+    (le-ltb (frame_count f) (frame_count f) (omega arith))
+
+pub cannot_be_kept : (loaded : Loaded) (at : ℕ) (s : Contents) (before after : List ℕ) (told : Bool) → told ≡ false
+    → WritesAll s before after told → IsFileOf loaded at s None
+unfolding can_be_kept
+cannot_be_kept loaded at s before after told is w =
+    let f = slice_index s.cells in
+    subst (λ (h : ℕ). list_all (is_savable (length (memory_of s))) (frames_of f (frame_count f) h) ≡ false) (all_frames s)
+    (subst (λ (b : Bool). WritesAll s before after b) is w)
+
+pub has_file : (loaded : Loaded) (at : ℕ) (s : Contents) (before stacks memory file : List ℕ) (told : Bool) → told ≡ true
+    → WritesAll s before stacks told → before ≡ [] → memory ≡ take (length loaded.dynamic) (memory_of s)
+    → ((read : Stacks) → stacks ≡ stacks_bytes read
+    → file ≡ save_bytes loaded.dynamic (record { program_counter = at; memory = memory; stacks = read }))
+    → IsFileOf loaded at s (Some file)
+unfolding can_be_kept file_of
+has_file loaded at s before stacks memory file told is w none is_memory is_file =
+    let f = slice_index s.cells in
+    let v : WritesAll s before stacks true = subst (λ (b : Bool). WritesAll s before stacks b) is w in
+    let frames : first_frames s (frame_count f) ≡ frames_of f (frame_count f) (height_of f) =
+    ap (λ (h : ℕ). frames_of f (frame_count f) h) (all_frames s) in
+    let read : Stacks = stacks_of (reverse (first_frames s (frame_count f))) in (
+      subst (λ (fs : List Frame). list_all (is_savable (length (memory_of s))) fs ≡ true) frames v.0,
+      is_file read (v.1 ∙ ap (λ (b : List ℕ). b ++ stacks_bytes read) none)
+          ∙ ap (λ (m : List ℕ). save_bytes loaded.dynamic (record { program_counter = at; memory = m; stacks = read })) is_memory
+          ∙ ap (λ (fs : List Frame). save_bytes loaded.dynamic (record {
+            program_counter = at;
+            memory = take (length loaded.dynamic) (memory_of s);
+            stacks = stacks_of (reverse fs);
+          })) frames,
+    )
+
+-- The newest state
+
+pub none_restored : {s t : Recording Contents} (r : Result Next End) (loaded : Loaded) (here : Here) (after : ℕ)
+    (result : Option ℕ) → newest here.kept ≡ [] → Went r s t (give_result here.next after result 0)
+    → Went (seen (on here) r) s t (restore_undo loaded here after result)
+unfolding restore_undo
+none_restored {s} r loaded here after result none w =
+    went_as (seen (on here) r) (restore_undo loaded here after result)
+    (λ text. ap (λ (k : List (List ℕ)). restore_newest loaded here after result k (state_of s.store text)) none)
+    (went_within r here (give_result here.next after result 0) w)
+
+pub newest_restored : {s t : Recording Contents} (r : Result Next End) (loaded : Loaded) (here : Here) (after : ℕ)
+    (result : Option ℕ) (file : List ℕ) → newest here.kept ≡ file ∷ []
+    → Went r s t (resume_if_read (saved_in loaded.dynamic (length (memory_of s.store)) file) here.next after result)
+    → Went (seen (on (record here { kept = without_newest here.kept })) r) s t (restore_undo loaded here after result)
+unfolding restore_undo
+newest_restored {s} r loaded here after result file is w =
+    let there : Here = record here { kept = without_newest here.kept } in
+    went_as (seen (on there) r) (restore_undo loaded here after result)
+    (λ text. ap (λ (k : List (List ℕ)). restore_newest loaded here after result k (state_of s.store text)) is)
+    (went_within r there
+    (resume_if_read (saved_in loaded.dynamic (length (memory_of s.store)) file) here.next after result) w)

@@ -1,7 +1,8 @@
 -- The story goes on in a state that was kept.
-use Rattle.std.proofs.Common.{◌≡◌, ◌≢◌, ℕ, ◌+◌, ◌-◌, Bool, if◌then◌else◌, List, drop, refl, ap, sym, ◌∙◌, slice_index}
+use Rattle.std.proofs.Common.{◌≡◌, ◌≢◌, ℕ, ◌+◌, ◌-◌, Bool, if◌then◌else◌, List, [], ◌∷◌, drop, length, set, refl, ap, sym, ◌∙◌, slice_index}
 use Rattle.std.proofs.Common.{Option, Some, None, Result, Ok, Err}
 use Rattle.std.proofs.lemmas.Bool.{ne_eqb, eq-eqb}
+use Rattle.std.proofs.lemmas.List.{length-set}
 use Rattle.journal.specs.Recording.{Recording}
 use Rattle.zcore.specs.declared.next.Next.{Next}
 use Rattle.zcore.specs.declared.place.Limit.TheVariants as limits
@@ -39,6 +40,17 @@ filled s m t memory f w =
       goes_on = goes_on_after f.goes_on w.goes_on;
       state = λ text. w.state text ∙ ap (λ (x : State). record x { pending = None }) (f.state text);
     }
+
+length-with_bytes : (memory : List ℕ) (at : ℕ) (bytes : List ℕ) → length (with_bytes memory at bytes) ≡ length memory
+length-with_bytes memory at [] = refl
+length-with_bytes memory at (b ∷ bytes) =
+    length-with_bytes (set memory at b) (at + 1) bytes ∙ length-set memory at b
+
+-- the story is as long as before
+pub filled_size : (s t : Recording Contents) (memory : List ℕ) → Filled s t memory
+    → length (memory_of t.store) ≡ length (memory_of s.store)
+filled_size s t memory f = ap (λ (x : State). length x.memory) (f.state [])
+    ∙ length-with_bytes (memory_of s.store) 64 (drop 64 memory)
 
 pub taken_up : (s m t : Recording Contents) (saved : Saved) → Filled s m saved.memory
     → Went (Ok tt) m t (with_frames saved.stacks) → Went (Ok tt) s t (take_up saved)

@@ -1,5 +1,5 @@
 -- The frames of a store as bytes.
-use Rattle.std.proofs.Common.{◌≡◌, ℕ, zero, suc, ◌+◌, ◌-◌, ◌*◌, ◌<◌, ◌≤◌, Bool, true, false, if◌then◌else◌, nat_lt}
+use Rattle.std.proofs.Common.{◌≡◌, ℕ, zero, suc, ◌+◌, ◌-◌, ◌*◌, ◌<◌, ◌≤◌, Bool, true, false, if◌then◌else◌, nat_le, nat_lt, ◌&&◌}
 use Rattle.std.proofs.Common.{List, [], ◌∷◌, ◌++◌, length, reverse, refl, ap, sym, ◌∙◌, arith, subst, slice_index, inl, inr}
 use Rattle.std.proofs.Common.{append_assoc, drop, take, Option, Some}
 use Rattle.std.specs.List.{list_all}
@@ -118,11 +118,10 @@ bytes_more fs f lt =
 
 pub main_written : (s : Contents) (before after : List ℕ) → WritesMain s before after true
     → WritesFrames s 1 before after true
-main_written s before after w =
-    (
-      and_from _ _ w.0 refl,
-      w.1 ∙ ap (λ (t : List ℕ). before ++ t) (sym (append-nil (frame_bytes (main_frame (frame_at s 0).stack)))),
-    )
+main_written s before after w = (
+  and_from _ _ w.0 refl,
+  w.1 ∙ ap (λ (t : List ℕ). before ++ t) (sym (append-nil (frame_bytes (main_frame (frame_at s 0).stack)))),
+)
 
 pub call_written : (s : Contents) (k : ℕ) (first before after : List ℕ) → 0 < k → k < frame_count (slice_index s.cells)
     → WritesFrames s k first before true → WritesCall s k before after true
@@ -131,8 +130,7 @@ call_written s k first before after some lt v w =
     let f = slice_index s.cells in
     let e = more_frames s k lt in
     let old : List ℕ = stacks_bytes (stacks_of (reverse (first_frames s k))) in
-    let count : 0 < length (first_frames s k) = omega (arith, length-frames_of f k (end_of f k)) in
-    (
+    let count : 0 < length (first_frames s k) = omega (arith, length-frames_of f k (end_of f k)) in (
       ap (λ (fs : List Frame). list_all (is_savable (length (memory_of s))) fs) e ∙ and_from _ _ w.0 v.0,
       w.1 ∙ ap (λ (t : List ℕ). t ++ frame_bytes (frame_at s k)) v.1
           ∙ append_assoc first old (frame_bytes (frame_at s k))
@@ -266,8 +264,7 @@ told s k address locals arguments cell words variable t is_variable =
     let bottom : ℕ = base_of f k + local_count f k in
     let w : words ≡ length (frame_at s k).stack =
     t.is_words ∙ ap (λ (x : ℕ). end_of f (k + 1) - (base_of f k + x)) count
-    ∙ sym (length-cells_from f (7023 + bottom) (end_of f (k + 1) - bottom)) in
-    (
+    ∙ sym (length-cells_from f (7023 + bottom) (end_of f (k + 1) - bottom)) in (
       and_from _ _ (and_from _ _ (and_from _ _
           (le-leb (length (frame_at s k).locals) 15 (omega (arith, b, t.few_locals)))
           (le-leb (frame_at s k).arguments 7 (omega (arith, d, t.few_arguments))))
@@ -364,15 +361,36 @@ pub record Bounded (size : ℕ) (head : FrameHead) : Type 0 where
   pub address : head.return_address < size
   pub words : head.words < 65536
 
+four_parts : (p q r t : Bool) → (p && q && r && t) ≡ true → (p ≡ true) × (q ≡ true) × (r ≡ true) × (t ≡ true)
+four_parts p q r t e =
+    let a = and_parts (p && q && r) t e in
+    let b = and_parts (p && q) r a.0 in
+    let d = and_parts p q b.0 in
+    (d.0, d.1, b.1, a.1)
+
 pub bounded : (size : ℕ) (f : Frame) (head : FrameHead) → is_savable size f ≡ true → head ≡ head_for f
     → Bounded size head
 bounded size f head is same =
-    let a = and_parts _ _ is in
-    let b = and_parts _ _ a.0 in
-    let d = and_parts _ _ b.0 in
+    let h = four_parts (nat_le (length f.locals) 15) (nat_le f.arguments 7) (nat_lt f.return_address size)
+    (nat_lt (length f.stack) 65536) is in
+    let locals : head.locals ≡ length f.locals = ap (λ (x : FrameHead). x.locals) same in
+    let arguments : head.arguments ≡ f.arguments = ap (λ (x : FrameHead). x.arguments) same in
+    let address : head.return_address ≡ f.return_address = ap (λ (x : FrameHead). x.return_address) same in
+    let words : head.words ≡ length f.stack = ap (λ (x : FrameHead). x.words) same in
     record {
-      locals = omega (arith, leb-true _ _ d.0, ap (λ (h : FrameHead). h.locals) same);
-      arguments = omega (arith, leb-true _ _ d.1, ap (λ (h : FrameHead). h.arguments) same);
-      address = omega (arith, ltb-true _ _ b.1, ap (λ (h : FrameHead). h.return_address) same);
-      words = omega (arith, ltb-true _ _ a.1, ap (λ (h : FrameHead). h.words) same);
+      locals = omega (arith, leb-true (length f.locals) 15 h.0, locals);
+      arguments = omega (arith, leb-true f.arguments 7 h.1, arguments);
+      address = omega (arith, ltb-true f.return_address size h.2, address);
+      words = omega (arith, ltb-true (length f.stack) 65536 h.3, words);
     }
+
+-- the words of a frame that was read lie below its end
+pub words_fit : (s : Contents) (k base locals top : ℕ) → IsSound s → k < frame_count (slice_index s.cells)
+    → base ≡ long_at (slice_index s.cells) (16 + 7 * k) → locals ≡ slice_index s.cells (16 + 7 * k + 4)
+    → top ≡ end_of (slice_index s.cells) (k + 1) → (base + locals ≤ top) × (top ≤ 65536)
+words_fit s k base locals top sound lt is_base is_locals is_top =
+    let f = slice_index s.cells in
+    let at : 16 + 7 * k + 4 ≡ 20 + 7 * k = omega arith in
+    let count : locals ≡ local_count f k = is_locals ∙ ap f at in
+    let fit = frame_fits s k sound lt in
+    (omega (arith, fit.0, is_base, count, is_top), omega (arith, fit.1, is_top))

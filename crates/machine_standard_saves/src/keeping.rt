@@ -145,11 +145,7 @@ fn put_main_code(store: &Recorded<Store>, out: &mut Vec<u8>) -> Result<bool, All
 
 /// Appends the frame of a call, by the number of its record, or returns false where no file can tell
 /// all of it. At `Err` memory was refused.
-fn put_call(
-    store: &Recorded<Store>,
-    out: &mut Vec<u8>,
-    number: usize,
-) -> Result<bool, AllocError>
+fn put_call(store: &Recorded<Store>, out: &mut Vec<u8>, number: usize) -> Result<bool, AllocError>
     requires sound { IsSound store.now.store }
     requires number { number < frame_count (slice_index store.now.store.cells) }
     ensures { IfOk result (WritesCall store.now.store number out.old.items out.new.items) }
@@ -160,7 +156,12 @@ fn put_call(
     };
     let bottom = top - head.words as usize;
     let base = bottom - head.locals as usize;
-    put_frame(out, head, words_of(store, base, bottom), words_of(store, bottom, top))?;
+    put_frame(
+        out,
+        head,
+        words_of(store, base, bottom),
+        words_of(store, bottom, top),
+    )?;
     Ok(true)
 }
 
@@ -182,8 +183,8 @@ fn head_of(store: &Recorded<Store>, number: usize, top: usize) -> Option<FrameHe
         return None;
     }
     let return_address = long(store, at + RETURN);
-    let memory = store.store().memory();
-    if return_address as usize >= memory.len() {
+    let size = store.store().memory().len();
+    if return_address as usize >= size {
         return None;
     }
     let base = long(store, at) as usize;

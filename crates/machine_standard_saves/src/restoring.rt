@@ -112,8 +112,8 @@ fn resume(
 ) -> Result<Next, End>
     requires store { IsStoreOf header.now store.old.store }
     requires dynamic { length memory.now ≡ static_base_of (memory_of store.old.store) }
-    requires counter { save.entry.program_counter < 2 ^ 24 }
-    requires stacks { (read : Stacks) × AreStacks (length (memory_of store.old.store)) save.entry.stacks.now read }
+    requires counter { save.program_counter < 2 ^ 24 }
+    requires stacks { (read : Stacks) × AreStacks (length (memory_of store.old.store)) save.stacks.now read }
     ensures { (read : Stacks) → AreStacks (length (memory_of store.old.store)) save.entry.stacks.now read
         → Went result store.old store.new (definitions.resume (record {
           program_counter = save.entry.program_counter;
@@ -124,7 +124,7 @@ fn resume(
     if here.fuel == 0 {
         return Err(End::Stop(Place::Limit(Limit::Fuel)));
     }
-    fill(store, HEADER_LENGTH, &memory[HEADER_LENGTH..])?;
+    fill(store, HEADER_LENGTH, bytes_after(memory, HEADER_LENGTH))?;
     store.put(WAITING, 0)?;
     put_back(store, save.stacks, alloc)?;
     let variable = byte_at(store, save.program_counter);
@@ -147,6 +147,14 @@ fn byte_at(store: &Recorded<Store>, at: u32) -> u8
     }
 }
 
+/// The bytes from one on.
+fn bytes_after(bytes: &[u8], at: usize) -> &[u8]
+    requires { at ≤ length bytes.now }
+    ensures { result.now ≡ drop at bytes.now }
+{
+    &bytes[at..]
+}
+
 /// Puts back the frames of a file, the oldest first.
 fn put_back(store: &mut Recorded<Store>, stacks: &[u8], alloc: Global) -> Result<(), End>
     requires sound { IsSound store.old.store }
@@ -161,7 +169,8 @@ fn put_back(store: &mut Recorded<Store>, stacks: &[u8], alloc: Global) -> Result
     };
     put_back_one(store, stacks, head, true, &mut words)?;
     let most = MOST_WORDS - head.word_count();
-    put_back_calls(store, &stacks[head.size()..], size, most, &mut words)
+    let calls = bytes_after(stacks, head.size());
+    put_back_calls(store, calls, size, most, &mut words)
 }
 
 /// Puts back the frames of calls, the oldest first.
@@ -184,7 +193,7 @@ fn put_back_calls(
     while let Some(head) = read_head(rest, size, left) {
         put_back_one(store, rest, head, false, words)?;
         left -= head.word_count();
-        rest = &rest[head.size()..];
+        rest = bytes_after(rest, head.size());
     }
     Ok(())
 }
@@ -206,7 +215,7 @@ fn put_back_one(
         (put_back_one is_main head (words_from (words_of head) (drop HEAD bytes.now))) }
 {
     words.clear();
-    let Ok(()) = read_words(&bytes[HEAD..], head.word_count(), words) else {
+    let Ok(()) = read_words(bytes_after(bytes, HEAD), head.word_count(), words) else {
         store.abandon();
         return Err(End::Memory);
     };

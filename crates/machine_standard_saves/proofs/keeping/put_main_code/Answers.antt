@@ -9,8 +9,7 @@ pub returns : goal.returns
 returns c =
     let s = c.args.store.now.store in
     let stack = main_stack s c.end_of-top.result c.in-Some.head c.words_of.result.now c.requires c.in-Some.ensures.1
-    c.end_of-top.ensures c.words_of.ensures in
-    (
+    c.end_of-top.ensures c.words_of.ensures in (
       c.in-Some.ensures.0,
       c.in_ok-put_main.ensures
           ∙ ap (λ (t : List ℕ). c.args.out.now.items ++ frame_bytes (main_frame t)) stack,

@@ -1,3 +1,4 @@
+use Rattle.std.proofs.Common.{◌∙◌, sym}
 use Rattle.zcore_versions.specs.Printing.{print_text}
 use Rattle.zcore_versions.specs.Versions.{versioned}
 use Rattle.machine_frames.proofs.Steps.{told_as}
@@ -7,5 +8,6 @@ use Rattle.machine_versions.proofs.printing.print_text.Goals as goal
 pub returns-clause-told : goal.returns-clause-told
 returns-clause-told c =
     told_as _ (print_text (versioned c.args.loaded.now c.args.version) c.args.here c.args.after c.args.address)
-    (text_printed c.args.loaded.now c.args.version c.args.here c.args.after c.args.address _ c.requires.unlocked)
+    (text_printed c.args.loaded.now c.args.version c.args.here c.args.after c.args.address _
+    (sym c.locks_alphabets.ensures ∙ c.if-locks_alphabets.false))
     c.print_any_address.ensures.told
