@@ -2,9 +2,10 @@
 use Rattle.std.proofs.Common.{◌≡◌, ◌≢◌, ℕ, suc, ◌+◌, ◌-◌, ◌*◌, ◌<◌, ◌≤◌, List, [], ◌∷◌, ◌++◌, length, drop, get_or}
 use Rattle.std.proofs.Common.{Option, Some, None, Result, Ok, Err, refl, ap, sym, ◌∙◌, subst, arith, append-nil}
 use Rattle.std.proofs.Common.{add-one, drop-cons}
-use Rattle.std.specs.Prelude.{true, false, slice_index}
-use Rattle.std.proofs.lemmas.Bool.{ne_eqb, le-ltb}
+use Rattle.std.specs.Prelude.{◌&&◌, nat_le, Bool, true, false, slice_index}
+use Rattle.std.proofs.lemmas.Bool.{ne_eqb, le-ltb, lt-leb}
 use Rattle.std.proofs.lemmas.List.{drop_all}
+use Rattle.ztext.specs.Bytes.{word_at}
 use Rattle.ztext.specs.declared.fault.TextFault.{TextFault}
 use Rattle.ztext.specs.declared.fault.TextFault.TheVariants as faults
 use Rattle.ztext.specs.Results.{◌>>=◌}
@@ -20,8 +21,6 @@ use Rattle.zcore_versions.specs.LockedTexts.{locked_codes, read_locked, has_32_a
 use Rattle.zcore_versions.specs.LockedTexts.{locked_codes_at}
 use Rattle.machine_standard_texts.specs.Pieces.{joined}
 use Rattle.machine_standard_texts.proofs.Read.{joined_more, joined_nothing, fails_bind}
-use Rattle.machine_locked_texts.specs.declared.letters.Expected as declared
-use Rattle.machine_locked_texts.specs.declared.letters.Expected.TheVariants as code
 use Rattle.machine_locked_texts.specs.declared.letters.Piece.{Piece}
 use Rattle.machine_locked_texts.specs.declared.letters.Piece.TheVariants as pieces
 use Rattle.machine_locked_texts.specs.declared.reading.Named.{Named}
@@ -164,6 +163,16 @@ pub record IsNumber (named : Named) : Type 0 where
 abbrev pub IsNumbered : Option Named → Type 0
 IsNumbered None = Unit {0}
 IsNumbered (Some named) = IsNumber named
+
+and_false : (b : Bool) → (b && false) ≡ false
+and_false true = refl
+and_false false = refl
+
+-- a story without a header has none
+pub too_short : (story : List ℕ) → length story < 64 → false ≡ has_32_abbreviations story
+too_short story short =
+    let none : nat_le (word_at story 24 + 2 * 32) (length story) ≡ false = lt-leb _ _ (omega (arith, short)) in
+    sym (rw none (and_false (nat_le 1 (word_at story 24))))
 
 module _ (version : ℕ) (story : List ℕ) (number : ℕ) where
   pub no_table : (fault : TextFault) → fault ≡ faults.Abbreviation → has_32_abbreviations story ≡ false

@@ -81,6 +81,7 @@ fn put_plain(
 }
 
 /// Whether a story names a table of abbreviations.
+#[tactic(auto, using(crate::proofs::LockedReading::too_short))]
 fn has_table(story: &[u8]) -> bool
     ensures { result ≡ definitions.has_32_abbreviations story.now }
 {

@@ -1,4 +1,4 @@
-use Rattle.std.proofs.Common.{◌∙◌, ◌∷◌, ◌++◌, [], ℕ, List, Result, sym, ap, arith}
+use Rattle.std.proofs.Common.{◌∙◌, ◌∷◌, ◌++◌, [], ℕ, List, Result, sym, arith}
 use Rattle.ztext.specs.Reading.{Cause}
 use Rattle.ztext.specs.Text.{refused}
 use Rattle.zcore_versions.specs.LockedTexts.{locked_codes}

@@ -1,4 +1,4 @@
-use Rattle.std.proofs.Common.{◌∙◌, ◌≤◌, ℕ, get_or, refl, sym, take}
+use Rattle.std.proofs.Common.{◌∙◌, get_or, refl, sym}
 use Rattle.machine_versions_words.proofs.Locking.{rest_same, rest_locked, rest_shifted}
 use Rattle.machine_versions_words.proofs.locks.spelling.Goals as goal
 
