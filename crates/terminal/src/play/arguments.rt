@@ -70,7 +70,8 @@ fn map_argument<'a>(alloc: Global) -> Result<Arg<'a>, AllocError>
 fn standard_argument<'a>(alloc: Global) -> Arg<'a>
     ensures { IsPlainNamed (codes "standard") result }
 {
-    let help = "Play every opcode of the Z-Machine Standards Document 1.1, as library games need [default: at a terminal]";
+    let help =
+        "Play every opcode of the Z-Machine Standards Document 1.1, as library games need [default: at a terminal]";
     flag(alloc, "standard", help)
 }
 
@@ -82,7 +83,8 @@ fn standard_argument<'a>(alloc: Global) -> Arg<'a>
 fn profile_argument<'a>(alloc: Global) -> Result<Arg<'a>, AllocError>
     ensures { IfOk result (IsNamed (codes "profile")) }
 {
-    let help = "Play the opcodes of the profile alone, which stories made by inform need [default: for a pipe or a file]";
+    let help =
+        "Play the opcodes of the profile alone, which stories made by inform need [default: for a pipe or a file]";
     flag(alloc, "profile", help).conflicts_with("standard")
 }
 

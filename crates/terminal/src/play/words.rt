@@ -86,11 +86,7 @@ pub struct Words<'a> {
 ///
 /// What `clap` says of words that it refuses, and of those that ask for help or for the version; or
 /// that memory was refused.
-pub fn words_of<'a>(
-    alloc: Global,
-    given: &'a [String],
-    is_seen: bool,
-) -> Result<Asked<'a>, Error>
+pub fn words_of<'a>(alloc: Global, given: &'a [String], is_seen: bool) -> Result<Asked<'a>, Error>
     ensures range { IfOk result IsAskedInRange }
     ensures mode { IfOk result (IsAskedInMode is_seen) }
 {
@@ -103,11 +99,7 @@ pub fn words_of<'a>(
 /// # Errors
 ///
 /// That memory was refused.
-fn asked_in<'a>(
-    alloc: Global,
-    matches: &ArgMatches<'a>,
-    is_seen: bool,
-) -> Result<Asked<'a>, Error>
+fn asked_in<'a>(alloc: Global, matches: &ArgMatches<'a>, is_seen: bool) -> Result<Asked<'a>, Error>
     requires fuel { MayReadNumber (codes "fuel") least_fuel most_fuel (found_of matches.now) }
     requires undo { MayReadNumber (codes "undo") 0 most_undo (found_of matches.now) }
     ensures range { IfOk result IsAskedInRange }
