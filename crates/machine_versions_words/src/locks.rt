@@ -38,6 +38,7 @@ struct Spelling {
 fn first_letter(version: u8, alphabet: u8) -> u8
     requires { version ≤ 2 }
     ensures first { result ≡ definitions.first_letter version alphabet }
+    ensures least { 6 ≤ result }
     ensures few { result ≤ 8 }
 {
     if alphabet == PUNCTUATION {
