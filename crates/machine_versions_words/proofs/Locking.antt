@@ -9,7 +9,8 @@ use Rattle.ztext.specs.Alphabets.{place_in}
 use Rattle.ztext.specs.TextParts.{AreSmall, filled, IsFilledKey}
 use Rattle.ztext.proofs.Packing.{small_append}
 use Rattle.ztext.proofs.Keys.{filled_small}
-use Rattle.zcore_versions.specs.LockedTexts.{alphabet_of, alphabets_in, begins_in, first_letter, letter_of, letter_or_escape, lock_to, shift_to}
+use Rattle.zcore_versions.specs.LockedTexts.{alphabet_by, alphabet_of, alphabets_in, begins_in, first_letter}
+use Rattle.zcore_versions.specs.LockedTexts.{letter_of, letter_or_escape, lock_to, shift_to}
 use Rattle.zcore_versions.specs.LockedTexts.{spelled_within, spelled_with_locks}
 
 module _ (version : ℕ) (word : List ℕ) (place code : ℕ) (lt : place < length word) (is : code ≡ get_or word place 0)
@@ -123,6 +124,25 @@ module _ (version alphabet code first : ℕ) (table : List ℕ) (found : Option 
 
     pub no_letter : found ≡ None → None ≡ letter_of version alphabet code
     no_letter none = ap (option_map (λ (p : ℕ). p + first_letter version alphabet)) (sym none ∙ place_is)
+
+-- the alphabet of a code, by what was found in the first two
+
+pub first_alphabet : (version code z : ℕ) (o : Option ℕ) → o ≡ letter_of version 0 code → o ≡ Some z
+    → 0 ≡ alphabet_of version code
+first_alphabet version code z o is some =
+    sym (ap (λ (k : Option ℕ). alphabet_by k (letter_of version 1 code)) (sym is ∙ some))
+
+pub second_alphabet : (version code z : ℕ) (o p : Option ℕ) → o ≡ letter_of version 0 code → o ≡ None
+    → p ≡ letter_of version 1 code → p ≡ Some z → 1 ≡ alphabet_of version code
+second_alphabet version code z o p is none also some =
+    sym (ap (λ (k : Option ℕ). alphabet_by k (letter_of version 1 code)) (sym is ∙ none)
+    ∙ ap (alphabet_by None) (sym also ∙ some))
+
+pub third_alphabet : (version code : ℕ) (o p : Option ℕ) → o ≡ letter_of version 0 code → o ≡ None
+    → p ≡ letter_of version 1 code → p ≡ None → 2 ≡ alphabet_of version code
+third_alphabet version code o p is none also neither =
+    sym (ap (λ (k : Option ℕ). alphabet_by k (letter_of version 1 code)) (sym is ∙ none)
+    ∙ ap (alphabet_by None) (sym also ∙ neither))
 
 -- What is in a key so far, and what is still to be spelled
 
