@@ -24,7 +24,7 @@ const FIRST: u8 = 0;
 
 /// An abbreviation that a text names.
 #[derive(Clone, Copy)]
-struct Named {
+pub(crate) struct Named {
     /// Its number, 0 to 31.
     number: usize,
     /// The place of the Z-character after it.

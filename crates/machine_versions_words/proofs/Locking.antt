@@ -1,13 +1,16 @@
 -- How a word is spelled in versions 1 and 2, a code at a time.
 use Rattle.std.proofs.Common.{◌≡◌, ◌≢◌, ◌==◌, ◌+◌, ◌<◌, ◌≤◌, ℕ, suc, List, ◌∷◌, ◌++◌, length, get_or, drop}
 use Rattle.std.proofs.Common.{true, false, refl, sym, ap, ◌∙◌, subst, drop-cons, add-one}
-use Rattle.std.proofs.Common.{append-nil, append_assoc}
+use Rattle.std.proofs.Common.{append-nil, append_assoc, ◌*◌, ◌-◌, Option, Some, None}
+use Rattle.std.specs.Prelude.{option_map, slice_range}
 use Rattle.std.proofs.lemmas.Bool.{eq-eqb, ne_eqb}
 use Rattle.std.proofs.lemmas.List.{drop_all}
+use Rattle.ztext.specs.Alphabets.{place_in}
 use Rattle.ztext.specs.TextParts.{AreSmall, filled, IsFilledKey}
 use Rattle.ztext.proofs.Packing.{small_append}
 use Rattle.ztext.proofs.Keys.{filled_small}
-use Rattle.zcore_versions.specs.LockedTexts.{alphabet_of, begins_in, letter_of, letter_or_escape, lock_to, shift_to}
+use Rattle.zcore_versions.specs.LockedTexts.{alphabet_by, alphabet_of, alphabets_in, begins_in, first_letter}
+use Rattle.zcore_versions.specs.LockedTexts.{letter_of, letter_or_escape, lock_to, shift_to}
 use Rattle.zcore_versions.specs.LockedTexts.{spelled_within, spelled_with_locks}
 
 module _ (version : ℕ) (word : List ℕ) (place code : ℕ) (lt : place < length word) (is : code ≡ get_or word place 0)
@@ -99,6 +102,47 @@ pub begins_past : (version alphabet : ℕ) (word : List ℕ) (place : ℕ) → l
     → false ≡ begins_in version alphabet (drop place word)
 begins_past version alphabet word place le =
     sym (ap (begins_in version alphabet) (drop_all place word le))
+
+-- A letter by its place
+
+module _ (version alphabet code first : ℕ) (table : List ℕ) (found : Option ℕ)
+    (is_first : first ≡ first_letter version alphabet) (is_table : table ≡ alphabets_in version)
+    (is_found : found ≡ place_in (slice_range table (26 * alphabet + (first - 6)) (26 * alphabet + 26)) code)
+  where
+    place_is : found
+        ≡ place_in (slice_range (alphabets_in version) (26 * alphabet + (first_letter version alphabet - 6))
+        (26 * alphabet + 26)) code
+    place_is = is_found
+        ∙ ap (λ (t : List ℕ). place_in (slice_range t (26 * alphabet + (first - 6)) (26 * alphabet + 26)) code) is_table
+        ∙ ap (λ (f : ℕ). place_in (slice_range (alphabets_in version) (26 * alphabet + (f - 6)) (26 * alphabet + 26)) code)
+        is_first
+
+    pub letter_found : (place : ℕ) → found ≡ Some place → Some (place + first) ≡ letter_of version alphabet code
+    letter_found place some =
+        ap (λ (f : ℕ). Some (place + f)) is_first
+        ∙ ap (option_map (λ (p : ℕ). p + first_letter version alphabet)) (sym some ∙ place_is)
+
+    pub no_letter : found ≡ None → None ≡ letter_of version alphabet code
+    no_letter none = ap (option_map (λ (p : ℕ). p + first_letter version alphabet)) (sym none ∙ place_is)
+
+-- the alphabet of a code, by what was found in the first two
+
+pub first_alphabet : (version code z : ℕ) (o : Option ℕ) → o ≡ letter_of version 0 code → o ≡ Some z
+    → 0 ≡ alphabet_of version code
+first_alphabet version code z o is some =
+    sym (ap (λ (k : Option ℕ). alphabet_by k (letter_of version 1 code)) (sym is ∙ some))
+
+pub second_alphabet : (version code z : ℕ) (o p : Option ℕ) → o ≡ letter_of version 0 code → o ≡ None
+    → p ≡ letter_of version 1 code → p ≡ Some z → 1 ≡ alphabet_of version code
+second_alphabet version code z o p is none also some =
+    sym (ap (λ (k : Option ℕ). alphabet_by k (letter_of version 1 code)) (sym is ∙ none)
+    ∙ ap (alphabet_by None) (sym also ∙ some))
+
+pub third_alphabet : (version code : ℕ) (o p : Option ℕ) → o ≡ letter_of version 0 code → o ≡ None
+    → p ≡ letter_of version 1 code → p ≡ None → 2 ≡ alphabet_of version code
+third_alphabet version code o p is none also neither =
+    sym (ap (λ (k : Option ℕ). alphabet_by k (letter_of version 1 code)) (sym is ∙ none)
+    ∙ ap (alphabet_by None) (sym also ∙ neither))
 
 -- What is in a key so far, and what is still to be spelled
 

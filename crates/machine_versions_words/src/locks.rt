@@ -38,6 +38,7 @@ struct Spelling {
 fn first_letter(version: u8, alphabet: u8) -> u8
     requires { version ≤ 2 }
     ensures first { result ≡ definitions.first_letter version alphabet }
+    ensures least { 6 ≤ result }
     ensures few { result ≤ 8 }
 {
     if alphabet == PUNCTUATION {
@@ -64,6 +65,7 @@ fn letter_of(version: u8, alphabet: u8, code: u8) -> Option<u8>
 }
 
 /// The first alphabet that has a code; an escape is in the third.
+#[tactic(auto, using(crate::proofs::Locking::first_alphabet, crate::proofs::Locking::second_alphabet, crate::proofs::Locking::third_alphabet))]
 fn alphabet_of(version: u8, code: u8) -> u8
     requires { version ≤ 2 }
     ensures alphabet { result ≡ definitions.alphabet_of version code }

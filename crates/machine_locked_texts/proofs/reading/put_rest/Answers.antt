@@ -5,7 +5,7 @@ use Rattle.zcore_versions.specs.LockedTexts.{locked_abbreviation}
 use Rattle.machine_standard_texts.specs.Pieces.{joined}
 use Rattle.machine_locked_texts.specs.Letters.{rest_of}
 use Rattle.machine_standard_texts.proofs.Read.{joined_nothing}
-use Rattle.machine_locked_texts.proofs.LockedReading.{rest_on, rest_fails, numbered, left_places, left_less}
+use Rattle.machine_locked_texts.proofs.LockedReading.{IsNumber, rest_on, rest_fails, numbered, left_places, left_less}
 use Rattle.machine_standard_texts.proofs.Printed.{begun_by, extends_after, extends_still, on_none, on_then}
 use Rattle.machine_locked_texts.proofs.reading.put_rest.Goals as goal
 
@@ -22,6 +22,16 @@ loop-named-init c = record {
 
 pub put_abbreviation-requires-clause-text : goal.put_abbreviation-requires-clause-text
 put_abbreviation-requires-clause-text c = begun_by c.requires.text c.loop-named.invariant.extends
+
+pub put_abbreviation-requires-clause-number : goal.put_abbreviation-requires-clause-number
+put_abbreviation-requires-clause-number c =
+    let n : IsNumber c.in-Some.next = rw c.in-Some.is at c.loop-named.invariant.number in
+    n.number
+
+pub put_plain-named-requires-clause-lock : goal.put_plain-named-requires-clause-lock
+put_plain-named-requires-clause-lock c =
+    let n : IsNumber c.in-Some.next = rw c.in-Some.is at c.loop-named.invariant.number in
+    n.lock
 
 pub put_plain-named-requires-clause-text : goal.put_plain-named-requires-clause-text
 put_plain-named-requires-clause-text c = begun_by (begun_by c.requires.text c.loop-named.invariant.extends)
