@@ -59,8 +59,7 @@ put_back_calls-requires-clause-room c =
 pub put_back_calls-requires-clause-calls : goal.put_back_calls-requires-clause-calls
 put_back_calls-requires-clause-calls c =
     let b = are_read c.len-size.result _ c.args.stacks.now c.requires.stacks.0
-    (c.len-size.ensures ∙ ap length (c.memory.ensures ∙ ap memory_of c.store.ensures)) c.requires.stacks.1 in
-    (
+    (c.len-size.ensures ∙ ap length (c.memory.ensures ∙ ap memory_of c.store.ensures)) c.requires.stacks.1 in (
       c.requires.stacks.0.calls,
       calls_follow c.len-size.result _ c.word_count-most.result c.size.result c.args.stacks.now _ c.in-Some.head
           c.requires.stacks.0 b c.in-Some.ensures.1 refl c.word_count-most.ensures c.size.ensures

@@ -31,8 +31,7 @@ put_back-requires-clause-sound c =
 pub put_back-requires-clause-stacks : goal.put_back-requires-clause-stacks
 put_back-requires-clause-stacks c =
     let f = fill_and_stop c.args.store.now c.fill.new.store c.put.new.self c.args.memory.now _ c.in_ok-fill.ensures.filled
-    c.bytes_after.ensures c.in_ok-put.ensures.cells c.put.ensures.fixed c.in_ok-put.ensures.beginning in
-    (
+    c.bytes_after.ensures c.in_ok-put.ensures.cells c.put.ensures.fixed c.in_ok-put.ensures.beginning in (
       c.requires.stacks.0,
       subst (λ (n : ℕ). AreStacks n c.args.save.stacks.now c.requires.stacks.0) (sym (filled_size _ _ _ f))
           c.requires.stacks.1,
