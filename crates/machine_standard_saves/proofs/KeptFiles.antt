@@ -8,7 +8,6 @@ use Rattle.std.proofs.lemmas.Result.{err_from_is_err_and}
 use Rattle.journal.specs.Recording.{Recording}
 use Rattle.zcore.specs.declared.next.Next.{Next}
 use Rattle.zcore.specs.Effects.{give_result}
-use Rattle.zcore.specs.Header.{static_base_of}
 use Rattle.zcore.specs.State.{Frame, State, Out}
 use Rattle.zcore_standard.specs.Keeping.{newest, with_newest, without_newest}
 use Rattle.zcore_standard.specs.Loaded.{Loaded}
@@ -151,11 +150,7 @@ newest_restored {s} r loaded here after result file is w =
     (went_within r there
     (resume_if_read (saved_in loaded.dynamic (length (memory_of s.store)) file) here.next after result) w)
 
--- static base takes two bytes
-pub short_base : (memory : List ℕ) → slice_index memory 14 < 256 → slice_index memory 15 < 256
-    → static_base_of memory < 65536
-short_base memory high low = omega (arith, high, low)
-
+-- frames take few bytes
 pub short_stacks : (s : Contents) (before stacks : List ℕ) (told : Bool) → IsSound s → told ≡ true
     → WritesAll s before stacks told → before ≡ [] → length stacks < 1048576
 short_stacks s before stacks told sound is w none =

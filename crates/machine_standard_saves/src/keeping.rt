@@ -1,9 +1,9 @@
 //! `save_undo` (Z-Machine Standards Document 1.1, section 15).
 
-ghost use Rattle.std.specs.Prelude.{◌≡◌, ◌≤◌, ◌<◌, ◌+◌, ◌-◌, length, slice_index, take, IfOk, OnErr, OnOk};
+ghost use Rattle.std.specs.Prelude.{◌≡◌, ◌≤◌, ◌<◌, ◌+◌, ◌-◌, drop, length, slice_index, take, IfOk, OnErr, OnOk};
 ghost use Rattle.std.specs.Option.{option_map};
 ghost use Rattle.zcore.specs.Header.{static_base_of};
-ghost use Rattle.zcore.specs.Layout.{longest_story, stack_size};
+ghost use Rattle.zcore.specs.Layout.{header_size, longest_story, stack_size};
 ghost use Rattle.zcore_standard.specs.Keeping.{with_newest};
 ghost use Rattle.zcore_standard.specs.SavedStates as definitions;
 ghost use Rattle.machine_decoding.specs.Seen.{seen};
@@ -116,13 +116,22 @@ fn file_of(
     }
     let dynamic = loaded.dynamic();
     let memory = store.store().memory();
+    let base = static_base(memory);
     let state = SaveState {
         program_counter: at,
-        memory: first_bytes(memory, dynamic.len()),
+        memory: first_bytes(memory, base as usize),
         stacks: stacks.as_slice(),
     };
     let file = write_save(alloc, dynamic, state)?;
     Ok(Some(file))
+}
+
+/// Where static memory begins: how many bytes dynamic memory has.
+fn static_base(memory: &[u8]) -> u16
+    requires { header_size ≤ length memory.now }
+    ensures { result ≡ static_base_of memory.now }
+{
+    memory[14] as u16 * 256 + memory[15] as u16
 }
 
 /// The first bytes, of which there are `count`.
@@ -244,5 +253,14 @@ fn words_of(store: &Recorded<Store>, from: usize, to: usize) -> &[u16]
     requires most { to ≤ stack_size }
     ensures { result.now ≡ cells_from (slice_index store.now.store.cells) (stack_offset + from) (to - from) }
 {
-    &store.store().words()[STACK + from..STACK + to]
+    part_of(store.store().words(), STACK + from, STACK + to)
+}
+
+/// The words from one on, up to another.
+fn part_of(words: &[u16], from: usize, to: usize) -> &[u16]
+    requires order { from ≤ to }
+    requires end { to ≤ length words.now }
+    ensures { result.now ≡ take (to - from) (drop from words.now) }
+{
+    &words[from..to]
 }

@@ -5,7 +5,7 @@ use Rattle.quetzal.specs.Frames.{stacks_bytes}
 use Rattle.quetzal.specs.SaveFiles.{save_bytes}
 use Rattle.machine_frames.specs.Contents.{memory_of}
 use Rattle.machine_frames.proofs.Kept.{length-memory}
-use Rattle.machine_standard_saves.proofs.KeptFiles.{cannot_be_kept, has_file, short_base, short_stacks}
+use Rattle.machine_standard_saves.proofs.KeptFiles.{cannot_be_kept, has_file, short_stacks}
 use Rattle.machine_standard_saves.proofs.keeping.file_of.Goals as goal
 
 pub returns-then-not-can_be_kept : goal.returns-then-not-can_be_kept
@@ -13,14 +13,24 @@ returns-then-not-can_be_kept c =
     cannot_be_kept c.args.loaded.now c.args.at c.args.store.now.store _ _ _ c.if-not-can_be_kept.true
     c.in_ok-can_be_kept.ensures
 
-pub first_bytes-requires : goal.first_bytes-requires
-first_bytes-requires c = omega (
+pub static_base-base-requires : goal.static_base-base-requires
+static_base-base-requires c = omega (
   arith,
-  ap (λ (l : List ℕ). length l) c.dynamic-dynamic.ensures,
-  c.requires.dynamic,
   ap (λ (l : List ℕ). length l) (c.memory-memory.ensures ∙ ap memory_of c.store.ensures),
   length-memory c.args.store.now.store c.requires.sound,
+  c.requires.sound.static_base,
 )
+
+pub first_bytes-requires : goal.first_bytes-requires
+first_bytes-requires c =
+    let memory = c.memory-memory.ensures ∙ ap memory_of c.store.ensures in
+    omega (
+      arith,
+      c.static_base-base.ensures,
+      ap (λ (m : List ℕ). static_base_of m) memory,
+      ap (λ (l : List ℕ). length l) memory,
+      length-memory c.args.store.now.store c.requires.sound,
+    )
 
 pub write_save-requires-clause-header : goal.write_save-requires-clause-header
 write_save-requires-clause-header c = omega (
@@ -32,27 +42,28 @@ write_save-requires-clause-header c = omega (
 
 pub write_save-requires-clause-memory : goal.write_save-requires-clause-memory
 write_save-requires-clause-memory c =
+    let memory = c.memory-memory.ensures ∙ ap memory_of c.store.ensures in
+    let base : c.static_base-base.result ≡ static_base_of (memory_of c.args.store.now.store) =
+    c.static_base-base.ensures ∙ ap (λ (m : List ℕ). static_base_of m) memory in
     let long : length c.dynamic-dynamic.result.now ≡ static_base_of (memory_of c.args.store.now.store) =
     ap (λ (l : List ℕ). length l) c.dynamic-dynamic.ensures ∙ c.requires.dynamic in
     ap (λ (l : List ℕ). length l) c.first_bytes.ensures
-    ∙ length-take-le (length c.dynamic-dynamic.result.now) c.memory-memory.result.now (omega (
+    ∙ length-take-le c.static_base-base.result c.memory-memory.result.now (omega (
       arith,
-      long,
-      ap (λ (l : List ℕ). length l) (c.memory-memory.ensures ∙ ap memory_of c.store.ensures),
+      base,
+      ap (λ (l : List ℕ). length l) memory,
       length-memory c.args.store.now.store c.requires.sound,
     ))
+    ∙ base ∙ sym long
 
 pub write_save-requires-clause-short : goal.write_save-requires-clause-short
 write_save-requires-clause-short c =
     let memory = c.memory-memory.ensures ∙ ap memory_of c.store.ensures in
-    let small = short_base c.memory-memory.result.now (omega (arith, c.type_inv.memory 14))
-    (omega (arith, c.type_inv.memory 15)) in (
-      omega (
-        arith,
-        subst (λ (m : List ℕ). static_base_of m < 65536) memory small,
-        ap (λ (l : List ℕ). length l) c.dynamic-dynamic.ensures,
-        c.requires.dynamic,
-      ),
+    let base : c.static_base-base.result ≡ static_base_of (memory_of c.args.store.now.store) =
+    c.static_base-base.ensures ∙ ap (λ (m : List ℕ). static_base_of m) memory in
+    let long : length c.dynamic-dynamic.result.now ≡ c.static_base-base.result =
+    ap (λ (l : List ℕ). length l) c.dynamic-dynamic.ensures ∙ c.requires.dynamic ∙ sym base in (
+      omega (arith, long, c.static_base-base.type_inv),
       omega (
         arith,
         ap (λ (l : List ℕ). length l) c.as_slice.ensures.value,
@@ -67,7 +78,8 @@ returns c =
     has_file c.args.loaded.now c.args.at c.args.store.now.store _ c.put_frames.new.out.items c.first_bytes.result.now _ _
     c.if-not-can_be_kept.false c.in_ok-can_be_kept.ensures c.new-stacks.ensures.items
     (c.first_bytes.ensures
-    ∙ ap (λ (l : List ℕ). take (length l) c.memory-memory.result.now) c.dynamic-dynamic.ensures
+    ∙ ap (λ (n : ℕ). take n c.memory-memory.result.now)
+    (c.static_base-base.ensures ∙ ap (λ (m : List ℕ). static_base_of m) memory ∙ sym c.requires.dynamic)
     ∙ ap (λ (l : List ℕ). take (length c.args.loaded.now.dynamic) l) memory)
     (λ read e. c.in_ok-file.ensures read (c.as_slice.ensures.value ∙ e)
     ∙ ap (λ (l : List ℕ). save_bytes l (record {

@@ -14,10 +14,10 @@ returns-then-arguments-gt-MOST_ARGUMENTS c =
     many_arguments c.args.store.now.store c.args.number c.cell-arguments.result c.cell-arguments.ensures
     c.if-arguments-gt-MOST_ARGUMENTS.true
 
-pub returns-then-return_address-ge-size : goal.returns-then-return_address-ge-size
-returns-then-return_address-ge-size c =
+pub returns-then-return_address-size : goal.returns-then-return_address-size
+returns-then-return_address-size c =
     far_address c.args.store.now.store c.args.number c.long-return_address.result c.long-return_address.ensures
-    (omega (arith, c.if-return_address-ge-size.true, ap length (c.memory.ensures ∙ ap memory_of c.store.ensures)))
+    (omega (arith, c.if-return_address-size.true, ap length (c.memory-size.ensures ∙ ap memory_of c.store.ensures)))
 
 pub overflow_sub-words : goal.overflow_sub-words
 overflow_sub-words c =
@@ -41,7 +41,7 @@ returns c =
       is_cell = c.cell.ensures;
       is_words = same_words c.args.top _ c.long-base.result _ c.cell-locals.result c.requires.top c.long-base.ensures;
       near = omega
-          (arith, c.if-return_address-ge-size.false, ap length (c.memory.ensures ∙ ap memory_of c.store.ensures));
+          (arith, c.if-return_address-size.false, ap length (c.memory-size.ensures ∙ ap memory_of c.store.ensures));
       few_locals = c.if-locals-gt-MOST_LOCALS.false;
       few_arguments = c.if-arguments-gt-MOST_ARGUMENTS.false;
       few_words = omega (arith, c.if-words-ge-WORD_LIMIT.false);

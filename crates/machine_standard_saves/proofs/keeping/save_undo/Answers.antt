@@ -20,7 +20,7 @@ returns-in_err-next-clause-went c =
 
 pub returns-in_err-keep-clause-went : goal.returns-in_err-keep-clause-went
 returns-in_err-keep-clause-went c =
-    gave_up (place c.args.turn.now) _ _ c.from_residual-in_err-keep.ensures.1 c.in_ok-next.ensures.did.0
+    gave_up (place c.keep.new.turn) _ _ c.from_residual-in_err-keep.ensures.1 c.in_ok-next.ensures.did.0
     c.in_err-keep.ensures.given_up
 
 pub returns-clause-went : goal.returns-clause-went

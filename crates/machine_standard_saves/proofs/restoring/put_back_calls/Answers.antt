@@ -34,7 +34,7 @@ put_back_one-requires-clause-room c = λ e.
 pub overflow_sub-left : goal.overflow_sub-left
 overflow_sub-left c =
     let p = frame_parts c.args.size c.loop-head.left c.loop-head.rest.now c.in-Some.ensures.0 in
-    omega (arith, p.words, ap (λ (h : FrameHead). words_of h) c.in-Some.ensures.1, c.word_count.ensures)
+    omega (arith, p.words, ap (λ (h : FrameHead). words_of h) c.in-Some.ensures.1, c.word_count-left.ensures)
 
 pub bytes_after-rest-requires : goal.bytes_after-rest-requires
 bytes_after-rest-requires c =
@@ -59,7 +59,7 @@ loop-head-preserved c =
     subst (λ (r : _). PutsBack c.args.store.now c.put_back_one.new.store c.args.size c.args.most _ c.args.bytes.now r)
     (sym (c.bytes_after-rest.ensures ∙ ap (λ (n : ℕ). drop n c.loop-head.rest.now) c.size.ensures))
     (subst (λ (n : ℕ). PutsBack c.args.store.now c.put_back_one.new.store c.args.size c.args.most
-    (c.loop-head.left - n) c.args.bytes.now (drop (size_of c.in-Some.head) c.loop-head.rest.now)) (sym c.word_count.ensures)
+    (c.loop-head.left - n) c.args.bytes.now (drop (size_of c.in-Some.head) c.loop-head.rest.now)) (sym c.word_count-left.ensures)
     (puts_one _ _ _ _ _ _ _ _ c.in-Some.head c.loop-head.invariant c.in-Some.ensures.0 c.in-Some.ensures.1
     c.in_ok-put_back_one.ensures))
 

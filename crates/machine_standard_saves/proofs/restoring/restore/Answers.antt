@@ -9,8 +9,8 @@ pub restore_over-requires-clause-dynamic : goal.restore_over-requires-clause-dyn
 restore_over-requires-clause-dynamic c =
     ap (λ (l : List ℕ). length l) (c.deref_mut.ensures.value ∙ c.in-Ok.ensures ∙ c.dynamic.ensures) ∙ c.requires.dynamic
 
-pub returns-in-Ok : goal.returns-in-Ok
-returns-in-Ok c =
+pub returns : goal.returns
+returns c =
     subst (λ (l : List ℕ). Went c.restore_over.result c.args.store.now c.restore_over.new.store (resume_if_read
     (saved_in l (length (memory_of c.args.store.now.store)) c.args.file.now) c.args.here c.args.after c.args.variable))
     (c.deref_mut.ensures.value ∙ c.in-Ok.ensures ∙ c.dynamic.ensures) c.restore_over.ensures
