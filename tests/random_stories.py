@@ -30,7 +30,7 @@ EXT 0 - s    EXT 1 - s    EXT 2 vv s   EXT 3 vv s   EXT 4 h s    EXT 9 - s    EX
 EXT 13 hh -
 """
 
-# What versions 3 and 4 have in place of the profile's opcodes of these numbers, and what they do not have:
+# What versions 1 to 4 have in place of the profile's opcodes of these numbers, and what they do not have:
 OLDER = """
 1OP 15 v s   0OP 5 - b    0OP 6 - b    0OP 9 - -    VAR 4 lq -
 """
@@ -41,6 +41,7 @@ NOT_IN = {
     3: [("2OP", 25), ("1OP", 8), *(("VAR", n) for n in (12, 13, 14, 15, 16, 17, 18, 22, 23))],
     4: [],
 }
+NOT_IN[1] = NOT_IN[2] = NOT_IN[3] + [("0OP", 12), ("0OP", 13), *(("VAR", n) for n in (10, 11, 19, 20, 21))]
 NOT_IN_OLDER = [("2OP", 26), ("2OP", 27), ("2OP", 28), ("0OP", 15), *(("VAR", n) for n in range(24, 32))]
 
 READ = "VAR", 4
@@ -58,7 +59,7 @@ OBJECTS = bytes.fromhex(
     "00 00 00 00 00 00 00 01 00 00 00 00 02 EB 00 00 00 00 00 00 00 00 00 00 00 00 02 F1"
     "02 35 51 C6 85 54 12 34 0A 07 86 86 00 01 00 02 00 03 00 00 00 01 94 A5 3F 09 00 00 83 80"
 )
-# the same objects in version 3, whose entries are shorter
+# the same objects in versions 1 to 3, whose entries are shorter
 SMALL_OBJECTS = bytes.fromhex(
     "80 00 00 01 00 00 02 02 D6 00 00 00 00 01 03 00 02 E9 00 00 00 00 01 00 00 02 EB 00 00 00 00 00 00 00 02 F1"
     + "00" * 20
@@ -67,9 +68,11 @@ SMALL_OBJECTS = bytes.fromhex(
 LETTERS, WORDS, FREE, TEXT, STATIC = 768, 800, 832, 1024, 1049
 
 # By how many bytes packed addresses count, and the greatest attribute.
-SCALES = {3: 2, 4: 4, 5: 4, 7: 4, 8: 8}
-LAST_ATTRIBUTE = {3: 31, 4: 47, 5: 47, 7: 47, 8: 47}
-LAST_OLD = 4
+SCALES = {1: 2, 2: 2, 3: 2, 4: 4, 5: 4, 7: 4, 8: 8}
+LAST_ATTRIBUTE = {1: 31, 2: 31, 3: 31, 4: 47, 5: 47, 7: 47, 8: 47}
+LAST_OLD, LAST_SMALL = 4, 3
+# The Z-characters that shift to an alphabet or lock one; in version 1 also that of a new line.
+SHIFTS = {1: (1, 2, 3, 4, 5), 2: (2, 3, 4, 5)}
 CODE = STATIC + len(DICTIONARY)
 SLOT = 256
 FIRST_SLOT = CODE + 8
@@ -99,15 +102,16 @@ def table_of(version, tables):
     found = [opcode for text in tables for opcode in opcodes(text)]
     if version > LAST_OLD:
         return found
-    own = opcodes(OLDER if version == 3 else OLDER_4)
+    own = opcodes(OLDER if version <= LAST_SMALL else OLDER_4)
     gone = {(form, number) for form, number, _, _ in own} | set(NOT_IN[version]) | set(NOT_IN_OLDER)
     return own + [opcode for opcode in found if opcode[:2] not in gone and opcode[0] != "EXT"]
 
 
-def words_of_text():
-    """A text of some letters and spaces."""
+def words_of_text(version):
+    """A text of some letters and spaces, in versions 1 and 2 also of shifts."""
     count = random.randint(1, 4)
-    words = [sum(random.choice([0, *range(6, 32)]) << shift for shift in (10, 5, 0)) for _ in range(count)]
+    characters = [0, *SHIFTS.get(version, ()), *range(6, 32)]
+    words = [sum(random.choice(characters) << shift for shift in (10, 5, 0)) for _ in range(count)]
     words[-1] |= 0x8000
     return [byte for word in words for byte in word.to_bytes(2, "big")]
 
@@ -117,6 +121,7 @@ class Scope:
     anything, from 0 to 1."""
 
     def __init__(self, version, variables, wildness):
+        self.version = version
         self.scale = SCALES[version]
         self.last_attribute = LAST_ATTRIBUTE[version]
         self.locals = variables
@@ -188,7 +193,7 @@ def instruction(table, scope):
     store = Variable(scope.variable()) if "s" in rest else None
     code = encoded_opcode(form, number, [scope.operand(letter) for letter in letters], store)
     if "t" in rest:
-        code = code + words_of_text()
+        code = code + words_of_text(scope.version)
     code = BEFORE.get((form, number), []) + code
     place = "branch" if "b" in rest else "jump" if "l" in rest else None
     return (code + [0, 0] if place else code), place
@@ -241,12 +246,12 @@ def random_story(tables, wildness, version):
     store = Variable(16) if version > LAST_OLD else None
     first = variable_form(5, ord(">")) + EMPTY_BUFFER + variable_form(4, LETTERS, WORDS, store=store)
     main = body(table, scope, first, ([0x8C, 0, 0], "loop"), SLOT * 4)
-    text = bytes(words_of_text()).ljust(SLOT, b"\0")
+    text = bytes(words_of_text(version)).ljust(SLOT, b"\0")
     slots = text + b"".join(routine(table, version, wildness) for _ in range(ROUTINES))
     begin = bytes([0x8C]) + (MAIN - CODE - 1).to_bytes(2, "big")
     entries = bytearray(STATIC - ENTRIES)
-    objects = OBJECTS if version > 3 else SMALL_OBJECTS
-    for place, part in ((ENTRIES, objects), (LETTERS, b"\x14"), (WORDS, b"\x04"), (TEXT, bytes(words_of_text()))):
+    objects = OBJECTS if version > LAST_SMALL else SMALL_OBJECTS
+    for place, part in ((ENTRIES, objects), (LETTERS, b"\x14"), (WORDS, b"\x04"), (TEXT, bytes(words_of_text(version)))):
         entries[place - ENTRIES : place - ENTRIES + len(part)] = part
     code = begin.ljust(FIRST_SLOT - CODE, b"\0") + slots + bytes(main)
     return story_of(code, version=version, entries=bytes(entries))

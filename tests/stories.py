@@ -6,7 +6,7 @@ ENTRIES = DEFAULTS + 126
 DICTIONARY = bytes([3]) + b".,\"" + bytes([9, 0, 0])
 
 # By how many bytes the header of a version states the length of its story.
-UNITS = {3: 2, 4: 4, 5: 4, 7: 8, 8: 8}
+UNITS = {1: 2, 2: 2, 3: 2, 4: 4, 5: 4, 7: 8, 8: 8}
 
 # Where static memory and the code of a story without objects begin.
 STATIC = ENTRIES
@@ -30,7 +30,7 @@ def summed(story):
 
 def story_of(code, version=5, length=None, entries=b""):
     """A story with entries of objects and this code, which begins with its first instruction. Without entries it is at
-    CODE. The 31 defaults of version 3 end at the entries, too."""
+    CODE. The 31 defaults of versions 1 to 3 end at the entries, too."""
     scale = UNITS[version]
     defaults = DEFAULTS if version > 3 else DEFAULTS + 64
     static = ENTRIES + len(entries)

@@ -8,6 +8,7 @@ end
 complete -c inform -s v -x -a '5 8' -d 'The version of the story file'
 complete -c inform -l explain -x -a '(__inform_faults)' -d 'Explain a fault, or list all'
 complete -c inform -l show -d 'Show where a source is at fault'
+complete -c inform -l plain -d 'Say why a source is refused in one line'
 complete -c inform -l warn -d 'Warn of likely mistakes'
 complete -c inform -l sizes -d 'Print what a source takes'
 complete -c inform -l large -d 'Limit the story in place of the weight of the source'

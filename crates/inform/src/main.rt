@@ -2,6 +2,7 @@
 #![tactic(auto)]
 
 mod map;
+mod naming;
 mod output;
 mod part;
 mod refusals;
@@ -9,6 +10,7 @@ mod source;
 mod warnings;
 
 use crate::map::{in_other_use, other_use, put_map};
+use crate::naming::named_after;
 use crate::output::{is_one_file, write_whole};
 use crate::refusals::{limit_of, refused, show};
 use crate::source::read_source;
@@ -16,8 +18,10 @@ use crate::warnings::warn;
 use clap::Error;
 use messages_diagnosis::{Figures, Limit, diagnose, measure};
 use messages_explanations::Program;
+use std::alloc::AllocError;
 use std::fmt::Display;
 use std::fs::File;
+use std::io::IsTerminal;
 use std::process::ExitCode;
 use std::{env, io};
 use syntax_lexer::SourceFault;
@@ -37,10 +41,11 @@ fn main(rt: HostRuntime) -> ExitCode {
         },
         Err(_) => return misused(&rt, "cannot read the command line"),
     };
-    let Ok(command) = command(alloc) else {
+    let is_seen = rt.stderr().is_terminal();
+    let Ok(command) = command(alloc, is_seen) else {
         return misused(&rt, "cannot read the command line");
     };
-    match words_of(command, given.as_slice()) {
+    match words_of(command, given.as_slice(), is_seen) {
         Ok(asked) => answer(&rt, asked),
         Err(error) => unread(&rt, error),
     }
@@ -162,7 +167,23 @@ fn finish(rt: &HostRuntime, words: Words<'_>, source: &[u8], story: &[u8]) -> Ex
     }
     match words.story {
         Some(name) => put_both(rt, words, name, source, story),
-        None => ExitCode::SUCCESS,
+        None if words.is_check => ExitCode::SUCCESS,
+        None => put_named(rt, words, story),
+    }
+}
+
+/// Writes the bytes of a story to a file that is named after the source, and says to which.
+fn put_named(rt: &HostRuntime, words: Words<'_>, story: &[u8]) -> ExitCode {
+    let Ok(file) = named_after(rt.alloc(), words.source, words.version) else {
+        return refused(rt, SourceFault::from(AllocError));
+    };
+    match put_or(rt, words.source, file.as_str(), story) {
+        None => {
+            let name = OneLine(file.as_str());
+            let _ = eprintln!(rt; "inform: wrote {name}");
+            ExitCode::SUCCESS
+        }
+        Some(status) => status,
     }
 }
 

@@ -1,8 +1,6 @@
 -- The machine and the store of a story that was loaded.
-use Rattle.std.proofs.Common.{◌≡◌, ◌≤◌, ℕ, zero, suc, Bool, true, false, List, [], length, take, ap, sym, ◌∙◌}
+use Rattle.std.proofs.Common.{◌≡◌, ◌≤◌, ℕ, Bool, true, List, [], length, take, ap, sym, ◌∙◌}
 use Rattle.std.proofs.Common.{subst, arith, Ok, Option}
-use Rattle.std.specs.Prelude.{nat_le}
-use Rattle.std.proofs.lemmas.Bool.{lt-leb}
 use Rattle.std.proofs.lemmas.List.{length-take-le}
 use Rattle.zcore.specs.declared.standard_state.StandardState.{StandardState}
 use Rattle.zcore.specs.declared.header.Header.{Header}
@@ -21,7 +19,7 @@ use Rattle.machine_frames.specs.Contents.{Contents, memory_of}
 use Rattle.machine_frames.specs.States.{state_of, IsScaled, IsSound, IsHeadedBy}
 use Rattle.zcore_versions.specs.declared.version.StoryVersion.{StoryVersion}
 use Rattle.zcore_versions.specs.ReadVersions.{version_in}
-use Rattle.zcore_versions.specs.Versions.{Story, locks_alphabets, versioned}
+use Rattle.zcore_versions.specs.Versions.{versioned}
 use Rattle.machine_standard.specs.Loads.{Begins, IsLoaded, IsPlayedVersion}
 use Rattle.machine_standard.specs.declared.turn.StandardMachine.{StandardMachine}
 
@@ -59,18 +57,10 @@ loaded_as x d dynamic c characters b dice right o own e f g h i = e
     ∙ ap (λ y. made dynamic dice right y o) h
     ∙ ap (λ y. made dynamic dice right characters y) i
 
--- a version that is played locks no alphabet
-no_locks : (number : ℕ) → is_played number ≡ true → nat_le number 2 ≡ false
-no_locks zero e = absurd (cc)
-no_locks (suc zero) e = absurd (cc)
-no_locks (suc (suc zero)) e = absurd (cc)
-no_locks (suc (suc (suc n))) e = lt-leb (suc (suc (suc n))) 2 (omega arith)
-
 played_version : (version : StoryVersion) → is_played version.number ≡ true
     → (version.routine_offset ≤ longest_story) × (version.text_offset ≤ longest_story) → IsPlayedVersion version
 played_version version played near = record {
   played = played;
-  unlocked = no_locks version.number played;
   routines = near.0;
   texts = near.1;
 }

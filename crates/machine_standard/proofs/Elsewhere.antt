@@ -104,6 +104,14 @@ record IsAlike (version : StoryVersion) : Type 0 where
 abbrev version_of : ℕ → ℕ → ℕ → StoryVersion
 version_of number routines texts = record { number = number; routine_offset = routines; text_offset = texts }
 
+first_alike : (routines texts : ℕ) → IsAlike (version_of 1 routines texts)
+unfolding all_below told_alike
+first_alike routines texts = record { two = refl; one = refl; none = refl; several = refl }
+
+second_alike : (routines texts : ℕ) → IsAlike (version_of 2 routines texts)
+unfolding all_below told_alike
+second_alike routines texts = record { two = refl; one = refl; none = refl; several = refl }
+
 third_alike : (routines texts : ℕ) → IsAlike (version_of 3 routines texts)
 unfolding all_below told_alike
 third_alike routines texts = record { two = refl; one = refl; none = refl; several = refl }
@@ -180,18 +188,18 @@ done_by version memory at x all early late code read =
 -- Versions
 
 played_cases : (number : ℕ) → is_played number ≡ true
-    → ((3 ≤ number) × (number ≤ 5)) ⊎ ((7 ≤ number) × (number ≤ 8))
+    → ((1 ≤ number) × (number ≤ 5)) ⊎ ((7 ≤ number) × (number ≤ 8))
 played_cases number e =
-    elim (or_cases (nat_le 3 number && nat_le number 5) (nat_le 7 number && nat_le number 8) e) [
+    elim (or_cases (nat_le 1 number && nat_le number 5) (nat_le 7 number && nat_le number 8) e) [
       | inl p ↦
-          let parts = and_parts (nat_le 3 number) (nat_le number 5) p in
-          inl (leb-true 3 number parts.0, leb-true number 5 parts.1)
+          let parts = and_parts (nat_le 1 number) (nat_le number 5) p in
+          inl (leb-true 1 number parts.0, leb-true number 5 parts.1)
       | inr p ↦
           let parts = and_parts (nat_le 7 number) (nat_le number 8) p in
           inr (leb-true 7 number parts.0, leb-true number 8 parts.1)
     ]
 
-not_played : (number : ℕ) → is_played number ≡ true → (number ≤ 2) ⊎ ((number ≡ 6) ⊎ (9 ≤ number)) → ⊥
+not_played : (number : ℕ) → is_played number ≡ true → (number ≡ 0) ⊎ ((number ≡ 6) ⊎ (9 ≤ number)) → ⊥
 not_played number e (inl q) = elim (played_cases number e) [
   | inl p ↦ omega (arith, p.0, q)
   | inr p ↦ omega (arith, p.0, q)
@@ -210,10 +218,11 @@ by_number : (number routines texts : ℕ) (memory : List ℕ) (at : ℕ) (x : In
     → is_left (version_of number routines texts) (slice_index memory at) ≡ false → is_code memory at ≡ true
     → decode memory at ≡ Ok x → IsDoneAs x.0.operation (older_at (version_of number routines texts) memory at)
 unfolding is_left
-by_number zero routines texts memory at x e early late code read = absurd (not_played 0 e (inl (omega arith)))
-by_number (suc zero) routines texts memory at x e early late code read = absurd (not_played 1 e (inl (omega arith)))
+by_number zero routines texts memory at x e early late code read = absurd (not_played 0 e (inl refl))
+by_number (suc zero) routines texts memory at x e early late code read =
+    done_by (version_of 1 routines texts) memory at x (first_alike routines texts) refl late code read
 by_number (suc (suc zero)) routines texts memory at x e early late code read =
-    absurd (not_played 2 e (inl (omega arith)))
+    done_by (version_of 2 routines texts) memory at x (second_alike routines texts) refl late code read
 by_number (suc (suc (suc zero))) routines texts memory at x e early late code read =
     done_by (version_of 3 routines texts) memory at x (third_alike routines texts) refl late code read
 by_number (suc (suc (suc (suc zero)))) routines texts memory at x e early late code read =

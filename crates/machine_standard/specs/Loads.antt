@@ -1,5 +1,5 @@
 -- What loading a story comes to.
-use Rattle.std.specs.Prelude.{◌≡◌, ◌≤◌, ℕ, true, false, List, [], length, take, Result, Ok, Err}
+use Rattle.std.specs.Prelude.{◌≡◌, ◌≤◌, ℕ, true, List, [], length, take, Result, Ok, Err}
 use Rattle.zcore.specs.Header.{static_base_of}
 use Rattle.zcore.specs.Layout.{longest_story}
 use Rattle.zcore.specs.Turn.{first_state}
@@ -8,7 +8,7 @@ use Rattle.zcore_standard_loading.specs.Loading.{ReadsFile, characters_of, is_pl
 use Rattle.zcore_standard_loading.specs.Loading as loading
 use Rattle.zcore_standard.specs.Loaded.{seeded}
 use Rattle.zcore_versions.specs.declared.version.StoryVersion.{StoryVersion}
-use Rattle.zcore_versions.specs.Versions.{Story, locks_alphabets, versioned}
+use Rattle.zcore_versions.specs.Versions.{Story, versioned}
 use Rattle.machine_frames.specs.Contents.{Contents, memory_of}
 use Rattle.machine_frames.specs.States.{state_of, IsStoreOf}
 use Rattle.machine_standard.specs.declared.load.StandardFault.{StandardFault}
@@ -19,11 +19,9 @@ use Rattle.machine_standard.specs.declared.turn.StandardMachine.{StandardMachine
 abbrev pub story_of : StandardMachine → Story
 story_of machine = versioned machine.loaded machine.version
 
--- A version that is played: no text locks an alphabet, and packed addresses count from places that a word of the header
--- can name.
+-- A version that is played. Packed addresses count from places that a word of the header can name.
 pub record IsPlayedVersion (version : StoryVersion) : Type 0 where
   pub played : is_played version.number ≡ true
-  pub unlocked : locks_alphabets version ≡ false
   pub routines : version.routine_offset ≤ longest_story
   pub texts : version.text_offset ≤ longest_story
 

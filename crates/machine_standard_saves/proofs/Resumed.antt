@@ -1,5 +1,5 @@
 -- The story goes on in a state that was kept.
-use Rattle.std.proofs.Common.{◌≡◌, ◌≢◌, ℕ, ◌+◌, ◌-◌, Bool, if◌then◌else◌, List, [], ◌∷◌, drop, length, set, refl, ap, sym, ◌∙◌, slice_index}
+use Rattle.std.proofs.Common.{◌≡◌, ◌≢◌, ℕ, ◌+◌, ◌-◌, Bool, if◌then◌else◌, List, [], ◌∷◌, drop, length, set, refl, ap, sym, ◌∙◌, slice_index, subst}
 use Rattle.std.proofs.Common.{Option, Some, None, Result, Ok, Err}
 use Rattle.std.proofs.lemmas.Bool.{ne_eqb, eq-eqb}
 use Rattle.std.proofs.lemmas.List.{length-set}
@@ -22,6 +22,7 @@ use Rattle.machine_frames.specs.declared.end.End.{End}
 use Rattle.machine_frames.specs.declared.end.End.TheVariants as ends
 use Rattle.machine_frames.proofs.Steps.{goes_on_after, went_as, went_halt, went_no_further, went_sound, went_still, went_then}
 use Rattle.machine_lines.specs.Lines.{Fills, WaitsNoMore}
+use Rattle.machine_lines.proofs.Lines.{waits_no_more}
 use Rattle.machine_standard_saves.specs.Restored.{with_frames}
 use Rattle.machine_standard_saves.proofs.CallsBack.{gives_up, with_is_done}
 
@@ -40,6 +41,13 @@ filled s m t memory f w =
       goes_on = goes_on_after f.goes_on w.goes_on;
       state = λ text. w.state text ∙ ap (λ (x : State). record x { pending = None }) (f.state text);
     }
+
+pub fill_and_stop : (s m t : Recording Contents) (memory bytes : List ℕ) → Fills s m 64 bytes → bytes ≡ drop 64 memory
+    → t.store.cells ≡ set m.store.cells 5 0 → t.store.fixed ≡ m.store.fixed → t.beginning ≡ m.beginning
+    → Filled s t memory
+fill_and_stop s m t memory bytes f is cells fixed beginning =
+    filled s m t memory (subst (λ (b : List ℕ). Fills s m 64 b) is f)
+    (waits_no_more m t f.goes_on.sound cells fixed beginning)
 
 length-with_bytes : (memory : List ℕ) (at : ℕ) (bytes : List ℕ) → length (with_bytes memory at bytes) ≡ length memory
 length-with_bytes memory at [] = refl

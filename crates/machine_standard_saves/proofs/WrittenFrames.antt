@@ -394,3 +394,7 @@ words_fit s k base locals top sound lt is_base is_locals is_top =
     let count : locals ≡ local_count f k = is_locals ∙ ap f at in
     let fit = frame_fits s k sound lt in
     (omega (arith, fit.0, is_base, count, is_top), omega (arith, fit.1, is_top))
+
+pub same_words : (top end base first locals : ℕ) → top ≡ end → base ≡ first
+    → top - (base + locals) ≡ end - (first + locals)
+same_words top end base first locals is e = ap (λ (x : ℕ). x - (base + locals)) is ∙ ap (λ (x : ℕ). end - (x + locals)) e

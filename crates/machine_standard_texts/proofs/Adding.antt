@@ -17,8 +17,7 @@ use Rattle.zcore.proofs.KeepingReads.{chosen, done_state, never}
 use Rattle.zcore_standard.specs.Characters.{shown_by, print_each, print_codes}
 use Rattle.zcore_standard.specs.Unicode.{print_whole}
 use Rattle.zcore_standard.specs.Loaded.{Loaded}
-use Rattle.zcore_standard.specs.Printing.{any_text_at, by_alphabets, print_any_address, print_any_packed}
-use Rattle.zcore_standard.specs.Texts.{codes_at}
+use Rattle.zcore_standard.specs.Printing.{by_alphabets, print_any_address, print_any_packed}
 use Rattle.machine_frames.specs.Contents.{Contents, memory_of}
 use Rattle.machine_frames.specs.States.{state_of, IsSound}
 use Rattle.machine_frames.specs.Went.{Went, Told}
@@ -31,19 +30,17 @@ use Rattle.machine_standard_texts.specs.declared.characters.Halt.TheVariants as 
 use Rattle.machine_standard_texts.specs.Put.{Prints}
 use Rattle.machine_standard_texts.proofs.Printed.{codes_append}
 
-pub text_read : (s : Recording Contents) (alphabets story : List ℕ) (address : ℕ) (x : List ℕ × ℕ) → IsSound s.store
-    → story ≡ memory_of s.store → codes_at alphabets story address ≡ Ok x
-    → Went (Ok x) s s (any_text_at alphabets address)
-unfolding any_text_at
-text_read s alphabets story address x sound m e = went_still s (any_text_at alphabets address) sound
-    (λ t. ap (λ r. read_text r (state_of s.store t)) (ap (λ l. codes_at alphabets l address) (sym m) ∙ e))
+pub text_read : (s : Recording Contents) (read : List ℕ → Result (List ℕ × ℕ) Cause) (story : List ℕ) (x : List ℕ × ℕ)
+    → IsSound s.store → story ≡ memory_of s.store → read story ≡ Ok x
+    → Went (Ok x) s s (λ t. read_text (read t.memory) t)
+text_read s read story x sound m e = went_still s (λ t. read_text (read t.memory) t) sound
+    (λ t. ap (λ r. read_text r (state_of s.store t)) (ap read (sym m) ∙ e))
 
-pub text_unread : (s : Recording Contents) (alphabets story : List ℕ) (address : ℕ) (cause : Cause) → IsSound s.store
-    → story ≡ memory_of s.store → codes_at alphabets story address ≡ Err cause
-    → Went {A = List ℕ × ℕ} (Err (ends.Stop (places.Fault (text_fault cause)))) s s (any_text_at alphabets address)
-unfolding any_text_at
-text_unread s alphabets story address cause sound m e = went_halt s (any_text_at alphabets address) sound
-    (λ t. ap (λ r. read_text r (state_of s.store t)) (ap (λ l. codes_at alphabets l address) (sym m) ∙ e))
+pub text_unread : (s : Recording Contents) (read : List ℕ → Result (List ℕ × ℕ) Cause) (cause : Cause)
+    → IsSound s.store → read (memory_of s.store) ≡ Err cause
+    → Went {A = List ℕ × ℕ} (Err (ends.Stop (places.Fault (text_fault cause)))) s s (λ t. read_text (read t.memory) t)
+text_unread s read cause sound e = went_halt s (λ t. read_text (read t.memory) t) sound
+    (λ t. ap (λ r. read_text r (state_of s.store t)) e)
 
 -- nothing was added
 pub told_back : {A : Type 0} {r : Result A End} {s t : Recording Contents} {f : State → Out A} (start : ℕ)

@@ -20,7 +20,7 @@ const UNKNOWN: u16 = 63;
 
 /// Why printing halts.
 #[derive(Clone, Copy)]
-pub(crate) enum Halt {
+pub enum Halt {
     /// The next character passes the limit of text.
     Full,
 
@@ -148,7 +148,7 @@ fn put_code(text: &mut Vec<u8>, start: usize, characters: &[u16], code: u16) -> 
 }
 
 /// Adds what a ZSCII code prints, unless the codes before it halted.
-pub(crate) fn put_next(
+pub fn put_next(
     text: &mut Vec<u8>,
     start: usize,
     characters: &[u16],

@@ -10,9 +10,10 @@ mod printing;
 mod reading;
 mod words;
 
-pub use characters::{is_ascii, is_printed};
+pub use characters::{Halt, is_ascii, is_printed, put_next};
 pub use fuel::spend_for;
 pub use printing::{
-    print_address, print_any_address, print_character, print_code, print_inline, print_object,
-    print_packed, print_return, print_transcript,
+    finish, print_address, print_any_address, print_character, print_code, print_inline,
+    print_object, print_packed, print_return, print_transcript, unread,
 };
+pub use words::{bytes_from, word_count, z_character};

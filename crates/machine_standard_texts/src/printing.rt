@@ -1,14 +1,15 @@
 //! The opcodes of the profile that print texts and characters, where any ZSCII code may stand
 //! (Z-Machine Standards Document 1.1, sections 3.8 and 15).
 
-ghost use Rattle.std.specs.Prelude.{◌≡◌, ◌∷◌, [], ℕ, List, Err, Some};
+ghost use Rattle.std.specs.Prelude.{◌≡◌, ◌∷◌, [], ℕ, List, Result, Err, Some};
+ghost use Rattle.zcore.specs.Effects.{read_text};
 ghost use Rattle.zcore.specs.Execution as profile;
 ghost use Rattle.zcore.specs.Objects.{print_object};
 ghost use Rattle.zcore.specs.State.{State, Out};
 ghost use Rattle.ztext.specs.Faults.{FailsText};
+ghost use Rattle.ztext.specs.Reading.{Cause};
 ghost use Rattle.zcore_standard.specs.Characters.{print_codes};
 ghost use Rattle.zcore_standard.specs.Loaded.{alphabets_of};
-ghost use Rattle.zcore_standard.specs.Texts.{codes_at};
 ghost use Rattle.zcore_standard.specs.Printing as definitions;
 ghost use Rattle.zcore_standard.specs.Printing.{by_alphabets};
 ghost use Rattle.zcore_standard.specs.Unicode as unicode;
@@ -41,12 +42,12 @@ fn is_refused(end: &Result<Next, End>) -> bool
     }
 }
 
-/// How a turn ends where a text cannot be read: where memory was refused, it is given up.
-fn unread(store: &mut Recorded<Store>, fault: TextFault) -> End
+/// How a turn ends where a text of memory cannot be read: where memory was refused, it is given up.
+pub fn unread(store: &mut Recorded<Store>, fault: TextFault) -> End
     requires { IsSound store.old.store }
-    ensures { (alphabets : List ℕ) (address : ℕ)
-        → FailsText fault (codes_at alphabets (memory_of store.old.store) address)
-        → Went (Err result) store.old store.new (definitions.any_text_at alphabets address) }
+    ensures { (read : List ℕ → Result (List ℕ × ℕ) Cause)
+        → FailsText fault (read (memory_of store.old.store))
+        → Went (Err result) store.old store.new (λ s. read_text (read s.memory) s) }
 {
     match fault {
         TextFault::End => End::Stop(Place::Fault(Fault::Read)),
@@ -103,7 +104,11 @@ fn halted_end(store: &mut Recorded<Store>, halt: Halt) -> End
 }
 
 /// Ends the turn where printing halted.
-fn finish(store: &mut Recorded<Store>, halted: Option<Halt>) -> Result<(), End>
+///
+/// # Errors
+///
+/// The limit of text. `End::Memory` where memory was refused: the turn is given up.
+pub fn finish(store: &mut Recorded<Store>, halted: Option<Halt>) -> Result<(), End>
     requires { IsSound store.old.store }
     ensures { (was now : List ℕ) (f : State → Out (Unit {0})) → Prints halted was now f
         → Told result store.old was store.new now f }

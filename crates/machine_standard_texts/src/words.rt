@@ -21,7 +21,7 @@ const HEADER_LENGTH: usize = 64;
 const LAST_WORD: u8 = 128;
 
 /// The bytes of a story from an address on: none from its end on.
-pub(crate) fn bytes_from(story: &[u8], at: usize) -> &[u8]
+pub fn bytes_from(story: &[u8], at: usize) -> &[u8]
     ensures { result.now ≡ drop at story.now }
 {
     if at < story.len() { &story[at..] } else { &[] }
@@ -30,7 +30,7 @@ pub(crate) fn bytes_from(story: &[u8], at: usize) -> &[u8]
 /// How many words the text at the front of the bytes has, which stand at an address of the story.
 /// The address after the text has 32 bits.
 #[tactic(auto, using(ztext::proofs::Packing::words_none, ztext::proofs::Packing::words_more, ztext::proofs::Packing::words_last, ztext::proofs::Packing::words_beyond, ztext::proofs::Packing::words_short))]
-pub(crate) fn word_count(bytes: &[u8], at: u32) -> Result<usize, TextFault>
+pub fn word_count(bytes: &[u8], at: u32) -> Result<usize, TextFault>
     ensures words { GivesText (λ n. (words_of n bytes.now, at + 2 * n)) result
         (spec.unpacked_text at bytes.now) }
     ensures room { IfOk result (λ n. 2 * n ≤ length bytes.now) }
@@ -48,7 +48,7 @@ pub(crate) fn word_count(bytes: &[u8], at: u32) -> Result<usize, TextFault>
 }
 
 /// The Z-character at a place of the text at the front of the bytes.
-pub(crate) fn z_character(bytes: &[u8], place: usize) -> u8
+pub fn z_character(bytes: &[u8], place: usize) -> u8
     requires { 2 * (place / 3) + 1 < length bytes.now }
     ensures is { result ≡ z_character_at bytes.now place }
     ensures small { result < 32 }

@@ -29,7 +29,8 @@ impl ZCharacters {
     }
 }
 
-fn place_in(letters: &[u8], c: u8) -> Option<usize>
+/// The first place of a code in a row of letters.
+pub fn place_in(letters: &[u8], c: u8) -> Option<usize>
     ensures found { result ≡ spec.place_in letters.now c }
     ensures within { MatchOption result ⊤ (λ place. place < length letters.now) }
 {

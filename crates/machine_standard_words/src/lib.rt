@@ -18,7 +18,7 @@ mod waiting;
 mod writable;
 
 pub use encode::encode_text;
-pub use form::{nine_characters, packed, put_characters, word_bytes};
+pub use form::{nine_characters, packed, place_in, put_characters, word_bytes};
 pub use given::{give_typed, stop_waiting};
 pub use key::key_of_line;
 pub use lines::{can_be_typed, put_small_letters};

@@ -1,12 +1,12 @@
 //! The status line (Z-Machine Standards Document 1.1, section 8.2).
 
-ghost use Rattle.std.specs.Prelude.{◌≡◌, ◌≤◌, ◌++◌, [], false, OnOk};
+ghost use Rattle.std.specs.Prelude.{◌≡◌, ◌≤◌, ◌++◌, [], OnOk};
 ghost use Rattle.journal.specs.Recording.{IsNothingKept};
 ghost use Rattle.machine_frames.specs.Contents.{memory_of};
 ghost use Rattle.machine_frames.specs.States.{state_of, IsStoreOf};
 ghost use Rattle.zcore.specs.Arithmetic.{signed_text};
 ghost use Rattle.zcore_versions.specs.StatusLine as definitions;
-ghost use Rattle.zcore_versions.specs.Versions.{locks_alphabets, versioned};
+ghost use Rattle.zcore_versions.specs.Versions.{versioned};
 
 use crate::texts::{fill, join_lines, put};
 use journal::{NoMemory, Recorded};
@@ -51,7 +51,6 @@ pub fn put_status_line(
     requires store { IsStoreOf header.now store.old.store }
     requires idle { IsNothingKept store.old }
     requires begun { store.old.beginning ≡ store.old.store.cells }
-    requires unlocked { locks_alphabets version ≡ false }
     requires empty { text.old.items ≡ [] }
     ensures line { OnOk result (text.new.items
         ≡ definitions.status_line (versioned loaded.now version) (state_of store.old.store [])) }
@@ -79,7 +78,6 @@ fn put_place(
     requires store { IsStoreOf header.now store.old.store }
     requires idle { IsNothingKept store.old }
     requires begun { store.old.beginning ≡ store.old.store.cells }
-    requires unlocked { locks_alphabets version ≡ false }
     requires empty { text.old.items ≡ [] }
     ensures place { OnOk result (text.new.items
         ≡ definitions.place_shown (versioned loaded.now version) (state_of store.old.store [])) }
@@ -104,7 +102,6 @@ fn put_name(
     requires store { IsStoreOf header.now store.old.store }
     requires idle { IsNothingKept store.old }
     requires begun { store.old.beginning ≡ store.old.store.cells }
-    requires unlocked { locks_alphabets version ≡ false }
     ensures name { OnOk result (text.new.items ≡ text.old.items ++ definitions.on_one_line
         (definitions.short_name (versioned loaded.now version) (state_of store.old.store []) object)) }
     ensures same { store.new ≡ store.old }

@@ -1,5 +1,5 @@
 -- Calls of older versions in a store.
-use Rattle.std.proofs.Common.{◌≡◌, ◌≢◌, ℕ, ◌+◌, ◌≤◌, ◌<◌, List, length, take, refl, ap, sym, ◌∙◌, Bool, true, false}
+use Rattle.std.proofs.Common.{◌≡◌, ◌≢◌, ℕ, ◌+◌, ◌*◌, ◌≤◌, ◌<◌, List, length, take, refl, ap, sym, ◌∙◌, arith, Bool, true, false}
 use Rattle.std.proofs.Common.{Option, Result, Ok, Err}
 use Rattle.std.proofs.lemmas.Bool.{ne_eqb}
 use Rattle.std.specs.Prelude.{◌==◌, ◌||◌}
@@ -7,11 +7,13 @@ use Rattle.zcore.specs.declared.next.Next.{Next}
 use Rattle.zcore.specs.declared.place.Fault.TheVariants as faults
 use Rattle.zcore.specs.declared.place.Place.TheVariants as places
 use Rattle.zcore.specs.Effects.{give_result}
+use Rattle.zcore.specs.Layout.{longest_story}
 use Rattle.zcore.specs.Parts.{test, call, goes_on}
 use Rattle.zcore.specs.State.{State, Out, done, ◌>>=◌}
 use Rattle.journal.specs.Recording.{Recording}
 use Rattle.machine_frames.specs.Contents.{Contents, memory_of}
 use Rattle.machine_frames.specs.States.{state_of, IsSound}
+use Rattle.machine_opcodes.specs.Routines.{last_routine}
 use Rattle.machine_frames.specs.Went.{Went}
 use Rattle.machine_frames.specs.declared.end.End.{End}
 use Rattle.machine_frames.specs.declared.end.End.TheVariants as ends
@@ -96,9 +98,27 @@ second_not : (a b : Bool) → (a || b) ≡ false → b ≡ false
 second_not true b e = absurd (cc)
 second_not false b e = e
 
-pub small_scale : (version : StoryVersion) → is_small version ≡ true → scale_of version ≡ 2
+small_scale : (version : StoryVersion) → is_small version ≡ true → scale_of version ≡ 2
 small_scale version small = rw small refl
 
-pub large_scale : (version : StoryVersion) → is_late version ≡ false → is_small version ≡ false → scale_of version ≡ 4
+large_scale : (version : StoryVersion) → is_late version ≡ false → is_small version ≡ false → scale_of version ≡ 4
 large_scale version early large =
     rw (large, second_not (version.number == 5) (version.number == 8) early) refl
+
+near_by : (version : StoryVersion) (packed routine : ℕ) (b : Bool) → is_small version ≡ b → is_late version ≡ false
+    → packed ≤ 65535 → version.routine_offset ≤ longest_story → routine ≡ routine_at version packed
+    → routine ≤ last_routine
+near_by version packed routine true small early le near is =
+    let e : routine ≡ 2 * packed + version.routine_offset =
+    is ∙ ap (λ k. k * packed + version.routine_offset) (small_scale version small) in
+    omega (arith, e, le, near)
+near_by version packed routine false large early le near is =
+    let e : routine ≡ 4 * packed + version.routine_offset =
+    is ∙ ap (λ k. k * packed + version.routine_offset) (large_scale version early large) in
+    omega (arith, e, le, near)
+
+-- a routine that a packed address stands for is not past the last one
+pub routine_near : (version : StoryVersion) (packed routine : ℕ) → is_late version ≡ false → packed ≤ 65535
+    → version.routine_offset ≤ longest_story → routine ≡ routine_at version packed → routine ≤ last_routine
+routine_near version packed routine early le near is =
+    near_by version packed routine (is_small version) refl early le near is

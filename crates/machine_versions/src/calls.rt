@@ -1,13 +1,12 @@
 //! Calls of routines with initial values for their locals (Z-Machine Standards Document 1.1, sections
 //! 5.2 and 6.4.4).
 
-ghost use Rattle.std.specs.Prelude.{◌≡◌, ◌≤◌, ◌+◌, ◌*◌, false, length, take, IfSome, IfNone, OnOk};
+ghost use Rattle.std.specs.Prelude.{◌≡◌, ◌≤◌, ◌+◌, ◌*◌, false, length, take, IfSome, IfNone};
 ghost use Rattle.zcore.specs.Layout.{longest_story};
 ghost use Rattle.machine_frames.specs.States.{IsStoreOf};
 ghost use Rattle.machine_frames.specs.Went.{Went};
 ghost use Rattle.zcore_versions.specs.Calls as definitions;
 ghost use Rattle.zcore_versions.specs.Calls.{words_at, has_values, set_locals};
-ghost use Rattle.zcore_versions.specs.Versions as versions;
 ghost use Rattle.zcore_versions.specs.Versions.{is_late};
 ghost use Rattle.machine_opcodes.specs.Routines.{last_routine};
 ghost use Rattle.zcore.specs.Layout.{most_locals};
@@ -58,7 +57,7 @@ pub fn call_older(
     if packed == 0 {
         return give_result(header, store, here, after, result_variable, 0);
     }
-    let routine = routine_at(version, packed);
+    let routine = version.routine_at(packed);
     call_at(
         header,
         store,
@@ -69,25 +68,6 @@ pub fn call_older(
         arguments,
         result_variable,
     )
-}
-
-/// The address that a packed address of a routine stands for (section 1.2.3).
-fn routine_at(version: StoryVersion, packed: u16) -> u32
-    requires early { is_late version ≡ false }
-    requires offset { version.routine_offset ≤ longest_story }
-    ensures same { result ≡ versions.routine_at version packed }
-    ensures within { result ≤ last_routine }
-{
-    scale(version) * packed as u32 + version.routine_offset
-}
-
-/// By how many bytes a packed address counts.
-pub(crate) fn scale(version: StoryVersion) -> u32
-    requires { is_late version ≡ false }
-    ensures same { result ≡ versions.scale_of version }
-    ensures few { result ≤ 4 }
-{
-    if version.is_small() { 2 } else { 4 }
 }
 
 /// A call of a routine, with initial values up to version 4.

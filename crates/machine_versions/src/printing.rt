@@ -1,26 +1,25 @@
 //! Opcodes that print texts of a version (Z-Machine Standards Document 1.1, sections 1.2.3, 12.3.1 and
 //! 15).
 
-ghost use Rattle.std.specs.Prelude.{◌≡◌, ◌≤◌, false};
+ghost use Rattle.std.specs.Prelude.{◌≤◌};
 ghost use Rattle.zcore.specs.Layout.{longest_story};
 ghost use Rattle.machine_frames.specs.States.{IsSound, IsStoreOf};
-ghost use Rattle.machine_frames.specs.Went.{Went};
 ghost use Rattle.machine_opcodes.specs.Printed.{HasBegun, Grew, ToldFrom};
 ghost use Rattle.zcore_versions.specs.Printing as printing;
 ghost use Rattle.zcore_versions.specs.SmallObjects as definitions;
-ghost use Rattle.zcore_versions.specs.Versions.{is_late, locks_alphabets, text_at, versioned};
+ghost use Rattle.zcore_versions.specs.Versions.{text_at, versioned};
 
-use crate::calls::scale;
 use crate::links::test_object;
 use crate::properties::table_of;
 use journal::Recorded;
 use machine_frames::{End, Store, read_byte};
+use machine_locked_texts::print_address;
 use machine_standard_texts::print_any_address;
 use zcore::{Header, Next};
 use zcore_standard::Loaded;
 use zcore_versions::StoryVersion;
 
-/// Prints the text at an address, and goes on. In versions 1 and 2 it is another.
+/// Prints the text at an address, and goes on. In versions 1 and 2 it can lock an alphabet.
 fn print_text(
     store: &mut Recorded<Store>,
     text: &mut Vec<u8>,
@@ -33,11 +32,13 @@ fn print_text(
 ) -> Result<Next, End>
     requires sound { IsSound store.old.store }
     requires text { HasBegun start text.old.items }
-    requires unlocked { locks_alphabets version ≡ false }
     ensures told { ToldFrom start result store.old text.old.items store.new text.new.items
         (printing.print_text (versioned loaded.now version) here after address) }
     ensures text { Grew start text.old.items text.new.items }
 {
+    if version.locks_alphabets() {
+        return print_address(store, text, start, loaded, version, here, after, address);
+    }
     print_any_address(store, text, start, loaded, here, after, address)
 }
 
@@ -59,14 +60,12 @@ pub fn print_packed(
 ) -> Result<Next, End>
     requires sound { IsSound store.old.store }
     requires text { HasBegun start text.old.items }
-    requires early { is_late version ≡ false }
-    requires unlocked { locks_alphabets version ≡ false }
     requires offset { version.text_offset ≤ longest_story }
     ensures told { ToldFrom start result store.old text.old.items store.new text.new.items
         (printing.print_text (versioned loaded.now version) here after (text_at version packed)) }
     ensures text { Grew start text.old.items text.new.items }
 {
-    let address = scale(version) * packed as u32 + version.text_offset;
+    let address = version.scale() * packed as u32 + version.text_offset;
     print_text(store, text, start, loaded, version, here, after, address)
 }
 
@@ -90,7 +89,6 @@ pub fn print_object(
 ) -> Result<Next, End>
     requires store { IsStoreOf header.now store.old.store }
     requires text { HasBegun start text.old.items }
-    requires unlocked { locks_alphabets version ≡ false }
     ensures told { ToldFrom start result store.old text.old.items store.new text.new.items
         (definitions.print_object (versioned loaded.now version) here after object) }
     ensures text { Grew start text.old.items text.new.items }

@@ -1,5 +1,6 @@
 -- Operations that a version performs otherwise, on the values of their operands.
-use Rattle.std.proofs.Common.{◌≡◌, ◌≢◌, ℕ, List, Bool, true, false, Option, Result, Ok, Err, refl, slice_index}
+use Rattle.std.proofs.Common.{◌≡◌, ◌≢◌, ℕ, List, true, false, Option, Result, Ok, Err, refl}
+use Rattle.std.proofs.Common.{◌⊎◌, inl, inr}
 use Rattle.std.proofs.lemmas.Bool.{eq-eqb, ne_eqb}
 use Rattle.journal.specs.Recording.{Recording}
 use Rattle.zcore.specs.declared.instruction.Branch.{Branch}
@@ -33,56 +34,48 @@ use Rattle.machine_versions_steps.specs.Kinds.{is_on_small_object, take_out}
 
 -- Objects
 
-pub on_small_object : (version : StoryVersion) (operation : Operation) → locks_alphabets version ≡ false
-    → differs version.number operation ≡ true
+pub on_small_object : (version : ℕ) (operation : Operation) → differs version operation ≡ true
     → operation ≢ known.CallVs → operation ≢ known.CallVs2 → operation ≢ known.Call1s → operation ≢ known.Call2s
     → operation ≢ known.CallVn → operation ≢ known.CallVn2 → operation ≢ known.Call1n → operation ≢ known.Call2n
     → operation ≢ known.PrintPacked → operation ≢ known.PrintObject → operation ≢ known.Print
     → operation ≢ known.PrintReturn → operation ≢ known.PrintAddress
     → is_on_small_object operation ≡ true
-on_small_object version known.CallVs u z a b d e f g h i j k l m n = absurd (a refl)
-on_small_object version known.CallVs2 u z a b d e f g h i j k l m n = absurd (b refl)
-on_small_object version known.Call1s u z a b d e f g h i j k l m n = absurd (d refl)
-on_small_object version known.Call2s u z a b d e f g h i j k l m n = absurd (e refl)
-on_small_object version known.CallVn u z a b d e f g h i j k l m n = absurd (f refl)
-on_small_object version known.CallVn2 u z a b d e f g h i j k l m n = absurd (g refl)
-on_small_object version known.Call1n u z a b d e f g h i j k l m n = absurd (h refl)
-on_small_object version known.Call2n u z a b d e f g h i j k l m n = absurd (i refl)
-on_small_object version known.PrintPacked u z a b d e f g h i j k l m n = absurd (j refl)
-on_small_object version known.PrintObject u z a b d e f g h i j k l m n = absurd (k refl)
-on_small_object version known.Print u z a b d e f g h i j k l m n = absurd (l refl)
-on_small_object version known.PrintReturn u z a b d e f g h i j k l m n = absurd (m refl)
-on_small_object version known.PrintAddress u z a b d e f g h i j k l m n = absurd (n refl)
-on_small_object version known.JumpIfIn u z a b d e f g h i j k l m n = refl
-on_small_object version known.TestAttribute u z a b d e f g h i j k l m n = refl
-on_small_object version known.SetAttribute u z a b d e f g h i j k l m n = refl
-on_small_object version known.ClearAttribute u z a b d e f g h i j k l m n = refl
-on_small_object version known.InsertObject u z a b d e f g h i j k l m n = refl
-on_small_object version known.RemoveObject u z a b d e f g h i j k l m n = refl
-on_small_object version known.GetParent u z a b d e f g h i j k l m n = refl
-on_small_object version known.GetSibling u z a b d e f g h i j k l m n = refl
-on_small_object version known.GetChild u z a b d e f g h i j k l m n = refl
-on_small_object version known.GetProperty u z a b d e f g h i j k l m n = refl
-on_small_object version known.GetPropertyAddress u z a b d e f g h i j k l m n = refl
-on_small_object version known.GetNextProperty u z a b d e f g h i j k l m n = refl
-on_small_object version known.GetPropertyLength u z a b d e f g h i j k l m n = refl
-on_small_object version known.PutProperty u z a b d e f g h i j k l m n = refl
-on_small_object version _ u z a b d e f g h i j k l m n = absurd (cc)
+on_small_object version known.CallVs z a b d e f g h i j k l m n = absurd (a refl)
+on_small_object version known.CallVs2 z a b d e f g h i j k l m n = absurd (b refl)
+on_small_object version known.Call1s z a b d e f g h i j k l m n = absurd (d refl)
+on_small_object version known.Call2s z a b d e f g h i j k l m n = absurd (e refl)
+on_small_object version known.CallVn z a b d e f g h i j k l m n = absurd (f refl)
+on_small_object version known.CallVn2 z a b d e f g h i j k l m n = absurd (g refl)
+on_small_object version known.Call1n z a b d e f g h i j k l m n = absurd (h refl)
+on_small_object version known.Call2n z a b d e f g h i j k l m n = absurd (i refl)
+on_small_object version known.PrintPacked z a b d e f g h i j k l m n = absurd (j refl)
+on_small_object version known.PrintObject z a b d e f g h i j k l m n = absurd (k refl)
+on_small_object version known.Print z a b d e f g h i j k l m n = absurd (l refl)
+on_small_object version known.PrintReturn z a b d e f g h i j k l m n = absurd (m refl)
+on_small_object version known.PrintAddress z a b d e f g h i j k l m n = absurd (n refl)
+on_small_object version known.JumpIfIn z a b d e f g h i j k l m n = refl
+on_small_object version known.TestAttribute z a b d e f g h i j k l m n = refl
+on_small_object version known.SetAttribute z a b d e f g h i j k l m n = refl
+on_small_object version known.ClearAttribute z a b d e f g h i j k l m n = refl
+on_small_object version known.InsertObject z a b d e f g h i j k l m n = refl
+on_small_object version known.RemoveObject z a b d e f g h i j k l m n = refl
+on_small_object version known.GetParent z a b d e f g h i j k l m n = refl
+on_small_object version known.GetSibling z a b d e f g h i j k l m n = refl
+on_small_object version known.GetChild z a b d e f g h i j k l m n = refl
+on_small_object version known.GetProperty z a b d e f g h i j k l m n = refl
+on_small_object version known.GetPropertyAddress z a b d e f g h i j k l m n = refl
+on_small_object version known.GetNextProperty z a b d e f g h i j k l m n = refl
+on_small_object version known.GetPropertyLength z a b d e f g h i j k l m n = refl
+on_small_object version known.PutProperty z a b d e f g h i j k l m n = refl
+on_small_object version _ z a b d e f g h i j k l m n = absurd (cc)
 
--- an operation that prints a text and has no packed address and no object
-abbrev pub IsPlainText : Operation → Type 0
-IsPlainText known.Print = Unit {0}
-IsPlainText known.PrintReturn = Unit {0}
-IsPlainText known.PrintAddress = Unit {0}
-IsPlainText _ = ⊥
-
--- a text is not printed otherwise where none is locked
-pub no_text : {P : Type 0} (version : StoryVersion) (operation : Operation) → locks_alphabets version ≡ false
-    → differs version.number operation ≡ true → IsPlainText operation → P
-no_text version known.Print unlocked differ is = absurd (cc)
-no_text version known.PrintReturn unlocked differ is = absurd (cc)
-no_text version known.PrintAddress unlocked differ is = absurd (cc)
-no_text version _ unlocked differ is = absurd is
+-- a text alone is printed otherwise where an alphabet can be locked
+pub text_locked : (version : StoryVersion) (operation : Operation)
+    → (operation ≡ known.Print) ⊎ ((operation ≡ known.PrintReturn) ⊎ (operation ≡ known.PrintAddress))
+    → differs version.number operation ≡ true → locks_alphabets version ≡ true
+text_locked version operation (inl e) differ = rw e at differ
+text_locked version operation (inr (inl e)) differ = rw e at differ
+text_locked version operation (inr (inr e)) differ = rw e at differ
 
 pub nothing_taken : (s : Recording Contents) (here : Next) (after object : ℕ) → IsSound s.store → object ≡ 0
     → Went (Ok (record { program_counter = after; fuel = here.fuel })) s s (take_out here after object)

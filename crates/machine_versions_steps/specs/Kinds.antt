@@ -11,13 +11,12 @@ use Rattle.zcore_versions.specs.declared.operations.VersionOperation.{VersionOpe
 use Rattle.zcore_versions.specs.declared.operations.VersionOperation.TheVariants.{Known}
 use Rattle.zcore_versions.specs.Operations.{differs, uses_objects}
 use Rattle.zcore_versions.specs.SmallObjects.{remove_object}
-use Rattle.zcore_versions.specs.Versions.{is_late, locks_alphabets}
+use Rattle.zcore_versions.specs.Versions.{is_late}
 
--- A version that performs opcodes otherwise than versions 5 and 8, and has no locks in its texts. What packed addresses
--- count from is a place that a word of the header can name.
+-- A version that performs opcodes otherwise than versions 5 and 8. What packed addresses count from is a place that a
+-- word of the header can name.
 pub record IsEarly (version : StoryVersion) : Type 0 where
   pub early : is_late version ≡ false
-  pub unlocked : locks_alphabets version ≡ false
   pub routines : version.routine_offset ≤ longest_story
   pub texts : version.text_offset ≤ longest_story
 

@@ -19,6 +19,7 @@ use crate::objects::{perform_on_none, perform_on_object, value_of};
 use crate::reading::read_line;
 use journal::Recorded;
 use machine_frames::{End, Store, pop};
+use machine_locked_texts::{print_address, print_inline, print_return};
 use machine_opcodes::{Ending, branch_on, give_result};
 use machine_standard_objects::concerns_nothing;
 use machine_standard_windows::{TurnState, split_window};
@@ -82,9 +83,14 @@ fn perform_other(
         Operation::PrintObject => {
             print_object(header, store, text, start, loaded, version, here, after, x)
         }
-        Operation::Print => unreachable!(),
-        Operation::PrintReturn => unreachable!(),
-        Operation::PrintAddress => unreachable!(),
+        Operation::Print => print_inline(store, text, start, loaded, version, here, after),
+        Operation::PrintReturn => {
+            print_return(header, store, text, start, loaded, version, here, after)
+        }
+        Operation::PrintAddress => {
+            let address = u32::from(x);
+            print_address(store, text, start, loaded, version, here, after, address)
+        }
         _ => perform_on_object(header, store, here, operation, values, ending),
     }
 }

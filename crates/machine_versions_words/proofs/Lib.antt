@@ -5,3 +5,4 @@ pub mod Parsing
 pub mod Buffers
 pub mod Typing
 pub mod Handing
+pub mod Locking

@@ -6,6 +6,7 @@ use Rattle.ztext.specs.TextParts.{filled}
 use Rattle.zcore_standard.specs.Loaded.{alphabets_of}
 use Rattle.zcore_standard.specs.Texts.{spelled_by}
 use Rattle.zcore_versions.specs.Keys.{spelled_in, form_in}
+use Rattle.zcore_versions.specs.LockedTexts.{spelled_with_locks}
 use Rattle.zcore_versions.specs.Versions.{Story, is_small, locks_alphabets}
 
 six : (zs : List ℕ) → length zs ≡ 9 → take 6 zs
@@ -43,3 +44,7 @@ key_is story word zs key small is e =
 pub not_locked : (story : Story) (word zs : List ℕ) → locks_alphabets story.version ≡ false
     → zs ≡ filled (spelled_by (alphabets_of story.loaded) word) → zs ≡ filled (spelled_in story word)
 not_locked story word zs none e = rw none e
+
+pub locked_spelled : (story : Story) (word zs : List ℕ) → locks_alphabets story.version ≡ true
+    → zs ≡ filled (spelled_with_locks story.version.number 0 word) → zs ≡ filled (spelled_in story word)
+locked_spelled story word zs locked e = rw locked e

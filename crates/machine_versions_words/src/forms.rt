@@ -1,12 +1,13 @@
-//! The key of a word in version 3: its first six Z-characters, in four bytes (Z-Machine Standards
+//! The key of a word in versions 1 to 3: its first six Z-characters, in four bytes (Z-Machine Standards
 //! Document 1.1, sections 3.7 and 13.3).
 
-ghost use Rattle.std.specs.Prelude.{◌≡◌, true, false, take};
+ghost use Rattle.std.specs.Prelude.{◌≡◌, true, take};
 ghost use Rattle.ztext.specs.TextParts.{AreSmall};
 ghost use Rattle.ztext.specs.Words as words;
 ghost use Rattle.zcore_versions.specs.Keys as definitions;
-ghost use Rattle.zcore_versions.specs.Versions.{is_small, locks_alphabets, versioned};
+ghost use Rattle.zcore_versions.specs.Versions.{is_small, versioned};
 
+use crate::locks::locked_characters;
 use machine_standard_words::{nine_characters, word_bytes};
 use zcore_standard::Loaded;
 use zcore_versions::StoryVersion;
@@ -21,11 +22,14 @@ fn packed_six(characters: &[u8; 9]) -> [u8; 4]
     [a, b, c, d]
 }
 
-/// The key of a word in version 3.
+/// The key of a word in versions 1 to 3.
 pub(crate) fn small_key(loaded: &Loaded, version: StoryVersion, word: &[u8]) -> [u8; 4]
     requires small { is_small version ≡ true }
-    requires unlocked { locks_alphabets version ≡ false }
     ensures { result ≡ definitions.form_in (versioned loaded.now version) word.now }
 {
-    packed_six(&nine_characters(loaded.alphabets(), word))
+    if version.locks_alphabets() {
+        packed_six(&locked_characters(version.number, word))
+    } else {
+        packed_six(&nine_characters(loaded.alphabets(), word))
+    }
 }

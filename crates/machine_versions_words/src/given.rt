@@ -1,7 +1,7 @@
 //! The line that is given to a machine of any version that waits for a line or a key (Z-Machine Standards
 //! Document 1.1, section 15, `sread`, `aread` and `read_char`).
 
-ghost use Rattle.std.specs.Prelude.{◌≡◌, true, IfOk, OnOk, OnErr, false};
+ghost use Rattle.std.specs.Prelude.{◌≡◌, true, IfOk, OnOk, OnErr};
 ghost use Rattle.zcore_standard.specs.Reading.{result_given};
 ghost use Rattle.zcore_versions.specs.Reading as definitions;
 ghost use Rattle.machine_frames.specs.Contents.{memory_of};
@@ -9,7 +9,7 @@ ghost use Rattle.machine_frames.specs.States.{IsStoreOf};
 ghost use Rattle.machine_frames.specs.Went.{GivenUp};
 ghost use Rattle.machine_lines.specs.Lines.{Filled};
 ghost use Rattle.machine_versions_words.specs.Taking.{CanBeGivenBy, CanBeGivenOlder, TakesGivenBy, TakesOlder};
-ghost use Rattle.zcore_versions.specs.Versions.{locks_alphabets, versioned};
+ghost use Rattle.zcore_versions.specs.Versions.{versioned};
 
 use crate::typed::fill_line;
 use journal::{NoMemory, Recorded};
@@ -39,7 +39,6 @@ pub fn give_line(
     fuel: u32,
 ) -> Result<Next, End>
     requires store { IsStoreOf header.now store.old.store }
-    requires unlocked { locks_alphabets version ≡ false }
     requires waiting { CanBeGivenBy (versioned loaded.now version) store.old.store }
     ensures { TakesGivenBy (versioned loaded.now version) result store.old store.new line.now fuel }
 {
@@ -60,7 +59,6 @@ fn give_older(
     fuel: u32,
 ) -> Result<Next, End>
     requires store { IsStoreOf header.now store.old.store }
-    requires unlocked { locks_alphabets version ≡ false }
     requires waiting { CanBeGivenOlder store.old.store }
     ensures { TakesOlder (versioned loaded.now version) result store.old store.new line.now fuel }
 {
@@ -89,7 +87,6 @@ fn take_line(
     line: &[u8],
 ) -> Result<u16, NoMemory>
     requires store { IsStoreOf header.now store.old.store }
-    requires unlocked { locks_alphabets version ≡ false }
     requires given { definitions.can_take_old (memory_of store.old.store) text parse ≡ true }
     ensures word { IfOk result (λ word. word ≡ result_given loaded.now.characters text line.now) }
     ensures filled { OnOk result (Filled store.old store.new

@@ -5,6 +5,7 @@
 mod forms;
 mod given;
 mod keys;
+mod locks;
 mod search;
 mod slots;
 mod typed;

@@ -1,9 +1,9 @@
 //! The entry of a word in a dictionary (Z-Machine Standards Document 1.1, sections 13.3 and 13.4).
 
-ghost use Rattle.std.specs.Prelude.{◌≡◌, true, false};
+ghost use Rattle.std.specs.Prelude.{◌≡◌, true};
 ghost use Rattle.zcore.specs.Header.{HasDictionaryHead, IsDictionary};
 ghost use Rattle.zcore_versions.specs.Keys as definitions;
-ghost use Rattle.zcore_versions.specs.Versions.{locks_alphabets, versioned};
+ghost use Rattle.zcore_versions.specs.Versions.{versioned};
 
 use crate::forms::small_key;
 use crate::keys::find_small;
@@ -21,7 +21,6 @@ pub(crate) fn entry_for(
     is_ordered: bool,
     word: &[u8],
 ) -> u16
-    requires unlocked { locks_alphabets version ≡ false }
     requires head { HasDictionaryHead memory.now dictionary }
     requires ordered { is_ordered ≡ true → IsDictionary memory.now dictionary }
     ensures { result ≡ definitions.entry_for (versioned loaded.now version) memory.now dictionary

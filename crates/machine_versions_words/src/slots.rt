@@ -1,13 +1,13 @@
 //! The words of a line as the slots of a parse buffer of versions 1 to 4 (Z-Machine Standards Document
 //! 1.1, sections 13.6 and 15, `sread`).
 
-ghost use Rattle.std.specs.Prelude.{◌≡◌, ◌≤◌, ◌+◌, ◌*◌, ◌++◌, true, length, take, false};
+ghost use Rattle.std.specs.Prelude.{◌≡◌, ◌≤◌, ◌+◌, ◌*◌, ◌++◌, true, length, take};
 ghost use Rattle.std.specs.List.{flat_map};
 ghost use Rattle.zcore.specs.Header.{HasDictionaryHead, IsDictionary, dictionary_of};
 ghost use Rattle.zcore.specs.Parsing.{first_words};
 ghost use Rattle.zcore_versions.specs.Reading.{slot_bytes};
 ghost use Rattle.tables.specs.Placed.{word_of};
-ghost use Rattle.zcore_versions.specs.Versions.{locks_alphabets, versioned};
+ghost use Rattle.zcore_versions.specs.Versions.{versioned};
 
 use crate::search::entry_for;
 use machine_lines::separators;
@@ -31,7 +31,6 @@ pub(crate) fn slots(
     most: u8,
     bytes: &mut [u8; 1020],
 ) -> u8
-    requires unlocked { locks_alphabets version ≡ false }
     requires own { dictionary.address ≡ dictionary_of memory.now }
     requires head { HasDictionaryHead memory.now dictionary.address }
     requires ordered { dictionary.is_ordered ≡ true → IsDictionary memory.now dictionary.address }
@@ -67,7 +66,6 @@ fn put_slot(
     bytes: &mut [u8; 1020],
     place: usize,
 )
-    requires unlocked { locks_alphabets version ≡ false }
     requires own { dictionary.address ≡ dictionary_of memory.now }
     requires head { HasDictionaryHead memory.now dictionary.address }
     requires ordered { dictionary.is_ordered ≡ true → IsDictionary memory.now dictionary.address }

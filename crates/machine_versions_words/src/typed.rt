@@ -1,7 +1,7 @@
 //! The letters and words of a line that is typed, in versions 1 to 4 (Z-Machine Standards Document 1.1,
 //! section 15, `sread`).
 
-ghost use Rattle.std.specs.Prelude.{◌≡◌, ◌≢◌, ◌≤◌, ◌<◌, ◌+◌, ◌*◌, ◌++◌, ◌∷◌, [], true, length, take, slice_index, OnOk, OnErr, false};
+ghost use Rattle.std.specs.Prelude.{◌≡◌, ◌≢◌, ◌≤◌, ◌<◌, ◌+◌, ◌*◌, ◌++◌, ◌∷◌, [], true, length, OnOk, OnErr};
 ghost use Rattle.zcore.specs.Header.{static_base_of};
 ghost use Rattle.zcore.specs.Layout.{header_size};
 ghost use Rattle.zcore_versions.specs.Reading as definitions;
@@ -9,7 +9,7 @@ ghost use Rattle.machine_frames.specs.Contents.{memory_of};
 ghost use Rattle.machine_frames.specs.States.{IsSound, IsStoreOf};
 ghost use Rattle.machine_frames.specs.Went.{GivenUp};
 ghost use Rattle.machine_lines.specs.Lines.{Filled, Fills, HasRoomForWords};
-ghost use Rattle.zcore_versions.specs.Versions.{locks_alphabets, versioned};
+ghost use Rattle.zcore_versions.specs.Versions.{versioned};
 ghost use Rattle.machine_versions_words.specs.Parts.{line_memory};
 
 use crate::slots::{SLOTS_LENGTH, slots};
@@ -41,7 +41,6 @@ pub(crate) fn fill_line(
     line: &[u8],
 ) -> Result<(), NoMemory>
     requires store { IsStoreOf header.now store.old.store }
-    requires unlocked { locks_alphabets version ≡ false }
     requires given { text ≢ 0 }
     requires right { definitions.can_take_old (memory_of store.old.store) text parse ≡ true }
     ensures filled { OnOk result (Filled store.old store.new
@@ -76,7 +75,6 @@ fn fill_letters(
     letters: &[u8],
 ) -> Result<(), NoMemory>
     requires store { IsStoreOf header.now store.old.store }
-    requires unlocked { locks_alphabets version ≡ false }
     requires few { length letters.now ≤ 255 }
     requires past_header { header_size ≤ text }
     requires room { text + 2 + length letters.now ≤ static_base_of (memory_of store.old.store) }
@@ -104,7 +102,6 @@ fn fill_words(
     letters: &[u8],
 ) -> Result<(), NoMemory>
     requires store { IsStoreOf header.now store.old.store }
-    requires unlocked { locks_alphabets version ≡ false }
     requires few { length letters.now ≤ 255 }
     requires past_header { header_size ≤ text }
     requires room { text + 2 + length letters.now ≤ static_base_of (memory_of store.old.store) }

@@ -1,8 +1,8 @@
 //! What is in story files, without running them.
 
-use crate::broken;
 use crate::names::shown_mark;
 use crate::unread::regular_story;
+use crate::{UNREADABLE, broken};
 use blorb::BlorbFault;
 use messages_explanations::Program;
 use session::{LoadFault, RunFault};
@@ -37,9 +37,25 @@ pub fn take_mode(given: &mut Vec<String>) -> Mode {
     }
 }
 
+/// Says the same as `check` of files, and of more that come after them.
+pub fn check_all<'a>(
+    rt: &HostRuntime,
+    mut files: Vec<&'a str>,
+    after: &'a [String],
+    mode: Mode,
+    format: Format,
+) -> ExitCode {
+    for file in after {
+        if files.push(file.as_str()).is_err() {
+            return refuse(rt, UNREADABLE);
+        }
+    }
+    check(rt, &files, mode, format)
+}
+
 /// Says what is in the file of a name, or whether each of several files loads, a line for each. The
 /// status has the bits of each of theirs.
-pub fn check(rt: &HostRuntime, files: &[&str], mode: Mode, format: Format) -> ExitCode {
+fn check(rt: &HostRuntime, files: &[&str], mode: Mode, format: Format) -> ExitCode {
     match (files, format) {
         ([file], Format::Words) => check_alone(rt, file, mode),
         _ => check_each(rt, files, mode, format),
@@ -159,18 +175,22 @@ fn refused<F: Display + Drop>(
 
 /// Says why a Blorb file has no story that can be played.
 fn refuse_blorb(rt: &HostRuntime, fault: BlorbFault) -> ExitCode {
-    let name = match fault {
-        BlorbFault::Damaged => "Z10",
-        BlorbFault::NoProgram => "Z11",
-        BlorbFault::OtherProgram => "Z12",
-    };
-    if let Some(explanation) = Program::Play.explanations().find(name) {
+    if let Some(explanation) = Program::Play.explanations().find(name_of(fault)) {
         let title = explanation.title;
         if println!(rt; "{fault}: {title}").is_err() {
             return broken(rt, RunFault::Writing);
         }
     }
     refuse(rt, fault)
+}
+
+/// The name by which it is explained why a Blorb file has no story.
+pub fn name_of(fault: BlorbFault) -> &'static str {
+    match fault {
+        BlorbFault::Damaged => "Z10",
+        BlorbFault::NoProgram => "Z11",
+        BlorbFault::OtherProgram => "Z12",
+    }
 }
 
 /// The status of a story that loads.

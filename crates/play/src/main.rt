@@ -1,11 +1,15 @@
 //! Plays a story file, says what is in one, and explains what the player answers.
 #![tactic(auto)]
 
+mod advice;
+mod answers;
 mod checking;
 mod filling;
 mod graphical;
 mod names;
+mod naming;
 mod place;
+mod prompts;
 mod reading;
 mod screen;
 mod standing;
@@ -15,9 +19,11 @@ mod unread;
 
 ghost use Rattle.terminal.specs.Range.{IsInRange};
 
-use crate::checking::{check, take_mode};
+use crate::advice::{OTHER_VERSION, advise, advise_on_reading, advise_on_story};
+use crate::checking::{check_all, name_of, take_mode};
 use crate::graphical::refused_as_graphical;
 use crate::names::{given_words, has_marked};
+use crate::naming::longer_name;
 use crate::place::{Placed, map_in, rows_in};
 use crate::reading::story_in;
 use crate::screen::Screen;
@@ -25,13 +31,14 @@ use crate::stop::Stop;
 use crate::transcript::Transcript;
 use map_text::Row;
 use messages_explanations::Program;
-use session::{Mode, Place, RunFault, Session, run, status};
+use session::{Mode, OpenFault, Place, RunFault, Session, run, status};
 use session_file::{Later, Typed, count_lines};
 use session_keeping::{Keeping, Kept, Lock, REFUSED, refuse, seeded, told_seed};
 use std::fmt::Display;
 use std::io::{Cursor, IsTerminal, Read, Write};
 use std::process::ExitCode;
-use terminal::play::{Asked, Words, take_format, words_of};
+use survey_headers::Beginning;
+use terminal::play::{Asked, Words, take_files, take_format, words_of};
 use terminal::{OneLine, Wrapped};
 
 /// The exit status where an answer is to be explained that is none.
@@ -41,7 +48,7 @@ const UNKNOWN: u8 = 2;
 const BROKEN: u8 = 5;
 
 /// What is said of a command line with a word that is not UTF-8 and names no file to check.
-const UNREADABLE: &str = "cannot read the command line";
+pub(crate) const UNREADABLE: &str = "cannot read the command line";
 
 fn main(rt: HostRuntime) -> ExitCode {
     let alloc = rt.alloc();
@@ -51,8 +58,11 @@ fn main(rt: HostRuntime) -> ExitCode {
     let is_marked = has_marked(&given);
     let format = take_format(&mut given);
     let mode = take_mode(&mut given);
-    match words_of(alloc, given.as_slice()) {
-        Ok(Asked::Check(files)) => check(&rt, files.as_slice(), mode, format),
+    let Ok(after) = take_files(alloc, &mut given) else {
+        return refuse(&rt, UNREADABLE);
+    };
+    match words_of(alloc, given.as_slice(), rt.stdout().is_terminal()) {
+        Ok(Asked::Check(files)) => check_all(&rt, files, &after, mode, format),
         _ if is_marked => refuse(&rt, UNREADABLE),
         Ok(Asked::Play(words)) => play_session(&rt, words),
         Ok(Asked::Explain(name)) => explain(&rt, name),
@@ -94,24 +104,50 @@ pub(crate) fn broken<W: Display + Drop>(rt: &HostRuntime, fault: W) -> ExitCode 
 /// The story that is to be played, or else the status with which the program ends, which has said
 /// why.
 fn story_of(rt: &HostRuntime, words: Words<'_>) -> Result<Vec<u8>, ExitCode> {
-    let mode = match words.seed {
-        Some(_) => survey::Mode::Standard,
-        None => survey::Mode::Profile,
-    };
+    let mode = survey_mode(words);
     match story_in(rt, words.story, mode) {
         Ok(Ok(story)) => match refused_as_graphical(&story, mode) {
-            Some(why) => Err(refuse(rt, why)),
+            Some(why) => {
+                let status = refuse(rt, why);
+                advise_on_story(rt, OTHER_VERSION, Beginning::read(&story), mode);
+                Err(status)
+            }
             None => Ok(story),
         },
-        Ok(Err(fault)) => Err(refuse(rt, fault)),
-        Err(_) => Err(refuse(rt, format_args!("cannot read {}", OneLine(words.story)))),
+        Ok(Err(fault)) => {
+            let status = refuse(rt, fault);
+            advise(rt, name_of(fault), mode);
+            Err(status)
+        }
+        Err(error) => {
+            let status = refuse(rt, format_args!("cannot read {}", OneLine(words.story)));
+            advise_on_reading(rt, words.story, &error);
+            Err(status)
+        }
     }
 }
 
-/// Plays a story file, and keeps the session in a file where one is named.
+/// For which machine a story is read.
+pub(crate) fn survey_mode(words: Words<'_>) -> survey::Mode {
+    match words.seed {
+        Some(_) => survey::Mode::Standard,
+        None => survey::Mode::Profile,
+    }
+}
+
+/// Plays a story file, of which a user at a terminal need not name the end, and keeps the session in a
+/// file where one is named.
 fn play_session(rt: &HostRuntime, words: Words<'_>) -> ExitCode
     requires { IsInRange words }
 {
+    let longer = longer_name(rt, words.story);
+    let words = match &longer {
+        Some(story) => Words {
+            story: story.as_str(),
+            ..words
+        },
+        None => words,
+    };
     let Some(name) = words.session else {
         return status_of(play(rt, seeded(rt, words), None));
     };
@@ -179,9 +215,10 @@ fn play_story(
         Some(seed) => Mode::Standard(seed),
         None => Mode::Profile,
     };
+    let beginning = Beginning::read(&story);
     let mut session = match Session::open_with(rt.alloc(), story, mode, words.fuel, words.keep) {
         Ok(session) => session,
-        Err(fault) => return Err(refuse(rt, fault)),
+        Err(fault) => return Err(refuse_story(rt, fault, beginning, survey_mode(words))),
     };
     let kept = match keeping.map(|keeping| keeping.begin(rt, words)).transpose() {
         Ok(kept) => kept,
@@ -191,10 +228,10 @@ fn play_story(
         }
     };
     let ran = match words.wrap {
-        None => run_to(rt, rt.stdout(), &mut session, words.map.is_some(), kept),
+        None => run_to(rt, rt.stdout(), &mut session, words, kept),
         Some(columns) => {
             let wrapped = Wrapped::new(rt.alloc(), rt.stdout(), columns as usize);
-            run_to(rt, wrapped, &mut session, words.map.is_some(), kept)
+            run_to(rt, wrapped, &mut session, words, kept)
         }
     };
     if words.why && ran.is_ok() {
@@ -203,8 +240,26 @@ fn play_story(
     session.leave();
     match ran {
         Ok(place) => Ok(ExitCode::from(status(&place))),
-        Err(stop) => Err(broken(rt, stop)),
+        Err(stop) => {
+            let status = broken(rt, stop);
+            advise(rt, stop.name(), survey_mode(words));
+            Err(status)
+        }
     }
+}
+
+/// Says on standard error why a story is not opened, and at a terminal what it is and what plays it.
+fn refuse_story(
+    rt: &HostRuntime,
+    fault: OpenFault,
+    beginning: Beginning,
+    mode: survey::Mode,
+) -> ExitCode {
+    let status = refuse(rt, fault);
+    if let Ok(name) = format!(in rt.alloc(); "{fault}") {
+        advise_on_story(rt, name.as_str(), beginning, mode);
+    }
+    status
 }
 
 /// Says on standard error where the story stands, and the seed that its user has not given.
@@ -222,7 +277,7 @@ fn run_to<W: Write + Drop>(
     rt: &HostRuntime,
     mut writer: W,
     session: &mut Session,
-    is_mapped: bool,
+    words: Words<'_>,
     kept: Option<Kept>,
 ) -> Result<Place, Stop> {
     let is_seen = rt.stdout().is_terminal();
@@ -233,10 +288,10 @@ fn run_to<W: Write + Drop>(
     match kept {
         Some(kept) => {
             let later = Later::new(screen, count_lines(&kept.typed));
-            run_on(rt, Transcript::new(rt, later, is_mapped), session, kept)
+            run_on(rt, Transcript::new(rt, later, words), session, kept)
         }
         None => {
-            let mut transcript = Transcript::new(rt, Later::new(screen, 0), is_mapped);
+            let mut transcript = Transcript::new(rt, Later::new(screen, 0), words);
             stopped(run(&mut rt.stdin(), &mut transcript, session))
         }
     }

@@ -13,6 +13,17 @@ pub enum Stop {
     Unkept,
 }
 
+impl Stop {
+    /// The name by which it is explained.
+    pub fn name(self) -> &'static str {
+        match self {
+            Stop::Run(RunFault::Reading) => "S1",
+            Stop::Run(RunFault::Writing) => "S2",
+            Stop::Unkept => "S4",
+        }
+    }
+}
+
 impl Display for Stop {
     fn fmt<W: fmt::Write>(&self, f: &mut Formatter<W>) -> fmt::Result {
         match self {

@@ -3,31 +3,18 @@
 ghost use Rattle.std.specs.Prelude.{◌≡◌};
 ghost use Rattle.session_file.specs.Later.{later_contents};
 
+use crate::advice::{LINE_REFUSED, NO_MEMORY, advise};
+use crate::answers::{Latest, last_line};
+use crate::prompts::Prompts;
 use crate::screen::show;
+use crate::survey_mode;
 use session_file::Later;
-use std::alloc::Global;
 use std::io::{self, IsTerminal, Write};
-
-/// What the player answers to a line after the end of the story.
-const OVER: &[u8] = b"[The story is over.]\n";
-
-/// What it answers else that the story does not know of, and behind which the story still waits.
-const NOTICES: [&[u8]; 6] = [
-    b"[Undone.]\n",
-    b"[Nothing to undo.]\n",
-    b"[Nothing to redo.]\n",
-    b"[Line refused.]\n",
-    b"[No status line.]\n",
-    b"[No memory: line not taken.]\n",
-];
+use survey::Mode;
+use terminal::play::Words;
 
 /// What ends a status line, which is written by itself: the story did not write that line.
 const LINE_END: &[u8] = b"\n";
-
-/// How the text of a runtime fault begins and ends, after which the story quits.
-const FAULT: &[u8] = b"[Fault: ";
-
-const FAULT_END: &[u8] = b"]\n";
 
 /// What a user is told of a runtime fault.
 const LINE_OF_FAULT: &str =
@@ -36,8 +23,10 @@ const LINE_OF_FAULT: &str =
 /// A writer of the transcript, for a user at a terminal. It tells the user more, on standard error;
 /// the transcript is the same. After the first runtime fault it says how to find its line. If the
 /// input is at a terminal, it says after the first answer that the story is over how to end it. After
-/// another notice or a status line it shows the story's last prompt again, if the transcript is at a
-/// terminal too. Of replies that are dropped the user is told nothing.
+/// another notice or a status line it shows the prompt at which the story waits again, if the
+/// transcript is at a terminal too. If the transcript is at a terminal, it says the first time of each
+/// machine fault, limit and refusal what it means and what to do. Of replies that are dropped the user
+/// is told nothing.
 #[derive(Drop)]
 pub struct Transcript<'a, W> {
     writer: Later<W>,
@@ -46,69 +35,35 @@ pub struct Transcript<'a, W> {
     /// Whether the user has not been told how to end the input yet.
     is_waiting: bool,
 
-    /// Whether the user sees the transcript at a terminal, and types there.
+    /// Whether the user sees the transcript at a terminal.
+    is_seen: bool,
+
+    /// Whether the user types at a terminal, too.
     is_shown: bool,
 
     /// Whether the user has not been told how to find the line of a runtime fault yet.
     is_unmapped: bool,
 
+    /// Which opcodes the story may use.
+    mode: Mode,
+
+    /// What the user has been told the meaning of.
+    told: Vec<&'static str>,
+
     /// What was written last.
     latest: Latest,
 
-    /// The last line of what the story wrote last; nothing where there was no memory for it.
-    prompt: Vec<u8>,
+    /// The prompts of the turns that can be taken back.
+    prompts: Prompts,
 
     /// The last line of what was written since the last flush, if the story wrote it.
     line: Vec<u8>,
-
-    /// Whether anything was written since then.
-    is_written: bool,
-}
-
-/// What was written last.
-#[derive(Clone, Copy)]
-enum Latest {
-    /// What the story wrote.
-    Story,
-
-    /// The same, with a runtime fault at its end.
-    Fault,
-
-    /// That the story is over.
-    Over,
-
-    /// A notice behind which the story waits.
-    Notice,
-}
-
-/// What a text is that is written.
-fn latest_of(text: &[u8]) -> Latest {
-    if text == OVER {
-        return Latest::Over;
-    }
-    for notice in &NOTICES {
-        if text == *notice {
-            return Latest::Notice;
-        }
-    }
-    if ends_with_fault(text) {
-        Latest::Fault
-    } else {
-        Latest::Story
-    }
-}
-
-/// Whether the last line of a text is that of a runtime fault.
-fn ends_with_fault(text: &[u8]) -> bool {
-    match text.strip_suffix(FAULT_END) {
-        Some(text) => last_line(text).starts_with(FAULT),
-        None => false,
-    }
 }
 
 impl<'a, W: Write> Transcript<'a, W> {
-    /// The transcript that a writer is given. Says whether a map was given.
-    pub fn new(rt: &'a HostRuntime, writer: Later<W>, is_mapped: bool) -> Transcript<'a, W>
+    /// The transcript that a writer is given, of a story that is played as the words of the command line
+    /// say.
+    pub fn new(rt: &'a HostRuntime, writer: Later<W>, words: Words<'_>) -> Transcript<'a, W>
         ensures { result.writer ≡ writer }
     {
         let is_typed = rt.stdin().is_terminal();
@@ -117,12 +72,14 @@ impl<'a, W: Write> Transcript<'a, W> {
             writer,
             rt,
             is_waiting: is_typed,
+            is_seen,
             is_shown: is_typed && is_seen,
-            is_unmapped: !is_mapped && (is_typed || is_seen),
+            is_unmapped: words.map.is_none() && (is_typed || is_seen),
+            mode: survey_mode(words),
+            told: Vec::new(rt.alloc()),
             latest: Latest::Story,
-            prompt: Vec::new(rt.alloc()),
+            prompts: Prompts::new(rt.alloc()),
             line: Vec::new(rt.alloc()),
-            is_written: false,
         }
     }
 
@@ -133,25 +90,24 @@ impl<'a, W: Write> Transcript<'a, W> {
         self.latest = if text == LINE_END && self.line.len() > 0 {
             Latest::Notice
         } else {
-            latest_of(text)
+            Latest::of(text)
         };
-        self.is_written = true;
         self.line.clear();
-        if self.is_shown && matches!(self.latest, Latest::Story | Latest::Fault) {
+        if self.is_shown && self.latest.is_of_story() {
             let _ = self.line.extend_from_slice(last_line(text));
         }
     }
 
-    /// Keeps the story's prompt, if the story wrote last.
+    /// Keeps the prompt of a new turn, and drops that of one that was taken back.
     fn keep_prompt(&mut self)
         ensures { self.new.writer ≡ self.old.writer }
     {
-        if self.is_written && matches!(self.latest, Latest::Story | Latest::Fault) {
-            self.prompt.clear();
-            let _ = self.prompt.extend_from_slice(&self.line);
+        match self.latest {
+            Latest::Undone => self.prompts.pop(),
+            latest if self.is_shown && latest.is_of_story() => self.prompts.push(&self.line),
+            _ => {}
         }
         self.line.clear();
-        self.is_written = false;
     }
 
     /// Tells the user what the latest text asks for.
@@ -159,38 +115,59 @@ impl<'a, W: Write> Transcript<'a, W> {
         ensures { self.new.writer ≡ self.old.writer }
     {
         match self.latest {
-            Latest::Over if self.is_waiting => {
-                self.is_waiting = false;
-                let _ = eprintln!(self.rt; "play: ctrl-D ends the input");
+            Latest::Story => {}
+            Latest::Stopped(name) => self.explain(name),
+            Latest::Fault => {
+                if self.is_unmapped {
+                    self.is_unmapped = false;
+                    let _ = eprintln!(self.rt; "{LINE_OF_FAULT}");
+                }
             }
-            Latest::Fault if self.is_unmapped => {
-                self.is_unmapped = false;
-                let _ = eprintln!(self.rt; "{LINE_OF_FAULT}");
+            Latest::Over => {
+                if self.is_waiting {
+                    self.is_waiting = false;
+                    let _ = eprintln!(self.rt; "play: ctrl-D ends the input");
+                }
             }
-            Latest::Notice if self.is_shown => {
-                let _ = show(self.rt.alloc(), &mut self.rt.stderr(), &self.prompt);
+            Latest::Undone | Latest::Notice => self.show_prompt(),
+            Latest::Refused => {
+                self.explain(LINE_REFUSED);
+                self.show_prompt();
             }
-            _ => {}
+            Latest::NoMemory => {
+                self.explain(NO_MEMORY);
+                self.show_prompt();
+            }
         }
     }
-}
 
-/// What of a text is behind its last new line.
-fn last_line(text: &[u8]) -> &[u8] {
-    for after in 0..text.len() {
-        let place = text.len() - after;
-        if text[place - 1] == b'\n' {
-            return &text[place..];
+    /// Shows the prompt at which the story waits.
+    fn show_prompt(&mut self)
+        ensures { self.new.writer ≡ self.old.writer }
+    {
+        if self.is_shown {
+            let _ = show(self.rt.alloc(), &mut self.rt.stderr(), self.prompts.last());
         }
     }
-    text
+
+    /// Says what an answer means and what to do, if the user sees the transcript at a terminal and has
+    /// not been told that before.
+    fn explain(&mut self, name: &'static str)
+        ensures { self.new.writer ≡ self.old.writer }
+    {
+        if !self.is_seen || self.told.iter().any(|told| *told == name) {
+            return;
+        }
+        let _ = self.told.push(name);
+        advise(self.rt, name, self.mode);
+    }
 }
 
 impl<W: Write> Write for Transcript<'_, W> {
     ghost contents = { λ transcript. later_contents W.contents transcript.writer };
 
     fn write(&mut self, buf: &[u8]) -> io::Result<usize> {
-        if self.is_waiting || self.is_shown || self.is_unmapped {
+        if self.is_waiting || self.is_seen || self.is_unmapped {
             self.note(buf);
         }
         self.writer.write(buf)
@@ -203,6 +180,7 @@ impl<W: Write> Write for Transcript<'_, W> {
         if !is_dropped {
             self.tell();
         }
+        self.latest = Latest::Story;
         Ok(())
     }
 }

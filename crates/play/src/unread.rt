@@ -4,7 +4,7 @@ use crate::names::shown_mark;
 use crate::reading::story_in;
 use blorb::BlorbFault;
 use session_keeping::Unread;
-use std::fs;
+use std::{fs, io};
 use survey::Mode;
 
 /// The story in a regular file of this name for a machine, or why a Blorb file has none, or why the
@@ -31,5 +31,13 @@ pub fn regular_story(
     match story_in(rt, name, mode) {
         Ok(story) => Ok(story),
         Err(error) => Err(Unread::of(&error)),
+    }
+}
+
+/// Why a file of this name is not read, by the error.
+pub fn cause_of(rt: &HostRuntime, name: &str, error: &io::Error) -> Unread {
+    match fs::metadata(rt, name) {
+        Ok(found) if found.is_dir() => Unread::Directory,
+        _ => Unread::of(error),
     }
 }

@@ -159,14 +159,6 @@ impl Row {
 fn is_call(word: &str) -> bool {
     matches!(
         word,
-        "reply"
-            | "undo"
-            | "redo"
-            | "status"
-            | "cells"
-            | "words"
-            | "write"
-            | "close"
-            | "abandon"
+        "reply" | "undo" | "redo" | "status" | "cells" | "words" | "write" | "close" | "abandon"
     )
 }

@@ -52,7 +52,7 @@ pub fn put_text_at(story: &mut Vec<u8>, alloc: Global, text: &str) -> Result<(),
 /// Fills a story up to a multiple of the scale of its version, and writes its length and its sum.
 pub fn mend(story: &mut Vec<u8>) -> Result<(), RowError> {
     let scale = match story.as_slice() {
-        [3, ..] => 2,
+        [1 | 2 | 3, ..] => 2,
         [7 | 8, ..] => 8,
         _ => 4,
     };

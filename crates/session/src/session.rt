@@ -315,11 +315,11 @@ impl Session {
         ensures turned { OnOk result (Turned line.now self.old self.new) }
         ensures same { OnErr result (self.new ≡ self.old) }
     {
-        begin_text(&mut self.turns, &mut self.gathered, line)?;
         let mut kept = match self.kept().share() {
             Ok(kept) => kept,
             Err(_) => return Err(NoMemory),
         };
+        begin_text(&mut self.turns, &mut self.gathered, line)?;
         let place = self.player.turn(
             Some(line),
             self.fuel,

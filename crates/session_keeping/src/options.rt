@@ -29,7 +29,7 @@ pub fn options_in<'a>(alloc: Global, words: Words<'a>, line: &[u8]) -> Option<Wo
     ensures { IfSome result IsInRange }
 {
     let given = command_line(alloc, str::from_utf8(line).ok()?).ok()?;
-    let Ok(Asked::Play(found)) = words_of(alloc, given.as_slice()) else {
+    let Ok(Asked::Play(found)) = words_of(alloc, given.as_slice(), false) else {
         return None;
     };
     let settled = Words {
@@ -64,6 +64,9 @@ pub enum Begun {
     /// It was begun in the profile.
     Profile,
 
+    /// It was begun in the mode of the whole Standard.
+    Standard,
+
     /// It was begun with this seed.
     Seed(u32),
 
@@ -80,14 +83,16 @@ pub enum Begun {
 impl Begun {
     /// The first option of a command line that a session's options contradict.
     pub fn against(words: Words<'_>, settled: Words<'_>) -> Option<Begun> {
+        let is_given = words.is_given;
         match settled.seed {
-            None if words.seed.is_some() => return Some(Begun::Profile),
-            Some(seed) if words.is_given.seed && words.seed != settled.seed => {
+            None if is_given.standard || is_given.seed => return Some(Begun::Profile),
+            Some(_) if is_given.profile => return Some(Begun::Standard),
+            Some(seed) if is_given.seed && words.seed != settled.seed => {
                 return Some(Begun::Seed(seed));
             }
             _ => {}
         }
-        if words.is_given.fuel && words.fuel != settled.fuel {
+        if is_given.fuel && words.fuel != settled.fuel {
             return Some(Begun::Fuel(settled.fuel));
         }
         if words.keep.is_none() || words.keep == settled.keep {
@@ -104,6 +109,7 @@ impl Display for Begun {
     fn fmt<W: fmt::Write>(&self, f: &mut Formatter<W>) -> fmt::Result {
         match *self {
             Begun::Profile => f.write_str("it was begun without --standard"),
+            Begun::Standard => f.write_str("it was begun without --profile"),
             Begun::Seed(seed) => write!(f, "it was begun with --seed {seed}"),
             Begun::Fuel(fuel) => write!(f, "it was begun with --fuel {fuel}"),
             Begun::Undo(turns) => write!(f, "it was begun with --undo {turns}"),

@@ -231,7 +231,7 @@ fn write_cause<W: fmt::Write>(
                     writeln!(f, "{fault}: version 6, the graphical one, is not played")
                 }
                 (Mode::Standard, Beginning::Version(version)) => {
-                    writeln!(f, "{fault}: version {version}; 3 to 5, 7 and 8 are played")
+                    writeln!(f, "{fault}: version {version}; 1 to 5, 7 and 8 are played")
                 }
                 _ => writeln!(f, "{fault}: {beginning}"),
             }

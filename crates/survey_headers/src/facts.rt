@@ -20,7 +20,7 @@ pub(crate) const RELEASE_WORD: usize = 0x02;
 /// Where the six bytes of the serial number begin.
 const SERIAL: usize = 0x12;
 
-/// What the header of a file of version 3, 4, 5, 7 or 8 says, whether or not it is so (section 11.1).
+/// What the header of a file of version 1 to 5, 7 or 8 says, whether or not it is so (section 11.1).
 /// `Display` writes a line for each.
 #[derive(Clone, Copy)]
 pub struct Facts {
@@ -119,7 +119,7 @@ fn write_places<W: fmt::Write>(f: &mut fmt::Formatter<W>, facts: &Facts) -> fmt:
 }
 
 impl Facts {
-    /// What the header of a file says, where the file has one of version 3, 4, 5, 7 or 8.
+    /// What the header of a file says, where the file has one of version 1 to 5, 7 or 8.
     pub fn read(story: &[u8]) -> Option<Facts>
         ensures facts { IfSome result (IsFactsOf story.now) }
         ensures none { IfNone result

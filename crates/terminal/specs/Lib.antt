@@ -2,3 +2,5 @@ pub mod Escaped
 pub mod Broken
 pub mod Range
 pub mod Arguments
+pub mod Defaults
+pub mod Extensions

@@ -2,6 +2,7 @@
 #![tactic(auto)]
 
 mod breaking;
+mod defaults;
 pub mod inform;
 mod one_line;
 mod parts;

@@ -91,8 +91,8 @@ no_alphabets = refl
 
 -- Other versions
 
-played : is_played 2 ∷ is_played 3 ∷ is_played 4 ∷ is_played 5 ∷ is_played 6 ∷ is_played 7 ∷ is_played 8 ∷ is_played 9
-    ∷ [] ≡ false ∷ true ∷ true ∷ true ∷ false ∷ true ∷ true ∷ false ∷ []
+played : is_played 0 ∷ is_played 1 ∷ is_played 5 ∷ is_played 6 ∷ is_played 7 ∷ is_played 8 ∷ is_played 9 ∷ []
+    ≡ false ∷ true ∷ true ∷ false ∷ true ∷ true ∷ false ∷ []
 played = refl
 
 -- a file of a version that states a length of 20

@@ -27,9 +27,9 @@ use Rattle.zcore_versions.specs.Versions.{Story}
 abbrev pub number_of : List ℕ → ℕ
 number_of story = slice_index story 0
 
--- Versions 1, 2 and 6 are not played.
+-- Version 6 is not played.
 abbrev pub is_played : ℕ → Bool
-is_played number = (nat_le 3 number && nat_le number 5) || (nat_le 7 number && nat_le number 8)
+is_played number = (nat_le 1 number && nat_le number 5) || (nat_le 7 number && nat_le number 8)
 
 -- The story in its file (11.1.6)
 

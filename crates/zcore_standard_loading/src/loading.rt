@@ -174,11 +174,11 @@ fn flags_2_low(number: u8, byte: u8) -> u8
     }
 }
 
-/// Whether a version is played: each but 1, 2 and 6.
+/// Whether a version is played: each from 1 to 8 but 6.
 pub fn is_played(number: u8) -> bool
     ensures { result ≡ definitions.is_played number }
 {
-    matches!(number, 3..=5 | 7 | 8)
+    matches!(number, 1..=5 | 7 | 8)
 }
 
 /// By how many bytes the header of a version states the length of its story.

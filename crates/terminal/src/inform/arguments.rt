@@ -37,9 +37,21 @@ fn map_argument<'a>(alloc: Global) -> Result<Arg<'a>, AllocError> {
         .conflicts_with("sizes")
 }
 
-/// The name of the story file. It is required unless `--show`, `--warn` or `--sizes` is given.
-fn story_argument<'a>(alloc: Global) -> Result<Arg<'a>, AllocError> {
-    valued(alloc, "story", "STORY", "The story file to write")
+/// Whether to say only the line and the name of the fault, also at a terminal.
+fn plain_argument<'a>(alloc: Global) -> Result<Arg<'a>, AllocError> {
+    let help = "Say why SOURCE is refused in one line, also at a terminal";
+    flag(alloc, "plain", help).conflicts_with("show")
+}
+
+/// The name of the story file. It is required unless `--show`, `--warn` or `--sizes` is given, or the
+/// user is at a terminal.
+fn story_argument<'a>(alloc: Global, is_seen: bool) -> Result<Arg<'a>, AllocError> {
+    let help = "The story file to write; at a terminal without it, game.z5 is written for game.inf";
+    let story = valued(alloc, "story", "STORY", help);
+    if is_seen {
+        return Ok(story);
+    }
+    story
         .required_unless_present("show")?
         .required_unless_present("warn")?
         .required_unless_present("sizes")
@@ -50,10 +62,11 @@ fn story_argument<'a>(alloc: Global) -> Result<Arg<'a>, AllocError> {
 /// # Errors
 ///
 /// Memory was refused.
-fn arguments<'a>(alloc: Global) -> Result<Vec<Arg<'a>>, AllocError> {
+fn arguments<'a>(alloc: Global, is_seen: bool) -> Result<Vec<Arg<'a>>, AllocError> {
+    let plain = plain_argument(alloc)?;
     let sizes = sizes_argument(alloc)?;
     let map = map_argument(alloc)?;
-    let story = story_argument(alloc)?;
+    let story = story_argument(alloc, is_seen)?;
     Ok(vec![in alloc;
         version_argument(alloc),
         explain(
@@ -63,8 +76,9 @@ fn arguments<'a>(alloc: Global) -> Result<Vec<Arg<'a>>, AllocError> {
         flag(
             alloc,
             "show",
-            "Show where and why SOURCE is refused; without STORY only check it",
+            "Show where and why SOURCE is refused, as always at a terminal; without STORY only check it",
         ),
+        plain,
         flag(
             alloc,
             "warn",
@@ -82,13 +96,13 @@ fn arguments<'a>(alloc: Global) -> Result<Vec<Arg<'a>>, AllocError> {
     ]?)
 }
 
-/// The program's command line.
+/// The program's command line, for a user who sees standard error at a terminal or not.
 ///
 /// # Errors
 ///
 /// Memory was refused.
-pub fn command<'a>(alloc: Global) -> Result<Command<'a>, AllocError> {
-    let arguments = arguments(alloc)?;
+pub fn command<'a>(alloc: Global, is_seen: bool) -> Result<Command<'a>, AllocError> {
+    let arguments = arguments(alloc, is_seen)?;
     let about = "Compiles a source file to a Z-machine story file";
     program(alloc, "inform", about, MORE).args(arguments)
 }

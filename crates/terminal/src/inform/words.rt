@@ -1,5 +1,6 @@
 //! What the words of the compiler's command line ask for.
 
+use crate::defaults::is_chosen;
 use clap::{ArgMatches, Command, Error};
 use zcore::Version;
 
@@ -23,8 +24,12 @@ pub struct Words<'a> {
     /// The source file's name.
     pub source: &'a str,
 
-    /// The name of the story file to write; `None` if the source file is only checked.
+    /// The name of the story file to write, if one is named.
     pub story: Option<&'a str>,
+
+    /// Whether the source file is only checked if no story file is named. Otherwise the story file is
+    /// named after it.
+    pub is_check: bool,
 
     /// The name of the map to write, if one is written.
     pub map: Option<&'a str>,
@@ -42,19 +47,24 @@ pub struct Words<'a> {
     pub warn: bool,
 }
 
-/// Reads the words of a command line; `None` if they name a version other than 5 and 8.
+/// Reads the words of a command line of a user who sees standard error at a terminal or not; `None` if
+/// they name a version other than 5 and 8.
 ///
 /// # Errors
 ///
 /// What `clap` says of words that it refuses, and of those that ask for help or for the version; or
 /// that memory was refused.
-pub fn words_of<'a>(command: Command<'a>, given: &'a [String]) -> Result<Option<Asked<'a>>, Error> {
+pub fn words_of<'a>(
+    command: Command<'a>,
+    given: &'a [String],
+    is_seen: bool,
+) -> Result<Option<Asked<'a>>, Error> {
     let matches = command.try_get_matches_from(given)?;
-    Ok(asked_in(&matches))
+    Ok(asked_in(&matches, is_seen))
 }
 
 /// What a command line asks for; `None` if it names a version other than 5 and 8.
-fn asked_in<'a>(matches: &ArgMatches<'a>) -> Option<Asked<'a>> {
+fn asked_in<'a>(matches: &ArgMatches<'a>, is_seen: bool) -> Option<Asked<'a>> {
     if matches.contains_id("explain") {
         return Some(Asked::Explain(matches.get_str("explain")));
     }
@@ -68,13 +78,16 @@ fn asked_in<'a>(matches: &ArgMatches<'a>) -> Option<Asked<'a>> {
     if matches.get_flag("sizes") {
         return Some(Asked::Sizes(source, version, large));
     }
+    let show = matches.get_flag("show");
+    let warn = matches.get_flag("warn");
     Some(Asked::Compile(Words {
         source,
         story: matches.get_str("story"),
+        is_check: show || warn,
         map: matches.get_str("map"),
         version,
         large,
-        show: matches.get_flag("show"),
-        warn: matches.get_flag("warn"),
+        show: is_chosen(show, matches.get_flag("plain"), is_seen),
+        warn,
     }))
 }

@@ -2,7 +2,7 @@
 
 ghost use Rattle.std.specs.Prelude.{IfOk, codes};
 ghost use Rattle.terminal.specs.Range.{least_fuel, most_fuel, most_undo};
-ghost use Rattle.terminal.specs.Arguments.{AreArguments, IsAloneNamed, IsPlainNamed};
+ghost use Rattle.terminal.specs.Arguments.{AreArguments, IsAloneNamed, IsNamed, IsPlainNamed};
 ghost use Rattle.terminal.specs.Arguments.{ReadsNumber, TakesNumber};
 
 use crate::parts::{explain, flag, option, program, valued};
@@ -11,8 +11,9 @@ use std::alloc::{AllocError, Global};
 
 /// The end of the help: the player's own lines, an example, and the documents that say more.
 const MORE: &str = "The line /undo takes back the latest turn, and the line /redo does it again.
-With --standard, the line /status shows the status line of a story of version 3.
-At a terminal, ctrl-D ends the input.
+With --standard, the line /status shows the status line of a story of versions 1 to 3.
+At a terminal, ctrl-D ends the input, --standard need not be given, and STORY may be
+game for game.z5 (or .z8, .z3, .zblorb and so on).
 
 With `--format tsv` beside it, --check prints a line of 9 columns for each STORY.
 With --standard beside it, --check names the opcodes that --standard does not play.
@@ -69,8 +70,22 @@ fn map_argument<'a>(alloc: Global) -> Result<Arg<'a>, AllocError>
 fn standard_argument<'a>(alloc: Global) -> Arg<'a>
     ensures { IsPlainNamed (codes "standard") result }
 {
-    let help = "Play every opcode of the Z-Machine Standards Document 1.1, as library games need";
+    let help =
+        "Play every opcode of the Z-Machine Standards Document 1.1, as library games need [default: at a terminal]";
     flag(alloc, "standard", help)
+}
+
+/// Whether to play the opcodes of the profile alone. It excludes `--standard`.
+///
+/// # Errors
+///
+/// Memory was refused.
+fn profile_argument<'a>(alloc: Global) -> Result<Arg<'a>, AllocError>
+    ensures { IfOk result (IsNamed (codes "profile")) }
+{
+    let help =
+        "Play the opcodes of the profile alone, which stories made by inform need [default: for a pipe or a file]";
+    flag(alloc, "profile", help).conflicts_with("standard")
 }
 
 /// The seed of the random numbers, any 32 bits.
@@ -82,15 +97,19 @@ fn number_of_seed<'a>(alloc: Global) -> Arg<'a>
     option(alloc, "seed", "N", help).value_parser(value_parser!(u32))
 }
 
-/// The seed of the random numbers. It needs `--standard`.
+/// The seed of the random numbers. It needs `--standard`, or a terminal without `--profile`.
 ///
 /// # Errors
 ///
 /// Memory was refused.
-fn seed_argument<'a>(alloc: Global) -> Result<Arg<'a>, AllocError>
-    ensures { IfOk result (IsPlainNamed (codes "seed")) }
+fn seed_argument<'a>(alloc: Global, is_seen: bool) -> Result<Arg<'a>, AllocError>
+    ensures { IfOk result (IsNamed (codes "seed")) }
 {
-    number_of_seed(alloc).requires_arg("standard")
+    if is_seen {
+        number_of_seed(alloc).conflicts_with("profile")
+    } else {
+        number_of_seed(alloc).requires_arg("standard")
+    }
 }
 
 /// The file in which the session is kept.
@@ -135,10 +154,11 @@ fn story_argument<'a>(alloc: Global) -> Arg<'a>
 /// # Errors
 ///
 /// Memory was refused.
-fn arguments<'a>(alloc: Global) -> Result<Vec<Arg<'a>>, AllocError>
+fn arguments<'a>(alloc: Global, is_seen: bool) -> Result<Vec<Arg<'a>>, AllocError>
     ensures { IfOk result (λ arguments. AreArguments arguments.items) }
 {
-    let seed = seed_argument(alloc)?;
+    let profile = profile_argument(alloc)?;
+    let seed = seed_argument(alloc, is_seen)?;
     let map = map_argument(alloc)?;
     Ok(vec![in alloc;
         fuel_argument(alloc),
@@ -146,6 +166,7 @@ fn arguments<'a>(alloc: Global) -> Result<Vec<Arg<'a>>, AllocError>
         why_argument(alloc),
         map,
         standard_argument(alloc),
+        profile,
         seed,
         session_argument(alloc),
         wrap_argument(alloc),
@@ -158,16 +179,16 @@ fn arguments<'a>(alloc: Global) -> Result<Vec<Arg<'a>>, AllocError>
     ]?)
 }
 
-/// The program's command line.
+/// The program's command line, for a user who sees the transcript at a terminal or not.
 ///
 /// # Errors
 ///
 /// Memory was refused.
-pub(crate) fn command<'a>(alloc: Global) -> Result<Command<'a>, AllocError>
+pub(crate) fn command<'a>(alloc: Global, is_seen: bool) -> Result<Command<'a>, AllocError>
     ensures fuel { IfOk result (ReadsNumber (codes "fuel") least_fuel most_fuel) }
     ensures undo { IfOk result (ReadsNumber (codes "undo") 0 most_undo) }
 {
-    let arguments = arguments(alloc)?;
+    let arguments = arguments(alloc, is_seen)?;
     let about = "Plays a Z-machine story file with the lines of standard input";
     program(alloc, "play", about, MORE).args(arguments)
 }

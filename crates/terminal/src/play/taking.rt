@@ -2,6 +2,14 @@
 
 ghost use Rattle.std.specs.Prelude.{◌<◌, IfSome, length};
 
+use std::alloc::{AllocError, Global};
+
+/// The word after which no option comes.
+const END_OF_OPTIONS: &str = "--";
+
+/// The option before the names of files to check.
+const CHECK: &str = "--check";
+
 /// How the answers to `--check` are printed.
 #[derive(Clone, Copy)]
 pub enum Format {
@@ -15,7 +23,7 @@ pub enum Format {
 /// Takes `--format tsv` out of the words of a command line that has `--check`, wherever it is before
 /// `--`. Says how the answers are printed.
 pub fn take_format(given: &mut Vec<String>) -> Format {
-    if place_of(given, "--check").is_none() {
+    if place_of(given, CHECK).is_none() {
         return Format::Words;
     }
     if let Some(place) = place_of(given, "--format=tsv") {
@@ -32,17 +40,38 @@ pub fn take_format(given: &mut Vec<String>) -> Format {
     }
 }
 
-/// The place of a word after the program's name and before `--`.
+/// Takes the words after `--` out of a command line that has `--check`, and `--` itself. They are names
+/// of files, also those that begin with `-`. If `--` follows `--check`, the first of them becomes its
+/// value.
+///
+/// # Errors
+///
+/// Memory was refused.
+pub fn take_files(alloc: Global, given: &mut Vec<String>) -> Result<Vec<String>, AllocError> {
+    let (Some(check), Some(end)) = (place_of(given, CHECK), place_of(given, END_OF_OPTIONS)) else {
+        return Ok(Vec::new(alloc));
+    };
+    let mut files = given.split_off(end + 1)?;
+    given.truncate(end);
+    if check + 1 == end && !files.is_empty() {
+        let first = files.remove(0);
+        given.truncate(check);
+        given.push(format!(in alloc; "{CHECK}={first}")?)?;
+    }
+    Ok(files)
+}
+
+/// The place of a word after the program's name and before what follows `--`.
 pub fn place_of(given: &[String], wanted: &str) -> Option<usize>
     ensures { IfSome result (λ place. place < length given.now) }
 {
     for place in 1..given.len() {
         let word = given[place].as_str();
-        if word == "--" {
-            return None;
-        }
         if word == wanted {
             return Some(place);
+        }
+        if word == END_OF_OPTIONS {
+            return None;
         }
     }
     None

@@ -1,10 +1,12 @@
 //! What the words of the player's command line ask for.
 
-ghost use Rattle.std.specs.Prelude.{IfOk, codes};
+ghost use Rattle.std.specs.Prelude.{◌≡◌, IfOk, codes, is_some};
 ghost use Rattle.clap.specs.Matches.{found_of};
 ghost use Rattle.terminal.specs.Range.{IsAskedInRange, IsInRange, least_fuel, most_fuel, most_undo};
 ghost use Rattle.terminal.specs.Arguments.{MayReadNumber};
+ghost use Rattle.terminal.specs.Defaults.{IsAskedInMode, IsInMode, is_chosen};
 
+use crate::defaults::is_chosen;
 use crate::play::arguments::command;
 use clap::{ArgMatches, Error};
 use std::alloc::{AllocError, Global};
@@ -28,9 +30,15 @@ pub enum Asked<'a> {
     Check(Vec<&'a str>),
 }
 
-/// Which numbers the command line has itself, where others have a default.
+/// What the command line has itself, where others have a default.
 #[derive(Clone, Copy)]
 pub struct Given {
+    /// That every opcode of the Standard may be used.
+    pub standard: bool,
+
+    /// That those of the profile alone may be used.
+    pub profile: bool,
+
     /// The units of fuel of a turn.
     pub fuel: bool,
 
@@ -60,7 +68,7 @@ pub struct Words<'a> {
     /// may use those of the profile.
     pub seed: Option<u32>,
 
-    /// Whether the command line has the fuel and the seed itself.
+    /// What the command line has itself of the mode, the fuel and the seed.
     pub is_given: Given,
 
     /// The name of the file in which the session is kept, if it is.
@@ -70,17 +78,20 @@ pub struct Words<'a> {
     pub wrap: Option<u32>,
 }
 
-/// Reads the words of a command line. Its numbers are in their ranges.
+/// Reads the words of a command line of a user who sees the transcript at a terminal or not. Its
+/// numbers are in their ranges. At a terminal the story may use every opcode of the Standard, unless
+/// the profile is asked for; elsewhere it must be asked for.
 ///
 /// # Errors
 ///
 /// What `clap` says of words that it refuses, and of those that ask for help or for the version; or
 /// that memory was refused.
-pub fn words_of<'a>(alloc: Global, given: &'a [String]) -> Result<Asked<'a>, Error>
-    ensures { IfOk result IsAskedInRange }
+pub fn words_of<'a>(alloc: Global, given: &'a [String], is_seen: bool) -> Result<Asked<'a>, Error>
+    ensures range { IfOk result IsAskedInRange }
+    ensures mode { IfOk result (IsAskedInMode is_seen) }
 {
-    let matches = command(alloc)?.try_get_matches_from(given)?;
-    asked_in(alloc, &matches)
+    let matches = command(alloc, is_seen)?.try_get_matches_from(given)?;
+    asked_in(alloc, &matches, is_seen)
 }
 
 /// What a command line asks for.
@@ -88,17 +99,18 @@ pub fn words_of<'a>(alloc: Global, given: &'a [String]) -> Result<Asked<'a>, Err
 /// # Errors
 ///
 /// That memory was refused.
-fn asked_in<'a>(alloc: Global, matches: &ArgMatches<'a>) -> Result<Asked<'a>, Error>
+fn asked_in<'a>(alloc: Global, matches: &ArgMatches<'a>, is_seen: bool) -> Result<Asked<'a>, Error>
     requires fuel { MayReadNumber (codes "fuel") least_fuel most_fuel (found_of matches.now) }
     requires undo { MayReadNumber (codes "undo") 0 most_undo (found_of matches.now) }
-    ensures { IfOk result IsAskedInRange }
+    ensures range { IfOk result IsAskedInRange }
+    ensures mode { IfOk result (IsAskedInMode is_seen) }
 {
     if matches.contains_id("explain") {
         return Ok(Asked::Explain(matches.get_str("explain")));
     }
     match files_in(alloc, matches)? {
         Some(files) => Ok(Asked::Check(files)),
-        None => Ok(Asked::Play(words_in(matches))),
+        None => Ok(Asked::Play(words_in(matches, is_seen))),
     }
 }
 
@@ -120,32 +132,38 @@ fn files_in<'a>(
 }
 
 /// What is played by a command line, and how.
-fn words_in<'a>(matches: &ArgMatches<'a>) -> Words<'a>
+fn words_in<'a>(matches: &ArgMatches<'a>, is_seen: bool) -> Words<'a>
     requires fuel { MayReadNumber (codes "fuel") least_fuel most_fuel (found_of matches.now) }
     requires undo { MayReadNumber (codes "undo") 0 most_undo (found_of matches.now) }
-    ensures { IsInRange result }
+    ensures range { IsInRange result }
+    ensures mode { IsInMode is_seen result }
 {
     let fuel = matches.get_one::<u32>("fuel");
     let keep = matches.get_one::<u32>("undo");
+    let is_given = Given {
+        standard: matches.get_flag("standard"),
+        profile: matches.get_flag("profile"),
+        fuel: fuel.is_some(),
+        seed: matches.contains_id("seed"),
+    };
     Words {
         story: matches.get_str("story").unwrap_or(""),
         fuel: fuel.unwrap_or(FUEL),
         keep,
         why: matches.get_flag("why"),
         map: matches.get_str("map"),
-        seed: seed_in(matches),
-        is_given: Given {
-            fuel: fuel.is_some(),
-            seed: matches.contains_id("seed"),
-        },
+        seed: seed_in(matches, is_given, is_seen),
+        is_given,
         session: matches.get_str("session"),
         wrap: matches.get_one::<u32>("wrap"),
     }
 }
 
 /// The seed of the random numbers, if every opcode of the Standard may be used.
-fn seed_in(matches: &ArgMatches<'_>) -> Option<u32> {
-    if matches.get_flag("standard") {
+fn seed_in(matches: &ArgMatches<'_>, is_given: Given, is_seen: bool) -> Option<u32>
+    ensures { is_some result ≡ is_chosen is_given.standard is_given.profile is_seen }
+{
+    if is_chosen(is_given.standard, is_given.profile, is_seen) {
         Some(matches.get_one::<u32>("seed").unwrap_or(SEED))
     } else {
         None

@@ -18,7 +18,6 @@ returns-in-Missing-clause-text c = keeps_still _ _ c.requires.text
 pub step_version-requires-clause-version : goal.step_version-requires-clause-version
 step_version-requires-clause-version c = record {
   early = c.requires.early;
-  unlocked = c.requires.version.unlocked;
   routines = c.requires.version.routines;
   texts = c.requires.version.texts;
 }

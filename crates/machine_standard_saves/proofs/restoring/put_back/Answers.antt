@@ -1,4 +1,4 @@
-use Rattle.std.proofs.Common.{◌≡◌, true, false, ap, sym, ◌∙◌, arith, length}
+use Rattle.std.proofs.Common.{◌≡◌, true, false, refl, ap, sym, ◌∙◌, arith, length}
 use Rattle.quetzal.specs.Frames.{size_of, words_of}
 use Rattle.quetzal.specs.declared.frames.FrameHead.{FrameHead}
 use Rattle.machine_frames.specs.Contents.{memory_of}
@@ -8,7 +8,11 @@ use Rattle.machine_standard_saves.proofs.CallsBack.{main_values}
 use Rattle.machine_standard_saves.proofs.restoring.put_back.Goals as goal
 
 pub returns-in_default : goal.returns-in_default
-returns-in_default c = λ read are. ?
+returns-in_default c = λ read are.
+    let b = are_read c.len-size.result _ c.args.stacks.now read
+    (c.len-size.ensures ∙ ap length (c.memory.ensures ∙ ap memory_of c.store.ensures)) are in
+    let clash : true ≡ false = sym b.is ∙ c.in_default.ensures in
+    absurd (cc)
 
 pub put_back_one-requires-clause-whole : goal.put_back_one-requires-clause-whole
 put_back_one-requires-clause-whole c =
@@ -34,3 +38,40 @@ pub returns-in_err-put_back_one : goal.returns-in_err-put_back_one
 returns-in_err-put_back_one c = λ read are.
     went_err _ c.from_residual.ensures.1
     (main_gives_up c.in-Some.head _ read c.requires.sound c.in_err-put_back_one.ensures)
+
+pub put_back_calls-requires-clause-sound : goal.put_back_calls-requires-clause-sound
+put_back_calls-requires-clause-sound c = went_sound c.in_ok-put_back_one.ensures
+
+pub put_back_calls-requires-clause-main : goal.put_back_calls-requires-clause-main
+put_back_calls-requires-clause-main c =
+    let b = are_read c.len-size.result _ c.args.stacks.now c.requires.stacks.0
+    (c.len-size.ensures ∙ ap length (c.memory.ensures ∙ ap memory_of c.store.ensures)) c.requires.stacks.1 in
+    (main_room _ _ c.len-size.result _ c.word_count-most.result c.args.stacks.now c.in-Some.head c.requires.stacks.0 b
+    c.in-Some.ensures.1 refl c.word_count-most.ensures c.in_ok-put_back_one.ensures).0
+
+pub put_back_calls-requires-clause-room : goal.put_back_calls-requires-clause-room
+put_back_calls-requires-clause-room c =
+    let b = are_read c.len-size.result _ c.args.stacks.now c.requires.stacks.0
+    (c.len-size.ensures ∙ ap length (c.memory.ensures ∙ ap memory_of c.store.ensures)) c.requires.stacks.1 in
+    (main_room _ _ c.len-size.result _ c.word_count-most.result c.args.stacks.now c.in-Some.head c.requires.stacks.0 b
+    c.in-Some.ensures.1 refl c.word_count-most.ensures c.in_ok-put_back_one.ensures).1
+
+pub put_back_calls-requires-clause-calls : goal.put_back_calls-requires-clause-calls
+put_back_calls-requires-clause-calls c =
+    let b = are_read c.len-size.result _ c.args.stacks.now c.requires.stacks.0
+    (c.len-size.ensures ∙ ap length (c.memory.ensures ∙ ap memory_of c.store.ensures)) c.requires.stacks.1 in (
+      c.requires.stacks.0.calls,
+      calls_follow c.len-size.result _ c.word_count-most.result c.size.result c.args.stacks.now _ c.in-Some.head
+          c.requires.stacks.0 b c.in-Some.ensures.1 refl c.word_count-most.ensures c.size.ensures
+          c.bytes_after-calls.ensures,
+    )
+
+pub returns : goal.returns
+returns c = λ read are.
+    let b = are_read c.len-size.result _ c.args.stacks.now read
+    (c.len-size.ensures ∙ ap length (c.memory.ensures ∙ ap memory_of c.store.ensures)) are in
+    all_back c.put_back_calls.result read _ read.calls c.in_ok-put_back_one.ensures
+    (c.put_back_calls.ensures read.calls
+    (calls_follow c.len-size.result _ c.word_count-most.result c.size.result c.args.stacks.now _ c.in-Some.head
+    read b c.in-Some.ensures.1 refl c.word_count-most.ensures c.size.ensures c.bytes_after-calls.ensures))
+    (main_values c.len-size.result c.args.stacks.now read c.in-Some.head b c.in-Some.ensures.1) refl

@@ -10,8 +10,8 @@ at_most : (high : ℕ) (o : Option ℕ) → IfSome o (λ n. (0 ≤ n) × (n ≤ 
 at_most high None h = tt
 at_most high (Some n) h = h.1
 
-pub returns : goal.returns
-returns c =
+pub returns-clause-range : goal.returns-clause-range
+returns-clause-range c =
     let found = found_of c.args.matches.now in
     let fuel : IfSome c.get_one-fuel.result (λ n. (least_fuel ≤ n) × (n ≤ most_fuel)) =
     number_read _ (λ bs r. ParsesUnsigned 32 10 bs r × ExplainsUnsignedError 10 bs r × HasUnsignedDigitsIfOk bs r) 32

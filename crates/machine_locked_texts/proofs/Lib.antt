@@ -1,0 +1,2 @@
+pub mod LockedReading
+pub mod LockedPrinting
