@@ -13,7 +13,7 @@ use Rattle.journal.specs.Recording.{Recording}
 use Rattle.zcore.specs.declared.place.Fault.TheVariants as faults
 use Rattle.zcore.specs.declared.place.Place.TheVariants as places
 use Rattle.zcore.specs.Parts.{test}
-use Rattle.zcore.specs.State.{State, Out, done, bound}
+use Rattle.zcore.specs.State.{State, Out, done, bound, ◌>>=◌}
 use Rattle.zcore.specs.Turn.{with_bytes}
 use Rattle.zcore_standard.specs.declared.streams.Stream.{Stream}
 use Rattle.zcore_standard.specs.Fuel.{spend_for}

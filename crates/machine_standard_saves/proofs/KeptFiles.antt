@@ -1,5 +1,5 @@
 -- A state that a story keeps, or does not.
-use Rattle.std.proofs.Common.{◌≡◌, ℕ, ◌-◌, Bool, true, false, if◌then◌else◌, nat_lt, List, [], ◌∷◌, ◌++◌, length, reverse, take}
+use Rattle.std.proofs.Common.{◌≡◌, ◌<◌, ℕ, ◌-◌, Bool, true, false, if◌then◌else◌, nat_lt, List, [], ◌∷◌, ◌++◌, length, reverse, take}
 use Rattle.std.proofs.Common.{refl, ap, sym, ◌∙◌, subst, slice_index, arith, Option, Some, None, Result, Ok, Err}
 use Rattle.std.specs.List.{list_all}
 use Rattle.std.specs.Result.{IsErrAnd}
@@ -8,6 +8,7 @@ use Rattle.std.proofs.lemmas.Result.{err_from_is_err_and}
 use Rattle.journal.specs.Recording.{Recording}
 use Rattle.zcore.specs.declared.next.Next.{Next}
 use Rattle.zcore.specs.Effects.{give_result}
+use Rattle.zcore.specs.Header.{static_base_of}
 use Rattle.zcore.specs.State.{Frame, State, Out}
 use Rattle.zcore_standard.specs.Keeping.{newest, with_newest, without_newest}
 use Rattle.zcore_standard.specs.Loaded.{Loaded}
@@ -18,10 +19,11 @@ use Rattle.quetzal.specs.Frames.{Stacks, stacks_bytes}
 use Rattle.quetzal.specs.SaveFiles.{save_bytes, saved_in}
 use Rattle.machine_decoding.specs.Seen.{seen}
 use Rattle.machine_frames.specs.Contents.{Contents, memory_of}
-use Rattle.machine_frames.specs.States.{base_of, frame_count, frames_of, height_of, state_of}
+use Rattle.machine_frames.specs.States.{base_of, frame_count, frames_of, height_of, state_of, IsSound}
 use Rattle.machine_frames.specs.Went.{Went}
 use Rattle.machine_frames.specs.declared.end.End.{End}
 use Rattle.machine_frames.proofs.Steps.{went_as}
+use Rattle.machine_standard_saves.proofs.WrittenFrames.{few_bytes}
 use Rattle.machine_standard_saves.specs.Written.{IsFileOf, WritesAll, end_of, first_frames}
 use Rattle.machine_standard_opcodes.proofs.Keeping.{went_within}
 
@@ -153,3 +155,17 @@ newest_restored {s} r loaded here after result file is w =
     (λ text. ap (λ (k : List (List ℕ)). restore_newest loaded here after result k (state_of s.store text)) is)
     (went_within r there
     (resume_if_read (saved_in loaded.dynamic (length (memory_of s.store)) file) here.next after result) w)
+
+-- static base takes two bytes
+pub short_base : (memory : List ℕ) → slice_index memory 14 < 256 → slice_index memory 15 < 256
+    → static_base_of memory < 65536
+short_base memory high low = omega (arith, high, low)
+
+pub short_stacks : (s : Contents) (before stacks : List ℕ) (told : Bool) → IsSound s → told ≡ true
+    → WritesAll s before stacks told → before ≡ [] → length stacks < 1048576
+short_stacks s before stacks told sound is w none =
+    let f = slice_index s.cells in
+    let v : WritesAll s before stacks true = subst (λ (b : Bool). WritesAll s before stacks b) is w in
+    let read : Stacks = stacks_of (reverse (first_frames s (frame_count f))) in
+    subst (λ (l : List ℕ). length l < 1048576) (sym (v.1 ∙ ap (λ (b : List ℕ). b ++ stacks_bytes read) none))
+    (few_bytes s sound)

@@ -1,19 +1,20 @@
 //! `save_undo` (Z-Machine Standards Document 1.1, section 15).
 
-ghost use Rattle.std.specs.Prelude.{◌≡◌, ◌≤◌, ◌<◌, ◌+◌, ◌-◌, length, slice_index, IfOk, OnErr};
+ghost use Rattle.std.specs.Prelude.{◌≡◌, ◌≤◌, ◌<◌, ◌+◌, ◌-◌, length, slice_index, take, IfOk, OnErr, OnOk};
 ghost use Rattle.std.specs.Option.{option_map};
 ghost use Rattle.zcore.specs.Header.{static_base_of};
 ghost use Rattle.zcore.specs.Layout.{longest_story, stack_size};
+ghost use Rattle.zcore_standard.specs.Keeping.{with_newest};
 ghost use Rattle.zcore_standard.specs.SavedStates as definitions;
 ghost use Rattle.machine_decoding.specs.Seen.{seen};
 ghost use Rattle.machine_frames.specs.Contents.{memory_of};
 ghost use Rattle.machine_frames.specs.Layout.{stack_offset};
 ghost use Rattle.machine_frames.specs.States.{cells_from, frame_count, IsSound, IsStoreOf};
-ghost use Rattle.machine_frames.specs.Went.{Went};
+ghost use Rattle.machine_frames.specs.Went.{GivenUp, Went};
 ghost use Rattle.machine_standard_windows.specs.TurnState.{place};
 ghost use Rattle.machine_standard_saves.specs.Written.{IsFileOf, IsHeadOf, WritesAll, WritesCall, WritesMain, end_of, frame_at};
 
-use journal::Recorded;
+use journal::{NoMemory, Recorded};
 use machine_frames::layout::{
     ARGUMENT_COUNT, FRAME_COUNT, HEIGHT, LOCAL_COUNT, RECORD, RECORDS, RESULT, RETURN, STACK,
 };
@@ -62,20 +63,34 @@ pub fn save_undo(
         (definitions.save_undo loaded.now (place turn.old here) after variable) }
     ensures turn { OnErr result (turn.new ≡ turn.old) }
 {
-    let file = match file_of(store, loaded, after.saturating_sub(1), turn.kept.alloc()) {
-        Ok(Some(file)) => file,
-        Ok(None) => return give_result(header, store, here, after, variable, HAS_NO_UNDO),
-        Err(_) => {
-            store.abandon();
-            return Err(End::Memory);
-        }
+    let Ok(kept) = file_of(store, loaded, after.saturating_sub(1), turn.kept.alloc()) else {
+        store.abandon();
+        return Err(End::Memory);
+    };
+    let Some(file) = kept else {
+        return give_result(header, store, here, after, variable, HAS_NO_UNDO);
     };
     let next = give_result(header, store, here, after, variable, SUCCEEDED)?;
+    keep(store, turn, file)?;
+    Ok(next)
+}
+
+/// Keeps a file.
+///
+/// # Errors
+///
+/// Memory was refused: the turn is given up.
+fn keep(store: &mut Recorded<Store>, turn: &mut TurnState, file: Vec<u8>) -> Result<(), NoMemory>
+    ensures kept { OnOk result (turn.new ≡ record turn.old { kept = with_newest file.items turn.old.kept }) }
+    ensures same { OnOk result (store.new ≡ store.old) }
+    ensures given_up { OnErr result (GivenUp store.old store.new) }
+    ensures turn { OnErr result (turn.new ≡ turn.old) }
+{
     match turn.kept.push(file) {
-        Ok(()) => Ok(next),
+        Ok(()) => Ok(()),
         Err(_) => {
             store.abandon();
-            Err(End::Memory)
+            Err(NoMemory)
         }
     }
 }
@@ -102,11 +117,19 @@ fn file_of(
     let memory = store.store().memory();
     let state = SaveState {
         program_counter: at,
-        memory: &memory[..dynamic.len()],
+        memory: first_bytes(memory, dynamic.len()),
         stacks: stacks.as_slice(),
     };
     let file = write_save(alloc, dynamic, state)?;
     Ok(Some(file))
+}
+
+/// The first bytes, of which there are `count`.
+fn first_bytes(bytes: &[u8], count: usize) -> &[u8]
+    requires { count ≤ length bytes.now }
+    ensures { result.now ≡ take count bytes.now }
+{
+    &bytes[..count]
 }
 
 /// Appends the frames of a store, the oldest first. It returns false where no file can tell all of
@@ -139,7 +162,9 @@ fn put_main_code(store: &Recorded<Store>, out: &mut Vec<u8>) -> Result<bool, All
     let Some(head) = head_of(store, 0, top) else {
         return Ok(false);
     };
-    put_main(out, words_of(store, top - head.words as usize, top))?;
+    let bottom = top - head.words as usize;
+    let stack = words_of(store, bottom, top);
+    put_main(out, stack)?;
     Ok(true)
 }
 
@@ -156,12 +181,9 @@ fn put_call(store: &Recorded<Store>, out: &mut Vec<u8>, number: usize) -> Result
     };
     let bottom = top - head.words as usize;
     let base = bottom - head.locals as usize;
-    put_frame(
-        out,
-        head,
-        words_of(store, base, bottom),
-        words_of(store, bottom, top),
-    )?;
+    let locals = words_of(store, base, bottom);
+    let stack = words_of(store, bottom, top);
+    put_frame(out, head, locals, stack)?;
     Ok(true)
 }
 

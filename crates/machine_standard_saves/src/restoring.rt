@@ -96,8 +96,8 @@ fn restore(
     };
     let size = store.store().memory().len() as u32;
     match read_save(&mut memory, size, file) {
-        Err(_) => give_result(header, store, here, after, variable, FAILED),
         Ok(save) => resume(header, store, memory.as_slice(), save, alloc, here),
+        Err(_) => give_result(header, store, here, after, variable, FAILED),
     }
 }
 

@@ -17,7 +17,7 @@ pub returns-then-is_main : goal.returns-then-is_main
 returns-then-is_main c =
     main_back c.begin_frames.result c.args.is_main c.args.head c.as_slice.result.now _ c.if-is_main.true
     (c.as_slice.ensures.value
-    ∙ read_values _ _ _ _ c.args.head c.args.bytes.now c.in-Ok.ensures c.clear.ensures c.word_count.ensures
+    ∙ read_values _ _ _ _ c.args.head c.args.bytes.now c.in-Ok.ensures c.clear.ensures.items c.word_count.ensures
     c.bytes_after.ensures)
     c.begin_frames.ensures
 
@@ -25,6 +25,6 @@ pub returns-else-is_main : goal.returns-else-is_main
 returns-else-is_main c =
     call_back c.push_frame.result c.args.is_main c.args.head c.as_slice.result.now _ c.if-is_main.false
     (c.as_slice.ensures.value
-    ∙ read_values _ _ _ _ c.args.head c.args.bytes.now c.in-Ok.ensures c.clear.ensures c.word_count.ensures
+    ∙ read_values _ _ _ _ c.args.head c.args.bytes.now c.in-Ok.ensures c.clear.ensures.items c.word_count.ensures
     c.bytes_after.ensures)
     c.push_frame.ensures

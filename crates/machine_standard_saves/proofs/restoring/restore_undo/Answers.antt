@@ -8,7 +8,10 @@ returns-in_default-clause-went c =
     c.in_default.ensures c.give_result.ensures
 
 pub returns-in_err-next-clause-went : goal.returns-in_err-next-clause-went
-returns-in_err-next-clause-went c = ?
+returns-in_err-next-clause-went c =
+    went_seen_err (place c.args.turn.now) _ c.from_residual.ensures.1
+    (newest_restored _ c.args.loaded.now (place c.args.turn.now c.args.here) c.args.after c.args.variable
+    c.in-Some.file.now c.in-Some.ensures c.in_err-next.ensures)
 
 pub returns-clause-went : goal.returns-clause-went
 returns-clause-went c = ?
