@@ -20,9 +20,12 @@ use Rattle.quetzal.specs.SaveFiles.{save_bytes, saved_in}
 use Rattle.machine_decoding.specs.Seen.{seen}
 use Rattle.machine_frames.specs.Contents.{Contents, memory_of}
 use Rattle.machine_frames.specs.States.{base_of, frame_count, frames_of, height_of, state_of, IsSound}
-use Rattle.machine_frames.specs.Went.{Went}
+use Rattle.machine_frames.specs.Went.{GivenUp, GoesOn, Went}
 use Rattle.machine_frames.specs.declared.end.End.{End}
-use Rattle.machine_frames.proofs.Steps.{went_as}
+use Rattle.machine_frames.specs.declared.end.End.TheVariants as ends
+use Rattle.machine_standard_windows.specs.TurnState.{place}
+use Rattle.machine_standard_windows.specs.declared.turn_state.TurnState.{TurnState}
+use Rattle.machine_frames.proofs.Steps.{given_up_after, went_as}
 use Rattle.machine_standard_saves.proofs.WrittenFrames.{few_bytes}
 use Rattle.machine_standard_saves.specs.Written.{IsFileOf, WritesAll, end_of, first_frames}
 use Rattle.machine_standard_opcodes.proofs.Keeping.{went_within}
@@ -85,14 +88,6 @@ pub went_seen_err : {s t : Recording Contents} {e : End} {f : State → Out Here
 went_seen_err view r h w =
     let p = err_from_is_err_and r h in
     rw (p.1, p.2) w
-
--- with the states that are kept then
-pub with_kept : {s t : Recording Contents} (here : Here) (kept : List (List ℕ)) (file : List ℕ) (next : Next)
-    (f : State → Out Here) → kept ≡ with_newest file here.kept
-    → Went (Ok (on (record here { kept = with_newest file here.kept }) next)) s t f
-    → Went (Ok (on (record here { kept = kept }) next)) s t f
-with_kept {s} {t} here kept file next f is w =
-    subst (λ (k : List (List ℕ)). Went (Ok (on (record here { kept = k }) next)) s t f) (sym is) w
 
 -- The file of a store
 
@@ -169,3 +164,22 @@ short_stacks s before stacks told sound is w none =
     let read : Stacks = stacks_of (reverse (first_frames s (frame_count f))) in
     subst (λ (l : List ℕ). length l < 1048576) (sym (v.1 ∙ ap (λ (b : List ℕ). b ++ stacks_bytes read) none))
     (few_bytes s sound)
+
+pub gave_up : {s t u : Recording Contents} (view : Next → Here) (r : Result Next End) (f : State → Out Here)
+    → IsErrAnd r (λ q. q ≡ ends.Memory) → GoesOn s t → GivenUp t u → Went (seen view r) s u f
+gave_up view r f h a b = went_seen_err view r h (record { did = given_up_after a b })
+
+-- what the turn keeps then
+pub kept_in : {s t u : Recording Contents} (turn new : TurnState) (here next : Next) (file : List ℕ)
+    (f : State → Out Here) → new ≡ record turn { kept = with_newest file turn.kept } → u ≡ t
+    → Went (Ok (on (kept_by (place turn here) file) next)) s t f → Went (Ok (place new next)) s u f
+kept_in {s} {t} {u} turn new here next file f is same w =
+    subst (λ (x : TurnState). Went (Ok (place x next)) s u f) (sym is)
+    (subst (λ (x : Recording Contents). Went (Ok (on (kept_by (place turn here) file) next)) s x f) (sym same) w)
+
+pub without_kept : {s t : Recording Contents} (turn : TurnState) (here next : Next) (kept : List (List ℕ))
+    (f : State → Out Here) → kept ≡ without_newest turn.kept
+    → Went (Ok (on (record (place turn here) { kept = without_newest turn.kept }) next)) s t f
+    → Went (Ok (on (record (place turn here) { kept = kept }) next)) s t f
+without_kept {s} {t} turn here next kept f is w =
+    subst (λ (k : List (List ℕ)). Went (Ok (on (record (place turn here) { kept = k }) next)) s t f) (sym is) w

@@ -67,8 +67,9 @@ pub fn save_undo(
         store.abandon();
         return Err(End::Memory);
     };
-    let Some(file) = kept else {
-        return give_result(header, store, here, after, variable, HAS_NO_UNDO);
+    let file = match kept {
+        Some(file) => file,
+        None => return give_result(header, store, here, after, variable, HAS_NO_UNDO),
     };
     let next = give_result(header, store, here, after, variable, SUCCEEDED)?;
     keep(store, turn, file)?;

@@ -1,6 +1,6 @@
 //! `restore_undo` (Z-Machine Standards Document 1.1, section 15).
 
-ghost use Rattle.std.specs.Prelude.{◌≡◌, ◌≤◌, ◌<◌, ◌+◌, ◌^◌, List, false, length, drop, slice_index, OnErr};
+ghost use Rattle.std.specs.Prelude.{◌≡◌, ◌≤◌, ◌<◌, ◌+◌, ◌^◌, List, false, length, drop, slice_index, IfOk, OnErr};
 ghost use Rattle.zcore.specs.Header.{static_base_of};
 ghost use Rattle.zcore.specs.Layout.{longest_story, stack_size};
 ghost use Rattle.zcore.specs.State.{Frame};
@@ -23,7 +23,7 @@ use machine_lines::fill;
 use machine_opcodes::give_result;
 use machine_standard_windows::TurnState;
 use quetzal::{FrameHead, Save, read_head, read_save, read_words};
-use std::alloc::Global;
+use std::alloc::{AllocError, Global};
 use zcore::layout::HEADER_LENGTH;
 use zcore::{Header, Limit, Next, Place};
 use zcore_standard::Loaded;
@@ -89,14 +89,51 @@ fn restore(
     ensures { Went result store.old store.new (definitions.resume_if_read
         (saved_in loaded.now.dynamic (length (memory_of store.old.store)) file.now) here after variable) }
 {
-    let mut memory = Vec::new(alloc);
-    let Ok(()) = memory.extend_from_slice(loaded.dynamic()) else {
+    let Ok(mut memory) = copy_of(loaded.dynamic(), alloc) else {
         store.abandon();
         return Err(End::Memory);
     };
+    restore_over(
+        header,
+        store,
+        &mut memory,
+        file,
+        alloc,
+        here,
+        after,
+        variable,
+    )
+}
+
+/// A copy of bytes. At `Err` memory was refused.
+fn copy_of(bytes: &[u8], alloc: Global) -> Result<Vec<u8>, AllocError>
+    ensures { IfOk result (λ copy. copy.items ≡ bytes.now) }
+{
+    let mut copy = Vec::new(alloc);
+    copy.extend_from_slice(bytes)?;
+    Ok(copy)
+}
+
+/// The same, over dynamic memory as it was loaded, which becomes that of the file.
+fn restore_over(
+    header: &Header,
+    store: &mut Recorded<Store>,
+    memory: &mut [u8],
+    file: &[u8],
+    alloc: Global,
+    here: Next,
+    after: u32,
+    variable: Option<u8>,
+) -> Result<Next, End>
+    requires store { IsStoreOf header.now store.old.store }
+    requires dynamic { length memory.old ≡ static_base_of (memory_of store.old.store) }
+    requires after { after ≤ longest_story }
+    ensures { Went result store.old store.new (definitions.resume_if_read
+        (saved_in memory.old (length (memory_of store.old.store)) file.now) here after variable) }
+{
     let size = store.store().memory().len() as u32;
-    match read_save(&mut memory, size, file) {
-        Ok(save) => resume(header, store, memory.as_slice(), save, alloc, here),
+    match read_save(memory, size, file) {
+        Ok(save) => resume(header, store, memory, save, alloc, here),
         Err(_) => give_result(header, store, here, after, variable, FAILED),
     }
 }

@@ -1,11 +1,16 @@
-use Rattle.std.proofs.Common.{◌≡◌, ℕ, List, ap, sym, ◌∙◌, arith, length}
+use Rattle.std.proofs.Common.{◌≡◌, List, ℕ, ap, sym, ◌∙◌, arith, length, subst}
+use Rattle.zcore_standard.specs.SavedStates.{resume_if_read}
 use Rattle.quetzal.specs.SaveFiles.{saved_in}
 use Rattle.machine_frames.specs.Contents.{memory_of}
-use Rattle.machine_standard_saves.proofs.Resumed.{read, refused}
+use Rattle.machine_frames.specs.Went.{Went}
 use Rattle.machine_standard_saves.proofs.restoring.restore.Goals as goal
 
-pub returns-in-Err : goal.returns-in-Err
-returns-in-Err c = ?
+pub restore_over-requires-clause-dynamic : goal.restore_over-requires-clause-dynamic
+restore_over-requires-clause-dynamic c =
+    ap (λ (l : List ℕ). length l) (c.deref_mut.ensures.value ∙ c.in-Ok.ensures ∙ c.dynamic.ensures) ∙ c.requires.dynamic
 
-pub returns-in-Ok-save : goal.returns-in-Ok-save
-returns-in-Ok-save c = ?
+pub returns-in-Ok : goal.returns-in-Ok
+returns-in-Ok c =
+    subst (λ (l : List ℕ). Went c.restore_over.result c.args.store.now c.restore_over.new.store (resume_if_read
+    (saved_in l (length (memory_of c.args.store.now.store)) c.args.file.now) c.args.here c.args.after c.args.variable))
+    (c.deref_mut.ensures.value ∙ c.in-Ok.ensures ∙ c.dynamic.ensures) c.restore_over.ensures
